@@ -1,0 +1,48 @@
+-- One more element at the end of a list that keeps a rule.
+use Rattle.std.proofs.Common.{◌≡◌, ◌+◌, Bool, true, false, List, [], ◌∷◌, ◌++◌, ℕ, ◌<◌, length, get_or, take, refl, sym, ap, ◌∙◌, append_assoc}
+use Rattle.std.specs.Prelude.{◌&&◌}
+use Rattle.std.specs.List.{list_all}
+use Rattle.std.proofs.lemmas.Bool.{and_parts}
+use Rattle.std.proofs.lemmas.List.{append-nil}
+use Rattle.std.proofs.lemmas.List.Folds.{list_all-append}
+use Rattle.std.proofs.lemmas.List.Sums.{sum_by_push}
+use Rattle.std.proofs.lemmas.List.{take_more}
+use Rattle.geos_image.specs.declared.instr.Instr.{Instr}
+use Rattle.geos_image.specs.declared.row.Row.{Row}
+use Rattle.geos_image.specs.declared.potential.Potential.{Potential}
+use Rattle.geos_image.specs.declared.routine.Routine.{Routine}
+use Rattle.geos_image.specs.Parts.{Point, total_count}
+use Rattle.geos_image.specs.Legal.{is_instr, is_row, is_point, is_routine, are_routines}
+
+both : (a b : Bool) → a ≡ true → b ≡ true → (a && b) ≡ true
+both true true p q = refl
+both true false p q = q
+both false b p q = p
+
+pub list_all-push : {A : Type 0} (p : A → Bool) (xs : List A) (x : A) → list_all p xs ≡ true → p x ≡ true → list_all p (xs ++ x ∷ []) ≡ true
+list_all-push p xs x h k = list_all-append p xs (x ∷ []) ∙ both (list_all p xs) (list_all p (x ∷ [])) h (both (p x) true k refl)
+
+are_routines-more : (earlier routines : List Routine) (r : Routine) → are_routines earlier routines ≡ true → is_routine (earlier ++ routines) r ≡ true → are_routines earlier (routines ++ r ∷ []) ≡ true
+are_routines-more earlier [] r h k = both (is_routine earlier r) true (ap (λ rs. is_routine rs r) (sym (append-nil earlier)) ∙ k) refl
+are_routines-more earlier (first ∷ routines) r h k =
+    let parts = and_parts (is_routine earlier first) (are_routines (earlier ++ first ∷ []) routines) h in
+    both (is_routine earlier first) _ parts.0
+    (are_routines-more (earlier ++ first ∷ []) routines r parts.1 (ap (λ rs. is_routine rs r) (append_assoc earlier (first ∷ []) routines) ∙ k))
+
+-- a routine that may stand behind those that do
+pub are_routines-push : (routines : List Routine) (r : Routine) → are_routines [] routines ≡ true → is_routine routines r ≡ true → are_routines [] (routines ++ r ∷ []) ≡ true
+are_routines-push routines r h k = are_routines-more [] routines r h k
+
+pub total_count-push : (routines : List Routine) (r : Routine) → total_count (routines ++ r ∷ []) ≡ total_count routines + r.count
+total_count-push routines r = sum_by_push (λ (x : Routine). x.count) routines r
+
+-- one more instruction and its entry
+pub points-push : (routines instrs : ℕ) (code : List Instr) (front : List Point) (k : ℕ) (d : Instr) (row : Row) (potential : Potential) → k < length code
+    → (list_all (is_instr routines instrs) (take k code) ≡ true → list_all (is_point routines instrs) front ≡ true) → is_row row ≡ true
+    → list_all (is_instr routines instrs) (take (k + 1) code) ≡ true → list_all (is_point routines instrs) (front ++ (get_or code k d, row, potential) ∷ []) ≡ true
+points-push routines instrs code front k d row potential lt so_far legal h =
+    let p = is_instr routines instrs in
+    let parts : (list_all p (take k code) && list_all p (get_or code k d ∷ [])) ≡ true = sym (list_all-append p (take k code) (get_or code k d ∷ [])) ∙ ap (list_all p) (sym (take_more code k d lt)) ∙ h in
+    let two = and_parts (list_all p (take k code)) (list_all p (get_or code k d ∷ [])) parts in
+    let here = and_parts (p (get_or code k d)) true two.1 in
+    list_all-push (is_point routines instrs) front (get_or code k d, row, potential) (so_far two.0) (both (p (get_or code k d)) (is_row row) here.0 legal)

@@ -1,0 +1,7 @@
+use Rattle.std.proofs.Common.{◌≡◌, [], take, drop}
+use Rattle.geos_image.specs.Legal.{are_routines}
+use Rattle.geos_image.proofs.image.are_routines.Given as goal
+
+-- the routines so far may stand, if those that are left may
+abbrev pub invariant-loop-k : goal.invariant-loop-k
+invariant-loop-k l = are_routines (take l.k l.routines) (drop l.k l.routines) ≡ are_routines [] l.routines

@@ -1,0 +1,75 @@
+-- Which images there are.
+use Rattle.std.specs.Prelude.{ℕ, Bool, true, ◌&&◌, ◌||◌, not, nat_lt, nat_le, nat_eq, ◌==◌, List, [], ◌∷◌, ◌++◌, length, take, drop, position, unwrap_or, slice_index, Option, Some, None}
+use Rattle.std.specs.List.{list_all, list_any}
+use Rattle.std.specs.Cmp.Lexicographic.{pointwise}
+use Rattle.std.specs.Char.{is_ascii_alphabetic, is_ascii_alphanumeric}
+use Rattle.geos_image.specs.declared.instr.Instr.{Instr}
+use Rattle.geos_image.specs.declared.row.Row.{Row}
+use Rattle.geos_image.specs.declared.row.Pointer.{Pointer}
+use Rattle.geos_image.specs.declared.routine.Routine.{Routine}
+use Rattle.geos_image.specs.Opcodes.{operands_of, limit}
+use Rattle.geos_image.specs.Parts.{Point, Parts, total_count}
+
+-- letters, digits and the underscore
+unfoldable pub is_name_byte : ℕ → Bool
+is_name_byte b = is_ascii_alphanumeric b || b == 95
+
+-- where the text of a padded name ends
+abbrev pub text_end : List ℕ → Option ℕ
+text_end name = position (λ b. b == 0) name
+
+-- a letter, then letters, digits and underscores, then zeros up to 16 bytes
+abbrev pub is_name : List ℕ → Bool
+is_name name =
+    let len = unwrap_or (text_end name) 16 in
+    is_ascii_alphabetic (slice_index name 0) && list_all is_name_byte (take len name) && list_all (λ b. b == 0) (drop len name)
+
+-- a pointer leads into one of the four slots
+abbrev pub is_pointer : Option Pointer → Bool
+is_pointer None = true
+is_pointer (Some p) = nat_lt p.slot 4
+
+abbrev pub is_row : Row → Bool
+is_row row = list_all is_pointer row.pointers
+
+-- each field is below the limit of its operand, in an image with so many routines and instructions
+abbrev pub is_instr : ℕ → ℕ → Instr → Bool
+is_instr routines instrs i =
+    let fields = operands_of i.opcode in
+    nat_lt i.a (limit routines instrs fields.a)
+    && nat_lt i.b (limit routines instrs fields.b)
+    && nat_lt i.c (limit routines instrs fields.c)
+    && nat_lt i.d (limit routines instrs fields.d)
+    && nat_lt i.imm (limit routines instrs fields.imm)
+    && nat_lt i.target (limit routines instrs fields.target)
+
+abbrev pub is_point : ℕ → ℕ → Point → Bool
+is_point routines instrs point = is_instr routines instrs point.0 && is_row point.1
+
+-- some routine has the name
+abbrev pub is_named : List ℕ → List Routine → Bool
+is_named name routines = list_any (λ r. pointwise nat_eq r.name name) routines
+
+-- a routine behind those before it: its name is one, and none of theirs, and it has instructions
+abbrev pub is_routine : List Routine → Routine → Bool
+is_routine earlier r =
+    is_name r.name
+    && not (is_named r.name earlier)
+    && nat_lt 0 r.count
+    && is_row r.entry
+    && is_row r.exit
+
+-- each of the routines, behind those before it
+abbrev pub are_routines : List Routine → List Routine → Bool
+are_routines earlier [] = true
+are_routines earlier (r ∷ routines) = is_routine earlier r && are_routines (earlier ++ r ∷ []) routines
+
+-- 1 to 32 routines, and a point for each of their instructions, at most 4,096
+abbrev pub is_image : Parts → Bool
+is_image image =
+    nat_lt 0 (length image.routines)
+    && nat_le (length image.routines) 32
+    && are_routines [] image.routines
+    && nat_le (length image.points) 4096
+    && total_count image.routines == length image.points
+    && list_all (is_point (length image.routines) (length image.points)) image.points

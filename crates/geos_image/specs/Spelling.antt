@@ -1,0 +1,70 @@
+-- The one spelling of each image.
+use Rattle.std.specs.Prelude.{ℕ, ◌+◌, ◌*◌, Bool, true, false, List, [], ◌∷◌, ◌++◌, length, map, Option, Some, None}
+use Rattle.std.specs.List.{flat_map}
+use Rattle.std.specs.Int.{w16, w32, to_le_bytes}
+use Rattle.geos_image.specs.declared.instr.Instr.{Instr}
+use Rattle.geos_image.specs.declared.row.Row.{Row}
+use Rattle.geos_image.specs.declared.row.Pointer.{Pointer}
+use Rattle.geos_image.specs.declared.row.SlotState.{SlotState}
+use Rattle.geos_image.specs.declared.row.SlotState.TheVariants.{Empty, Mem, Vm, VmMarked, Db, DbMarked}
+use Rattle.geos_image.specs.declared.potential.Potential.{Potential}
+use Rattle.geos_image.specs.declared.routine.Routine.{Routine}
+use Rattle.geos_image.specs.Opcodes.{code_of}
+use Rattle.geos_image.specs.Parts.{Parts}
+
+-- `GRT1`
+abbrev pub magic : List ℕ
+magic = 0x47 ∷ 0x52 ∷ 0x54 ∷ 0x31 ∷ []
+
+-- 16 bits, the low byte first
+abbrev pub word : ℕ → List ℕ
+word n = to_le_bytes w16 n
+
+-- 32 bits, the low byte first
+abbrev pub long : ℕ → List ℕ
+long n = to_le_bytes w32 n
+
+abbrev pub flag : Bool → ℕ
+flag false = 0
+flag true = 1
+
+-- opcode, a, b, c, d, 0, then the words imm and target
+abbrev pub instr : Instr → List ℕ
+instr i = (code_of i.opcode ∷ i.a ∷ i.b ∷ i.c ∷ i.d ∷ 0 ∷ []) ++ word i.imm ++ word i.target
+
+abbrev pub slot_code : SlotState → ℕ
+slot_code Empty = 0
+slot_code Mem = 1
+slot_code Vm = 2
+slot_code VmMarked = 3
+slot_code Db = 4
+slot_code DbMarked = 5
+
+-- slot, 0, then the word of the least length; a stale pointer is slot 255 with length 0
+abbrev pub pointer : Option Pointer → List ℕ
+pointer None = 255 ∷ 0 ∷ word 0
+pointer (Some p) = p.slot ∷ 0 ∷ word p.least
+
+-- a bit for each pair, the first one lowest
+abbrev pub pairs_byte : List Bool → ℕ
+pairs_byte [] = 0
+pairs_byte (b ∷ pairs) = flag b + 2 * pairs_byte pairs
+
+-- eight bounds, four slots, four pointers, the pairs and 0
+abbrev pub row : Row → List ℕ
+row r = flat_map word r.bounds ++ map slot_code r.slots ++ flat_map pointer r.pointers ++ pairs_byte r.pairs ∷ 0 ∷ []
+
+abbrev pub potential : Potential → List ℕ
+potential p = long p.constant ++ flat_map long p.coefficients
+
+-- name, public, 0, count, budget, entry and exit
+abbrev pub routine : Routine → List ℕ
+routine r = r.name ++ (flag r.public ∷ 0 ∷ []) ++ word r.count ++ long r.budget ++ row r.entry ++ row r.exit
+
+-- `GRT1`, the version 1, the number of routines, the routines, the instructions, and a row and a potential for each
+abbrev pub spelling : Parts → List ℕ
+spelling image =
+    magic ++ word 1 ++ word (length image.routines)
+    ++ flat_map routine image.routines
+    ++ flat_map (λ point. instr point.0) image.points
+    ++ flat_map (λ point. row point.1 ++ potential point.2) image.points

@@ -1,0 +1,124 @@
+//! Images.
+
+ghost use Rattle.std.specs.Prelude.{◌≡◌, ◌<◌, ◌≤◌, ◌↔◌, IsTrue, IsSome, IfSome, [], length, slice_get, Some};
+ghost use Rattle.std.specs.List.{list_all};
+ghost use Rattle.geos_image.specs.Parts.{Parts, Point};
+ghost use Rattle.geos_image.specs.Legal.{is_image, are_routines, is_point, is_instr};
+
+use crate::instr::Instr;
+use crate::legal::{MOST_INSTRS, MOST_ROUTINES, is_point, is_routine, total_count};
+use crate::potential::Potential;
+use crate::routine::Routine;
+use crate::row::Row;
+use std::marker::Model;
+
+/// Routines and their instructions, each instruction with its entry state and potential. An image is always one that
+/// the format allows (docs/FORMATS.md).
+#[derive(Drop)]
+pub struct Image {
+    pub(crate) routines: Vec<Routine>,
+    pub(crate) points: Vec<(Instr, Row, Potential)>,
+}
+
+impl Model for Image {
+    ghost use Rattle.std.specs.Prelude.{◌≡◌, true};
+    ghost use Rattle.geos_image.specs.Parts.{Parts};
+    ghost use Rattle.geos_image.specs.Legal.{is_image};
+
+    ghost Value = { Parts };
+
+    ghost view = { λ i. record { routines = i.routines.items; points = i.points.items } };
+
+    ghost invariant = { λ i. is_image (record { routines = i.routines.items; points = i.points.items }) ≡ true };
+}
+
+/// Whether each routine may stand behind those before it.
+fn are_routines(routines: &[Routine]) -> bool
+    ensures { result ≡ are_routines [] routines.now }
+{
+    for (k, routine) in routines.iter().enumerate() {
+        if !is_routine(&routines[..k], routine) {
+            return false;
+        }
+    }
+    true
+}
+
+fn are_points(routines: u32, points: &[(Instr, Row, Potential)]) -> bool
+    requires { length points.now ≤ MOST_INSTRS }
+    ensures { result ≡ list_all (is_point routines (length points.now)) points.now }
+{
+    let instrs = points.len() as u32;
+    points.iter().all(|point| is_point(routines, instrs, point))
+}
+
+fn is_image(routines: &[Routine], points: &[(Instr, Row, Potential)]) -> bool
+    ensures { result ≡ is_image (record { routines = routines.now; points = points.now }) }
+{
+    !routines.is_empty()
+        && routines.len() <= MOST_ROUTINES
+        && are_routines(routines)
+        && points.len() <= MOST_INSTRS
+        && total_count(routines) as usize == points.len()
+        && are_points(routines.len() as u32, points)
+}
+
+impl Image {
+    /// The image of these routines and points; `None` exactly where the format allows none. It takes no memory.
+    pub fn new(routines: Vec<Routine>, points: Vec<(Instr, Row, Potential)>) -> Option<Image>
+        ensures some { IsSome result ↔ IsTrue (is_image (record { routines = routines.items; points = points.items })) }
+        ensures value { IfSome result (λ image. image ≡ record { routines = routines.items; points = points.items }) }
+    {
+        if is_image(&routines, &points) {
+            Some(Image { routines, points })
+        } else {
+            None
+        }
+    }
+
+    /// How many routines there are, 1 to 32.
+    pub fn count(&self) -> u16
+        ensures { result ≡ length self.now.routines }
+    {
+        self.routines.len() as u16
+    }
+
+    /// A routine, by its index.
+    pub fn routine(&self, i: u16) -> &Routine
+        requires { i < length self.now.routines }
+        ensures { slice_get self.now.routines i ≡ Some result.now }
+    {
+        &self.routines[i as usize]
+    }
+
+    /// How many instructions there are, 1 to 4,096.
+    pub fn len(&self) -> u16
+        ensures { result ≡ length self.now.points }
+    {
+        self.points.len() as u16
+    }
+
+    /// The instruction at a pc.
+    pub fn instr(&self, pc: u16) -> &Instr
+        requires { pc < length self.now.points }
+        ensures { IfSome (slice_get self.now.points pc) (λ point. result.now ≡ point.0) }
+    {
+        &self.points[pc as usize].0
+    }
+
+    /// The entry state at a pc.
+    pub fn row(&self, pc: u16) -> &Row
+        requires { pc < length self.now.points }
+        ensures { IfSome (slice_get self.now.points pc) (λ point. result.now ≡ point.1) }
+    {
+        &self.points[pc as usize].1
+    }
+
+    /// The potential at a pc.
+    pub fn potential(&self, pc: u16) -> &Potential
+        requires { pc < length self.now.points }
+        ensures { IfSome (slice_get self.now.points pc) (λ point. result.now ≡ point.2) }
+    {
+        &self.points[pc as usize].2
+    }
+}

@@ -1,0 +1,25 @@
+//! Images of routines: their instructions, what the verifier is told at each of them, and their bytes.
+//!
+//! docs/FORMATS.md has the format, docs/INSTRUCTIONS.md the instructions.
+#![tactic(auto)]
+
+mod error;
+mod image;
+mod instr;
+mod legal;
+mod opcode;
+mod potential;
+mod reader;
+mod routine;
+mod row;
+mod writer;
+
+pub use error::ReadError;
+pub use image::Image;
+pub use instr::Instr;
+pub use opcode::{Opcode, Operand, Operands};
+pub use potential::Potential;
+pub use reader::read;
+pub use routine::Routine;
+pub use row::{Pointer, Row, SlotState};
+//pub use writer::write;

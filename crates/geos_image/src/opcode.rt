@@ -1,0 +1,131 @@
+//! The opcodes, and what each field of their instructions holds.
+
+ghost use Rattle.std.specs.Prelude.{◌≡◌};
+ghost use Rattle.geos_image.specs.Opcodes.{code_of, opcode_of, operands_of, limit};
+
+/// What an instruction does.
+#[derive(Clone, Copy, Debug, PartialEq, Eq)]
+pub enum Opcode {
+    /// `LDI wa n`: wa = n.
+    Ldi = 0x01,
+    /// `ADD wa wb wc`: wa = wb + wc modulo 65,536.
+    Add = 0x03,
+    /// `RET`: returns; the outermost return ends the run.
+    Ret = 0x10,
+    /// `OUT wa L`: puts out wa; refused with 10 where 1,024 words are out.
+    Out = 0x11,
+}
+
+/// What a field of an instruction holds.
+#[derive(Clone, Copy, Debug, PartialEq, Eq)]
+pub enum Operand {
+    /// Nothing: the field is 0.
+    Unused,
+    /// A word register, 0 to 7.
+    Word,
+    /// A counter register, 0 to 3.
+    Counter,
+    /// A slot, 0 to 3.
+    Slot,
+    /// A pointer register, 0 to 3.
+    Pointer,
+    /// Any number.
+    Number,
+    /// A shift, 0 to 15.
+    Shift,
+    /// The index of a routine of the image.
+    Routine,
+    /// The pc of an instruction of the image.
+    Label,
+}
+
+/// What each field of an opcode's instructions holds, and whether the instruction can be refused.
+#[derive(Clone, Copy, Debug, PartialEq, Eq)]
+pub struct Operands {
+    pub a: Operand,
+    pub b: Operand,
+    pub c: Operand,
+    pub d: Operand,
+    pub imm: Operand,
+    pub target: Operand,
+    /// On a refusal w7 is the refusal's number, and control goes to `target`.
+    pub refusable: bool,
+}
+
+impl Operands {
+    /// No field is used.
+    const NONE: Operands = Operands {
+        a: Operand::Unused,
+        b: Operand::Unused,
+        c: Operand::Unused,
+        d: Operand::Unused,
+        imm: Operand::Unused,
+        target: Operand::Unused,
+        refusable: false,
+    };
+}
+
+impl Opcode {
+    /// The byte that spells the opcode.
+    pub fn code(self) -> u8
+        ensures { result ≡ code_of self }
+    {
+        self as u8
+    }
+
+    /// The opcode that the byte spells, if one does.
+    pub fn from_code(code: u8) -> Option<Opcode>
+        ensures { result ≡ opcode_of code }
+    {
+        match code {
+            0x01 => Some(Opcode::Ldi),
+            0x03 => Some(Opcode::Add),
+            0x10 => Some(Opcode::Ret),
+            0x11 => Some(Opcode::Out),
+            _ => None,
+        }
+    }
+
+    /// The table of operands.
+    pub fn operands(self) -> Operands
+        ensures { result ≡ operands_of self }
+    {
+        match self {
+            Opcode::Ldi => Operands {
+                a: Operand::Word,
+                imm: Operand::Number,
+                ..Operands::NONE
+            },
+            Opcode::Add => Operands {
+                a: Operand::Word,
+                b: Operand::Word,
+                c: Operand::Word,
+                ..Operands::NONE
+            },
+            Opcode::Ret => Operands::NONE,
+            Opcode::Out => Operands {
+                a: Operand::Word,
+                target: Operand::Label,
+                refusable: true,
+                ..Operands::NONE
+            },
+        }
+    }
+}
+
+impl Operand {
+    /// The operand is a number below this limit, in an image with so many routines and instructions.
+    pub fn limit(self, routines: u32, instrs: u32) -> u32
+        ensures { result ≡ limit routines instrs self }
+    {
+        match self {
+            Operand::Unused => 1,
+            Operand::Word => 8,
+            Operand::Counter | Operand::Slot | Operand::Pointer => 4,
+            Operand::Number => 65_536,
+            Operand::Shift => 16,
+            Operand::Routine => routines,
+            Operand::Label => instrs,
+        }
+    }
+}

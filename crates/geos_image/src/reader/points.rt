@@ -1,0 +1,87 @@
+//! The instructions, and what the verifier is told at each of them.
+
+ghost use Rattle.std.specs.Prelude.{◌≡◌, ℕ, ◌<◌, ◌≤◌, ◌^◌, length, true, IfOk};
+ghost use Rattle.std.specs.List.{list_all};
+ghost use Rattle.geos_image.specs.Legal.{is_instr, is_point};
+ghost use Rattle.geos_image.specs.Reading.{instr_at, items_at, points_at, Gives};
+
+use crate::error::ReadError;
+use crate::instr::Instr;
+use crate::legal::MOST_INSTRS;
+use crate::opcode::Opcode;
+use crate::potential::Potential;
+use crate::reader::numbers::{Fault, byte_at, byte_below, word_below};
+use crate::reader::rows::entry_at;
+use crate::row::Row;
+use std::alloc::Global;
+
+#[tactic(auto, unfolding(crate::specs::Reading::instr_at))]
+fn instr_at(routines: u32, instrs: u32, bytes: &[u8], at: usize) -> Result<Instr, Fault>
+    requires { at < 2 ^ 31 }
+    ensures exact { result ≡ instr_at routines instrs bytes.now at }
+    ensures legal { IfOk result (λ i. is_instr routines instrs i ≡ true) }
+{
+    let opcode = Opcode::from_code(byte_at(bytes, at)?).ok_or(at)?;
+    let fields = opcode.operands();
+    let a = byte_below(fields.a.limit(routines, instrs), bytes, at + 1)?;
+    let b = byte_below(fields.b.limit(routines, instrs), bytes, at + 2)?;
+    let c = byte_below(fields.c.limit(routines, instrs), bytes, at + 3)?;
+    let d = byte_below(fields.d.limit(routines, instrs), bytes, at + 4)?;
+    byte_below(1, bytes, at + 5)?;
+    let imm = word_below(fields.imm.limit(routines, instrs), bytes, at + 6)?;
+    let target = word_below(fields.target.limit(routines, instrs), bytes, at + 8)?;
+    Ok(Instr {
+        opcode,
+        a,
+        b,
+        c,
+        d,
+        imm,
+        target,
+    })
+}
+
+pub(crate) fn instrs_at(
+    alloc: Global,
+    bytes: &[u8],
+    routines: u32,
+    instrs: u32,
+    start: usize,
+) -> Result<Vec<Instr>, ReadError>
+    requires count { instrs ≤ MOST_INSTRS }
+    requires place { start < 2 ^ 16 }
+    ensures exact { Gives (λ v. v.items) result (items_at (instr_at routines instrs bytes.now) 10 instrs start) }
+    ensures legal { IfOk result (λ v. (list_all (is_instr routines instrs) v.items ≡ true) × (length v.items ≡ instrs)) }
+{
+    let mut code = Vec::new(alloc);
+    let mut at = start;
+    for _ in 0..instrs {
+        let instr = instr_at(routines, instrs, bytes, at)?;
+        code.push(instr)?;
+        at += 10;
+    }
+    Ok(code)
+}
+
+/// Each instruction with the row and the potential that the bytes give it.
+pub(crate) fn points_at(
+    alloc: Global,
+    bytes: &[u8],
+    code: &[Instr],
+    start: usize,
+) -> Result<Vec<(Instr, Row, Potential)>, ReadError>
+    requires place { start < 2 ^ 20 }
+    requires short { length code.now ≤ MOST_INSTRS }
+    ensures exact { Gives (λ v. v.items) result (points_at bytes.now code.now start) }
+    ensures legal { IfOk result (λ v. (routines instrs : ℕ) → list_all (is_instr routines instrs) code.now ≡ true → list_all (is_point routines instrs) v.items ≡ true) }
+    ensures len { IfOk result (λ v. length v.items ≡ length code.now) }
+{
+    let mut points = Vec::with_capacity(alloc, code.len())?;
+    let mut at = start;
+    for instr in code {
+        let (row, potential) = entry_at(bytes, at)?;
+        points.push((*instr, row, potential))?;
+        at += 58;
+    }
+    Ok(points)
+}

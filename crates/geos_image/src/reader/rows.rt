@@ -1,0 +1,162 @@
+//! Rows and potentials.
+
+ghost use Rattle.std.specs.Prelude.{◌≡◌, ◌<◌, ◌^◌, IfOk, true};
+ghost use Rattle.std.specs.List.{list_all};
+ghost use Rattle.geos_image.specs.Legal.{is_pointer, is_row};
+ghost use Rattle.geos_image.specs.Reading.{word_at, long_at, slot_of, slot_at, pointer_at, pairs_of, items_at, row_at, potential_at, entry_at};
+
+use crate::potential::Potential;
+use crate::reader::numbers::{Fault, byte_at, byte_below, long_at, word_at, word_below};
+use crate::row::{Pointer, Row, SlotState};
+
+fn slot_of(code: u8) -> Option<SlotState>
+    ensures { result ≡ slot_of code }
+{
+    match code {
+        0 => Some(SlotState::Empty),
+        1 => Some(SlotState::Mem),
+        2 => Some(SlotState::Vm),
+        3 => Some(SlotState::VmMarked),
+        4 => Some(SlotState::Db),
+        5 => Some(SlotState::DbMarked),
+        _ => None,
+    }
+}
+
+#[tactic(auto, unfolding(crate::specs::Reading::slot_at))]
+fn slot_at(bytes: &[u8], at: usize) -> Result<SlotState, Fault>
+    ensures { result ≡ slot_at bytes.now at }
+{
+    slot_of(byte_at(bytes, at)?).ok_or(at)
+}
+
+/// The slot byte of a pointer that is stale.
+const STALE: u8 = 0xff;
+
+#[tactic(auto, unfolding(crate::specs::Reading::pointer_at))]
+fn pointer_at(bytes: &[u8], at: usize) -> Result<Option<Pointer>, Fault>
+    requires { at < 2 ^ 31 }
+    ensures exact { result ≡ pointer_at bytes.now at }
+    ensures legal { IfOk result (λ p. is_pointer p ≡ true) }
+{
+    let slot = byte_at(bytes, at)?;
+    if slot >= 4 && slot != STALE {
+        return Err(at);
+    }
+    byte_below(1, bytes, at + 1)?;
+    let least = word_below(if slot == STALE { 1 } else { 65_536 }, bytes, at + 2)?;
+    Ok(if slot < 4 {
+        Some(Pointer { slot, least })
+    } else {
+        None
+    })
+}
+
+fn pairs_of(byte: u8) -> [bool; 6]
+    ensures { result ≡ pairs_of byte }
+{
+    [
+        byte % 2 == 1,
+        byte / 2 % 2 == 1,
+        byte / 4 % 2 == 1,
+        byte / 8 % 2 == 1,
+        byte / 16 % 2 == 1,
+        byte / 32 % 2 == 1,
+    ]
+}
+
+fn bounds_at(bytes: &[u8], at: usize) -> Result<[u16; 8], Fault>
+    requires { at < 2 ^ 31 }
+    ensures { result ≡ items_at (word_at bytes.now) 2 8 at }
+{
+    Ok([
+        word_at(bytes, at)?,
+        word_at(bytes, at + 2)?,
+        word_at(bytes, at + 4)?,
+        word_at(bytes, at + 6)?,
+        word_at(bytes, at + 8)?,
+        word_at(bytes, at + 10)?,
+        word_at(bytes, at + 12)?,
+        word_at(bytes, at + 14)?,
+    ])
+}
+
+fn slots_at(bytes: &[u8], at: usize) -> Result<[SlotState; 4], Fault>
+    requires { at < 2 ^ 31 }
+    ensures { result ≡ items_at (slot_at bytes.now) 1 4 at }
+{
+    Ok([
+        slot_at(bytes, at)?,
+        slot_at(bytes, at + 1)?,
+        slot_at(bytes, at + 2)?,
+        slot_at(bytes, at + 3)?,
+    ])
+}
+
+fn pointers_at(bytes: &[u8], at: usize) -> Result<[Option<Pointer>; 4], Fault>
+    requires { at < 2 ^ 30 }
+    ensures exact { result ≡ items_at (pointer_at bytes.now) 4 4 at }
+    ensures legal { IfOk result (λ ps. list_all is_pointer ps ≡ true) }
+{
+    Ok([
+        pointer_at(bytes, at)?,
+        pointer_at(bytes, at + 4)?,
+        pointer_at(bytes, at + 8)?,
+        pointer_at(bytes, at + 12)?,
+    ])
+}
+
+#[tactic(auto, unfolding(crate::specs::Reading::row_at))]
+pub(crate) fn row_at(bytes: &[u8], at: usize) -> Result<Row, Fault>
+    requires { at < 2 ^ 29 }
+    ensures exact { result ≡ row_at bytes.now at }
+    ensures legal { IfOk result (λ r. is_row r ≡ true) }
+{
+    let bounds = bounds_at(bytes, at)?;
+    let slots = slots_at(bytes, at + 16)?;
+    let pointers = pointers_at(bytes, at + 20)?;
+    let pairs = pairs_of(byte_below(64, bytes, at + 36)?);
+    byte_below(1, bytes, at + 37)?;
+    Ok(Row {
+        bounds,
+        slots,
+        pointers,
+        pairs,
+    })
+}
+
+fn coefficients_at(bytes: &[u8], at: usize) -> Result<[u32; 4], Fault>
+    requires { at < 2 ^ 30 }
+    ensures { result ≡ items_at (long_at bytes.now) 4 4 at }
+{
+    Ok([
+        long_at(bytes, at)?,
+        long_at(bytes, at + 4)?,
+        long_at(bytes, at + 8)?,
+        long_at(bytes, at + 12)?,
+    ])
+}
+
+#[tactic(auto, unfolding(crate::specs::Reading::potential_at))]
+fn potential_at(bytes: &[u8], at: usize) -> Result<Potential, Fault>
+    requires { at < 2 ^ 29 }
+    ensures { result ≡ potential_at bytes.now at }
+{
+    let constant = long_at(bytes, at)?;
+    let coefficients = coefficients_at(bytes, at + 4)?;
+    Ok(Potential {
+        constant,
+        coefficients,
+    })
+}
+
+#[tactic(auto, unfolding(crate::specs::Reading::entry_at))]
+pub(crate) fn entry_at(bytes: &[u8], at: usize) -> Result<(Row, Potential), Fault>
+    requires { at < 2 ^ 28 }
+    ensures exact { result ≡ entry_at bytes.now at }
+    ensures legal { IfOk result (λ e. is_row e.0 ≡ true) }
+{
+    let row = row_at(bytes, at)?;
+    let potential = potential_at(bytes, at + 38)?;
+    Ok((row, potential))
+}

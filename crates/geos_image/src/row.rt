@@ -1,0 +1,50 @@
+//! Entry states: what is known of the registers wherever control comes to a place.
+
+/// What a row says of a slot.
+#[derive(Clone, Copy, Debug, PartialEq, Eq)]
+pub enum SlotState {
+    /// It holds nothing.
+    Empty = 0,
+    /// It holds a memory block.
+    Mem = 1,
+    /// It holds a VM block.
+    Vm = 2,
+    /// It holds a VM block that is marked as changed.
+    VmMarked = 3,
+    /// It holds a DB group.
+    Db = 4,
+    /// It holds a DB group that is marked as changed.
+    DbMarked = 5,
+}
+
+/// What a row says of a pointer that is not stale.
+#[derive(Clone, Copy, Debug, PartialEq, Eq)]
+pub struct Pointer {
+    /// The slot whose block it leads into, 0 to 3.
+    pub slot: u8,
+    /// At least so many bytes stand behind it.
+    pub least: u16,
+}
+
+/// An entry state: what is known of the registers before an instruction.
+#[derive(Clone, Copy, Debug, PartialEq, Eq)]
+pub struct Row {
+    /// The words w0 to w7 are at most these.
+    pub bounds: [u16; 8],
+    /// The slots s0 to s3.
+    pub slots: [SlotState; 4],
+    /// The pointers p0 to p3; nothing is known of one that is `None`, which may be stale.
+    pub pointers: [Option<Pointer>; 4],
+    /// The pairs of slots that are known to hold different blocks: s0s1, s0s2, s0s3, s1s2, s1s3, s2s3.
+    pub pairs: [bool; 6],
+}
+
+impl Row {
+    /// Nothing is known, and nothing is held.
+    pub const OPEN: Row = Row {
+        bounds: [65_535; 8],
+        slots: [SlotState::Empty; 4],
+        pointers: [None; 4],
+        pairs: [false; 6],
+    };
+}
