@@ -1,9 +1,10 @@
 //! Images.
 
-ghost use Rattle.std.specs.Prelude.{◌≡◌, ◌<◌, ◌≤◌, ◌↔◌, IsTrue, IsSome, IfSome, [], length, slice_get, Some};
+ghost use Rattle.std.specs.Prelude.{◌≡◌, ◌<◌, ◌≤◌, ◌↔◌, IsTrue, IsSome, IfSome, true, [], length, slice_get, Some};
 ghost use Rattle.std.specs.List.{list_all};
 ghost use Rattle.geos_image.specs.Parts.{Parts, Point};
-ghost use Rattle.geos_image.specs.Legal.{is_image, are_routines, is_point, is_instr};
+ghost use Rattle.geos_image.specs.Legal.{is_image, are_routines, is_point};
+ghost use Rattle.geos_image.specs.Fields.{FieldsFit, TargetFits};
 
 use crate::instr::Instr;
 use crate::legal::{MOST_INSTRS, MOST_ROUTINES, is_point, is_routine, total_count};
@@ -78,7 +79,8 @@ impl Image {
 
     /// How many routines there are, 1 to 32.
     pub fn count(&self) -> u16
-        ensures { result ≡ length self.now.routines }
+        ensures count { result ≡ length self.now.routines }
+        ensures legal { is_image self.now ≡ true }
     {
         self.routines.len() as u16
     }
@@ -93,7 +95,8 @@ impl Image {
 
     /// How many instructions there are, 1 to 4,096.
     pub fn len(&self) -> u16
-        ensures { result ≡ length self.now.points }
+        ensures len { result ≡ length self.now.points }
+        ensures legal { is_image self.now ≡ true }
     {
         self.points.len() as u16
     }
@@ -101,7 +104,9 @@ impl Image {
     /// The instruction at a pc.
     pub fn instr(&self, pc: u16) -> &Instr
         requires { pc < length self.now.points }
-        ensures { IfSome (slice_get self.now.points pc) (λ point. result.now ≡ point.0) }
+        ensures there { IfSome (slice_get self.now.points pc) (λ point. result.now ≡ point.0) }
+        ensures fields { FieldsFit result.now.opcode result.now }
+        ensures target { TargetFits (length self.now.points) result.now }
     {
         &self.points[pc as usize].0
     }

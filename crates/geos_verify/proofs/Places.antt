@@ -1,0 +1,147 @@
+-- Where the routines of an image lie: one behind the other, so that each pc is in one of them.
+use Rattle.std.proofs.Common.{◌≡◌, ◌≢◌, ◌<◌, ◌≤◌, ◌+◌, ℕ, zero, suc, Bool, true, false, List, [], ◌∷◌, Option, Some, None, length, take, slice_get, refl, sym, ap, subst, ◌∙◌, arith, inl, inr}
+use Rattle.std.specs.Prelude.{◌&&◌, ◌⊎◌, nat_lt, nat_le, IfSome}
+use Rattle.std.proofs.lemmas.Bool.{and_parts, ltb-true, leb-true, lt-ltb, le-leb, cases_lt}
+use Rattle.std.proofs.lemmas.List.Sums.{sum_by-cons}
+use Rattle.geos_image.specs.declared.routine.Routine.{Routine}
+use Rattle.geos_image.specs.Parts.{Point, Parts, total_count, start_of}
+use Rattle.geos_verify.specs.declared.rule.Rule.{Rule}
+use Rattle.geos_verify.specs.declared.rule.Reject.{Reject}
+use Rattle.geos_verify.specs.Rules.{has_place, HasPoint, refusal, Accepted, AcceptedBelow, FirstRefusal}
+
+some_routine : (x y : Routine) → Some x ≡ Some y → x ≡ y
+some_routine x y e = cc
+
+-- a routine ends where the next one starts
+pub start_of-next : (routines : List Routine) (r : ℕ) (routine : Routine) → slice_get routines r ≡ Some routine → start_of routines (suc r) ≡ start_of routines r + routine.count
+start_of-next [] r routine e = absurd cc
+start_of-next (x ∷ routines) zero routine e = let same = ap (λ (y : Routine). y.count) (some_routine x routine e) in omega arith
+start_of-next (x ∷ routines) (suc r) routine e =
+    let ih = start_of-next routines r routine e in
+    let a = sum_by-cons (λ (y : Routine). y.count) x (take (suc r) routines) in
+    let b = sum_by-cons (λ (y : Routine). y.count) x (take r routines) in
+    omega (arith, a, b, ih)
+
+-- a later routine starts later
+pub start_of-le : (routines : List Routine) (a b : ℕ) → a ≤ b → start_of routines a ≤ start_of routines b
+start_of-le [] zero zero h = omega arith
+start_of-le [] zero (suc b) h = omega arith
+start_of-le [] (suc a) zero h = absurd (omega arith)
+start_of-le [] (suc a) (suc b) h = omega arith
+start_of-le (x ∷ routines) zero b h = omega arith
+start_of-le (x ∷ routines) (suc a) zero h = absurd (omega arith)
+start_of-le (x ∷ routines) (suc a) (suc b) h =
+    let ih = start_of-le routines a b (omega arith) in
+    let p = sum_by-cons (λ (y : Routine). y.count) x (take a routines) in
+    let q = sum_by-cons (λ (y : Routine). y.count) x (take b routines) in
+    omega (arith, p, q, ih)
+
+-- the routines before one that there is, with it, are no more than all
+pub start_of-end : (routines : List Routine) (r : ℕ) (routine : Routine) → slice_get routines r ≡ Some routine → start_of routines r + routine.count ≤ total_count routines
+start_of-end [] r routine e = absurd cc
+start_of-end (x ∷ routines) zero routine e =
+    let same = ap (λ (y : Routine). y.count) (some_routine x routine e) in
+    let p = sum_by-cons (λ (y : Routine). y.count) x routines in
+    omega (arith, same, p)
+start_of-end (x ∷ routines) (suc r) routine e =
+    let ih = start_of-end routines r routine e in
+    let p = sum_by-cons (λ (y : Routine). y.count) x (take r routines) in
+    let q = sum_by-cons (λ (y : Routine). y.count) x routines in
+    omega (arith, p, q, ih)
+
+pub start_of-all : (routines : List Routine) (r : ℕ) → length routines ≤ r → start_of routines r ≡ total_count routines
+start_of-all [] zero h = refl
+start_of-all [] (suc r) h = refl
+start_of-all (x ∷ routines) zero h = absurd (omega arith)
+start_of-all (x ∷ routines) (suc r) h =
+    let ih = start_of-all routines r (omega arith) in
+    let p = sum_by-cons (λ (y : Routine). y.count) x (take r routines) in
+    let q = sum_by-cons (λ (y : Routine). y.count) x routines in
+    omega (arith, p, q, ih)
+
+pub place_bounds : (start count pc : ℕ) → has_place start count pc ≡ true → (start ≤ pc) × (pc < start + count)
+place_bounds start count pc h =
+    let p = and_parts (nat_le start pc) (nat_lt pc (start + count)) h in
+    (leb-true start pc p.0, ltb-true pc (start + count) p.1)
+
+pub place_true : (start count pc : ℕ) → start ≤ pc → pc < start + count → has_place start count pc ≡ true
+place_true start count pc h k = rw (le-leb start pc h, lt-ltb pc (start + count) k) refl
+
+-- a pc is in one routine
+pub one_routine : (routines : List Routine) (q r pc : ℕ) (before after : Routine) → slice_get routines q ≡ Some before → slice_get routines r ≡ Some after
+    → has_place (start_of routines q) before.count pc ≡ true → has_place (start_of routines r) after.count pc ≡ true → q ≡ r
+one_routine routines q r pc before after e f h k =
+    elim (cases_lt q r) [
+      | inl lt ↦ absurd (apart q r _ before lt e hq hr)
+      | inr le ↦ elim (cases_lt r q) [
+          | inl lt ↦ absurd (apart r q _ after lt f hr hq)
+          | inr ge ↦ omega arith
+        ]
+    ]
+  where
+    hq : (start_of routines q ≤ pc) × (pc < start_of routines q + before.count)
+    hq = place_bounds (start_of routines q) before.count pc h
+    hr : (start_of routines r ≤ pc) × (pc < start_of routines r + after.count)
+    hr = place_bounds (start_of routines r) after.count pc k
+    apart : (a b m : ℕ) (first : Routine) → a < b → slice_get routines a ≡ Some first → (start_of routines a ≤ pc) × (pc < start_of routines a + first.count) → (start_of routines b ≤ pc) × (pc < m) → ⊥
+    apart a b m first lt there x y =
+        let next = start_of-next routines a first there in
+        let later = start_of-le routines (suc a) b (omega arith) in
+        omega (arith, next, later, x.1, y.0)
+
+module _ (image : Parts) (r start : ℕ) (routine : Routine) (there : slice_get image.routines r ≡ Some routine) (start_is : start ≡ start_of image.routines r) where
+
+  -- nothing is refused before the routine, nor in it before a limit
+  pub accepted-before : (limit : ℕ) → limit ≤ start + routine.count → AcceptedBelow image start
+      → ((pc : ℕ) (point : Point) → start ≤ pc → pc < limit → slice_get image.points pc ≡ Some point → refusal image routine start pc point ≡ None) → AcceptedBelow image limit
+  accepted-before limit within earlier here q pc other point lt has =
+      elim (cases_lt pc start) [
+        | inl below ↦ earlier q pc other point below has
+        | inr above ↦ at_this above
+      ]
+    where
+      at_this : start ≤ pc → refusal image other (start_of image.routines q) pc point ≡ None
+      at_this above =
+          let in_this : has_place (start_of image.routines r) routine.count pc ≡ true = rw (← start_is) (place_true start routine.count pc above (omega arith)) in
+          let same = one_routine image.routines q r pc other routine has.there there has.within in_this in
+          let same_routine = some_routine other routine (sym has.there ∙ ap (slice_get image.routines) same ∙ there) in
+          let same_start : start_of image.routines q ≡ start = ap (start_of image.routines) same ∙ sym start_is in
+          rw (same_routine, same_start) (here pc point above lt has.read)
+
+-- what there is at an index below the length
+pub item_at : {A : Type 0} (xs : List A) (k : ℕ) → k < length xs → (x : A) × (slice_get xs k ≡ Some x)
+item_at [] k lt = absurd (omega arith)
+item_at (x ∷ xs) zero lt = (x, refl)
+item_at (x ∷ xs) (suc k) lt = item_at xs k (omega arith)
+
+pub if_some : {A : Type 0} (P : A → Type 0) (o : Option A) (x : A) → o ≡ Some x → IfSome o P → P x
+if_some P None x e h = absurd cc
+if_some P (Some y) x e h = let same : y ≡ x = cc in subst P same h
+
+-- a refusal in a routine before which nothing is refused is the first one
+pub is_first : (image : Parts) (r start : ℕ) (routine : Routine) (reject : Reject) → slice_get image.routines r ≡ Some routine → start ≡ start_of image.routines r → AcceptedBelow image start
+    → start + routine.count ≤ length image.points → (start ≤ reject.pc) × (reject.pc < start + routine.count)
+    → IfSome (slice_get image.points reject.pc) (λ point. refusal image routine start reject.pc point ≡ Some reject.rule)
+    → ((pc : ℕ) (point : Point) → start ≤ pc → pc < reject.pc → slice_get image.points pc ≡ Some point → refusal image routine start pc point ≡ None) → FirstRefusal image reject
+is_first image r start routine reject there start_is earlier end within refuses first =
+    let read = item_at image.points reject.pc (omega (arith, within.1)) in made read.0 read.1
+  where
+    made : (point : Point) → slice_get image.points reject.pc ≡ Some point → FirstRefusal image reject
+    made point read =
+        let P : ℕ → Type 0 = λ n. refusal image routine n reject.pc point ≡ Some reject.rule in
+        record {
+          r = r;
+          routine = routine;
+          point = point;
+          has = record { there = there; within = rw (← start_is) (place_true start routine.count reject.pc within.0 within.1); read = read };
+          refuses = subst P start_is (if_some (λ x. refusal image routine start reject.pc x ≡ Some reject.rule) (slice_get image.points reject.pc) point read refuses);
+          before = accepted-before image r start routine there start_is reject.pc (omega (arith, within.1)) earlier first;
+        }
+
+-- where nothing is refused up to the last routine's end, nothing is refused
+pub all_accepted : (image : Parts) (r start : ℕ) → length image.routines ≤ r → start ≡ start_of image.routines r → AcceptedBelow image start → Accepted image
+all_accepted image r start past start_is earlier q pc routine point has =
+    let end = start_of-end image.routines q routine has.there in
+    let all = start_of-all image.routines r past in
+    let place = place_bounds (start_of image.routines q) routine.count pc has.within in
+    earlier q pc routine point (omega (arith, end, all, place.1)) has

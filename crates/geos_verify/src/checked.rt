@@ -1,0 +1,85 @@
+//! Images that were checked.
+
+ghost use Rattle.std.specs.Prelude.{◌≡◌, ◌<◌, ◌≤◌, ◌+◌, ℕ, length, true, Some, None, slice_get, IfSome, IfNone, IfOk, IfErr};
+ghost use Rattle.geos_image.specs.declared.routine.Routine.{Routine};
+ghost use Rattle.geos_image.specs.Parts.{Point, start_of};
+ghost use Rattle.geos_image.specs.Legal.{is_image};
+ghost use Rattle.geos_verify.specs.Rules.{HasPoint, refusal, Accepted, AcceptedBelow, FirstRefusal};
+
+use crate::refusal::refusal;
+use crate::rule::Reject;
+use geos_image::{Image, Routine};
+use std::marker::Model;
+
+/// An image that the verifier accepted: no rule refuses at any pc.
+#[derive(Drop)]
+pub struct Checked {
+    image: Image,
+}
+
+impl Model for Checked {
+    ghost use Rattle.geos_image.specs.Parts.{Parts};
+    ghost use Rattle.geos_verify.specs.Rules.{Accepted};
+
+    ghost Value = { Parts };
+
+    ghost view = { λ c. c.image };
+
+    ghost invariant = { λ c. Accepted c.image };
+}
+
+impl Checked {
+    /// The image that was checked.
+    pub fn image(&self) -> &Image
+        ensures image { result.now ≡ self.now }
+        ensures accepted { Accepted self.now }
+    {
+        &self.image
+    }
+}
+
+/// The first refusal in a routine that begins at `start`.
+fn refusal_in(image: &Image, routine: &Routine, start: u16) -> Option<Reject>
+    requires end { start + routine.now.count ≤ length image.now.points }
+    requires short { length image.now.points ≤ 4096 }
+    ensures none { IfNone result ((pc : ℕ) (point : Point) → start ≤ pc → pc < start + routine.now.count → slice_get image.now.points pc ≡ Some point → refusal image.now routine.now start pc point ≡ None) }
+    ensures within { IfSome result (λ reject. (start ≤ reject.pc) × (reject.pc < start + routine.now.count)) }
+    ensures some { IfSome result (λ reject. IfSome (slice_get image.now.points reject.pc) (λ point. refusal image.now routine.now start reject.pc point ≡ Some reject.rule)) }
+    ensures first { IfSome result (λ reject. (pc : ℕ) (point : Point) → start ≤ pc → pc < reject.pc → slice_get image.now.points pc ≡ Some point → refusal image.now routine.now start pc point ≡ None) }
+{
+    for pc in start..start + routine.count {
+        if let Some(rule) = refusal(image, routine, u32::from(start), pc) {
+            return Some(Reject { pc, rule });
+        }
+    }
+    None
+}
+
+/// The first pc that is refused and the lowest rule there, if any is.
+fn first_refusal(image: &Image) -> Option<Reject>
+    ensures none { IfNone result (Accepted image.now) }
+    ensures some { IfSome result (FirstRefusal image.now) }
+{
+    let _short = image.len();
+    let mut start = 0;
+    for r in 0..image.count() {
+        let routine = image.routine(r);
+        if let Some(reject) = refusal_in(image, routine, start) {
+            return Some(reject);
+        }
+        start += routine.count;
+    }
+    None
+}
+
+/// Checks an image by the rules of docs/VERIFIER.md, and hands it back where one refuses. It takes no memory.
+pub fn check(image: Image) -> Result<Checked, (Image, Reject)>
+    ensures checked { IfOk result (λ checked. checked ≡ image) }
+    ensures image { IfErr result (λ refused. refused.0 ≡ image) }
+    ensures reject { IfErr result (λ refused. FirstRefusal image refused.1) }
+{
+    match first_refusal(&image) {
+        None => Ok(Checked { image }),
+        Some(reject) => Err((image, reject)),
+    }
+}

@@ -1,0 +1,133 @@
+//! Whether an entry state is enough for another.
+
+ghost use Rattle.std.specs.Prelude.{◌≡◌, nat_le};
+ghost use Rattle.std.specs.List.{list_all};
+ghost use Rattle.geos_verify.specs.Lists.{all2};
+ghost use Rattle.geos_verify.specs.Rows.{slot_fits, pointer_fits, pair_fits, fits, is_empty, is_stale, is_plain, leads_nowhere};
+ghost use Rattle.geos_verify.specs.Rules.{names_empty_slot};
+
+use geos_image::{Pointer, Row, SlotState};
+
+/// Whether each bound is at most the other row's.
+fn bounds_fit(r: &[u16; 8], s: &[u16; 8]) -> bool
+    ensures { result ≡ all2 nat_le r.now s.now }
+{
+    let low = (r[0] <= s[0]) & (r[1] <= s[1]) & (r[2] <= s[2]) & (r[3] <= s[3]);
+    let high = (r[4] <= s[4]) & (r[5] <= s[5]) & (r[6] <= s[6]) & (r[7] <= s[7]);
+    low & high
+}
+
+fn slot_fits(r: SlotState, s: SlotState) -> bool
+    ensures { result ≡ slot_fits r s }
+{
+    match (r, s) {
+        (SlotState::Empty, SlotState::Empty) => true,
+        (SlotState::Mem, SlotState::Mem) => true,
+        (SlotState::Vm | SlotState::VmMarked, SlotState::Vm) => true,
+        (SlotState::VmMarked, SlotState::VmMarked) => true,
+        (SlotState::Db | SlotState::DbMarked, SlotState::Db) => true,
+        (SlotState::DbMarked, SlotState::DbMarked) => true,
+        _ => false,
+    }
+}
+
+fn slots_fit(r: &[SlotState; 4], s: &[SlotState; 4]) -> bool
+    ensures { result ≡ all2 slot_fits r.now s.now }
+{
+    let [r0, r1, r2, r3] = *r;
+    let [s0, s1, s2, s3] = *s;
+    slot_fits(r0, s0) & slot_fits(r1, s1) & slot_fits(r2, s2) & slot_fits(r3, s3)
+}
+
+fn pointer_fits(p: Option<Pointer>, q: Option<Pointer>) -> bool
+    ensures { result ≡ pointer_fits p q }
+{
+    match (p, q) {
+        (_, None) => true,
+        (None, Some(_)) => false,
+        (Some(p), Some(q)) => p.slot == q.slot && q.least <= p.least,
+    }
+}
+
+fn pointers_fit(r: &[Option<Pointer>; 4], s: &[Option<Pointer>; 4]) -> bool
+    ensures { result ≡ all2 pointer_fits r.now s.now }
+{
+    let [p0, p1, p2, p3] = *r;
+    let [q0, q1, q2, q3] = *s;
+    pointer_fits(p0, q0) & pointer_fits(p1, q1) & pointer_fits(p2, q2) & pointer_fits(p3, q3)
+}
+
+/// Whether each pair that is wanted is known.
+fn pairs_fit(r: &[bool; 6], s: &[bool; 6]) -> bool
+    ensures { result ≡ all2 pair_fits r.now s.now }
+{
+    let first = (r[0] | !s[0]) & (r[1] | !s[1]) & (r[2] | !s[2]);
+    let last = (r[3] | !s[3]) & (r[4] | !s[4]) & (r[5] | !s[5]);
+    first & last
+}
+
+/// Whether what row r says of the registers is enough for row s.
+pub(crate) fn fits(r: &Row, s: &Row) -> bool
+    ensures { result ≡ fits r.now s.now }
+{
+    bounds_fit(&r.bounds, &s.bounds)
+        && slots_fit(&r.slots, &s.slots)
+        && pointers_fit(&r.pointers, &s.pointers)
+        && pairs_fit(&r.pairs, &s.pairs)
+}
+
+fn is_empty(slot: SlotState) -> bool
+    ensures { result ≡ is_empty slot }
+{
+    match slot {
+        SlotState::Empty => true,
+        _ => false,
+    }
+}
+
+fn is_stale(pointer: &Option<Pointer>) -> bool
+    ensures { result ≡ is_stale pointer.now }
+{
+    pointer.is_none()
+}
+
+fn are_empty(slots: &[SlotState]) -> bool
+    ensures { result ≡ list_all is_empty slots.now }
+{
+    slots.iter().all(|slot| is_empty(*slot))
+}
+
+fn are_stale(pointers: &[Option<Pointer>]) -> bool
+    ensures { result ≡ list_all is_stale pointers.now }
+{
+    pointers.iter().all(is_stale)
+}
+
+/// Whether no slot is held and each pointer is stale.
+pub(crate) fn is_plain(row: &Row) -> bool
+    ensures { result ≡ is_plain row.now }
+{
+    are_empty(&row.slots) && are_stale(&row.pointers)
+}
+
+fn leads_nowhere(slots: &[SlotState; 4], pointer: Option<Pointer>) -> bool
+    ensures { result ≡ leads_nowhere slots.now pointer }
+{
+    match pointer {
+        None => false,
+        Some(p) => match slots.get(p.slot as usize) {
+            Some(slot) => is_empty(*slot),
+            None => true,
+        },
+    }
+}
+
+/// Whether a pointer of the row leads into a slot that is empty.
+#[tactic(auto, unfolding(crate::specs::Rules::names_empty_slot))]
+pub(crate) fn names_empty_slot(row: &Row) -> bool
+    ensures { result ≡ names_empty_slot row.now }
+{
+    row.pointers
+        .iter()
+        .any(|pointer| leads_nowhere(&row.slots, *pointer))
+}

@@ -1,0 +1,15 @@
+//! The verifier: which images may run.
+//!
+//! docs/VERIFIER.md says the rules and what they promise.
+#![tactic(auto)]
+
+mod checked;
+mod edges;
+mod fits;
+mod potentials;
+mod refusal;
+mod rule;
+
+pub use checked::{Checked, check};
+pub use edges::after;
+pub use rule::{Reject, Rule};

@@ -1,0 +1,39 @@
+//! The rules by name and number.
+
+use std::fmt;
+use thiserror::Error;
+
+/// Why the verifier refuses a point. Rules that speak of opcodes which do not exist yet are left out.
+#[derive(Clone, Copy, Debug, PartialEq, Eq)]
+pub enum Rule {
+    /// A branch or the fall-through leaves the routine.
+    LeavesRoutine = 1,
+    /// A pointer of the row leads into an empty slot.
+    NamesEmptySlot = 2,
+    /// The entry row does not fit the first row, or a public routine's entry or exit row has a slot held or a pointer
+    /// that is not stale.
+    EntryMisfit = 3,
+    /// A return where the row does not fit the exit row.
+    ExitMisfit = 11,
+    /// The row after an edge does not fit the row there.
+    EdgeMisfit = 12,
+    /// The potential does not pay for an edge or a return.
+    EdgeUnpaid = 13,
+    /// The potential at the first pc is above the budget.
+    OverBudget = 14,
+}
+
+impl fmt::Display for Rule {
+    fn fmt<W: fmt::Write>(&self, f: &mut fmt::Formatter<W>) -> fmt::Result {
+        let number = *self as u8;
+        write!(f, "V{number}")
+    }
+}
+
+/// The first pc that is refused, and the lowest rule that refuses it.
+#[derive(Clone, Copy, Debug, PartialEq, Eq, Error)]
+#[error("rejected at {pc} by {rule}")]
+pub struct Reject {
+    pub pc: u16,
+    pub rule: Rule,
+}
