@@ -1,0 +1,135 @@
+-- What the rules, where none refuses, say of the points that control comes to.
+use Rattle.std.proofs.Common.{◌≡◌, ℕ, zero, suc, ◌+◌, ◌<◌, ◌≤◌, Bool, true, false, cond, not, Option, Some, None, List, [], ◌∷◌, ◌++◌, length, slice_get, refl, sym, ap, ◌∙◌, subst, arith}
+use Rattle.std.specs.Prelude.{nat_le, nat_lt, ◌==◌, ◌&&◌, ◌||◌}
+use Rattle.std.proofs.lemmas.Bool.{eqb-false, and_parts, or_parts, not-true, not-false, leb-true, ltb-true, eq-eqb}
+use Rattle.geos_image.specs.declared.opcode.Opcode.{Opcode}
+use Rattle.geos_image.specs.declared.instr.Instr.{Instr}
+use Rattle.geos_image.specs.declared.row.Row.{Row}
+use Rattle.geos_image.specs.declared.potential.Potential.{Potential}
+use Rattle.geos_image.specs.declared.routine.Routine.{Routine}
+use Rattle.geos_image.specs.Parts.{Point, Parts, total_count, start_of}
+use Rattle.geos_image.specs.Legal.{is_name, is_named, is_row, is_routine, are_routines, is_image}
+use Rattle.geos_image.proofs.Instrs.{image_parts}
+use Rattle.geos_verify.specs.Lists.{first_refusal}
+use Rattle.geos_verify.specs.Rows.{falls_through, branches, at_point, row_along, row_branching, fits}
+use Rattle.geos_verify.specs.Potentials.{pays_along, pays_branching, is_within}
+use Rattle.geos_verify.specs.Rules.{has_place, returns, leaves_routine, names_empty_slot, entry_misfits, exit_misfits, misfits_at, edge_misfits, unpaid_along, unpaid_branching, edge_unpaid, over_budget, tests, refusal, HasPoint, Accepted}
+use Rattle.geos_verify.specs.declared.rule.Rule.{Rule}
+use Rattle.geos_verify.proofs.Places.{place_bounds, place_true, start_of-end, item_at}
+
+-- every test is false
+abbrev pub Passed : {R : Type 0} → List (Bool × R) → Type 0
+Passed [] = Unit {0}
+Passed (test ∷ tests) = (test.0 ≡ false) × Passed tests
+
+pub passed : {R : Type 0} (tests : List (Bool × R)) → first_refusal tests ≡ None → Passed tests
+passed [] e = tt
+passed ((true, rule) ∷ tests) e = absurd cc
+passed ((false, rule) ∷ tests) e = (refl, passed tests e)
+
+-- where control goes: a point of the routine, whose row the given one fits, and whose potential is paid for
+pub record Leads (image : Parts) (r : ℕ) (routine : Routine) (to : ℕ) (row : Row) (paid : Potential → Bool) : Type 0 where
+  pub point : Point
+  pub has : HasPoint image r routine to point
+  pub fits : fits row point.1 ≡ true
+  pub pays : paid point.2 ≡ true
+
+-- a part of a test that is false, where the other part is true
+and-false : (a b : Bool) → (a && b) ≡ false → a ≡ true → b ≡ false
+and-false true b e h = e
+and-false false b e h = absurd cc
+
+counts-some : (earlier routines : List Routine) (r : ℕ) (routine : Routine) → are_routines earlier routines ≡ true → slice_get routines r ≡ Some routine → 0 < routine.count
+counts-some earlier [] r routine h e = absurd cc
+counts-some earlier (x ∷ routines) zero routine h e =
+    let same : x ≡ routine = cc in
+    let here = (and_parts (is_routine earlier x) (are_routines (earlier ++ x ∷ []) routines) h).0 in
+    let a = and_parts (is_name x.name && not (is_named x.name earlier) && nat_lt 0 x.count && is_row x.entry) (is_row x.exit) here in
+    let b = and_parts (is_name x.name && not (is_named x.name earlier) && nat_lt 0 x.count) (is_row x.entry) a.0 in
+    let c = and_parts (is_name x.name && not (is_named x.name earlier)) (nat_lt 0 x.count) b.0 in
+    subst (λ (y : Routine). 0 < y.count) same (ltb-true 0 x.count c.1)
+counts-some earlier (x ∷ routines) (suc r) routine h e =
+    counts-some (earlier ++ x ∷ []) routines r routine ((and_parts (is_routine earlier x) (are_routines (earlier ++ x ∷ []) routines) h).1) e
+
+-- a pc of the routine has a point
+pub point_at : (image : Parts) (r : ℕ) (routine : Routine) (to : ℕ) → is_image image ≡ true → slice_get image.routines r ≡ Some routine → has_place (start_of image.routines r) routine.count to ≡ true
+    → (point : Point) × HasPoint image r routine to point
+point_at image r routine to legal there within =
+    let place = place_bounds (start_of image.routines r) routine.count to within in
+    let end = start_of-end image.routines r routine there in
+    let counts = (image_parts image legal).counts in
+    let found = item_at image.points to (omega (arith, place.1, end, counts)) in
+    (found.0, record { there = there; within = within; read = found.1 })
+
+at_point-is : (image : Parts) (to : ℕ) (point : Point) (test : Point → Bool) → slice_get image.points to ≡ Some point → at_point image to test ≡ test point
+at_point-is image to point test e = rw (e, at_point) refl
+
+module _ (image : Parts) (legal : is_image image ≡ true) (accepted : Accepted image) (r pc : ℕ) (routine : Routine) (point : Point) (has : HasPoint image r routine pc point) where
+
+  all_pass : Passed (tests image routine (start_of image.routines r) pc point)
+  all_pass = passed (tests image routine (start_of image.routines r) pc point) (accepted r pc routine point has)
+
+  -- the edge to the next instruction
+  pub leads-along : (opcode : Opcode) → point.0.opcode ≡ opcode → falls_through opcode ≡ true → Leads image r routine (pc + 1) (row_along point.0 opcode point.1) (pays_along point.0 opcode point.1 point.2)
+  unfolding leaves_routine edge_misfits misfits_at edge_unpaid unpaid_along
+  leads-along opcode is falls =
+      let i = point.0 in
+      let falls_here : falls_through i.opcode ≡ true = ap falls_through is ∙ falls in
+      let stays = or_parts (falls_through i.opcode && not (has_place (start_of image.routines r) routine.count (pc + 1))) _ all_pass.0 in
+      let within = not-false _ (and-false (falls_through i.opcode) _ stays.0 falls_here) in
+      let next = point_at image r routine (pc + 1) legal has.there within in
+      let fit = or_parts (falls_through i.opcode && not (at_point image (pc + 1) (λ q. fits (row_along i i.opcode point.1) q.1))) _ all_pass.1.1.1.1.0 in
+      let fit_here = not-false _ (and-false (falls_through i.opcode) _ fit.0 falls_here) in
+      let pay = or_parts _ (returns i.opcode && point.2.constant == 0) all_pass.1.1.1.1.1.0 in
+      let pay_along = or_parts (falls_through i.opcode && not (at_point image (pc + 1) (λ q. pays_along i i.opcode point.1 point.2 q.2))) _ pay.0 in
+      let pay_here = not-false _ (and-false (falls_through i.opcode) _ pay_along.0 falls_here) in
+      let P : Opcode → Type 0 = λ o. Leads image r routine (pc + 1) (row_along i o point.1) (pays_along i o point.1 point.2) in
+      subst P is (record {
+        point = next.0;
+        has = next.1;
+        fits = sym (at_point-is image (pc + 1) next.0 (λ q. fits (row_along i i.opcode point.1) q.1) next.1.read) ∙ fit_here;
+        pays = sym (at_point-is image (pc + 1) next.0 (λ q. pays_along i i.opcode point.1 point.2 q.2) next.1.read) ∙ pay_here;
+      })
+
+  -- the edge to the target
+  pub leads-branching : (opcode : Opcode) → point.0.opcode ≡ opcode → branches opcode ≡ true → Leads image r routine point.0.target (row_branching opcode point.1) (pays_branching point.0 opcode point.2)
+  unfolding leaves_routine edge_misfits misfits_at edge_unpaid unpaid_branching
+  leads-branching opcode is branch =
+      let i = point.0 in
+      let branch_here : branches i.opcode ≡ true = ap branches is ∙ branch in
+      let stays = or_parts _ (branches i.opcode && not (has_place (start_of image.routines r) routine.count i.target)) all_pass.0 in
+      let within = not-false _ (and-false (branches i.opcode) _ stays.1 branch_here) in
+      let next = point_at image r routine i.target legal has.there within in
+      let fit = or_parts _ (branches i.opcode && not (at_point image i.target (λ q. fits (row_branching i.opcode point.1) q.1))) all_pass.1.1.1.1.0 in
+      let fit_here = not-false _ (and-false (branches i.opcode) _ fit.1 branch_here) in
+      let pay = or_parts _ (returns i.opcode && point.2.constant == 0) all_pass.1.1.1.1.1.0 in
+      let pay_branch = or_parts _ (branches i.opcode && not (at_point image i.target (λ q. pays_branching i i.opcode point.2 q.2))) pay.0 in
+      let pay_here = not-false _ (and-false (branches i.opcode) _ pay_branch.1 branch_here) in
+      let P : Opcode → Type 0 = λ o. Leads image r routine i.target (row_branching o point.1) (pays_branching i o point.2) in
+      subst P is (record {
+        point = next.0;
+        has = next.1;
+        fits = sym (at_point-is image i.target next.0 (λ q. fits (row_branching i.opcode point.1) q.1) next.1.read) ∙ fit_here;
+        pays = sym (at_point-is image i.target next.0 (λ q. pays_branching i i.opcode point.2 q.2) next.1.read) ∙ pay_here;
+      })
+
+  -- a return is as the exit row says, and is paid for
+  pub may_return : returns point.0.opcode ≡ true → (fits point.1 routine.exit ≡ true) × (1 ≤ point.2.constant)
+  unfolding exit_misfits edge_unpaid
+  may_return is =
+      let fit = not-false _ (and-false (returns point.0.opcode) _ all_pass.1.1.1.0 is) in
+      let pay = or_parts _ (returns point.0.opcode && point.2.constant == 0) all_pass.1.1.1.1.1.0 in
+      let some = eqb-false point.2.constant 0 (and-false (returns point.0.opcode) _ pay.1 is) in
+      (fit, omega (arith, some))
+
+  -- where a routine begins, its entry row fits the row, and its budget pays
+  pub may_begin : pc ≡ start_of image.routines r → (fits routine.entry point.1 ≡ true) × (is_within routine.budget point.2 ≡ true)
+  unfolding entry_misfits over_budget
+  may_begin is =
+      let here : (pc == start_of image.routines r) ≡ true = eq-eqb pc (start_of image.routines r) is in
+      let entry = or_parts (not (fits routine.entry point.1)) _ (and-false (pc == start_of image.routines r) _ all_pass.1.1.0 here) in
+      (not-false _ entry.0, not-false _ (and-false (pc == start_of image.routines r) _ all_pass.1.1.1.1.1.1.0 here))
+
+-- a routine has an instruction where it begins
+pub begins-within : (image : Parts) → is_image image ≡ true → (r : ℕ) (routine : Routine) → slice_get image.routines r ≡ Some routine → has_place (start_of image.routines r) routine.count (start_of image.routines r) ≡ true
+begins-within image legal r routine there = place_true (start_of image.routines r) routine.count (start_of image.routines r) (omega arith) (let some = counts-some [] image.routines r routine (image_parts image legal).routines there in omega arith)

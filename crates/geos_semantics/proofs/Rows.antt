@@ -1,0 +1,77 @@
+-- What each change of a state does to the row that it meets.
+use Rattle.std.proofs.Common.{◌≡◌, ℕ, zero, suc, ◌+◌, ◌-◌, ◌%◌, ◌<◌, ◌≤◌, Bool, true, false, cond, not, Option, Some, None, List, [], ◌∷◌, get_or, set, length, refl, sym, ap, ◌∙◌, subst, arith, inl, inr}
+use Rattle.std.specs.Prelude.{◌⊎◌, nat_le, nat_lt, ◌==◌, ◌&&◌, ◌||◌}
+use Rattle.std.proofs.lemmas.Bool.{eqb-true, and_parts, leb-true, leb-false}
+use Rattle.geos_image.specs.declared.row.Row.{Row}
+use Rattle.geos_image.specs.declared.row.Pointer.{Pointer}
+use Rattle.geos_image.specs.declared.row.SlotState.{SlotState}
+use Rattle.geos_image.specs.declared.row.SlotState.TheVariants.{Empty, Mem, Vm, VmMarked, Db, DbMarked}
+use Rattle.geos_verify.specs.Lists.{all2}
+use Rattle.geos_verify.specs.Rows.{bound, with_bound, or_any, slot_fits, pointer_fits, pair_fits, fits}
+use Rattle.geos_semantics.specs.Lists.{Each, Each2}
+use Rattle.geos_semantics.specs.Model.{Held, Reference, State, word, with_word}
+use Rattle.geos_semantics.specs.Meets.{SlotMeets, PointerMeets, PairMeets, slot_pairs, Meets, Sound}
+use Rattle.geos_semantics.proofs.Lists.{each2-set, each2-get, each2-from_test, each2-trans, each2-trans_back}
+
+slot-meets : (h : Option Held) (x y : SlotState) → SlotMeets h x → slot_fits x y ≡ true → SlotMeets h y
+slot-meets h Empty Empty m e = m
+slot-meets h Mem Mem m e = m
+slot-meets h Vm Vm m e = m
+slot-meets h VmMarked VmMarked m e = m
+slot-meets None VmMarked Vm m e = m
+slot-meets (Some k) VmMarked Vm m e = m
+slot-meets h Db Db m e = m
+slot-meets h DbMarked DbMarked m e = m
+slot-meets None DbMarked Db m e = m
+slot-meets (Some k) DbMarked Db m e = m
+slot-meets h _ _ m e = absurd cc
+
+pointer-meets : (x : Option Reference) (y z : Option Pointer) → PointerMeets x y → pointer_fits y z ≡ true → PointerMeets x z
+pointer-meets x y None m e = tt
+pointer-meets x None (Some q) m e = absurd cc
+pointer-meets None (Some p) (Some q) m e = absurd m
+pointer-meets (Some r) (Some p) (Some q) m e =
+    let parts = and_parts (p.slot == q.slot) (nat_le q.least p.least) e in
+    let least = leb-true q.least p.least parts.1 in
+    (m.0 ∙ eqb-true p.slot q.slot parts.0, omega (arith, m.1))
+
+pair-known : (y x : Bool) → pair_fits y x ≡ true → x ≡ true → y ≡ true
+pair-known true x h e = refl
+pair-known false true h e = absurd cc
+pair-known false false h e = absurd cc
+
+-- a state that is as a row says is as each row says that the first one fits
+pub meets-fits : (s : State) (r q : Row) → Meets s r → fits r q ≡ true → Meets s q
+meets-fits s r q M h =
+    let bounds = all2 nat_le r.bounds q.bounds in
+    let slots = all2 slot_fits r.slots q.slots in
+    let pointers = all2 pointer_fits r.pointers q.pointers in
+    let pairs = all2 pair_fits r.pairs q.pairs in
+    let a = and_parts (bounds && slots && pointers) pairs h in
+    let b = and_parts (bounds && slots) pointers a.0 in
+    let c = and_parts bounds slots b.0 in
+    record {
+      words = each2-trans (λ n most. n ≤ most) (λ m n. nat_le m n ≡ true) (λ n most. n ≤ most) (λ x y z m e. let k = leb-true y z e in omega arith) s.words r.bounds q.bounds M.words (each2-from_test nat_le r.bounds q.bounds c.0);
+      slots = each2-trans SlotMeets (λ x y. slot_fits x y ≡ true) SlotMeets slot-meets s.slots r.slots q.slots M.slots (each2-from_test slot_fits r.slots q.slots c.1);
+      pointers = each2-trans PointerMeets (λ x y. pointer_fits x y ≡ true) PointerMeets pointer-meets s.pointers r.pointers q.pointers M.pointers (each2-from_test pointer_fits r.pointers q.pointers b.1);
+      pairs = each2-trans_back (λ y x. pair_fits y x ≡ true) (PairMeets s.slots) (PairMeets s.slots) (λ x y z p m e. m (pair-known y x p e)) q.pairs r.pairs slot_pairs (each2-from_test pair_fits r.pairs q.pairs a.1) M.pairs;
+    }
+
+-- a word that is written is within the bound that is
+pub meets-word : (s : State) (r : Row) (a v n : ℕ) → Meets s r → v ≤ n → Meets (with_word a v s) (with_bound a n r)
+meets-word s r a v n M le = record {
+  words = each2-set (λ x y. x ≤ y) s.words r.bounds a v n M.words le;
+  slots = M.slots;
+  pointers = M.pointers;
+  pairs = M.pairs;
+}
+
+pub word-bound : (s : State) (r : Row) (a : ℕ) → Meets s r → word s a ≤ bound r a
+word-bound s r a M = each2-get (λ x y. x ≤ y) s.words r.bounds a 0 0 M.words (omega arith)
+
+pub sum-bound : (x y m n : ℕ) → x ≤ m → y ≤ n → (x + y) % 65536 ≤ or_any (m + n)
+sum-bound x y m n h j = go (nat_le (m + n) 65535) refl
+  where
+    go : (t : Bool) → nat_le (m + n) 65535 ≡ t → (x + y) % 65536 ≤ cond t (m + n) 65535
+    go true e = let k = leb-true (m + n) 65535 e in omega arith
+    go false e = omega arith
