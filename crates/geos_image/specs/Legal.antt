@@ -29,8 +29,12 @@ abbrev pub is_pointer : Option Pointer → Bool
 is_pointer None = true
 is_pointer (Some p) = nat_lt p.slot 4
 
+-- a row speaks of eight words, four slots, four pointers and six pairs of slots
+abbrev pub is_shaped : Row → Bool
+is_shaped row = length row.bounds == 8 && length row.slots == 4 && length row.pointers == 4 && length row.pairs == 6
+
 abbrev pub is_row : Row → Bool
-is_row row = list_all is_pointer row.pointers
+is_row row = is_shaped row && list_all is_pointer row.pointers
 
 -- each field is below the limit of its operand, in an image with so many routines and instructions
 abbrev pub is_instr : ℕ → ℕ → Instr → Bool

@@ -101,6 +101,14 @@ impl Image {
         self.points.len() as u16
     }
 
+    /// Every instruction with its entry state and potential, by pc.
+    pub fn points(&self) -> &[(Instr, Row, Potential)]
+        ensures points { result.now ≡ self.now.points }
+        ensures legal { is_image self.now ≡ true }
+    {
+        &self.points
+    }
+
     /// The instruction at a pc.
     pub fn instr(&self, pc: u16) -> &Instr
         requires { pc < length self.now.points }

@@ -82,7 +82,13 @@ fn is_pointer(pointer: &Option<Pointer>) -> bool
 fn is_row(row: &Row) -> bool
     ensures { result ≡ is_row row.now }
 {
-    row.pointers.iter().all(is_pointer)
+    let Row {
+        bounds: _,
+        slots: _,
+        pointers,
+        pairs: _,
+    } = *row;
+    pointers.iter().all(is_pointer)
 }
 
 fn is_instr(routines: u32, instrs: u32, instr: &Instr) -> bool

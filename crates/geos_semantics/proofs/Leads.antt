@@ -11,7 +11,7 @@ use Rattle.geos_image.specs.Parts.{Point, Parts, total_count, start_of}
 use Rattle.geos_image.specs.Legal.{is_name, is_named, is_row, is_routine, are_routines, is_image}
 use Rattle.geos_image.proofs.Instrs.{image_parts}
 use Rattle.geos_verify.specs.Lists.{first_refusal}
-use Rattle.geos_verify.specs.Rows.{falls_through, branches, at_point, row_along, row_branching, fits}
+use Rattle.geos_verify.specs.Rows.{falls_through, branches, at_point, row_along, row_branching, fits, is_plain}
 use Rattle.geos_verify.specs.Potentials.{pays_along, pays_branching, is_within}
 use Rattle.geos_verify.specs.Rules.{has_place, returns, leaves_routine, names_empty_slot, entry_misfits, exit_misfits, misfits_at, edge_misfits, unpaid_along, unpaid_branching, edge_unpaid, over_budget, tests, refusal, HasPoint, Accepted}
 use Rattle.geos_verify.specs.declared.rule.Rule.{Rule}
@@ -39,17 +39,23 @@ and-false : (a b : Bool) → (a && b) ≡ false → a ≡ true → b ≡ false
 and-false true b e h = e
 and-false false b e h = absurd cc
 
-counts-some : (earlier routines : List Routine) (r : ℕ) (routine : Routine) → are_routines earlier routines ≡ true → slice_get routines r ≡ Some routine → 0 < routine.count
-counts-some earlier [] r routine h e = absurd cc
-counts-some earlier (x ∷ routines) zero routine h e =
+-- what an image's rules say of a routine
+pub record RoutineParts (routine : Routine) : Type 0 where
+  pub count : 0 < routine.count
+  pub entry : is_row routine.entry ≡ true
+  pub exit : is_row routine.exit ≡ true
+
+pub routine_parts : (earlier routines : List Routine) (r : ℕ) (routine : Routine) → are_routines earlier routines ≡ true → slice_get routines r ≡ Some routine → RoutineParts routine
+routine_parts earlier [] r routine h e = absurd cc
+routine_parts earlier (x ∷ routines) zero routine h e =
     let same : x ≡ routine = cc in
     let here = (and_parts (is_routine earlier x) (are_routines (earlier ++ x ∷ []) routines) h).0 in
     let a = and_parts (is_name x.name && not (is_named x.name earlier) && nat_lt 0 x.count && is_row x.entry) (is_row x.exit) here in
     let b = and_parts (is_name x.name && not (is_named x.name earlier) && nat_lt 0 x.count) (is_row x.entry) a.0 in
     let c = and_parts (is_name x.name && not (is_named x.name earlier)) (nat_lt 0 x.count) b.0 in
-    subst (λ (y : Routine). 0 < y.count) same (ltb-true 0 x.count c.1)
-counts-some earlier (x ∷ routines) (suc r) routine h e =
-    counts-some (earlier ++ x ∷ []) routines r routine ((and_parts (is_routine earlier x) (are_routines (earlier ++ x ∷ []) routines) h).1) e
+    subst RoutineParts same (record { count = ltb-true 0 x.count c.1; entry = b.1; exit = a.1 })
+routine_parts earlier (x ∷ routines) (suc r) routine h e =
+    routine_parts (earlier ++ x ∷ []) routines r routine ((and_parts (is_routine earlier x) (are_routines (earlier ++ x ∷ []) routines) h).1) e
 
 -- a pc of the routine has a point
 pub point_at : (image : Parts) (r : ℕ) (routine : Routine) (to : ℕ) → is_image image ≡ true → slice_get image.routines r ≡ Some routine → has_place (start_of image.routines r) routine.count to ≡ true
@@ -123,13 +129,13 @@ module _ (image : Parts) (legal : is_image image ≡ true) (accepted : Accepted 
       (fit, omega (arith, some))
 
   -- where a routine begins, its entry row fits the row, and its budget pays
-  pub may_begin : pc ≡ start_of image.routines r → (fits routine.entry point.1 ≡ true) × (is_within routine.budget point.2 ≡ true)
+  pub may_begin : pc ≡ start_of image.routines r → (fits routine.entry point.1 ≡ true) × (is_within routine.budget point.2 ≡ true) × (routine.public ≡ true → is_plain routine.entry ≡ true)
   unfolding entry_misfits over_budget
   may_begin is =
       let here : (pc == start_of image.routines r) ≡ true = eq-eqb pc (start_of image.routines r) is in
       let entry = or_parts (not (fits routine.entry point.1)) _ (and-false (pc == start_of image.routines r) _ all_pass.1.1.0 here) in
-      (not-false _ entry.0, not-false _ (and-false (pc == start_of image.routines r) _ all_pass.1.1.1.1.1.1.0 here))
+      (not-false _ entry.0, not-false _ (and-false (pc == start_of image.routines r) _ all_pass.1.1.1.1.1.1.0 here), λ public. (and_parts (is_plain routine.entry) (is_plain routine.exit) (not-false _ (and-false routine.public _ entry.1 public))).0)
 
 -- a routine has an instruction where it begins
 pub begins-within : (image : Parts) → is_image image ≡ true → (r : ℕ) (routine : Routine) → slice_get image.routines r ≡ Some routine → has_place (start_of image.routines r) routine.count (start_of image.routines r) ≡ true
-begins-within image legal r routine there = place_true (start_of image.routines r) routine.count (start_of image.routines r) (omega arith) (let some = counts-some [] image.routines r routine (image_parts image legal).routines there in omega arith)
+begins-within image legal r routine there = place_true (start_of image.routines r) routine.count (start_of image.routines r) (omega arith) (let some = (routine_parts [] image.routines r routine (image_parts image legal).routines there).count in omega arith)

@@ -2,3 +2,4 @@ pub mod Lists
 pub mod Rows
 pub mod Leads
 pub mod Steps
+pub mod Runs

@@ -8,6 +8,7 @@ use Rattle.geos_image.specs.declared.row.Row.{Row}
 use Rattle.geos_image.specs.declared.potential.Potential.{Potential}
 use Rattle.geos_image.specs.declared.routine.Routine.{Routine}
 use Rattle.geos_image.specs.Parts.{Point, Parts, start_of}
+use Rattle.geos_image.specs.Legal.{is_image}
 use Rattle.geos_verify.specs.declared.rule.Rule.{Rule}
 use Rattle.geos_verify.specs.declared.rule.Rule.TheVariants.{LeavesRoutine, NamesEmptySlot, EntryMisfit, ExitMisfit, EdgeMisfit, EdgeUnpaid, OverBudget}
 use Rattle.geos_verify.specs.declared.rule.Reject.{Reject}
@@ -105,6 +106,10 @@ pub record HasPoint (image : Parts) (r : ℕ) (routine : Routine) (pc : ℕ) (po
 abbrev pub Accepted : Parts → Type 0
 Accepted image = (r pc : ℕ) (routine : Routine) (point : Point) → HasPoint image r routine pc point
     → refusal image routine (start_of image.routines r) pc point ≡ None
+
+-- an image that may run
+abbrev pub IsChecked : Parts → Type 0
+IsChecked image = (is_image image ≡ true) × Accepted image
 
 -- no rule refuses below a pc
 abbrev pub AcceptedBelow : Parts → ℕ → Type 0

@@ -4,7 +4,7 @@ ghost use Rattle.std.specs.Prelude.{◌≡◌, ◌<◌, ◌≤◌, ◌+◌, ℕ,
 ghost use Rattle.geos_image.specs.declared.routine.Routine.{Routine};
 ghost use Rattle.geos_image.specs.Parts.{Point, start_of};
 ghost use Rattle.geos_image.specs.Legal.{is_image};
-ghost use Rattle.geos_verify.specs.Rules.{HasPoint, refusal, Accepted, AcceptedBelow, FirstRefusal};
+ghost use Rattle.geos_verify.specs.Rules.{refusal, Accepted, IsChecked, FirstRefusal};
 
 use crate::refusal::refusal;
 use crate::rule::Reject;
@@ -19,20 +19,20 @@ pub struct Checked {
 
 impl Model for Checked {
     ghost use Rattle.geos_image.specs.Parts.{Parts};
-    ghost use Rattle.geos_verify.specs.Rules.{Accepted};
+    ghost use Rattle.geos_verify.specs.Rules.{IsChecked};
 
     ghost Value = { Parts };
 
     ghost view = { λ c. c.image };
 
-    ghost invariant = { λ c. Accepted c.image };
+    ghost invariant = { λ c. IsChecked c.image };
 }
 
 impl Checked {
     /// The image that was checked.
     pub fn image(&self) -> &Image
         ensures image { result.now ≡ self.now }
-        ensures accepted { Accepted self.now }
+        ensures checked { IsChecked self.now }
     {
         &self.image
     }
@@ -57,6 +57,7 @@ fn refusal_in(image: &Image, routine: &Routine, start: u16) -> Option<Reject>
 
 /// The first pc that is refused and the lowest rule there, if any is.
 fn first_refusal(image: &Image) -> Option<Reject>
+    ensures legal { is_image image.now ≡ true }
     ensures none { IfNone result (Accepted image.now) }
     ensures some { IfSome result (FirstRefusal image.now) }
 {

@@ -1,0 +1,11 @@
+//! The machine: runs routines of images that the verifier accepted.
+//!
+//! docs/MODEL.md says what a run is; docs/INSTRUCTIONS.md, what each instruction does.
+#![tactic(auto)]
+
+mod machine;
+mod outcome;
+mod step;
+
+pub use machine::{Machine, admits};
+pub use outcome::Outcome;
