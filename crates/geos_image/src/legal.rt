@@ -24,7 +24,7 @@ fn is_name_byte(byte: u8) -> bool
 }
 
 /// Where the text of a padded name ends, if zeros follow it.
-fn text_end(name: &[u8]) -> Option<usize>
+pub(crate) fn text_end(name: &[u8]) -> Option<usize>
     ensures place { result ≡ text_end name.now }
     ensures within { IfSome result (λ end. end < length name.now) }
 {

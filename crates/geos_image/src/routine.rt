@@ -1,5 +1,9 @@
 //! Routines.
 
+ghost use Rattle.std.specs.Prelude.{◌≡◌, take, unwrap_or};
+ghost use Rattle.geos_image.specs.Legal.{text_end};
+
+use crate::legal::text_end;
 use crate::row::Row;
 
 /// A routine of an image. Its instructions follow those of the routine before it.
@@ -17,4 +21,14 @@ pub struct Routine {
     pub entry: Row,
     /// What it promises of the registers where it returns.
     pub exit: Row,
+}
+
+impl Routine {
+    /// The name without the zeros behind it.
+    pub fn name_text(&self) -> &[u8]
+        ensures { result.now ≡ take (unwrap_or (text_end self.now.name) 16) self.now.name }
+    {
+        let end = text_end(&self.name).unwrap_or(16);
+        &self.name[..end]
+    }
 }

@@ -1,20 +1,18 @@
 -- What the rules, where none refuses, say of the points that control comes to.
-use Rattle.std.proofs.Common.{◌≡◌, ℕ, zero, suc, ◌+◌, ◌<◌, ◌≤◌, Bool, true, false, cond, not, Option, Some, None, List, [], ◌∷◌, ◌++◌, length, slice_get, refl, sym, ap, ◌∙◌, subst, arith}
-use Rattle.std.specs.Prelude.{nat_le, nat_lt, ◌==◌, ◌&&◌, ◌||◌}
-use Rattle.std.proofs.lemmas.Bool.{eqb-false, and_parts, or_parts, not-true, not-false, leb-true, ltb-true, eq-eqb}
+use Rattle.std.proofs.Common.{◌≡◌, ℕ, zero, suc, ◌+◌, ◌<◌, ◌≤◌, Bool, true, false, not, Some, None, List, [], ◌∷◌, ◌++◌, slice_get, refl, sym, ap, ◌∙◌, subst, arith}
+use Rattle.std.specs.Prelude.{nat_lt, ◌==◌, ◌&&◌}
+use Rattle.std.proofs.lemmas.Bool.{eqb-false, and_parts, or_parts, not-false, ltb-true, eq-eqb}
 use Rattle.geos_image.specs.declared.opcode.Opcode.{Opcode}
-use Rattle.geos_image.specs.declared.instr.Instr.{Instr}
 use Rattle.geos_image.specs.declared.row.Row.{Row}
 use Rattle.geos_image.specs.declared.potential.Potential.{Potential}
 use Rattle.geos_image.specs.declared.routine.Routine.{Routine}
-use Rattle.geos_image.specs.Parts.{Point, Parts, total_count, start_of}
+use Rattle.geos_image.specs.Parts.{Point, Parts, start_of}
 use Rattle.geos_image.specs.Legal.{is_name, is_named, is_row, is_routine, are_routines, is_image}
 use Rattle.geos_image.proofs.Instrs.{image_parts}
 use Rattle.geos_verify.specs.Lists.{first_refusal}
 use Rattle.geos_verify.specs.Rows.{falls_through, branches, at_point, row_along, row_branching, fits, is_plain}
 use Rattle.geos_verify.specs.Potentials.{pays_along, pays_branching, is_within}
-use Rattle.geos_verify.specs.Rules.{has_place, returns, leaves_routine, names_empty_slot, entry_misfits, exit_misfits, misfits_at, edge_misfits, unpaid_along, unpaid_branching, edge_unpaid, over_budget, tests, refusal, HasPoint, Accepted}
-use Rattle.geos_verify.specs.declared.rule.Rule.{Rule}
+use Rattle.geos_verify.specs.Rules.{has_place, returns, leaves_routine, entry_misfits, exit_misfits, misfits_at, edge_misfits, unpaid_along, unpaid_branching, edge_unpaid, over_budget, tests, HasPoint, Accepted}
 use Rattle.geos_verify.proofs.Places.{place_bounds, place_true, start_of-end, item_at}
 
 -- every test is false
@@ -71,7 +69,6 @@ at_point-is : (image : Parts) (to : ℕ) (point : Point) (test : Point → Bool)
 at_point-is image to point test e = rw (e, at_point) refl
 
 module _ (image : Parts) (legal : is_image image ≡ true) (accepted : Accepted image) (r pc : ℕ) (routine : Routine) (point : Point) (has : HasPoint image r routine pc point) where
-
   all_pass : Passed (tests image routine (start_of image.routines r) pc point)
   all_pass = passed (tests image routine (start_of image.routines r) pc point) (accepted r pc routine point has)
 

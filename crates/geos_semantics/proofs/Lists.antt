@@ -1,13 +1,12 @@
 -- Relations between lists, place by place.
-use Rattle.std.proofs.Common.{◌≡◌, ℕ, zero, suc, ◌+◌, ◌*◌, ◌-◌, ◌<◌, ◌≤◌, Bool, true, false, List, [], ◌∷◌, get_or, set, length, refl, sym, ap, arith}
-use Rattle.std.specs.Prelude.{◌&&◌, nat_le}
+use Rattle.std.proofs.Common.{◌≡◌, ℕ, zero, suc, ◌≤◌, Bool, true, List, [], ◌∷◌, get_or, set, arith}
+use Rattle.std.specs.Prelude.{nat_le}
 use Rattle.std.proofs.lemmas.Bool.{and_parts, leb-true}
 use Rattle.std.proofs.Math.Nat.{mul-le-mul_right}
 use Rattle.geos_verify.specs.Lists.{all2}
-use Rattle.geos_semantics.specs.Lists.{Each, Each2, dot}
+use Rattle.geos_semantics.specs.Lists.{Each2, dot}
 
 module _ {X Y : Type 0} (R : X → Y → Type 0) where
-
   pub each2-set : (xs : List X) (ys : List Y) (i : ℕ) (x : X) (y : Y) → Each2 R xs ys → R x y → Each2 R (set xs i x) (set ys i y)
   each2-set [] [] i x y h r = tt
   each2-set [] (v ∷ ys) i x y h r = absurd h

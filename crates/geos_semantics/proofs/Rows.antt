@@ -1,16 +1,15 @@
 -- What each change of a state does to the row that it meets.
-use Rattle.std.proofs.Common.{◌≡◌, ℕ, zero, suc, ◌+◌, ◌-◌, ◌%◌, ◌<◌, ◌≤◌, Bool, true, false, cond, not, Option, Some, None, List, [], ◌∷◌, get_or, set, length, refl, sym, ap, ◌∙◌, subst, arith, inl, inr}
-use Rattle.std.specs.Prelude.{◌⊎◌, nat_le, nat_lt, ◌==◌, ◌&&◌, ◌||◌}
-use Rattle.std.proofs.lemmas.Bool.{eqb-true, and_parts, leb-true, leb-false}
+use Rattle.std.proofs.Common.{◌≡◌, ℕ, ◌+◌, ◌%◌, ◌≤◌, Bool, true, false, cond, Option, Some, None, refl, ◌∙◌, arith}
+use Rattle.std.specs.Prelude.{nat_le, ◌==◌, ◌&&◌}
+use Rattle.std.proofs.lemmas.Bool.{eqb-true, and_parts, leb-true}
 use Rattle.geos_image.specs.declared.row.Row.{Row}
 use Rattle.geos_image.specs.declared.row.Pointer.{Pointer}
 use Rattle.geos_image.specs.declared.row.SlotState.{SlotState}
 use Rattle.geos_image.specs.declared.row.SlotState.TheVariants.{Empty, Mem, Vm, VmMarked, Db, DbMarked}
 use Rattle.geos_verify.specs.Lists.{all2}
 use Rattle.geos_verify.specs.Rows.{bound, with_bound, or_any, slot_fits, pointer_fits, pair_fits, fits}
-use Rattle.geos_semantics.specs.Lists.{Each, Each2}
 use Rattle.geos_semantics.specs.Model.{Held, Reference, State, word, with_word}
-use Rattle.geos_semantics.specs.Meets.{SlotMeets, PointerMeets, PairMeets, slot_pairs, Meets, Sound}
+use Rattle.geos_semantics.specs.Meets.{SlotMeets, PointerMeets, PairMeets, slot_pairs, Meets}
 use Rattle.geos_semantics.proofs.Lists.{each2-set, each2-get, each2-from_test, each2-trans, each2-trans_back}
 
 slot-meets : (h : Option Held) (x y : SlotState) → SlotMeets h x → slot_fits x y ≡ true → SlotMeets h y

@@ -10,5 +10,4 @@ ghost use Rattle.geos_semantics.specs.Theorem.{AcceptedImagesRunWell};
 /// row says.
 pub fn accepted_images_run_well()
     ensures { AcceptedImagesRunWell }
-{
-}
+{}

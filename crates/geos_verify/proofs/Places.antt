@@ -1,13 +1,12 @@
 -- Where the routines of an image lie: one behind the other, so that each pc is in one of them.
-use Rattle.std.proofs.Common.{◌≡◌, ◌≢◌, ◌<◌, ◌≤◌, ◌+◌, ℕ, zero, suc, Bool, true, false, List, [], ◌∷◌, Option, Some, None, length, take, slice_get, refl, sym, ap, subst, ◌∙◌, arith, inl, inr}
-use Rattle.std.specs.Prelude.{◌&&◌, ◌⊎◌, nat_lt, nat_le, IfSome}
+use Rattle.std.proofs.Common.{◌≡◌, ◌<◌, ◌≤◌, ◌+◌, ℕ, zero, suc, true, List, [], ◌∷◌, Option, Some, None, length, take, slice_get, refl, sym, ap, subst, ◌∙◌, arith, inl, inr}
+use Rattle.std.specs.Prelude.{nat_lt, nat_le, IfSome}
 use Rattle.std.proofs.lemmas.Bool.{and_parts, ltb-true, leb-true, lt-ltb, le-leb, cases_lt}
 use Rattle.std.proofs.lemmas.List.Sums.{sum_by-cons}
 use Rattle.geos_image.specs.declared.routine.Routine.{Routine}
 use Rattle.geos_image.specs.Parts.{Point, Parts, total_count, start_of}
-use Rattle.geos_verify.specs.declared.rule.Rule.{Rule}
 use Rattle.geos_verify.specs.declared.rule.Reject.{Reject}
-use Rattle.geos_verify.specs.Rules.{has_place, HasPoint, refusal, Accepted, AcceptedBelow, FirstRefusal}
+use Rattle.geos_verify.specs.Rules.{has_place, refusal, Accepted, AcceptedBelow, FirstRefusal}
 
 some_routine : (x y : Routine) → Some x ≡ Some y → x ≡ y
 some_routine x y e = cc
@@ -74,15 +73,17 @@ one_routine routines q r pc before after e f h k =
     elim (cases_lt q r) [
       | inl lt ↦ absurd (apart q r _ before lt e hq hr)
       | inr le ↦ elim (cases_lt r q) [
-          | inl lt ↦ absurd (apart r q _ after lt f hr hq)
-          | inr ge ↦ omega arith
-        ]
+        | inl lt ↦ absurd (apart r q _ after lt f hr hq)
+        | inr ge ↦ omega arith
+      ]
     ]
   where
     hq : (start_of routines q ≤ pc) × (pc < start_of routines q + before.count)
     hq = place_bounds (start_of routines q) before.count pc h
+
     hr : (start_of routines r ≤ pc) × (pc < start_of routines r + after.count)
     hr = place_bounds (start_of routines r) after.count pc k
+
     apart : (a b m : ℕ) (first : Routine) → a < b → slice_get routines a ≡ Some first → (start_of routines a ≤ pc) × (pc < start_of routines a + first.count) → (start_of routines b ≤ pc) × (pc < m) → ⊥
     apart a b m first lt there x y =
         let next = start_of-next routines a first there in
@@ -90,7 +91,6 @@ one_routine routines q r pc before after e f h k =
         omega (arith, next, later, x.1, y.0)
 
 module _ (image : Parts) (r start : ℕ) (routine : Routine) (there : slice_get image.routines r ≡ Some routine) (start_is : start ≡ start_of image.routines r) where
-
   -- nothing is refused before the routine, nor in it before a limit
   pub accepted-before : (limit : ℕ) → limit ≤ start + routine.count → AcceptedBelow image start
       → ((pc : ℕ) (point : Point) → start ≤ pc → pc < limit → slice_get image.points pc ≡ Some point → refusal image routine start pc point ≡ None) → AcceptedBelow image limit

@@ -1,6 +1,6 @@
 -- What is known after an instruction, and whether an entry state fits another.
-use Rattle.std.specs.Prelude.{ℕ, ◌+◌, Bool, true, false, ◌&&◌, ◌||◌, not, nat_lt, nat_le, nat_eq, ◌==◌, if◌then◌else◌, List, [], ◌∷◌, Option, Some, None, slice_index, slice_index_or, slice_set, slice_get}
-use Rattle.std.specs.List.{list_all, list_any}
+use Rattle.std.specs.Prelude.{ℕ, ◌+◌, Bool, true, false, ◌&&◌, ◌||◌, not, nat_le, ◌==◌, if◌then◌else◌, List, Option, Some, None, slice_index, slice_index_or, slice_set, slice_get}
+use Rattle.std.specs.List.{list_all}
 use Rattle.geos_image.specs.declared.opcode.Opcode.{Opcode}
 use Rattle.geos_image.specs.declared.opcode.Opcode.TheVariants.{Ldi, Add, Ret, Out}
 use Rattle.geos_image.specs.declared.opcode.Operand.{Operand}
@@ -62,9 +62,9 @@ row_branching opcode row = if (operands_of opcode).refusable then with_bound 7 1
 -- the row at the end of an edge of the instruction at pc
 abbrev pub after : Parts → ℕ → Row → Bool → Row
 after image pc row branch = elim (slice_get image.points pc) [
-    | None ↦ row
-    | Some point ↦ if branch then row_branching point.0.opcode row else row_along point.0 point.0.opcode row
-  ]
+  | None ↦ row
+  | Some point ↦ if branch then row_branching point.0.opcode row else row_along point.0 point.0.opcode row
+]
 
 -- Fits
 

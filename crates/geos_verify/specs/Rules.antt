@@ -2,7 +2,7 @@
 use Rattle.std.specs.Prelude.{◌≡◌, ◌<◌, ℕ, ◌+◌, Bool, true, false, ◌&&◌, ◌||◌, not, nat_lt, nat_le, ◌==◌, List, [], ◌∷◌, Option, Some, None, slice_get}
 use Rattle.std.specs.List.{list_any}
 use Rattle.geos_image.specs.declared.opcode.Opcode.{Opcode}
-use Rattle.geos_image.specs.declared.opcode.Opcode.TheVariants.{Ldi, Add, Ret, Out}
+use Rattle.geos_image.specs.declared.opcode.Opcode.TheVariants.{Ret}
 use Rattle.geos_image.specs.declared.instr.Instr.{Instr}
 use Rattle.geos_image.specs.declared.row.Row.{Row}
 use Rattle.geos_image.specs.declared.potential.Potential.{Potential}

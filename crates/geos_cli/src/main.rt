@@ -1,0 +1,59 @@
+//! The program `geos`: runs a session on its standard input.
+#![tactic(auto)]
+
+mod fault;
+mod hex;
+mod script;
+mod session;
+mod text;
+
+use crate::fault::ScriptFault;
+use anyhow::Result;
+use clap::Command;
+use std::alloc::Global;
+use std::io::{BufWriter, Write};
+use std::process::ExitCode;
+use std::{env, io};
+
+const ABOUT: &str =
+    "Runs a session: reads from standard input the image of a set of routines in hexadecimal digits, \
+    a line `end`, and a script. Each line of the script is `call NAME n..`, with at most eight numbers, or blank; text \
+    from `;` on is skipped. The image is checked first, and a call prints each word that the routine puts out on a line.";
+
+fn command<'a>(alloc: Global) -> Command<'a> {
+    Command::new(alloc, "geos")
+        .no_binary_name(true)
+        .about(ABOUT)
+}
+
+/// Runs a session on the standard streams, and gives the program's status.
+fn run(rt: &HostRuntime) -> Result<ExitCode> {
+    let mut input = rt.stdin();
+    let mut out = BufWriter::new(rt.alloc(), io::writer(rt))?;
+    let ended = session::run_session(rt.alloc(), &mut input, &mut out);
+    let flushed = out.flush();
+    match ended {
+        Err(fault) => fail(rt, fault),
+        Ok(()) => match flushed {
+            Ok(()) => Ok(ExitCode::SUCCESS),
+            Err(_) => fail(rt, ScriptFault::Write),
+        },
+    }
+}
+
+/// Says what is wrong in one line on standard error.
+fn fail(rt: &HostRuntime, fault: ScriptFault) -> Result<ExitCode> {
+    eprintln!(rt; "{fault}")?;
+    Ok(ExitCode::FAILURE)
+}
+
+fn main(rt: HostRuntime) -> Result<ExitCode> {
+    let words: Vec<String> = env::args(&rt)?.skip(1).collect(rt.alloc())?;
+    match command(rt.alloc()).try_get_matches_from(words.as_slice()) {
+        Ok(_) => run(&rt),
+        Err(error) => {
+            error.print(&rt)?;
+            Ok(ExitCode::from(error.exit_code() as u8))
+        }
+    }
+}
