@@ -8,8 +8,32 @@ ghost use Rattle.geos_image.specs.Opcodes.{code_of, opcode_of, operands_of, limi
 pub enum Opcode {
     /// `LDI wa n`: wa = n.
     Ldi = 0x01,
+    /// `MOV wa wb`: wa = wb.
+    Mov = 0x02,
     /// `ADD wa wb wc`: wa = wb + wc modulo 65,536.
     Add = 0x03,
+    /// `SUB wa wb wc`: wa = wb - wc modulo 65,536.
+    Sub = 0x04,
+    /// `AND wa wb n`: wa = wb and n, bit by bit.
+    And = 0x05,
+    /// `SHR wa wb n`: wa = wb shifted right by n.
+    Shr = 0x06,
+    /// `MULI wa wb n`: wa = wb * n modulo 65,536.
+    Muli = 0x07,
+    /// `CHK wa n L`: to L if wa is above n.
+    Chk = 0x08,
+    /// `JMP L`: to L.
+    Jmp = 0x09,
+    /// `BEQ wa wb L`: to L if wa is wb.
+    Beq = 0x0a,
+    /// `BLT wa wb L`: to L if wa is below wb.
+    Blt = 0x0b,
+    /// `SETK ka n`: ka = n.
+    Setk = 0x0c,
+    /// `SETKW ka wb`: ka = wb.
+    Setkw = 0x0d,
+    /// `LOOP ka L`: if ka is above 0, takes 1 from it and goes to L.
+    Loop = 0x0e,
     /// `RET`: returns; the outermost return ends the run.
     Ret = 0x10,
     /// `OUT wa L`: puts out wa; refused with 10 where 1,024 words are out.
@@ -79,7 +103,19 @@ impl Opcode {
     {
         match code {
             0x01 => Some(Opcode::Ldi),
+            0x02 => Some(Opcode::Mov),
             0x03 => Some(Opcode::Add),
+            0x04 => Some(Opcode::Sub),
+            0x05 => Some(Opcode::And),
+            0x06 => Some(Opcode::Shr),
+            0x07 => Some(Opcode::Muli),
+            0x08 => Some(Opcode::Chk),
+            0x09 => Some(Opcode::Jmp),
+            0x0a => Some(Opcode::Beq),
+            0x0b => Some(Opcode::Blt),
+            0x0c => Some(Opcode::Setk),
+            0x0d => Some(Opcode::Setkw),
+            0x0e => Some(Opcode::Loop),
             0x10 => Some(Opcode::Ret),
             0x11 => Some(Opcode::Out),
             _ => None,
@@ -96,10 +132,58 @@ impl Opcode {
                 imm: Operand::Number,
                 ..Operands::NONE
             },
-            Opcode::Add => Operands {
+            Opcode::Mov => Operands {
+                a: Operand::Word,
+                b: Operand::Word,
+                ..Operands::NONE
+            },
+            Opcode::Add | Opcode::Sub => Operands {
                 a: Operand::Word,
                 b: Operand::Word,
                 c: Operand::Word,
+                ..Operands::NONE
+            },
+            Opcode::And | Opcode::Muli => Operands {
+                a: Operand::Word,
+                b: Operand::Word,
+                imm: Operand::Number,
+                ..Operands::NONE
+            },
+            Opcode::Shr => Operands {
+                a: Operand::Word,
+                b: Operand::Word,
+                imm: Operand::Shift,
+                ..Operands::NONE
+            },
+            Opcode::Chk => Operands {
+                a: Operand::Word,
+                imm: Operand::Number,
+                target: Operand::Label,
+                ..Operands::NONE
+            },
+            Opcode::Jmp => Operands {
+                target: Operand::Label,
+                ..Operands::NONE
+            },
+            Opcode::Beq | Opcode::Blt => Operands {
+                a: Operand::Word,
+                b: Operand::Word,
+                target: Operand::Label,
+                ..Operands::NONE
+            },
+            Opcode::Setk => Operands {
+                a: Operand::Counter,
+                imm: Operand::Number,
+                ..Operands::NONE
+            },
+            Opcode::Setkw => Operands {
+                a: Operand::Counter,
+                b: Operand::Word,
+                ..Operands::NONE
+            },
+            Opcode::Loop => Operands {
+                a: Operand::Counter,
+                target: Operand::Label,
                 ..Operands::NONE
             },
             Opcode::Ret => Operands::NONE,

@@ -1,5 +1,5 @@
 -- Relations between lists, place by place.
-use Rattle.std.proofs.Common.{◌≡◌, ℕ, zero, suc, ◌≤◌, Bool, true, List, [], ◌∷◌, get_or, set, arith}
+use Rattle.std.proofs.Common.{◌≡◌, ℕ, zero, suc, ◌≤◌, Bool, true, List, [], ◌∷◌, get_or, set, arith, ◌-◌, ◌<◌, ◌+◌, ◌*◌, refl, sym, ap}
 use Rattle.std.specs.Prelude.{nat_le}
 use Rattle.std.proofs.lemmas.Bool.{and_parts, leb-true}
 use Rattle.std.proofs.Math.Nat.{mul-le-mul_right}
@@ -56,3 +56,19 @@ dot-le (c ∷ cs) (d ∷ ds) [] h = omega arith
 dot-le (c ∷ cs) (d ∷ ds) (k ∷ ks) h =
     let p = and_parts (nat_le c d) (all2 nat_le cs ds) h in
     omega (arith, mul-le-mul_right k (leb-true c d p.0), dot-le cs ds ks p.1)
+
+-- setting one counter costs its coefficient times the number
+pub dot-set : (cs ks : List ℕ) (i v : ℕ) → dot cs (set ks i v) ≤ dot (set cs i 0) ks + get_or cs i 0 * v
+dot-set [] ks i v = omega arith
+dot-set (c ∷ cs) [] i v = omega arith
+dot-set (c ∷ cs) (k ∷ ks) zero v = omega arith
+dot-set (c ∷ cs) (k ∷ ks) (suc i) v = omega (arith, dot-set cs ks i v)
+
+-- taking 1 from a counter above 0 gives its coefficient back
+pub dot-less : (cs ks : List ℕ) (i : ℕ) → 0 < get_or ks i 0 → dot cs (set ks i (get_or ks i 0 - 1)) + get_or cs i 0 ≡ dot cs ks
+dot-less [] [] i h = refl
+dot-less [] (k ∷ ks) i h = refl
+dot-less (c ∷ cs) [] i h = absurd (omega arith)
+dot-less (c ∷ cs) (zero ∷ ks) zero h = absurd (omega arith)
+dot-less (c ∷ cs) (suc k ∷ ks) zero h = let e : suc k - 1 ≡ k = omega arith in rw e (omega arith)
+dot-less (c ∷ cs) (k ∷ ks) (suc i) h = omega (arith, dot-less cs ks i h)

@@ -1,7 +1,10 @@
 -- What each change of a state does to the row that it meets.
-use Rattle.std.proofs.Common.{◌≡◌, ℕ, ◌+◌, ◌%◌, ◌≤◌, Bool, true, false, cond, Option, Some, None, refl, ◌∙◌, arith}
-use Rattle.std.specs.Prelude.{nat_le, ◌==◌, ◌&&◌}
+use Rattle.std.proofs.Common.{◌≡◌, ℕ, ◌+◌, ◌%◌, ◌≤◌, Bool, true, false, cond, Option, Some, None, refl, ◌∙◌, arith, ◌*◌, ◌/◌, ◌^◌, set, get_or, ◌<◌, zero, suc}
+use Rattle.std.specs.Prelude.{nat_le, ◌==◌, ◌&&◌, min, bit_and}
 use Rattle.std.proofs.lemmas.Bool.{eqb-true, and_parts, leb-true}
+use Rattle.std.proofs.Math.Nat.{mul-le-mul_right, div-mul-le_self}
+use Rattle.std.proofs.lemmas.Nat.{and_le_l, and_le_r, le-div, pow_pos}
+use Rattle.std.proofs.lemmas.List.{set-get_or}
 use Rattle.geos_image.specs.declared.row.Row.{Row}
 use Rattle.geos_image.specs.declared.row.Pointer.{Pointer}
 use Rattle.geos_image.specs.declared.row.SlotState.{SlotState}
@@ -68,9 +71,25 @@ meets-word s r a v n M le = record {
 pub word-bound : (s : State) (r : Row) (a : ℕ) → Meets s r → word s a ≤ bound r a
 word-bound s r a M = each2-get (λ x y. x ≤ y) s.words r.bounds a 0 0 M.words (omega arith)
 
+-- what a word is after the arithmetic, from the bounds before it
+
 pub sum-bound : (x y m n : ℕ) → x ≤ m → y ≤ n → (x + y) % 65536 ≤ or_any (m + n)
-sum-bound x y m n h j = go (nat_le (m + n) 65535) refl
-  where
-    go : (t : Bool) → nat_le (m + n) 65535 ≡ t → (x + y) % 65536 ≤ cond t (m + n) 65535
-    go true e = let k = leb-true (m + n) 65535 e in omega arith
-    go false e = omega arith
+sum-bound x y m n h j = omega arith
+
+pub product-bound : (x m n : ℕ) → x ≤ m → (x * n) % 65536 ≤ or_any (m * n)
+product-bound x m n h = let k = mul-le-mul_right n h in omega arith
+
+pub and-bound : (x m n : ℕ) → x ≤ m → bit_and x n ≤ min m n
+and-bound x m n h = omega (arith, and_le_l x n, and_le_r x n)
+
+pub shift-bound : (x m n : ℕ) → x ≤ m → x / 2 ^ n ≤ m / 2 ^ n
+shift-bound x m n h = le-div (x / 2 ^ n) m (2 ^ n) (pow_pos n) (omega (arith, div-mul-le_self x (2 ^ n)))
+
+-- a word that is found to be at most n
+pub meets-capped : (s : State) (r : Row) (a n : ℕ) → Meets s r → word s a ≤ n → Meets s (with_bound a (min (bound r a) n) r)
+meets-capped s r a n M le = record {
+  words = rw (← (set-get_or s.words a 0)) (each2-set (λ x y. x ≤ y) s.words r.bounds a (word s a) (min (bound r a) n) M.words (let k = word-bound s r a M in omega arith));
+  slots = M.slots;
+  pointers = M.pointers;
+  pairs = M.pairs;
+}

@@ -1,8 +1,8 @@
 -- What is known after an instruction, and whether an entry state fits another.
-use Rattle.std.specs.Prelude.{ℕ, ◌+◌, Bool, true, false, ◌&&◌, ◌||◌, not, nat_le, ◌==◌, if◌then◌else◌, List, Option, Some, None, slice_index, slice_index_or, slice_set, slice_get}
+use Rattle.std.specs.Prelude.{ℕ, ◌+◌, ◌*◌, ◌/◌, ◌^◌, min, Bool, true, false, ◌&&◌, ◌||◌, not, nat_le, ◌==◌, if◌then◌else◌, List, Option, Some, None, slice_index, slice_index_or, slice_set, slice_get}
 use Rattle.std.specs.List.{list_all}
 use Rattle.geos_image.specs.declared.opcode.Opcode.{Opcode}
-use Rattle.geos_image.specs.declared.opcode.Opcode.TheVariants.{Ldi, Add, Ret, Out}
+use Rattle.geos_image.specs.declared.opcode.Opcode.TheVariants.{Ldi, Mov, Add, Sub, And, Shr, Muli, Chk, Jmp, Beq, Blt, Setk, Setkw, Loop, Ret, Out}
 use Rattle.geos_image.specs.declared.opcode.Operand.{Operand}
 use Rattle.geos_image.specs.declared.opcode.Operand.TheVariants.{Label}
 use Rattle.geos_image.specs.declared.instr.Instr.{Instr}
@@ -22,6 +22,7 @@ at_point image pc test = elim (slice_get image.points pc) [ None ↦ true | Some
 
 -- control may go on to the next instruction
 abbrev pub falls_through : Opcode → Bool
+falls_through Jmp = false
 falls_through Ret = false
 falls_through _ = true
 
@@ -44,7 +45,7 @@ with_bound a n row = record row { bounds = slice_set row.bounds a n }
 
 -- n, or what any word is at most
 abbrev pub or_any : ℕ → ℕ
-or_any n = if nat_le n 65535 then n else 65535
+or_any n = min n 65535
 
 -- After an instruction
 
@@ -52,8 +53,13 @@ or_any n = if nat_le n 65535 then n else 65535
 abbrev pub row_along : Instr → Opcode → Row → Row
 row_along i Ldi row = with_bound i.a i.imm row
 row_along i Add row = with_bound i.a (or_any (bound row i.b + bound row i.c)) row
-row_along i Ret row = row
-row_along i Out row = row
+row_along i Mov row = with_bound i.a (bound row i.b) row
+row_along i Sub row = with_bound i.a 65535 row
+row_along i And row = with_bound i.a (min (bound row i.b) i.imm) row
+row_along i Shr row = with_bound i.a (bound row i.b / 2 ^ i.imm) row
+row_along i Muli row = with_bound i.a (or_any (bound row i.b * i.imm)) row
+row_along i Chk row = with_bound i.a (min (bound row i.a) i.imm) row
+row_along i _ row = row
 
 -- the row where control goes to the target; a refusal leaves its number in w7
 abbrev pub row_branching : Opcode → Row → Row

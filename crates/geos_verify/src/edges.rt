@@ -11,7 +11,7 @@ pub(crate) fn falls_through(opcode: Opcode) -> bool
     ensures { result ≡ falls_through opcode }
 {
     match opcode {
-        Opcode::Ret => false,
+        Opcode::Jmp | Opcode::Ret => false,
         _ => true,
     }
 }
@@ -46,7 +46,13 @@ pub(crate) fn row_along(i: &Instr, row: &Row) -> Row
             let sum = row.bounds[i.b as usize].saturating_add(row.bounds[i.c as usize]);
             with_bound(row, i.a, sum)
         }
-        Opcode::Ret | Opcode::Out => *row,
+        Opcode::Mov => with_bound(row, i.a, row.bounds[i.b as usize]),
+        Opcode::Sub => with_bound(row, i.a, u16::MAX),
+        Opcode::And => with_bound(row, i.a, row.bounds[i.b as usize].min(i.imm)),
+        Opcode::Shr => with_bound(row, i.a, row.bounds[i.b as usize] >> i.imm),
+        Opcode::Muli => with_bound(row, i.a, row.bounds[i.b as usize].saturating_mul(i.imm)),
+        Opcode::Chk => with_bound(row, i.a, row.bounds[i.a as usize].min(i.imm)),
+        _ => *row,
     }
 }
 

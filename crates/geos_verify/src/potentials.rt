@@ -1,10 +1,11 @@
 //! Whether a potential pays for an edge.
 
-ghost use Rattle.std.specs.Prelude.{◌≡◌, nat_le};
+ghost use Rattle.std.specs.Prelude.{◌≡◌, ◌<◌, ◌*◌, ◌^◌, nat_le};
+ghost use Rattle.geos_image.specs.Fields.{FieldsFit};
 ghost use Rattle.geos_verify.specs.Lists.{all2};
-ghost use Rattle.geos_verify.specs.Potentials.{pays, pays_along, pays_branching, is_within};
+ghost use Rattle.geos_verify.specs.Potentials.{pays, pays_setting, pays_taking, pays_along, pays_branching, is_within};
 
-use geos_image::{Instr, Potential, Row};
+use geos_image::{Instr, Opcode, Potential, Row};
 
 fn coefficients_pay(p: &[u32; 4], q: &[u32; 4]) -> bool
     ensures { result ≡ all2 nat_le q.now p.now }
@@ -19,18 +20,61 @@ fn pays(p: &Potential, q: &Potential) -> bool
     q.constant < p.constant && coefficients_pay(&p.coefficients, &q.coefficients)
 }
 
-/// Whether the potential p at an instruction pays for the edge to the next one, where the potential is q.
-pub(crate) fn pays_along(_instr: &Instr, _row: &Row, p: &Potential, q: &Potential) -> bool
-    ensures { result ≡ pays_along _instr.now _instr.now.opcode _row.now p.now q.now }
+/// What a coefficient costs where its counter is set to n.
+fn price(coefficient: u32, n: u16) -> u64
+    ensures value { result ≡ coefficient * n }
+    ensures small { result < 2 ^ 48 }
 {
-    pays(p, q)
+    u64::from(coefficient) * u64::from(n)
+}
+
+/// Whether the constant also pays for setting counter k, to at most n; its own coefficient may be anything.
+fn pays_setting(k: u8, n: u16, p: &Potential, q: &Potential) -> bool
+    requires { k < 4 }
+    ensures { result ≡ pays_setting k n p.now q.now }
+{
+    let Potential {
+        constant,
+        mut coefficients,
+    } = *q;
+    let price = price(coefficients[k as usize], n);
+    coefficients[k as usize] = 0;
+    u64::from(constant) + 1 + price <= u64::from(p.constant)
+        && coefficients_pay(&p.coefficients, &coefficients)
+}
+
+/// Whether the constant, with the coefficient of counter k, from which 1 is taken, pays for a step and the next constant.
+fn pays_taking(k: u8, p: &Potential, q: &Potential) -> bool
+    requires { k < 4 }
+    ensures { result ≡ pays_taking k p.now q.now }
+{
+    let (paid, cost) = (p.constant, q.constant);
+    u64::from(cost) < u64::from(paid) + u64::from(p.coefficients[k as usize])
+        && coefficients_pay(&p.coefficients, &q.coefficients)
+}
+
+/// Whether the potential p at an instruction pays for the edge to the next one, where the potential is q.
+pub(crate) fn pays_along(i: &Instr, row: &Row, p: &Potential, q: &Potential) -> bool
+    requires { FieldsFit i.now.opcode i.now }
+    ensures { result ≡ pays_along i.now i.now.opcode row.now p.now q.now }
+{
+    match i.opcode {
+        Opcode::Setk => pays_setting(i.a, i.imm, p, q),
+        Opcode::Setkw => pays_setting(i.a, row.bounds[i.b as usize], p, q),
+        Opcode::Loop => pays_setting(i.a, 0, p, q),
+        _ => pays(p, q),
+    }
 }
 
 /// Whether it pays for the edge to the target.
-pub(crate) fn pays_branching(_instr: &Instr, p: &Potential, q: &Potential) -> bool
-    ensures { result ≡ pays_branching _instr.now _instr.now.opcode p.now q.now }
+pub(crate) fn pays_branching(i: &Instr, p: &Potential, q: &Potential) -> bool
+    requires { FieldsFit i.now.opcode i.now }
+    ensures { result ≡ pays_branching i.now i.now.opcode p.now q.now }
 {
-    pays(p, q)
+    match i.opcode {
+        Opcode::Loop => pays_taking(i.a, p, q),
+        _ => pays(p, q),
+    }
 }
 
 /// Whether the potential is within the budget, whatever the counters are.

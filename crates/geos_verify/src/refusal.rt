@@ -78,6 +78,7 @@ fn edge_misfits(image: &Image, pc: u16, i: &Instr, row: &Row) -> bool
 
 #[tactic(auto, unfolding(crate::specs::Rules::unpaid_along))]
 fn unpaid_along(image: &Image, pc: u16, i: &Instr, row: &Row, potential: &Potential) -> bool
+    requires fields { FieldsFit i.now.opcode i.now }
     requires next { pc + 1 < length image.now.points }
     requires pc { pc < 4096 }
     ensures { result ≡ unpaid_along image.now pc i.now row.now potential.now }
@@ -87,7 +88,8 @@ fn unpaid_along(image: &Image, pc: u16, i: &Instr, row: &Row, potential: &Potent
 
 #[tactic(auto, unfolding(crate::specs::Rules::unpaid_branching))]
 fn unpaid_branching(image: &Image, i: &Instr, potential: &Potential) -> bool
-    requires { i.now.target < length image.now.points }
+    requires fields { FieldsFit i.now.opcode i.now }
+    requires target { i.now.target < length image.now.points }
     ensures { result ≡ unpaid_branching image.now i.now potential.now }
 {
     !pays_branching(i, potential, image.potential(i.target))
@@ -96,6 +98,7 @@ fn unpaid_branching(image: &Image, i: &Instr, potential: &Potential) -> bool
 /// Whether the potential does not pay for an edge or for the return.
 #[tactic(auto, unfolding(crate::specs::Rules::edge_unpaid))]
 fn edge_unpaid(image: &Image, pc: u16, i: &Instr, row: &Row, potential: &Potential) -> bool
+    requires fields { FieldsFit i.now.opcode i.now }
     requires pc { pc < 4096 }
     requires along { falls_through i.now.opcode ≡ true → pc + 1 < length image.now.points }
     requires branch { branches i.now.opcode ≡ true → i.now.target < length image.now.points }
