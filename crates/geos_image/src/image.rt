@@ -106,7 +106,7 @@ impl Image {
         ensures points { result.now ≡ self.now.points }
         ensures legal { is_image self.now ≡ true }
     {
-        &self.points
+        self.points.as_slice()
     }
 
     /// The instruction at a pc.

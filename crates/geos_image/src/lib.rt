@@ -22,4 +22,4 @@ pub use potential::Potential;
 pub use reader::read;
 pub use routine::Routine;
 pub use row::{Pointer, Row, SlotState};
-//pub use writer::write;
+pub use writer::write;

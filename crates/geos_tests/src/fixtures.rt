@@ -1,0 +1,127 @@
+//! Images written out by hand.
+
+use geos_image::{Image, Instr, Opcode, Potential, Routine, Row};
+use std::alloc::{AllocError, Global};
+
+/// An instruction with no operands.
+pub const BLANK: Instr = Instr {
+    opcode: Opcode::Ret,
+    a: 0,
+    b: 0,
+    c: 0,
+    d: 0,
+    imm: 0,
+    target: 0,
+};
+
+/// The name behind which zeros stand.
+pub fn name(text: &[u8]) -> [u8; 16] {
+    let mut name = [0; 16];
+    for (place, byte) in name.iter_mut().zip(text) {
+        *place = *byte;
+    }
+    name
+}
+
+/// A public routine with open rows.
+pub fn routine(text: &[u8], count: u16, budget: u32) -> Routine {
+    Routine {
+        name: name(text),
+        public: true,
+        count,
+        budget,
+        entry: Row::OPEN,
+        exit: Row::OPEN,
+    }
+}
+
+/// A potential with a constant and the coefficient of k0.
+pub fn potential(constant: u32, k0: u32) -> Potential {
+    Potential {
+        constant,
+        coefficients: [k0, 0, 0, 0],
+    }
+}
+
+/// One routine with open rows at each of its instructions.
+pub fn image(
+    alloc: Global,
+    routine: Routine,
+    code: &[(Instr, Potential)],
+) -> Result<Option<Image>, AllocError> {
+    let mut routines = Vec::new(alloc);
+    routines.push(routine)?;
+    let mut points = Vec::new(alloc);
+    for (instr, potential) in code {
+        points.push((*instr, Row::OPEN, *potential))?;
+    }
+    Ok(Image::new(routines, points))
+}
+
+/// `LDI w0 2`, `LDI w1 3`, `ADD w0 w0 w1`, `OUT w0 x`, `x: RET`.
+pub fn add(alloc: Global, budget: u32) -> Result<Option<Image>, AllocError> {
+    let ldi = Instr {
+        opcode: Opcode::Ldi,
+        ..BLANK
+    };
+    let code = [
+        (Instr { imm: 2, ..ldi }, potential(5, 0)),
+        (
+            Instr {
+                a: 1,
+                imm: 3,
+                ..ldi
+            },
+            potential(4, 0),
+        ),
+        (
+            Instr {
+                opcode: Opcode::Add,
+                c: 1,
+                ..BLANK
+            },
+            potential(3, 0),
+        ),
+        (
+            Instr {
+                opcode: Opcode::Out,
+                target: 4,
+                ..BLANK
+            },
+            potential(2, 0),
+        ),
+        (BLANK, potential(1, 0)),
+    ];
+    image(alloc, routine(b"add", 5, budget), &code)
+}
+
+/// `SETK k0 n`, `a: OUT w0 x`, `LOOP k0 a`, `x: RET`, with these potentials.
+pub fn outputs(
+    alloc: Global,
+    n: u16,
+    budget: u32,
+    potentials: [Potential; 4],
+) -> Result<Option<Image>, AllocError> {
+    let setk = Instr {
+        opcode: Opcode::Setk,
+        imm: n,
+        ..BLANK
+    };
+    let out = Instr {
+        opcode: Opcode::Out,
+        target: 3,
+        ..BLANK
+    };
+    let back = Instr {
+        opcode: Opcode::Loop,
+        target: 1,
+        ..BLANK
+    };
+    let code = [
+        (setk, potentials[0]),
+        (out, potentials[1]),
+        (back, potentials[2]),
+        (BLANK, potentials[3]),
+    ];
+    image(alloc, routine(b"outputs", 4, budget), &code)
+}
