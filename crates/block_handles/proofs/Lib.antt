@@ -1,0 +1,14 @@
+pub mod Indexing
+pub mod Laws
+pub mod Layouts
+pub mod Packs
+pub mod Passing
+pub mod Readies
+pub mod Rooms
+pub mod Searches
+pub mod SlotBits
+pub mod Steps
+pub mod Sums
+pub mod Views
+pub mod Walks
+pub mod Writes

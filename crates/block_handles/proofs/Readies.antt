@@ -1,0 +1,191 @@
+-- That blocks lie as they should and the gap is free, after what calls do.
+use Rattle.std.proofs.Common.{◌≡◌, ◌≢◌, ℕ, ◌+◌, ◌-◌, ◌≤◌, ◌<◌, ◌⊎◌, ◌/◌, ◌%◌, Option, slice_index, List, ◌++◌, length, replicate, slice_index_or, None, refl, ap, sym, subst, ◌∙◌, arith, inl, inr, length-append}
+use Rattle.std.proofs.lemmas.List.{length-replicate, get_or-set_same, get_or-set_other}
+use Rattle.std.proofs.lemmas.Nat.Bits.{bit_at-lt}
+use Rattle.std.proofs.lemmas.Bool.{cases_eq}
+use Rattle.block_handles.specs.declared.room.Gap.{Gap}
+use Rattle.block_handles.specs.Store.{Block, Store, block_at, bytes_in, bytes_of, IsBlock, IsThere, size_of, place_of, end_of}
+use Rattle.block_handles.specs.Change.{with_block, new_block, grown_block, with_locks, after_write, with_bytes}
+use Rattle.block_handles.specs.Gap.{IsGap, IsReady, MakesRoom}
+use Rattle.block_handles.specs.Joined.{Joins}
+use Rattle.block_handles.specs.Bits.{bit_of, SetsBit}
+use Rattle.block_handles.specs.Used.{IsUsed, IsKept}
+use Rattle.block_handles.specs.Layout.{Apart, IsLaidOut, IsFree}
+use Rattle.block_handles.proofs.Layouts.{Differs, with_block-differs, there_small, there_of_size, with_locks-shape, SameShape, laid-same, free-same}
+use Rattle.block_handles.proofs.Packs.{size_along}
+use Rattle.block_handles.proofs.Writes.{after_write-shape, with_bytes-shape}
+
+pub ready-same : (S S' : Store) (gap : Gap) → SameShape S S' → IsReady S gap → IsReady S' gap
+ready-same S S' gap shape r = record {
+  laid = laid-same S S' shape r.laid;
+  room = record { ordered = r.room.ordered; inside = omega (arith, r.room.inside, shape.len); free = free-same S S' shape gap.at gap.end r.room.free };
+}
+
+-- where the same slots are in use
+pub used-same : (S S' : Store) (words : List ℕ) → ((j : ℕ) → IsThere S' j → IsThere S j) → ((j : ℕ) → IsThere S j → IsThere S' j) → IsUsed S words → IsUsed S' words
+used-same S S' words back on u = record { long = u.long; there = λ j small is. on j (u.there j small is); none = λ j small is h. u.none j small is (back j h) }
+
+pub kept-same : (S S' : Store) (gap : Gap) (words : List ℕ) → SameShape S S' → IsKept S gap words → IsKept S' gap words
+kept-same S S' gap words shape k = record {
+  ready = ready-same S S' gap shape k.ready;
+  used = used-same S S' words shape.there (λ j h. there_of_size S' j (omega (arith, shape.sizes j, (k.ready.laid.sized j h).0))) k.used;
+}
+
+pub kept-after_write : (S S' : Store) (gap : Gap) (words : List ℕ) (at : ℕ) (ws : List ℕ) → S' ≡ after_write S at ws → IsKept S gap words → IsKept S' gap words
+kept-after_write S S' gap words at ws e k = subst (λ s. IsKept s gap words) (sym e) (kept-same S (after_write S at ws) gap words (after_write-shape at ws S) k)
+
+pub kept-bytes : (S : Store) (gap : Gap) (words : List ℕ) (slot : ℕ) (ws : List ℕ) → IsKept S gap words → IsKept (with_bytes S slot ws) gap words
+kept-bytes S gap words slot ws k = kept-same S (with_bytes S slot ws) gap words (with_bytes-shape S slot ws) k
+
+-- a slot gets a block, or loses it, and the bit says so
+pub used-with_block : (S S' : Store) (words words' : List ℕ) (slot : ℕ) (b : Option Block) (p bit : ℕ) → slot < 2048 → IsLaidOut S → S' ≡ with_block S slot b p → SetsBit words words' slot bit → (bit ≡ 1 → IsBlock b) → (bit ≡ 0 → IsBlock b → ⊥) → IsUsed S words → IsUsed S' words'
+used-with_block S S' words words' slot b p bit small laid e set yes_there no_there u = record {
+  long = set.long ∙ u.long;
+  there = λ j lt is. elim (cases_eq j slot) as (λ _. IsThere S' j) [
+    | inl q ↦ subst (λ k. IsThere S' k) (sym q) (subst IsBlock (sym here) (yes_there (sym set.here ∙ ap (bit_of words') (sym q) ∙ is)))
+    | inr ne ↦ subst IsBlock (sym (other j ne)) (u.there j lt (sym (set.others j ne) ∙ is))
+  ];
+  none = λ j lt is h. elim (cases_eq j slot) as (λ _. ⊥) [
+    | inl q ↦ no_there (sym set.here ∙ ap (bit_of words') (sym q) ∙ is) (subst IsBlock here (subst (λ k. IsThere S' k) q h))
+    | inr ne ↦ u.none j lt (sym (set.others j ne) ∙ is) (subst IsBlock (other j ne) h)
+  ];
+}
+  where
+    here : block_at S' slot ≡ b
+    here = ap (λ s. block_at s slot) e ∙ get_or-set_same S.blocks slot b None (omega (arith, small, laid.slots))
+
+    other : (j : ℕ) → j ≢ slot → block_at S' j ≡ block_at S j
+    other j ne = ap (λ s. block_at s j) e ∙ get_or-set_other S.blocks slot j b None ne
+
+-- the bit of a block that is there
+pub bit-there : (S : Store) (words : List ℕ) (slot : ℕ) → slot < 2048 → IsThere S slot → IsUsed S words → bit_of words slot ≡ 1
+bit-there S words slot small h u = elim (cases_eq (bit_of words slot) 0) as (λ _. bit_of words slot ≡ 1) [
+  | inl z ↦ absurd (u.none slot small z h)
+  | inr nz ↦ let top : bit_of words slot < 2 = bit_at-lt (slice_index words (slot / 64)) (slot % 64) in omega (arith, top, nz)
+]
+
+-- moved blocks are the same blocks
+pub used-blocks : (S S' : Store) (words : List ℕ) → S'.blocks ≡ S.blocks → IsUsed S words → IsUsed S' words
+used-blocks S S' words e u = used-same S S' words (λ j h. subst (λ bs. IsBlock (slice_index_or bs j None)) e h) (λ j h. subst (λ bs. IsBlock (slice_index_or bs j None)) (sym e) h) u
+
+-- the gap behind a block that has moved into it
+ready-grown_block : (old mid new : Store) (slot size : ℕ) (gap : Gap) → MakesRoom old mid slot size gap → IsThere old slot → size_of old slot ≤ size → new ≡ with_block mid slot (grown_block mid slot size) gap.at → IsLaidOut new → IsReady new (record { at = gap.at + size; end = gap.end })
+ready-grown_block old mid new slot size gap m was-there was-more e laid = record {
+  laid = laid;
+  room = record { ordered = m.room; inside = omega (arith, m.inside, ap (λ s. s.len) e); free = λ j. subst (λ s. (end_of s j ≤ gap.at + size) ⊎ (gap.end ≤ place_of s j)) (sym e) (each j) };
+}
+  where
+    there : IsThere mid slot
+    there = subst (λ bs. IsBlock (slice_index_or bs slot None)) (sym m.blocks) was-there
+
+    more : size_of mid slot ≤ size
+    more = omega (arith, was-more, size_along old mid m.blocks slot)
+
+    whole : length (bytes_of mid slot ++ replicate (size - size_of mid slot) 0) ≡ size
+    whole = omega (arith, length-append (bytes_of mid slot) (replicate (size - size_of mid slot) 0), length-replicate {A = ℕ} (size - size_of mid slot) 0, more)
+
+    d : Differs mid (with_block mid slot (grown_block mid slot size) gap.at) slot (length (bytes_in (grown_block mid slot size))) gap.at
+    d = with_block-differs mid slot (grown_block mid slot size) gap.at m.laid (there_small mid slot m.laid there)
+
+    other : (j : ℕ) → j ≢ slot → (end_of mid j ≤ gap.at) ⊎ (gap.end ≤ place_of mid j) → (end_of (with_block mid slot (grown_block mid slot size) gap.at) j ≤ gap.at + size) ⊎ (gap.end ≤ place_of (with_block mid slot (grown_block mid slot size) gap.at) j)
+    other j ne (inl q) = inl (omega (arith, q, d.sizes j ne, d.places j ne))
+    other j ne (inr q) = inr (omega (arith, q, d.places j ne))
+
+    each : (j : ℕ) → (end_of (with_block mid slot (grown_block mid slot size) gap.at) j ≤ gap.at + size) ⊎ (gap.end ≤ place_of (with_block mid slot (grown_block mid slot size) gap.at) j)
+    each j = elim (cases_eq j slot) as (λ _. (end_of (with_block mid slot (grown_block mid slot size) gap.at) j ≤ gap.at + size) ⊎ (gap.end ≤ place_of (with_block mid slot (grown_block mid slot size) gap.at) j)) [
+      | inl q ↦ inl (omega (arith, ap (end_of (with_block mid slot (grown_block mid slot size) gap.at)) q, d.size, d.place, whole))
+      | inr ne ↦ other j ne (m.free j ne)
+    ]
+
+pub kept-grown_block : (old mid new : Store) (slot size : ℕ) (gap : Gap) (words : List ℕ) → MakesRoom old mid slot size gap → IsLaidOut old → IsUsed old words → IsThere old slot → size_of old slot ≤ size → new ≡ with_block mid slot (grown_block mid slot size) gap.at → IsLaidOut new → IsKept new (record { at = gap.at + size; end = gap.end }) words
+kept-grown_block old mid new slot size gap words m laid_old u was-there was-more e laid =
+    let small : slot < 2048 = there_small old slot laid_old was-there in
+    let bit : bit_of words slot ≡ 1 = bit-there old words slot small was-there u in
+    record {
+      ready = ready-grown_block old mid new slot size gap m was-there was-more e laid;
+      used = used-with_block mid new words words slot (grown_block mid slot size) gap.at 1 small m.laid e (record { here = bit; others = λ j ne. refl; long = refl }) (λ _. tt) (λ z. absurd (omega (arith, z))) (used-blocks old mid words m.blocks u);
+    }
+
+pub kept-locks : (S S' : Store) (gap : Gap) (words : List ℕ) (slot n : ℕ) → IsThere S slot → S' ≡ with_locks S slot n → IsKept S gap words → IsKept S' gap words
+kept-locks S S' gap words slot n h e k = subst (λ s. IsKept s gap words) (sym e) (kept-same S (with_locks S slot n) gap words (with_locks-shape S slot n k.ready.laid h) k)
+
+-- the gap beside a block that was made in it
+pub kept-made : (old mid new : Store) (slot size : ℕ) (gap : Gap) (words words' : List ℕ) → MakesRoom old mid slot size gap → slot < 2048 → IsUsed old words → new ≡ with_block mid slot (new_block size) gap.at → IsLaidOut new → SetsBit words words' slot 1 → IsKept new (record { at = gap.at + size; end = gap.end }) words'
+kept-made old mid new slot size gap words words' m small u e laid set = record {
+  ready = record {
+    laid = laid;
+    room = record { ordered = m.room; inside = omega (arith, m.inside, ap (λ s. s.len) e); free = λ j. subst (λ s. (end_of s j ≤ gap.at + size) ⊎ (gap.end ≤ place_of s j)) (sym e) (each j) };
+  };
+  used = used-with_block mid new words words' slot (new_block size) gap.at 1 small m.laid e set (λ _. tt) (λ z. absurd (omega (arith, z))) (used-blocks old mid words m.blocks u);
+}
+  where
+    d : Differs mid (with_block mid slot (new_block size) gap.at) slot (length (bytes_in (new_block size))) gap.at
+    d = with_block-differs mid slot (new_block size) gap.at m.laid small
+
+    other : (j : ℕ) → j ≢ slot → (end_of mid j ≤ gap.at) ⊎ (gap.end ≤ place_of mid j) → (end_of (with_block mid slot (new_block size) gap.at) j ≤ gap.at + size) ⊎ (gap.end ≤ place_of (with_block mid slot (new_block size) gap.at) j)
+    other j ne (inl q) = inl (omega (arith, q, d.sizes j ne, d.places j ne))
+    other j ne (inr q) = inr (omega (arith, q, d.places j ne))
+
+    each : (j : ℕ) → (end_of (with_block mid slot (new_block size) gap.at) j ≤ gap.at + size) ⊎ (gap.end ≤ place_of (with_block mid slot (new_block size) gap.at) j)
+    each j = elim (cases_eq j slot) as (λ _. (end_of (with_block mid slot (new_block size) gap.at) j ≤ gap.at + size) ⊎ (gap.end ≤ place_of (with_block mid slot (new_block size) gap.at) j)) [
+      | inl q ↦ inl (omega (arith, ap (end_of (with_block mid slot (new_block size) gap.at)) q, d.size, d.place, length-replicate {A = ℕ} size 0))
+      | inr ne ↦ other j ne (m.free j ne)
+    ]
+
+-- the gap after a block has left, which may have lain beside it
+module _ (S : Store) (slot : ℕ) (laid : IsLaidOut S) (there : IsThere S slot) where
+  abbrev F : Store
+  F = with_block S slot None 0
+
+  gone : Differs S F slot 0 0
+  gone = with_block-differs S slot None 0 laid (there_small S slot laid there)
+
+  -- what is free but for the block is free without it
+  freed-range : (a b : ℕ) → ((j : ℕ) → j ≢ slot → (end_of S j ≤ a) ⊎ (b ≤ place_of S j)) → IsFree F a b
+  freed-range a b h j = elim (cases_eq j slot) as (λ _. (end_of F j ≤ a) ⊎ (b ≤ place_of F j)) [
+    | inl q ↦ inl (omega (arith, ap (end_of F) q, gone.size, gone.place))
+    | inr ne ↦ other ne (h j ne)
+  ]
+    where
+      other : j ≢ slot → (end_of S j ≤ a) ⊎ (b ≤ place_of S j) → (end_of F j ≤ a) ⊎ (b ≤ place_of F j)
+      other ne (inl q) = inl (omega (arith, q, gone.sizes j ne, gone.places j ne))
+      other ne (inr q) = inr (omega (arith, q, gone.places j ne))
+
+  -- what has no byte is nowhere
+  nowhere : (a b j : ℕ) → size_of S j ≡ 0 → (end_of S j ≤ a) ⊎ (b ≤ place_of S j)
+  nowhere a b j z = inl (omega (arith, z, laid.none j z))
+
+  freed-gap : (gap gap' : Gap) (place end : ℕ) → place ≡ place_of S slot → end ≡ end_of S slot → IsGap S gap → Joins gap place end gap' → IsGap F gap'
+  freed-gap gap gap' place end ep ee g (inl (meets, is)) =
+      let at : gap'.at ≡ place = ap (λ x. x.at) is in let stop : gap'.end ≡ gap.end = ap (λ x. x.end) is in
+      record {
+        ordered = omega (arith, at, stop, ep, ee, meets, g.ordered);
+        inside = omega (arith, stop, g.inside);
+        free = rw (at, stop) (freed-range place gap.end (λ j ne. by j (g.free j) (laid.apart j slot ne)));
+      }
+    where
+      by : (j : ℕ) → (end_of S j ≤ gap.at) ⊎ (gap.end ≤ place_of S j) → Apart S j slot → (end_of S j ≤ place) ⊎ (gap.end ≤ place_of S j)
+      by j (inr q) a = inr q
+      by j (inl q) (inl a) = inl (omega (arith, a, ep))
+      by j (inl q) (inr a) = nowhere place gap.end j (omega (arith, q, a, ee, meets))
+  freed-gap gap gap' place end ep ee g (inr (inl (meets, is))) =
+      let at : gap'.at ≡ gap.at = ap (λ x. x.at) is in let stop : gap'.end ≡ end = ap (λ x. x.end) is in
+      record {
+        ordered = omega (arith, at, stop, ep, ee, meets, g.ordered);
+        inside = omega (arith, stop, ee, laid.within slot);
+        free = rw (at, stop) (freed-range gap.at end (λ j ne. by j (g.free j) (laid.apart j slot ne)));
+      }
+    where
+      by : (j : ℕ) → (end_of S j ≤ gap.at) ⊎ (gap.end ≤ place_of S j) → Apart S j slot → (end_of S j ≤ gap.at) ⊎ (end ≤ place_of S j)
+      by j (inl q) a = inl q
+      by j (inr q) (inr a) = inr (omega (arith, a, ee))
+      by j (inr q) (inl a) = nowhere gap.at end j (omega (arith, q, a, ep, meets))
+  freed-gap gap gap' place end ep ee g (inr (inr is)) =
+      let at : gap'.at ≡ gap.at = ap (λ x. x.at) is in let stop : gap'.end ≡ gap.end = ap (λ x. x.end) is in
+      record { ordered = omega (arith, at, stop, g.ordered); inside = omega (arith, stop, g.inside); free = rw (at, stop) (freed-range gap.at gap.end (λ j ne. g.free j)) }
+
+  pub kept-freed : (S' : Store) (gap gap' : Gap) (words words' : List ℕ) (place end : ℕ) → S' ≡ with_block S slot None 0 → IsLaidOut S' → place ≡ place_of S slot → end ≡ end_of S slot → Joins gap place end gap' → SetsBit words words' slot 0 → IsKept S gap words → IsKept S' gap' words'
+  kept-freed S' gap gap' words words' place end e laid' ep ee joins set k = record {
+    ready = record { laid = laid'; room = subst (λ s. IsGap s gap') (sym e) (freed-gap gap gap' place end ep ee k.ready.room joins) };
+    used = used-with_block S S' words words' slot None 0 0 (there_small S slot laid there) laid e set (λ z. absurd (omega (arith, z))) (λ _ h. h) k.used;
+  }

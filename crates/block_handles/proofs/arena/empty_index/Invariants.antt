@@ -1,0 +1,5 @@
+use Rattle.std.proofs.Common.{◌≡◌, replicate, None}
+use Rattle.block_handles.proofs.arena.empty_index.Given as goal
+
+abbrev pub invariant-loop : goal.invariant-loop
+invariant-loop l = l.index.items ≡ replicate l.counter None

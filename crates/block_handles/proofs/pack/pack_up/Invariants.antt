@@ -1,0 +1,8 @@
+use Rattle.block_handles.proofs.Packs.{IsPackingUp}
+use Rattle.block_handles.proofs.pack.pack_up.Given as goal
+
+abbrev pub invariant-loop-slot : goal.invariant-loop-slot
+invariant-loop-slot l = IsPackingUp l.initial.arena l.arena l.from l.until l.at l.scan
+
+abbrev pub decreases-loop-slot : goal.decreases-loop-slot
+decreases-loop-slot l = l.scan

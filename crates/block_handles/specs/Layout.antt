@@ -1,0 +1,30 @@
+-- How blocks lie in the region.
+use Rattle.std.specs.Prelude.{◌≡◌, ◌≢◌, ℕ, ◌≤◌, ◌⊎◌, length, None}
+use Rattle.block_handles.specs.Store.{Store, block_at, IsThere, size_of, place_of, end_of, slot_count}
+
+-- one block ends before the other begins
+abbrev pub Apart : Store → ℕ → ℕ → Type 0
+Apart store i j = (end_of store i ≤ place_of store j) ⊎ (end_of store j ≤ place_of store i)
+
+-- no block has a byte from `from` to `until`
+abbrev pub IsFree : Store → ℕ → ℕ → Type 0
+IsFree store from until = (slot : ℕ) → (end_of store slot ≤ from) ⊎ (until ≤ place_of store slot)
+
+-- nor has one but this
+abbrev pub IsFreeBut : Store → ℕ → ℕ → ℕ → Type 0
+IsFreeBut store but from until = (slot : ℕ) → slot ≢ but → (end_of store slot ≤ from) ⊎ (until ≤ place_of store slot)
+
+-- blocks lie in the region, no two overlap, each has a legal size, and what is no block is nowhere
+pub record IsLaidOut (store : Store) : Type 0 where
+  pub slots : slot_count store ≡ 2048
+  pub spots : length store.places ≡ 2048
+  pub within : (slot : ℕ) → end_of store slot ≤ store.len
+  pub apart : (i j : ℕ) → i ≢ j → Apart store i j
+  pub sized : (slot : ℕ) → IsThere store slot → (64 ≤ size_of store slot) × (size_of store slot ≤ 65520)
+  pub none : (slot : ℕ) → size_of store slot ≡ 0 → place_of store slot ≡ 0
+
+-- a region of this length with no block
+pub record IsEmpty (store : Store) (len : ℕ) : Type 0 where
+  pub none : (slot : ℕ) → block_at store slot ≡ None
+  pub long : store.len ≡ len
+  pub laid : IsLaidOut store

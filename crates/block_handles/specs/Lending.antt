@@ -1,0 +1,10 @@
+-- What an arena ends as, once a `&mut` into it has ended.
+use Rattle.std.specs.Prelude.{ℕ, List}
+use Rattle.std.specs.Borrow.{Lends, MutBor, Fml, u8, Array}
+use Rattle.block_handles.specs.Store.{Store}
+use Rattle.block_handles.specs.Change.{with_bytes}
+use Rattle.block_handles.specs.contracts.arena.Arena.{the_row}
+
+-- once the borrow r of a block's bytes ends, the block has what was left in it
+abbrev pub LendsBytes : MutBor Store → ℕ → MutBor (List ℕ) → Fml
+LendsBytes s slot r = Lends the_row (Array u8 0) s r (with_bytes s.now slot)

@@ -1,0 +1,17 @@
+pub mod Bits
+pub mod Calls
+pub mod Change
+pub mod Gap
+pub mod Joined
+pub mod Layout
+pub mod Lending
+pub mod LendingBlocks
+pub mod Names
+pub mod Offsets
+pub mod Packing
+pub mod Search
+pub mod Store
+pub mod Stretch
+pub mod Used
+pub mod View
+pub mod Wider

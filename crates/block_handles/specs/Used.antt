@@ -1,0 +1,29 @@
+-- Which slots are in use, and which handle is the lowest that is free.
+use Rattle.std.specs.Prelude.{◌≡◌, ℕ, ◌<◌, List, length}
+use Rattle.block_handles.specs.declared.name.Owner.{Owner}
+use Rattle.block_handles.specs.declared.room.Gap.{Gap}
+use Rattle.block_handles.specs.Bits.{bit_of}
+use Rattle.block_handles.specs.Gap.{IsReady}
+use Rattle.block_handles.specs.Names.{IsHandle, slot_of}
+use Rattle.block_handles.specs.Store.{Store, IsThere}
+
+-- the bits say which slots are in use
+pub record IsUsed (store : Store) (words : List ℕ) : Type 0 where
+  pub long : length words ≡ 32
+  pub there : (slot : ℕ) → slot < 2048 → bit_of words slot ≡ 1 → IsThere store slot
+  pub none : (slot : ℕ) → slot < 2048 → bit_of words slot ≡ 0 → IsThere store slot → ⊥
+
+-- what holds of the fields
+pub record IsKept (store : Store) (gap : Gap) (words : List ℕ) : Type 0 where
+  pub ready : IsReady store gap
+  pub used : IsUsed store words
+
+-- a handle of an owner names no block, and each lower one does
+pub record IsLowest (store : Store) (owner : Owner) (h : ℕ) : Type 0 where
+  pub handle : IsHandle h
+  pub free : IsThere store (slot_of (record { owner = owner; h = h })) → ⊥
+  pub lower : (k : ℕ) → IsHandle k → k < h → IsThere store (slot_of (record { owner = owner; h = k }))
+
+-- each handle of an owner names a block
+abbrev pub AllInUse : Store → Owner → Type 0
+AllInUse store owner = (h : ℕ) → IsHandle h → IsThere store (slot_of (record { owner = owner; h = h }))

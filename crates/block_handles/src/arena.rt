@@ -1,0 +1,321 @@
+//! Blocks by slots in a region: what a slot holds, where its block lies, and the one step by
+//! which a block moves or grows.
+ghost use Rattle.std.specs.Prelude.{◌≡◌, ◌≢◌, ℕ, ◌+◌, ◌*◌, ◌-◌, ◌/◌, ◌%◌, ◌^◌, ◌<◌, ◌≤◌, ◌↔◌, List, [], ◌∷◌, length, slice_index, slice_index_or, slice_set, Option, Some, None, IfOk, IfSome, IfNone, IsTrue, All};
+ghost use Rattle.std.specs.Borrow.{sem};
+ghost use Rattle.block_handles.specs.View.{IsEntry};
+
+use lmem_raw::Region;
+use std::alloc::{AllocError, Global};
+use std::marker::Model;
+
+/// How many slots there are.
+pub(crate) const SLOTS: usize = 2048;
+
+/// Each block has at least this many bytes, so no two begin in one granule.
+const GRANULE: u32 = 64;
+
+/// Where a block lies, and how often it is locked.
+#[derive(Clone, Copy, Debug, PartialEq, Eq)]
+pub(crate) struct Entry {
+    pub(crate) place: u32,
+    pub(crate) size: u32,
+    pub(crate) locks: u16,
+}
+
+/// A region and the blocks in it.
+#[derive(Drop)]
+pub(crate) struct Arena {
+    region: Region,
+    table: Vec<Option<Entry>>,
+    index: Vec<Option<u16>>,
+}
+
+impl Model for Arena {
+    ghost use Rattle.block_handles.specs.Store.{Store};
+
+    ghost Value = { Store };
+
+    ghost use Rattle.block_handles.specs.View.{store_in, IsSound};
+
+    ghost view = { λ a. store_in a.region a.table.items };
+
+    ghost invariant = { λ a. IsSound a.region a.table.items a.index.items };
+}
+
+/// The entry of a slot that is in use.
+fn entry_of(table: &[Option<Entry>], slot: usize) -> Entry
+    requires { IsEntry (slice_index_or table.now slot None) }
+    ensures { slice_index_or table.now slot None ≡ Some result }
+{
+    match table[slot] {
+        Some(entry) => entry,
+        None => Entry {
+            place: 0,
+            size: 0,
+            locks: 0,
+        },
+    }
+}
+
+/// A table of free slots.
+fn empty_table(alloc: Global, n: usize) -> Result<Vec<Option<Entry>>, AllocError>
+    ensures { IfOk result (λ table. (length table.items ≡ n) × ((slot : ℕ) → slice_index_or table.items slot None ≡ None)) }
+{
+    let mut table = Vec::new(alloc);
+    for _ in 0..n {
+        table.push(None)?;
+    }
+    Ok(table)
+}
+
+/// An index in which no block begins.
+fn empty_index(alloc: Global, n: usize) -> Result<Vec<Option<u16>>, AllocError>
+    ensures { IfOk result (λ index. (length index.items ≡ n) × ((granule : ℕ) → slice_index_or index.items granule None ≡ None)) }
+{
+    let mut index = Vec::new(alloc);
+    for _ in 0..n {
+        index.push(None)?;
+    }
+    Ok(index)
+}
+
+impl Arena {
+    ghost use Rattle.block_handles.specs.Layout.{IsEmpty};
+    ghost use Rattle.block_handles.specs.Search.{IsFirst, IsLast, BeginsNone};
+    ghost use Rattle.block_handles.specs.Store.{IsThere, bytes_of, size_of, place_of, end_of, locks_of, region_len};
+    ghost use Rattle.block_handles.specs.Layout.{IsLaidOut, IsFreeBut};
+    ghost use Rattle.block_handles.specs.Change.{with_block, new_block, grown_block, with_place, with_locks, after_write, block_with_locks};
+    ghost use Rattle.block_handles.specs.Lending.{LendsBytes};
+    ghost use Rattle.block_handles.specs.Offsets.{Copies, ReadsByte, ReadsWord};
+
+    /// An arena of `len` bytes with no block.
+    pub(crate) fn new(alloc: Global, len: u32) -> Result<Arena, AllocError>
+        ensures { IfOk result (λ arena. IsEmpty arena len) }
+    {
+        Ok(Arena {
+            region: Region::new(alloc, len)?,
+            table: empty_table(alloc, SLOTS)?,
+            index: empty_index(alloc, (len / GRANULE) as usize + 1)?,
+        })
+    }
+
+    /// What holds of every arena.
+    pub(crate) fn laid_out(&self)
+        ensures { IsLaidOut self.now }
+    {
+        let _ = &self.table;
+    }
+
+    pub(crate) fn len(&self) -> u32
+        ensures { result ≡ region_len self.now }
+    {
+        self.region.len()
+    }
+
+    /// Whether a slot is in use.
+    pub(crate) fn has(&self, slot: usize) -> bool
+        ensures { IsTrue result ↔ IsThere self.now slot }
+    {
+        slot < self.table.len() && self.table[slot].is_some()
+    }
+
+    pub(crate) fn locks(&self, slot: usize) -> u16
+        requires { IsThere self.now slot }
+        ensures { result ≡ locks_of self.now slot }
+    {
+        entry_of(&self.table, slot).locks
+    }
+
+    pub(crate) fn place(&self, slot: usize) -> u32
+        requires { IsThere self.now slot }
+        ensures { result ≡ place_of self.now slot }
+    {
+        entry_of(&self.table, slot).place
+    }
+
+    pub(crate) fn size(&self, slot: usize) -> u32
+        requires { IsThere self.now slot }
+        ensures { result ≡ size_of self.now slot }
+    {
+        entry_of(&self.table, slot).size
+    }
+
+    /// Where a block ends.
+    pub(crate) fn end(&self, slot: usize) -> u32
+        requires { IsThere self.now slot }
+        ensures { result ≡ end_of self.now slot }
+    {
+        let entry = entry_of(&self.table, slot);
+        entry.place + entry.size
+    }
+
+    pub(crate) fn bytes(&self, slot: usize) -> &[u8]
+        requires { IsThere self.now slot }
+        ensures { result.now ≡ bytes_of self.now slot }
+    {
+        let entry = entry_of(&self.table, slot);
+        self.region.slice(entry.place, entry.size)
+    }
+
+    pub(crate) fn bytes_mut(&mut self, slot: usize) -> &mut [u8]
+        requires { IsThere self.old slot }
+        ensures* writes_back { sem 𝓛 (LendsBytes self.entry slot result) }
+        ensures value { result.now ≡ bytes_of self.old slot }
+    {
+        let entry = entry_of(&self.table, slot);
+        self.region.slice_mut(entry.place, entry.size)
+    }
+
+    /// The byte at an offset of the region.
+    pub(crate) fn read8(&self, at: u32) -> u8
+        requires { at < region_len self.now }
+        ensures { ReadsByte self.now at result }
+    {
+        self.region.get8(at)
+    }
+
+    /// The word at an offset of the region.
+    pub(crate) fn read16(&self, at: u32) -> u16
+        requires { at + 2 ≤ region_len self.now }
+        ensures { ReadsWord self.now at result }
+    {
+        self.region.get16(at)
+    }
+
+    pub(crate) fn write8(&mut self, at: u32, byte: u8)
+        requires { at < region_len self.old }
+        ensures { self.new ≡ after_write self.old at (byte ∷ []) }
+    {
+        self.region.put8(at, byte);
+    }
+
+    pub(crate) fn write16(&mut self, at: u32, word: u16)
+        requires { at + 2 ≤ region_len self.old }
+        ensures { self.new ≡ after_write self.old at (word % 256 ∷ word / 256 ∷ []) }
+    {
+        self.region.put16(at, word);
+    }
+
+    pub(crate) fn copy(&mut self, from: u32, to: u32, n: u32)
+        requires { (from + n ≤ region_len self.old) × (to + n ≤ region_len self.old) }
+        ensures { Copies self.old self.new from to n }
+    {
+        self.region.move_bytes(from, to, n);
+    }
+
+    /// Puts a new block into a free slot, where no other lies.
+    pub(crate) fn create(&mut self, slot: usize, at: u32, size: u32)
+        requires slot { (slot < 2048) × (IsThere self.old slot → ⊥) }
+        requires legal { (64 ≤ size) × (size ≤ 65520) }
+        requires room { at + size ≤ region_len self.old }
+        requires free { IsFreeBut self.old slot at (at + size) }
+        ensures store { self.new ≡ with_block self.old slot (new_block size) at }
+        ensures laid { IsLaidOut self.new }
+    {
+        self.region.fill(at, size, 0);
+        self.table[slot] = Some(Entry {
+            place: at,
+            size,
+            locks: 0,
+        });
+        self.index[(at / GRANULE) as usize] = Some(slot as u16);
+    }
+
+    /// Moves a block to where no other lies, and grows it there by zeros. It may overlap its
+    /// own old place.
+    pub(crate) fn relocate(&mut self, slot: usize, to: u32, size: u32)
+        requires there { IsThere self.old slot }
+        requires legal { (size_of self.old slot ≤ size) × (size ≤ 65520) }
+        requires room { to + size ≤ region_len self.old }
+        requires free { IsFreeBut self.old slot to (to + size) }
+        ensures store { self.new ≡ with_block self.old slot (grown_block self.old slot size) to }
+        ensures laid { IsLaidOut self.new }
+    {
+        let entry = entry_of(&self.table, slot);
+        self.region.move_bytes(entry.place, to, entry.size);
+        self.region.fill(to + entry.size, size - entry.size, 0);
+        self.table[slot] = Some(Entry {
+            place: to,
+            size,
+            locks: entry.locks,
+        });
+        self.index[(entry.place / GRANULE) as usize] = None;
+        self.index[(to / GRANULE) as usize] = Some(slot as u16);
+    }
+
+    /// Takes a block away.
+    pub(crate) fn remove(&mut self, slot: usize)
+        requires { IsThere self.old slot }
+        ensures store { self.new ≡ with_block self.old slot None 0 }
+        ensures laid { IsLaidOut self.new }
+    {
+        let entry = entry_of(&self.table, slot);
+        self.table[slot] = None;
+        self.index[(entry.place / GRANULE) as usize] = None;
+    }
+
+    pub(crate) fn set_locks(&mut self, slot: usize, locks: u16)
+        requires { IsThere self.old slot }
+        ensures store { self.new ≡ with_locks self.old slot locks }
+        ensures laid { IsLaidOut self.new }
+    {
+        let entry = entry_of(&self.table, slot);
+        self.table[slot] = Some(Entry { locks, ..entry });
+    }
+
+    /// Moves a block to where no other lies. It may overlap its own old place.
+    pub(crate) fn slide(&mut self, slot: usize, to: u32)
+        requires there { IsThere self.old slot }
+        requires room { to + size_of self.old slot ≤ region_len self.old }
+        requires free { IsFreeBut self.old slot to (to + size_of self.old slot) }
+        ensures store { self.new ≡ with_place self.old slot to }
+        ensures laid { IsLaidOut self.new }
+    {
+        let size = self.size(slot);
+        self.laid_out();
+        if self.place(slot) == to {
+            return;
+        }
+        self.relocate(slot, to, size);
+    }
+
+    /// Of the blocks that begin in a range, the one that lies first.
+    pub(crate) fn first_in(&self, from: u32, until: u32) -> Option<usize>
+        requires { until ≤ region_len self.now }
+        ensures found { IfSome result (IsFirst self.now from until) }
+        ensures none { IfNone result (BeginsNone self.now from until) }
+    {
+        let end = (until / GRANULE) as usize + 1;
+        let mut granule = (from / GRANULE) as usize;
+        while granule < end {
+            if let Some(slot) = self.index[granule] {
+                let place = entry_of(&self.table, slot as usize).place;
+                if from <= place && place < until {
+                    return Some(slot as usize);
+                }
+            }
+            granule += 1;
+        }
+        None
+    }
+
+    /// Of the blocks that begin in a range, the one that lies last.
+    pub(crate) fn last_in(&self, from: u32, until: u32) -> Option<usize>
+        requires { until ≤ region_len self.now }
+        ensures found { IfSome result (IsLast self.now from until) }
+        ensures none { IfNone result (BeginsNone self.now from until) }
+    {
+        let end = (from / GRANULE) as usize;
+        let mut granule = (until / GRANULE) as usize + 1;
+        while granule > end {
+            granule -= 1;
+            if let Some(slot) = self.index[granule] {
+                let place = entry_of(&self.table, slot as usize).place;
+                if from <= place && place < until {
+                    return Some(slot as usize);
+                }
+            }
+        }
+        None
+    }
+}

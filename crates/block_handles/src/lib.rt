@@ -1,0 +1,299 @@
+//! Moving blocks by their names, in one region.
+//!
+//! A block is named by an owner and a handle. The store may move a block while it is not locked:
+//! it packs the blocks of one stretch of the region, between two locked ones, where a request
+//! needs the room. A locked block keeps its place over every call that does not grow it.
+//! (GEOS SDK Concepts Book, chapters Handles and Memory Management.)
+#![tactic(auto)]
+
+ghost use Rattle.std.specs.Prelude.{◌≡◌, ℕ, ◌+◌, ◌/◌, ◌%◌, ◌<◌, ◌≤◌, ◌↔◌, [], ◌∷◌, IsTrue, IfOk, IfSome, IfNone, OnOk, OnErr, Err};
+ghost use Rattle.std.specs.Borrow.{sem};
+
+mod arena;
+mod error;
+mod name;
+mod pack;
+mod room;
+mod slots;
+mod stretch;
+
+use arena::Arena;
+pub use error::{HandleError, RoomError};
+pub use name::{Name, Owner};
+use room::{Gap, room_for};
+use slots::SlotSet;
+use std::alloc::{AllocError, Global};
+use std::marker::Model;
+
+/// The greatest size of a block.
+pub const MAX_SIZE: u32 = 65_520;
+
+/// Blocks in one region: a map from names to bytes and lock counts, and the place of each.
+#[derive(Drop)]
+pub struct Blocks {
+    arena: Arena,
+    gap: Gap,
+    used: SlotSet,
+}
+
+impl Model for Blocks {
+    ghost use Rattle.block_handles.specs.Store.{Store};
+
+    ghost Value = { Store };
+
+    ghost use Rattle.block_handles.specs.Used.{IsKept};
+
+    ghost view = { λ b. b.arena };
+
+    ghost invariant = { λ b. IsKept b.arena b.gap b.used.words.items };
+}
+
+impl Blocks {
+    ghost use Rattle.block_handles.specs.Calls.{Makes, Grows};
+    ghost use Rattle.block_handles.specs.Change.{with_lock_more, with_lock_less, without, after_write};
+    ghost use Rattle.block_handles.specs.Layout.{IsEmpty, IsLaidOut};
+    ghost use Rattle.block_handles.specs.LendingBlocks.{LendsBlock};
+    ghost use Rattle.block_handles.specs.Names.{slot_of, IsHandle};
+    ghost use Rattle.block_handles.specs.Offsets.{Copies, CopiesCovered, ReadsByte, ReadsWord, WritesCovered};
+    ghost use Rattle.block_handles.specs.Store.{IsThere, bytes_of, size_of, place_of, locks_of, region_len};
+    ghost use Rattle.block_handles.specs.Stretch.{HasNoRoom};
+    ghost use Rattle.block_handles.specs.Used.{IsLowest, AllInUse};
+
+    /// No block, in a region of `region` zero bytes. This is the only call that takes memory:
+    /// the region, and tables for every name. `AllocError` where the allocator has none.
+    pub fn new(alloc: Global, region: u32) -> Result<Blocks, AllocError>
+        requires { (65536 ≤ region) × (region ≤ 16777216) }
+        ensures { IfOk result (λ blocks. IsEmpty blocks region) }
+    {
+        Ok(Blocks {
+            arena: Arena::new(alloc, region)?,
+            gap: Gap { at: 0, end: region },
+            used: SlotSet::new(alloc)?,
+        })
+    }
+
+    /// The lowest handle of an owner that names no block; `None` where all 1,024 do.
+    pub fn lowest(&self, owner: Owner) -> Option<u16>
+        ensures found { IfSome result (IsLowest self.now owner) }
+        ensures none { IfNone result (AllInUse self.now owner) }
+    {
+        let first = owner.first_slot();
+        let slot = self.used.lowest_free(first / 64)?;
+        Some((slot - first) as u16 + 1)
+    }
+
+    /// Whether a block has this name.
+    pub fn has(&self, name: Name) -> bool
+        ensures { IsTrue result ↔ IsThere self.now (slot_of name) }
+    {
+        self.arena.has(name.slot())
+    }
+
+    /// How often a block is locked; 0 where there is none.
+    pub fn locks(&self, name: Name) -> u16
+        ensures { result ≡ locks_of self.now (slot_of name) }
+    {
+        let slot = name.slot();
+        if self.arena.has(slot) {
+            self.arena.locks(slot)
+        } else {
+            0
+        }
+    }
+
+    /// Where a block begins in the region. Blocks lie in the region, and no two overlap.
+    pub fn place(&self, name: Name) -> u32
+        requires { IsThere self.now (slot_of name) }
+        ensures place { result ≡ place_of self.now (slot_of name) }
+        ensures laid { IsLaidOut self.now }
+    {
+        self.arena.laid_out();
+        self.arena.place(name.slot())
+    }
+
+    /// A block's size in bytes: from 64 to 65,520.
+    pub fn size(&self, name: Name) -> u32
+        requires { IsThere self.now (slot_of name) }
+        ensures size { result ≡ size_of self.now (slot_of name) }
+        ensures legal { (64 ≤ result) × (result ≤ 65520) }
+    {
+        self.arena.laid_out();
+        self.arena.size(name.slot())
+    }
+
+    /// A block's bytes.
+    pub fn bytes(&self, name: Name) -> &[u8]
+        requires { IsThere self.now (slot_of name) }
+        ensures { result.now ≡ bytes_of self.now (slot_of name) }
+    {
+        self.arena.bytes(name.slot())
+    }
+
+    /// Lends a block's bytes for writing. Once the loan ends, the block has what was left in
+    /// them, and nothing else has changed.
+    pub fn bytes_mut(&mut self, name: Name) -> &mut [u8]
+        requires { IsThere self.old (slot_of name) }
+        ensures* writes_back { sem 𝓛 (LendsBlock self.entry (slot_of name) result) }
+        ensures value { result.now ≡ bytes_of self.old (slot_of name) }
+    {
+        self.arena.bytes_mut(name.slot())
+    }
+
+    /// The byte at an offset of the region, as the block that covers it has it.
+    pub fn read8(&self, at: u32) -> u8
+        requires { at < region_len self.now }
+        ensures { ReadsByte self.now at result }
+    {
+        self.arena.read8(at)
+    }
+
+    /// The word at an offset of the region and the next, little-endian, as the blocks that
+    /// cover them have it.
+    pub fn read16(&self, at: u32) -> u16
+        requires { at + 2 ≤ region_len self.now }
+        ensures { ReadsWord self.now at result }
+    {
+        self.arena.read16(at)
+    }
+
+    /// Writes a byte at an offset of the region: that byte of the block that covers it, and
+    /// nothing else.
+    pub fn write8(&mut self, at: u32, byte: u8)
+        requires { at < region_len self.old }
+        ensures written { self.new ≡ after_write self.old at (byte ∷ []) }
+        ensures covered { WritesCovered self.old self.new at (byte ∷ []) }
+    {
+        self.arena.write8(at, byte);
+    }
+
+    /// Writes a word at an offset of the region and the next, little-endian, and nothing else.
+    pub fn write16(&mut self, at: u32, word: u16)
+        requires { at + 2 ≤ region_len self.old }
+        ensures written { self.new ≡ after_write self.old at (word % 256 ∷ word / 256 ∷ []) }
+        ensures covered { WritesCovered self.old self.new at (word % 256 ∷ word / 256 ∷ []) }
+    {
+        self.arena.write16(at, word);
+    }
+
+    /// Copies `n` bytes from one offset of the region to another, as they were before, also
+    /// where the ranges overlap. Nothing outside the target changes.
+    pub fn copy(&mut self, from: u32, to: u32, n: u32)
+        requires { (from + n ≤ region_len self.old) × (to + n ≤ region_len self.old) }
+        ensures copied { Copies self.old self.new from to n }
+        ensures covered { CopiesCovered self.old self.new from to n }
+    {
+        self.arena.copy(from, to, n);
+    }
+
+    /// Locks a block once more: it keeps its place until its count is 0 again, or it grows.
+    /// `BadHandle` where no block has this name, `Locked` where its count is 65,535; nothing
+    /// changes then.
+    pub fn lock(&mut self, name: Name) -> Result<(), HandleError>
+        ensures there { OnOk result (IsThere self.old (slot_of name)) }
+        ensures ok { OnOk result (self.new ≡ with_lock_more self.old (slot_of name)) }
+        ensures bad_handle { (result ≡ Err HandleError.BadHandle) ↔ (IsThere self.old (slot_of name) → ⊥) }
+        ensures locked { (result ≡ Err HandleError.Locked) ↔ (locks_of self.old (slot_of name) ≡ 65535) }
+        ensures err { OnErr result (self.new ≡ self.old) }
+    {
+        let slot = name.slot();
+        if !self.arena.has(slot) {
+            return Err(HandleError::BadHandle);
+        }
+        let locks = self.arena.locks(slot);
+        if locks == u16::MAX {
+            return Err(HandleError::Locked);
+        }
+        self.arena.set_locks(slot, locks + 1);
+        Ok(())
+    }
+
+    /// Takes back one lock of a block.
+    pub fn unlock(&mut self, name: Name)
+        requires { 0 < locks_of self.old (slot_of name) }
+        ensures { self.new ≡ with_lock_less self.old (slot_of name) }
+    {
+        let slot = name.slot();
+        let locks = self.arena.locks(slot);
+        self.arena.set_locks(slot, locks - 1);
+    }
+
+    /// Frees a block. `BadHandle` where no block has this name, `Locked` where it is locked;
+    /// nothing changes then.
+    pub fn free(&mut self, name: Name) -> Result<(), HandleError>
+        ensures there { OnOk result (IsThere self.old (slot_of name)) }
+        ensures ok { OnOk result (self.new ≡ without self.old (slot_of name)) }
+        ensures bad_handle { (result ≡ Err HandleError.BadHandle) ↔ (IsThere self.old (slot_of name) → ⊥) }
+        ensures locked { (result ≡ Err HandleError.Locked) ↔ (0 < locks_of self.old (slot_of name)) }
+        ensures err { OnErr result (self.new ≡ self.old) }
+    {
+        let slot = name.slot();
+        if !self.arena.has(slot) {
+            return Err(HandleError::BadHandle);
+        }
+        if self.arena.locks(slot) > 0 {
+            return Err(HandleError::Locked);
+        }
+        let place = self.arena.place(slot);
+        let end = self.arena.end(slot);
+        self.arena.remove(slot);
+        self.used.remove(slot);
+        self.gap = self.gap.joined(place, end);
+        Ok(())
+    }
+
+    /// Makes a block of `size` zero bytes, not locked, under a name that is not in use. `NoRoom`
+    /// where no stretch of the region has the room, `TooBig` above 65,520 bytes; nothing
+    /// changes then. Unlocked blocks may move.
+    pub fn make(&mut self, name: Name, size: u32) -> Result<(), RoomError>
+        requires name { IsHandle name.h × (IsThere self.old (slot_of name) → ⊥) }
+        requires size { (64 ≤ size) × (size % 16 ≡ 0) }
+        ensures ok { OnOk result (Makes self.old self.new (slot_of name) size) }
+        ensures no_room { result ≡ Err RoomError.NoRoom → HasNoRoom self.new (slot_of name) size }
+        ensures too_big { (result ≡ Err RoomError.TooBig) ↔ (65520 < size) }
+        ensures err { OnErr result (self.new ≡ self.old) }
+    {
+        if size > MAX_SIZE {
+            return Err(RoomError::TooBig);
+        }
+        let slot = name.slot();
+        let gap = room_for(&mut self.arena, self.gap, slot, size)?;
+        self.arena.create(slot, gap.at, size);
+        self.used.insert(slot);
+        self.gap = Gap {
+            at: gap.at + size,
+            end: gap.end,
+        };
+        Ok(())
+    }
+
+    /// Grows a block to `size` bytes: it keeps its bytes, and zeros come behind them. It may
+    /// move, also where it is locked; another locked block stays, and unlocked ones may move.
+    /// `NoRoom` where no stretch of the region between the other locked blocks has the room,
+    /// `TooBig` above 65,520 bytes; nothing changes then.
+    pub fn grow(&mut self, name: Name, size: u32) -> Result<(), RoomError>
+        requires there { IsThere self.old (slot_of name) }
+        requires size { (size_of self.old (slot_of name) ≤ size) × (size % 16 ≡ 0) }
+        ensures ok { OnOk result (Grows self.old self.new (slot_of name) size) }
+        ensures no_room { result ≡ Err RoomError.NoRoom → HasNoRoom self.new (slot_of name) size }
+        ensures too_big { (result ≡ Err RoomError.TooBig) ↔ (65520 < size) }
+        ensures err { OnErr result (self.new ≡ self.old) }
+    {
+        if size > MAX_SIZE {
+            return Err(RoomError::TooBig);
+        }
+        self.arena.laid_out();
+        let slot = name.slot();
+        let place = self.arena.place(slot);
+        let gap = self.gap.reaching(place, self.arena.end(slot));
+        let gap = room_for(&mut self.arena, gap, slot, size)?;
+        self.arena.relocate(slot, gap.at, size);
+        self.gap = Gap {
+            at: gap.at + size,
+            end: gap.end,
+        };
+        Ok(())
+    }
+}
+
+#[cfg(test)]
+mod tests;

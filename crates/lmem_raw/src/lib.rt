@@ -1,0 +1,180 @@
+//! A region of bytes over one raw allocation: the memory in which moving blocks lie.
+//!
+//! Pointers are reached in `raw` alone. Everything here is a plain method over the slice that
+//! it lends, and callers see a `Region` as a list of bytes.
+#![tactic(auto)]
+
+ghost use Rattle.std.specs.Prelude.{◌≡◌, ℕ, ◌+◌, ◌*◌, ◌/◌, ◌%◌, ◌<◌, ◌≤◌, List, [], ◌∷◌, length, replicate, slice_index, slice_set, IfOk};
+ghost use Rattle.std.specs.Borrow.{sem};
+
+mod raw;
+
+use raw::{DeallocToken, RawBytes};
+use std::alloc::{AllocError, Global};
+use std::marker::Model;
+
+/// A list of bytes of a fixed length. It owns one allocation, freed at its end.
+pub struct Region {
+    raw: RawBytes,
+    token: DeallocToken<Global>,
+    len: u32,
+    alloc: Global,
+}
+
+impl Model for Region {
+    ghost use Rattle.std.specs.Prelude.{List, ℕ};
+
+    ghost Value = { List ℕ };
+
+    ghost use Rattle.lmem_raw.specs.Whole.{IsWhole};
+
+    ghost view = { λ r. r.raw.bytes };
+
+    ghost invariant = { IsWhole };
+}
+
+impl Region {
+    ghost use Rattle.lmem_raw.specs.Bytes.{part, with_part};
+    ghost use Rattle.lmem_raw.specs.Parts.{LendsPart};
+
+    /// A region of `size` zero bytes. This is the only call that takes memory; `AllocError`
+    /// where the allocator has none.
+    pub fn new(alloc: Global, size: u32) -> Result<Region, AllocError>
+        ensures { IfOk result (λ region. region ≡ replicate size 0) }
+    {
+        match RawBytes::allocate(&alloc, size as usize) {
+            Some((mut raw, token)) => {
+                for i in 0..size as usize {
+                    raw.push(i, 0);
+                }
+                Ok(Region {
+                    raw,
+                    token,
+                    len: size,
+                    alloc,
+                })
+            }
+            None => Err(AllocError),
+        }
+    }
+
+    /// The number of bytes, which never changes.
+    pub fn len(&self) -> u32
+        ensures { result ≡ length self.now }
+    {
+        self.len
+    }
+
+    /// The byte at offset `at`.
+    pub fn get8(&self, at: u32) -> u8
+        requires { at < length self.now }
+        ensures { result ≡ slice_index self.now at }
+    {
+        self.raw.slice(at as usize, 1)[0]
+    }
+
+    /// The word of the two bytes from `at` on, little-endian.
+    pub fn get16(&self, at: u32) -> u16
+        requires { at + 2 ≤ length self.now }
+        ensures { result ≡ slice_index self.now at + 256 * slice_index self.now (at + 1) }
+    {
+        let bytes = self.raw.slice(at as usize, 2);
+        u16::from_le_bytes([bytes[0], bytes[1]])
+    }
+
+    /// Writes the byte at offset `at`; every other byte stays.
+    pub fn put8(&mut self, at: u32, byte: u8)
+        requires { at < length self.old }
+        ensures { self.new ≡ with_part self.old at (byte ∷ []) }
+    {
+        self.slice_mut(at, 1)[0] = byte;
+    }
+
+    /// Writes a word at `at` and `at + 1`, little-endian; every other byte stays.
+    pub fn put16(&mut self, at: u32, word: u16)
+        requires { at + 2 ≤ length self.old }
+        ensures { self.new ≡ with_part self.old at (word % 256 ∷ word / 256 ∷ []) }
+    {
+        let [low, high] = word.to_le_bytes();
+        let bytes = self.slice_mut(at, 2);
+        bytes[0] = low;
+        bytes[1] = high;
+    }
+
+    /// Writes `byte` into each of the `n` bytes from `at` on; every other byte stays.
+    pub fn fill(&mut self, at: u32, n: u32, byte: u8)
+        requires { at + n ≤ length self.old }
+        ensures { self.new ≡ with_part self.old at (replicate n byte) }
+    {
+        self.slice_mut(at, n).fill(byte);
+    }
+
+    /// Writes the `n` bytes from `from` on at `to`. They are the bytes from before, also where
+    /// the two ranges overlap; every byte outside the target stays.
+    pub fn move_bytes(&mut self, from: u32, to: u32, n: u32)
+        requires { (from + n ≤ length self.old) × (to + n ≤ length self.old) }
+        ensures { self.new ≡ with_part self.old to (part self.old from n) }
+    {
+        let len = self.len();
+        let (from, to, n) = (from as usize, to as usize, n as usize);
+        self.slice_mut(0, len).copy_within(from..from + n, to);
+    }
+
+    /// Lends the `n` bytes from `at` on for reading.
+    pub fn slice(&self, at: u32, n: u32) -> &[u8]
+        requires { at + n ≤ length self.now }
+        ensures { result.now ≡ part self.now at n }
+    {
+        self.raw.slice(at as usize, n as usize)
+    }
+
+    /// Lends the `n` bytes from `at` on for writing. Once the loan ends, the region has there
+    /// what was left in it, and every other byte is as before.
+    pub fn slice_mut(&mut self, at: u32, n: u32) -> &mut [u8]
+        requires { at + n ≤ length self.old }
+        ensures* writes_back { sem 𝓛 (LendsPart self.entry at n result) }
+        ensures value { result.now ≡ part self.old at n }
+    {
+        self.raw.slice_mut(at as usize, n as usize)
+    }
+}
+
+impl Drop for Region {
+    fn drop(self) {
+        let Region {
+            raw,
+            token,
+            len,
+            alloc,
+        } = self;
+        raw.free(token, &alloc, len as usize);
+    }
+}
+
+#[cfg(test)]
+mod tests {
+    use super::*;
+    use std::test::Fail;
+
+    #[test]
+    fn reads_writes_and_moves(rt: HostRuntime) -> Result<(), Fail> {
+        let mut region = Region::new(rt.alloc(), 16)?;
+        assert_eq!(rt; region.len(), 16);
+        assert_eq!(rt; region.slice(0, 16), [0; 16].as_slice());
+        region.put8(1, 7);
+        region.put16(2, 0x1234);
+        assert_eq!(rt; region.get8(1), 7);
+        assert_eq!(rt; region.get16(2), 0x1234);
+        assert_eq!(rt; region.slice(0, 5), [0, 7, 0x34, 0x12, 0].as_slice());
+        region.move_bytes(1, 2, 3);
+        assert_eq!(rt; region.slice(0, 6), [0, 7, 7, 0x34, 0x12, 0].as_slice());
+        region.move_bytes(2, 1, 3);
+        assert_eq!(rt; region.slice(0, 6), [0, 7, 0x34, 0x12, 0x12, 0].as_slice());
+        region.fill(4, 2, 9);
+        assert_eq!(rt; region.slice(3, 4), [0x12, 9, 9, 0].as_slice());
+        region.slice_mut(14, 2).fill(5);
+        assert_eq!(rt; region.get16(14), 0x0505);
+        region.fill(16, 0, 1);
+        Ok(())
+    }
+}
