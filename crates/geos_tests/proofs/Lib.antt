@@ -1,0 +1,4 @@
+pub mod Images
+pub mod Spelled
+pub mod Judged
+pub mod Runs
