@@ -2,6 +2,7 @@ pub mod Indexing
 pub mod Laws
 pub mod Layouts
 pub mod Packs
+pub mod Passes
 pub mod Passing
 pub mod Readies
 pub mod Rooms

@@ -4,12 +4,12 @@ use Rattle.std.proofs.lemmas.Bool.{cases_eq, cases_lt}
 use Rattle.block_handles.specs.Store.{Store, bytes_in, size_of, locks_of, place_of, end_of, slot_count}
 use Rattle.block_handles.specs.Change.{with_place}
 use Rattle.block_handles.specs.Layout.{Apart, IsFree, IsFreeBut, IsLaidOut}
-use Rattle.block_handles.specs.Packing.{CanPack, Moves}
+use Rattle.block_handles.specs.Packing.{IsEdge, CanPack, Moves}
 use Rattle.block_handles.specs.Search.{IsFirst, IsLast, BeginsNone}
 use Rattle.block_handles.specs.Stretch.{total, only_in, sum_in}
 use Rattle.block_handles.proofs.Layouts.{Differs, with_place-differs, there_of_size, there_small}
 use Rattle.block_handles.proofs.Sums.{total-one, in_range, off_range, no_weight}
-use Rattle.block_handles.proofs.Passing.{IsEdge, only_same, sum_zero, passed}
+use Rattle.block_handles.proofs.Passing.{only_same, sum_zero, passed}
 
 pub size_along : (S S' : Store) → S'.blocks ≡ S.blocks → (j : ℕ) → size_of S' j ≡ size_of S j
 size_along S S' e j = ap (λ bs. length (bytes_in (slice_index_or bs j None))) e

@@ -3,14 +3,11 @@ use Rattle.std.proofs.Common.{◌≡◌, ◌≢◌, ℕ, ◌+◌, ◌≤◌, ◌
 use Rattle.std.proofs.lemmas.Bool.{cases_eq, cases_lt}
 use Rattle.block_handles.specs.Store.{Store, size_of, place_of, end_of, slot_count}
 use Rattle.block_handles.specs.Layout.{Apart, IsLaidOut}
+use Rattle.block_handles.specs.Packing.{IsEdge}
 use Rattle.block_handles.specs.Search.{IsFirst}
 use Rattle.block_handles.specs.Stretch.{total, only_in, sum_in}
 use Rattle.block_handles.proofs.Layouts.{there_of_size, there_small}
 use Rattle.block_handles.proofs.Sums.{total-same, total-none, total-one, in_range, off_range, no_weight}
-
--- no block crosses an offset
-abbrev pub IsEdge : Store → ℕ → Type 0
-IsEdge S at = (j : ℕ) → (end_of S j ≤ at) ⊎ (at ≤ place_of S j)
 
 module _ (S : Store) (from until : ℕ) (f : ℕ → ℕ) where
   -- what lies in a range has no weight

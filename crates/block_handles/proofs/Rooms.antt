@@ -7,7 +7,7 @@ use Rattle.block_handles.specs.Store.{Block, Store, block_at, bytes_in, locks_in
 use Rattle.block_handles.specs.Change.{LockedStay}
 use Rattle.block_handles.specs.Gap.{MakesRoom}
 use Rattle.block_handles.specs.Layout.{Apart, IsFree, IsFreeBut, IsLaidOut}
-use Rattle.block_handles.specs.Packing.{CanPack, Moves, IsRoomiest}
+use Rattle.block_handles.specs.Packing.{CanPack, Moves, IsRoomy, IsRoomiest}
 use Rattle.block_handles.specs.Stretch.{total, only_in, sum_in, unlocked_size, IsFull, IsCrowded, other_locked}
 use Rattle.block_handles.proofs.Packs.{size_along}
 use Rattle.block_handles.proofs.Passing.{only_same}
@@ -52,6 +52,11 @@ module _ (S : Store) (laid : IsLaidOut S) (slot size from until room : ℕ) (r :
       let more : k * (room + 1) ≤ k * size = mul-le-mul_left k (omega arith) in
       omega (arith, r.crowd, more)
 
+  -- what a range with the most room is
+  pub roomy-of : IsRoomy S slot from until room
+  roomy-of = record { ordered = r.ordered; inside = r.inside; packs = r.packs; fits = r.fits }
+
+module _ (S : Store) (laid : IsLaidOut S) (slot size from until room : ℕ) (r : IsRoomy S slot from until room) where
   module _ (enough : size ≤ room) where
     -- the slot has no block in the stretch
     module _ (off : (IsThere S slot → ⊥) ⊎ ((place_of S slot < from) ⊎ (until ≤ place_of S slot))) where

@@ -6,12 +6,12 @@ use Rattle.block_handles.specs.declared.stretch.Stretch.{Stretch}
 use Rattle.block_handles.specs.Wider.{IsWider}
 use Rattle.block_handles.specs.Store.{Store, size_of, locks_of, place_of, end_of, slot_count}
 use Rattle.block_handles.specs.Layout.{IsLaidOut}
-use Rattle.block_handles.specs.Packing.{CanPackBut, IsRoomiest}
+use Rattle.block_handles.specs.Packing.{IsEdge, CanPackBut, IsRoomiest}
 use Rattle.block_handles.specs.Search.{IsFirst, BeginsNone}
 use Rattle.block_handles.specs.Stretch.{only_in, sum_in, other_size, unlocked_size, locked_one, IsOtherLocked, IsStretch, other_locked, other_sizes}
 use Rattle.block_handles.proofs.Layouts.{there_of_locks}
 use Rattle.block_handles.proofs.Sums.{total-same, other-but, other-other, unlocked-but, unlocked-other, unlocked-none, one-but, one-unlocked, one-locked}
-use Rattle.block_handles.proofs.Passing.{IsEdge, only_same, sum_zero, sum_all, passed, edge_behind, sum_more, sum_same}
+use Rattle.block_handles.proofs.Passing.{only_same, sum_zero, sum_all, passed, edge_behind, sum_more, sum_same}
 
 -- a stretch that was found
 pub record IsFound (S : Store) (but : ℕ) (b : Stretch) : Type 0 where
@@ -41,7 +41,7 @@ no_size_no_weight S but j z = elim (cases_eq j but) as (λ _. other_size S but j
 
 module _ (S : Store) (laid : IsLaidOut S) (but : ℕ) where
   -- an empty range sums to nothing
-  empty_sum : (at : ℕ) → sum_in S at at (unlocked_size S but) ≡ 0
+  pub empty_sum : (at : ℕ) → sum_in S at at (unlocked_size S but) ≡ 0
   empty_sum at = sum_zero S at at (unlocked_size S but) (λ j low high. unlocked-none S but j (omega arith))
 
   pub walk-init : HasWalked S but 0 0 0 (record { from = 0; until = 0; room = 0 })
@@ -58,7 +58,7 @@ module _ (S : Store) (laid : IsLaidOut S) (but : ℕ) where
   }
 
   -- what lies in a range in which no other block is locked can be packed
-  packable : (from until : ℕ) → IsEdge S from → IsEdge S until → ((j : ℕ) → IsOtherLocked S but j → (end_of S j ≤ from) ⊎ (until ≤ place_of S j)) → CanPackBut S but from until
+  pub packable : (from until : ℕ) → IsEdge S from → IsEdge S until → ((j : ℕ) → IsOtherLocked S but j → (end_of S j ≤ from) ⊎ (until ≤ place_of S j)) → CanPackBut S but from until
   packable from until low high locks j = by_low (low j)
     where
       inside : from ≤ place_of S j → end_of S j ≤ until → (end_of S j ≤ from) ⊎ ((until ≤ place_of S j) ⊎ ((from ≤ place_of S j) × (end_of S j ≤ until) × ((j ≡ but) ⊎ (locks_of S j ≡ 0))))

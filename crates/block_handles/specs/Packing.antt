@@ -19,7 +19,18 @@ pub record Moves (old new : Store) (from until low high : ℕ) : Type 0 where
   pub laid : IsLaidOut new
   pub moved : (slot : ℕ) → (place_of new slot ≡ place_of old slot) ⊎ ((from ≤ place_of old slot) × (end_of old slot ≤ until) × (locks_of old slot ≡ 0) × (low ≤ place_of new slot) × (end_of new slot ≤ high))
 
--- a range with this much room beside its unlocked blocks; no stretch has more
+-- no block crosses an offset
+abbrev pub IsEdge : Store → ℕ → Type 0
+IsEdge store at = (slot : ℕ) → (end_of store slot ≤ at) ⊎ (at ≤ place_of store slot)
+
+-- a range with this much room beside its unlocked blocks
+pub record IsRoomy (store : Store) (but from until room : ℕ) : Type 0 where
+  pub ordered : from ≤ until
+  pub inside : until ≤ region_len store
+  pub packs : CanPackBut store but from until
+  pub fits : from + sum_in store from until (unlocked_size store but) + room ≤ until
+
+-- the same, and no stretch has more
 pub record IsRoomiest (store : Store) (but from until room : ℕ) : Type 0 where
   pub ordered : from ≤ until
   pub inside : until ≤ region_len store

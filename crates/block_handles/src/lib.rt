@@ -256,7 +256,7 @@ impl Blocks {
             return Err(RoomError::TooBig);
         }
         let slot = name.slot();
-        let gap = room_for(&mut self.arena, self.gap, slot, size)?;
+        let gap = room_for(&mut self.arena, self.gap, self.gap.end, slot, size)?;
         self.arena.create(slot, gap.at, size);
         self.used.insert(slot);
         self.gap = Gap {
@@ -285,7 +285,7 @@ impl Blocks {
         let slot = name.slot();
         let place = self.arena.place(slot);
         let gap = self.gap.reaching(place, self.arena.end(slot));
-        let gap = room_for(&mut self.arena, gap, slot, size)?;
+        let gap = room_for(&mut self.arena, gap, self.gap.end, slot, size)?;
         self.arena.relocate(slot, gap.at, size);
         self.gap = Gap {
             at: gap.at + size,

@@ -2,12 +2,14 @@
 ghost use Rattle.std.specs.Prelude.{◌≡◌, ℕ, ◌+◌, ◌<◌, ◌≤◌, IfOk, OnErr, Err};
 ghost use Rattle.block_handles.specs.Gap.{IsGapBut, MakesRoom};
 ghost use Rattle.block_handles.specs.Layout.{IsLaidOut};
+ghost use Rattle.block_handles.specs.Packing.{IsEdge, IsRoomy};
+ghost use Rattle.block_handles.specs.Store.{region_len};
 ghost use Rattle.block_handles.specs.Stretch.{HasNoRoom};
 
 use crate::arena::Arena;
 use crate::error::RoomError;
 use crate::pack::{pack_down, pack_up};
-use crate::stretch::roomiest;
+use crate::stretch::{Stretch, next_roomy, roomiest};
 
 /// A free range of the region, in which the next block is placed.
 #[derive(Clone, Copy, Debug, PartialEq, Eq)]
@@ -44,16 +46,48 @@ impl Gap {
     }
 }
 
+/// The room that a stretch should have, so that packing it serves more than one request.
+const LEAST: u32 = 4_096;
+
+/// A stretch with room for a block in a slot: the next one behind an offset that no block
+/// crosses, or from the region's begin, that should serve, and else the roomiest.
+fn stretch_for(arena: &Arena, after: u32, slot: usize, size: u32) -> Result<Stretch, RoomError>
+    requires edge { IsEdge arena.now after }
+    requires inside { after ≤ region_len arena.now }
+    ensures roomy { IfOk result (λ s. IsRoomy arena.now slot s.from s.until s.room) }
+    ensures enough { IfOk result (λ s. size ≤ s.room) }
+    ensures err { OnErr result (result ≡ Err RoomError.NoRoom) }
+    ensures full { OnErr result (HasNoRoom arena.now slot size) }
+{
+    arena.laid_out();
+    let least = if size < LEAST { LEAST } else { size };
+    if let Some(stretch) = next_roomy(arena, after, slot, least) {
+        return Ok(stretch);
+    }
+    if let Some(stretch) = next_roomy(arena, 0, slot, least) {
+        return Ok(stretch);
+    }
+    let stretch = roomiest(arena, slot);
+    if stretch.room < size {
+        return Err(RoomError::NoRoom);
+    }
+    Ok(stretch)
+}
+
 /// A gap with room for a new block in a slot, or for the one that is there, which may lie in
-/// the gap. Packs one stretch where the gap at hand is too small.
+/// the gap. Packs one stretch where the gap at hand is too small: the next one behind `after`
+/// that has room, where no block crosses `after`.
 pub(crate) fn room_for(
     arena: &mut Arena,
     gap: Gap,
+    after: u32,
     slot: usize,
     size: u32,
 ) -> Result<Gap, RoomError>
     requires laid { IsLaidOut arena.old }
     requires gap { IsGapBut arena.old slot gap }
+    requires edge { IsEdge arena.old after }
+    requires inside { after ≤ region_len arena.old }
     requires size { 0 < size }
     ensures ok { IfOk result (λ opened. MakesRoom arena.old arena.new slot size opened) }
     ensures err { OnErr result ((result ≡ Err RoomError.NoRoom) × (arena.new ≡ arena.old)) }
@@ -62,10 +96,7 @@ pub(crate) fn room_for(
     if gap.end - gap.at >= size {
         return Ok(gap);
     }
-    let stretch = roomiest(arena, slot);
-    if stretch.room < size {
-        return Err(RoomError::NoRoom);
-    }
+    let stretch = stretch_for(arena, after, slot, size)?;
     if arena.has(slot) {
         let place = arena.place(slot);
         if stretch.from <= place && place < stretch.until {

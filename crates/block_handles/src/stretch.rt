@@ -1,6 +1,7 @@
 //! The stretches of the region between locked blocks.
-ghost use Rattle.std.specs.Prelude.{◌≡◌, ℕ, ◌+◌, ◌-◌, ◌<◌, ◌≤◌};
-ghost use Rattle.block_handles.specs.Packing.{IsRoomiest};
+ghost use Rattle.std.specs.Prelude.{◌≡◌, ℕ, ◌+◌, ◌-◌, ◌<◌, ◌≤◌, IfSome};
+ghost use Rattle.block_handles.specs.Packing.{IsEdge, IsRoomiest, IsRoomy};
+ghost use Rattle.block_handles.specs.Store.{region_len};
 ghost use Rattle.block_handles.specs.Layout.{IsLaidOut};
 
 use crate::arena::Arena;
@@ -60,4 +61,49 @@ pub(crate) fn roomiest(arena: &Arena, but: usize) -> Stretch
         scan = place + size;
     }
     best.or_wider(from, len, taken)
+}
+
+/// The first stretch behind an offset with at least `least` bytes of room, for a call that may
+/// move and replace the block in `but`. No block crosses the offset.
+pub(crate) fn next_roomy(arena: &Arena, after: u32, but: usize, least: u32) -> Option<Stretch>
+    requires edge { IsEdge arena.now after }
+    requires inside { after ≤ region_len arena.now }
+    ensures roomy { IfSome result (λ s. IsRoomy arena.now but s.from s.until s.room) }
+    ensures enough { IfSome result (λ s. least ≤ s.room) }
+{
+    arena.laid_out();
+    let len = arena.len();
+    let mut from = after;
+    let mut scan = after;
+    let mut taken = 0;
+    while let Some(slot) = arena.first_in(scan, len) {
+        let place = arena.place(slot);
+        let size = arena.size(slot);
+        if slot != but {
+            if arena.locks(slot) > 0 {
+                let room = place - (from + taken);
+                if room >= least {
+                    return Some(Stretch {
+                        from,
+                        until: place,
+                        room,
+                    });
+                }
+                from = place + size;
+                taken = 0;
+            } else {
+                taken += size;
+            }
+        }
+        scan = place + size;
+    }
+    let room = len - (from + taken);
+    if room < least {
+        return None;
+    }
+    Some(Stretch {
+        from,
+        until: len,
+        room,
+    })
 }
