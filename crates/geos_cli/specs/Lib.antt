@@ -1,1 +1,6 @@
+pub mod Counted
+pub mod Fault
+pub mod Hex
 pub mod Script
+pub mod Session
+pub mod Text

@@ -1,9 +1,124 @@
--- Scripts and what they call.
-use Rattle.std.specs.Prelude.{◌≡◌, true}
+-- What the lines of a script say, when a script ends early, and what it prints.
+use Rattle.std.specs.Prelude.{◌≡◌, ◌<◌, ◌≤◌, ℕ, ◌-◌, Bool, true, ◌&&◌, not, nat_le, if◌then◌else◌, List, [], ◌∷◌, ◌++◌, length, replicate, position, filter_map, flat_map, Option, Some, None, option_map, option_and_then, is_none, Ok, Err, codes, bytes_eq, decimal, take, unwrap_or}
+use Rattle.std.specs.List.{position_from}
+use Rattle.std.specs.Str.Lines.{lines}
+use Rattle.geos_image.specs.declared.routine.Routine.{Routine}
 use Rattle.geos_image.specs.Parts.{Parts}
-use Rattle.geos_machine.specs.Runs.{admits}
+use Rattle.geos_image.specs.Legal.{text_end}
+use Rattle.geos_image.specs.Reading.{image_at}
+use Rattle.geos_verify.specs.Rules.{Accepted, FirstRefusal}
+use Rattle.geos_machine.specs.declared.outcome.Outcome.{Outcome}
+use Rattle.geos_machine.specs.Runs.{admits, Ran}
 use Rattle.geos_cli.specs.declared.script.Call.{Call}
+use Rattle.geos_cli.specs.declared.fault.ScriptFault.{ScriptFault}
+use Rattle.geos_cli.specs.declared.fault.ScriptFault.TheVariants.{TooLong, BadHex, BadImage, Rejected, BadScript, Read, Write, Memory}
+use Rattle.geos_cli.specs.Text.{is_empty, words, without_comment, number_of}
 
 -- the machine may be asked for the call
 abbrev pub IsAdmitted : Parts → Call → Type 0
 IsAdmitted image call = admits image call.routine call.words ≡ true
+
+-- a routine's name without the zeros behind it
+abbrev pub name_text : Routine → List ℕ
+name_text routine = take (unwrap_or (text_end routine.name) 16) routine.name
+
+-- the routine of that name
+abbrev pub routine_named : Parts → List ℕ → Option ℕ
+routine_named image name = position (λ routine. bytes_eq (name_text routine) name) image.routines
+
+-- the numbers that the words write, if each writes one
+abbrev pub numbers_of : List (List ℕ) → Option (List ℕ)
+numbers_of [] = Some []
+numbers_of (w ∷ ws) = option_and_then (λ n. option_map (λ ns. n ∷ ns) (numbers_of ws)) (number_of w)
+
+-- at most eight numbers, and 0 for each that is missing
+abbrev pub registers_of : List (List ℕ) → Option (List ℕ)
+registers_of ws = if nat_le (length ws) 8 then option_map (λ ns. ns ++ replicate (8 - length ns) 0) (numbers_of ws) else None
+
+-- a call, if the machine may be asked for it
+abbrev pub if_admitted : Parts → Call → Option Call
+if_admitted image call = if admits image call.routine call.words then Some call else None
+
+-- the call of the routine of that name on those numbers
+abbrev pub call_named : Parts → List ℕ → List (List ℕ) → Option Call
+call_named image name numbers =
+    option_and_then (λ r. option_and_then (λ ws. if_admitted image (record { routine = r; words = ws })) (registers_of numbers)) (routine_named image name)
+
+-- `call`, the name of a routine, then numbers
+abbrev pub call_of : Parts → List (List ℕ) → Option Call
+call_of image [] = None
+call_of image (command ∷ []) = None
+call_of image (command ∷ name ∷ numbers) = if bytes_eq command (codes "call") then call_named image name numbers else None
+
+-- what a line says, without its comment
+abbrev pub said : List ℕ → List (List ℕ)
+said line = words (without_comment line)
+
+-- a line that says something, but no call that the machine may be asked for
+abbrev pub is_bad : Parts → List ℕ → Bool
+is_bad image line = not (is_empty (said line)) && is_none (call_of image (said line))
+
+-- the number of the first bad line, from 1
+abbrev pub first_bad : Parts → List (List ℕ) → Option ℕ
+first_bad image lines = position_from (is_bad image) 1 lines
+
+-- the calls of a script
+abbrev pub calls_of : Parts → List (List ℕ) → List Call
+calls_of image lines = filter_map (λ line. call_of image (said line)) lines
+
+-- each word in decimal, on a line
+abbrev pub printed : List ℕ → List ℕ
+printed words = flat_map (λ word. decimal word ++ 10 ∷ []) words
+
+-- what the calls print: the output of a model's run of each, one after another
+abbrev pub Prints : Parts → List Call → List ℕ → Type 0
+Prints image [] text = text ≡ []
+Prints image (call ∷ calls) text =
+    (outcome : Outcome) × (others : List ℕ) × Ran image call.routine call.words outcome × Prints image calls others × (text ≡ printed outcome.output.items ++ others)
+
+-- bytes spell an image that the verifier accepts, and no line of the script is bad
+pub record Loads (bytes : List ℕ) (lines : List (List ℕ)) (image : Parts) : Type 0 where
+  pub read : image_at bytes ≡ Ok image
+  pub accepted : Accepted image
+  pub good : first_bad image lines ≡ None
+
+-- why bytes are no image that may run
+abbrev pub IsBadImage : List ℕ → ScriptFault → Type 0
+IsBadImage bytes (BadImage at) = image_at bytes ≡ Err at
+IsBadImage bytes (Rejected pc rule) = (image : Parts) × (image_at bytes ≡ Ok image) × FirstRefusal image (record { pc = pc; rule = rule })
+IsBadImage bytes Memory = Unit {0}
+IsBadImage bytes _ = ⊥
+
+-- why the lines of a script are no calls
+abbrev pub IsBadLine : Parts → List (List ℕ) → ScriptFault → Type 0
+IsBadLine image lines (BadScript line) = first_bad image lines ≡ Some line
+IsBadLine image lines Memory = Unit {0}
+IsBadLine image lines _ = ⊥
+
+-- a script of these lines runs on the image that the bytes spell, and prints the text
+abbrev pub Runs : List ℕ → List (List ℕ) → List ℕ → Type 0
+Runs bytes lines text = (image : Parts) × Loads bytes lines image × Prints image (calls_of image lines) text
+
+-- when such a script ends with a fault: each of them in the order in which they are looked for
+abbrev pub EndsBy : List ℕ → List (List ℕ) → ScriptFault → Type 0
+EndsBy bytes lines (BadImage at) = image_at bytes ≡ Err at
+EndsBy bytes lines (Rejected pc rule) = (image : Parts) × (image_at bytes ≡ Ok image) × FirstRefusal image (record { pc = pc; rule = rule })
+EndsBy bytes lines (BadScript line) = (image : Parts) × (image_at bytes ≡ Ok image) × Accepted image × (first_bad image lines ≡ Some line)
+EndsBy bytes lines Write = (image : Parts) × Loads bytes lines image
+EndsBy bytes lines Memory = Unit {0}
+EndsBy bytes lines TooLong = ⊥
+EndsBy bytes lines (BadHex line) = ⊥
+EndsBy bytes lines Read = ⊥
+
+-- the most bytes of a script or a session
+abbrev pub most_bytes : ℕ
+most_bytes = 1048576
+
+-- the script runs on the image that the bytes spell, and prints the text
+abbrev pub RunsScript : List ℕ → List ℕ → List ℕ → Type 0
+RunsScript bytes script text = (length script ≤ most_bytes) × Runs bytes (lines script) text
+
+-- when a script ends with a fault: first of all, where it is too long
+abbrev pub ScriptEndsBy : List ℕ → List ℕ → ScriptFault → Type 0
+ScriptEndsBy bytes script TooLong = most_bytes < length script
+ScriptEndsBy bytes script fault = (length script ≤ most_bytes) × EndsBy bytes (lines script) fault

@@ -55,6 +55,10 @@ impl<T: Drop> From<AllocFailed<T>> for ScriptFault {
 }
 
 impl From<ReadError> for ScriptFault {
+    ghost use Rattle.geos_cli.specs.Fault.{of_read};
+
+    ghost from_gives = { λ error fault. fault ≡ of_read error };
+
     fn from(error: ReadError) -> ScriptFault {
         match error {
             ReadError::BadImage(at) => ScriptFault::BadImage(at),
@@ -64,6 +68,10 @@ impl From<ReadError> for ScriptFault {
 }
 
 impl From<Reject> for ScriptFault {
+    ghost use Rattle.geos_cli.specs.declared.fault.ScriptFault.TheVariants.{Rejected};
+
+    ghost from_gives = { λ reject fault. fault ≡ Rejected reject.pc reject.rule };
+
     fn from(reject: Reject) -> ScriptFault {
         ScriptFault::Rejected(reject.pc, reject.rule)
     }

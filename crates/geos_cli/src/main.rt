@@ -1,12 +1,14 @@
 //! The program `geos`: runs a session on its standard input.
 #![tactic(auto)]
 
+mod counted;
 mod fault;
 mod hex;
 mod script;
 mod session;
 mod text;
 
+use crate::counted::Counted;
 use crate::fault::ScriptFault;
 use anyhow::Result;
 use clap::Command;
@@ -28,8 +30,8 @@ fn command<'a>(alloc: Global) -> Command<'a> {
 
 /// Runs a session on the standard streams, and gives the program's status.
 fn run(rt: &HostRuntime) -> Result<ExitCode> {
-    let mut input = rt.stdin();
-    let mut out = BufWriter::new(rt.alloc(), io::writer(rt))?;
+    let mut input = Counted::new(rt.stdin());
+    let mut out = Counted::new(BufWriter::new(rt.alloc(), io::writer(rt))?);
     let ended = session::run_session(rt.alloc(), &mut input, &mut out);
     let flushed = out.flush();
     match ended {

@@ -1,12 +1,20 @@
 //! Scripts: lines of commands, read whole before the first one runs.
 
-ghost use Rattle.std.specs.Prelude.{◌≡◌, ◌<◌, ◌≤◌, length, All, true, IfSome, IfOk};
-ghost use Rattle.geos_cli.specs.Script.{IsAdmitted};
+ghost use Rattle.std.specs.Prelude.{◌≡◌, ◌≢◌, ◌≤◌, ℕ, List, length, All, None, Ok, IfOk, IfErr};
+ghost use Rattle.std.specs.Str.Lines.{lines};
+ghost use Rattle.std.specs.Io.KnownBytes.{Appends, Keeps};
+ghost use Rattle.geos_cli.specs.declared.fault.ScriptFault.TheVariants.{Write};
+ghost use Rattle.geos_cli.specs.Counted.{Rose};
+ghost use Rattle.geos_cli.specs.Script.{IsAdmitted, routine_named, registers_of, call_named, call_of, calls_of, first_bad, IsBadLine, printed, Prints, RunsScript, ScriptEndsBy, IsBadImage};
+ghost use Rattle.geos_image.specs.Reading.{image_at};
+ghost use Rattle.geos_verify.specs.Rules.{Accepted};
+ghost use Rattle.geos_cli.specs.Text.{words};
 
+use crate::counted::Counted;
 use crate::fault::ScriptFault;
 use crate::text::{first_line, first_word, number, without_comment};
 use geos_image::Image;
-use geos_machine::{Machine, Outcome, admits};
+use geos_machine::{Machine, admits};
 use geos_verify::{Checked, check};
 use std::alloc::Global;
 use std::io::Write;
@@ -22,7 +30,9 @@ pub struct Call {
 }
 
 /// The routine of that name.
-fn routine_named(image: &Image, name: &[u8]) -> Option<u16> {
+fn routine_named(image: &Image, name: &[u8]) -> Option<u16>
+    ensures { result ≡ routine_named image.now name.now }
+{
     for r in 0..image.count() {
         if image.routine(r).name_text() == name {
             return Some(r);
@@ -31,34 +41,31 @@ fn routine_named(image: &Image, name: &[u8]) -> Option<u16> {
     None
 }
 
-/// The words behind a routine's name: at most eight numbers. Missing ones are 0.
-fn words_of(text: &[u8]) -> Option<[u16; 8]> {
-    let mut words = [0; 8];
-    let mut rest = text;
-    for word in &mut words {
-        let Some((digits, behind)) = first_word(rest) else {
-            return Some(words);
+/// The registers w0 to w7 that numbers say: at most eight of them. Missing ones are 0.
+fn registers_of(numbers: &[u8]) -> Option<[u16; 8]>
+    ensures { result ≡ registers_of (words numbers.now) }
+{
+    let mut registers = [0; 8];
+    let mut rest = numbers;
+    for i in 0..registers.len() {
+        let Some((word, behind)) = first_word(rest) else {
+            return Some(registers);
         };
-        *word = number(digits)?;
+        registers[i] = number(word)?;
         rest = behind;
     }
     match first_word(rest) {
-        None => Some(words),
+        None => Some(registers),
         Some(_) => None,
     }
 }
 
-/// The command of a line without its comment.
-fn call_of(checked: &Checked, line: &[u8]) -> Option<Call>
-    ensures { IfSome result (IsAdmitted checked.now) }
+/// The call of the routine of that name on those numbers, if the machine may be asked for it.
+fn call_named(checked: &Checked, name: &[u8], numbers: &[u8]) -> Option<Call>
+    ensures { result ≡ call_named checked.now name.now (words numbers.now) }
 {
-    let (command, rest) = first_word(line)?;
-    if command != b"call".as_slice() {
-        return None;
-    }
-    let (name, rest) = first_word(rest)?;
     let routine = routine_named(checked.image(), name)?;
-    let words = words_of(rest)?;
+    let words = registers_of(numbers)?;
     if admits(checked, routine, &words) {
         Some(Call { routine, words })
     } else {
@@ -66,9 +73,23 @@ fn call_of(checked: &Checked, line: &[u8]) -> Option<Call>
     }
 }
 
-/// The commands of a script: none, or the first line that is no command that may be carried out.
-fn commands(alloc: Global, checked: &Checked, script: &[u8]) -> Result<Vec<Call>, ScriptFault>
-    ensures { IfOk result (λ calls. All (IsAdmitted checked.now) calls.items) }
+/// The call of a line without its comment, if the machine may be asked for it.
+fn call_of(checked: &Checked, line: &[u8]) -> Option<Call>
+    ensures { result ≡ call_of checked.now (words line.now) }
+{
+    let (command, rest) = first_word(line)?;
+    let (name, numbers) = first_word(rest)?;
+    if command == b"call".as_slice() {
+        call_named(checked, name, numbers)
+    } else {
+        None
+    }
+}
+
+/// The calls of a script, or the number of its first bad line.
+fn calls_of(alloc: Global, checked: &Checked, script: &[u8]) -> Result<Vec<Call>, ScriptFault>
+    ensures calls { IfOk result (λ calls. (first_bad checked.now (lines script.now) ≡ None) × (calls.items ≡ calls_of checked.now (lines script.now))) }
+    ensures bad { IfErr result (IsBadLine checked.now (lines script.now)) }
 {
     let mut calls = Vec::new(alloc);
     let mut rest = script;
@@ -88,44 +109,82 @@ fn commands(alloc: Global, checked: &Checked, script: &[u8]) -> Result<Vec<Call>
     Ok(calls)
 }
 
-fn write<W: Write>(out: &mut W, bytes: &[u8]) -> Result<(), ScriptFault> {
+fn write<W: Write>(out: &mut Counted<W>, bytes: &[u8]) -> Result<(), ScriptFault>
+    ensures ok { IfOk result (λ _. Appends (W.contents out.old.stream) (W.contents out.new.stream) bytes.now) }
+    ensures kept { IfOk result (λ _. out.new.failures ≡ out.old.failures) }
+    ensures failed { IfErr result (λ fault. (fault ≡ Write) × Rose out.old.failures out.new.failures) }
+{
     match out.write_all(bytes) {
         Ok(()) => Ok(()),
         Err(_) => Err(ScriptFault::Write),
     }
 }
 
-/// Prints each word of a run's output in decimal on a line.
-fn print<W: Write>(outcome: &Outcome, out: &mut W) -> Result<(), ScriptFault> {
+/// Prints each word in decimal on a line.
+fn print<W: Write>(words: &[u16], out: &mut Counted<W>) -> Result<(), ScriptFault>
+    ensures ok { IfOk result (λ _. Appends (W.contents out.old.stream) (W.contents out.new.stream) (printed words.now)) }
+    ensures kept { IfOk result (λ _. out.new.failures ≡ out.old.failures) }
+    ensures failed { IfErr result (λ fault. (fault ≡ Write) × Rose out.old.failures out.new.failures) }
+{
     let mut digits = itoa::Buffer::new();
-    for word in outcome.output.as_slice() {
+    for word in words {
         write(out, digits.format(*word).as_bytes())?;
         write(out, b"\n")?;
     }
     Ok(())
 }
 
+/// Runs the calls one after another, and prints what each puts out.
+fn run_calls<W: Write>(
+    checked: &Checked,
+    calls: &[Call],
+    out: &mut Counted<W>,
+) -> Result<(), ScriptFault>
+    requires { All (IsAdmitted checked.now) calls.now }
+    ensures ok { IfOk result (λ _. (text : List ℕ) × Prints checked.now calls.now text × Appends (W.contents out.old.stream) (W.contents out.new.stream) text) }
+    ensures failed { IfErr result (λ fault. (fault ≡ Write) × Rose out.old.failures out.new.failures) }
+{
+    let mut machine = Machine::new();
+    for call in calls {
+        let outcome = machine.run(checked, call.routine, &call.words);
+        print(outcome.output.as_slice(), out)?;
+    }
+    Ok(())
+}
+
+/// The image that the bytes spell, checked.
+fn load(alloc: Global, image: &[u8]) -> Result<Checked, ScriptFault>
+    ensures image { IfOk result (λ checked. (image_at image.now ≡ Ok checked) × Accepted checked) }
+    ensures bad { IfErr result (IsBadImage image.now) }
+{
+    let image = geos_image::read(alloc, image)?;
+    match check(image) {
+        Ok(checked) => Ok(checked),
+        Err((_image, reject)) => Err(ScriptFault::from(reject)),
+    }
+}
+
 /// Checks an image and runs a script of calls, which print the words that they put out. The script is read whole first,
 /// and a bad one runs nothing.
+///
+/// Of the faults, the first that is due is answered: `TooLong` where the script has more than 1,048,576 bytes; `BadImage`;
+/// `Rejected`; `BadScript`. `Memory` may come before the first call runs. Up to then nothing is written. `Write` comes
+/// where the writer failed: the calls so far are done, and the one being printed.
 pub fn run_script<W: Write>(
     alloc: Global,
     image: &[u8],
     script: &[u8],
-    out: &mut W,
-) -> Result<(), ScriptFault> {
+    out: &mut Counted<W>,
+) -> Result<(), ScriptFault>
+    ensures ran { IfOk result (λ _. (text : List ℕ) × RunsScript image.now script.now text × Appends (W.contents out.old.stream) (W.contents out.new.stream) text) }
+    ensures due { IfErr result (ScriptEndsBy image.now script.now) }
+    ensures nothing_written { IfErr result (λ fault. fault ≢ Write → Keeps (W.contents out.old.stream) (W.contents out.new.stream)) }
+    ensures writer_failed { IfErr result (λ fault. fault ≡ Write → Rose out.old.failures out.new.failures) }
+{
     if script.len() > MOST_BYTES {
         return Err(ScriptFault::TooLong);
     }
-    let image = geos_image::read(alloc, image)?;
-    let checked = match check(image) {
-        Ok(checked) => checked,
-        Err((_image, reject)) => return Err(ScriptFault::from(reject)),
-    };
-    let calls = commands(alloc, &checked, script)?;
-    let mut machine = Machine::new();
-    for call in &calls {
-        let outcome = machine.run(&checked, call.routine, &call.words);
-        print(&outcome, out)?;
-    }
-    Ok(())
+    let checked = load(alloc, image)?;
+    let calls = calls_of(alloc, &checked, script)?;
+    run_calls(&checked, &calls, out)
 }

@@ -1,8 +1,13 @@
 //! Sessions: an image in hexadecimal digits, a line `end`, and a script.
 
-ghost use Rattle.std.specs.Prelude.{◌≤◌, vec_len, IfOk};
-ghost use Rattle.geos_cli.specs.declared.script.TheConstants.{MOST_BYTES};
+ghost use Rattle.std.specs.Prelude.{◌≡◌, ◌≢◌, ◌≤◌, ◌<◌, ◌+◌, ℕ, List, length, IfOk, IfErr};
+ghost use Rattle.std.specs.Io.KnownBytes.{Appends, Keeps, Consumes};
+ghost use Rattle.geos_cli.specs.declared.fault.ScriptFault.TheVariants.{Read, Write};
+ghost use Rattle.geos_cli.specs.Counted.{Rose};
+ghost use Rattle.geos_cli.specs.Script.{most_bytes};
+ghost use Rattle.geos_cli.specs.Session.{Reads, RunsSession, EndsReading, EndsSession};
 
+use crate::counted::Counted;
 use crate::fault::ScriptFault;
 use crate::hex::image_and_script;
 use crate::script::{MOST_BYTES, run_script};
@@ -14,8 +19,11 @@ const CHUNK: usize = 4096;
 
 /// All that the reader gives, at most `MOST_BYTES`. Each turn gives a byte at least, or is the last: so the reader is
 /// asked at most `MOST_BYTES` + 1 times.
-fn read_all<R: Read>(alloc: Global, input: &mut R) -> Result<Vec<u8>, ScriptFault>
-    ensures { IfOk result (λ bytes. vec_len bytes ≤ MOST_BYTES) }
+fn read_all<R: Read>(alloc: Global, input: &mut Counted<R>) -> Result<Vec<u8>, ScriptFault>
+    ensures whole { IfOk result (λ bytes. Reads (R.remaining input.old.stream) (R.remaining input.new.stream) bytes.items × (length bytes.items ≤ most_bytes)) }
+    ensures fault { IfErr result (EndsReading (R.remaining input.old.stream) (R.remaining input.new.stream)) }
+    ensures reader_failed { IfErr result (λ fault. fault ≡ Read → Rose input.old.failures input.new.failures) }
+    ensures asked { input.new.asked ≤ input.old.asked + most_bytes + 1 }
 {
     let mut bytes = Vec::new(alloc);
     let mut chunk = [0; CHUNK];
@@ -36,12 +44,23 @@ fn read_all<R: Read>(alloc: Global, input: &mut R) -> Result<Vec<u8>, ScriptFaul
     Err(ScriptFault::TooLong)
 }
 
-/// Reads a session to its end, and runs it.
+/// Reads a session to its end, and runs it: an image in hexadecimal digits, a line `end`, and a script as of
+/// `run_script`.
+///
+/// Of the faults, the first that is due is answered: `TooLong` where there are more than 1,048,576 bytes; `BadHex`; then
+/// those of `run_script`. `Read` comes where the reader failed. The reader is asked at most 1,048,577 times.
 pub fn run_session<R: Read, W: Write>(
     alloc: Global,
-    input: &mut R,
-    out: &mut W,
-) -> Result<(), ScriptFault> {
+    input: &mut Counted<R>,
+    out: &mut Counted<W>,
+) -> Result<(), ScriptFault>
+    ensures ran { IfOk result (λ _. (bytes text : List ℕ) × Reads (R.remaining input.old.stream) (R.remaining input.new.stream) bytes × RunsSession bytes text × Appends (W.contents out.old.stream) (W.contents out.new.stream) text) }
+    ensures due { IfErr result (EndsSession (R.remaining input.old.stream) (R.remaining input.new.stream)) }
+    ensures nothing_written { IfErr result (λ fault. fault ≢ Write → Keeps (W.contents out.old.stream) (W.contents out.new.stream)) }
+    ensures reader_failed { IfErr result (λ fault. fault ≡ Read → Rose input.old.failures input.new.failures) }
+    ensures writer_failed { IfErr result (λ fault. fault ≡ Write → Rose out.old.failures out.new.failures) }
+    ensures asked { input.new.asked ≤ input.old.asked + most_bytes + 1 }
+{
     let bytes = read_all(alloc, input)?;
     let (image, script) = image_and_script(alloc, &bytes)?;
     run_script(alloc, &image, script, out)

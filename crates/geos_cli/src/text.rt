@@ -1,55 +1,92 @@
 //! Lines, words and numbers of a text.
 
-ghost use Rattle.std.specs.Prelude.{◌<◌, length};
+ghost use Rattle.std.specs.Prelude.{◌≡◌, ◌<◌, ℕ, length, IfSome, IfNone, [], ◌∷◌, ◌==◌, not, ◌≤◌};
+ghost use Rattle.std.specs.List.{position_or_len};
+ghost use Rattle.std.specs.Str.Lines.{lines, strip_carriage_return};
+ghost use Rattle.geos_cli.specs.Text.{is_blank, words, without_comment, number_of};
+
+/// Where the byte first stands in the text, or else the text's length.
+fn place_of(byte: u8, text: &[u8]) -> usize
+    ensures place { result ≡ position_or_len (λ b. b == byte) text.now }
+    ensures within { result ≤ length text.now }
+{
+    text.iter()
+        .position(|other| *other == byte)
+        .unwrap_or(text.len())
+}
+
+fn without_carriage_return(line: &[u8]) -> &[u8]
+    ensures { result.now ≡ strip_carriage_return line.now }
+{
+    match line.split_last() {
+        Some((b'\r', front)) => front,
+        _ => line,
+    }
+}
 
 /// The first line, without its end, and the text behind it. A line ends with LF, CR LF or the end of the text.
 pub fn first_line(text: &[u8]) -> (&[u8], &[u8])
-    ensures { 0 < length text.now → length result.1.now < length text.now }
+    ensures line { 0 < length text.now → lines text.now ≡ result.0.now ∷ lines result.1.now }
+    ensures less { 0 < length text.now → length result.1.now < length text.now }
 {
-    match text.iter().position(|byte| *byte == b'\n') {
-        None => (text, &text[text.len()..]),
-        Some(end) => {
-            let line = &text[..end];
-            (line.strip_suffix(b"\r").unwrap_or(line), &text[end + 1..])
-        }
+    let end = place_of(b'\n', text);
+    if end == text.len() {
+        (text, &text[end..])
+    } else {
+        (without_carriage_return(&text[..end]), &text[end + 1..])
     }
-}
-
-/// Whether the byte parts words.
-pub fn is_blank(byte: u8) -> bool {
-    byte == b' ' || byte == b'\t'
 }
 
 /// The line without the comment that a `;` begins.
-pub fn without_comment(line: &[u8]) -> &[u8] {
-    match line.iter().position(|byte| *byte == b';') {
-        None => line,
-        Some(at) => &line[..at],
-    }
+pub fn without_comment(line: &[u8]) -> &[u8]
+    ensures { result.now ≡ without_comment line.now }
+{
+    &line[..place_of(b';', line)]
 }
 
-/// The line without the blanks in front of it.
-fn trim_front(line: &[u8]) -> &[u8] {
-    match line.iter().position(|byte| !is_blank(*byte)) {
-        None => &line[line.len()..],
-        Some(at) => &line[at..],
-    }
+/// Whether the byte parts words.
+pub fn is_blank(byte: u8) -> bool
+    ensures { result ≡ is_blank byte }
+{
+    byte == b' ' || byte == b'\t'
+}
+
+/// How many blanks stand in front of the first word.
+fn blanks_in_front(line: &[u8]) -> usize
+    ensures place { result ≡ position_or_len (λ b. not (is_blank b)) line.now }
+    ensures within { result ≤ length line.now }
+{
+    line.iter()
+        .position(|byte| !is_blank(*byte))
+        .unwrap_or(line.len())
+}
+
+/// Where the first blank stands in the line, or else the line's length.
+fn end_of_word(line: &[u8]) -> usize
+    ensures place { result ≡ position_or_len is_blank line.now }
+    ensures within { result ≤ length line.now }
+{
+    line.iter()
+        .position(|byte| is_blank(*byte))
+        .unwrap_or(line.len())
 }
 
 /// The first word, which blanks may precede, and the line behind it; `None` where there is none.
-pub fn first_word(line: &[u8]) -> Option<(&[u8], &[u8])> {
-    let line = trim_front(line);
+pub fn first_word(line: &[u8]) -> Option<(&[u8], &[u8])>
+    ensures none { IfNone result (words line.now ≡ []) }
+    ensures some { IfSome result (λ r. words line.now ≡ r.0.now ∷ words r.1.now) }
+{
+    let line = &line[blanks_in_front(line)..];
     if line.is_empty() {
         return None;
     }
-    match line.iter().position(|byte| is_blank(*byte)) {
-        None => Some((line, &line[line.len()..])),
-        Some(end) => Some((&line[..end], &line[end..])),
-    }
+    Some(line.split_at(end_of_word(line)))
 }
 
 /// A number in decimal digits, at most 65,535; leading zeros are allowed.
-pub fn number(word: &[u8]) -> Option<u16> {
+pub fn number(word: &[u8]) -> Option<u16>
+    ensures { result ≡ number_of word.now }
+{
     if word.is_empty() {
         return None;
     }

@@ -1,0 +1,9 @@
+pub mod Calls
+pub mod Digits
+pub mod HexLines
+pub mod Lines
+pub mod Numbers
+pub mod Prints
+pub mod Registers
+pub mod Searches
+pub mod Words

@@ -1,0 +1,20 @@
+use Rattle.std.proofs.Common.{◌∙◌, ◌++◌, [], get_or, take, subst}
+use Rattle.std.specs.Io.KnownBytes.{Appends}
+use Rattle.std.proofs.KnownBytes.{Appends-trans}
+use Rattle.std.proofs.lemmas.List.{take_more}
+use Rattle.geos_cli.specs.declared.script.Call.{Call}
+use Rattle.geos_cli.specs.Script.{printed}
+use Rattle.geos_cli.proofs.Prints.{prints-more}
+use Rattle.geos_cli.proofs.script.run_calls.Goals as goal
+
+pub loop-call-preserved : goal.loop-call-preserved
+loop-call-preserved g c =
+    let before = c.loop-call.invariant.0 in
+    let k = c.loop-call.call-index in
+    let calls = c.args.calls.now in
+    let outcome = c.run-outcome.result in
+    let default : Call = record { routine = 0; words = [] } in
+    let more = prints-more c.args.checked.now (take k calls) before.0 (get_or calls k default) outcome before.1 c.run-outcome.ensures.ran in
+    let text = before.0 ++ printed outcome.output.items in
+    let shown = subst (λ ws. Appends (g.W.Write.contents c.loop-call.out.stream) (g.W.Write.contents c.print.new.out.stream) (printed ws)) c.as_slice.ensures.value c.in_ok-print.ensures.ok in
+    ((text, rw (take_more calls k default c.loop-call-test.true) more, Appends-trans _ _ _ _ _ before.2 shown), c.in_ok-print.ensures.kept ∙ c.loop-call.invariant.1)
