@@ -1,3 +1,12 @@
 pub mod Items
 pub mod Pushes
 pub mod Instrs
+pub mod Steps
+pub mod Places
+pub mod NumberLaws
+pub mod InstrLaws
+pub mod RunLaws
+pub mod RowLaws
+pub mod PointLaws
+pub mod RoutineLaws
+pub mod ImageLaws

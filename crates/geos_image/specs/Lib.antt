@@ -4,3 +4,4 @@ pub mod Legal
 pub mod Fields
 pub mod Reading
 pub mod Spelling
+pub mod Ranges

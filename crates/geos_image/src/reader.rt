@@ -1,7 +1,8 @@
 //! The image that bytes spell.
 
-ghost use Rattle.std.specs.Prelude.{◌≡◌};
+ghost use Rattle.std.specs.Prelude.{◌≡◌, IfOk};
 ghost use Rattle.geos_image.specs.Reading.{image_at, Gives};
+ghost use Rattle.geos_image.specs.Spelling.{spelling};
 
 mod numbers;
 mod points;
@@ -15,10 +16,11 @@ use crate::reader::points::{instrs_at, points_at};
 use crate::reader::routines::{header_at, routines_at};
 use std::alloc::Global;
 
-/// The image that the bytes spell. A fault is named by the offset of the first byte of the first field, in file order,
-/// that is cut or breaks its rule.
+/// The image that the bytes spell; no other bytes do. A fault is named by the offset of the first byte of the first
+/// field, in file order, that is cut or breaks its rule.
 #[tactic(auto, unfolding(crate::specs::Reading::image_at))]
 pub fn read(alloc: Global, bytes: &[u8]) -> Result<Image, ReadError>
+    ensures found { IfOk result (λ image. bytes.now ≡ spelling image) }
     ensures exact { Gives (λ image. image) result (image_at bytes.now) }
 {
     let count = header_at(bytes)?;

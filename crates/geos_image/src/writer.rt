@@ -1,8 +1,10 @@
 //! The bytes that spell an image.
 
 ghost use Rattle.std.specs.Prelude.{◌≡◌, ◌++◌, OnOk, IfOk, map};
-ghost use Rattle.std.specs.List.{flat_map};
+ghost use Rattle.std.specs.List.{flat_map, All};
 ghost use Rattle.geos_image.specs.Spelling.{word, long, instr, slot_code, pointer, pairs_byte, row, potential, routine, spelling};
+ghost use Rattle.geos_image.specs.Ranges.{IsWord, PointerFits, RowFits, PotentialFits, RoutineFits, PointFits};
+ghost use Rattle.geos_image.specs.Reading.{image_at};
 
 use crate::image::Image;
 use crate::instr::Instr;
@@ -38,7 +40,8 @@ fn slot_code(slot: SlotState) -> u8
 }
 
 fn put_pointer(out: &mut Vec<u8>, p: &Option<Pointer>) -> Result<(), AllocError>
-    ensures { OnOk result (out.new.items ≡ out.old.items ++ pointer p.now) }
+    ensures value { OnOk result (out.new.items ≡ out.old.items ++ pointer p.now) }
+    ensures fits { OnOk result (PointerFits p.now) }
 {
     match p {
         None => out.extend_from_slice(&[0xff, 0, 0, 0]),
@@ -62,7 +65,8 @@ fn pairs_byte(pairs: &[bool; 6]) -> u8
 }
 
 fn put_bounds(out: &mut Vec<u8>, bounds: &[u16; 8]) -> Result<(), AllocError>
-    ensures { OnOk result (out.new.items ≡ out.old.items ++ flat_map word bounds.now) }
+    ensures value { OnOk result (out.new.items ≡ out.old.items ++ flat_map word bounds.now) }
+    ensures fits { OnOk result (All IsWord bounds.now) }
 {
     for n in bounds {
         put_word(out, *n)?;
@@ -78,7 +82,8 @@ fn put_slots(out: &mut Vec<u8>, slots: &[SlotState; 4]) -> Result<(), AllocError
 }
 
 fn put_pointers(out: &mut Vec<u8>, pointers: &[Option<Pointer>; 4]) -> Result<(), AllocError>
-    ensures { OnOk result (out.new.items ≡ out.old.items ++ flat_map pointer pointers.now) }
+    ensures value { OnOk result (out.new.items ≡ out.old.items ++ flat_map pointer pointers.now) }
+    ensures fits { OnOk result (All PointerFits pointers.now) }
 {
     for p in pointers {
         put_pointer(out, p)?;
@@ -87,7 +92,8 @@ fn put_pointers(out: &mut Vec<u8>, pointers: &[Option<Pointer>; 4]) -> Result<()
 }
 
 fn put_row(out: &mut Vec<u8>, r: &Row) -> Result<(), AllocError>
-    ensures { OnOk result (out.new.items ≡ out.old.items ++ row r.now) }
+    ensures value { OnOk result (out.new.items ≡ out.old.items ++ row r.now) }
+    ensures fits { OnOk result (RowFits r.now) }
 {
     put_bounds(out, &r.bounds)?;
     put_slots(out, &r.slots)?;
@@ -96,7 +102,8 @@ fn put_row(out: &mut Vec<u8>, r: &Row) -> Result<(), AllocError>
 }
 
 fn put_potential(out: &mut Vec<u8>, p: &Potential) -> Result<(), AllocError>
-    ensures { OnOk result (out.new.items ≡ out.old.items ++ potential p.now) }
+    ensures value { OnOk result (out.new.items ≡ out.old.items ++ potential p.now) }
+    ensures fits { OnOk result (PotentialFits p.now) }
 {
     put_long(out, p.constant)?;
     for n in &p.coefficients {
@@ -106,7 +113,8 @@ fn put_potential(out: &mut Vec<u8>, p: &Potential) -> Result<(), AllocError>
 }
 
 fn put_routine(out: &mut Vec<u8>, r: &Routine) -> Result<(), AllocError>
-    ensures { OnOk result (out.new.items ≡ out.old.items ++ routine r.now) }
+    ensures value { OnOk result (out.new.items ≡ out.old.items ++ routine r.now) }
+    ensures fits { OnOk result (RoutineFits r.now) }
 {
     out.extend_from_slice(&r.name)?;
     out.extend_from_slice(&[u8::from(r.public), 0])?;
@@ -117,7 +125,8 @@ fn put_routine(out: &mut Vec<u8>, r: &Routine) -> Result<(), AllocError>
 }
 
 fn put_routines(out: &mut Vec<u8>, routines: &[Routine]) -> Result<(), AllocError>
-    ensures { OnOk result (out.new.items ≡ out.old.items ++ flat_map routine routines.now) }
+    ensures value { OnOk result (out.new.items ≡ out.old.items ++ flat_map routine routines.now) }
+    ensures fits { OnOk result (All RoutineFits routines.now) }
 {
     for r in routines {
         put_routine(out, r)?;
@@ -135,14 +144,16 @@ fn put_instrs(out: &mut Vec<u8>, points: &[(Instr, Row, Potential)]) -> Result<(
 }
 
 fn put_entry(out: &mut Vec<u8>, point: &(Instr, Row, Potential)) -> Result<(), AllocError>
-    ensures { OnOk result (out.new.items ≡ out.old.items ++ (row point.now.1 ++ potential point.now.2)) }
+    ensures value { OnOk result (out.new.items ≡ out.old.items ++ (row point.now.1 ++ potential point.now.2)) }
+    ensures fits { OnOk result (PointFits point.now) }
 {
     put_row(out, &point.1)?;
     put_potential(out, &point.2)
 }
 
 fn put_entries(out: &mut Vec<u8>, points: &[(Instr, Row, Potential)]) -> Result<(), AllocError>
-    ensures { OnOk result (out.new.items ≡ out.old.items ++ flat_map (λ point. row point.1 ++ potential point.2) points.now) }
+    ensures value { OnOk result (out.new.items ≡ out.old.items ++ flat_map (λ point. row point.1 ++ potential point.2) points.now) }
+    ensures fits { OnOk result (All PointFits points.now) }
 {
     for point in points {
         put_entry(out, point)?;
@@ -152,7 +163,8 @@ fn put_entries(out: &mut Vec<u8>, points: &[(Instr, Row, Potential)]) -> Result<
 
 /// The bytes that spell the image: reading them gives the image again.
 pub fn write(alloc: Global, image: &Image) -> Result<Vec<u8>, AllocError>
-    ensures { IfOk result (λ v. v.items ≡ spelling image.now) }
+    ensures value { IfOk result (λ v. v.items ≡ spelling image.now) }
+    ensures only { IfOk result (λ v. image_at v.items ≡ Ok image.now) }
 {
     let mut out = Vec::new(alloc);
     out.extend_from_slice(b"GRT1")?;
