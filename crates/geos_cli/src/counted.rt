@@ -1,9 +1,9 @@
 //! Streams that count their calls.
 
-ghost use Rattle.std.specs.Prelude.{◌≡◌, ◌≤◌, ◌+◌, OnOk, OnErr, MatchBool};
+ghost use Rattle.std.specs.Prelude.{◌≡◌, OnOk, OnErr, MatchBool};
 ghost use Rattle.std.specs.Io.{ReadsAtMost, WritesAtMost};
 ghost use Rattle.std.specs.Io.KnownBytes.{Appends, Keeps, ReadConsumes, WriteAppends};
-ghost use Rattle.geos_cli.specs.Counted.{Rose};
+ghost use Rattle.geos_cli.specs.Counted.{one_more};
 
 use std::io;
 use std::io::{Read, Write};
@@ -33,8 +33,8 @@ impl<S> Counted<S> {
     /// Counts a call.
     fn count(&mut self, failed: bool)
         ensures stream { self.new.stream ≡ self.old.stream }
-        ensures asked { self.new.asked ≤ self.old.asked + 1 }
-        ensures failures { MatchBool failed (Rose self.old.failures self.new.failures) (self.new.failures ≡ self.old.failures) }
+        ensures asked { self.new.asked ≡ one_more self.old.asked }
+        ensures failures { MatchBool failed (self.new.failures ≡ one_more self.old.failures) (self.new.failures ≡ self.old.failures) }
     {
         self.asked = self.asked.saturating_add(1);
         if failed {
@@ -49,8 +49,8 @@ impl<R: Read> Read for Counted<R> {
     fn read(&mut self, into: &mut [u8]) -> io::Result<usize>
         ensures bound { ReadsAtMost result into.new }
         ensures bytes { ReadConsumes (R.remaining self.old.stream) (R.remaining self.new.stream) result into.new }
-        ensures asked { self.new.asked ≤ self.old.asked + 1 }
-        ensures failed { OnErr result (Rose self.old.failures self.new.failures) }
+        ensures asked { self.new.asked ≡ one_more self.old.asked }
+        ensures failed { OnErr result (self.new.failures ≡ one_more self.old.failures) }
         ensures kept { OnOk result (self.new.failures ≡ self.old.failures) }
     {
         let result = self.stream.read(into);
@@ -65,7 +65,8 @@ impl<W: Write> Write for Counted<W> {
     fn write(&mut self, bytes: &[u8]) -> io::Result<usize>
         ensures bound { WritesAtMost result bytes.now }
         ensures bytes { WriteAppends (W.contents self.old.stream) (W.contents self.new.stream) result bytes.now }
-        ensures failed { OnErr result (Rose self.old.failures self.new.failures) }
+        ensures asked { self.new.asked ≡ one_more self.old.asked }
+        ensures failed { OnErr result (self.new.failures ≡ one_more self.old.failures) }
         ensures kept { OnOk result (self.new.failures ≡ self.old.failures) }
     {
         let result = self.stream.write(bytes);
@@ -75,7 +76,8 @@ impl<W: Write> Write for Counted<W> {
 
     fn flush(&mut self) -> io::Result<()>
         ensures bytes { Keeps (W.contents self.old.stream) (W.contents self.new.stream) }
-        ensures failed { OnErr result (Rose self.old.failures self.new.failures) }
+        ensures asked { self.new.asked ≡ one_more self.old.asked }
+        ensures failed { OnErr result (self.new.failures ≡ one_more self.old.failures) }
         ensures kept { OnOk result (self.new.failures ≡ self.old.failures) }
     {
         let result = self.stream.flush();
@@ -85,7 +87,8 @@ impl<W: Write> Write for Counted<W> {
 
     fn write_all(&mut self, bytes: &[u8]) -> io::Result<()>
         ensures bytes { OnOk result (Appends (W.contents self.old.stream) (W.contents self.new.stream) bytes.now) }
-        ensures failed { OnErr result (Rose self.old.failures self.new.failures) }
+        ensures asked { self.new.asked ≡ one_more self.old.asked }
+        ensures failed { OnErr result (self.new.failures ≡ one_more self.old.failures) }
         ensures kept { OnOk result (self.new.failures ≡ self.old.failures) }
     {
         let result = self.stream.write_all(bytes);

@@ -24,6 +24,11 @@ pub enum Rule {
 }
 
 impl fmt::Display for Rule {
+    ghost use Rattle.std.specs.Prelude.{Some};
+    ghost use Rattle.geos_verify.specs.RuleText.{rule_text};
+
+    ghost output = { λ rule. Some (rule_text rule) };
+
     fn fmt<W: fmt::Write>(&self, f: &mut fmt::Formatter<W>) -> fmt::Result {
         let number = *self as u8;
         write!(f, "V{number}")
