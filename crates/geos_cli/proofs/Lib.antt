@@ -1,5 +1,6 @@
 pub mod Calls
 pub mod Digits
+pub mod Examples
 pub mod HexLines
 pub mod Lines
 pub mod Numbers
