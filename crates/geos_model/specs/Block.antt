@@ -1,5 +1,5 @@
 -- What the bytes of a block spell.
-use Rattle.std.specs.Prelude.{ℕ, ◌+◌, ◌-◌, ◌*◌, ◌%◌, ◌==◌, ◌&&◌, nat_lt, nat_le, if◌then◌else◌, List, Option, Some, None, map}
+use Rattle.std.specs.Prelude.{◌≡◌, ℕ, ◌+◌, ◌-◌, ◌*◌, ◌%◌, ◌==◌, ◌&&◌, nat_lt, nat_le, if◌then◌else◌, List, Option, Some, None, map}
 use Rattle.std.specs.List.{range_with_len}
 use Rattle.std.specs.Option.{option_map}
 use Rattle.lmem_raw.specs.Bytes.{part}
@@ -54,3 +54,7 @@ chunks block = map (λ i. chunk_at block (entry block i)) (range_with_len 0 (ent
 -- where the chunk of a handle stands
 abbrev pub place_of : List ℕ → ℕ → Option Place
 place_of block c = if nat_le 16 c && (c % 2 == 0) && nat_lt (entry_of c) (entries block) then place_at block (word block c) else None
+
+-- the chunk of a handle stands at this offset, and has so many bytes
+abbrev pub IsPlaced : List ℕ → ℕ → ℕ → ℕ → Type 0
+IsPlaced block c at len = place_of block c ≡ Some (record { at = at; len = len })

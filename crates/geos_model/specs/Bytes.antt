@@ -1,5 +1,5 @@
 -- Words in a list of bytes.
-use Rattle.std.specs.Prelude.{◌≡◌, ℕ, ◌+◌, ◌*◌, ◌/◌, ◌%◌, ◌<◌, List, [], ◌∷◌, slice_index}
+use Rattle.std.specs.Prelude.{◌≡◌, ℕ, ◌+◌, ◌*◌, ◌/◌, ◌%◌, ◌<◌, ◌≤◌, List, [], ◌∷◌, slice_index}
 use Rattle.lmem_raw.specs.Bytes.{with_part}
 
 -- the word at an offset, little end first
@@ -24,6 +24,6 @@ abbrev pub AreWords : List ℕ → ℕ → List ℕ → Type 0
 AreWords bytes at [] = Unit {0}
 AreWords bytes at (w ∷ ws) = (word bytes at ≡ w) × AreWords bytes (at + 2) ws
 
--- the n bytes of the old list from one offset on stand in the new one from another on
-abbrev pub Moved : List ℕ → List ℕ → ℕ → ℕ → ℕ → Type 0
-Moved old new from to n = (k : ℕ) → k < n → slice_index new (to + k) ≡ slice_index old (from + k)
+-- what stood between two offsets in the old list stands `down` lower and `up` higher in the new one
+abbrev pub IsShifted : List ℕ → List ℕ → ℕ → ℕ → ℕ → ℕ → Type 0
+IsShifted old new down up lo hi = (j k : ℕ) → j + down ≡ k + up → lo ≤ k → k < hi → slice_index new j ≡ slice_index old k

@@ -31,6 +31,16 @@ free_bytes (Free s ∷ rest) = s + free_bytes rest
 abbrev pub IsOffset : ℕ → Type 0
 IsOffset e = (e ≢ 0) × (e ≢ 65535)
 
+-- all these pieces are chunks
+abbrev pub AreUsed : List Piece → Type 0
+AreUsed [] = Unit {0}
+AreUsed (Used i n ∷ rest) = AreUsed rest
+AreUsed (Free s ∷ rest) = ⊥
+
+-- a legal size of a block
+abbrev pub IsBlockSize : ℕ → Type 0
+IsBlockSize size = (64 ≤ size) × (size ≤ 65520) × (size % 16 ≡ 0)
+
 -- the header's fixed words, the block's size, and a table that fits
 pub record IsHeader (block : List ℕ) : Type 0 where
   pub table : word block 2 ≡ 16
