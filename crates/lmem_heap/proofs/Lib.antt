@@ -1,0 +1,3 @@
+pub mod Fresh
+pub mod Marking
+pub mod Walking
