@@ -11,4 +11,5 @@ pub mod Headers
 pub mod Found
 pub mod Places
 pub mod Writes
+pub mod FreePieces
 pub mod Examples
