@@ -42,11 +42,11 @@ chunk-odd b c h = grind (arith, nat_tests)
 pub chunk-past : (b : List ℕ) (c : ℕ) → entries b ≤ (c - 16) / 2 → chunk_of (chunks b) c ≡ None
 chunk-past b c h = let at : get_or (chunks b) ((c - 16) / 2) None ≡ None = chunks-past b ((c - 16) / 2) h in picks_none _ _ at
 
--- an entry that tells of a chunk_of
+-- an entry that tells of a chunk
 pub told : (b : List ℕ) (i : ℕ) → IsHeap b → i < entries b → IsOffset (entry b i) → LiesWithin b (entry b i) (table_end b) (length b)
 told b i heap h t = lies b (table_end b) (word b 12) heap.1.0 (length b) 0 i heap.1.1.tiles (heap.1.1.all i h t)
 
--- the chunk_of behind an entry
+-- the chunk behind an entry
 pub chunk-told : (b : List ℕ) (e : ℕ) → IsOffset e → chunk_at b e ≡ Some (part b e (word b (e - 2) - 2))
 chunk-told b e t = grind (arith, nat_tests, t.0, t.1)
 
@@ -56,7 +56,7 @@ chunk-none b e h = rw h refl
 pub chunk-nothing : (b : List ℕ) (e : ℕ) → e ≡ 65535 → chunk_at b e ≡ Some []
 chunk-nothing b e h = rw h refl
 
--- what a call finds at the entry of a handle that tells of a chunk_of
+-- what a call finds at the entry of a handle that tells of a chunk
 pub told_at : (b : List ℕ) (c e : ℕ) → IsHeap b → 16 ≤ c → c % 2 ≡ 0 → (c - 16) / 2 < entries b → e ≡ word b c → IsOffset e →
     (18 ≤ e) × (4 ≤ word b (e - 2) + 1) × (e + (word b (e - 2) - 2) ≤ length b) × (chunk_of (chunks b) c ≡ Some (part b e (word b (e - 2) - 2)))
 told_at b c e heap low even h is t =

@@ -12,4 +12,6 @@ pub mod Found
 pub mod Places
 pub mod Writes
 pub mod FreePieces
+pub mod Resizes
+pub mod Lowest
 pub mod Examples

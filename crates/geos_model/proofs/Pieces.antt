@@ -11,7 +11,7 @@ tiles-le b at f [] end next s = omega arith
 tiles-le b at f (Used i n ∷ ps) end next s = let rest = tiles-le b (at + cost n) f ps end next s.4 in omega (arith, rest)
 tiles-le b at f (Free m ∷ ps) end next s = let rest = tiles-le b (at + m) (word b (at + 2)) ps end next s.5 in omega (arith, rest)
 
--- a chunk_of whose first byte is at e lies between two places
+-- a chunk whose first byte is at e lies between two places
 pub record LiesWithin (b : List ℕ) (e at end : ℕ) : Type 0 where
   pub n : ℕ
   pub some : 0 < n

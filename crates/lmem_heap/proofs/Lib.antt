@@ -4,3 +4,10 @@ pub mod Walking
 pub mod Movers
 pub mod Closing
 pub mod Opening
+pub mod PackedHeaps
+pub mod Edits
+pub mod Additions
+pub mod Entrywise
+pub mod Tails
+pub mod Making
+pub mod Extending

@@ -16,7 +16,7 @@ aligned b at f (Used j n ∷ ps) end next i z s (inl e) =
 aligned b at f (Used j n ∷ ps) end next i z s (inr h) = let c = cost-fours n in aligned b (at + cost n) f ps end next i (omega (arith, c)) s.4 h
 aligned b at f (Free m ∷ ps) end next i z s h = aligned b (at + m) (word b (at + 2)) ps end next i (omega arith) s.5 h
 
--- two entries do not tell of one chunk_of
+-- two entries do not tell of one chunk
 pub one-entry : (b : List ℕ) (at f : ℕ) (ps : List Piece) (end next i j : ℕ) → Tiles b at f ps end next → HasChunk i ps → HasChunk j ps → entry b i ≡ entry b j → i ≡ j
 one-entry b at f [] end next i j s h g e = absurd h
 one-entry b at f (Used k n ∷ ps) end next i j s (inl h) (inl g) e = h ∙ sym g

@@ -9,7 +9,7 @@ use Rattle.geos_model.specs.Chunks.{cost}
 use Rattle.geos_model.specs.Heap.{Piece, Used, Free, Tiles, HasChunk, free_bytes, IsOffset}
 use Rattle.lmem_heap.specs.Check.{CanTile, Marks}
 
--- an entry that tells of a chunk_of at a marked place
+-- an entry that tells of a chunk at a marked place
 pub marked-start : (b : List ℕ) (at n : ℕ) (starts : List Bool) → Marks b n starts → at % 4 ≡ 0 → get_or starts (at / 4) false ≡ true → (i : ℕ) × (i < n) × IsOffset (entry b i) × (entry b i ≡ at + 2)
 marked-start b at n starts m fours h = let s = m.sound (at / 4) h in (s.0, s.1, s.2, s.3 ∙ omega arith)
 
@@ -30,7 +30,7 @@ clear b at f size ps starts m fours four all s k low high h =
     let l = lies b (at + size) f ps (length b) 0 e.0 s (all e.0 e.1 e.2 (omega (arith, e.3))) in
     absurd (omega (arith, l.from, e.3))
 
--- behind a piece in which no chunk_of starts
+-- behind a piece in which no chunk starts
 covered : (b : List ℕ) (at size : ℕ) (ps : List Piece) (starts : List Bool) → Marks b (entries b) starts → at % 4 ≡ 0 → size % 4 ≡ 0 → Clear starts at size →
     ((i : ℕ) → i < entries b → IsOffset (entry b i) → at + size ≤ entry b i → HasChunk i ps) →
     (i : ℕ) → i < entries b → IsOffset (entry b i) → at ≤ entry b i → (entry b i ≡ at + 2) ⊎ HasChunk i ps
@@ -44,7 +44,7 @@ covered b at size ps starts m fours four free all i l t low =
       ]
     ]
 
--- at a marked place stands the chunk_of of an entry
+-- at a marked place stands the chunk of an entry
 pub used-forward : (b : List ℕ) (at free sum w : ℕ) (starts : List Bool) → Marks b (entries b) starts → at % 4 ≡ 0 → at < length b → w ≡ word b at →
     get_or starts (at / 4) false ≡ true → CanTile b at free sum →
     (3 ≤ w) × (at + (w + 3) / 4 * 4 ≤ length b) × Clear starts at ((w + 3) / 4 * 4) × CanTile b (at + (w + 3) / 4 * 4) free sum
@@ -90,7 +90,7 @@ used-back b at free sum w starts m fours is least h free_of (ps, left) =
       },
     )
 
--- at a place with no mark stands a free chunk_of, the first one from here on
+-- at a place with no mark stands a free chunk, the first one from here on
 pub free-forward : (b : List ℕ) (at free sum w next : ℕ) (starts : List Bool) → Marks b (entries b) starts → at % 4 ≡ 0 → 16 ≤ at → at < length b → w ≡ word b at → next ≡ word b (at + 2) →
     get_or starts (at / 4) false ≡ false → CanTile b at free sum →
     (free ≡ at) × (0 < w) × (w % 4 ≡ 0) × (next ≢ at + w) × (at + w ≤ length b) × Clear starts at w × CanTile b (at + w) next (sum + w)

@@ -11,12 +11,15 @@ ghost use Rattle.geos_model.specs.Block.{chunks, handle_word};
 ghost use Rattle.geos_model.specs.Heap.{IsBlockSize, IsHeap};
 ghost use Rattle.geos_model.specs.Writes.{WritesStayInTheirChunk};
 
+mod chunks;
 mod compact;
 mod error;
 mod grammar;
 mod look;
 mod marks;
 mod runs;
+mod table;
+mod tail;
 mod words;
 
 pub use compact::contract;
