@@ -1,0 +1,24 @@
+-- Laws of `cost`.
+use Rattle.std.proofs.Common.{◌≡◌, ℕ, zero, suc, ◌+◌, ◌*◌, ◌/◌, ◌%◌, ◌<◌, ◌≤◌, refl, arith}
+use Rattle.geos_model.specs.Chunks.{cost}
+
+pub cost_is : (n : ℕ) → 0 < n → cost n ≡ (n + 2 + 3) / 4 * 4
+unfolding cost
+cost_is zero h = absurd (omega arith)
+cost_is (suc n) h = refl
+
+pub cost-least : (n : ℕ) → 0 < n → n + 2 ≤ cost n
+cost-least n h = let e = cost_is n h in omega (arith, e)
+
+pub cost-most : (n : ℕ) → cost n ≤ n + 5
+unfolding cost
+cost-most zero = omega arith
+cost-most (suc n) = omega arith
+
+pub cost-fours : (n : ℕ) → cost n % 4 ≡ 0
+unfolding cost
+cost-fours zero = refl
+cost-fours (suc n) = omega arith
+
+pub cost-four : (n : ℕ) → 0 < n → 4 ≤ cost n
+cost-four n h = let e = cost_is n h in omega (arith, e)

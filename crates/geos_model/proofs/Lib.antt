@@ -1,0 +1,17 @@
+pub mod Parts
+pub mod Words
+pub mod Costs
+pub mod Pieces
+pub mod Entries
+pub mod Nexts
+pub mod Sums
+pub mod Moves
+pub mod Tables
+pub mod Headers
+pub mod Found
+pub mod Places
+pub mod Writes
+pub mod FreePieces
+pub mod Resizes
+pub mod Lowest
+pub mod Examples

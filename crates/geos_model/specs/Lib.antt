@@ -1,0 +1,5 @@
+pub mod Bytes
+pub mod Chunks
+pub mod Block
+pub mod Heap
+pub mod Writes

@@ -1,0 +1,13 @@
+pub mod Fresh
+pub mod Marking
+pub mod Walking
+pub mod Movers
+pub mod Closing
+pub mod Opening
+pub mod PackedHeaps
+pub mod Edits
+pub mod Additions
+pub mod Entrywise
+pub mod Tails
+pub mod Making
+pub mod Extending

@@ -1,0 +1,184 @@
+-- From the moves and writes of the code to the steps that they make.
+use Rattle.std.proofs.Common.{◌≡◌, ℕ, zero, suc, ◌+◌, ◌-◌, ◌*◌, ◌<◌, ◌≤◌, ◌⊎◌, List, length, get_or, replicate, drop, refl, ap, sym, ◌∙◌, subst, inl, inr, arith, length-take, length-drop}
+use Rattle.std.proofs.lemmas.Bool.{cases_lt}
+use Rattle.std.proofs.lemmas.List.{same_lists, get_or-take, get_or-drop, get_or_default, get_or_past, length-replicate}
+use Rattle.lmem_raw.specs.Bytes.{part, with_part}
+use Rattle.lmem_raw.proofs.Parts.{part-same, length-with_part}
+use Rattle.geos_model.specs.Bytes.{word, with_word}
+use Rattle.geos_model.specs.Chunks.{cost, resized}
+use Rattle.geos_model.specs.Block.{entry, entries, table_end, total_free}
+use Rattle.geos_model.proofs.Words.{word-same, word-other, word-part_other, length-with_word, byte-other, word-bytes, part-shifted, get_or-with_part_before, get_or-with_part_behind, get_or-with_part_within}
+use Rattle.geos_model.proofs.Costs.{cost-least}
+use Rattle.geos_model.proofs.Resizes.{length-resized, get_or-resized}
+use Rattle.lmem_heap.specs.Moves.{MovesRun}
+use Rattle.lmem_heap.specs.Packed.{IsPacked, EndsFree, SetsTail, EditsChunk, HasResized, PutsChunk, GrowsTable, chunks_end, chunk_end, chunk_length}
+use Rattle.lmem_heap.specs.Extents.{IsExtent}
+use Rattle.lmem_heap.specs.declared.chunks.Extent.{Extent}
+use Rattle.lmem_heap.proofs.Movers.{moved-low}
+use Rattle.lmem_heap.proofs.PackedHeaps.{bounds}
+
+-- two blocks are the same but for an entry and the chunk that it tells of, up to an offset
+abbrev pub SameBut : List ℕ → List ℕ → ℕ → ℕ → ℕ → Type 0
+SameBut old new i from to = (k : ℕ) → (k < 16 + 2 * i) ⊎ (18 + 2 * i ≤ k) → (k < from) ⊎ (to ≤ k) → get_or new k 0 ≡ get_or old k 0
+
+-- a run moves, bytes of one chunk and its entry are written, and the last bytes become free
+pub edit-made : (b d d1 c : List ℕ) (i to : ℕ) → i < entries b → table_end b + 2 ≤ entry b i → entry b i - 2 ≤ to → entry b i ≤ chunk_end b i → chunk_end b i ≤ chunks_end b →
+    MovesRun b d (chunk_end b i) (chunks_end b) to → length d1 ≡ length d → SameBut d d1 i (entry b i - 2) to → SetsTail d1 c (to + (chunks_end b - chunk_end b i)) → EditsChunk b c i to
+edit-made b d d1 c i to h low ahead wide high m long same t =
+    let end = chunk_end b i in let at = chunks_end b in
+    record {
+      long = t.long ∙ long ∙ m.long;
+      head = (λ k g. t.same k (omega arith) (inl g) ∙ same k (inl (omega arith)) (inl (omega arith)) ∙ m.head k (omega arith));
+      others = (λ j l ne. word-bytes d c (16 + 2 * j) (16 + 2 * j)
+          (t.same (16 + 2 * j) (omega arith) (inr (omega arith)) ∙ same (16 + 2 * j) (elim (cases_lt j i) [ inl a ↦ inl (omega arith) | inr a ↦ inr (omega arith) ]) (inl (omega arith)))
+          (t.same (16 + 2 * j + 1) (omega arith) (inr (omega arith)) ∙ same (16 + 2 * j + 1) (elim (cases_lt j i) [ inl a ↦ inl (omega arith) | inr a ↦ inr (omega arith) ]) (inl (omega arith)))
+          ∙ m.entries j l);
+      before = (λ j k e g r. let s : j ≡ k = omega arith in ap (λ x. get_or c x 0) s ∙ t.same k (omega arith) (inr (omega arith)) ∙ same k (inr (omega arith)) (inl r) ∙ m.before k g (omega arith) (omega arith));
+      moved = (λ j k e g r. t.same j (omega arith) (inr (omega arith)) ∙ same j (inr (omega arith)) (inr (omega arith)) ∙ m.moved j k e g r);
+      total = t.total;
+      ends = t.ends;
+    }
+
+-- where only the entry is written, and as 0
+pub taken-out : (b d d1 c : List ℕ) (i : ℕ) → i < entries b → table_end b + 2 ≤ entry b i → table_end b ≤ length b → entry b i ≤ chunk_end b i → chunk_end b i ≤ chunks_end b →
+    MovesRun b d (chunk_end b i) (chunks_end b) (entry b i - 2) → d1 ≡ with_word d (16 + 2 * i) 0 → SetsTail d1 c (entry b i - 2 + (chunks_end b - chunk_end b i)) →
+    EditsChunk b c i (entry b i - 2) × (entry c i ≡ 0)
+taken-out b d d1 c i h low fits wide high m is t =
+    let long = ap length is ∙ length-with_word d (16 + 2 * i) 0 in let long_d = m.long in (
+      edit-made b d d1 c i (entry b i - 2) h low (omega arith) wide high m long
+          (λ k out far. ap (λ x. get_or x k 0) is ∙ byte-other d (16 + 2 * i) 0 k (elim out [ inl l ↦ inl l | inr g ↦ inr (omega arith) ])) t,
+      word-bytes d1 c (16 + 2 * i) (16 + 2 * i) (t.same (16 + 2 * i) (omega arith) (inr (omega arith))) (t.same (16 + 2 * i + 1) (omega arith) (inr (omega arith)))
+          ∙ ap (λ x. word x (16 + 2 * i)) is ∙ word-same d (16 + 2 * i) 0 (omega arith) (omega (arith, long_d)),
+    )
+
+-- a chunk gets its size word and zeros behind its old bytes
+pub resized_at-is : (d d1 d2 : List ℕ) (begin len n : ℕ) → d1 ≡ with_word d begin (n + 2) → d2 ≡ with_part d1 (begin + 2 + len) (replicate (n - len) 0) → d2 ≡ with_part (with_word d begin (n + 2)) (begin + 2 + len) (replicate (n - len) 0)
+resized_at-is d d1 d2 begin len n e1 e2 = e2 ∙ ap (λ x. with_part x (begin + 2 + len) (replicate (n - len) 0)) e1
+
+zeros-byte : (d : List ℕ) (from len n k : ℕ) → (k < from) ⊎ (from + (n - len) ≤ k) → get_or (with_part d from (replicate (n - len) 0)) k 0 ≡ get_or d k 0
+zeros-byte d from len n k (inl h) = get_or-with_part_before d from (replicate (n - len) 0) k h
+zeros-byte d from len n k (inr h) = let z = length-replicate {A = ℕ} (n - len) 0 in get_or-with_part_behind d from (replicate (n - len) 0) k (omega (arith, z))
+
+zero-at : (n k : ℕ) → get_or (replicate {A = ℕ} n 0) k 0 ≡ 0
+zero-at zero k = refl
+zero-at (suc n) zero = refl
+zero-at (suc n) (suc k) = zero-at n k
+
+pub resize-made : (b d d2 c : List ℕ) (i begin n : ℕ) → i < entries b → table_end b ≤ begin → entry b i ≡ begin + 2 → 0 < n → 0 < chunk_length b i → begin + cost (chunk_length b i) ≡ chunk_end b i → chunk_end b i ≤ chunks_end b →
+    chunks_end b ≤ length b → begin + cost n + (chunks_end b - chunk_end b i) ≤ length b → length b ≤ 65520 →
+    MovesRun b d (chunk_end b i) (chunks_end b) (begin + cost n) → d2 ≡ with_part (with_word d begin (n + 2)) (begin + 2 + chunk_length b i) (replicate (n - chunk_length b i) 0) →
+    SetsTail d2 c (begin + cost n + (chunks_end b - chunk_end b i)) → EditsChunk b c i (begin + cost n) × HasResized b c i n
+resize-made b d d2 c i begin n h low is some some_old whole high fits fits' most m made t =
+    let e = entry b i in let len = chunk_length b i in let end = chunk_end b i in let at = chunks_end b in let to = begin + cost n in
+    let wide = cost-least n some in let wide_old = cost-least len some_old in let long_d = m.long in
+    let back : e - 2 ≡ begin = omega arith in
+    let d1 = with_word d begin (n + 2) in let n1 = length-with_word d begin (n + 2) in
+    let zs : List ℕ = replicate (n - len) 0 in let nz = length-replicate {A = ℕ} (n - len) 0 in
+    let long : length d2 ≡ length d = ap length made ∙ length-with_part d1 (begin + 2 + len) zs ∙ n1 in
+    let byte : (k : ℕ) → (k < begin) ⊎ (begin + 2 ≤ k) → (k < begin + 2 + len) ⊎ (begin + 2 + len + (n - len) ≤ k) → get_or d2 k 0 ≡ get_or d k 0 = (λ k out far.
+    ap (λ x. get_or x k 0) made ∙ zeros-byte d1 (begin + 2 + len) len n k far ∙ byte-other d begin (n + 2) k out) in
+    let entry_byte : (k : ℕ) → k < begin → get_or d2 k 0 ≡ get_or d k 0 = (λ k l. byte k (inl l) (inl (omega arith))) in (
+      edit-made b d d2 c i to h (omega arith) (omega arith) (omega arith) high m long
+          (λ k out far. elim far [
+            | inl l ↦ entry_byte k (omega arith)
+            | inr g ↦ byte k (inr (omega arith)) (elim (cases_lt k (begin + 2 + len)) [ inl l ↦ inl l | inr r ↦ inr (omega arith) ])
+          ]) t,
+      record {
+        place = word-bytes d c (16 + 2 * i) (16 + 2 * i) (t.same (16 + 2 * i) (omega arith) (inr (omega arith)) ∙ entry_byte (16 + 2 * i) (omega arith)) (t.same (16 + 2 * i + 1) (omega arith) (inr (omega arith)) ∙ entry_byte (16 + 2 * i + 1) (omega arith))
+            ∙ m.entries i h ∙ moved-low end at to e (omega arith);
+        size = ap (word c) back ∙ word-bytes d2 c begin begin (t.same begin (omega arith) (inr (omega arith))) (t.same (begin + 1) (omega arith) (inr (omega arith)))
+            ∙ ap (λ x. word x begin) made ∙ word-part_other d1 (begin + 2 + len) zs begin (inl (omega arith)) ∙ word-same d begin (n + 2) (omega arith) (omega (arith, long_d));
+        bytes = (let lc = t.long in let np : length (part b e len) ≡ len = omega (arith, length-take len (drop e b), length-drop e b) in
+            let nc : length (part c e n) ≡ n = omega (arith, length-take n (drop e c), length-drop e c, lc, long, long_d) in
+            let nr = length-resized (part b e len) n in
+            same_lists (part c e n) (resized (part b e len) n) (nc ∙ sym nr) (λ q x l.
+            let small : q < n = omega arith in
+            let left : get_or (part c e n) q 0 ≡ get_or d2 (e + q) 0 = get_or-take n (drop e c) q 0 small ∙ get_or-drop e c q 0 ∙ t.same (e + q) (omega arith) (inr (omega arith)) in
+            let right : get_or (resized (part b e len) n) q 0 ≡ get_or (part b e len) q 0 = get_or-resized (part b e len) n q small in
+            get_or_default (part c e n) q x 0 l ∙ left ∙ (elim (cases_lt q len) [
+              | inl old ↦ byte (e + q) (inr (omega arith)) (inl (omega arith)) ∙ m.before (e + q) (omega arith) (omega arith) (omega arith) ∙ sym (right ∙ get_or-take len (drop e b) q 0 old ∙ get_or-drop e b q 0)
+              | inr new ↦ ap (λ x. get_or x (e + q) 0) made ∙ get_or-with_part_within d1 (begin + 2 + len) zs (e + q) (q - len) (omega arith) (omega (arith, nz)) (omega (arith, n1, long_d)) ∙ zero-at (n - len) (q - len)
+                  ∙ sym (right ∙ get_or_past (part b e len) q 0 (omega (arith, np)))
+            ])
+            ∙ sym (get_or_default (resized (part b e len) n) q x 0 (omega (arith, nr)))));
+      },
+    )
+
+-- a chunk of zeros behind the others
+pub put-made : (b b1 b2 b3 c : List ℕ) (i n at : ℕ) → table_end b ≤ at → i < entries b → 0 < n → at + cost n ≤ length b → length b ≤ 65520 → at ≡ chunks_end b →
+    b1 ≡ with_word b (16 + 2 * i) (at + 2) → b2 ≡ with_word b1 at (n + 2) → b3 ≡ with_part b2 (at + 2) (replicate n 0) → SetsTail b3 c (at + cost n) → PutsChunk b c i n
+put-made b b1 b2 b3 c i n at low h some fits most is e1 e2 e3 t =
+    let wide = cost-least n some in let zs : List ℕ = replicate n 0 in let nz = length-replicate {A = ℕ} n 0 in
+    let n1 : length b1 ≡ length b = ap length e1 ∙ length-with_word b (16 + 2 * i) (at + 2) in let n2 : length b2 ≡ length b1 = ap length e2 ∙ length-with_word b1 at (n + 2) in let n3 : length b3 ≡ length b2 = ap length e3 ∙ length-with_part b2 (at + 2) zs in
+    let byte : (k : ℕ) → k < at → (k < 16 + 2 * i) ⊎ (18 + 2 * i ≤ k) → get_or b3 k 0 ≡ get_or b k 0 = (λ k l out. ap (λ x. get_or x k 0) e3 ∙ get_or-with_part_before b2 (at + 2) zs k (omega arith) ∙ ap (λ x. get_or x k 0) e2 ∙ byte-other b1 at (n + 2) k (inl l)
+    ∙ ap (λ x. get_or x k 0) e1 ∙ byte-other b (16 + 2 * i) (at + 2) k (elim out [ inl a ↦ inl a | inr a ↦ inr (omega arith) ])) in
+    let words : (j : ℕ) → 16 ≤ j → j + 2 ≤ at + cost n → word c j ≡ word b3 j = (λ j g r. word-bytes b3 c j j (t.same j (omega arith) (inr g)) (t.same (j + 1) (omega arith) (inr (omega arith)))) in
+    let size : word c at ≡ n + 2 = words at (omega arith) (omega arith) ∙ ap (λ x. word x at) e3 ∙ word-part_other b2 (at + 2) zs at (inl (omega arith)) ∙ ap (λ x. word x at) e2 ∙ word-same b1 at (n + 2) (omega arith) (omega (arith, n1)) in
+    let zeros : part c (at + 2) n ≡ replicate n 0 = part-shifted b3 c 0 0 (at + 2) (at + 2 + n) (at + 2) (at + 2) n (λ j k e g r. let s : j ≡ k = omega arith in ap (λ x. get_or c x 0) s ∙ t.same k (omega arith) (inr (omega arith)))
+    refl (omega arith) (omega arith) (omega (arith, n1, n2, n3)) (let l = t.long in omega (arith, n1, n2, n3, l)) ∙ ap (λ x. part x (at + 2) n) e3 ∙ ap (λ x. part (with_part b2 (at + 2) zs) (at + 2) x) (sym nz) ∙ part-same b2 (at + 2) zs (omega (arith, n1, n2, nz)) in
+    record {
+      long = t.long ∙ n3 ∙ n2 ∙ n1;
+      head = (λ k g. t.same k (omega arith) (inl g) ∙ byte k (omega arith) (inl (omega arith)));
+      others = (λ j l ne. words (16 + 2 * j) (omega arith) (omega arith) ∙ (elim (cases_lt j i) [
+        | inl a ↦ word-bytes b b3 (16 + 2 * j) (16 + 2 * j) (byte (16 + 2 * j) (omega arith) (inl (omega arith))) (byte (16 + 2 * j + 1) (omega arith) (inl (omega arith)))
+        | inr a ↦ word-bytes b b3 (16 + 2 * j) (16 + 2 * j) (byte (16 + 2 * j) (omega arith) (inr (omega arith))) (byte (16 + 2 * j + 1) (omega arith) (inr (omega arith)))
+      ]));
+      here = words (16 + 2 * i) (omega arith) (omega arith) ∙ ap (λ x. word x (16 + 2 * i)) e3 ∙ word-part_other b2 (at + 2) zs (16 + 2 * i) (inl (omega arith)) ∙ ap (λ x. word x (16 + 2 * i)) e2 ∙ word-other b1 at (n + 2) (16 + 2 * i) (inl (omega arith))
+          ∙ ap (λ x. word x (16 + 2 * i)) e1 ∙ word-same b (16 + 2 * i) (at + 2) (omega arith) (omega arith) ∙ ap (λ x. x + 2) is;
+      before = (λ j k e g r. let s : j ≡ k = omega arith in ap (λ x. get_or c x 0) s ∙ t.same k (omega arith) (inr (omega arith)) ∙ byte k (omega arith) (inr (omega arith)));
+      size = ap (word c) (sym is) ∙ size;
+      zeros = ap (λ x. part c (x + 2) n) (sym is) ∙ zeros;
+      total = ap (λ x. x + cost n + total_free c) (sym is) ∙ t.total;
+      ends = (let E : ℕ → Type 0 = λ x. EndsFree c (x + cost n) in subst E is t.ends);
+    }
+
+-- two more entries
+pub grow-made : (b d d1 d2 d3 c : List ℕ) (n end at : ℕ) → n ≡ entries b → end ≡ table_end b → at ≡ chunks_end b → end ≤ at → at + 4 ≤ length b → length b ≤ 65520 → MovesRun b d end at (end + 4) →
+    d1 ≡ with_word d end 0 → d2 ≡ with_word d1 (end + 2) 0 → d3 ≡ with_word d2 10 (n + 2) → SetsTail d3 c (at + 4) → GrowsTable b c
+grow-made b d d1 d2 d3 c n end at n_is end_is at_is low fits most m e1 e2 e3 t =
+    let n0 = m.long in let n1 : length d1 ≡ length d = ap length e1 ∙ length-with_word d end 0 in let n2 : length d2 ≡ length d1 = ap length e2 ∙ length-with_word d1 (end + 2) 0 in let n3 : length d3 ≡ length d2 = ap length e3 ∙ length-with_word d2 10 (n + 2) in
+    let byte : (k : ℕ) → (k < 10) ⊎ (((12 ≤ k) × (k < end)) ⊎ (end + 4 ≤ k)) → get_or d3 k 0 ≡ get_or d k 0 = (λ k out. ap (λ x. get_or x k 0) e3 ∙ byte-other d2 10 (n + 2) k (elim out [ inl a ↦ inl a | inr a ↦ inr (elim a [ inl z ↦ omega arith | inr z ↦ omega arith ]) ])
+    ∙ ap (λ x. get_or x k 0) e2 ∙ byte-other d1 (end + 2) 0 k (elim out [ inl a ↦ inl (omega arith) | inr a ↦ elim a [ inl z ↦ inl (omega arith) | inr z ↦ inr (omega arith) ] ])
+    ∙ ap (λ x. get_or x k 0) e1 ∙ byte-other d end 0 k (elim out [ inl a ↦ inl (omega arith) | inr a ↦ elim a [ inl z ↦ inl (omega arith) | inr z ↦ inr (omega arith) ] ])) in
+    let words : (j : ℕ) → 16 ≤ j → j + 2 ≤ at + 4 → word c j ≡ word d3 j = (λ j g r. word-bytes d3 c j j (t.same j (omega arith) (inr g)) (t.same (j + 1) (omega arith) (inr (omega arith)))) in
+    let M1 : ℕ → Type 0 = λ x. MovesRun b d x at (x + 4) in let M2 : ℕ → Type 0 = λ y. MovesRun b d (table_end b) y (table_end b + 4) in
+    let m' : MovesRun b d (table_end b) (chunks_end b) (table_end b + 4) = subst M2 at_is (subst M1 end_is m) in
+    record {
+      long = t.long ∙ n3 ∙ n2 ∙ n1 ∙ n0;
+      head = (λ k g. t.same k (omega arith) (inl (omega arith)) ∙ byte k (inl g) ∙ m.head k (omega arith));
+      count = word-bytes d3 c 10 10 (t.same 10 (omega arith) (inl (omega arith))) (t.same 11 (omega arith) (inl (omega arith))) ∙ ap (λ x. word x 10) e3 ∙ word-same d2 10 (n + 2) (omega arith) (omega (arith, n0, n1, n2)) ∙ ap (λ x. x + 2) n_is;
+      places = (λ i g. words (16 + 2 * i) (omega arith) (omega arith) ∙ word-bytes d d3 (16 + 2 * i) (16 + 2 * i) (byte (16 + 2 * i) (inr (inl (omega arith, omega arith)))) (byte (16 + 2 * i + 1) (inr (inl (omega arith, omega arith)))) ∙ m'.entries i g);
+      fresh = (
+        ap (word c) (sym end_is) ∙ words end (omega arith) (omega arith) ∙ ap (λ x. word x end) e3 ∙ word-other d2 10 (n + 2) end (inr (omega arith)) ∙ ap (λ x. word x end) e2 ∙ word-other d1 (end + 2) 0 end (inl (omega arith))
+            ∙ ap (λ x. word x end) e1 ∙ word-same d end 0 (omega arith) (omega (arith, n0)),
+        ap (λ x. word c (x + 2)) (sym end_is) ∙ words (end + 2) (omega arith) (omega arith) ∙ ap (λ x. word x (end + 2)) e3 ∙ word-other d2 10 (n + 2) (end + 2) (inr (omega arith)) ∙ ap (λ x. word x (end + 2)) e2 ∙ word-same d1 (end + 2) 0 (omega arith) (omega (arith, n0, n1)),
+      );
+      moved = (λ j k e g r. t.same j (omega arith) (inr (omega arith)) ∙ byte j (inr (inr (omega arith))) ∙ m'.moved j k e g r);
+      total = ap (λ x. x + 4 + total_free c) (sym at_is) ∙ t.total;
+      ends = (let E : ℕ → Type 0 = λ x. EndsFree c (x + 4) in subst E at_is t.ends);
+    }
+
+-- as the code names what it moves
+pub took-out : (b d d1 c : List ℕ) (i at : ℕ) (x : Extent) → IsPacked b → i < entries b → IsExtent b i x → at ≡ chunks_end b →
+    MovesRun b d x.end at x.begin → d1 ≡ with_word d (16 + 2 * i) 0 → SetsTail d1 c (x.begin + (at - x.end)) → EditsChunk b c i (entry b i - 2) × (entry c i ≡ 0)
+took-out b d d1 c i at x p h k at_is m is t =
+    let bs = bounds b p in let low = k.low in let high = k.high in let wide = k.wide in let e = k.entry in let end_is = k.end in let room = bs.room in
+    let begin_is : x.begin ≡ entry b i - 2 = omega arith in
+    let M1 : ℕ → Type 0 = λ y. MovesRun b d y at x.begin in let M2 : ℕ → Type 0 = λ y. MovesRun b d (chunk_end b i) y x.begin in let M3 : ℕ → Type 0 = λ y. MovesRun b d (chunk_end b i) (chunks_end b) y in
+    let T1 : ℕ → Type 0 = λ y. SetsTail d1 c (x.begin + (at - y)) in let T2 : ℕ → Type 0 = λ y. SetsTail d1 c (x.begin + (y - chunk_end b i)) in let T3 : ℕ → Type 0 = λ y. SetsTail d1 c (y + (chunks_end b - chunk_end b i)) in
+    taken-out b d d1 c i h (omega arith) (omega (arith, room, high)) (omega arith) (omega arith) (subst M3 begin_is (subst M2 at_is (subst M1 end_is m))) is (subst T3 begin_is (subst T2 at_is (subst T1 end_is t)))
+
+pub resized-in-place : (b d d1 d2 c : List ℕ) (i at n : ℕ) (x : Extent) → IsPacked b → i < entries b → IsExtent b i x → at ≡ chunks_end b → 0 < n → cost n ≤ total_free b + cost (chunk_length b i) →
+    MovesRun b d x.end at (x.begin + cost n) → d1 ≡ with_word d x.begin (n + 2) → d2 ≡ with_part d1 (x.begin + 2 + x.len) (replicate (n - x.len) 0) → SetsTail d2 c (x.begin + cost n + (at - x.end)) →
+    EditsChunk b c i (entry b i - 2 + cost n) × HasResized b c i n
+resized-in-place b d d1 d2 c i at n x p h k at_is some fits m is1 is2 t =
+    let bs = bounds b p in let low = k.low in let high = k.high in let wide = k.wide in let e = k.entry in let end_is = k.end in let len_is = k.len in let room = bs.room in
+    let begin_is : x.begin ≡ entry b i - 2 = omega arith in
+    let same_cost : cost x.len ≡ cost (chunk_length b i) = ap cost len_is in
+    let M1 : ℕ → Type 0 = λ y. MovesRun b d y at (x.begin + cost n) in let M2 : ℕ → Type 0 = λ y. MovesRun b d (chunk_end b i) y (x.begin + cost n) in
+    let T1 : ℕ → Type 0 = λ y. SetsTail d2 c (x.begin + cost n + (at - y)) in let T2 : ℕ → Type 0 = λ y. SetsTail d2 c (x.begin + cost n + (y - chunk_end b i)) in
+    let W : ℕ → Type 0 = λ y. d2 ≡ with_part (with_word d x.begin (n + 2)) (x.begin + 2 + y) (replicate (n - y) 0) in
+    let r = resize-made b d d2 c i x.begin n h low e some (omega arith) (omega arith) (omega arith) (omega arith) (omega arith) bs.most (subst M2 at_is (subst M1 end_is m))
+    (subst W len_is (resized_at-is d d1 d2 x.begin x.len n is1 is2)) (subst T2 at_is (subst T1 end_is t)) in
+    let E : ℕ → Type 0 = λ y. EditsChunk b c i (y + cost n) in
+    (subst E begin_is r.0, r.1)

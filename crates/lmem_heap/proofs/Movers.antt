@@ -1,0 +1,71 @@
+-- Entries of the table that move, one after the other; and the bytes of their chunks.
+use Rattle.std.proofs.Common.{◌≡◌, ◌≢◌, ℕ, ◌+◌, ◌-◌, ◌*◌, ◌<◌, ◌≤◌, List, length, get_or, drop, refl, ap, sym, ◌∙◌, inl, inr, arith, length-take, length-drop}
+use Rattle.std.proofs.lemmas.Bool.{cases_eq, cases_lt}
+use Rattle.std.proofs.lemmas.Bool.Decides.{nat_tests}
+use Rattle.std.proofs.lemmas.List.{get_or-take, get_or-drop}
+use Rattle.lmem_raw.specs.Bytes.{part, with_part}
+use Rattle.lmem_raw.proofs.Parts.{length-with_part}
+use Rattle.geos_model.specs.Bytes.{word, with_word}
+use Rattle.geos_model.specs.Block.{entry, entries, table_end}
+use Rattle.geos_model.proofs.Words.{word-same, word-other, length-with_word, byte-other, word-bytes, get_or-with_part_before, get_or-with_part_behind, get_or-with_part_within}
+use Rattle.lmem_heap.specs.Moves.{entry_moved, MovesEntries, MovesRun}
+
+pub moved-in : (from end to e : ℕ) → from < e → e < end → entry_moved from end to e ≡ e - from + to
+moved-in from end to e h l = grind (arith, nat_tests)
+
+pub moved-low : (from end to e : ℕ) → e ≤ from → entry_moved from end to e ≡ e
+moved-low from end to e h = grind (arith, nat_tests)
+
+pub moved-high : (from end to e : ℕ) → end ≤ e → entry_moved from end to e ≡ e
+moved-high from end to e h = grind (arith, nat_tests)
+
+pub entries-none : (old : List ℕ) (from end to : ℕ) → MovesEntries old old from end to 0
+entries-none old from end to = record { moved = (λ j h. absurd (omega arith)); rest = (λ j h l. refl); head = (λ k h. refl); behind = (λ k h. refl); long = refl }
+
+pub entries-more : (old b : List ℕ) (from end to i w : ℕ) → MovesEntries old b from end to i → i < entries old → table_end old ≤ length old →
+    w ≡ entry_moved from end to (word b (16 + 2 * i)) → w < 65536 → MovesEntries old (with_word b (16 + 2 * i) w) from end to (i + 1)
+entries-more old b from end to i w l h fits is small =
+    let long = l.long in
+    let here : entry (with_word b (16 + 2 * i) w) i ≡ entry_moved from end to (entry old i) = word-same b (16 + 2 * i) w small (omega (arith, long)) ∙ is ∙ ap (entry_moved from end to) (l.rest i (omega arith) h) in
+    let other : (j : ℕ) → j ≢ i → entry (with_word b (16 + 2 * i) w) j ≡ entry b j = (λ j ne. elim (cases_lt j i) [
+      | inl a ↦ word-other b (16 + 2 * i) w (16 + 2 * j) (inl (omega arith))
+      | inr a ↦ word-other b (16 + 2 * i) w (16 + 2 * j) (inr (omega arith))
+    ]) in
+    record {
+      moved = (λ j g. elim (cases_eq j i) [
+        | inl e ↦ ap (λ x. entry (with_word b (16 + 2 * i) w) x) e ∙ here ∙ ap (λ x. entry_moved from end to (entry old x)) (sym e)
+        | inr ne ↦ other j ne ∙ l.moved j (omega arith)
+      ]);
+      rest = (λ j g r. other j (λ e. absurd (omega arith)) ∙ l.rest j (omega arith) r);
+      head = (λ k g. byte-other b (16 + 2 * i) w k (inl (omega arith)) ∙ l.head k g);
+      behind = (λ k g. byte-other b (16 + 2 * i) w k (inr (omega arith)) ∙ l.behind k g);
+      long = length-with_word b (16 + 2 * i) w ∙ long;
+    }
+
+-- the bytes first, and then the entries
+pub run-moved : (b c d : List ℕ) (from end to : ℕ) → table_end b ≤ from → table_end b ≤ to → from ≤ end → end ≤ length b → to + (end - from) ≤ length b →
+    c ≡ with_part b to (part b from (end - from)) → MovesEntries c d from end to (entries c) → MovesRun b d from end to
+run-moved b c d from end to low low' ordered fits fits' is m =
+    let ws = part b from (end - from) in
+    let n : length ws ≡ end - from = omega (arith, length-take (end - from) (drop from b), length-drop from b) in
+    let byte : (k : ℕ) → get_or c k 0 ≡ get_or (with_part b to ws) k 0 = (λ k. ap (λ x. get_or x k 0) is) in
+    let low_byte : (k : ℕ) → k < to → get_or c k 0 ≡ get_or b k 0 = (λ k h. byte k ∙ get_or-with_part_before b to ws k h) in
+    let count : entries c ≡ entries b = word-bytes b c 10 10 (low_byte 10 (omega arith)) (low_byte 11 (omega arith)) in
+    record {
+      long = m.long ∙ ap length is ∙ length-with_part b to ws;
+      head = (λ k h. m.head k h ∙ low_byte k (omega arith));
+      entries = (λ i h. m.moved i (omega (arith, count)) ∙ ap (entry_moved from end to) (word-bytes b c (16 + 2 * i) (16 + 2 * i) (low_byte (16 + 2 * i) (omega arith)) (low_byte (16 + 2 * i + 1) (omega arith))));
+      moved = (λ j k e g r. let place : from + (k - from) ≡ k = omega arith in
+          m.behind j (omega (arith, count)) ∙ byte j ∙ get_or-with_part_within b to ws j (k - from) (omega arith) (omega (arith, n)) (omega arith)
+          ∙ get_or-take (end - from) (drop from b) (k - from) 0 (omega arith) ∙ get_or-drop from b (k - from) 0 ∙ ap (λ x. get_or b x 0) place);
+      before = (λ k g l r. m.behind k (omega (arith, count)) ∙ low_byte k r);
+      behind = (λ k g l. m.behind k (omega (arith, count)) ∙ byte k ∙ get_or-with_part_behind b to ws k (omega (arith, n)));
+    }
+
+-- the table stays in the block where bytes behind it moved
+pub run-table : (b c : List ℕ) (from end to : ℕ) → table_end b ≤ from → table_end b ≤ to → from ≤ end → end ≤ length b → c ≡ with_part b to (part b from (end - from)) → table_end c ≤ length c
+run-table b c from end to low low' ordered fits is =
+    let ws = part b from (end - from) in
+    let low_byte : (k : ℕ) → k < to → get_or c k 0 ≡ get_or b k 0 = (λ k h. ap (λ x. get_or x k 0) is ∙ get_or-with_part_before b to ws k h) in
+    let count : entries c ≡ entries b = word-bytes b c 10 10 (low_byte 10 (omega arith)) (low_byte 11 (omega arith)) in
+    let long : length c ≡ length b = ap length is ∙ length-with_part b to ws in omega (arith, count, long)

@@ -1,0 +1,75 @@
+-- The first gap of a heap, and what is behind it.
+use Rattle.std.proofs.Common.{◌≡◌, ◌≢◌, ℕ, ◌+◌, ◌<◌, ◌≤◌, List, [], ◌∷◌, length, refl, ap, sym, ◌∙◌, subst, inl, inr, arith}
+use Rattle.geos_model.specs.Bytes.{word}
+use Rattle.geos_model.specs.Block.{table_end, first_free}
+use Rattle.geos_model.specs.Heap.{Piece, Free, Tiles, HasChunk, free_bytes, IsHeap}
+use Rattle.geos_model.proofs.Pieces.{tiles-le, has-split, free_bytes-append}
+use Rattle.geos_model.proofs.FreePieces.{first-piece, none-free, used-free, used-any}
+use Rattle.lmem_heap.specs.declared.compact.Gap.{Gap}
+use Rattle.lmem_heap.specs.Gaps.{HasGap}
+
+abbrev pub gap_of : ℕ → ℕ → ℕ → ℕ → ℕ → Gap
+gap_of first size end more after = record { first = first; size = size; end = end; more = more; after = after }
+
+pub gap-last : (b : List ℕ) (f g : ℕ) → IsHeap b → f ≡ first_free b → f ≢ 0 → g ≡ word b (f + 2) → g ≡ 0 → HasGap b (gap_of f (word b f) (length b) 0 0)
+gap-last b f g heap is ne next none =
+    let fill = heap.1.1 in
+    let W : ℕ → Type 0 = λ x. Tiles b (table_end b) x heap.1.0 (length b) 0 in
+    let r = first-piece b (table_end b) f heap.1.0 (length b) (subst W (sym is) fill.tiles) ne in
+    let rest : Tiles b (f + r.s) 0 r.rest (length b) 0 = (let P : ℕ → Type 0 = λ x. Tiles b (f + r.s) x r.rest (length b) 0 in subst P (sym next ∙ none) r.here.5) in
+    let low = tiles-le b (table_end b) f r.pre f f r.before in
+    let high = tiles-le b (f + r.s) 0 r.rest (length b) 0 rest in
+    let size : r.s ≡ word b f = sym r.here.3 in
+    let mid_used = none-free b (f + r.s) r.rest (length b) (omega arith) rest in
+    let got : HasGap b (gap_of f r.s (length b) 0 0) = record {
+      pre = r.pre;
+      mid = r.rest;
+      post = [];
+      pre_used = r.used;
+      mid_used = mid_used;
+      before = r.before;
+      size = (r.here.0, r.here.1, refl);
+      middle = rest;
+      behind = (omega arith, refl);
+      apart = (λ e. absurd (omega arith));
+      all = (λ i h t. let H : List Piece → Type 0 = λ ps. HasChunk i ps in elim (has-split i r.pre (Free r.s ∷ r.rest) (subst H r.is (fill.all i h t))) [ inl x ↦ inl x | inr x ↦ inr (inl x) ]);
+      total = (let e = ap free_bytes r.is ∙ free_bytes-append r.pre (Free r.s ∷ r.rest) in let u = used-free r.pre r.used in let v = used-free r.rest mid_used in let w = fill.total in omega (arith, e, u, v, w));
+      places = (omega arith, high, omega arith);
+    } in
+    let Q : ℕ → Type 0 = λ x. HasGap b (gap_of f x (length b) 0 0) in subst Q size got
+
+pub gap-inner : (b : List ℕ) (f g : ℕ) → IsHeap b → f ≡ first_free b → f ≢ 0 → g ≡ word b (f + 2) → g ≢ 0 → HasGap b (gap_of f (word b f) g (word b g) (word b (g + 2))) × (f + word b f < g) × (g + 4 ≤ length b)
+gap-inner b f g heap is ne next some =
+    let fill = heap.1.1 in
+    let W : ℕ → Type 0 = λ x. Tiles b (table_end b) x heap.1.0 (length b) 0 in
+    let r = first-piece b (table_end b) f heap.1.0 (length b) (subst W (sym is) fill.tiles) ne in
+    let P : ℕ → Type 0 = λ x. Tiles b (f + r.s) x r.rest (length b) 0 in
+    let q = first-piece b (f + r.s) g r.rest (length b) (subst P (sym next) r.here.5) some in
+    let low = tiles-le b (table_end b) f r.pre f f r.before in
+    let mid = tiles-le b (f + r.s) g q.pre g g q.before in
+    let high = tiles-le b (g + q.s) (word b (g + 2)) q.rest (length b) 0 q.here.5 in
+    let size : r.s ≡ word b f = sym r.here.3 in
+    let more : q.s ≡ word b g = sym q.here.3 in
+    let got : HasGap b (gap_of f r.s g q.s (word b (g + 2))) = record {
+      pre = r.pre;
+      mid = q.pre;
+      post = q.rest;
+      pre_used = r.used;
+      mid_used = q.used;
+      before = r.before;
+      size = (r.here.0, r.here.1, q.here.1);
+      middle = used-any b (f + r.s) g 0 q.pre g g q.used q.before;
+      behind = q.here.5;
+      apart = q.here.4;
+      all = (λ i h t. let H : List Piece → Type 0 = λ ps. HasChunk i ps in elim (has-split i r.pre (Free r.s ∷ r.rest) (subst H r.is (fill.all i h t))) [
+        | inl x ↦ inl x
+        | inr x ↦ inr (has-split i q.pre (Free q.s ∷ q.rest) (subst H q.is x))
+      ]);
+      total = (let e = ap free_bytes r.is ∙ free_bytes-append r.pre (Free r.s ∷ r.rest) in let d = ap free_bytes q.is ∙ free_bytes-append q.pre (Free q.s ∷ q.rest) in
+          let u = used-free r.pre r.used in let v = used-free q.pre q.used in let w = fill.total in omega (arith, e, d, u, v, w));
+      places = (omega arith, mid, high);
+    } in
+    let Q1 : ℕ → Type 0 = λ x. HasGap b (gap_of f x g q.s (word b (g + 2))) in let Q2 : ℕ → Type 0 = λ y. HasGap b (gap_of f (word b f) g y (word b (g + 2))) in
+    let apart : g ≢ f + r.s = (λ e. r.here.4 (sym next ∙ e)) in
+    let four : 4 ≤ q.s = omega (arith, q.here.0, q.here.1) in
+    (subst Q2 more (subst Q1 size got), omega (arith, size), omega (arith, high, four))

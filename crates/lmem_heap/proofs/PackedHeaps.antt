@@ -1,0 +1,98 @@
+-- Packed heaps are the compact ones.
+use Rattle.std.proofs.Common.{◌≡◌, ◌≢◌, ℕ, ◌+◌, ◌%◌, ◌≤◌, List, [], ◌∷◌, ◌++◌, length, refl, ap, sym, ◌∙◌, subst, inl, inr, arith}
+use Rattle.std.proofs.lemmas.Bool.{cases_eq}
+use Rattle.geos_model.specs.Bytes.{word}
+use Rattle.geos_model.specs.Block.{table_end, first_free, total_free}
+use Rattle.geos_model.specs.Heap.{Piece, Free, Tiles, HasChunk, free_bytes, IsHeap, IsCompact}
+use Rattle.geos_model.proofs.Pieces.{tiles-le, tiles-join, has-split, has-left, free_bytes-append}
+use Rattle.geos_model.proofs.FreePieces.{first-piece, none-free, used-free, used-any, nothing-left}
+use Rattle.lmem_heap.specs.Packed.{IsPacked, chunks_end}
+
+packed-full : (b : List ℕ) → IsHeap b → first_free b ≡ 0 → IsPacked b
+packed-full b heap none =
+    let fill = heap.1.1 in
+    let P : ℕ → Type 0 = λ x. Tiles b (table_end b) x heap.1.0 (length b) 0 in
+    let st : Tiles b (table_end b) 0 heap.1.0 (length b) 0 = subst P none fill.tiles in
+    let used = none-free b (table_end b) heap.1.0 (length b) (omega arith) st in
+    let z : total_free b ≡ 0 = fill.total ∙ used-free heap.1.0 used in
+    record {
+      header = heap.0;
+      pre = heap.1.0;
+      at = length b;
+      used = used;
+      tiles = st;
+      room = omega (arith, z);
+      fours = ap (λ x. x % 4) z;
+      all = fill.all;
+      ends = record { none = (λ e. none); some = (λ h. absurd (omega (arith, z))) };
+    }
+
+packed-tail : (b : List ℕ) → IsHeap b → first_free b ≢ 0 → first_free b + word b (first_free b) ≡ length b → IsPacked b
+packed-tail b heap ne last =
+    let fill = heap.1.1 in let f = first_free b in
+    let r = first-piece b (table_end b) f heap.1.0 (length b) fill.tiles ne in
+    let size : word b f ≡ r.s = r.here.3 in
+    let rest : r.rest ≡ [] = nothing-left b (f + r.s) (word b (f + 2)) r.rest (length b) 0 (omega (arith, last, size)) r.here.5 in
+    let is : heap.1.0 ≡ r.pre ++ (Free r.s ∷ []) = r.is ∙ ap (λ xs. r.pre ++ (Free r.s ∷ xs)) rest in
+    let total : total_free b ≡ r.s = (let e = fill.total ∙ ap free_bytes is ∙ free_bytes-append r.pre (Free r.s ∷ []) in let u = used-free r.pre r.used in omega (arith, e, u)) in
+    let R : List Piece → Type 0 = λ ps. Tiles b (f + r.s) (word b (f + 2)) ps (length b) 0 in
+    let next : word b (f + 2) ≡ 0 = (let t : Tiles b (f + r.s) (word b (f + 2)) [] (length b) 0 = subst R rest r.here.5 in t.1) in
+    record {
+      header = heap.0;
+      pre = r.pre;
+      at = f;
+      used = r.used;
+      tiles = used-any b (table_end b) f 0 r.pre f f r.used r.before;
+      room = omega (arith, last, size, total);
+      fours = ap (λ x. x % 4) total ∙ r.here.1;
+      all = (λ i h t. let K : List Piece → Type 0 = λ ps. HasChunk i ps in elim (has-split i r.pre (Free r.s ∷ []) (subst K is (fill.all i h t))) [ inl x ↦ x | inr x ↦ absurd x ]);
+      ends = record { none = (λ z. absurd (let s = r.here.0 in omega (arith, z, total))); some = (λ h. (refl, size ∙ sym total, next)) };
+    }
+
+pub heap-packed : (b : List ℕ) → IsHeap b → IsCompact b → IsPacked b
+heap-packed b heap compact = elim (cases_eq (first_free b) 0) [
+  | inl e ↦ packed-full b heap e
+  | inr ne ↦ elim compact [ inl e ↦ absurd (ne e) | inr h ↦ packed-tail b heap ne h ]
+]
+
+pub packed-heap : (b : List ℕ) → IsPacked b → IsHeap b
+packed-heap b p = elim (cases_eq (total_free b) 0) [
+  | inl z ↦ (let room = p.room in
+      let first : first_free b ≡ 0 = p.ends.none z in
+      let at : p.at ≡ length b = omega arith in
+      let P : ℕ → Type 0 = λ x. Tiles b (table_end b) x p.pre (length b) 0 in
+      let Q : ℕ → Type 0 = λ x. Tiles b (table_end b) 0 p.pre x 0 in
+      let u = used-free p.pre p.used in
+      (p.header, (p.pre, record { tiles = subst P (sym first) (subst Q at p.tiles); all = p.all; total = z ∙ sym u })))
+  | inr nz ↦ (let room = p.room in let some = p.ends.some (omega arith) in let fours = p.fours in
+      let s = total_free b in let f = first_free b in
+      let low = tiles-le b (table_end b) 0 p.pre p.at 0 p.tiles in
+      let here : Tiles b p.at p.at (Free s ∷ []) (length b) 0 = (omega arith, fours, refl, some.1, (λ e. absurd (let n = some.2 in omega (arith, e, n))), (room, some.2)) in
+      let whole : Tiles b (table_end b) p.at (p.pre ++ (Free s ∷ [])) (length b) 0 =
+      tiles-join b (table_end b) p.at p.pre (Free s ∷ []) p.at p.at (length b) 0 (used-any b (table_end b) 0 p.at p.pre p.at 0 p.used p.tiles) here in
+      let P : ℕ → Type 0 = λ x. Tiles b (table_end b) x (p.pre ++ (Free s ∷ [])) (length b) 0 in (
+        p.header,
+        (
+          p.pre ++ (Free s ∷ []),
+          record {
+            tiles = subst P (sym some.0) whole;
+            all = (λ i h t. has-left i p.pre (Free s ∷ []) (p.all i h t));
+            total = (let e = free_bytes-append p.pre (Free s ∷ []) in let u = used-free p.pre p.used in omega (arith, e, u));
+          },
+        ),
+      ))
+]
+
+-- where the chunks of a packed heap end
+pub record Bounds (b : List ℕ) : Type 0 where
+  pub low : table_end b ≤ chunks_end b
+  pub room : chunks_end b + total_free b ≡ length b
+  pub most : length b ≤ 65520
+  pub least : 64 ≤ length b
+  pub fours : total_free b % 4 ≡ 0
+  pub table : 20 ≤ table_end b
+
+pub bounds : (b : List ℕ) → IsPacked b → Bounds b
+bounds b p =
+    let low = tiles-le b (table_end b) 0 p.pre p.at 0 p.tiles in let room = p.room in let some = p.header.some in
+    record { low = omega arith; room = omega arith; most = p.header.most; least = p.header.least; fours = p.fours; table = omega arith }

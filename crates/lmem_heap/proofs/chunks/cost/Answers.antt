@@ -1,0 +1,11 @@
+use Rattle.std.proofs.Common.{◌<◌, ap, sym, ◌∙◌, arith}
+use Rattle.geos_model.specs.Chunks.{cost}
+use Rattle.geos_model.proofs.Costs.{cost_is}
+use Rattle.geos_model.proofs.Sums.{cost-zero}
+use Rattle.lmem_heap.proofs.chunks.cost.Goals as goal
+
+pub returns-then-n-eq0 : goal.returns-then-n-eq0
+returns-then-n-eq0 c = sym (ap cost c.if-n-eq0.true ∙ cost-zero)
+
+pub returns-else-n-eq0 : goal.returns-else-n-eq0
+returns-else-n-eq0 c = let some : 0 < c.args.n = omega arith in let e = cost_is c.args.n some in omega (arith, e)

@@ -1,0 +1,41 @@
+use Rattle.std.proofs.Common.{◌≡◌, ◌+◌, ◌-◌, replicate, ap, subst, ℕ, arith}
+use Rattle.lmem_raw.specs.Bytes.{with_part}
+use Rattle.geos_model.specs.Chunks.{cost}
+use Rattle.geos_model.proofs.Costs.{cost-fours, cost-least}
+use Rattle.lmem_heap.specs.Moves.{MovesRun}
+use Rattle.lmem_heap.specs.Packed.{SetsTail}
+use Rattle.lmem_heap.proofs.PackedHeaps.{bounds}
+use Rattle.lmem_heap.proofs.Making.{resized-in-place}
+use Rattle.lmem_heap.proofs.chunks.resize_in_place.Goals as goal
+
+pub overflow_add-n : goal.overflow_add-n
+overflow_add-n c =
+    let bs = bounds c.args.block.now c.requires.packed in let k = c.of-chunk.ensures in let w = cost-least c.args.n c.requires.some in
+    let len = ap cost k.len in omega (arith, w, len, k.wide, k.high, k.low, bs.table, bs.room, bs.most, c.requires.room)
+
+pub clear-requires : goal.clear-requires
+clear-requires c =
+    let bs = bounds c.args.block.now c.requires.packed in let k = c.of-chunk.ensures in let w = cost-least c.args.n c.requires.some in
+    let len = ap cost k.len in omega (arith, w, len, k.wide, k.high, k.low, bs.room, c.requires.room, c.put16.auto.block, c.move_run.auto.block)
+
+pub set_tail-requires-clause-fours : goal.set_tail-requires-clause-fours
+set_tail-requires-clause-fours c =
+    let bs = bounds c.args.block.now c.requires.packed in let k = c.of-chunk.ensures in let f = cost-fours c.of-chunk.result.len in let g = cost-fours c.args.n in
+    let len = ap cost k.len in let r = c.requires.room in
+    omega (arith, f, g, len, r, k.wide, k.high, bs.room, bs.fours, c.chunks_end-at.ensures, c.cost.ensures, c.clear.auto.block, c.put16.auto.block, c.move_run.auto.block)
+
+pub returns-clause-edit : goal.returns-clause-edit
+returns-clause-edit c =
+    let M : ℕ → Type 0 = λ x. MovesRun c.args.block.now c.move_run.new.block c.of-chunk.result.end c.chunks_end-at.result (c.of-chunk.result.begin + x) in
+    let W : ℕ → Type 0 = λ x. c.clear.new.block ≡ with_part c.put16.new.block (c.of-chunk.result.begin + 2 + c.of-chunk.result.len) (replicate x 0) in
+    let T : ℕ → Type 0 = λ x. SetsTail c.clear.new.block c.set_tail.new.block (c.of-chunk.result.begin + x + (c.chunks_end-at.result - c.of-chunk.result.end)) in
+    (resized-in-place c.args.block.now c.move_run.new.block c.put16.new.block c.clear.new.block c.set_tail.new.block c.args.i c.chunks_end-at.result c.args.n c.of-chunk.result c.requires.packed c.requires.known c.of-chunk.ensures c.chunks_end-at.ensures c.requires.some c.requires.room
+    (subst M c.cost.ensures c.move_run.ensures) c.put16.ensures (subst W c.saturating_sub-more.ensures c.clear.ensures) (subst T c.cost.ensures c.set_tail.ensures)).0
+
+pub returns-clause-resized : goal.returns-clause-resized
+returns-clause-resized c =
+    let M : ℕ → Type 0 = λ x. MovesRun c.args.block.now c.move_run.new.block c.of-chunk.result.end c.chunks_end-at.result (c.of-chunk.result.begin + x) in
+    let W : ℕ → Type 0 = λ x. c.clear.new.block ≡ with_part c.put16.new.block (c.of-chunk.result.begin + 2 + c.of-chunk.result.len) (replicate x 0) in
+    let T : ℕ → Type 0 = λ x. SetsTail c.clear.new.block c.set_tail.new.block (c.of-chunk.result.begin + x + (c.chunks_end-at.result - c.of-chunk.result.end)) in
+    (resized-in-place c.args.block.now c.move_run.new.block c.put16.new.block c.clear.new.block c.set_tail.new.block c.args.i c.chunks_end-at.result c.args.n c.of-chunk.result c.requires.packed c.requires.known c.of-chunk.ensures c.chunks_end-at.ensures c.requires.some c.requires.room
+    (subst M c.cost.ensures c.move_run.ensures) c.put16.ensures (subst W c.saturating_sub-more.ensures c.clear.ensures) (subst T c.cost.ensures c.set_tail.ensures)).1

@@ -1,0 +1,16 @@
+use Rattle.std.proofs.Common.{length, ◌-◌, ◌≡◌, ◌%◌, ◌≤◌, ◌↔◌}
+use Rattle.geos_model.specs.Block.{table_end}
+use Rattle.lmem_heap.specs.Check.{CanTile, IsTiled}
+use Rattle.lmem_heap.proofs.grammar.is_tiled.Given as goal
+
+abbrev pub invariant-loop-at : goal.invariant-loop-at
+invariant-loop-at l = record {
+  same : IsTiled l.block ↔ CanTile l.block l.at l.free l.sum;
+  fours : l.at % 4 ≡ 0;
+  from : table_end l.block ≤ l.at;
+  upto : l.at ≤ length l.block;
+  small : l.sum ≤ l.at;
+}
+
+abbrev pub decreases-loop-at : goal.decreases-loop-at
+decreases-loop-at l = length l.block - l.at

@@ -1,0 +1,5 @@
+use Rattle.geos_model.proofs.Writes.{writes-stay}
+use Rattle.lmem_heap.proofs.writes_stay_in_their_chunk.Goals as goal
+
+pub returns : goal.returns
+returns c = writes-stay

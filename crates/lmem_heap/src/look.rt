@@ -1,0 +1,109 @@
+//! Calls that look at a heap.
+ghost use Rattle.std.specs.Prelude.{◌≡◌, ◌≢◌, ℕ, ◌+◌, ◌*◌, ◌<◌, ◌≤◌, length, MatchResult, MatchOption, IfOk, IsSome, IsSomeAnd};
+ghost use Rattle.lmem_raw.specs.Bytes.{part};
+ghost use Rattle.geos_model.specs.Bytes.{word};
+ghost use Rattle.geos_model.specs.Chunks.{chunk_of, handle_of, used_bytes};
+ghost use Rattle.geos_model.specs.Block.{chunks, entries, entry, table_end, place_of, place_at, IsPlaced};
+ghost use Rattle.geos_model.specs.Heap.{IsHeap};
+
+use crate::error::BadChunk;
+use crate::words::get16;
+
+/// The entry of a chunk of no byte.
+pub(crate) const NO_BYTE: u16 = 0xffff;
+
+/// The number of table entries.
+pub(crate) fn entries(block: &[u8]) -> usize
+    requires { 16 ≤ length block.now }
+    ensures value { result ≡ entries block.now }
+    ensures small { result < 65536 }
+{
+    get16(block, 10) as usize
+}
+
+/// An entry of the table: 0 for no chunk, `NO_BYTE`, or the offset of a chunk's first byte.
+pub(crate) fn entry(block: &[u8], i: usize) -> u16
+    requires { 18 + 2 * i ≤ length block.now }
+    ensures { result ≡ entry block.now i }
+{
+    get16(block, 16 + 2 * i)
+}
+
+/// The entry of a chunk's handle, or none where no chunk has it.
+pub(crate) fn find(block: &[u8], c: u16) -> Option<usize>
+    requires { IsHeap block.now }
+    ensures none { MatchOption result (place_of block.now c ≡ None) (λ i. place_of block.now c ≡ place_at block.now (entry block.now i)) }
+    ensures found { MatchOption result (chunk_of (chunks block.now) c ≡ None) (λ i. (c ≡ handle_of i) × (i < entries block.now) × (entry block.now i ≢ 0)) }
+{
+    if c < 16 || c % 2 != 0 {
+        return None;
+    }
+    let n = entries(block);
+    let i = (c as usize - 16) / 2;
+    if i >= n || entry(block, i) == 0 {
+        return None;
+    }
+    Some(i)
+}
+
+/// Where the bytes of an entry's chunk stand, and how many there are.
+pub(crate) fn place_of_entry(block: &[u8], i: usize) -> (u16, u16)
+    requires heap { IsHeap block.now }
+    requires known { i < entries block.now }
+    requires used { entry block.now i ≢ 0 }
+    ensures within { result.0 + result.1 ≤ length block.now }
+    ensures place { place_at block.now (entry block.now i) ≡ Some (record { at = result.0; len = result.1 }) }
+{
+    let at = entry(block, i);
+    if at == NO_BYTE {
+        return (0, 0);
+    }
+    (at, get16(block, at as usize - 2) - 2)
+}
+
+/// The length of a chunk in bytes. `BadChunk` exactly where no chunk has this handle.
+pub fn size(block: &[u8], c: u16) -> Result<u16, BadChunk>
+    requires { IsHeap block.now }
+    ensures { MatchResult result (λ n. IsSomeAnd (chunk_of (chunks block.now) c) (λ bytes. length bytes ≡ n)) (λ _. chunk_of (chunks block.now) c ≡ None) }
+{
+    let (_, n) = place(block, c)?;
+    Ok(n)
+}
+
+/// Where the bytes of a chunk stand: the offset of the first one, and how many there are. A chunk
+/// of no byte has offset 0. `BadChunk` exactly where no chunk has this handle. Bytes may be
+/// written there: see `writes_stay_in_their_chunk`.
+pub fn place(block: &[u8], c: u16) -> Result<(u16, u16), BadChunk>
+    requires { IsHeap block.now }
+    ensures within { IfOk result (λ p. p.0 + p.1 ≤ length block.now) }
+    ensures place { MatchResult result (λ p. IsPlaced block.now c p.0 p.1) (λ _. place_of block.now c ≡ None) }
+    ensures bytes { MatchResult result (λ p. chunk_of (chunks block.now) c ≡ Some (part block.now p.0 p.1)) (λ _. chunk_of (chunks block.now) c ≡ None) }
+{
+    match find(block, c) {
+        Some(i) => Ok(place_of_entry(block, i)),
+        None => Err(BadChunk),
+    }
+}
+
+/// The bytes that are free: the block's size less the header, the table, and what each chunk
+/// takes with its size word and its padding.
+pub fn total_free(block: &[u8]) -> u16
+    requires { IsHeap block.now }
+    ensures { result + used_bytes (chunks block.now) ≡ length block.now }
+{
+    get16(block, 14)
+}
+
+/// The lowest handle above `c` that has a chunk, or none where there is none.
+pub fn next(block: &[u8], c: u16) -> Option<u16>
+    requires { IsHeap block.now }
+    ensures { MatchOption result ((h : ℕ) → c < h → chunk_of (chunks block.now) h ≡ None) (λ h. (c < h) × IsSome (chunk_of (chunks block.now) h) × ((k : ℕ) → c < k → k < h → chunk_of (chunks block.now) k ≡ None)) }
+{
+    let first = if c < 16 { 0 } else { (c as usize - 16) / 2 + 1 };
+    for i in first..entries(block) {
+        if entry(block, i) != 0 {
+            return Some((16 + 2 * i) as u16);
+        }
+    }
+    None
+}

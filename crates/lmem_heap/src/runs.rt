@@ -1,0 +1,43 @@
+//! Chunks that move within a block.
+ghost use Rattle.std.specs.Prelude.{◌≡◌, ℕ, ◌+◌, ◌-◌, ◌≤◌, length};
+ghost use Rattle.geos_model.specs.Block.{entries, table_end};
+ghost use Rattle.lmem_heap.specs.Moves.{entry_moved, MovesEntries, MovesRun};
+
+use crate::look::{entries, entry};
+use crate::words::{move_bytes, put16};
+
+/// Moves the chunks that stand from `from` to `end` so that they begin at `to`, and their entries
+/// with them.
+pub(crate) fn move_run(block: &mut [u8], from: usize, end: usize, to: usize)
+    requires behind_table { (table_end block.old ≤ from) × (table_end block.old ≤ to) }
+    requires within { (from ≤ end) × (end ≤ length block.old) × (to + (end - from) ≤ length block.old) }
+    requires small { length block.old ≤ 65520 }
+    ensures { MovesRun block.old block.new from end to }
+{
+    move_bytes(block, from, to, end - from);
+    move_entries(block, from, end, to);
+}
+
+/// Moves the entries of the chunks that stood from `from` to `end`.
+fn move_entries(block: &mut [u8], from: usize, end: usize, to: usize)
+    requires table { table_end block.old ≤ length block.old }
+    requires fits { (from ≤ end) × (to + (end - from) ≤ 65520) }
+    ensures { MovesEntries block.old block.new from end to (entries block.old) }
+{
+    for i in 0..entries(block) {
+        let moved = moved_entry(entry(block, i), from, end, to);
+        put16(block, 16 + 2 * i, moved);
+    }
+}
+
+fn moved_entry(entry: u16, from: usize, end: usize, to: usize) -> u16
+    requires { (from ≤ end) × (to + (end - from) ≤ 65520) }
+    ensures { result ≡ entry_moved from end to entry }
+{
+    let at = entry as usize;
+    if from < at && at < end {
+        (at - from + to) as u16
+    } else {
+        entry
+    }
+}

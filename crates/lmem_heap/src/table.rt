@@ -1,0 +1,54 @@
+//! The table of chunk handles.
+ghost use Rattle.std.specs.Prelude.{◌≡◌, ℕ, ◌+◌, ◌*◌, ◌<◌, ◌≤◌, [], ◌∷◌, ◌++◌, length};
+ghost use Rattle.geos_model.specs.Chunks.{lowest_entry};
+ghost use Rattle.geos_model.specs.Block.{chunks, entries, entry, handle_word, table_end, total_free};
+ghost use Rattle.lmem_heap.specs.Packed.{GrowsTable, IsPacked};
+
+use crate::look::{entries, entry};
+use crate::runs::move_run;
+use crate::tail::{chunks_end, set_tail};
+use crate::words::put16;
+
+/// The lowest entry that is not in use, or the number of entries where all are.
+pub(crate) fn lowest_entry(block: &[u8]) -> usize
+    requires { table_end block.now ≤ length block.now }
+    ensures value { result ≡ lowest_entry (chunks block.now) }
+    ensures within { result ≤ entries block.now }
+    ensures free { result < entries block.now → entry block.now result ≡ 0 }
+{
+    let n = entries(block);
+    for i in 0..n {
+        if entry(block, i) == 0 {
+            return i;
+        }
+    }
+    n
+}
+
+/// Gives the table two more entries. The chunks move up to make room.
+pub(crate) fn add_entries(block: &mut [u8])
+    requires packed { IsPacked block.old }
+    requires room { 4 ≤ total_free block.old }
+    ensures packed { IsPacked block.new }
+    ensures chunks { chunks block.new ≡ chunks block.old ++ (None ∷ (None ∷ [])) }
+    ensures handle { handle_word block.new ≡ handle_word block.old }
+    ensures count { entries block.new ≡ entries block.old + 2 }
+    ensures fresh { entry block.new (entries block.old) ≡ 0 }
+{
+    grow_table(block);
+}
+
+fn grow_table(block: &mut [u8])
+    requires packed { IsPacked block.old }
+    requires room { 4 ≤ total_free block.old }
+    ensures { GrowsTable block.old block.new }
+{
+    let n = entries(block);
+    let end = 16 + 2 * n;
+    let at = chunks_end(block);
+    move_run(block, end, at, end + 4);
+    put16(block, end, 0);
+    put16(block, end + 2, 0);
+    put16(block, 10, (n + 2) as u16);
+    set_tail(block, at + 4);
+}

@@ -1,0 +1,44 @@
+//! The free bytes at the end of a packed heap.
+ghost use Rattle.std.specs.Prelude.{◌≡◌, ◌-◌, ◌%◌, ◌≤◌, length};
+ghost use Rattle.geos_model.specs.Block.{chunks, handle_word};
+ghost use Rattle.geos_model.specs.Heap.{IsHeap};
+ghost use Rattle.lmem_heap.specs.Packed.{chunks_end, IsPacked, SetsTail};
+
+use crate::compact::contract;
+use crate::words::{get16, put16};
+
+/// Moves the chunks together, with all free bytes behind them.
+pub(crate) fn pack(block: &mut [u8])
+    requires { IsHeap block.old }
+    ensures packed { IsPacked block.new }
+    ensures chunks { chunks block.new ≡ chunks block.old }
+    ensures handle { handle_word block.new ≡ handle_word block.old }
+{
+    contract(block);
+}
+
+/// Where the chunks of a packed heap end.
+pub(crate) fn chunks_end(block: &[u8]) -> usize
+    requires { IsPacked block.now }
+    ensures { result ≡ chunks_end block.now }
+{
+    block.len() - get16(block, 14) as usize
+}
+
+/// Makes the bytes from `at` to the block's end free: one free chunk, or none where there are
+/// none. What they held is left as it is, but for the free chunk's two words.
+pub(crate) fn set_tail(block: &mut [u8], at: usize)
+    requires within { (16 ≤ at) × (at ≤ length block.old) × (length block.old ≤ 65520) }
+    requires fours { (length block.old - at) % 4 ≡ 0 }
+    ensures { SetsTail block.old block.new at }
+{
+    let free = block.len() - at;
+    put16(block, 14, free as u16);
+    if free == 0 {
+        put16(block, 12, 0);
+    } else {
+        put16(block, 12, at as u16);
+        put16(block, at, free as u16);
+        put16(block, at + 2, 0);
+    }
+}
