@@ -15,3 +15,4 @@ pub mod FreePieces
 pub mod Resizes
 pub mod Lowest
 pub mod Examples
+pub mod CallExamples

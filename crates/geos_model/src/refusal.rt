@@ -1,0 +1,55 @@
+//! Why calls of the kernel refuse.
+
+ghost use Rattle.std.specs.Prelude.{◌≡◌};
+
+use thiserror::Error;
+
+/// Why a call of the kernel refuses. Every block keeps its chunks, its size and its count of locks; references may have
+/// become stale. Each refusal has a number, which a routine sees in w7.
+#[derive(Clone, Copy, Debug, Drop, PartialEq, Eq, Error)]
+pub enum Refusal {
+    /// No block has this handle.
+    #[error("no block has this handle")]
+    BadHandle,
+    /// No chunk of the block has this handle.
+    #[error("no chunk has this handle")]
+    BadChunk,
+    /// The chunk has fewer bytes than are wanted.
+    #[error("the chunk is too short")]
+    Short,
+    /// The region has no room for a block that is made or grows.
+    #[error("no room in the region")]
+    NoRoom,
+    /// All 1,024 handles are in use.
+    #[error("no handle is free")]
+    NoHandle,
+    /// The block would need more than 65,520 bytes.
+    #[error("the block would be too big")]
+    TooBig,
+    /// The count of locks can't rise, or the block is locked and can't be freed.
+    #[error("the block is locked")]
+    Locked,
+    /// The offset, or where the bytes end, is past the chunk's end.
+    #[error("past the end of the chunk")]
+    Range,
+}
+
+impl Refusal {
+    ghost use Rattle.geos_model.specs.Refusals.{refusal_number};
+
+    /// The refusal's number.
+    pub fn number(self) -> u16
+        ensures { result ≡ refusal_number self }
+    {
+        match self {
+            Refusal::BadHandle => 1,
+            Refusal::BadChunk => 2,
+            Refusal::Short => 3,
+            Refusal::NoRoom => 4,
+            Refusal::NoHandle => 5,
+            Refusal::TooBig => 6,
+            Refusal::Locked => 7,
+            Refusal::Range => 14,
+        }
+    }
+}
