@@ -1,0 +1,4 @@
+pub mod View
+pub mod Spans
+pub mod Kernel
+pub mod Refused

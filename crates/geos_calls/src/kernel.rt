@@ -1,0 +1,100 @@
+//! The kernel: blocks of global memory, each with a heap of chunks.
+
+ghost use Rattle.std.specs.Prelude.{◌≡◌, ◌<◌, ◌≤◌, IfOk, IfErr, Ok, Err};
+ghost use Rattle.block_handles.specs.declared.name.Owner.{Owner};
+ghost use Rattle.geos_calls.specs.Refused.{of_handle};
+
+use block_handles::{Blocks, HandleError, Name, Owner, RoomError};
+use geos_model::Refusal;
+use std::alloc::{AllocError, Global};
+use std::marker::Model;
+
+/// Blocks of global memory in one region, each with a heap of chunks.
+#[derive(Drop)]
+pub struct Kernel {
+    blocks: Blocks,
+}
+
+impl Model for Kernel {
+    ghost use Rattle.block_handles.specs.Store.{Store};
+
+    ghost Value = { Store };
+
+    ghost use Rattle.geos_calls.specs.Kernel.{IsKernel};
+
+    ghost view = { λ k. k.blocks };
+
+    ghost invariant = { λ k. IsKernel k.blocks };
+}
+
+impl Kernel {
+    ghost use Rattle.block_handles.specs.Names.{slot_of};
+    ghost use Rattle.block_handles.specs.Layout.{IsEmpty};
+    ghost use Rattle.block_handles.specs.Store.{locks_of};
+    ghost use Rattle.block_handles.specs.Stretch.{HasNoRoom};
+    ghost use Rattle.geos_model.specs.declared.refusal.Refusal.TheVariants.{NoRoom};
+    ghost use Rattle.geos_model.specs.Calls as table;
+    ghost use Rattle.geos_calls.specs.Kernel.{Calls};
+
+    /// No block, in a region of `region` bytes. This is the only call that takes memory.
+    pub fn new(alloc: Global, region: u32) -> Result<Kernel, AllocError>
+        requires { (65536 ≤ region) × (region ≤ 16777216) }
+        ensures { IfOk result (λ kernel. IsEmpty kernel region) }
+    {
+        Ok(Kernel {
+            blocks: Blocks::new(alloc, region)?,
+        })
+    }
+
+    /// How often a block is locked; 0 where there is none.
+    pub fn locks(&self, name: Name) -> u16
+        ensures { result ≡ locks_of self.now (slot_of name) }
+    {
+        self.blocks.locks(name)
+    }
+
+    /// Locks a block once more. `BadHandle` where there is none, `Locked` where its count is 65,535.
+    pub fn mlock(&mut self, h: u16) -> Result<(), Refusal>
+        ensures { Calls (table.mlock h) result self.old self.new }
+    {
+        let locked = self.blocks.lock(mem(h));
+        of_handle(locked)
+    }
+
+    /// Unlocks a block once. When it is locked no more, references into it are stale.
+    pub fn munlock(&mut self, name: Name)
+        requires { 0 < locks_of self.old (slot_of name) }
+        ensures { Calls (table.munlock name.h) (Ok tt) self.old self.new }
+    {
+        self.blocks.unlock(name);
+    }
+
+    /// Frees a block. `BadHandle` where there is none, `Locked` where it is locked.
+    pub fn mfree(&mut self, h: u16) -> Result<(), Refusal>
+        ensures { Calls (table.mfree h) result self.old self.new }
+    {
+        let freed = self.blocks.free(mem(h));
+        of_handle(freed)
+    }
+}
+
+/// The name of a block of global memory.
+fn mem(h: u16) -> Name
+    ensures { result ≡ record { owner = Owner.Mem; h = h } }
+{
+    Name {
+        owner: Owner::Mem,
+        h,
+    }
+}
+
+/// Why a block was not locked or freed, as the kernel says it.
+fn of_handle(done: Result<(), HandleError>) -> Result<(), Refusal>
+    ensures { result ≡ of_handle done }
+{
+    match done {
+        Ok(()) => Ok(()),
+        Err(HandleError::BadHandle) => Err(Refusal::BadHandle),
+        Err(HandleError::Locked) => Err(Refusal::Locked),
+    }
+}
