@@ -11,19 +11,22 @@ ghost use Rattle.geos_model.specs.Block.{chunks, handle_word};
 ghost use Rattle.geos_model.specs.Heap.{IsBlockSize, IsHeap};
 ghost use Rattle.geos_model.specs.Writes.{WritesStayInTheirChunk};
 
+mod allocate;
 mod chunks;
 mod compact;
 mod error;
 mod grammar;
 mod look;
 mod marks;
+mod room;
 mod runs;
 mod table;
 mod tail;
 mod words;
 
+pub use allocate::{alloc, free};
 pub use compact::contract;
-pub use error::BadChunk;
+pub use error::{BadChunk, DeleteError, InsertError, ReallocError, RoomError};
 pub use grammar::check;
 pub use look::{next, place, size, total_free};
 use words::put_words;
