@@ -11,3 +11,4 @@ pub mod Entrywise
 pub mod Tails
 pub mod Making
 pub mod Extending
+pub mod Enlarging

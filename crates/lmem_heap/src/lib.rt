@@ -14,6 +14,7 @@ ghost use Rattle.geos_model.specs.Writes.{WritesStayInTheirChunk};
 mod allocate;
 mod chunks;
 mod compact;
+mod enlarge;
 mod error;
 mod grammar;
 mod look;
@@ -26,6 +27,7 @@ mod words;
 
 pub use allocate::{alloc, free};
 pub use compact::contract;
+pub use enlarge::enlarged;
 pub use error::{BadChunk, DeleteError, InsertError, ReallocError, RoomError};
 pub use grammar::check;
 pub use look::{next, place, size, total_free};
