@@ -19,6 +19,7 @@ mod error;
 mod grammar;
 mod look;
 mod marks;
+mod resize;
 mod room;
 mod runs;
 mod table;
@@ -31,6 +32,7 @@ pub use enlarge::enlarged;
 pub use error::{BadChunk, DeleteError, InsertError, ReallocError, RoomError};
 pub use grammar::check;
 pub use look::{next, place, size, total_free};
+pub use resize::{delete, insert, realloc};
 use words::put_words;
 
 /// Makes a heap with two table entries and no chunk, whatever the bytes were. The block's length
