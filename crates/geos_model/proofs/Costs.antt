@@ -22,3 +22,13 @@ cost-fours (suc n) = omega arith
 
 pub cost-four : (n : ℕ) → 0 < n → 4 ≤ cost n
 cost-four n h = let e = cost_is n h in omega (arith, e)
+
+pub cost-over : (n : ℕ) → n ≤ cost n
+cost-over zero = omega arith
+cost-over (suc n) = let e = cost-least (suc n) (omega arith) in omega arith
+
+pub cost-mono : (m n : ℕ) → m ≤ n → cost m ≤ cost n
+unfolding cost
+cost-mono zero n h = omega arith
+cost-mono (suc m) zero h = absurd (omega arith)
+cost-mono (suc m) (suc n) h = omega arith

@@ -11,6 +11,7 @@ pub mod Headers
 pub mod Found
 pub mod Places
 pub mod Writes
+pub mod Entered
 pub mod FreePieces
 pub mod Resizes
 pub mod Lowest

@@ -1,16 +1,17 @@
 -- The lowest entry that is not in use, and what chunks take with a new one.
-use Rattle.std.proofs.Common.{◌≡◌, ◌≢◌, ℕ, zero, suc, ◌+◌, ◌<◌, ◌≤◌, ◌==◌, if◌then◌else◌, List, [], ◌∷◌, ◌++◌, Option, Some, None, length, get_or, set, replicate, sum_by, refl, ap, sym, ◌∙◌, inl, inr, arith, length-set, length-append}
-use Rattle.std.proofs.lemmas.Bool.{cases_eq}
+use Rattle.std.proofs.Common.{◌≡◌, ◌≢◌, ℕ, zero, suc, ◌+◌, ◌<◌, ◌≤◌, ◌==◌, if◌then◌else◌, List, [], ◌∷◌, ◌++◌, Option, Some, None, length, get_or, set, replicate, unwrap_or, sum_by, refl, ap, sym, ◌∙◌, inl, inr, arith, length-set, length-append, get_or-set_same}
+use Rattle.std.proofs.lemmas.Bool.{cases_eq, cases_lt}
 use Rattle.std.proofs.lemmas.Bool.Decides.{nat_tests}
 use Rattle.std.proofs.lemmas.List.{get_or_at, length-replicate}
 use Rattle.std.proofs.lemmas.List.Sums.{sum_by-append, sum_by-set}
-use Rattle.geos_model.specs.Chunks.{cost, cost_of, used_bytes, lowest_entry, with_entry, with_new}
+use Rattle.geos_model.specs.Chunks.{cost, cost_of, entry_bytes, used_bytes, lowest_entry, with_entry, with_new, bytes_of, chunk_of, entry_of, handle_of, with_bytes}
 use Rattle.geos_model.specs.Block.{entry, entries, chunk_at, chunks, total_free}
 use Rattle.geos_model.specs.Heap.{IsHeap}
-use Rattle.geos_model.proofs.Entries.{chunk-none, chunk-nothing, chunk-told, chunks-at}
+use Rattle.geos_model.proofs.Entries.{chunk-none, chunk-nothing, chunk-told, chunks-at, chunks-past, chunk-entry}
 use Rattle.geos_model.proofs.Sums.{count-chunks, all-bytes}
 
-chunk-some : (b : List ℕ) (e : ℕ) → e ≢ 0 → chunk_at b e ≡ None → ⊥
+-- an entry that is not 0 has a chunk
+pub chunk-some : (b : List ℕ) (e : ℕ) → e ≢ 0 → chunk_at b e ≡ None → ⊥
 chunk-some b e ne h = elim (cases_eq e 65535) [
   | inl d ↦ (let x = sym (chunk-nothing b e d) ∙ h in absurd (some-none x))
   | inr nd ↦ (let x = sym (chunk-told b e (ne, nd)) ∙ h in absurd (some-none x))
@@ -33,7 +34,8 @@ lowest-is b i before le here =
     sym (lowest-first (chunks b) i (λ k l h. chunk-some b (entry b k) (before k l) (sym (chunks-at b k (omega arith)) ∙ h)) (omega (arith, n))
     (λ l. chunks-at b i (omega (arith, n)) ∙ chunk-none b (entry b i) (here (omega (arith, n)))))
 
-lowest-none : (cs : List (Option (List ℕ))) → lowest_entry cs < length cs → get_or cs (lowest_entry cs) None ≡ None
+-- the lowest entry that is not in use has no chunk
+pub lowest-none : (cs : List (Option (List ℕ))) → lowest_entry cs < length cs → get_or cs (lowest_entry cs) None ≡ None
 lowest-none [] h = refl
 lowest-none (None ∷ cs) h = refl
 lowest-none (Some x ∷ cs) h = lowest-none cs (omega arith)
@@ -104,3 +106,59 @@ pub set-twice : {A : Type 0} (xs : List A) (i : ℕ) (x y : A) → set (set xs i
 set-twice [] i x y = refl
 set-twice (z ∷ xs) zero x y = refl
 set-twice (z ∷ xs) (suc i) x y = ap (λ zs. z ∷ zs) (set-twice xs i x y)
+
+-- the lowest entry that is not in use is 0
+pub lowest-free : (b : List ℕ) → lowest_entry (chunks b) < entries b → entry b (lowest_entry (chunks b)) ≡ 0
+lowest-free b h = elim (cases_eq (entry b (lowest_entry (chunks b))) 0) [
+  | inl e ↦ e
+  | inr ne ↦ absurd (let n = count-chunks b in chunk-some b (entry b (lowest_entry (chunks b))) ne (sym (chunks-at b (lowest_entry (chunks b)) h) ∙ lowest-none (chunks b) (omega (arith, n))))
+]
+
+-- blocks with the same chunks have the same entries in use
+pub entries-same : (b d : List ℕ) → chunks d ≡ chunks b → entries d ≡ entries b
+entries-same b d e = sym (count-chunks d) ∙ ap length e ∙ count-chunks b
+
+-- an entry that has a chunk is not 0
+pub in-use : (b : List ℕ) (i : ℕ) (bytes : List ℕ) → get_or (chunks b) i None ≡ Some bytes → (i < entries b) × (entry b i ≢ 0)
+in-use b i bytes is = elim (cases_lt i (entries b)) [
+  | inl h ↦ (h, λ z. some-none (sym is ∙ chunks-at b i h ∙ chunk-none b (entry b i) z))
+  | inr h ↦ absurd (some-none (sym is ∙ chunks-past b i h))
+]
+  where
+    some-none : Some bytes ≡ None → ⊥
+    some-none h = cc
+
+-- and one that is not 0 has one
+pub in-use-bytes : (b : List ℕ) (i : ℕ) → i < entries b → entry b i ≢ 0 → get_or (chunks b) i None ≡ Some (entry_bytes (chunks b) i)
+in-use-bytes b i h ne = chunks-at b i h ∙ known (chunk_at b (entry b i)) (chunk-some b (entry b i) ne) ∙ ap (λ x. Some (unwrap_or x [])) (sym (chunks-at b i h))
+  where
+    known : (o : Option (List ℕ)) → (o ≡ None → ⊥) → o ≡ Some (unwrap_or o [])
+    known None h = absurd (h refl)
+    known (Some x) h = refl
+
+pub in-use-same : (b d : List ℕ) (i : ℕ) → chunks d ≡ chunks b → i < entries b → entry b i ≢ 0 → (i < entries d) × (entry d i ≢ 0)
+in-use-same b d i e h ne = in-use d i (entry_bytes (chunks b) i) (ap (λ xs. get_or xs i None) e ∙ in-use-bytes b i h ne)
+
+pub in-use-set : (b d : List ℕ) (i : ℕ) (bytes : List ℕ) → chunks d ≡ set (chunks b) i (Some bytes) → i < entries b → (i < entries d) × (entry d i ≢ 0)
+in-use-set b d i bytes e h = let n = count-chunks b in in-use d i bytes (ap (λ xs. get_or xs i None) e ∙ get_or-set_same (chunks b) i (Some bytes) None (omega (arith, n)))
+
+-- what the table and chunks take where one chunk has another length
+pub used-length : (cs : List (Option (List ℕ))) (i : ℕ) (x y : List ℕ) → i < length cs → length x ≡ length y → used_bytes (set cs i (Some x)) ≡ used_bytes (set cs i (Some y))
+used-length cs i x y h e = let s = used-set cs i (Some x) h in let t = used-set cs i (Some y) h in let c = ap cost e in omega (arith, s, t, c)
+
+-- the chunk of a handle is that of its entry
+pub chunk-item : (b : List ℕ) (c i : ℕ) → c ≡ handle_of i → i < entries b → chunk_of (chunks b) c ≡ get_or (chunks b) i None
+chunk-item b c i is h = chunk-entry b c i is h ∙ sym (chunks-at b i h)
+
+pub item-bytes : (b : List ℕ) (c i : ℕ) → c ≡ handle_of i → i < entries b → bytes_of (chunks b) c ≡ entry_bytes (chunks b) i
+item-bytes b c i is h = ap (λ x. unwrap_or x []) (chunk-item b c i is h)
+
+-- what a call does to the chunk of a handle, it does to that of its entry
+pub item-set : (b : List ℕ) (c i : ℕ) (f : List ℕ → List ℕ) → c ≡ handle_of i → i < entries b → set (chunks b) i (Some (f (entry_bytes (chunks b) i))) ≡ with_bytes (chunks b) c (f (bytes_of (chunks b) c))
+item-set b c i f is h =
+    let index : i ≡ entry_of c = omega arith in
+    ap (λ x. set (chunks b) x (Some (f (entry_bytes (chunks b) i)))) index ∙ ap (λ x. set (chunks b) (entry_of c) (Some (f x))) (sym (item-bytes b c i is h))
+
+-- the bytes of an entry that was written
+pub set-bytes : (cs : List (Option (List ℕ))) (i : ℕ) (bytes : List ℕ) → i < length cs → entry_bytes (set cs i (Some bytes)) i ≡ bytes
+set-bytes cs i bytes h = ap (λ x. unwrap_or x []) (get_or-set_same cs i (Some bytes) None h)

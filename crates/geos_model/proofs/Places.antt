@@ -1,10 +1,10 @@
 -- Where the chunks of handles stand.
-use Rattle.std.proofs.Common.{◌≡◌, ℕ, ◌-◌, ◌/◌, ◌%◌, ◌<◌, List, Some, None, ap, sym, ◌∙◌, inl, inr, arith}
+use Rattle.std.proofs.Common.{◌≡◌, ℕ, ◌-◌, ◌/◌, ◌%◌, ◌<◌, List, Some, None, ap, sym, ◌∙◌, inl, inr, arith, length-take, length-drop, ◌+◌, ◌≤◌, [], length, drop, get_or, unwrap_or}
 use Rattle.std.specs.Option.{option_map}
 use Rattle.std.proofs.lemmas.Bool.{cases_eq, cases_lt}
-use Rattle.geos_model.specs.Chunks.{chunk_of, handle_of}
+use Rattle.geos_model.specs.Chunks.{chunk_of, handle_of, cost, cost_of, entry_bytes}
 use Rattle.geos_model.specs.Block.{Place, entry, entries, place_at, place_of, bytes_at, chunks}
-use Rattle.geos_model.proofs.Entries.{place-low, place-odd, place-past, place-in, chunk-entry, chunk-low, chunk-odd, chunk-past}
+use Rattle.geos_model.proofs.Entries.{place-low, place-odd, place-past, place-in, chunk-entry, chunk-low, chunk-odd, chunk-past, chunks-at}
 
 -- the entry of a handle, and that it is in the table
 pub record IsEntryOf (b : List ℕ) (c i : ℕ) : Type 0 where
@@ -55,3 +55,16 @@ places-same b d n each c = elim (handle-cases b c) [
     | Unknown v ↦ v.place ∙ sym u.place
   ]
 ]
+
+-- the bytes of an entry whose chunk has a place, and what they take
+pub placed-chunk : (b : List ℕ) (i : ℕ) (p : Place) → i < entries b → place_at b (entry b i) ≡ Some p → get_or (chunks b) i None ≡ Some (bytes_at b p)
+placed-chunk b i p h is = chunks-at b i h ∙ ap (option_map (bytes_at b)) is
+
+pub placed-bytes : (b : List ℕ) (i : ℕ) (p : Place) → i < entries b → place_at b (entry b i) ≡ Some p → entry_bytes (chunks b) i ≡ bytes_at b p
+placed-bytes b i p h is = ap (λ x. unwrap_or x []) (placed-chunk b i p h is)
+
+pub placed-length : (b : List ℕ) (p : Place) → p.at + p.len ≤ length b → length (bytes_at b p) ≡ p.len
+placed-length b p h = omega (arith, length-take p.len (drop p.at b), length-drop p.at b)
+
+pub placed-cost : (b : List ℕ) (i : ℕ) (p : Place) → i < entries b → place_at b (entry b i) ≡ Some p → p.at + p.len ≤ length b → cost_of (get_or (chunks b) i None) ≡ cost p.len
+placed-cost b i p h is fits = ap cost_of (placed-chunk b i p h is) ∙ ap cost (placed-length b p fits)

@@ -15,9 +15,13 @@ cost_of (Some bytes) = cost (length bytes)
 abbrev pub used_bytes : List (Option (List ℕ)) → ℕ
 used_bytes chunks = 16 + 2 * length chunks + sum_by cost_of chunks
 
--- the least multiple of 16 that has room for them
+-- the least multiple of 16 not below a number
+abbrev pub sixteens : ℕ → ℕ
+sixteens n = (n + 15) / 16 * 16
+
+-- the least block size that has room for header, table and chunks
 abbrev pub need : List (Option (List ℕ)) → ℕ
-need chunks = (used_bytes chunks + 15) / 16 * 16
+need chunks = sixteens (used_bytes chunks)
 
 -- the handle of an entry: handles are even, from 16
 abbrev pub handle_of : ℕ → ℕ
@@ -27,11 +31,15 @@ handle_of entry = 16 + 2 * entry
 abbrev pub entry_of : ℕ → ℕ
 entry_of c = (c - 16) / 2
 
+-- the bytes of an entry's chunk
+abbrev pub entry_bytes : List (Option (List ℕ)) → ℕ → List ℕ
+entry_bytes chunks i = unwrap_or (slice_index_or chunks i None) []
+
 -- the chunk of a handle
 abbrev pub chunk_of : List (Option (List ℕ)) → ℕ → Option (List ℕ)
 chunk_of chunks c = if nat_le 16 c && (c % 2 == 0) then slice_index_or chunks (entry_of c) None else None
 
--- its bytes
+-- the bytes of a handle's chunk
 abbrev pub bytes_of : List (Option (List ℕ)) → ℕ → List ℕ
 bytes_of chunks c = unwrap_or (chunk_of chunks c) []
 

@@ -11,3 +11,5 @@ pub mod Entrywise
 pub mod Tails
 pub mod Making
 pub mod Extending
+pub mod Shifts
+pub mod Enlarging

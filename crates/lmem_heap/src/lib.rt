@@ -11,21 +11,28 @@ ghost use Rattle.geos_model.specs.Block.{chunks, handle_word};
 ghost use Rattle.geos_model.specs.Heap.{IsBlockSize, IsHeap};
 ghost use Rattle.geos_model.specs.Writes.{WritesStayInTheirChunk};
 
+mod allocate;
 mod chunks;
 mod compact;
+mod enlarge;
 mod error;
 mod grammar;
 mod look;
 mod marks;
+mod resize;
+mod room;
 mod runs;
 mod table;
 mod tail;
 mod words;
 
+pub use allocate::{alloc, free};
 pub use compact::contract;
-pub use error::BadChunk;
+pub use enlarge::enlarged;
+pub use error::{BadChunk, DeleteError, InsertError, ReallocError, RoomError};
 pub use grammar::check;
 pub use look::{next, place, size, total_free};
+pub use resize::{delete, insert, realloc};
 use words::put_words;
 
 /// Makes a heap with two table entries and no chunk, whatever the bytes were. The block's length
@@ -50,3 +57,6 @@ pub fn init(block: &mut [u8], handle: u16)
 pub fn writes_stay_in_their_chunk()
     ensures { WritesStayInTheirChunk }
 {}
+
+#[cfg(test)]
+mod tests;

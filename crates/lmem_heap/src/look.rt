@@ -29,21 +29,21 @@ pub(crate) fn entry(block: &[u8], i: usize) -> u16
     get16(block, 16 + 2 * i)
 }
 
-/// The entry of a chunk's handle, or none where no chunk has it.
-pub(crate) fn find(block: &[u8], c: u16) -> Option<usize>
+/// The entry of a chunk's handle. `BadChunk` where no chunk has it.
+pub(crate) fn find(block: &[u8], c: u16) -> Result<usize, BadChunk>
     requires { IsHeap block.now }
-    ensures none { MatchOption result (place_of block.now c ≡ None) (λ i. place_of block.now c ≡ place_at block.now (entry block.now i)) }
-    ensures found { MatchOption result (chunk_of (chunks block.now) c ≡ None) (λ i. (c ≡ handle_of i) × (i < entries block.now) × (entry block.now i ≢ 0)) }
+    ensures none { MatchResult result (λ i. place_of block.now c ≡ place_at block.now (entry block.now i)) (λ _. place_of block.now c ≡ None) }
+    ensures found { MatchResult result (λ i. (c ≡ handle_of i) × (i < entries block.now) × (entry block.now i ≢ 0)) (λ _. chunk_of (chunks block.now) c ≡ None) }
 {
     if c < 16 || c % 2 != 0 {
-        return None;
+        return Err(BadChunk);
     }
     let n = entries(block);
     let i = (c as usize - 16) / 2;
     if i >= n || entry(block, i) == 0 {
-        return None;
+        return Err(BadChunk);
     }
-    Some(i)
+    Ok(i)
 }
 
 /// Where the bytes of an entry's chunk stand, and how many there are.
@@ -79,10 +79,8 @@ pub fn place(block: &[u8], c: u16) -> Result<(u16, u16), BadChunk>
     ensures place { MatchResult result (λ p. IsPlaced block.now c p.0 p.1) (λ _. place_of block.now c ≡ None) }
     ensures bytes { MatchResult result (λ p. chunk_of (chunks block.now) c ≡ Some (part block.now p.0 p.1)) (λ _. chunk_of (chunks block.now) c ≡ None) }
 {
-    match find(block, c) {
-        Some(i) => Ok(place_of_entry(block, i)),
-        None => Err(BadChunk),
-    }
+    let i = find(block, c)?;
+    Ok(place_of_entry(block, i))
 }
 
 /// The bytes that are free: the block's size less the header, the table, and what each chunk

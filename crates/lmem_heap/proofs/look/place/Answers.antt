@@ -4,7 +4,7 @@ use Rattle.geos_model.specs.Block.{bytes_at}
 use Rattle.geos_model.proofs.Entries.{chunk-entry}
 use Rattle.lmem_heap.proofs.look.place.Goals as goal
 
-pub returns-in-Some-clause-bytes : goal.returns-in-Some-clause-bytes
-returns-in-Some-clause-bytes c =
-    let b = c.args.block.now in let f = c.in-Some.ensures.found in
-    chunk-entry b c.args.c c.in-Some.i f.0 f.1 ∙ ap (option_map (bytes_at b)) c.place_of_entry.ensures.place
+pub returns-clause-bytes : goal.returns-clause-bytes
+returns-clause-bytes c =
+    let b = c.args.block.now in let f = c.in_ok-i.ensures.found in
+    chunk-entry b c.args.c c.in_ok-i.i f.0 f.1 ∙ ap (option_map (bytes_at b)) c.place_of_entry.ensures.place

@@ -1,0 +1,69 @@
+//! Chunks that come and go.
+ghost use Rattle.std.specs.Prelude.{◌≡◌, ◌≢◌, ℕ, ◌<◌, ◌≤◌, length, IfErr, IfOk, IsSome, OnErr, OnOk};
+ghost use Rattle.geos_model.specs.Chunks.{chunk_of, lowest_entry, need, new_handle, used_bytes, with_entry, with_new, without};
+ghost use Rattle.geos_model.specs.Block.{chunks, entries, entry, handle_word};
+ghost use Rattle.geos_model.specs.Heap.{IsHeap};
+ghost use Rattle.lmem_heap.specs.Packed.{IsPacked};
+ghost use Rattle.lmem_heap.specs.Refusals.{IsRoomError};
+
+use crate::chunks::{put_chunk, remove_chunk};
+use crate::error::{BadChunk, RoomError};
+use crate::look::{entries, find};
+use crate::room::{room_for, used_with_new};
+use crate::table::{add_entries, lowest_entry};
+use crate::tail::pack;
+
+/// Makes a chunk of `n` zero bytes and answers its handle: the lowest one that is not in use. Where
+/// all entries of the table are in use, it gets two more. Other chunks may move.
+///
+/// `NeedMore` names the size that the block needs, where it is larger than the block is; `TooBig`
+/// where no block is that large.
+pub fn alloc(block: &mut [u8], n: u16) -> Result<u16, RoomError>
+    requires { IsHeap block.old }
+    ensures heap { IsHeap block.new }
+    ensures handle { handle_word block.new ≡ handle_word block.old }
+    ensures ok { IfOk result (λ c. (c ≡ new_handle (chunks block.old)) × (chunks block.new ≡ with_new (chunks block.old) n)) }
+    ensures fits { OnOk result (need (with_new (chunks block.old) n) ≤ length block.old) }
+    ensures refused { IfErr result (λ e. IsRoomError e (need (with_new (chunks block.old) n)) (length block.old)) }
+    ensures err { OnErr result (block.new ≡ block.old) }
+{
+    let i = lowest_entry(block);
+    let used = used_with_new(block, i, n);
+    room_for(used, block.len())?;
+    pack(block);
+    make_entry(block, i);
+    put_chunk(block, i, n);
+    Ok((16 + 2 * i) as u16)
+}
+
+/// Sees that the table has an entry for a new chunk.
+fn make_entry(block: &mut [u8], i: usize)
+    requires packed { IsPacked block.old }
+    requires lowest { i ≡ lowest_entry (chunks block.old) }
+    requires room { used_bytes (with_entry (chunks block.old)) ≤ length block.old }
+    ensures packed { IsPacked block.new }
+    ensures chunks { chunks block.new ≡ with_entry (chunks block.old) }
+    ensures handle { handle_word block.new ≡ handle_word block.old }
+    ensures known { i < entries block.new }
+    ensures free { entry block.new i ≡ 0 }
+{
+    if i == entries(block) {
+        add_entries(block);
+    }
+}
+
+/// Frees a chunk: its handle has no chunk then, and its bytes are free. Other chunks may move.
+/// `BadChunk` exactly where no chunk has this handle.
+pub fn free(block: &mut [u8], c: u16) -> Result<(), BadChunk>
+    requires { IsHeap block.old }
+    ensures heap { IsHeap block.new }
+    ensures handle { handle_word block.new ≡ handle_word block.old }
+    ensures ok { OnOk result (IsSome (chunk_of (chunks block.old) c) × (chunks block.new ≡ without (chunks block.old) c)) }
+    ensures bad { OnErr result (chunk_of (chunks block.old) c ≡ None) }
+    ensures err { OnErr result (block.new ≡ block.old) }
+{
+    let i = find(block, c)?;
+    pack(block);
+    remove_chunk(block, i);
+    Ok(())
+}

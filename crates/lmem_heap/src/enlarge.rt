@@ -1,0 +1,26 @@
+//! Blocks that got longer.
+ghost use Rattle.std.specs.Prelude.{◌≡◌, ◌≤◌, length, take};
+ghost use Rattle.geos_model.specs.Block.{chunks, handle_word};
+ghost use Rattle.geos_model.specs.Heap.{IsBlockSize, IsHeap};
+
+use crate::tail::{chunks_end, pack, set_tail};
+use crate::words::put16;
+
+/// Makes the bytes behind a heap part of it, as free bytes. The first `old_size` bytes are the heap
+/// as it was, and the block's length is its new size, a legal one. Every chunk keeps its handle and
+/// its bytes, and the table stays as long as it is.
+pub fn enlarged(block: &mut [u8], old_size: u16)
+    requires heap { IsHeap (take old_size block.old) }
+    requires within { old_size ≤ length block.old }
+    requires size { IsBlockSize (length block.old) }
+    ensures heap { IsHeap block.new }
+    ensures chunks { chunks block.new ≡ chunks (take old_size block.old) }
+    ensures handle { handle_word block.new ≡ handle_word block.old }
+{
+    let size = block.len() as u16;
+    let heap = &mut block[..old_size as usize];
+    pack(heap);
+    let at = chunks_end(heap);
+    put16(block, 8, size);
+    set_tail(block, at);
+}

@@ -1,0 +1,155 @@
+ghost use Rattle.std.specs.Prelude.{◌≤◌, ◌↔◌, IsTrue, length, take};
+ghost use Rattle.geos_model.specs.Heap.{IsHeap};
+
+use super::*;
+use std::process::Abort;
+use std::test::Fail;
+
+/// The chunk's bytes, at most 16 of them, and its length.
+fn bytes_of(rt: &impl Abort, block: &[u8], c: u16) -> ([u8; 16], usize) {
+    assert!(rt; check(block));
+    let mut bytes = [0; 16];
+    let Ok((at, len)) = place(block, c) else {
+        return (bytes, 999);
+    };
+    for (i, byte) in bytes.iter_mut().enumerate() {
+        if i < len as usize {
+            *byte = block[at as usize + i];
+        }
+    }
+    (bytes, len as usize)
+}
+
+/// Writes 1, 2, 3 .. into a chunk.
+fn count_into(rt: &impl Abort, block: &mut [u8], c: u16) {
+    assert!(rt; check(block));
+    if let Ok((at, len)) = place(block, c) {
+        for i in 0..len as usize {
+            block[at as usize + i] = (i % 255) as u8 + 1;
+        }
+    }
+}
+
+fn copy(from: &[u8], to: &mut [u8]) {
+    for (to, from) in to.iter_mut().zip(from) {
+        *to = *from;
+    }
+}
+
+/// Whether the first 64 bytes are a heap.
+fn begins_with_a_heap(block: &[u8]) -> bool
+    requires { 64 ≤ length block.now }
+    ensures { IsTrue result ↔ IsHeap (take 64 block.now) }
+{
+    check(&block[..64])
+}
+
+/// Puts a heap of 64 bytes into a longer block.
+fn put_into(rt: &impl Abort, small: &[u8], block: &mut [u8])
+    ensures { IsHeap block.new }
+{
+    let size = block.len();
+    assert!(rt; small.len() == 64 && size >= 64 && size <= 65_520 && size % 16 == 0);
+    copy(small, block);
+    assert!(rt; begins_with_a_heap(block));
+    enlarged(block, 64);
+}
+
+#[test]
+fn makes_a_fresh_block(rt: HostRuntime) -> Result<(), Fail> {
+    let mut block = [0xaa; 64];
+    init(&mut block, 1);
+    let words = [1, 16, 0, 0, 64, 2, 20, 44, 0, 0, 44, 0];
+    for (i, word) in words.iter().enumerate() {
+        assert_eq!(rt; block[2 * i], *word);
+        assert_eq!(rt; block[2 * i + 1], 0);
+    }
+    assert!(rt; check(&block));
+    assert_eq!(rt; next(&block, 0), None);
+    block[6] = 1;
+    assert!(rt; !check(&block));
+    Ok(())
+}
+
+#[test]
+fn needs_a_larger_block_for_a_third_chunk(rt: HostRuntime) -> Result<(), Fail> {
+    let mut small = [0xaa; 64];
+    init(&mut small, 1);
+    assert_eq!(rt; total_free(&small), 44);
+    assert_eq!(rt; alloc(&mut small, 10), Ok(16));
+    assert_eq!(rt; total_free(&small), 32);
+    assert_eq!(rt; alloc(&mut small, 30), Ok(18));
+    assert_eq!(rt; total_free(&small), 0);
+    assert_eq!(rt; alloc(&mut small, 1), Err(RoomError::NeedMore(80)));
+    let mut block = [0xaa; 80];
+    put_into(&rt, &small, &mut block);
+    assert_eq!(rt; alloc(&mut block, 1), Ok(20));
+    assert_eq!(rt; total_free(&block), 8);
+    assert_eq!(rt; size(&block, 18), Ok(30));
+    assert_eq!(rt; next(&block, 18), Some(20));
+    assert!(rt; check(&block));
+    Ok(())
+}
+
+#[test]
+fn fills_the_largest_block(rt: HostRuntime) -> Result<(), Fail> {
+    let mut small = [0; 64];
+    init(&mut small, 1);
+    assert_eq!(rt; alloc(&mut small, 65_499), Err(RoomError::TooBig));
+    assert_eq!(rt; alloc(&mut small, 65_498), Err(RoomError::NeedMore(65_520)));
+    let mut bytes = vec![in rt.alloc(); 0u8; 65_520]?;
+    let block = &mut bytes[..];
+    put_into(&rt, &small, block);
+    assert_eq!(rt; alloc(block, 65_498), Ok(16));
+    assert_eq!(rt; alloc(block, 0), Ok(18));
+    assert_eq!(rt; alloc(block, 0), Err(RoomError::TooBig));
+    assert_eq!(rt; size(block, 16), Ok(65_498));
+    assert_eq!(rt; size(block, 18), Ok(0));
+    assert_eq!(rt; total_free(block), 0);
+    Ok(())
+}
+
+#[test]
+fn changes_chunks(rt: HostRuntime) -> Result<(), Fail> {
+    let mut block = [0; 128];
+    init(&mut block, 7);
+    assert_eq!(rt; alloc(&mut block, 8), Ok(16));
+    assert_eq!(rt; alloc(&mut block, 3), Ok(18));
+    count_into(&rt, &mut block, 16);
+    count_into(&rt, &mut block, 18);
+    assert!(rt; check(&block));
+    assert_eq!(rt; insert(&mut block, 16, 9, 2), Err(InsertError::Range));
+    assert_eq!(rt; delete(&mut block, 16, 6, 3), Err(DeleteError::Range));
+    assert_eq!(rt; insert(&mut block, 16, 8, 0), Ok(()));
+    assert_eq!(rt; size(&block, 17), Err(BadChunk));
+    assert_eq!(rt; insert(&mut block, 16, 1, 2), Ok(()));
+    assert_eq!(rt;
+        bytes_of(&rt, &block, 16),
+        ([1, 0, 0, 2, 3, 4, 5, 6, 7, 8, 0, 0, 0, 0, 0, 0], 10)
+    );
+    assert!(rt; check(&block));
+    assert_eq!(rt; delete(&mut block, 16, 2, 4), Ok(()));
+    assert_eq!(rt;
+        bytes_of(&rt, &block, 16),
+        ([1, 0, 5, 6, 7, 8, 0, 0, 0, 0, 0, 0, 0, 0, 0, 0], 6)
+    );
+    assert!(rt; check(&block));
+    assert_eq!(rt; realloc(&mut block, 16, 2), Ok(()));
+    assert_eq!(rt; realloc(&mut block, 16, 4), Ok(()));
+    assert_eq!(rt;
+        bytes_of(&rt, &block, 16),
+        ([1, 0, 0, 0, 0, 0, 0, 0, 0, 0, 0, 0, 0, 0, 0, 0], 4)
+    );
+    assert!(rt; check(&block));
+    assert_eq!(rt; free(&mut block, 16), Ok(()));
+    assert_eq!(rt; free(&mut block, 16), Err(BadChunk));
+    assert_eq!(rt;
+        bytes_of(&rt, &block, 18),
+        ([1, 2, 3, 0, 0, 0, 0, 0, 0, 0, 0, 0, 0, 0, 0, 0], 3)
+    );
+    assert!(rt; check(&block));
+    assert_eq!(rt; alloc(&mut block, 1), Ok(16));
+    contract(&mut block);
+    assert_eq!(rt; total_free(&block), 128 - 20 - 8 - 4);
+    Ok(())
+}
