@@ -86,8 +86,9 @@ module _ (old : store.Store) (h : ℕ) (k : IsKernel old) where
   -- while a block is locked, its spans stay, and so do all others
   pub lock-spans : (n : ℕ) → 0 < n → store.IsThere old slot → SpansStay old (change.with_locks old slot n) table.Nothing
   lock-spans n some there span ref s fresh = elim (cases_eq (slot_at ref.handle) slot) [
-      inl same ↦ stands-own n span ref some there same s
-    | inr apart ↦ stands-other n span ref apart s ]
+    | inl same ↦ stands-own n span ref some there same s
+    | inr apart ↦ stands-other n span ref apart s
+  ]
 
   spans-kept : (new : store.Store) (stale : table.Staleness) → new ≡ old → SpansStay old new stale
   spans-kept new stale e span ref s fresh = subst (λ t. Stands t span ref) (sym e) s
@@ -103,12 +104,13 @@ module _ (old : store.Store) (h : ℕ) (k : IsKernel old) where
     where
       not_err : (Ok done) ≡ Err handle.Locked → ⊥
       not_err e = absurd cc
+
       below : (store.locks_of old slot ≡ 65535 → ⊥) → (store.locks_of old slot == 65535) ≡ false
       below ne = grind (arith, nat_tests)
   mlock-calls new (Err handle.BadHandle) (there, ok, bad, full, err) = record {
-      answers = mlock-absent (memory_of old) (memory_of new) h (absent-view (bad.0 refl)) (ap memory_of err);
-      spans = λ choice. spans-kept new table.Nothing err;
-    }
+    answers = mlock-absent (memory_of old) (memory_of new) h (absent-view (bad.0 refl)) (ap memory_of err);
+    spans = λ choice. spans-kept new table.Nothing err;
+  }
   mlock-calls new (Err handle.Locked) (there, ok, bad, full, err) =
       let most = full.0 refl in
       let locked : store.IsThere old slot = there_of_locks (store.block_at old slot) (omega (arith, most)) in
@@ -167,13 +169,14 @@ module _ (old : store.Store) (h : ℕ) (k : IsKernel old) where
     where
       not_err : (Ok done) ≡ Err handle.Locked → ⊥
       not_err e = absurd cc
+
       none : (n : ℕ) → (0 < n → ⊥) → n ≡ 0
       none zero f = refl
       none (suc n) f = absurd (f (omega arith))
   mfree-calls new (Err handle.BadHandle) (there, ok, bad, full, err) = record {
-      answers = mfree-absent (memory_of old) (memory_of new) h (absent-view (bad.0 refl)) (ap memory_of err);
-      spans = λ choice. spans-kept new table.Nothing err;
-    }
+    answers = mfree-absent (memory_of old) (memory_of new) h (absent-view (bad.0 refl)) (ap memory_of err);
+    spans = λ choice. spans-kept new table.Nothing err;
+  }
   mfree-calls new (Err handle.Locked) (there, ok, bad, full, err) =
       let some = full.0 refl in
       let locked : nat_lt 0 (store.locks_of old slot) ≡ true = grind (arith, some) in

@@ -1,9 +1,9 @@
 -- Rows of the table, where a block is known.
 use Rattle.std.proofs.Common.{◌≡◌, ℕ, ◌+◌, ◌-◌, true, false, Some, None, refl}
 use Rattle.std.specs.Prelude.{Ok, Err, nat_lt, ◌==◌}
-use Rattle.geos_model.specs.declared.refusal.Refusal.TheVariants.{BadHandle, Locked}
-use Rattle.geos_model.specs.Memory.{Block, Memory, block_of, with_block}
-use Rattle.geos_model.specs.Calls.{Choice, Answers, mlock, munlock, mfree}
+use Rattle.geos_model.specs.declared.refusal.Refusal.TheVariants.{BadHandle, Locked, NoHandle, NoRoom}
+use Rattle.geos_model.specs.Memory.{Block, Memory, block_of, with_block, lowest_handle, new_block, is_tight}
+use Rattle.geos_model.specs.Calls.{Choice, Answers, mnew, mlock, munlock, mfree}
 
 -- nothing is refused from outside
 abbrev pub willing : Choice
@@ -31,3 +31,16 @@ module _ (before after : Memory) (h : ℕ) where
 
   pub mfree-locked : (b : Block) → block_of before h ≡ Some b → nat_lt 0 b.locks ≡ true → after ≡ before → Answers (mfree h) (Err Locked) before after
   mfree-locked b there locked e = (willing, rw (there, locked, e) refl)
+
+-- all is refused from outside that may be
+abbrev pub unwilling : Choice
+unwilling = record { first_room = true; last_room = true; device = true; memory = true }
+
+pub mnew-ok : (before after : Memory) (h : ℕ) → lowest_handle before ≡ Some h → after ≡ with_block before h (Some new_block) → Answers mnew (Ok h) before after
+mnew-ok before after h low e = (willing, rw (low, e) refl)
+
+pub mnew-full : (before : Memory) → lowest_handle before ≡ None → Answers mnew (Err NoHandle) before before
+mnew-full before none = (willing, rw none refl)
+
+pub mnew-tight : (before after : Memory) (h : ℕ) → lowest_handle before ≡ Some h → is_tight before h 64 ≡ true → after ≡ before → Answers mnew (Err NoRoom) before after
+mnew-tight before after h low tight e = (unwilling, rw (low, tight, e) refl)

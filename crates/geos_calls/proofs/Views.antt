@@ -23,18 +23,20 @@ slot_at-handle h q = omega (arith, slot_of-handle Mem h q)
 slot_at-past : (h : ℕ) → 1024 < h → slot_at h ≡ 2048
 slot_at-past h past = grind (arith, nat_tests)
 
-get_or-view : (bs : List (Option store.Block)) (k : ℕ) → k < 1024 → get_or (map block_in (take 1024 bs)) k None ≡ block_in (get_or bs k None)
+pub get_or-view : (bs : List (Option store.Block)) (k : ℕ) → k < 1024 → get_or (map block_in (take 1024 bs)) k None ≡ block_in (get_or bs k None)
 get_or-view bs k lt = elim (cases_lt k (length bs)) [
-    inl inside ↦ get_or-map block_in (take 1024 bs) k None None (omega (arith, length-take 1024 bs)) ∙ ap block_in (get_or-take 1024 bs k None lt)
-  | inr past ↦ get_or_past (map block_in (take 1024 bs)) k None (omega (arith, length-map (take 1024 bs) block_in, length-take 1024 bs)) ∙ ap block_in (sym (get_or_past bs k None past)) ]
+  | inl inside ↦ get_or-map block_in (take 1024 bs) k None None (omega (arith, length-take 1024 bs)) ∙ ap block_in (get_or-take 1024 bs k None lt)
+  | inr past ↦ get_or_past (map block_in (take 1024 bs)) k None (omega (arith, length-map (take 1024 bs) block_in, length-take 1024 bs)) ∙ ap block_in (sym (get_or_past bs k None past))
+]
 
 -- the block of a handle is what the bytes in its slot spell
 pub block_of-view : (s : store.Store) (h : ℕ) → IsKernel s → model.block_of (memory_of s) h ≡ block_in (store.block_at s (slot_at h))
 block_of-view s zero k = ap block_in (sym (k.mem 2048 (omega arith)))
 block_of-view s (suc h) k = elim (cases_lt h 1024) [
-    inl lt ↦ get_or-view s.blocks h lt ∙ ap (λ j. block_in (store.block_at s j)) (sym (slot_at-handle (suc h) (omega arith, omega arith) ∙ omega arith))
+  | inl lt ↦ get_or-view s.blocks h lt ∙ ap (λ j. block_in (store.block_at s j)) (sym (slot_at-handle (suc h) (omega arith, omega arith) ∙ omega arith))
   | inr past ↦ get_or_past (map block_in (take 1024 s.blocks)) h None (omega (arith, length-map (take 1024 s.blocks) block_in, length-take 1024 s.blocks))
-    ∙ ap block_in (sym (k.mem 2048 (omega arith))) ∙ ap (λ j. block_in (store.block_at s j)) (sym (slot_at-past (suc h) (omega arith))) ]
+      ∙ ap block_in (sym (k.mem 2048 (omega arith))) ∙ ap (λ j. block_in (store.block_at s j)) (sym (slot_at-past (suc h) (omega arith)))
+]
 
 -- a slot that is changed is a block that is changed
 pub memory_of-set : (old new : store.Store) (h : ℕ) (b : Option store.Block) → IsHandle h → new.blocks ≡ set old.blocks (slot_at h) b → new.len ≡ old.len
@@ -59,10 +61,12 @@ view-absent (Some b) absent = absurd (absent tt)
 -- a slot with a block is that of a handle
 pub handle_of-there : (s : store.Store) (h : ℕ) → IsKernel s → store.IsThere s (slot_at h) → IsHandle h
 handle_of-there s h k there = elim (cases_lt h 1) [
-    inl below ↦ (let zero_is : h ≡ 0 = omega arith in absurd (none 2048 (omega arith) (subst (λ j. store.IsThere s (slot_at j)) zero_is there)))
+  | inl below ↦ (let zero_is : h ≡ 0 = omega arith in absurd (none 2048 (omega arith) (subst (λ j. store.IsThere s (slot_at j)) zero_is there)))
   | inr low ↦ elim (cases_lt 1024 h) [
-      inl past ↦ absurd (none 2048 (omega arith) (subst (store.IsThere s) (slot_at-past h past) there))
-    | inr high ↦ (low, high) ] ]
+    | inl past ↦ absurd (none 2048 (omega arith) (subst (store.IsThere s) (slot_at-past h past) there))
+    | inr high ↦ (low, high)
+  ]
+]
   where
     none : (slot : ℕ) → 1024 ≤ slot → store.IsThere s slot → ⊥
     none slot le there = subst store.IsBlock (k.mem slot le) there
@@ -73,6 +77,7 @@ slot_of-mem s name k there = same name.owner name.h there
   where
     high : (h : ℕ) → 1024 ≤ slot_of (record { owner = Vm; h = h })
     high h = grind (arith, nat_tests)
+
     same : (owner : Owner) (h : ℕ) → store.IsThere s (slot_of (record { owner = owner; h = h })) → slot_of (record { owner = owner; h = h }) ≡ slot_at h
     same Mem h t = refl
     same Vm h t = absurd (subst store.IsBlock (k.mem (slot_of (record { owner = Vm; h = h })) (high h)) t)

@@ -1,19 +1,39 @@
 -- What holds of the kernel's blocks, and what its calls promise.
-use Rattle.std.specs.Prelude.{◌≡◌, ℕ, ◌≤◌, None, Result}
-use Rattle.block_handles.specs.Store.{Store, block_at, IsThere, bytes_of}
+use Rattle.std.specs.Prelude.{List, [], ◌∷◌, length, set, Some, ◌≡◌, ℕ, ◌≤◌, None, Result}
+use Rattle.block_handles.specs.Store.{Store, block_at, IsThere, bytes_of, slot_count}
+use Rattle.block_handles.specs.Change.{LockedStay}
+use Rattle.block_handles.specs.Used.{IsLowest}
+use Rattle.block_handles.specs.Stretch.{HasNoRoom}
+use Rattle.block_handles.specs.declared.name.Owner.TheVariants.{Mem}
+use Rattle.geos_model.specs.Block as block
 use Rattle.geos_model.specs.Heap.{IsHeap}
 use Rattle.geos_model.specs.declared.refusal.Refusal.{Refusal}
 use Rattle.geos_model.specs.Memory.{Memory}
 use Rattle.geos_model.specs.Calls.{Choice, Row, Answers}
-use Rattle.geos_calls.specs.View.{memory_of}
+use Rattle.geos_calls.specs.View.{memory_of, slot_at}
 use Rattle.geos_calls.specs.Spans.{SpansStay}
 
--- each block holds a heap, and all blocks are of global memory
+-- each block holds a heap, all blocks are of global memory, and there is a slot for each name
 pub record IsKernel (store : Store) : Type 0 where
   pub heaps : (slot : ℕ) → IsThere store slot → IsHeap (bytes_of store slot)
   pub mem : (slot : ℕ) → 1024 ≤ slot → block_at store slot ≡ None
+  pub slots : slot_count store ≡ 2048
 
 -- a call answers as its row says, and spans that it does not make stale stay
 pub record Calls {A : Type 0} (row : Choice → Memory → Row A) (result : Result A Refusal) (old new : Store) : Type 0 where
   pub answers : Answers row result (memory_of old) (memory_of new)
   pub spans : (choice : Choice) → SpansStay old new (row choice (memory_of old)).stale
+
+-- a new heap without a chunk is in a slot, locked once; every other block is as it was, and lies where it lay if it is locked
+pub record MakesHeap (old new : Store) (slot : ℕ) : Type 0 where
+  pub bytes : List ℕ
+  pub blocks : new.blocks ≡ set old.blocks slot (Some (record { locks = 1; bytes = bytes }))
+  pub stay : LockedStay old new slot
+  pub len : new.len ≡ old.len
+  pub heap : IsHeap bytes
+  pub chunks : block.chunks bytes ≡ None ∷ None ∷ []
+  pub long : length bytes ≡ 64
+
+-- no stretch of the region has room for a new block, under the lowest handle that is free
+abbrev pub NewHasNoRoom : Store → Store → Type 0
+NewHasNoRoom old new = (h : ℕ) × IsLowest old Mem h × HasNoRoom new (slot_at h) 64

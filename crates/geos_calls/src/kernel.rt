@@ -1,13 +1,22 @@
 //! The kernel: blocks of global memory, each with a heap of chunks.
 
-ghost use Rattle.std.specs.Prelude.{◌≡◌, ◌<◌, ◌≤◌, IfOk, IfErr, Ok, Err};
+ghost use Rattle.std.specs.Prelude.{◌≡◌, ◌<◌, ◌≤◌, IfOk, IfErr, OnOk, Ok, Err};
 ghost use Rattle.block_handles.specs.declared.name.Owner.{Owner};
+ghost use Rattle.block_handles.specs.Names.{IsHandle, slot_of};
+ghost use Rattle.block_handles.specs.Store.{IsThere};
+ghost use Rattle.block_handles.specs.Stretch.{HasNoRoom};
+ghost use Rattle.geos_model.specs.declared.refusal.Refusal.TheVariants.{NoRoom};
+ghost use Rattle.geos_calls.specs.Kernel.{IsKernel, MakesHeap};
 ghost use Rattle.geos_calls.specs.Refused.{of_handle};
 
 use block_handles::{Blocks, HandleError, Name, Owner, RoomError};
 use geos_model::Refusal;
+use lmem_heap::init;
 use std::alloc::{AllocError, Global};
 use std::marker::Model;
+
+/// The size of a new block in bytes.
+const NEW_SIZE: u32 = 64;
 
 /// Blocks of global memory in one region, each with a heap of chunks.
 #[derive(Drop)]
@@ -34,7 +43,7 @@ impl Kernel {
     ghost use Rattle.block_handles.specs.Stretch.{HasNoRoom};
     ghost use Rattle.geos_model.specs.declared.refusal.Refusal.TheVariants.{NoRoom};
     ghost use Rattle.geos_model.specs.Calls as table;
-    ghost use Rattle.geos_calls.specs.Kernel.{Calls};
+    ghost use Rattle.geos_calls.specs.Kernel.{Calls, NewHasNoRoom};
 
     /// No block, in a region of `region` bytes. This is the only call that takes memory.
     pub fn new(alloc: Global, region: u32) -> Result<Kernel, AllocError>
@@ -51,6 +60,25 @@ impl Kernel {
         ensures { result ≡ locks_of self.now (slot_of name) }
     {
         self.blocks.locks(name)
+    }
+
+    /// Makes a block of 64 bytes with no chunk, under the lowest handle that is free, and locks it. `NoHandle` where all
+    /// 1,024 are in use, `NoRoom` where no stretch of the region has room for it.
+    pub fn mnew(&mut self) -> Result<u16, Refusal>
+        ensures calls { Calls table.mnew result self.old self.new }
+        ensures no_room { result ≡ Err NoRoom → NewHasNoRoom self.old self.new }
+    {
+        let Some(h) = self.blocks.lowest(Owner::Mem) else {
+            return Err(Refusal::NoHandle);
+        };
+        let name = Name {
+            owner: Owner::Mem,
+            h,
+        };
+        match make_heap(&mut self.blocks, name) {
+            Ok(()) => Ok(h),
+            Err(refusal) => Err(refusal),
+        }
     }
 
     /// Locks a block once more. `BadHandle` where there is none, `Locked` where its count is 65,535.
@@ -97,4 +125,20 @@ fn of_handle(done: Result<(), HandleError>) -> Result<(), Refusal>
         Err(HandleError::BadHandle) => Err(Refusal::BadHandle),
         Err(HandleError::Locked) => Err(Refusal::Locked),
     }
+}
+
+/// Makes a block of 64 bytes with no chunk, and locks it.
+fn make_heap(blocks: &mut Blocks, name: Name) -> Result<(), Refusal>
+    requires kernel { IsKernel blocks.old }
+    requires handle { IsHandle name.h }
+    requires free { IsThere blocks.old (slot_of name) → ⊥ }
+    ensures ok { OnOk result (MakesHeap blocks.old blocks.new (slot_of name)) }
+    ensures no_room { IfErr result (λ refusal. (refusal ≡ NoRoom) × HasNoRoom blocks.new (slot_of name) 64 × (blocks.new ≡ blocks.old)) }
+{
+    if blocks.make(name, NEW_SIZE).is_err() {
+        return Err(Refusal::NoRoom);
+    }
+    init(blocks.bytes_mut(name), name.h);
+    let locked = blocks.lock(name);
+    of_handle(locked)
 }

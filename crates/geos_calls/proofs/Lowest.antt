@@ -1,0 +1,45 @@
+-- The lowest handle that is free.
+use Rattle.std.proofs.Common.{◌≡◌, ℕ, zero, suc, ◌<◌, List, length, length-take, map, take, get_or, Option, Some, None, true, false, refl, sym, ap, ◌∙◌, arith, subst}
+use Rattle.std.specs.Prelude.{is_none, nat_lt}
+use Rattle.std.specs.List.{position_or_len}
+use Rattle.std.proofs.lemmas.List.{length-map}
+use Rattle.std.proofs.lemmas.List.Sums.{position_or_len_is}
+use Rattle.block_handles.specs.declared.name.Owner.TheVariants.{Mem}
+use Rattle.block_handles.specs.Store as store
+use Rattle.block_handles.specs.Used.{IsLowest, AllInUse}
+use Rattle.geos_model.specs.Memory as model
+use Rattle.geos_calls.specs.View.{slot_at, block_in, memory_of}
+use Rattle.geos_calls.specs.Kernel.{IsKernel}
+use Rattle.geos_calls.proofs.Views.{slot_at-handle, get_or-view, view-there, view-absent}
+
+module _ (s : store.Store) (k : IsKernel s) where
+  abbrev blocks : List (Option model.Block)
+  blocks = map block_in (take 1024 s.blocks)
+
+  count : length blocks ≡ 1024
+  count = omega (arith, length-map (take 1024 s.blocks) block_in, length-take 1024 s.blocks, k.slots)
+
+  used : (i : ℕ) → i < 1024 → store.IsThere s (slot_at (suc i)) → is_none (get_or blocks i None) ≡ false
+  used i lt there =
+      let slot : slot_at (suc i) ≡ i = slot_at-handle (suc i) (omega arith, omega arith) ∙ omega arith in
+      ap is_none (get_or-view s.blocks i lt ∙ view-there (store.block_at s i) (subst (store.IsThere s) slot there))
+
+  unused : (i : ℕ) → i < 1024 → (store.IsThere s (slot_at (suc i)) → ⊥) → is_none (get_or blocks i None) ≡ true
+  unused i lt absent =
+      let slot : slot_at (suc i) ≡ i = slot_at-handle (suc i) (omega arith, omega arith) ∙ omega arith in
+      ap is_none (get_or-view s.blocks i lt ∙ view-absent (store.block_at s i) (λ there. absent (subst (store.IsThere s) (sym slot) there)))
+
+  pub lowest-some : (h : ℕ) → IsLowest s Mem h → model.lowest_handle (memory_of s) ≡ Some h
+  lowest-some zero l = absurd (omega (arith, l.handle.0))
+  lowest-some (suc i) l =
+      let lt : i < 1024 = omega (arith, l.handle.1) in
+      let first : position_or_len is_none blocks ≡ i =
+      position_or_len_is is_none blocks i None (omega (arith, count)) (λ j below. used j (omega arith) (l.lower (suc j) (omega arith, omega arith) (omega arith))) (λ inside. unused i lt l.free) in
+      let inside : nat_lt i (length blocks) ≡ true = rw count (grind (arith, lt)) in
+      rw (first, inside) refl
+
+  pub lowest-none : AllInUse s Mem → model.lowest_handle (memory_of s) ≡ None
+  lowest-none all =
+      let last : position_or_len is_none blocks ≡ 1024 =
+      position_or_len_is is_none blocks 1024 None (omega (arith, count)) (λ j below. used j below (all (suc j) (omega arith, omega arith))) (λ inside. absurd (omega (arith, inside, count))) in
+      rw (last, count) refl

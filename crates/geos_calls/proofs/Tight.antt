@@ -1,0 +1,113 @@
+-- Where no stretch of the region has room, the sizes of the blocks say so.
+use Rattle.std.proofs.Common.{◌≡◌, ◌≢◌, ℕ, zero, suc, ◌+◌, ◌-◌, ◌*◌, ◌<◌, ◌≤◌, List, [], ◌∷◌, ◌++◌, length, length-take, length-set, map, take, get_or, Option, Some, None, Bool, true, false, refl, sym, ap, ◌∙◌, arith, inl, inr}
+use Rattle.std.specs.Prelude.{sum_by, count_by, nat_lt, nat_eq, cond, if◌then◌else◌}
+use Rattle.std.proofs.lemmas.Bool.{cases_eq}
+use Rattle.std.proofs.lemmas.Bool.Decides.{nat_tests}
+use Rattle.std.proofs.lemmas.List.{length-map, take_more, take_all, get_or-set_same, get_or-set_other}
+use Rattle.std.proofs.lemmas.List.Sums.{sum_by_push}
+use Rattle.block_handles.specs.Names.{IsHandle}
+use Rattle.block_handles.specs.Store as store
+use Rattle.block_handles.specs.Stretch.{total, other_size, locked_one, other_locked, other_sizes, IsCrowded}
+use Rattle.geos_model.specs.Memory as model
+use Rattle.geos_calls.specs.View.{slot_at, block_in, memory_of}
+use Rattle.geos_calls.specs.Kernel.{IsKernel}
+use Rattle.geos_calls.proofs.Views.{slot_at-handle, get_or-view}
+
+-- a sum over numbers that stands for one over a list
+total_sum : {A : Type 0} (g : A → ℕ) (xs : List A) (d : A) (f : ℕ → ℕ) (n : ℕ) → n ≤ length xs → ((i : ℕ) → i < n → f i ≡ g (get_or xs i d)) → total n f ≡ sum_by g (take n xs)
+total_sum g xs d f zero le same = refl
+total_sum g xs d f (suc n) le same =
+    let next : suc n ≡ n + 1 = omega arith in
+    let more : take (suc n) xs ≡ take n xs ++ get_or xs n d ∷ [] = ap (λ k. take k xs) next ∙ take_more xs n d (omega arith) in
+    let rest = total_sum g xs d f n (omega arith) (λ i lt. same i (omega arith)) in
+    let here = same n (omega arith) in
+    let pushed = sum_by_push g (take n xs) (get_or xs n d) in
+    let sum : f n + total n f ≡ sum_by g (take n xs ++ get_or xs n d ∷ []) = omega (arith, rest, here, pushed) in
+    sum ∙ sym (ap (sum_by g) more)
+
+-- what is 0 from some number on adds nothing
+total_zero : (f : ℕ → ℕ) (n m : ℕ) → n ≤ m → ((i : ℕ) → n ≤ i → f i ≡ 0) → total m f ≡ total n f
+total_zero f n zero le none = let same : 0 ≡ n = omega arith in ap (λ k. total k f) same
+total_zero f n (suc m) le none = elim (cases_eq n (suc m)) [
+  | inl same ↦ ap (λ k. total k f) (sym same)
+  | inr less ↦ omega (arith, none m (omega (arith, less)), total_zero f n m (omega (arith, less)) none)
+]
+
+either : (b : Bool) (n : ℕ) → n ≡ 0 → (if b then 0 else n) ≡ 0
+either true n e = refl
+either false n e = e
+
+flag : (n : ℕ) → cond {A = ℕ} (nat_eq n 0) 0 1 ≡ cond (nat_lt 0 n) 1 0
+flag zero = refl
+flag (suc n) = grind (arith, nat_tests)
+
+module _ (s : store.Store) (h : ℕ) (k : IsKernel s) (q : IsHandle h) where
+  abbrev others : List (Option model.Block)
+  others = model.others (memory_of s) h
+
+  abbrev slot : ℕ
+  slot = slot_at h
+
+  count : length others ≡ 1024
+  count = omega (arith, length-set (map block_in (take 1024 s.blocks)) (h - 1) None, length-map (take 1024 s.blocks) block_in, length-take 1024 s.blocks, k.slots)
+
+  own : get_or others slot None ≡ None
+  own =
+      let e = slot_at-handle h q in
+      ap (λ i. get_or others i None) e ∙ get_or-set_same (map block_in (take 1024 s.blocks)) (h - 1) None None (omega (arith, q.0, q.1, length-map (take 1024 s.blocks) block_in, length-take 1024 s.blocks, k.slots))
+
+  other : (i : ℕ) → i < 1024 → i ≢ slot → get_or others i None ≡ block_in (store.block_at s i)
+  other i lt ne =
+      let apart : i ≢ h - 1 = λ e. ne (e ∙ sym (slot_at-handle h q)) in
+      get_or-set_other (map block_in (take 1024 s.blocks)) (h - 1) i None None apart ∙ get_or-view s.blocks i lt
+
+  -- f counts what g does of the others, and nothing past the last handle
+  total_others : (f : ℕ → ℕ) (g : Option model.Block → ℕ) → ((i : ℕ) → i < 1024 → f i ≡ g (get_or others i None)) → ((i : ℕ) → 1024 ≤ i → f i ≡ 0)
+      → total (store.slot_count s) f ≡ sum_by g others
+  total_others f g same none =
+      ap (λ n. total n f) k.slots ∙ total_zero f 1024 2048 (omega arith) none ∙ total_sum g others None f 1024 (omega (arith, count)) same
+      ∙ ap (sum_by g) (take_all 1024 others (omega (arith, count)))
+
+  size_view : (o : Option store.Block) → length (store.bytes_in o) ≡ model.size_in (block_in o)
+  size_view None = refl
+  size_view (Some b) = refl
+
+  locks_view : (o : Option store.Block) → store.locks_in o ≡ model.locks_in (block_in o)
+  locks_view None = refl
+  locks_view (Some b) = refl
+
+  size_at : (i : ℕ) → i < 1024 → other_size s slot i ≡ model.size_in (get_or others i None)
+  size_at i lt = elim (cases_eq i slot) [
+    | inl same ↦ (let yes_is : nat_eq i slot ≡ true = grind (arith, nat_tests, same) in rw yes_is (sym (ap model.size_in (ap (λ j. get_or others j None) same ∙ own))))
+    | inr ne ↦ (let no_is : nat_eq i slot ≡ false = grind (arith, nat_tests, ne) in rw no_is (size_view (store.block_at s i) ∙ sym (ap model.size_in (other i lt ne))))
+  ]
+
+  no_size : (i : ℕ) → 1024 ≤ i → other_size s slot i ≡ 0
+  no_size i le = either (nat_eq i slot) (store.size_of s i) (ap (λ o. length (store.bytes_in o)) (k.mem i le))
+
+  pub sizes_same : other_sizes s slot ≡ sum_by model.size_in others
+  sizes_same = total_others (other_size s slot) model.size_in size_at no_size
+
+  abbrev one_if_locked : Option model.Block → ℕ
+  one_if_locked b = cond (nat_lt 0 (model.locks_in b)) 1 0
+
+  locked_at : (i : ℕ) → i < 1024 → locked_one s slot i ≡ one_if_locked (get_or others i None)
+  locked_at i lt = elim (cases_eq i slot) [
+    | inl same ↦ (let yes_is : nat_eq i slot ≡ true = grind (arith, nat_tests, same) in rw yes_is (sym (ap one_if_locked (ap (λ j. get_or others j None) same ∙ own))))
+    | inr ne ↦ (let no_is : nat_eq i slot ≡ false = grind (arith, nat_tests, ne) in
+        rw no_is (flag (store.locks_of s i) ∙ ap (λ n. cond (nat_lt 0 n) 1 0) (locks_view (store.block_at s i)) ∙ sym (ap one_if_locked (other i lt ne))))
+  ]
+
+  no_lock : (i : ℕ) → 1024 ≤ i → locked_one s slot i ≡ 0
+  no_lock i le =
+      let unlocked : store.locks_of s i ≡ 0 = ap store.locks_in (k.mem i le) in
+      let none : (if nat_eq (store.locks_of s i) 0 then 0 else 1) ≡ 0 = rw unlocked refl in
+      either (nat_eq i slot) (if nat_eq (store.locks_of s i) 0 then 0 else 1) none
+
+  pub locked_same : other_locked s slot ≡ count_by (λ b. nat_lt 0 (model.locks_in b)) others
+  locked_same = total_others (locked_one s slot) one_if_locked locked_at no_lock
+
+  pub is_tight-crowded : (size : ℕ) → IsCrowded s slot size → model.is_tight (memory_of s) h size ≡ true
+  is_tight-crowded size crowded =
+      let more : s.len < (count_by (λ b. nat_lt 0 (model.locks_in b)) others + 1) * size + sum_by model.size_in others = rw (sym locked_same, sym sizes_same) crowded in
+      grind (arith, more)
