@@ -1,10 +1,10 @@
-use Rattle.std.proofs.Common.{◌-◌, ap, arith}
+use Rattle.std.proofs.Common.{ap, arith}
 use Rattle.block_handles.specs.Store.{locks_of}
 use Rattle.block_handles.proofs.Layouts.{there_of_locks}
 use Rattle.block_handles.proofs.Readies.{kept-locks}
 use Rattle.block_handles.proofs.Blocks.unlock.Goals as goal
 
 pub invariant_of-self : goal.invariant_of-self
-invariant_of-self c = kept-locks c.self.inside.arena c.set_locks.new.self c.self.inside.gap c.self.inside.used.words.items c.slot-slot.result (c.locks-locks.result - 1)
+invariant_of-self c = kept-locks _ _ _ _ _ _
     (there_of_locks c.self.inside.arena c.slot-slot.result (omega (arith, c.requires, ap (λ s. locks_of s c.slot-slot.result) c.self.view_is, ap (locks_of c.args.self.now) c.slot-slot.ensures)))
     c.set_locks.ensures.store c.self.invariant

@@ -1,8 +1,8 @@
-use Rattle.std.proofs.Common.{◌∙◌, sym, take}
+use Rattle.std.proofs.Common.{◌∙◌, sym}
 use Rattle.lmem_raw.proofs.Parts.{length-with_part}
 use Rattle.lmem_raw.proofs.Region.slice_mut.Goals as goal
 
 pub invariant_of-self-lent : goal.invariant_of-self-lent
 invariant_of-self-lent c w =
     let i = c.self.invariant in
-    record { full = i.full; long = i.long ∙ sym (length-with_part c.self.inside.raw.bytes c.args.at (take c.args.n w)); size = i.size; place = i.place; from = i.from }
+    record { full = i.full; long = i.long ∙ sym (length-with_part _ _ _); size = i.size; place = i.place; from = i.from }
