@@ -36,7 +36,7 @@ gap-last b f g heap is ne next none =
       total = (let e = ap free_bytes r.is ∙ free_bytes-append r.pre (Free r.s ∷ r.rest) in let u = used-free r.pre r.used in let v = used-free r.rest mid_used in let w = fill.total in omega (arith, e, u, v, w));
       places = (omega arith, high, omega arith);
     } in
-    let Q : ℕ → Type 0 = λ x. HasGap b (gap_of f x (length b) 0 0) in subst Q size got
+    let Q : ℕ → Type 0 = λ x. HasGap b (gap_of f x (length b) 0 0) in subst Q {y = word b f} size got
 
 pub gap-inner : (b : List ℕ) (f g : ℕ) → IsHeap b → f ≡ first_free b → f ≢ 0 → g ≡ word b (f + 2) → g ≢ 0 → HasGap b (gap_of f (word b f) g (word b g) (word b (g + 2))) × (f + word b f < g) × (g + 4 ≤ length b)
 gap-inner b f g heap is ne next some =
@@ -72,4 +72,4 @@ gap-inner b f g heap is ne next some =
     let Q1 : ℕ → Type 0 = λ x. HasGap b (gap_of f x g q.s (word b (g + 2))) in let Q2 : ℕ → Type 0 = λ y. HasGap b (gap_of f (word b f) g y (word b (g + 2))) in
     let apart : g ≢ f + r.s = (λ e. r.here.4 (sym next ∙ e)) in
     let four : 4 ≤ q.s = omega (arith, q.here.0, q.here.1) in
-    (subst Q2 more (subst Q1 size got), omega (arith, size), omega (arith, high, four))
+    (subst Q2 {y = word b g} more (subst Q1 {y = word b f} size got), omega (arith, size), omega (arith, high, four))

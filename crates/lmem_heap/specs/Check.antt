@@ -4,27 +4,25 @@ use Rattle.geos_model.specs.Block.{entry, entries, table_end}
 use Rattle.geos_model.specs.Bytes.{word}
 use Rattle.geos_model.specs.Heap.{Piece, Tiles, HasChunk, free_bytes, IsOffset, IsTiledBy}
 
--- pieces fill the rest of a block, from `at` on
+-- these pieces tile the rest of a block, from `at` on: the first free one is at `free`, and `sum` bytes were free before
 pub record TilesRest (block : List ℕ) (at free sum : ℕ) (pieces : List Piece) : Type 0 where
   pub tiles : Tiles block at free pieces (length block) 0
   pub all : (i : ℕ) → i < entries block → IsOffset (entry block i) → at ≤ entry block i → HasChunk i pieces
   pub total : sum + free_bytes pieces ≡ word block 14
 
+-- some pieces do
 abbrev pub CanTile : List ℕ → ℕ → ℕ → ℕ → Type 0
 CanTile block at free sum = (pieces : List Piece) × TilesRest block at free sum pieces
 
--- past a piece of this size the rest can be filled exactly where it could be before
+-- past a piece of this size the rest can be tiled exactly where it could be before
 abbrev pub Goes : List ℕ → ℕ → ℕ → ℕ → ℕ → ℕ → ℕ → Type 0
 Goes block at free sum size free_then sum_then = (CanTile block at free sum ↔ CanTile block (at + size) free_then sum_then) × (4 ≤ size) × (size % 4 ≡ 0) × (at + size ≤ length block) × (sum_then ≤ sum + size)
 
+-- some pieces tile the block
 abbrev pub IsTiled : List ℕ → Type 0
 IsTiled block = (pieces : List Piece) × IsTiledBy block pieces
 
--- a chunk_of that an entry tells of starts at 4 * k
-abbrev pub StartsAt : List ℕ → ℕ → Type 0
-StartsAt block k = (i : ℕ) × (i < entries block) × IsOffset (entry block i) × (entry block i ≡ 4 * k + 2)
-
--- the first n entries are marked, each at a place of its own
+-- the first n entries are marked, each at an offset of its own: mark k is for a chunk whose first byte is at 4 * k + 2
 pub record Marks (block : List ℕ) (n : ℕ) (starts : List Bool) : Type 0 where
   pub sound : (k : ℕ) → slice_index_or starts k false ≡ true → (i : ℕ) × (i < n) × IsOffset (entry block i) × (entry block i ≡ 4 * k + 2)
   pub marked : (i : ℕ) → i < n → IsOffset (entry block i) → slice_index_or starts (entry block i / 4) false ≡ true

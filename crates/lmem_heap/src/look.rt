@@ -32,7 +32,7 @@ pub(crate) fn entry(block: &[u8], i: usize) -> u16
 /// The entry of a chunk's handle. `BadChunk` where no chunk has it.
 pub(crate) fn find(block: &[u8], c: u16) -> Result<usize, BadChunk>
     requires { IsHeap block.now }
-    ensures none { MatchResult result (λ i. place_of block.now c ≡ place_at block.now (entry block.now i)) (λ _. place_of block.now c ≡ None) }
+    ensures place { MatchResult result (λ i. place_of block.now c ≡ place_at block.now (entry block.now i)) (λ _. place_of block.now c ≡ None) }
     ensures found { MatchResult result (λ i. (c ≡ handle_of i) × (i < entries block.now) × (entry block.now i ≢ 0)) (λ _. chunk_of (chunks block.now) c ≡ None) }
 {
     if c < 16 || c % 2 != 0 {
