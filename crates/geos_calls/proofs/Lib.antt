@@ -2,6 +2,7 @@ pub mod Views
 pub mod Rows
 pub mod Stays
 pub mod Locks
+pub mod Looks
 pub mod Making
 pub mod Lowest
 pub mod Tight

@@ -41,7 +41,7 @@ module _ (old : store.Store) (h : ℕ) (k : IsKernel old) where
   slot = slot_at h
 
   -- what the kernel's memory has under the handle
-  there-view : store.IsThere old slot → model.block_of (memory_of old) h ≡ Some (record { locks = store.locks_of old slot; chunks = block.chunks (store.bytes_of old slot); size = store.size_of old slot })
+  pub there-view : store.IsThere old slot → model.block_of (memory_of old) h ≡ Some (record { locks = store.locks_of old slot; chunks = block.chunks (store.bytes_of old slot); size = store.size_of old slot })
   there-view there = block_of-view old h k ∙ view-there (store.block_at old slot) there
 
   absent-view : (store.IsThere old slot → ⊥) → model.block_of (memory_of old) h ≡ None

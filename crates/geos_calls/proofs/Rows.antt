@@ -1,9 +1,10 @@
 -- Rows of the table, where a block is known.
-use Rattle.std.proofs.Common.{◌≡◌, ℕ, ◌+◌, ◌-◌, true, false, Some, None, refl}
+use Rattle.std.proofs.Common.{◌≡◌, ◌∙◌, ap, ℕ, ◌+◌, ◌-◌, true, false, List, length, Option, Some, None, refl}
 use Rattle.std.specs.Prelude.{Ok, Err, nat_lt, ◌==◌}
-use Rattle.geos_model.specs.declared.refusal.Refusal.TheVariants.{BadHandle, Locked, NoHandle, NoRoom}
-use Rattle.geos_model.specs.Memory.{Block, Memory, block_of, with_block, lowest_handle, new_block, is_tight}
-use Rattle.geos_model.specs.Calls.{Choice, Answers, mnew, mlock, munlock, mfree}
+use Rattle.geos_model.specs.declared.refusal.Refusal.TheVariants.{BadHandle, BadChunk, Locked, NoHandle, NoRoom}
+use Rattle.geos_model.specs.Chunks.{chunk_of}
+use Rattle.geos_model.specs.Memory.{Block, Memory, block_of, chunks_in, with_block, lowest_handle, new_block, is_tight}
+use Rattle.geos_model.specs.Calls.{Choice, Answers, mnew, lsize, mlock, munlock, mfree}
 
 -- nothing is refused from outside
 abbrev pub willing : Choice
@@ -44,3 +45,14 @@ mnew-full before none = (willing, rw none refl)
 
 pub mnew-tight : (before after : Memory) (h : ℕ) → lowest_handle before ≡ Some h → is_tight before h 64 ≡ true → after ≡ before → Answers mnew (Err NoRoom) before after
 mnew-tight before after h low tight e = (unwilling, rw (low, tight, e) refl)
+
+module _ (memory : Memory) (h c : ℕ) (chunks : List (Option (List ℕ))) (known : chunks_in (block_of memory h) ≡ chunks) where
+  pub lsize-ok : (bytes : List ℕ) (n : ℕ) → chunk_of chunks c ≡ Some bytes → length bytes ≡ n → Answers (lsize h c) (Ok n) memory memory
+  lsize-ok bytes n there long =
+      let some : chunk_of (chunks_in (block_of memory h)) c ≡ Some bytes = ap (λ cs. chunk_of cs c) known ∙ there in
+      (willing, rw (some, long) refl)
+
+  pub lsize-absent : chunk_of chunks c ≡ None → Answers (lsize h c) (Err BadChunk) memory memory
+  lsize-absent none =
+      let absent : chunk_of (chunks_in (block_of memory h)) c ≡ None = ap (λ cs. chunk_of cs c) known ∙ none in
+      (willing, rw absent refl)

@@ -11,7 +11,7 @@ ghost use Rattle.geos_calls.specs.Refused.{of_handle};
 
 use block_handles::{Blocks, HandleError, Name, Owner, RoomError};
 use geos_model::Refusal;
-use lmem_heap::init;
+use lmem_heap::{init, size};
 use std::alloc::{AllocError, Global};
 use std::marker::Model;
 
@@ -104,16 +104,25 @@ impl Kernel {
         let freed = self.blocks.free(mem(h));
         of_handle(freed)
     }
+
+    /// The length of a chunk in bytes. `BadChunk` where no chunk of the block has this handle.
+    pub fn lsize(&self, name: Name, c: u16) -> Result<u16, Refusal>
+        requires { 0 < locks_of self.now (slot_of name) }
+        ensures { Calls (table.lsize name.h c) result self.now self.now }
+    {
+        match size(self.blocks.bytes(name), c) {
+            Ok(n) => Ok(n),
+            Err(_) => Err(Refusal::BadChunk),
+        }
+    }
 }
 
 /// The name of a block of global memory.
 fn mem(h: u16) -> Name
     ensures { result ≡ record { owner = Owner.Mem; h = h } }
 {
-    Name {
-        owner: Owner::Mem,
-        h,
-    }
+    let owner = Owner::Mem;
+    Name { owner, h }
 }
 
 /// Why a block was not locked or freed, as the kernel says it.
