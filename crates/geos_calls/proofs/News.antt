@@ -59,7 +59,7 @@ module _ (old : store.Store) (k : IsKernel old) where
         fresh-block = λ i. record { locks = 1; chunks = made.chunks i; size = made.long i }
 
     pub kernel-made : IsKernel new
-    kernel-made = record { heaps = heap; mem = λ slot le. other-block slot (λ same. absurd (omega (arith, le, same, place, low.handle.1))) ∙ k.mem slot le; slots = count }
+    kernel-made = record { heaps = heap; mem = λ slot le. other-block slot (λ same. absurd (omega (arith, le, same, place, low.handle.1))) ∙ k.mem slot le; slots = count; small = rw made.len k.small }
       where
         place : slot_at h ≡ h - 1
         place = slot_at-handle h low.handle

@@ -1,10 +1,10 @@
 -- Rows of the table, where a block is known.
 use Rattle.std.proofs.Common.{◌≡◌, ◌∙◌, ap, ℕ, ◌+◌, ◌-◌, true, false, List, length, Option, Some, None, refl}
 use Rattle.std.specs.Prelude.{Ok, Err, nat_lt, ◌==◌}
-use Rattle.geos_model.specs.declared.refusal.Refusal.TheVariants.{BadHandle, BadChunk, Locked, NoHandle, NoRoom}
+use Rattle.geos_model.specs.declared.refusal.Refusal.TheVariants.{BadHandle, BadChunk, Short, Locked, NoHandle, NoRoom}
 use Rattle.geos_model.specs.Chunks.{chunk_of}
 use Rattle.geos_model.specs.Memory.{Block, Memory, block_of, chunks_in, with_block, lowest_handle, new_block, is_tight}
-use Rattle.geos_model.specs.Calls.{Choice, Answers, mnew, lsize, mlock, munlock, mfree}
+use Rattle.geos_model.specs.Calls.{Choice, Answers, mnew, lsize, deref, mlock, munlock, mfree}
 
 -- nothing is refused from outside
 abbrev pub willing : Choice
@@ -54,5 +54,21 @@ module _ (memory : Memory) (h c : ℕ) (chunks : List (Option (List ℕ))) (know
 
   pub lsize-absent : chunk_of chunks c ≡ None → Answers (lsize h c) (Err BadChunk) memory memory
   lsize-absent none =
+      let absent : chunk_of (chunks_in (block_of memory h)) c ≡ None = ap (λ cs. chunk_of cs c) known ∙ none in
+      (willing, rw absent refl)
+
+  pub deref-ok : (bytes : List ℕ) (n : ℕ) → chunk_of chunks c ≡ Some bytes → nat_lt (length bytes) n ≡ false
+      → Answers (deref h c n) (Ok (record { handle = h; chunk = c; start = 0; len = length bytes })) memory memory
+  deref-ok bytes n there long =
+      let some : chunk_of (chunks_in (block_of memory h)) c ≡ Some bytes = ap (λ cs. chunk_of cs c) known ∙ there in
+      (willing, rw (some, long) refl)
+
+  pub deref-short : (bytes : List ℕ) (n : ℕ) → chunk_of chunks c ≡ Some bytes → nat_lt (length bytes) n ≡ true → Answers (deref h c n) (Err Short) memory memory
+  deref-short bytes n there short =
+      let some : chunk_of (chunks_in (block_of memory h)) c ≡ Some bytes = ap (λ cs. chunk_of cs c) known ∙ there in
+      (willing, rw (some, short) refl)
+
+  pub deref-absent : (n : ℕ) → chunk_of chunks c ≡ None → Answers (deref h c n) (Err BadChunk) memory memory
+  deref-absent n none =
       let absent : chunk_of (chunks_in (block_of memory h)) c ≡ None = ap (λ cs. chunk_of cs c) known ∙ none in
       (willing, rw absent refl)

@@ -29,8 +29,8 @@ abbrev pub Same : Store → Store → ℕ → Type 0
 Same old new slot = (block_at new slot ≡ None) ⊎ ((bytes_of new slot ≡ bytes_of old slot) × (IsThere new slot → IsThere old slot))
 
 -- blocks still are a kernel's where each slot has the bytes that it had, or none
-pub kernel-on : (old new : Store) → slot_count new ≡ slot_count old → ((slot : ℕ) → Same old new slot) → IsKernel old → IsKernel new
-kernel-on old new count same k = record { slots = count ∙ k.slots; heaps = λ slot there. heap slot there (same slot); mem = λ slot le. no_block (block_at new slot) (λ there. gone slot le there (same slot)) }
+pub kernel-on : (old new : Store) → slot_count new ≡ slot_count old → new.len ≡ old.len → ((slot : ℕ) → Same old new slot) → IsKernel old → IsKernel new
+kernel-on old new count len same k = record { slots = count ∙ k.slots; small = rw len k.small; heaps = λ slot there. heap slot there (same slot); mem = λ slot le. no_block (block_at new slot) (λ there. gone slot le there (same slot)) }
   where
     heap : (slot : ℕ) → IsThere new slot → Same old new slot → IsHeap (bytes_of new slot)
     heap slot there (inl none) = absurd (subst IsBlock none there)

@@ -9,9 +9,10 @@ ghost use Rattle.geos_model.specs.declared.refusal.Refusal.TheVariants.{NoRoom};
 ghost use Rattle.geos_calls.specs.Kernel.{IsKernel, MakesHeap};
 ghost use Rattle.geos_calls.specs.Refused.{of_handle};
 
+use crate::span::Span;
 use block_handles::{Blocks, HandleError, Name, Owner, RoomError};
 use geos_model::Refusal;
-use lmem_heap::{init, size};
+use lmem_heap::{init, place, size};
 use std::alloc::{AllocError, Global};
 use std::marker::Model;
 
@@ -43,7 +44,7 @@ impl Kernel {
     ghost use Rattle.block_handles.specs.Stretch.{HasNoRoom};
     ghost use Rattle.geos_model.specs.declared.refusal.Refusal.TheVariants.{NoRoom};
     ghost use Rattle.geos_model.specs.Calls as table;
-    ghost use Rattle.geos_calls.specs.Kernel.{Calls, NewHasNoRoom};
+    ghost use Rattle.geos_calls.specs.Kernel.{Calls, GivesSpan, NewHasNoRoom};
 
     /// No block, in a region of `region` bytes. This is the only call that takes memory.
     pub fn new(alloc: Global, region: u32) -> Result<Kernel, AllocError>
@@ -103,6 +104,24 @@ impl Kernel {
     {
         let freed = self.blocks.free(mem(h));
         of_handle(freed)
+    }
+
+    /// Where a chunk's bytes lie, which must be `n` at least. `BadChunk` where no chunk of the block has this handle, `Short`
+    /// where it has fewer bytes. The span stands until a call makes the chunk's references stale.
+    pub fn deref(&self, name: Name, c: u16, n: u16) -> Result<Span, Refusal>
+        requires { 0 < locks_of self.now (slot_of name) }
+        ensures { GivesSpan (table.deref name.h c n) result self.now }
+    {
+        let Ok((at, len)) = place(self.blocks.bytes(name), c) else {
+            return Err(Refusal::BadChunk);
+        };
+        if len < n {
+            return Err(Refusal::Short);
+        }
+        Ok(Span {
+            at: self.blocks.place(name) + u32::from(at),
+            len,
+        })
     }
 
     /// The length of a chunk in bytes. `BadChunk` where no chunk of the block has this handle.

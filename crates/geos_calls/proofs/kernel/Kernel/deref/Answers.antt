@@ -1,0 +1,47 @@
+use Rattle.std.proofs.Common.{subst, sym, ◌<◌, ◌≤◌, ◌+◌, arith}
+use Rattle.std.specs.Prelude.{length, ◌≡◌, Some, None, Ok}
+use Rattle.lmem_raw.specs.Bytes.{part}
+use Rattle.block_handles.specs.Names.{slot_of}
+use Rattle.block_handles.specs.Store.{locks_of}
+use Rattle.geos_model.specs.Block.{chunks, IsPlaced}
+use Rattle.geos_model.specs.Chunks.{chunk_of}
+use Rattle.geos_model.specs.Calls as table
+use Rattle.geos_calls.specs.declared.span.Span.{Span}
+use Rattle.geos_calls.specs.Kernel.{GivesSpan}
+use Rattle.geos_calls.proofs.Looks.{deref-none, deref-few, deref-span}
+use Rattle.geos_calls.proofs.kernel.Kernel.deref.Goals as goal
+
+pub returns-in_default : goal.returns-in_default
+returns-in_default c =
+    let s = c.self.inside.blocks in
+    let name = c.args.name in
+    let locked : 0 < locks_of s (slot_of name) = subst (λ t. 0 < locks_of t (slot_of name)) (sym c.self.view_is) c.requires in
+    let none = subst (λ bytes. chunk_of (chunks bytes) c.args.c ≡ None) c.bytes.ensures c.in_default.ensures.bytes in
+    rw (sym c.self.view_is) (deref-none s name c.args.c c.self.invariant locked c.args.n none)
+
+pub returns-then-len-n : goal.returns-then-len-n
+returns-then-len-n c =
+    let s = c.self.inside.blocks in
+    let name = c.args.name in
+    let at = c.in-Ok.at in
+    let len = c.in-Ok.len in
+    let locked : 0 < locks_of s (slot_of name) = subst (λ t. 0 < locks_of t (slot_of name)) (sym c.self.view_is) c.requires in
+    let within = subst (λ bytes. at + len ≤ length bytes) c.bytes.ensures c.in-Ok.ensures.within in
+    let found = subst (λ bytes. chunk_of (chunks bytes) c.args.c ≡ Some (part bytes at len)) c.bytes.ensures c.in-Ok.ensures.bytes in
+    rw (sym c.self.view_is) (deref-few s name c.args.c c.self.invariant locked at len c.args.n within found c.if-len-n.true)
+
+pub returns : goal.returns
+returns c =
+    let s = c.self.inside.blocks in
+    let name = c.args.name in
+    let at = c.in-Ok.at in
+    let len = c.in-Ok.len in
+    let locked : 0 < locks_of s (slot_of name) = subst (λ t. 0 < locks_of t (slot_of name)) (sym c.self.view_is) c.requires in
+    let within = subst (λ bytes. at + len ≤ length bytes) c.bytes.ensures c.in-Ok.ensures.within in
+    let found = subst (λ bytes. chunk_of (chunks bytes) c.args.c ≡ Some (part bytes at len)) c.bytes.ensures c.in-Ok.ensures.bytes in
+    let placed = subst (λ bytes. IsPlaced bytes c.args.c at len) c.bytes.ensures c.in-Ok.ensures.place in
+    let enough : len < c.args.n → ⊥ = λ less. absurd (omega (arith, less, c.if-len-n.false)) in
+    let start = c.place-2.result in
+    let span : Span = record { at = start + c.from.result; len = len } in
+    let gives : GivesSpan (table.deref name.h c.args.c c.args.n) (Ok span) s = deref-span s name c.args.c c.self.invariant locked at len c.args.n within found start c.from.result c.place-2.ensures.place c.from.ensures enough placed in
+    subst (GivesSpan (table.deref name.h c.args.c c.args.n) (Ok span)) c.self.view_is gives
