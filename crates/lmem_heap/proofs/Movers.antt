@@ -69,3 +69,20 @@ run-table b c from end to low low' ordered fits is =
     let low_byte : (k : ℕ) → k < to → get_or c k 0 ≡ get_or b k 0 = (λ k h. ap (λ x. get_or x k 0) is ∙ get_or-with_part_before b to ws k h) in
     let count : entries c ≡ entries b = word-bytes b c 10 10 (low_byte 10 (omega arith)) (low_byte 11 (omega arith)) in
     let long : length c ≡ length b = ap length is ∙ length-with_part b to ws in omega (arith, count, long)
+
+-- a run that stays where it is
+pub run-still : (b : List ℕ) (from end to : ℕ) → from ≡ to → MovesRun b b from end to
+run-still b from end to is = record {
+  long = refl;
+  head = (λ k h. refl);
+  entries = (λ i h. elim (cases_lt from (entry b i)) [
+    | inr low ↦ sym (moved-low from end to (entry b i) low)
+    | inl high ↦ elim (cases_lt (entry b i) end) [
+      | inr past ↦ sym (moved-high from end to (entry b i) past)
+      | inl within ↦ sym (moved-in from end to (entry b i) high within ∙ omega arith)
+    ]
+  ]);
+  moved = (λ j k e g r. ap (λ x. get_or b x 0) (omega arith));
+  before = (λ k g l r. refl);
+  behind = (λ k g l. refl);
+}

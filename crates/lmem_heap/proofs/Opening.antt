@@ -1,16 +1,29 @@
 -- The first gap of a heap, and what is behind it.
-use Rattle.std.proofs.Common.{◌≡◌, ◌≢◌, ℕ, ◌+◌, ◌<◌, ◌≤◌, List, [], ◌∷◌, length, refl, ap, sym, ◌∙◌, subst, inl, inr, arith}
+use Rattle.std.proofs.Common.{◌++◌, ◌≡◌, ◌≢◌, ℕ, ◌+◌, ◌<◌, ◌≤◌, List, [], ◌∷◌, length, refl, ap, sym, ◌∙◌, subst, inl, inr, arith}
 use Rattle.geos_model.specs.Bytes.{word}
 use Rattle.geos_model.specs.Block.{table_end, first_free}
-use Rattle.geos_model.specs.Heap.{Piece, Free, Tiles, HasChunk, free_bytes, IsHeap}
+use Rattle.geos_model.specs.Heap.{Piece, Free, Tiles, HasChunk, free_bytes, IsCompact, IsHeap}
 use Rattle.geos_model.proofs.Pieces.{tiles-le, has-split, free_bytes-append}
-use Rattle.geos_model.proofs.FreePieces.{first-piece, none-free, used-free, used-any}
+use Rattle.geos_model.proofs.FreePieces.{first-piece, first-room, none-free, used-free, used-any}
 use Rattle.lmem_heap.specs.declared.compact.Gap.{Gap}
 use Rattle.lmem_heap.specs.Gaps.{HasGap}
 
 abbrev pub gap_of : ℕ → ℕ → ℕ → ℕ → ℕ → Gap
 gap_of first size end more after = record { first = first; size = size; end = end; more = more; after = after }
 
+-- the first free chunk of a heap that is not compact: it lies behind the table, and does not end the block
+pub record IsFirstGap (b : List ℕ) (f : ℕ) : Type 0 where
+  pub some : f ≢ 0
+  pub four : 4 ≤ word b f
+  pub within : f + word b f ≤ length b
+  pub inner : f + word b f ≢ length b
+
+pub first-gap : (b : List ℕ) (f : ℕ) → IsHeap b → (IsCompact b → ⊥) → f ≡ first_free b → IsFirstGap b f
+first-gap b f heap open_still is =
+    let some : f ≢ 0 = (λ e. open_still (inl (sym is ∙ e))) in let r = first-room b f heap is some in
+    record { some = some; four = r.1; within = r.2; inner = (λ e. open_still (inr (ap (λ x. x + word b x) (sym is) ∙ e))) }
+
+-- where no free chunk is behind it
 pub gap-last : (b : List ℕ) (f g : ℕ) → IsHeap b → f ≡ first_free b → f ≢ 0 → g ≡ word b (f + 2) → g ≡ 0 → HasGap b (gap_of f (word b f) (length b) 0 0)
 gap-last b f g heap is ne next none =
     let fill = heap.1.1 in
@@ -38,6 +51,7 @@ gap-last b f g heap is ne next none =
     } in
     let Q : ℕ → Type 0 = λ x. HasGap b (gap_of f x (length b) 0 0) in subst Q {y = word b f} size got
 
+-- where another one is
 pub gap-inner : (b : List ℕ) (f g : ℕ) → IsHeap b → f ≡ first_free b → f ≢ 0 → g ≡ word b (f + 2) → g ≢ 0 → HasGap b (gap_of f (word b f) g (word b g) (word b (g + 2))) × (f + word b f < g) × (g + 4 ≤ length b)
 gap-inner b f g heap is ne next some =
     let fill = heap.1.1 in
@@ -61,7 +75,7 @@ gap-inner b f g heap is ne next some =
       middle = used-any b (f + r.s) g 0 q.pre g g q.used q.before;
       behind = q.here.5;
       apart = q.here.4;
-      all = (λ i h t. let H : List Piece → Type 0 = λ ps. HasChunk i ps in elim (has-split i r.pre (Free r.s ∷ r.rest) (subst H r.is (fill.all i h t))) [
+      all = (λ i h t. let H : List Piece → Type 0 = λ ps. HasChunk i ps in elim (has-split i r.pre (Free r.s ∷ r.rest) (subst H {y = r.pre ++ (Free r.s ∷ r.rest)} r.is (fill.all i h t))) [
         | inl x ↦ inl x
         | inr x ↦ inr (has-split i q.pre (Free q.s ∷ q.rest) (subst H q.is x))
       ]);

@@ -14,6 +14,15 @@ use Rattle.geos_model.proofs.Entered.{WritesEntry, writes-entry, part-part}
 pub entry-length : (b : List ℕ) (i : ℕ) (p : Place) → i < entries b → place_at b (entry b i) ≡ Some p → p.at + p.len ≤ length b → length (entry_bytes (chunks b) i) ≡ p.len
 entry-length b i p h is fits = ap length (placed-bytes b i p h is) ∙ placed-length b p fits
 
+-- a part of an entry's chunk lies in its place, and that in the block
+pub record LiesInChunk (b : List ℕ) (p : Place) (at n : ℕ) : Type 0 where
+  pub part : at + n ≤ p.len
+  pub place : p.at + p.len ≤ length b
+  pub small : length b ≤ 65520
+
+pub lies-in-chunk : (b : List ℕ) (i : ℕ) (p : Place) (at n : ℕ) → IsHeap b → i < entries b → place_at b (entry b i) ≡ Some p → p.at + p.len ≤ length b → at + n ≤ length (entry_bytes (chunks b) i) → LiesInChunk b p at n
+lies-in-chunk b i p at n heap h is fits room = let l = entry-length b i p h is fits in record { part = omega arith; place = fits; small = heap.0.most }
+
 -- a heap with other bytes as the chunk of an entry
 pub record HasBytes (b d : List ℕ) (i : ℕ) (bytes : List ℕ) : Type 0 where
   pub heap : IsHeap d

@@ -14,6 +14,9 @@ pub(crate) fn move_run(block: &mut [u8], from: usize, end: usize, to: usize)
     requires small { length block.old ≤ 65520 }
     ensures { MovesRun block.old block.new from end to }
 {
+    if from == to {
+        return;
+    }
     move_bytes(block, from, to, end - from);
     move_entries(block, from, end, to);
 }
