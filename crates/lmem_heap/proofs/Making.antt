@@ -141,8 +141,9 @@ grow-made b d d1 d2 d3 c n end at n_is end_is at_is low fits most m e1 e2 e3 t =
     ∙ ap (λ x. get_or x k 0) e2 ∙ byte-other d1 (end + 2) 0 k (elim out [ inl a ↦ inl (omega arith) | inr a ↦ elim a [ inl z ↦ inl (omega arith) | inr z ↦ inr (omega arith) ] ])
     ∙ ap (λ x. get_or x k 0) e1 ∙ byte-other d end 0 k (elim out [ inl a ↦ inl (omega arith) | inr a ↦ elim a [ inl z ↦ inl (omega arith) | inr z ↦ inr (omega arith) ] ])) in
     let words : (j : ℕ) → 16 ≤ j → j + 2 ≤ at + 4 → word c j ≡ word d3 j = (λ j g r. word-bytes d3 c j j (t.same j (omega arith) (inr g)) (t.same (j + 1) (omega arith) (inr (omega arith)))) in
-    let M1 : ℕ → Type 0 = λ x. MovesRun b d x at (x + 4) in let M2 : ℕ → Type 0 = λ y. MovesRun b d (table_end b) y (table_end b + 4) in
-    let m' : MovesRun b d (table_end b) (chunks_end b) (table_end b + 4) = subst M2 at_is (subst M1 end_is m) in
+    let MovesBehind : ℕ → Type 0 = λ x. MovesRun b d x at (x + 4) in
+    let MovesUntil : ℕ → Type 0 = λ y. MovesRun b d (table_end b) y (table_end b + 4) in
+    let m' : MovesRun b d (table_end b) (chunks_end b) (table_end b + 4) = subst MovesUntil at_is (subst MovesBehind end_is m) in
     record {
       long = t.long ∙ n3 ∙ n2 ∙ n1 ∙ n0;
       head = (λ k g. t.same k (omega arith) (inl (omega arith)) ∙ byte k (inl g) ∙ m.head k (omega arith));
@@ -164,9 +165,13 @@ pub took-out : (b d d1 c : List ℕ) (i at : ℕ) (x : Extent) → IsPacked b �
 took-out b d d1 c i at x p h k at_is m is t =
     let bs = bounds b p in let low = k.low in let high = k.high in let wide = k.wide in let e = k.entry in let end_is = k.end in let room = bs.room in
     let begin_is : x.begin ≡ entry b i - 2 = omega arith in
-    let M1 : ℕ → Type 0 = λ y. MovesRun b d y at x.begin in let M2 : ℕ → Type 0 = λ y. MovesRun b d (chunk_end b i) y x.begin in let M3 : ℕ → Type 0 = λ y. MovesRun b d (chunk_end b i) (chunks_end b) y in
-    let T1 : ℕ → Type 0 = λ y. SetsTail d1 c (x.begin + (at - y)) in let T2 : ℕ → Type 0 = λ y. SetsTail d1 c (x.begin + (y - chunk_end b i)) in let T3 : ℕ → Type 0 = λ y. SetsTail d1 c (y + (chunks_end b - chunk_end b i)) in
-    taken-out b d d1 c i h (omega arith) (omega (arith, room, high)) (omega arith) (omega arith) (subst M3 begin_is (subst M2 at_is (subst M1 end_is m))) is (subst T3 begin_is (subst T2 at_is (subst T1 end_is t)))
+    let MovesBehind : ℕ → Type 0 = λ y. MovesRun b d y at x.begin in
+    let MovesUntil : ℕ → Type 0 = λ y. MovesRun b d (chunk_end b i) y x.begin in
+    let MovesOnto : ℕ → Type 0 = λ y. MovesRun b d (chunk_end b i) (chunks_end b) y in
+    let TailBehind : ℕ → Type 0 = λ y. SetsTail d1 c (x.begin + (at - y)) in
+    let TailUntil : ℕ → Type 0 = λ y. SetsTail d1 c (x.begin + (y - chunk_end b i)) in
+    let TailFrom : ℕ → Type 0 = λ y. SetsTail d1 c (y + (chunks_end b - chunk_end b i)) in
+    taken-out b d d1 c i h (omega arith) (omega (arith, room, high)) (omega arith) (omega arith) (subst MovesOnto begin_is (subst MovesUntil at_is (subst MovesBehind end_is m))) is (subst TailFrom begin_is (subst TailUntil at_is (subst TailBehind end_is t)))
 
 pub resized-in-place : (b d d1 d2 c : List ℕ) (i at n : ℕ) (x : Extent) → IsPacked b → i < entries b → IsExtent b i x → at ≡ chunks_end b → 0 < n → cost n ≤ total_free b + cost (chunk_length b i) →
     MovesRun b d x.end at (x.begin + cost n) → d1 ≡ with_word d x.begin (n + 2) → d2 ≡ with_part d1 (x.begin + 2 + x.len) (replicate (n - x.len) 0) → SetsTail d2 c (x.begin + cost n + (at - x.end)) →
@@ -175,10 +180,12 @@ resized-in-place b d d1 d2 c i at n x p h k at_is some fits m is1 is2 t =
     let bs = bounds b p in let low = k.low in let high = k.high in let wide = k.wide in let e = k.entry in let end_is = k.end in let len_is = k.len in let room = bs.room in
     let begin_is : x.begin ≡ entry b i - 2 = omega arith in
     let same_cost : cost x.len ≡ cost (chunk_length b i) = ap cost len_is in
-    let M1 : ℕ → Type 0 = λ y. MovesRun b d y at (x.begin + cost n) in let M2 : ℕ → Type 0 = λ y. MovesRun b d (chunk_end b i) y (x.begin + cost n) in
-    let T1 : ℕ → Type 0 = λ y. SetsTail d2 c (x.begin + cost n + (at - y)) in let T2 : ℕ → Type 0 = λ y. SetsTail d2 c (x.begin + cost n + (y - chunk_end b i)) in
-    let W : ℕ → Type 0 = λ y. d2 ≡ with_part (with_word d x.begin (n + 2)) (x.begin + 2 + y) (replicate (n - y) 0) in
-    let r = resize-made b d d2 c i x.begin n h low e some (omega arith) (omega arith) (omega arith) (omega arith) (omega arith) bs.most (subst M2 at_is (subst M1 end_is m))
-    (subst W len_is (resized_at-is d d1 d2 x.begin x.len n is1 is2)) (subst T2 at_is (subst T1 end_is t)) in
+    let MovesBehind : ℕ → Type 0 = λ y. MovesRun b d y at (x.begin + cost n) in
+    let MovesUntil : ℕ → Type 0 = λ y. MovesRun b d (chunk_end b i) y (x.begin + cost n) in
+    let TailBehind : ℕ → Type 0 = λ y. SetsTail d2 c (x.begin + cost n + (at - y)) in
+    let TailUntil : ℕ → Type 0 = λ y. SetsTail d2 c (x.begin + cost n + (y - chunk_end b i)) in
+    let ZerosBehind : ℕ → Type 0 = λ y. d2 ≡ with_part (with_word d x.begin (n + 2)) (x.begin + 2 + y) (replicate (n - y) 0) in
+    let r = resize-made b d d2 c i x.begin n h low e some (omega arith) (omega arith) (omega arith) (omega arith) (omega arith) bs.most (subst MovesUntil at_is (subst MovesBehind end_is m))
+    (subst ZerosBehind len_is (resized_at-is d d1 d2 x.begin x.len n is1 is2)) (subst TailUntil at_is (subst TailBehind end_is t)) in
     let E : ℕ → Type 0 = λ y. EditsChunk b c i (y + cost n) in
     (subst E begin_is r.0, r.1)

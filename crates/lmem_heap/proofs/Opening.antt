@@ -83,7 +83,8 @@ gap-inner b f g heap is ne next some =
           let u = used-free r.pre r.used in let v = used-free q.pre q.used in let w = fill.total in omega (arith, e, d, u, v, w));
       places = (omega arith, mid, high);
     } in
-    let Q1 : ℕ → Type 0 = λ x. HasGap b (gap_of f x g q.s (word b (g + 2))) in let Q2 : ℕ → Type 0 = λ y. HasGap b (gap_of f (word b f) g y (word b (g + 2))) in
+    let GapBehind : ℕ → Type 0 = λ x. HasGap b (gap_of f x g q.s (word b (g + 2))) in
+    let GapUntil : ℕ → Type 0 = λ y. HasGap b (gap_of f (word b f) g y (word b (g + 2))) in
     let apart : g ≢ f + r.s = (λ e. r.here.4 (sym next ∙ e)) in
     let four : 4 ≤ q.s = omega (arith, q.here.0, q.here.1) in
-    (subst Q2 {y = word b g} more (subst Q1 {y = word b f} size got), omega (arith, size), omega (arith, high, four))
+    (subst GapUntil {y = word b g} more (subst GapBehind {y = word b f} size got), omega (arith, size), omega (arith, high, four))
