@@ -4,6 +4,12 @@ pub mod Stays
 pub mod Locks
 pub mod Looks
 pub mod Making
+pub mod Lent
+pub mod Regrown
+pub mod Chunked
+pub mod Changes
+pub mod Removals
+pub mod Named
 pub mod Lowest
 pub mod Tight
 pub mod News

@@ -21,7 +21,7 @@ use Rattle.geos_calls.proofs.Stays.{stands-on}
 use Rattle.geos_calls.proofs.Views.{block_of-view, memory_of-set, view-there, view-absent, handle_of-there, slot_at-handle}
 
 -- a slot with a block is one of the list
-inside : (s : store.Store) (slot : ℕ) → store.IsThere s slot → slot < length s.blocks
+pub inside : (s : store.Store) (slot : ℕ) → store.IsThere s slot → slot < length s.blocks
 inside s slot there = elim (cases_lt slot (length s.blocks)) [ inl lt ↦ lt | inr past ↦ absurd (subst store.IsBlock (get_or_past s.blocks slot None past) there) ]
 
 -- what `lock` ensures of a slot
@@ -121,7 +121,7 @@ module _ (old : store.Store) (h : ℕ) (k : IsKernel old) where
       }
 
   -- the spans of other handles are those of other slots
-  other-slot : (ref : table.Reference) → store.IsThere old slot → store.IsThere old (slot_at ref.handle) → ref.handle ≢ h → slot_at ref.handle ≢ slot
+  pub other-slot : (ref : table.Reference) → store.IsThere old slot → store.IsThere old (slot_at ref.handle) → ref.handle ≢ h → slot_at ref.handle ≢ slot
   other-slot ref there standing ne same =
       let q = handle_of-there old h k there in
       let r = handle_of-there old ref.handle k standing in

@@ -2,3 +2,4 @@ pub mod View
 pub mod Spans
 pub mod Kernel
 pub mod Refused
+pub mod Heaps

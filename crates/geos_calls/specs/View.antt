@@ -1,5 +1,5 @@
 -- The memory of the model that the blocks of a region spell.
-use Rattle.std.specs.Prelude.{ℕ, length, take, map, Option, Some, None}
+use Rattle.std.specs.Prelude.{ℕ, List, length, take, map, Option, Some, None}
 use Rattle.block_handles.specs.declared.name.Owner.TheVariants.{Mem}
 use Rattle.block_handles.specs.Names.{slot_of}
 use Rattle.block_handles.specs.Store as store
@@ -18,3 +18,7 @@ block_in (Some b) = Some (record { locks = b.locks; chunks = block.chunks b.byte
 -- what all blocks of global memory spell
 abbrev pub memory_of : store.Store → model.Memory
 memory_of s = record { blocks = map block_in (take 1024 s.blocks); region = s.len }
+
+-- the chunks that the bytes in a slot spell
+abbrev pub chunks_at : store.Store → ℕ → List (Option (List ℕ))
+chunks_at s slot = block.chunks (store.bytes_of s slot)

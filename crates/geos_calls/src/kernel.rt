@@ -7,12 +7,13 @@ ghost use Rattle.block_handles.specs.Store.{IsThere};
 ghost use Rattle.block_handles.specs.Stretch.{HasNoRoom};
 ghost use Rattle.geos_model.specs.declared.refusal.Refusal.TheVariants.{NoRoom};
 ghost use Rattle.geos_calls.specs.Kernel.{IsKernel, MakesHeap};
-ghost use Rattle.geos_calls.specs.Refused.{of_handle};
+ghost use Rattle.geos_calls.specs.Refused.{of_handle, of_free, of_delete};
 
 use crate::span::Span;
+use crate::{growth, heaps};
 use block_handles::{Blocks, HandleError, Name, Owner, RoomError};
 use geos_model::Refusal;
-use lmem_heap::{init, place, size};
+use lmem_heap::{BadChunk, DeleteError, init, place, size};
 use std::alloc::{AllocError, Global};
 use std::marker::Model;
 
@@ -44,7 +45,9 @@ impl Kernel {
     ghost use Rattle.block_handles.specs.Stretch.{HasNoRoom};
     ghost use Rattle.geos_model.specs.declared.refusal.Refusal.TheVariants.{NoRoom};
     ghost use Rattle.geos_model.specs.Calls as table;
+    ghost use Rattle.geos_model.specs.Chunks.{need, with_new, with_resized, with_inserted};
     ghost use Rattle.geos_calls.specs.Kernel.{Calls, GivesSpan, NewHasNoRoom};
+    ghost use Rattle.geos_calls.specs.View.{chunks_at};
 
     /// No block, in a region of `region` bytes. This is the only call that takes memory.
     pub fn new(alloc: Global, region: u32) -> Result<Kernel, AllocError>
@@ -124,6 +127,63 @@ impl Kernel {
         })
     }
 
+    /// Makes a chunk of `n` zero bytes, and answers its handle: the lowest one of the block that is free. `TooBig` where the
+    /// block would need more than 65,520 bytes, `NoRoom` where it must grow and no stretch of the region has room for it.
+    pub fn lalloc(&mut self, name: Name, n: u16) -> Result<u16, Refusal>
+        requires { 0 < locks_of self.old (slot_of name) }
+        ensures calls { Calls (table.lalloc name.h n) result self.old self.new }
+        ensures no_room { result ≡ Err NoRoom → HasNoRoom self.new (slot_of name) (need (with_new (chunks_at self.old (slot_of name)) n)) }
+    {
+        growth::alloc(&mut self.blocks, name, n)
+    }
+
+    /// Frees a chunk. `BadChunk` where no chunk of the block has this handle.
+    pub fn lfree(&mut self, name: Name, c: u16) -> Result<(), Refusal>
+        requires { 0 < locks_of self.old (slot_of name) }
+        ensures { Calls (table.lfree name.h c) result self.old self.new }
+    {
+        let freed = heaps::free(&mut self.blocks, name, c);
+        of_free(freed)
+    }
+
+    /// Gives a chunk `n` bytes: its first ones that fit, and zeros behind them. `BadChunk` where no chunk of the block has this
+    /// handle; else refused as `lalloc` is.
+    pub fn lrealloc(&mut self, name: Name, c: u16, n: u16) -> Result<(), Refusal>
+        requires { 0 < locks_of self.old (slot_of name) }
+        ensures calls { Calls (table.lrealloc name.h c n) result self.old self.new }
+        ensures no_room { result ≡ Err NoRoom → HasNoRoom self.new (slot_of name) (need (with_resized (chunks_at self.old (slot_of name)) c n)) }
+    {
+        growth::realloc(&mut self.blocks, name, c, n)
+    }
+
+    /// Inserts `n` zero bytes at an offset of a chunk. `BadChunk` where no chunk of the block has this handle, `Range` where the
+    /// offset is past its length; else refused as `lalloc` is.
+    pub fn lins(&mut self, name: Name, c: u16, at: u16, n: u16) -> Result<(), Refusal>
+        requires { 0 < locks_of self.old (slot_of name) }
+        ensures calls { Calls (table.lins name.h c at n) result self.old self.new }
+        ensures no_room { result ≡ Err NoRoom → HasNoRoom self.new (slot_of name) (need (with_inserted (chunks_at self.old (slot_of name)) c at n)) }
+    {
+        growth::insert(&mut self.blocks, name, c, at, n)
+    }
+
+    /// Deletes `n` bytes at an offset of a chunk. `BadChunk` where no chunk of the block has this handle, `Range` where they
+    /// reach past its length.
+    pub fn ldel(&mut self, name: Name, c: u16, at: u16, n: u16) -> Result<(), Refusal>
+        requires { 0 < locks_of self.old (slot_of name) }
+        ensures { Calls (table.ldel name.h c at n) result self.old self.new }
+    {
+        let deleted = heaps::delete(&mut self.blocks, name, c, at, n);
+        of_delete(deleted)
+    }
+
+    /// Moves the chunks of a block together, so that its free bytes are in one piece. Handles and bytes stay.
+    pub fn lcontract(&mut self, name: Name)
+        requires { 0 < locks_of self.old (slot_of name) }
+        ensures { Calls (table.lcontract name.h) (Ok tt) self.old self.new }
+    {
+        heaps::contract(&mut self.blocks, name);
+    }
+
     /// The length of a chunk in bytes. `BadChunk` where no chunk of the block has this handle.
     pub fn lsize(&self, name: Name, c: u16) -> Result<u16, Refusal>
         requires { 0 < locks_of self.now (slot_of name) }
@@ -152,6 +212,27 @@ fn of_handle(done: Result<(), HandleError>) -> Result<(), Refusal>
         Ok(()) => Ok(()),
         Err(HandleError::BadHandle) => Err(Refusal::BadHandle),
         Err(HandleError::Locked) => Err(Refusal::Locked),
+    }
+}
+
+/// Why a chunk was not freed, as the kernel says it.
+fn of_free(done: Result<(), BadChunk>) -> Result<(), Refusal>
+    ensures { result ≡ of_free done }
+{
+    match done {
+        Ok(()) => Ok(()),
+        Err(BadChunk) => Err(Refusal::BadChunk),
+    }
+}
+
+/// Why bytes of a chunk were not deleted, as the kernel says it.
+fn of_delete(done: Result<(), DeleteError>) -> Result<(), Refusal>
+    ensures { result ≡ of_delete done }
+{
+    match done {
+        Ok(()) => Ok(()),
+        Err(DeleteError::BadChunk) => Err(Refusal::BadChunk),
+        Err(DeleteError::Range) => Err(Refusal::Range),
     }
 }
 

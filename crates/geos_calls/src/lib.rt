@@ -4,6 +4,8 @@
 //! references it makes stale. (GEOS SDK Concepts Book, chapters Memory Management and Local Memory.)
 #![tactic(auto)]
 
+mod growth;
+mod heaps;
 mod kernel;
 mod span;
 

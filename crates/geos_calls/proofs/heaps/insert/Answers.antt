@@ -1,0 +1,22 @@
+use Rattle.std.proofs.Common.{◌∙◌, ◌≤◌, length, ap, subst}
+use Rattle.std.specs.Prelude.{IsSome}
+use Rattle.block_handles.specs.Names.{slot_of}
+use Rattle.geos_model.specs.Block as block
+use Rattle.geos_model.specs.Chunks.{chunk_of, bytes_of, with_inserted}
+use Rattle.geos_calls.proofs.Lent.{lent-heap, lent-same, on_ok-map, on_err-map}
+use Rattle.geos_calls.proofs.heaps.insert.Goals as goal
+
+pub returns-clause-ok : goal.returns-clause-ok
+returns-clause-ok c =
+    let e = c.bytes_mut.ensures.value in
+    on_ok-map c.insert.result
+    (λ p. (
+      subst (λ bytes. IsSome (chunk_of (block.chunks bytes) c.args.c)) e p.0,
+      subst (λ bytes. c.args.at ≤ length (bytes_of (block.chunks bytes) c.args.c)) e p.1,
+      lent-heap c.args.blocks.now (slot_of c.args.name) c.requires.there c.insert.new.block c.bytes_mut.result.now _ e c.insert.auto.block c.insert.ensures.heap (p.2 ∙ ap (λ bytes. with_inserted (block.chunks bytes) c.args.c c.args.at c.args.n) e),
+    ))
+    c.insert.ensures.ok
+
+pub returns-clause-err : goal.returns-clause-err
+returns-clause-err c =
+    on_err-map c.insert.result (lent-same c.args.blocks.now (slot_of c.args.name) c.requires.there c.insert.new.block c.bytes_mut.result.now c.bytes_mut.ensures.value) c.insert.ensures.err
