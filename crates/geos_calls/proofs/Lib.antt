@@ -10,6 +10,8 @@ pub mod Chunked
 pub mod Changes
 pub mod Removals
 pub mod Named
+pub mod Replies
+pub mod Steps
 pub mod Lowest
 pub mod Tight
 pub mod News

@@ -81,3 +81,13 @@ slot_of-mem s name k there = same name.owner name.h there
     same : (owner : Owner) (h : ℕ) → store.IsThere s (slot_of (record { owner = owner; h = h })) → slot_of (record { owner = owner; h = h }) ≡ slot_at h
     same Mem h t = refl
     same Vm h t = absurd (subst store.IsBlock (k.mem (slot_of (record { owner = Vm; h = h })) (high h)) t)
+
+-- the count of locks that the model has
+pub locks-view : (s : store.Store) (name : Name) → IsKernel s → name.owner ≡ Mem → store.locks_of s (slot_of name) ≡ model.locks_of (memory_of s) name.h
+locks-view s name k mem =
+    let slot : slot_of name ≡ slot_at name.h = λ i. slot_of (record { owner = mem i; h = name.h }) in
+    ap (store.locks_of s) slot ∙ spelled (store.block_at s (slot_at name.h)) ∙ sym (ap model.locks_in (block_of-view s name.h k))
+  where
+    spelled : (o : Option store.Block) → store.locks_in o ≡ model.locks_in (block_in o)
+    spelled None = refl
+    spelled (Some b) = refl

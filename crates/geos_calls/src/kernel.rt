@@ -47,7 +47,8 @@ impl Kernel {
     ghost use Rattle.geos_model.specs.Calls as table;
     ghost use Rattle.geos_model.specs.Chunks.{need, with_new, with_resized, with_inserted};
     ghost use Rattle.geos_calls.specs.Kernel.{Calls, GivesSpan, NewHasNoRoom};
-    ghost use Rattle.geos_calls.specs.View.{chunks_at};
+    ghost use Rattle.geos_model.specs.Memory as memory;
+    ghost use Rattle.geos_calls.specs.View.{chunks_at, memory_of};
 
     /// No block, in a region of `region` bytes. This is the only call that takes memory.
     pub fn new(alloc: Global, region: u32) -> Result<Kernel, AllocError>
@@ -61,7 +62,8 @@ impl Kernel {
 
     /// How often a block is locked; 0 where there is none.
     pub fn locks(&self, name: Name) -> u16
-        ensures { result ≡ locks_of self.now (slot_of name) }
+        ensures store { result ≡ locks_of self.now (slot_of name) }
+        ensures memory { name.owner ≡ Owner.Mem → result ≡ memory.locks_of (memory_of self.now) name.h }
     {
         self.blocks.locks(name)
     }

@@ -4,10 +4,13 @@
 //! references it makes stale. (GEOS SDK Concepts Book, chapters Memory Management and Local Memory.)
 #![tactic(auto)]
 
+mod answer;
+mod call;
 mod growth;
 mod heaps;
 mod kernel;
 mod span;
 
+pub use call::{BlockCall, Call, Reply};
 pub use kernel::Kernel;
 pub use span::Span;

@@ -1,0 +1,100 @@
+-- What calls come to, one and one after another.
+use Rattle.std.specs.Prelude.{◌≡◌, ℕ, ◌==◌, if◌then◌else◌, List, [], ◌∷◌, map, Result, Ok, Err}
+use Rattle.block_handles.specs.Store.{Store}
+use Rattle.geos_model.specs.declared.refusal.Refusal.{Refusal}
+use Rattle.geos_model.specs.Memory.{Memory, locks_of}
+use Rattle.geos_model.specs.Calls.{Choice, Row, Staleness, Reference, Nothing, outcome, mnew, mlock, munlock, mfree, lalloc, lfree, lrealloc, lins, ldel, lsize, lcontract}
+use Rattle.geos_calls.specs.declared.call.Call.{Call}
+use Rattle.geos_calls.specs.declared.call.Call.TheVariants.{Mnew, Mlock, Mfree, Within}
+use Rattle.geos_calls.specs.declared.call.BlockCall.{BlockCall}
+use Rattle.geos_calls.specs.declared.call.BlockCall.TheVariants.{Munlock, Lalloc, Lfree, Lrealloc, Lins, Ldel, Lsize, Lcontract}
+use Rattle.geos_calls.specs.declared.call.Reply.{Reply}
+use Rattle.geos_calls.specs.declared.call.Reply.TheVariants.{Done, Number, Refused, NotLocked}
+use Rattle.geos_calls.specs.declared.span.Span.{Span}
+use Rattle.geos_calls.specs.Spans.{Stands, IsFresh, SpansStay}
+use Rattle.geos_calls.specs.View.{memory_of}
+
+-- the reply to a call that answers a number
+abbrev pub number : Result ℕ Refusal → Reply
+number (Ok n) = Number n
+number (Err refusal) = Refused refusal
+
+-- the reply to a call that answers nothing
+abbrev pub done : Result (Unit {0}) Refusal → Reply
+done (Ok answer) = Done
+done (Err refusal) = Refused refusal
+
+-- a reply, memory after it, and the references that are stale then
+pub record Answer : Type 0 where
+  pub reply : Reply
+  pub after : Memory
+  pub stale : Staleness
+
+-- what a row comes to, with its answer as a reply
+abbrev pub replied : {A : Type 0} → (Result A Refusal → Reply) → Row A → Memory → Answer
+replied reply row memory = record { reply = reply (outcome row memory).0; after = (outcome row memory).1; stale = row.stale }
+
+-- what a call on a locked block comes to
+abbrev pub block_answer : ℕ → BlockCall → Choice → Memory → Answer
+block_answer h Munlock choice memory = replied done (munlock h choice memory) memory
+block_answer h (Lalloc n) choice memory = replied number (lalloc h n choice memory) memory
+block_answer h (Lfree c) choice memory = replied done (lfree h c choice memory) memory
+block_answer h (Lrealloc c n) choice memory = replied done (lrealloc h c n choice memory) memory
+block_answer h (Lins c at n) choice memory = replied done (lins h c at n choice memory) memory
+block_answer h (Ldel c at n) choice memory = replied done (ldel h c at n choice memory) memory
+block_answer h (Lsize c) choice memory = replied number (lsize h c choice memory) memory
+block_answer h Lcontract choice memory = replied done (lcontract h choice memory) memory
+
+-- what a call comes to, under a choice of what is refused from outside; one that wants a lock that is not there is not tried
+abbrev pub answer : Call → Choice → Memory → Answer
+answer Mnew choice memory = replied number (mnew choice memory) memory
+answer (Mlock h) choice memory = replied done (mlock h choice memory) memory
+answer (Mfree h) choice memory = replied done (mfree h choice memory) memory
+answer (Within h call) choice memory =
+    if locks_of memory h == 0 then record { reply = NotLocked; after = memory; stale = Nothing } else block_answer h call choice memory
+
+-- a call, and what is refused from outside at it
+pub record Step : Type 0 where
+  pub call : Call
+  pub choice : Choice
+
+-- the answer at a step
+abbrev pub answer_at : Step → Memory → Answer
+answer_at step memory = answer step.call step.choice memory
+
+-- the replies to calls, one after another
+abbrev pub replies : List Step → Memory → List Reply
+replies [] memory = []
+replies (step ∷ steps) memory = (answer_at step memory).reply ∷ replies steps (answer_at step memory).after
+
+-- memory after them
+abbrev pub memory_after : List Step → Memory → Memory
+memory_after [] memory = memory
+memory_after (step ∷ steps) memory = memory_after steps (answer_at step memory).after
+
+-- none of them makes a reference stale
+abbrev pub KeepFresh : List Step → Memory → Reference → Type 0
+KeepFresh [] memory ref = Unit {0}
+KeepFresh (step ∷ steps) memory ref = IsFresh (answer_at step memory).stale ref × KeepFresh steps (answer_at step memory).after ref
+
+-- a call was answered as the model answers it, under some choice; spans that it does not make stale stay
+pub record Answered (call : Call) (given : Reply) (old new : Store) : Type 0 where
+  pub choice : Choice
+  pub reply : (answer call choice (memory_of old)).reply ≡ given
+  pub after : (answer call choice (memory_of old)).after ≡ memory_of new
+  pub spans : SpansStay old new (answer call choice (memory_of old)).stale
+
+-- a call on a locked block was answered so
+pub record BlockAnswered (h : ℕ) (call : BlockCall) (given : Reply) (old new : Store) : Type 0 where
+  pub choice : Choice
+  pub reply : (block_answer h call choice (memory_of old)).reply ≡ given
+  pub after : (block_answer h call choice (memory_of old)).after ≡ memory_of new
+  pub spans : SpansStay old new (block_answer h call choice (memory_of old)).stale
+
+-- calls were answered one after another as the model answers them, under some choices; spans that none of them makes stale stay
+pub record AllAnswered (asked : List Call) (given : List Reply) (old new : Store) : Type 0 where
+  pub steps : List Step
+  pub calls : map (λ step. step.call) steps ≡ asked
+  pub replies : replies steps (memory_of old) ≡ given
+  pub after : memory_after steps (memory_of old) ≡ memory_of new
+  pub spans : (span : Span) (ref : Reference) → Stands old span ref → KeepFresh steps (memory_of old) ref → Stands new span ref
