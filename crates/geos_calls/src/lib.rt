@@ -14,3 +14,6 @@ mod span;
 pub use call::{BlockCall, Call, Reply};
 pub use kernel::Kernel;
 pub use span::Span;
+
+#[cfg(test)]
+mod tests;
