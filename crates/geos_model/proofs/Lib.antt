@@ -15,5 +15,6 @@ pub mod Entered
 pub mod FreePieces
 pub mod Resizes
 pub mod Lowest
+pub mod Fits
 pub mod Examples
 pub mod CallExamples
