@@ -7,3 +7,4 @@ pub mod Making
 pub mod Lowest
 pub mod Tight
 pub mod News
+pub mod AccessReads

@@ -1,0 +1,34 @@
+//! Loads over spans.
+//!
+//! Each call does what its row says at every reference that a span stands for. Nothing here is tested when it runs: the
+//! caller knows that its spans are good.
+
+ghost use Rattle.std.specs.Prelude.{Ok};
+
+use crate::kernel::Kernel;
+use crate::span::Span;
+
+impl Kernel {
+    ghost use Rattle.geos_model.specs.Calls as table;
+    ghost use Rattle.geos_model.specs.Calls.{Reference};
+    ghost use Rattle.geos_calls.specs.Kernel.{Calls};
+    ghost use Rattle.geos_calls.specs.Spans.{Stands, IsGood};
+
+    /// The byte at the offset `i` of a span, which has one there.
+    pub fn load8(&self, span: Span, i: u16) -> u8
+        requires { IsGood self.now span i 1 }
+        ensures { (ref : Reference) → Stands self.now span ref → Calls (table.load8 ref i) (Ok result) self.now self.now }
+    {
+        self.blocks.laid_out();
+        self.blocks.read8(span.at + u32::from(i))
+    }
+
+    /// The word at the offset `i` of a span, little end first. The span has both bytes.
+    pub fn load16(&self, span: Span, i: u16) -> u16
+        requires { IsGood self.now span i 2 }
+        ensures { (ref : Reference) → Stands self.now span ref → Calls (table.load16 ref i) (Ok result) self.now self.now }
+    {
+        self.blocks.laid_out();
+        self.blocks.read16(span.at + u32::from(i))
+    }
+}
