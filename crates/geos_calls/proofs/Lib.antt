@@ -8,3 +8,4 @@ pub mod Lowest
 pub mod Tight
 pub mod News
 pub mod AccessReads
+pub mod AccessWrites

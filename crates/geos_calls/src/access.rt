@@ -1,14 +1,15 @@
-//! Loads over spans.
+//! Loads and stores over spans.
 //!
 //! Each call does what its row says at every reference that a span stands for. Nothing here is tested when it runs: the
 //! caller knows that its spans are good.
 
-ghost use Rattle.std.specs.Prelude.{Ok};
+ghost use Rattle.std.specs.Prelude.{[], ◌∷◌, Ok};
 
 use crate::kernel::Kernel;
 use crate::span::Span;
 
 impl Kernel {
+    ghost use Rattle.geos_model.specs.Bytes.{word_bytes};
     ghost use Rattle.geos_model.specs.Calls as table;
     ghost use Rattle.geos_model.specs.Calls.{Reference};
     ghost use Rattle.geos_calls.specs.Kernel.{Calls};
@@ -30,5 +31,23 @@ impl Kernel {
     {
         self.blocks.laid_out();
         self.blocks.read16(span.at + u32::from(i))
+    }
+
+    /// Writes a byte at the offset `i` of a span, which has one there. All spans stay.
+    pub fn store8(&mut self, span: Span, i: u16, byte: u8)
+        requires { IsGood self.old span i 1 }
+        ensures { (ref : Reference) → Stands self.old span ref → Calls (table.store ref i (byte ∷ [])) (Ok tt) self.old self.new }
+    {
+        self.blocks.laid_out();
+        self.blocks.write8(span.at + u32::from(i), byte);
+    }
+
+    /// Writes a word at the offset `i` of a span, little end first. The span has both bytes. All spans stay.
+    pub fn store16(&mut self, span: Span, i: u16, word: u16)
+        requires { IsGood self.old span i 2 }
+        ensures { (ref : Reference) → Stands self.old span ref → Calls (table.store ref i (word_bytes word)) (Ok tt) self.old self.new }
+    {
+        self.blocks.laid_out();
+        self.blocks.write16(span.at + u32::from(i), word);
     }
 }
