@@ -9,3 +9,4 @@ pub mod Tight
 pub mod News
 pub mod AccessReads
 pub mod AccessWrites
+pub mod AccessCopies

@@ -1,4 +1,4 @@
-//! Loads and stores over spans.
+//! Loads, stores and copies over spans.
 //!
 //! Each call does what its row says at every reference that a span stands for. Nothing here is tested when it runs: the
 //! caller knows that its spans are good.
@@ -49,5 +49,19 @@ impl Kernel {
     {
         self.blocks.laid_out();
         self.blocks.write16(span.at + u32::from(i), word);
+    }
+
+    /// Copies the first `n` bytes of `from`, as they were before, to the beginning of `to`, also where both overlap. Both
+    /// spans have so many bytes. All spans stay.
+    pub fn copy(&mut self, to: Span, from: Span, n: u16)
+        requires to { IsGood self.old to 0 n }
+        requires from { IsGood self.old from 0 n }
+        ensures { (target source : Reference) → Stands self.old to target → Stands self.old from source → Calls (table.copy target source n) (Ok tt) self.old self.new }
+    {
+        self.blocks.laid_out();
+        if n == 0 {
+            return;
+        }
+        self.blocks.copy(from.at, to.at, u32::from(n));
     }
 }
