@@ -116,7 +116,8 @@ blocks_with_bytes-length (Some b ∷ bs) (suc i) ws = ap suc (blocks_with_bytes-
 pub with_bytes-shape : (S : Store) (i : ℕ) (ws : List ℕ) → SameShape S (with_bytes S i ws)
 with_bytes-shape S i ws = record { sizes = blocks_with_bytes-size S.blocks i ws; places = refl; there = blocks_with_bytes-there S.blocks i ws; slots = blocks_with_bytes-length S.blocks i ws; len = refl }
 
-blocks_with_bytes-set : (bs : List (Option Block)) (i : ℕ) (ws : List ℕ) (b : Block) → slice_index_or bs i None ≡ Some b → blocks_with_bytes bs i ws ≡ slice_set bs i (Some (record b { bytes = with_part b.bytes zero ws }))
+-- bytes written over those of a block are a block that is set
+pub blocks_with_bytes-set : (bs : List (Option Block)) (i : ℕ) (ws : List ℕ) (b : Block) → slice_index_or bs i None ≡ Some b → blocks_with_bytes bs i ws ≡ slice_set bs i (Some (record b { bytes = with_part b.bytes zero ws }))
 blocks_with_bytes-set [] i ws b is = refl
 blocks_with_bytes-set (None ∷ bs) zero ws b is = absurd (none_some is)
   where
@@ -191,7 +192,7 @@ module _ (region : List ℕ) (table : List (Option Entry)) (index : List (Option
     bytes-step = same-step after (with_bytes S i ws) (length-with_part region e.place (take e.size ws)) whole (with_bytes-shape S i ws)
 
 -- a part of a part
-part-part : (bs : List ℕ) (p s k n : ℕ) → k + n ≤ s → part (part bs p s) k n ≡ part bs (p + k) n
+pub part-part : (bs : List ℕ) (p s k n : ℕ) → k + n ≤ s → part (part bs p s) k n ≡ part bs (p + k) n
 part-part bs p s k n h =
     let split : s ≡ k + (s - k) = omega arith in
     ap (λ m. take n (drop k (take m (drop p bs)))) split ∙ ap (λ l. take n l) (drop-take k (s - k) (drop p bs)) ∙ take-take n (s - k) (drop k (drop p bs)) (omega arith) ∙ ap (λ l. take n l) (drop-drop k p bs)

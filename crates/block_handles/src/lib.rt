@@ -111,6 +111,13 @@ impl Blocks {
         self.arena.place(name.slot())
     }
 
+    /// What holds of blocks at all times: they lie in the region, and no two overlap.
+    pub fn laid_out(&self)
+        ensures { IsLaidOut self.now }
+    {
+        self.arena.laid_out();
+    }
+
     /// A block's size in bytes: from 64 to 65,520.
     pub fn size(&self, name: Name) -> u32
         requires { IsThere self.now (slot_of name) }

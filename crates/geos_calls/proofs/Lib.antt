@@ -15,3 +15,6 @@ pub mod Steps
 pub mod Lowest
 pub mod Tight
 pub mod News
+pub mod AccessReads
+pub mod AccessWrites
+pub mod AccessCopies

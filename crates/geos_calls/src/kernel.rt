@@ -23,7 +23,7 @@ const NEW_SIZE: u32 = 64;
 /// Blocks of global memory in one region, each with a heap of chunks.
 #[derive(Drop)]
 pub struct Kernel {
-    blocks: Blocks,
+    pub(crate) blocks: Blocks,
 }
 
 impl Model for Kernel {

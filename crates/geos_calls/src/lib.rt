@@ -4,6 +4,7 @@
 //! references it makes stale. (GEOS SDK Concepts Book, chapters Memory Management and Local Memory.)
 #![tactic(auto)]
 
+mod access;
 mod answer;
 mod call;
 mod growth;

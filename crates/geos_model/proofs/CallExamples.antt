@@ -1,11 +1,12 @@
 -- The table of calls, computed on examples.
-use Rattle.std.proofs.Common.{◌≡◌, ℕ, true, false, List, [], ◌∷◌, ◌++◌, replicate, Option, Some, None, refl}
+use Rattle.std.proofs.Common.{◌≡◌, ℕ, ◌+◌, ◌*◌, true, false, List, [], ◌∷◌, ◌++◌, replicate, Option, Some, None, refl}
 use Rattle.std.specs.Prelude.{Result, Ok, Err}
 use Rattle.geos_model.specs.declared.refusal.Refusal.{Refusal}
 use Rattle.geos_model.specs.declared.refusal.Refusal.TheVariants.{BadHandle, BadChunk, Short, NoRoom, NoHandle, TooBig, Locked, Range}
+use Rattle.geos_model.specs.Bytes.{word}
 use Rattle.geos_model.specs.Chunks.{cost}
 use Rattle.geos_model.specs.Memory.{Block, Memory, new_block}
-use Rattle.geos_model.specs.Calls.{Choice, Row, outcome, mnew, mlock, munlock, mfree, lalloc, lfree, lrealloc, lins, ldel, lsize, deref}
+use Rattle.geos_model.specs.Calls.{Choice, Row, Reference, outcome, mnew, mlock, munlock, mfree, lalloc, lfree, lrealloc, lins, ldel, lsize, deref, load8, load16, store, copy}
 
 -- nothing is refused from outside
 abbrev pub willing : Choice
@@ -97,6 +98,25 @@ pub record Offsets : Type 0 where
 offsets_computed : Offsets
 unfolding cost
 offsets_computed = record { odd = refl; absent = refl; short = refl; found = refl; past = refl; at_end = refl; too_many = refl; last_two = refl; shorter = refl; longer = refl; freed = refl }
+
+-- n bytes of the chunk 16, from an offset on
+abbrev pub bytes_from : ℕ → ℕ → Reference
+bytes_from start n = record { handle = 1; chunk = 16; start = start; len = n }
+
+-- bytes are read and written from the reference's start on, and a copy takes the bytes as they were before, where both
+-- overlap too
+pub record Accesses : Type 0 where
+  pub byte : outcome (load8 (bytes_from 2 4) 1 willing eight) eight ≡ (Ok 4, eight)
+  pub word : answer (load16 (bytes_from 2 4) 1 willing eight) eight ≡ Ok (4 + 256 * 5)
+  pub last : outcome (store (bytes_from 2 4) 3 (9 ∷ []) willing eight) eight ≡ (Ok tt, block_with 64 (Some (1 ∷ 2 ∷ 3 ∷ 4 ∷ 5 ∷ 9 ∷ 7 ∷ 8 ∷ []) ∷ None ∷ []))
+  pub two : after (store (bytes_from 0 8) 6 (9 ∷ 10 ∷ []) willing eight) eight ≡ block_with 64 (Some (1 ∷ 2 ∷ 3 ∷ 4 ∷ 5 ∷ 6 ∷ 9 ∷ 10 ∷ []) ∷ None ∷ [])
+  pub up : outcome (copy (bytes_from 2 6) (bytes_from 0 8) 5 willing eight) eight ≡ (Ok tt, block_with 64 (Some (1 ∷ 2 ∷ 1 ∷ 2 ∷ 3 ∷ 4 ∷ 5 ∷ 8 ∷ []) ∷ None ∷ []))
+  pub down : outcome (copy (bytes_from 0 8) (bytes_from 2 6) 5 willing eight) eight ≡ (Ok tt, block_with 64 (Some (3 ∷ 4 ∷ 5 ∷ 6 ∷ 7 ∷ 6 ∷ 7 ∷ 8 ∷ []) ∷ None ∷ []))
+  pub none : after (copy (bytes_from 0 8) (bytes_from 8 0) 0 willing eight) eight ≡ eight
+
+accesses_computed : Accesses
+unfolding cost word
+accesses_computed = record { byte = refl; word = refl; last = refl; two = refl; up = refl; down = refl; none = refl }
 
 -- 1,024 blocks: no handle is left, which is said before want of room
 all_in_use : answer (mnew unwilling (record { blocks = replicate 1024 (Some new_block); region = 65536 })) (record { blocks = replicate 1024 (Some new_block); region = 65536 }) ≡ Err NoHandle

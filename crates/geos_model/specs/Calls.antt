@@ -1,9 +1,11 @@
 -- The table of the kernel's calls.
-use Rattle.std.specs.Prelude.{◌≡◌, ℕ, ◌+◌, ◌-◌, Bool, ◌&&◌, nat_lt, ◌==◌, if◌then◌else◌, List, [], ◌∷◌, length, Option, Some, None, is_none, unwrap_or, Result, Ok, Err}
+use Rattle.std.specs.Prelude.{◌≡◌, ℕ, ◌+◌, ◌-◌, Bool, ◌&&◌, nat_lt, ◌==◌, if◌then◌else◌, List, [], ◌∷◌, length, take, Option, Some, None, is_none, slice_index, unwrap_or, Result, Ok, Err}
+use Rattle.lmem_raw.specs.Bytes.{part, with_part}
 use Rattle.geos_model.specs.declared.refusal.Refusal.{Refusal}
 use Rattle.geos_model.specs.declared.refusal.Refusal.TheVariants.{BadHandle, BadChunk, Short, NoRoom, NoHandle, TooBig, Locked, Range}
 use Rattle.geos_model.specs.Refusals.{first_refusal}
-use Rattle.geos_model.specs.Chunks.{need, chunk_of, bytes_of, with_new, new_handle, without, with_resized, with_inserted, with_deleted}
+use Rattle.geos_model.specs.Bytes.{word}
+use Rattle.geos_model.specs.Chunks.{need, chunk_of, bytes_of, with_new, new_handle, with_bytes, without, with_resized, with_inserted, with_deleted}
 use Rattle.geos_model.specs.Memory.{Memory, block_of, with_block, locks_of, size_in, chunks_in, lowest_handle, new_block, with_locks, with_chunks, is_tight}
 
 -- what may be refused from outside at a call: room at the first test for it, room at the last, the device, memory
@@ -176,6 +178,33 @@ deref h c n choice memory = record {
 -- moves the chunks of a block together, which no one can tell but by references that are stale
 abbrev pub lcontract : ℕ → Choice → Memory → Row (Unit {0})
 lcontract h choice memory = record { refusals = []; after = memory; answer = tt; stale = InBlock h }
+
+-- the bytes that a reference names
+abbrev pub named_bytes : Memory → Reference → List ℕ
+named_bytes memory ref = part (bytes_of (chunks_in (block_of memory ref.handle)) ref.chunk) ref.start ref.len
+
+-- reads the byte at an offset of a reference
+abbrev pub load8 : Reference → ℕ → Choice → Memory → Row ℕ
+load8 ref i choice memory = record { refusals = []; after = memory; answer = slice_index (named_bytes memory ref) i; stale = Nothing }
+
+-- reads the word at an offset of a reference, little end first
+abbrev pub load16 : Reference → ℕ → Choice → Memory → Row ℕ
+load16 ref i choice memory = record { refusals = []; after = memory; answer = word (named_bytes memory ref) i; stale = Nothing }
+
+-- writes bytes at an offset of a reference
+abbrev pub store : Reference → ℕ → List ℕ → Choice → Memory → Row (Unit {0})
+store ref i ws choice memory =
+    let chunks = chunks_in (block_of memory ref.handle) in
+    record {
+      refusals = [];
+      after = rechunked memory ref.handle (with_bytes chunks ref.chunk (with_part (bytes_of chunks ref.chunk) (ref.start + i) ws));
+      answer = tt;
+      stale = Nothing;
+    }
+
+-- writes the first n bytes of one reference, as they were before, to the beginning of another
+abbrev pub copy : Reference → Reference → ℕ → Choice → Memory → Row (Unit {0})
+copy to from n choice memory = store to 0 (take n (named_bytes memory from)) choice memory
 
 -- what a call comes to: its answer with memory after it, or the first refusal whose test holds, with memory as it was
 abbrev pub outcome : {A : Type 0} → Row A → Memory → Result A Refusal × Memory

@@ -1,0 +1,181 @@
+-- What bytes that are written within a chunk make of the kernel's memory.
+use Rattle.std.proofs.Common.{◌≡◌, ◌≢◌, ℕ, ◌+◌, ◌-◌, ◌<◌, ◌≤◌, List, [], length, set, get_or, Option, Some, None, unwrap_or, refl, sym, ap, ◌∙◌, subst, arith, inl, inr, length-take, length-drop, drop}
+use Rattle.std.specs.Prelude.{Ok, max}
+use Rattle.std.specs.Option.{option_map}
+use Rattle.std.proofs.lemmas.Bool.{cases_eq}
+use Rattle.std.proofs.lemmas.List.{length-set, get_or-set_same}
+use Rattle.lmem_raw.specs.Bytes.{with_part}
+use Rattle.lmem_raw.proofs.Parts.{length-with_part, with_whole}
+use Rattle.block_handles.specs.declared.name.Owner.TheVariants.{Mem}
+use Rattle.block_handles.specs.Store as store
+use Rattle.block_handles.specs.Change.{with_bytes}
+use Rattle.block_handles.specs.Offsets.{WritesCovered}
+use Rattle.block_handles.proofs.Laws.{others-same, slot_of-small}
+use Rattle.block_handles.proofs.Writes.{blocks_with_bytes-set}
+use Rattle.geos_model.specs.Block as block
+use Rattle.geos_model.specs.Chunks as chunks
+use Rattle.geos_model.specs.Heap.{IsHeap}
+use Rattle.geos_model.specs.Memory as model
+use Rattle.geos_model.specs.Calls as table
+use Rattle.geos_model.specs.Writes.{ChangesChunk}
+use Rattle.geos_model.proofs.Fits.{need-fits}
+use Rattle.geos_model.proofs.Places.{chunk-place}
+use Rattle.geos_model.proofs.Writes.{writes-stay}
+use Rattle.geos_calls.specs.declared.span.Span.{Span}
+use Rattle.geos_calls.specs.View.{slot_at, memory_of}
+use Rattle.geos_calls.specs.Spans.{Stands, SpansStay}
+use Rattle.geos_calls.specs.Kernel.{IsKernel, Calls}
+use Rattle.geos_calls.proofs.AccessReads.{HasPlace, Lies, chunk-placed, lies, stands-there}
+use Rattle.geos_calls.proofs.Locks.{there-view}
+use Rattle.geos_calls.proofs.Rows.{willing}
+use Rattle.geos_calls.proofs.Stays.{stands-on}
+use Rattle.geos_calls.proofs.Views.{memory_of-set, handle_of-there}
+
+-- a block that is there, in full
+block-there : (o : Option store.Block) → store.IsBlock o → o ≡ Some (record { locks = store.locks_in o; bytes = store.bytes_in o })
+block-there None there = absurd there
+block-there (Some b) there = refl
+
+-- the greater of two numbers
+max-is : (n m k : ℕ) → n ≡ m → k ≤ n → n ≡ max m k
+max-is n m k e le = omega (arith, e, le)
+
+-- chunks whose places stay keep their lengths
+chunk-kept : (b d : List ℕ) (c : ℕ) (bytes : List ℕ) → length d ≡ length b → block.place_of d c ≡ block.place_of b c → chunks.chunk_of (block.chunks b) c ≡ Some bytes
+    → (kept : List ℕ) × (chunks.chunk_of (block.chunks d) c ≡ Some kept) × (length kept ≡ length bytes)
+chunk-kept b d c bytes long places is =
+    let q = chunk-placed (block.place_of b c) b bytes (sym (chunk-place b c) ∙ is) in
+    let p = q.0 in (
+      block.bytes_at d p,
+      chunk-place d c ∙ ap (option_map (block.bytes_at d)) (places ∙ q.1),
+      omega (arith, long, ap length q.2, length-take p.len (drop p.at d), length-drop p.at d, length-take p.len (drop p.at b), length-drop p.at b),
+    )
+
+module _ (old : store.Store) (k : IsKernel old) (ref : table.Reference) (there : store.IsThere old (slot_at ref.handle)) (place : HasPlace old ref) (i : ℕ) (ws : List ℕ) (fits : i + length ws ≤ ref.len) where
+  abbrev slot : ℕ
+  slot = slot_at ref.handle
+
+  abbrev before : List ℕ
+  before = store.bytes_of old slot
+
+  -- the block with these bytes at an offset of the reference
+  abbrev written : List ℕ
+  written = with_part before (place.place.at + (ref.start + i)) ws
+
+  abbrev pub written-store : store.Store
+  written-store = with_bytes old slot written
+
+  long : length written ≡ length before
+  long = length-with_part before (place.place.at + (ref.start + i)) ws
+
+  changes : ChangesChunk before written ref.chunk place.place (ref.start + i) ws
+  changes = writes-stay before ref.chunk place.place (ref.start + i) ws (k.heaps slot there) place.is (omega (arith, fits, place.room))
+
+  blocks-set : written-store.blocks ≡ set old.blocks slot (Some (record { locks = store.locks_of old slot; bytes = written }))
+  blocks-set =
+      let b : store.Block = record { locks = store.locks_of old slot; bytes = before } in
+      let locked : List ℕ → List (Option store.Block) = λ bs. set old.blocks slot (Some (record { locks = store.locks_of old slot; bytes = bs })) in
+      blocks_with_bytes-set old.blocks slot written b (block-there (store.block_at old slot) there) ∙ ap locked (with_whole before written long)
+
+  block-own : store.block_at written-store slot ≡ Some (record { locks = store.locks_of old slot; bytes = written })
+  block-own =
+      let small : slot < length old.blocks = omega (arith, slot_of-small (record { owner = Mem; h = ref.handle }) (handle_of-there old ref.handle k there), k.slots) in
+      ap (λ bs. get_or bs slot None) blocks-set ∙ get_or-set_same old.blocks slot (Some (record { locks = store.locks_of old slot; bytes = written })) None small
+
+  own : store.bytes_of written-store slot ≡ written
+  own = ap store.bytes_in block-own
+
+  other : (j : ℕ) → j ≢ slot → store.block_at written-store j ≡ store.block_at old j
+  other j ne = others-same old slot j written (λ e. ne (sym e))
+
+  still-there : (j : ℕ) → store.IsThere written-store j → store.IsThere old j
+  still-there j t = elim (cases_eq j slot) [ inl e ↦ subst (store.IsThere old) (sym e) there | inr ne ↦ subst store.IsBlock (other j ne) t ]
+
+  -- the blocks still are a kernel's
+  pub written-kernel : IsKernel written-store
+  written-kernel = record { heaps = heap; mem = high; slots = ap length blocks-set ∙ length-set old.blocks slot _ ∙ k.slots; small = k.small }
+    where
+      heap : (j : ℕ) → store.IsThere written-store j → IsHeap (store.bytes_of written-store j)
+      heap j t = elim (cases_eq j slot) [
+        | inl e ↦ subst (λ j. IsHeap (store.bytes_of written-store j)) (sym e) (subst IsHeap (sym own) changes.heap)
+        | inr ne ↦ subst IsHeap (sym (ap store.bytes_in (other j ne))) (k.heaps j (still-there j t))
+      ]
+
+      high : (j : ℕ) → 1024 ≤ j → store.block_at written-store j ≡ None
+      high j le = other j (λ e. subst store.IsBlock (k.mem j le) (subst (store.IsThere old) (sym e) there)) ∙ k.mem j le
+
+  -- a span in this block: its chunk has the place and the length that it had
+  stands-own : (span : Span) (r : table.Reference) → slot_at r.handle ≡ slot → Stands old span r → Stands written-store span r
+  stands-own span r e s =
+      let was : store.bytes_of old (slot_at r.handle) ≡ before = ap (store.bytes_of old) e in
+      let is : store.bytes_of written-store (slot_at r.handle) ≡ written = ap (store.bytes_of written-store) e ∙ own in
+      let kept = chunk-kept before written r.chunk s.bytes long (changes.places r.chunk) (subst (λ b. chunks.chunk_of (block.chunks b) r.chunk ≡ Some s.bytes) was s.chunk) in
+      let stays : block.place_of (store.bytes_of written-store (slot_at r.handle)) r.chunk ≡ block.place_of (store.bytes_of old (slot_at r.handle)) r.chunk =
+      ap (λ b. block.place_of b r.chunk) is ∙ changes.places r.chunk ∙ sym (ap (λ b. block.place_of b r.chunk) was) in
+      let locks : store.locks_of written-store (slot_at r.handle) ≡ store.locks_of old (slot_at r.handle) = ap (store.locks_of written-store) e ∙ ap store.locks_in block-own ∙ sym (ap (store.locks_of old) e) in
+      record {
+        bytes = kept.0;
+        locked = rw locks s.locked;
+        chunk = subst (λ b. chunks.chunk_of (block.chunks b) r.chunk ≡ Some kept.0) (sym is) kept.1;
+        fits = omega (arith, kept.2, s.fits);
+        len = s.len;
+        place = λ some. rw stays (s.place some);
+      }
+
+  -- every span stays
+  pub written-spans : SpansStay old written-store table.Nothing
+  written-spans span r s fresh = elim (cases_eq (slot_at r.handle) slot) [
+    | inl same ↦ stands-own span r same s
+    | inr apart ↦ (let is = other (slot_at r.handle) apart in stands-on old written-store span r (ap store.bytes_in is) (rw (ap store.locks_in is) s.locked) refl s)
+  ]
+
+  written-bytes : chunks.bytes_of (block.chunks before) ref.chunk ≡ block.bytes_at before place.place
+  written-bytes = ap (λ o. unwrap_or o []) (chunk-place before ref.chunk ∙ ap (option_map (block.bytes_at before)) place.is)
+
+  -- the chunks that the row gives the block
+  abbrev row_chunks : List (Option (List ℕ))
+  row_chunks = chunks.with_bytes (block.chunks before) ref.chunk (with_part (chunks.bytes_of (block.chunks before) ref.chunk) (ref.start + i) ws)
+
+  spelled : block.chunks written ≡ row_chunks
+  spelled = changes.chunks ∙ ap (λ bs. chunks.with_bytes (block.chunks before) ref.chunk (with_part bs (ref.start + i) ws)) (sym written-bytes)
+
+  size : length written ≡ max (store.size_of old slot) (chunks.need row_chunks)
+  size = max-is (length written) (store.size_of old slot) (chunks.need row_chunks) long (subst (λ cs. chunks.need cs ≤ length written) spelled (need-fits written changes.heap))
+
+  -- the block with other chunks, and another size
+  abbrev resized : List (Option (List ℕ)) → ℕ → Option model.Block
+  resized cs n = Some (record { locks = store.locks_of old slot; chunks = cs; size = n })
+
+  same-block : resized (block.chunks written) (length written) ≡ resized row_chunks (max (store.size_of old slot) (chunks.need row_chunks))
+  same-block = λ j. resized (spelled j) (size j)
+
+  -- memory is as the row says
+  written-memory : memory_of written-store ≡ (table.store ref i ws willing (memory_of old)).after
+  written-memory =
+      memory_of-set old written-store ref.handle (Some (record { locks = store.locks_of old slot; bytes = written })) (handle_of-there old ref.handle k there) blocks-set refl
+      ∙ ap (model.with_block (memory_of old) ref.handle) (rw (there-view old ref.handle k there) same-block)
+
+  pub written-calls : Calls (table.store ref i ws) (Ok tt) old written-store
+  written-calls = record { answers = (willing, ap (λ m. (Ok tt, m)) (sym written-memory)); spans = λ choice. written-spans }
+
+-- a write that covers bytes of a span is a write to the chunk for which it stands
+module _ (old new : store.Store) (k : IsKernel old) (span : Span) (ref : table.Reference) (stands : Stands old span ref) (i at : ℕ) (ws : List ℕ) (fits : i + length ws ≤ ref.len) (some : 0 < length ws) (e : at ≡ span.at + i)
+    (covered : WritesCovered old new at ws) where
+  abbrev there : store.IsThere old (slot_at ref.handle)
+  there = stands-there old span ref stands k
+
+  abbrev place : Lies old span ref
+  place = lies old span ref stands (omega (arith, fits, some))
+
+  stored : new ≡ written-store old k ref there place.chunk i ws fits
+  stored =
+      let slot = slot_at ref.handle in
+      let before = store.bytes_of old slot in
+      let index : at - store.place_of old slot ≡ place.chunk.place.at + (ref.start + i) = omega (arith, e, place.at) in
+      covered slot some (omega (arith, e, place.at), omega (arith, e, fits, place.at, place.within)) ∙ ap (λ j. with_bytes old slot (with_part before j ws)) index
+
+  pub stored-kernel : IsKernel new
+  stored-kernel = subst IsKernel (sym stored) (written-kernel old k ref there place.chunk i ws fits)
+
+  pub stored-calls : Calls (table.store ref i ws) (Ok tt) old new
+  stored-calls = subst (λ t. Calls (table.store ref i ws) (Ok tt) old t) (sym stored) (written-calls old k ref there place.chunk i ws fits)

@@ -1,0 +1,67 @@
+//! Loads, stores and copies over spans.
+//!
+//! Each call does what its row says at every reference that a span stands for. Nothing here is tested when it runs: the
+//! caller knows that its spans are good.
+
+ghost use Rattle.std.specs.Prelude.{[], ◌∷◌, Ok};
+
+use crate::kernel::Kernel;
+use crate::span::Span;
+
+impl Kernel {
+    ghost use Rattle.geos_model.specs.Bytes.{word_bytes};
+    ghost use Rattle.geos_model.specs.Calls as table;
+    ghost use Rattle.geos_model.specs.Calls.{Reference};
+    ghost use Rattle.geos_calls.specs.Kernel.{Calls};
+    ghost use Rattle.geos_calls.specs.Spans.{Stands, IsGood};
+
+    /// The byte at the offset `i` of a span, which has one there.
+    pub fn load8(&self, span: Span, i: u16) -> u8
+        requires { IsGood self.now span i 1 }
+        ensures { (ref : Reference) → Stands self.now span ref → Calls (table.load8 ref i) (Ok result) self.now self.now }
+    {
+        self.blocks.laid_out();
+        self.blocks.read8(span.at + u32::from(i))
+    }
+
+    /// The word at the offset `i` of a span, little end first. The span has both bytes.
+    pub fn load16(&self, span: Span, i: u16) -> u16
+        requires { IsGood self.now span i 2 }
+        ensures { (ref : Reference) → Stands self.now span ref → Calls (table.load16 ref i) (Ok result) self.now self.now }
+    {
+        self.blocks.laid_out();
+        self.blocks.read16(span.at + u32::from(i))
+    }
+
+    /// Writes a byte at the offset `i` of a span, which has one there. All spans stay.
+    pub fn store8(&mut self, span: Span, i: u16, byte: u8)
+        requires { IsGood self.old span i 1 }
+        ensures { (ref : Reference) → Stands self.old span ref → Calls (table.store ref i (byte ∷ [])) (Ok tt) self.old self.new }
+    {
+        self.blocks.laid_out();
+        self.blocks.write8(span.at + u32::from(i), byte);
+    }
+
+    /// Writes a word at the offset `i` of a span, little end first. The span has both bytes. All spans stay.
+    pub fn store16(&mut self, span: Span, i: u16, word: u16)
+        requires { IsGood self.old span i 2 }
+        ensures { (ref : Reference) → Stands self.old span ref → Calls (table.store ref i (word_bytes word)) (Ok tt) self.old self.new }
+    {
+        self.blocks.laid_out();
+        self.blocks.write16(span.at + u32::from(i), word);
+    }
+
+    /// Copies the first `n` bytes of `from`, as they were before, to the beginning of `to`, also where both overlap. Both
+    /// spans have so many bytes. All spans stay.
+    pub fn copy(&mut self, to: Span, from: Span, n: u16)
+        requires to { IsGood self.old to 0 n }
+        requires from { IsGood self.old from 0 n }
+        ensures { (target source : Reference) → Stands self.old to target → Stands self.old from source → Calls (table.copy target source n) (Ok tt) self.old self.new }
+    {
+        self.blocks.laid_out();
+        if n == 0 {
+            return;
+        }
+        self.blocks.copy(from.at, to.at, u32::from(n));
+    }
+}
