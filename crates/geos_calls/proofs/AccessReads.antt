@@ -16,10 +16,17 @@ use Rattle.geos_model.specs.Calls as table
 use Rattle.geos_model.proofs.Places.{chunk-place}
 use Rattle.geos_calls.specs.declared.span.Span.{Span}
 use Rattle.geos_calls.specs.View.{slot_at, memory_of}
-use Rattle.geos_calls.specs.Spans.{Stands, IsGood}
+use Rattle.geos_calls.specs.Spans.{Stands, IsStanding}
 use Rattle.geos_calls.specs.Kernel.{IsKernel, Calls}
 use Rattle.geos_calls.proofs.Locks.{there-view, there_of_locks}
 use Rattle.geos_calls.proofs.Rows.{willing}
+
+-- a span stands for some reference, and n bytes at an offset lie in it
+abbrev pub IsGood : store.Store → Span → ℕ → ℕ → Type 0
+IsGood s span i n = (ref : table.Reference) × Stands s span ref × (i + n ≤ ref.len)
+
+pub good-of : (old s : store.Store) (span : Span) (i n : ℕ) → s ≡ old → IsStanding old span → i + n ≤ span.len → IsGood s span i n
+good-of old s span i n same standing within = subst (λ t. IsGood t span i n) (sym same) (standing.0, standing.1, omega (arith, within, standing.1.len))
 
 -- the place of a reference's chunk in its block
 pub record HasPlace (s : store.Store) (ref : table.Reference) : Type 0 where

@@ -11,7 +11,8 @@ use Rattle.geos_model.specs.Memory as model
 use Rattle.geos_model.specs.Calls as table
 use Rattle.geos_calls.specs.View.{memory_of}
 use Rattle.geos_calls.specs.Kernel.{IsKernel, Calls, GivesSpan}
-use Rattle.geos_calls.specs.Spans.{Stands}
+use Rattle.geos_calls.specs.declared.span.Span.{Span}
+use Rattle.geos_calls.specs.Spans.{Stands, IsStanding}
 use Rattle.lmem_raw.specs.Bytes.{part}
 use Rattle.geos_calls.proofs.Locks.{there-view, there_of_locks}
 use Rattle.geos_calls.proofs.Rows.{lsize-ok, lsize-absent, deref-ok, deref-short, deref-absent}
@@ -21,6 +22,11 @@ use Rattle.geos_calls.proofs.Views.{slot_of-mem}
 some_of : (o : Option (List ℕ)) (P : List ℕ → Type 0) → IsSomeAnd o P → (bytes : List ℕ) × (o ≡ Some bytes) × P bytes
 some_of None P h = absurd h
 some_of (Some bytes) P h = (bytes, refl, h)
+
+-- a span that a row gives stands for some reference
+pub gives-standing : (row : table.Choice → model.Memory → table.Row table.Reference) (span : Span) (s : store.Store) → GivesSpan row (Ok span) s → IsStanding s span
+gives-standing row span s (Ok ref, answers, stands) = (ref, stands)
+gives-standing row span s (Err refusal, answers, stands) = absurd stands
 
 module _ (s : store.Store) (name : Name) (c : ℕ) (k : IsKernel s) (locked : 0 < store.locks_of s (slot_of name)) where
   -- the chunks of a locked block are those that its bytes spell

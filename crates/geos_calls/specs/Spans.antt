@@ -27,6 +27,6 @@ IsFresh (InBlock h) ref = ref.handle ≢ h
 abbrev pub SpansStay : Store → Store → Staleness → Type 0
 SpansStay old new stale = (span : Span) (ref : Reference) → Stands old span ref → IsFresh stale ref → Stands new span ref
 
--- a span stands for some reference, and n bytes at an offset lie in it
-abbrev pub IsGood : Store → Span → ℕ → ℕ → Type 0
-IsGood store span i n = (ref : Reference) × Stands store span ref × (i + n ≤ ref.len)
+-- a span stands for some reference
+abbrev pub IsStanding : Store → Span → Type 0
+IsStanding store span = (ref : Reference) × Stands store span ref

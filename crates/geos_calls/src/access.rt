@@ -3,7 +3,7 @@
 //! Each call does what its row says at every reference that a span stands for. Nothing here is tested when it runs: the
 //! caller knows that its spans are good.
 
-ghost use Rattle.std.specs.Prelude.{[], ◌∷◌, Ok};
+ghost use Rattle.std.specs.Prelude.{[], ◌∷◌, ◌+◌, ◌<◌, ◌≤◌, Ok};
 
 use crate::kernel::Kernel;
 use crate::span::Span;
@@ -13,11 +13,12 @@ impl Kernel {
     ghost use Rattle.geos_model.specs.Calls as table;
     ghost use Rattle.geos_model.specs.Calls.{Reference};
     ghost use Rattle.geos_calls.specs.Kernel.{Calls};
-    ghost use Rattle.geos_calls.specs.Spans.{Stands, IsGood};
+    ghost use Rattle.geos_calls.specs.Spans.{Stands, IsStanding};
 
     /// The byte at the offset `i` of a span, which has one there.
     pub fn load8(&self, span: Span, i: u16) -> u8
-        requires { IsGood self.now span i 1 }
+        requires stands { IsStanding self.now span }
+        requires within { i < span.len }
         ensures { (ref : Reference) → Stands self.now span ref → Calls (table.load8 ref i) (Ok result) self.now self.now }
     {
         self.blocks.laid_out();
@@ -26,7 +27,8 @@ impl Kernel {
 
     /// The word at the offset `i` of a span, little end first. The span has both bytes.
     pub fn load16(&self, span: Span, i: u16) -> u16
-        requires { IsGood self.now span i 2 }
+        requires stands { IsStanding self.now span }
+        requires within { i + 2 ≤ span.len }
         ensures { (ref : Reference) → Stands self.now span ref → Calls (table.load16 ref i) (Ok result) self.now self.now }
     {
         self.blocks.laid_out();
@@ -35,7 +37,8 @@ impl Kernel {
 
     /// Writes a byte at the offset `i` of a span, which has one there. All spans stay.
     pub fn store8(&mut self, span: Span, i: u16, byte: u8)
-        requires { IsGood self.old span i 1 }
+        requires stands { IsStanding self.old span }
+        requires within { i < span.len }
         ensures { (ref : Reference) → Stands self.old span ref → Calls (table.store ref i (byte ∷ [])) (Ok tt) self.old self.new }
     {
         self.blocks.laid_out();
@@ -44,7 +47,8 @@ impl Kernel {
 
     /// Writes a word at the offset `i` of a span, little end first. The span has both bytes. All spans stay.
     pub fn store16(&mut self, span: Span, i: u16, word: u16)
-        requires { IsGood self.old span i 2 }
+        requires stands { IsStanding self.old span }
+        requires within { i + 2 ≤ span.len }
         ensures { (ref : Reference) → Stands self.old span ref → Calls (table.store ref i (word_bytes word)) (Ok tt) self.old self.new }
     {
         self.blocks.laid_out();
@@ -54,8 +58,8 @@ impl Kernel {
     /// Copies the first `n` bytes of `from`, as they were before, to the beginning of `to`, also where both overlap. Both
     /// spans have so many bytes. All spans stay.
     pub fn copy(&mut self, to: Span, from: Span, n: u16)
-        requires to { IsGood self.old to 0 n }
-        requires from { IsGood self.old from 0 n }
+        requires to { IsStanding self.old to × (n ≤ to.len) }
+        requires from { IsStanding self.old from × (n ≤ from.len) }
         ensures { (target source : Reference) → Stands self.old to target → Stands self.old from source → Calls (table.copy target source n) (Ok tt) self.old self.new }
     {
         self.blocks.laid_out();

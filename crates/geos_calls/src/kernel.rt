@@ -47,6 +47,7 @@ impl Kernel {
     ghost use Rattle.geos_model.specs.Calls as table;
     ghost use Rattle.geos_model.specs.Chunks.{need, with_new, with_resized, with_inserted};
     ghost use Rattle.geos_calls.specs.Kernel.{Calls, GivesSpan, NewHasNoRoom};
+    ghost use Rattle.geos_calls.specs.Spans.{IsStanding};
     ghost use Rattle.geos_model.specs.Memory as memory;
     ghost use Rattle.geos_calls.specs.View.{chunks_at, memory_of};
 
@@ -115,7 +116,8 @@ impl Kernel {
     /// where it has fewer bytes. The span stands until a call makes the chunk's references stale.
     pub fn deref(&self, name: Name, c: u16, n: u16) -> Result<Span, Refusal>
         requires { 0 < locks_of self.now (slot_of name) }
-        ensures { GivesSpan (table.deref name.h c n) result self.now }
+        ensures gives { GivesSpan (table.deref name.h c n) result self.now }
+        ensures stands { IfOk result (λ span. IsStanding self.now span × (n ≤ span.len)) }
     {
         let Ok((at, len)) = place(self.blocks.bytes(name), c) else {
             return Err(Refusal::BadChunk);

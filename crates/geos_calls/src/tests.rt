@@ -1,3 +1,6 @@
+ghost use Rattle.std.specs.Prelude.{◌≤◌};
+ghost use Rattle.geos_calls.specs.Spans.{IsStanding};
+
 use super::*;
 use block_handles::{Name, Owner};
 use geos_model::Refusal;
@@ -34,6 +37,18 @@ fn deref(rt: &impl Abort, kernel: &Kernel, c: u16, n: u16) -> Result<Span, Refus
     let name = mem(1);
     assert!(rt; kernel.locks(name) > 0);
     kernel.deref(name, c, n)
+}
+
+/// A span of a chunk of block 1, which has `n` bytes at least.
+fn span(rt: &impl Abort, kernel: &Kernel, c: u16, n: u16) -> Span
+    ensures { IsStanding kernel.now result × (n ≤ result.len) }
+{
+    let name = mem(1);
+    assert!(rt; kernel.locks(name) > 0);
+    match kernel.deref(name, c, n) {
+        Ok(span) => span,
+        Err(_) => panic!(rt; "no chunk of so many bytes"),
+    }
 }
 
 #[test]
@@ -352,5 +367,47 @@ fn answers_a_list_in_order(rt: HostRuntime) -> Result<(), Fail> {
     for k in 0..6 {
         assert_eq!(rt; replies[k], wanted[k]);
     }
+    Ok(())
+}
+
+#[test]
+fn reads_and_writes_through_spans(rt: HostRuntime) -> Result<(), Fail> {
+    let mut kernel = with_a_block(&rt, rt.alloc())?;
+    want_within(
+        &rt,
+        &mut kernel,
+        1,
+        BlockCall::Lalloc { n: 8 },
+        Reply::Number(16),
+    );
+    want_within(
+        &rt,
+        &mut kernel,
+        1,
+        BlockCall::Lalloc { n: 4 },
+        Reply::Number(18),
+    );
+    let to = span(&rt, &kernel, 16, 8);
+    kernel.store16(to, 0, 0x0201);
+    let to = span(&rt, &kernel, 16, 8);
+    kernel.store8(to, 7, 8);
+    let from = span(&rt, &kernel, 16, 8);
+    assert_eq!(rt; kernel.load8(from, 0), 1);
+    assert_eq!(rt; kernel.load8(from, 1), 2);
+    assert_eq!(rt; kernel.load16(from, 6), 0x0800);
+    let to = span(&rt, &kernel, 18, 4);
+    kernel.copy(to, from, 3);
+    let copied = span(&rt, &kernel, 18, 4);
+    assert_eq!(rt; kernel.load16(copied, 0), 0x0201);
+    assert_eq!(rt; kernel.load16(copied, 2), 0);
+    want_within(
+        &rt,
+        &mut kernel,
+        1,
+        BlockCall::Lins { c: 18, at: 1, n: 1 },
+        Reply::Done,
+    );
+    let opened = span(&rt, &kernel, 18, 5);
+    assert_eq!(rt; kernel.load16(opened, 1), 0x0200);
     Ok(())
 }

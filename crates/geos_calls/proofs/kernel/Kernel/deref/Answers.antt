@@ -8,19 +8,19 @@ use Rattle.geos_model.specs.Chunks.{chunk_of}
 use Rattle.geos_model.specs.Calls as table
 use Rattle.geos_calls.specs.declared.span.Span.{Span}
 use Rattle.geos_calls.specs.Kernel.{GivesSpan}
-use Rattle.geos_calls.proofs.Looks.{deref-none, deref-few, deref-span}
+use Rattle.geos_calls.proofs.Looks.{deref-none, deref-few, deref-span, gives-standing}
 use Rattle.geos_calls.proofs.kernel.Kernel.deref.Goals as goal
 
-pub returns-in_default : goal.returns-in_default
-returns-in_default c =
+pub returns-in_default-clause-gives : goal.returns-in_default-clause-gives
+returns-in_default-clause-gives c =
     let s = c.self.inside.blocks in
     let name = c.args.name in
     let locked : 0 < locks_of s (slot_of name) = subst (λ t. 0 < locks_of t (slot_of name)) (sym c.self.view_is) c.requires in
     let none = subst (λ bytes. chunk_of (chunks bytes) c.args.c ≡ None) c.bytes.ensures c.in_default.ensures.bytes in
     rw (sym c.self.view_is) (deref-none s name c.args.c c.self.invariant locked c.args.n none)
 
-pub returns-then-len-n : goal.returns-then-len-n
-returns-then-len-n c =
+pub returns-then-len-n-clause-gives : goal.returns-then-len-n-clause-gives
+returns-then-len-n-clause-gives c =
     let s = c.self.inside.blocks in
     let name = c.args.name in
     let at = c.in-Ok.at in
@@ -30,8 +30,8 @@ returns-then-len-n c =
     let found = subst (λ bytes. chunk_of (chunks bytes) c.args.c ≡ Some (part bytes at len)) c.bytes.ensures c.in-Ok.ensures.bytes in
     rw (sym c.self.view_is) (deref-few s name c.args.c c.self.invariant locked at len c.args.n within found c.if-len-n.true)
 
-pub returns : goal.returns
-returns c =
+pub returns-clause-gives : goal.returns-clause-gives
+returns-clause-gives c =
     let s = c.self.inside.blocks in
     let name = c.args.name in
     let at = c.in-Ok.at in
@@ -45,3 +45,9 @@ returns c =
     let span : Span = record { at = start + c.from.result; len = len } in
     let gives : GivesSpan (table.deref name.h c.args.c c.args.n) (Ok span) s = deref-span s name c.args.c c.self.invariant locked at len c.args.n within found start c.from.result c.place-2.ensures.place c.from.ensures enough placed in
     subst (GivesSpan (table.deref name.h c.args.c c.args.n) (Ok span)) c.self.view_is gives
+
+pub returns-clause-stands : goal.returns-clause-stands
+returns-clause-stands c = (
+  gives-standing (table.deref c.args.name.h c.args.c c.args.n) (record { at = c.place-2.result + c.from.result; len = c.in-Ok.len }) c.args.self.now (returns-clause-gives c),
+  omega (arith, c.if-len-n.false),
+)
