@@ -12,6 +12,7 @@ pub mod Removals
 pub mod Named
 pub mod Replies
 pub mod Steps
+pub mod Whole
 pub mod Lowest
 pub mod Tight
 pub mod News

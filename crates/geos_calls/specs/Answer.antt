@@ -1,13 +1,14 @@
 -- What calls come to, one and one after another.
-use Rattle.std.specs.Prelude.{◌≡◌, ℕ, ◌==◌, if◌then◌else◌, List, [], ◌∷◌, map, Result, Ok, Err}
+use Rattle.std.specs.Prelude.{◌≡◌, ℕ, ◌==◌, nat_le, if◌then◌else◌, List, [], ◌∷◌, map, Result, Ok, Err}
 use Rattle.block_handles.specs.Store.{Store}
 use Rattle.geos_model.specs.declared.refusal.Refusal.{Refusal}
+use Rattle.geos_model.specs.declared.refusal.Refusal.TheVariants.{BadChunk, Range}
 use Rattle.geos_model.specs.Memory.{Memory, locks_of}
-use Rattle.geos_model.specs.Calls.{Choice, Row, Staleness, Reference, Nothing, outcome, mnew, mlock, munlock, mfree, lalloc, lfree, lrealloc, lins, ldel, lsize, lcontract}
+use Rattle.geos_model.specs.Calls.{Choice, Row, Staleness, Reference, Nothing, outcome, has_no_chunk, length_of, load8, store, mnew, mlock, munlock, mfree, lalloc, lfree, lrealloc, lins, ldel, lsize, lcontract}
 use Rattle.geos_calls.specs.declared.call.Call.{Call}
 use Rattle.geos_calls.specs.declared.call.Call.TheVariants.{Mnew, Mlock, Mfree, Within}
 use Rattle.geos_calls.specs.declared.call.BlockCall.{BlockCall}
-use Rattle.geos_calls.specs.declared.call.BlockCall.TheVariants.{Munlock, Lalloc, Lfree, Lrealloc, Lins, Ldel, Lsize, Lcontract}
+use Rattle.geos_calls.specs.declared.call.BlockCall.TheVariants.{Munlock, Lalloc, Lfree, Lrealloc, Lins, Ldel, Lsize, Read, Write, Lcontract}
 use Rattle.geos_calls.specs.declared.call.Reply.{Reply}
 use Rattle.geos_calls.specs.declared.call.Reply.TheVariants.{Done, Number, Refused, NotLocked}
 use Rattle.geos_calls.specs.declared.span.Span.{Span}
@@ -23,6 +24,19 @@ number (Err refusal) = Refused refusal
 abbrev pub done : Result (Unit {0}) Refusal → Reply
 done (Ok answer) = Done
 done (Err refusal) = Refused refusal
+
+-- a whole chunk, as a reference
+abbrev pub whole_chunk : Memory → ℕ → ℕ → Reference
+whole_chunk memory h c = record { handle = h; chunk = c; start = 0; len = length_of memory h c }
+
+-- looks a chunk up, and reads the byte at an offset of it
+abbrev pub read : ℕ → ℕ → ℕ → Choice → Memory → Row ℕ
+read h c at choice memory = record (load8 (whole_chunk memory h c) at choice memory) { refusals = (has_no_chunk memory h c, BadChunk) ∷ (nat_le (length_of memory h c) at, Range) ∷ [] }
+
+-- looks a chunk up, and writes the byte at an offset of it
+abbrev pub write : ℕ → ℕ → ℕ → ℕ → Choice → Memory → Row (Unit {0})
+write h c at byte choice memory =
+    record (store (whole_chunk memory h c) at (byte ∷ []) choice memory) { refusals = (has_no_chunk memory h c, BadChunk) ∷ (nat_le (length_of memory h c) at, Range) ∷ [] }
 
 -- a reply, memory after it, and the references that are stale then
 pub record Answer : Type 0 where
@@ -43,6 +57,8 @@ block_answer h (Lrealloc c n) choice memory = replied done (lrealloc h c n choic
 block_answer h (Lins c at n) choice memory = replied done (lins h c at n choice memory) memory
 block_answer h (Ldel c at n) choice memory = replied done (ldel h c at n choice memory) memory
 block_answer h (Lsize c) choice memory = replied number (lsize h c choice memory) memory
+block_answer h (Read c at) choice memory = replied number (read h c at choice memory) memory
+block_answer h (Write c at byte) choice memory = replied done (write h c at byte choice memory) memory
 block_answer h Lcontract choice memory = replied done (lcontract h choice memory) memory
 
 -- what a call comes to, under a choice of what is refused from outside; one that wants a lock that is not there is not tried

@@ -4,11 +4,13 @@ ghost use Rattle.std.specs.Prelude.{◌≡◌, ◌<◌, length};
 ghost use Rattle.block_handles.specs.declared.name.Owner.{Owner};
 ghost use Rattle.block_handles.specs.Names.{slot_of};
 ghost use Rattle.block_handles.specs.Store.{locks_of};
-ghost use Rattle.geos_calls.specs.Answer.{Answered, AllAnswered, BlockAnswered};
+ghost use Rattle.geos_calls.specs.Answer.{Answered, AllAnswered, BlockAnswered, read, write};
+ghost use Rattle.geos_calls.specs.Kernel.{Calls};
 
 use crate::call::{BlockCall, Call, Reply};
 use crate::kernel::Kernel;
 use block_handles::{Name, Owner};
+use geos_model::Refusal;
 
 impl Kernel {
     /// Answers a call.
@@ -58,10 +60,44 @@ impl Kernel {
             BlockCall::Lins { c, at, n } => Reply::done(self.lins(name, c, at, n)),
             BlockCall::Ldel { c, at, n } => Reply::done(self.ldel(name, c, at, n)),
             BlockCall::Lsize { c } => Reply::number(self.lsize(name, c)),
+            BlockCall::Read { c, at } => Reply::number(self.read(name, c, at)),
+            BlockCall::Write { c, at, byte } => Reply::done(self.write(name, c, at, byte)),
             BlockCall::Lcontract => {
                 self.lcontract(name);
                 Reply::Done
             }
         }
+    }
+
+    /// The byte at an offset of a chunk. `BadChunk` where no chunk of the block has this handle, `Range` where it has no byte
+    /// there.
+    fn read(&self, name: Name, c: u16, at: u16) -> Result<u16, Refusal>
+        requires { 0 < locks_of self.now (slot_of name) }
+        ensures { Calls (read name.h c at) result self.now self.now }
+    {
+        let span = match self.deref(name, c, 0) {
+            Ok(span) => span,
+            Err(refusal) => return Err(refusal),
+        };
+        if at >= span.len {
+            return Err(Refusal::Range);
+        }
+        Ok(u16::from(self.load8(span, at)))
+    }
+
+    /// Writes a byte at an offset of a chunk, refused as `read` is.
+    fn write(&mut self, name: Name, c: u16, at: u16, byte: u8) -> Result<(), Refusal>
+        requires { 0 < locks_of self.old (slot_of name) }
+        ensures { Calls (write name.h c at byte) result self.old self.new }
+    {
+        let span = match self.deref(name, c, 0) {
+            Ok(span) => span,
+            Err(refusal) => return Err(refusal),
+        };
+        if at >= span.len {
+            return Err(Refusal::Range);
+        }
+        self.store8(span, at, byte);
+        Ok(())
     }
 }

@@ -35,6 +35,10 @@ pub enum BlockCall {
     Ldel { c: u16, at: u16, n: u16 },
     /// Tells the length of a chunk.
     Lsize { c: u16 },
+    /// Reads the byte at an offset of a chunk.
+    Read { c: u16, at: u16 },
+    /// Writes the byte at an offset of a chunk.
+    Write { c: u16, at: u16, byte: u8 },
     /// Moves the chunks of the block together.
     Lcontract,
 }
@@ -44,7 +48,7 @@ pub enum BlockCall {
 pub enum Reply {
     /// It is done.
     Done,
-    /// It is done, and this is its answer: a handle, or a length in bytes.
+    /// It is done, and this is its answer: a handle, a length in bytes, or a byte.
     Number(u16),
     /// It was refused, and only references that it makes stale have changed.
     Refused(Refusal),

@@ -353,8 +353,27 @@ fn answers_a_list_in_order(rt: HostRuntime) -> Result<(), Fail> {
         Call::Within(1, BlockCall::Lalloc { n: 4 }),
         Call::Mlock(1),
         Call::Within(1, BlockCall::Lalloc { n: 4 }),
+        Call::Within(
+            1,
+            BlockCall::Write {
+                c: 18,
+                at: 3,
+                byte: 7,
+            },
+        ),
+        Call::Within(1, BlockCall::Lins { c: 18, at: 0, n: 1 }),
+        Call::Within(1, BlockCall::Read { c: 18, at: 4 }),
+        Call::Within(1, BlockCall::Read { c: 18, at: 5 }),
+        Call::Within(
+            1,
+            BlockCall::Write {
+                c: 17,
+                at: 0,
+                byte: 7,
+            },
+        ),
     ];
-    let mut replies = [Reply::Done; 6];
+    let mut replies = [Reply::Done; 11];
     kernel.answer_all(&calls, &mut replies);
     let wanted = [
         Reply::Number(1),
@@ -363,8 +382,13 @@ fn answers_a_list_in_order(rt: HostRuntime) -> Result<(), Fail> {
         Reply::NotLocked,
         Reply::Done,
         Reply::Number(18),
+        Reply::Done,
+        Reply::Done,
+        Reply::Number(7),
+        Reply::Refused(Refusal::Range),
+        Reply::Refused(Refusal::BadChunk),
     ];
-    for k in 0..6 {
+    for k in 0..11 {
         assert_eq!(rt; replies[k], wanted[k]);
     }
     Ok(())

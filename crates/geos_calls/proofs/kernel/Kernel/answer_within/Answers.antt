@@ -1,9 +1,9 @@
 use Rattle.std.proofs.Common.{refl, sym, subst}
 use Rattle.std.specs.Prelude.{Ok}
 use Rattle.geos_model.specs.Calls.{munlock, lalloc, lfree, lrealloc, lins, ldel, lcontract}
-use Rattle.geos_calls.specs.declared.call.BlockCall.TheVariants.{Munlock, Lalloc, Lfree, Lrealloc, Lins, Ldel, Lcontract}
+use Rattle.geos_calls.specs.declared.call.BlockCall.TheVariants.{Munlock, Lalloc, Lfree, Lrealloc, Lins, Ldel, Write, Lcontract}
 use Rattle.geos_calls.specs.declared.call.Reply.TheVariants.{Done}
-use Rattle.geos_calls.specs.Answer.{number, done, BlockAnswered}
+use Rattle.geos_calls.specs.Answer.{number, done, write, BlockAnswered}
 use Rattle.geos_calls.proofs.Replies.{by_block_row}
 use Rattle.geos_calls.proofs.kernel.Kernel.answer_within.Goals as goal
 
@@ -41,3 +41,9 @@ pub returns-in-Lcontract : goal.returns-in-Lcontract
 returns-in-Lcontract c =
     subst (λ call. BlockAnswered c.args.name.h call Done c.args.self.now c.lcontract.new.self) (sym c.in-Lcontract.is)
     (by_block_row done (lcontract c.args.name.h) c.args.self.now c.lcontract.new.self (Ok tt) Done refl c.lcontract.ensures c.args.name.h Lcontract (λ choice. refl))
+
+pub returns-in-Write : goal.returns-in-Write
+returns-in-Write c =
+    subst (λ call. BlockAnswered c.args.name.h call c.done-in-Write.result c.args.self.now c.write.new.self) (sym c.in-Write.is)
+    (by_block_row done (write c.args.name.h c.in-Write.c c.in-Write.at c.in-Write.byte) c.args.self.now c.write.new.self c.write.result c.done-in-Write.result c.done-in-Write.ensures c.write.ensures c.args.name.h
+    (Write c.in-Write.c c.in-Write.at c.in-Write.byte) (λ choice. refl))
