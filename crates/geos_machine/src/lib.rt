@@ -4,6 +4,7 @@
 #![tactic(auto)]
 
 mod machine;
+mod names;
 mod outcome;
 mod step;
 
