@@ -93,12 +93,18 @@ module _ (old : store.Store) (k : IsKernel old) (ref : table.Reference) (there :
 
   -- the blocks still are a kernel's
   pub written-kernel : IsKernel written-store
-  written-kernel = record { heaps = heap; mem = high; slots = ap length blocks-set ∙ length-set old.blocks slot _ ∙ k.slots; small = k.small }
+  written-kernel = record { heaps = heap; handles = handle; mem = high; slots = ap length blocks-set ∙ length-set old.blocks slot _ ∙ k.slots; small = k.small }
     where
       heap : (j : ℕ) → store.IsThere written-store j → IsHeap (store.bytes_of written-store j)
       heap j t = elim (cases_eq j slot) [
         | inl e ↦ subst (λ j. IsHeap (store.bytes_of written-store j)) (sym e) (subst IsHeap (sym own) changes.heap)
         | inr ne ↦ subst IsHeap (sym (ap store.bytes_in (other j ne))) (k.heaps j (still-there j t))
+      ]
+
+      handle : (j : ℕ) → store.IsThere written-store j → block.handle_word (store.bytes_of written-store j) ≡ j + 1
+      handle j t = elim (cases_eq j slot) [
+        | inl e ↦ subst (λ j. block.handle_word (store.bytes_of written-store j) ≡ j + 1) (sym e) (ap block.handle_word own ∙ changes.handle ∙ k.handles slot there)
+        | inr ne ↦ ap (λ o. block.handle_word (store.bytes_in o)) (other j ne) ∙ k.handles j (still-there j t)
       ]
 
       high : (j : ℕ) → 1024 ≤ j → store.block_at written-store j ≡ None

@@ -1,5 +1,5 @@
 -- The calls that change the chunks of a block: memory after them, and the spans that stay.
-use Rattle.std.proofs.Common.{◌≡◌, ◌≢◌, ℕ, ◌<◌, ◌≤◌, List, length, length-set, Option, Some, None, sym, ap, ◌∙◌, arith, subst, inl, inr}
+use Rattle.std.proofs.Common.{◌≡◌, ◌≢◌, ℕ, ◌+◌, ◌<◌, ◌≤◌, List, length, length-set, Option, Some, None, sym, ap, ◌∙◌, arith, subst, inl, inr}
 use Rattle.std.specs.Prelude.{max}
 use Rattle.std.proofs.lemmas.Bool.{cases_eq}
 use Rattle.block_handles.specs.Store.{Store, block_at, IsBlock, IsThere, bytes_in, locks_in, bytes_of, size_of, locks_of}
@@ -13,7 +13,7 @@ use Rattle.geos_calls.specs.Spans.{SpansStay}
 use Rattle.geos_calls.specs.Kernel.{IsKernel}
 use Rattle.geos_calls.specs.Heaps.{Regrows}
 use Rattle.geos_calls.proofs.Locks.{there-view, there_of_locks, other-slot}
-use Rattle.geos_calls.proofs.Regrown.{rechunked-other, rechunked-heap}
+use Rattle.geos_calls.proofs.Regrown.{rechunked-other, rechunked-heap, rechunked-handle}
 use Rattle.geos_calls.proofs.Stays.{stands-on}
 use Rattle.geos_calls.proofs.Views.{memory_of-set, handle_of-there}
 
@@ -41,7 +41,7 @@ module _ (old new : Store) (h : ℕ) (k : IsKernel old) (there : IsThere old (sl
       stands-on old new span ref (ap bytes_in same) (subst (λ o. 0 < locks_in o) (sym same) s.locked) (r.stay (slot_at ref.handle) apart s.locked) s
 
   pub regrown-kernel : IsKernel new
-  regrown-kernel = record { heaps = heap; mem = none; slots = ap length r.blocks ∙ length-set old.blocks slot _ ∙ k.slots; small = rw r.len k.small }
+  regrown-kernel = record { heaps = heap; handles = handle; mem = none; slots = ap length r.blocks ∙ length-set old.blocks slot _ ∙ k.slots; small = rw r.len k.small }
     where
       same : (j : ℕ) → j ≢ slot_at h → block_at new j ≡ block_at old j
       same = rechunked-other old new (slot_at h) there cs (max (size_of old (slot_at h)) (need cs)) r
@@ -50,6 +50,12 @@ module _ (old new : Store) (h : ℕ) (k : IsKernel old) (there : IsThere old (sl
       heap j standing = elim (cases_eq j (slot_at h)) [
         | inl own ↦ subst (λ i. IsHeap (bytes_of new i)) (sym own) (rechunked-heap old new (slot_at h) there cs (max (size_of old (slot_at h)) (need cs)) r)
         | inr ne ↦ subst IsHeap (sym (ap bytes_in (same j ne))) (k.heaps j (subst IsBlock (same j ne) standing))
+      ]
+
+      handle : (j : ℕ) → IsThere new j → block.handle_word (bytes_of new j) ≡ j + 1
+      handle j standing = elim (cases_eq j (slot_at h)) [
+        | inl own ↦ subst (λ i. block.handle_word (bytes_of new i) ≡ i + 1) (sym own) (rechunked-handle old new (slot_at h) there cs (max (size_of old (slot_at h)) (need cs)) r ∙ k.handles (slot_at h) there)
+        | inr ne ↦ ap (λ o. block.handle_word (bytes_in o)) (same j ne) ∙ k.handles j (subst IsBlock (same j ne) standing)
       ]
 
       none : (j : ℕ) → 1024 ≤ j → block_at new j ≡ None

@@ -33,13 +33,15 @@ on_err-map (Err e) f p = f p
 
 module _ (old : Store) (slot : ℕ) (there : IsThere old slot) (ws : List ℕ) where
   -- a heap that was left in the bytes of a block
-  pub lent-heap : (was : List ℕ) (cs : List (Option (List ℕ))) → was ≡ bytes_of old slot → length ws ≡ length was → IsHeap ws → block.chunks ws ≡ cs → Rechunks old (with_bytes old slot ws) slot cs (size_of old slot)
-  lent-heap was cs value long heap spells = record {
+  pub lent-heap : (was : List ℕ) (cs : List (Option (List ℕ))) → was ≡ bytes_of old slot → length ws ≡ length was → IsHeap ws → block.handle_word ws ≡ block.handle_word was → block.chunks ws ≡ cs
+      → Rechunks old (with_bytes old slot ws) slot cs (size_of old slot)
+  lent-heap was cs value long heap handle spells = record {
     bytes = ws;
     blocks = with_bytes-set old.blocks slot ws there (long ∙ ap length value);
     stay = λ j ne locked. refl;
     len = refl;
     heap = heap;
+    handle = handle ∙ ap block.handle_word value;
     spells = spells;
     long = long ∙ ap length value;
   }

@@ -50,8 +50,9 @@ module _ (old made : Store) (slot : ℕ) (m : Makes old made slot 64) (small : s
   made-length = ap (λ o. length (bytes_in o)) made-block ∙ length-replicate {A = ℕ} 64 0
 
   -- the bytes of the new block, made a heap, and its first lock
-  pub made-heap : (new : Store) (ws : List ℕ) → length ws ≡ 64 → IsHeap ws → block.chunks ws ≡ None ∷ None ∷ [] → new ≡ with_lock_more (with_bytes made slot ws) slot → MakesHeap old new slot
-  made-heap new ws long heap chunks e =
+  pub made-heap : (new : Store) (ws : List ℕ) → length ws ≡ 64 → IsHeap ws → (h : ℕ) → block.handle_word ws ≡ h → block.chunks ws ≡ None ∷ None ∷ [] → new ≡ with_lock_more (with_bytes made slot ws) slot
+      → MakesHeap old new slot h
+  made-heap new ws long heap h handle chunks e =
       let mid = with_bytes made slot ws in
       let zeros : Block = record { locks = 0; bytes = replicate 64 0 } in
       let own : Block = record { locks = 0; bytes = ws } in
@@ -69,6 +70,7 @@ module _ (old made : Store) (slot : ℕ) (m : Makes old made slot 64) (small : s
         len = ap (λ (t : Store). t.len) e ∙ m.len;
         heap = heap;
         chunks = chunks;
+        handle = handle;
         long = long;
       }
 

@@ -1,5 +1,5 @@
 -- The call that makes a block.
-use Rattle.std.proofs.Common.{◌≡◌, ◌≢◌, ℕ, ◌-◌, ◌<◌, length, get_or, Some, None, sym, ap, ◌∙◌, arith, subst, inl, inr}
+use Rattle.std.proofs.Common.{◌≡◌, ◌≢◌, ℕ, ◌+◌, ◌-◌, ◌<◌, length, get_or, Some, None, sym, ap, ◌∙◌, arith, subst, inl, inr}
 use Rattle.std.specs.Prelude.{Result, Ok, Err}
 use Rattle.std.proofs.lemmas.Bool.{cases_eq}
 use Rattle.std.proofs.lemmas.List.{get_or-set_same, get_or-set_other, length-set}
@@ -37,7 +37,7 @@ module _ (old : store.Store) (k : IsKernel old) where
         spans = λ choice span ref s fresh. subst (λ t. Stands t span ref) (sym e) s;
       }
 
-  module _ (new : store.Store) (h : ℕ) (low : IsLowest old Mem h) (made : MakesHeap old new (slot_at h)) where
+  module _ (new : store.Store) (h : ℕ) (low : IsLowest old Mem h) (made : MakesHeap old new (slot_at h) h) where
     other-block : (j : ℕ) → j ≢ slot_at h → store.block_at new j ≡ store.block_at old j
     other-block j ne = ap (λ bs. get_or bs j None) made.blocks ∙ get_or-set_other old.blocks (slot_at h) j (Some (record { locks = 1; bytes = made.bytes })) None ne
 
@@ -59,7 +59,7 @@ module _ (old : store.Store) (k : IsKernel old) where
         fresh-block = λ i. record { locks = 1; chunks = made.chunks i; size = made.long i }
 
     pub kernel-made : IsKernel new
-    kernel-made = record { heaps = heap; mem = λ slot le. other-block slot (λ same. absurd (omega (arith, le, same, place, low.handle.1))) ∙ k.mem slot le; slots = count; small = rw made.len k.small }
+    kernel-made = record { heaps = heap; handles = handle; mem = λ slot le. other-block slot (λ same. absurd (omega (arith, le, same, place, low.handle.1))) ∙ k.mem slot le; slots = count; small = rw made.len k.small }
       where
         place : slot_at h ≡ h - 1
         place = slot_at-handle h low.handle
@@ -69,6 +69,12 @@ module _ (old : store.Store) (k : IsKernel old) where
 
         own : store.block_at new (slot_at h) ≡ Some (record { locks = 1; bytes = made.bytes })
         own = ap (λ bs. get_or bs (slot_at h) None) made.blocks ∙ get_or-set_same old.blocks (slot_at h) (Some (record { locks = 1; bytes = made.bytes })) None (omega (arith, place, low.handle.0, low.handle.1, k.slots))
+
+        handle : (slot : ℕ) → store.IsThere new slot → block.handle_word (store.bytes_of new slot) ≡ slot + 1
+        handle slot there = elim (cases_eq slot (slot_at h)) [
+          | inl same ↦ ap (λ i. block.handle_word (store.bytes_of new i)) same ∙ ap (λ o. block.handle_word (store.bytes_in o)) own ∙ made.handle ∙ omega (arith, same, place, low.handle.0)
+          | inr ne ↦ ap (λ o. block.handle_word (store.bytes_in o)) (other-block slot ne) ∙ k.handles slot (subst store.IsBlock (other-block slot ne) there)
+        ]
 
         heap : (slot : ℕ) → store.IsThere new slot → IsHeap (store.bytes_of new slot)
         heap slot there = elim (cases_eq slot (slot_at h)) [

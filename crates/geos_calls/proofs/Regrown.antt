@@ -18,6 +18,7 @@ use Rattle.lmem_heap.specs.declared.error.RoomError.{RoomError}
 use Rattle.lmem_heap.specs.declared.error.RoomError.TheVariants as room
 use Rattle.lmem_heap.specs.Refusals.{IsRoomError}
 use Rattle.geos_calls.specs.Heaps.{Rechunks, Regrows, MakesRoom}
+use Rattle.lmem_heap.proofs.Enlarging.{handle-take}
 use Rattle.geos_calls.proofs.Lent.{with_bytes-set}
 use Rattle.geos_calls.proofs.Locks.{inside}
 use Rattle.geos_calls.proofs.News.{no_err}
@@ -44,6 +45,9 @@ module _ (old mid : Store) (slot : ℕ) (there : IsThere old slot) (cs : List (O
   pub rechunked-chunks : chunks_at mid slot ≡ cs
   rechunked-chunks = ap (λ o. block.chunks (bytes_in o)) rechunked ∙ r.spells
 
+  pub rechunked-handle : block.handle_word (bytes_of mid slot) ≡ block.handle_word (bytes_of old slot)
+  rechunked-handle = ap (λ o. block.handle_word (bytes_in o)) rechunked ∙ r.handle
+
   pub rechunked-size : size_of mid slot ≡ k
   rechunked-size = ap (λ o. length (bytes_in o)) rechunked ∙ r.long
 
@@ -56,6 +60,7 @@ module _ (old mid : Store) (slot : ℕ) (there : IsThere old slot) (cs : List (O
     stay = λ j ne locked. s.stay j ne (subst (λ o. 0 < locks_in o) (sym (rechunked-other j ne)) locked) ∙ r.stay j ne locked;
     len = s.len ∙ r.len;
     heap = s.heap;
+    handle = s.handle ∙ ap (λ o. block.handle_word (bytes_in o)) rechunked ∙ r.handle;
     spells = s.spells;
     long = s.long;
   }
@@ -71,9 +76,9 @@ module _ (old mid : Store) (slot size : ℕ) (there : IsThere old slot) (g : Gro
   grown-bytes = ap bytes_in grown
 
   -- the heap of a block that has grown
-  pub grown-heap : (was ws : List ℕ) (old_size : ℕ) → size_of old slot < size → old_size ≡ size_of old slot → was ≡ bytes_of mid slot → length ws ≡ length was → IsHeap ws
+  pub grown-heap : (was ws : List ℕ) (old_size : ℕ) → size_of old slot < size → old_size ≡ size_of old slot → was ≡ bytes_of mid slot → length ws ≡ length was → IsHeap ws → 2 ≤ old_size → block.handle_word ws ≡ block.handle_word was
       → block.chunks ws ≡ block.chunks (take old_size was) → Rechunks old (with_bytes mid slot ws) slot (chunks_at old slot) size
-  grown-heap was ws old_size less same value long heap spells =
+  grown-heap was ws old_size less same value long heap some handle spells =
       let first : take old_size was ≡ bytes_of old slot =
       ap (take old_size) (value ∙ grown-bytes) ∙ ap (λ n. take n (bytes_of old slot ++ replicate (size - size_of old slot) 0)) same ∙ take-append_seam (bytes_of old slot) (replicate (size - size_of old slot) 0) in
       let wide : size_of mid slot ≡ size = ap length grown-bytes ∙ length-append (bytes_of old slot) (replicate (size - size_of old slot) 0) ∙ omega (arith, length-replicate {A = ℕ} (size - size_of old slot) 0, less) in
@@ -84,6 +89,7 @@ module _ (old mid : Store) (slot size : ℕ) (there : IsThere old slot) (g : Gro
         stay = g.stay;
         len = g.len;
         heap = heap;
+        handle = handle ∙ sym (handle-take was old_size some) ∙ ap block.handle_word first;
         spells = spells ∙ ap block.chunks first;
         long = long ∙ ap length value ∙ wide;
       }

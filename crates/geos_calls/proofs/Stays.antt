@@ -1,6 +1,7 @@
 -- Spans that stay, and blocks that still are a kernel's.
-use Rattle.std.proofs.Common.{◌≡◌, ℕ, ◌<◌, ◌≤◌, ◌∙◌, Option, Some, None, refl, subst, ◌⊎◌, inl, inr}
+use Rattle.std.proofs.Common.{◌≡◌, ℕ, ◌+◌, ◌<◌, ◌≤◌, ◌∙◌, Option, Some, None, refl, subst, ◌⊎◌, inl, inr}
 use Rattle.block_handles.specs.Store.{Block, Store, slot_count, block_at, IsBlock, IsThere, bytes_of, locks_of, place_of}
+use Rattle.geos_model.specs.Block as block
 use Rattle.geos_model.specs.Calls.{Reference}
 use Rattle.geos_model.specs.Heap.{IsHeap}
 use Rattle.geos_calls.specs.declared.span.Span.{Span}
@@ -30,11 +31,15 @@ Same old new slot = (block_at new slot ≡ None) ⊎ ((bytes_of new slot ≡ byt
 
 -- blocks still are a kernel's where each slot has the bytes that it had, or none
 pub kernel-on : (old new : Store) → slot_count new ≡ slot_count old → new.len ≡ old.len → ((slot : ℕ) → Same old new slot) → IsKernel old → IsKernel new
-kernel-on old new count len same k = record { slots = count ∙ k.slots; small = rw len k.small; heaps = λ slot there. heap slot there (same slot); mem = λ slot le. no_block (block_at new slot) (λ there. gone slot le there (same slot)) }
+kernel-on old new count len same k = record { slots = count ∙ k.slots; small = rw len k.small; heaps = λ slot there. heap slot there (same slot); handles = λ slot there. handle slot there (same slot); mem = λ slot le. no_block (block_at new slot) (λ there. gone slot le there (same slot)) }
   where
     heap : (slot : ℕ) → IsThere new slot → Same old new slot → IsHeap (bytes_of new slot)
     heap slot there (inl none) = absurd (subst IsBlock none there)
     heap slot there (inr (bytes, back)) = rw bytes (k.heaps slot (back there))
+
+    handle : (slot : ℕ) → (there : IsThere new slot) → Same old new slot → block.handle_word (bytes_of new slot) ≡ slot + 1
+    handle slot there (inl none) = absurd (subst IsBlock none there)
+    handle slot there (inr (bytes, back)) = rw bytes (k.handles slot (back there))
 
     gone : (slot : ℕ) → 1024 ≤ slot → IsThere new slot → Same old new slot → ⊥
     gone slot le there (inl none) = subst IsBlock none there

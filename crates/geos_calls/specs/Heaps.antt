@@ -1,5 +1,6 @@
 -- What a call on the heap of one block does to all blocks, and when it refuses.
 use Rattle.std.specs.Prelude.{◌≡◌, ℕ, ◌%◌, ◌<◌, ◌≤◌, max, List, length, set, Option, Some, None, IsSome, Result, Err, OnOk, IfErr}
+use Rattle.block_handles.specs.Store as store
 use Rattle.block_handles.specs.Store.{Store, size_of, locks_of}
 use Rattle.block_handles.specs.Change.{LockedStay}
 use Rattle.block_handles.specs.Stretch.{HasNoRoom}
@@ -12,7 +13,7 @@ use Rattle.geos_model.specs.declared.refusal.Refusal.{Refusal}
 use Rattle.geos_model.specs.declared.refusal.Refusal.TheVariants.{BadChunk, Range, TooBig, NoRoom}
 use Rattle.geos_calls.specs.View.{chunks_at}
 
--- the block in a slot has other bytes, a heap of this size with these chunks; every other block is as it was, and lies where it
+-- the block in a slot has other bytes, a heap of this size with these chunks and the same handle; every other block is as it was, and lies where it
 -- lay if it is locked
 pub record Rechunks (old new : Store) (slot : ℕ) (chunks : List (Option (List ℕ))) (size : ℕ) : Type 0 where
   pub bytes : List ℕ
@@ -20,6 +21,7 @@ pub record Rechunks (old new : Store) (slot : ℕ) (chunks : List (Option (List 
   pub stay : LockedStay old new slot
   pub len : new.len ≡ old.len
   pub heap : IsHeap bytes
+  pub handle : block.handle_word bytes ≡ block.handle_word (store.bytes_of old slot)
   pub spells : block.chunks bytes ≡ chunks
   pub long : length bytes ≡ size
 

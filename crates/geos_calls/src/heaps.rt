@@ -5,7 +5,7 @@ ghost use Rattle.block_handles.specs.Names.{slot_of};
 ghost use Rattle.block_handles.specs.Store.{IsThere, bytes_of, size_of};
 ghost use Rattle.geos_model.specs.Chunks.{need, chunk_of, new_handle, with_new, without, with_resized, with_inserted, with_deleted};
 ghost use Rattle.geos_model.specs.Chunks as chunks;
-ghost use Rattle.geos_model.specs.Heap.{IsHeap};
+ghost use Rattle.geos_model.specs.Heap.{IsHeap, IsCompact};
 ghost use Rattle.lmem_heap.specs.Refusals.{IsRoomError};
 ghost use Rattle.lmem_heap.specs.ReallocErrors.{IsReallocError};
 ghost use Rattle.lmem_heap.specs.InsertErrors.{IsInsertError};
@@ -90,7 +90,8 @@ pub(crate) fn delete(
 pub(crate) fn contract(blocks: &mut Blocks, name: Name)
     requires there { IsThere blocks.old (slot_of name) }
     requires heap { IsHeap (bytes_of blocks.old (slot_of name)) }
-    ensures { Rechunks blocks.old blocks.new (slot_of name) (chunks_at blocks.old (slot_of name)) (size_of blocks.old (slot_of name)) }
+    ensures chunks { Rechunks blocks.old blocks.new (slot_of name) (chunks_at blocks.old (slot_of name)) (size_of blocks.old (slot_of name)) }
+    ensures compact { IsCompact (bytes_of blocks.new (slot_of name)) }
 {
     lmem_heap::contract(blocks.bytes_mut(name));
 }

@@ -41,7 +41,8 @@ impl Model for Kernel {
 impl Kernel {
     ghost use Rattle.block_handles.specs.Names.{slot_of};
     ghost use Rattle.block_handles.specs.Layout.{IsEmpty};
-    ghost use Rattle.block_handles.specs.Store.{locks_of};
+    ghost use Rattle.block_handles.specs.Store.{locks_of, bytes_of};
+    ghost use Rattle.geos_model.specs.Heap.{IsCompact};
     ghost use Rattle.block_handles.specs.Stretch.{HasNoRoom};
     ghost use Rattle.geos_model.specs.declared.refusal.Refusal.TheVariants.{NoRoom};
     ghost use Rattle.geos_model.specs.Calls as table;
@@ -183,7 +184,8 @@ impl Kernel {
     /// Moves the chunks of a block together, so that its free bytes are in one piece. Handles and bytes stay.
     pub fn lcontract(&mut self, name: Name)
         requires { 0 < locks_of self.old (slot_of name) }
-        ensures { Calls (table.lcontract name.h) (Ok tt) self.old self.new }
+        ensures calls { Calls (table.lcontract name.h) (Ok tt) self.old self.new }
+        ensures compact { IsCompact (bytes_of self.new (slot_of name)) }
     {
         heaps::contract(&mut self.blocks, name);
     }
@@ -245,7 +247,7 @@ fn make_heap(blocks: &mut Blocks, name: Name) -> Result<(), Refusal>
     requires kernel { IsKernel blocks.old }
     requires handle { IsHandle name.h }
     requires free { IsThere blocks.old (slot_of name) → ⊥ }
-    ensures ok { OnOk result (MakesHeap blocks.old blocks.new (slot_of name)) }
+    ensures ok { OnOk result (MakesHeap blocks.old blocks.new (slot_of name) name.h) }
     ensures no_room { IfErr result (λ refusal. (refusal ≡ NoRoom) × HasNoRoom blocks.new (slot_of name) 64 × (blocks.new ≡ blocks.old)) }
 {
     if blocks.make(name, NEW_SIZE).is_err() {

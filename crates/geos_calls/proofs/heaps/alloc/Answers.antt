@@ -12,7 +12,7 @@ returns-clause-ok c =
     if_ok-map c.alloc.result
     (λ h p. (
       p.0 ∙ ap (λ bytes. new_handle (block.chunks bytes)) e,
-      lent-heap c.args.blocks.now slot c.requires.there c.alloc.new.block c.bytes_mut.result.now _ e c.alloc.auto.block c.alloc.ensures.heap (p.1 ∙ ap (λ bytes. with_new (block.chunks bytes) c.args.n) e),
+      lent-heap c.args.blocks.now slot c.requires.there c.alloc.new.block c.bytes_mut.result.now _ e c.alloc.auto.block c.alloc.ensures.heap c.alloc.ensures.handle (p.1 ∙ ap (λ bytes. with_new (block.chunks bytes) c.args.n) e),
     ))
     c.alloc.ensures.ok
 

@@ -13,7 +13,7 @@ returns-clause-ok c =
     (λ p. (
       subst (λ bytes. IsSome (chunk_of (block.chunks bytes) c.args.c)) e p.0,
       subst (λ bytes. c.args.at + c.args.n ≤ length (bytes_of (block.chunks bytes) c.args.c)) e p.1,
-      lent-heap c.args.blocks.now (slot_of c.args.name) c.requires.there c.delete.new.block c.bytes_mut.result.now _ e c.delete.auto.block c.delete.ensures.heap (p.2 ∙ ap (λ bytes. with_deleted (block.chunks bytes) c.args.c c.args.at c.args.n) e),
+      lent-heap c.args.blocks.now (slot_of c.args.name) c.requires.there c.delete.new.block c.bytes_mut.result.now _ e c.delete.auto.block c.delete.ensures.heap c.delete.ensures.handle (p.2 ∙ ap (λ bytes. with_deleted (block.chunks bytes) c.args.c c.args.at c.args.n) e),
     ))
     c.delete.ensures.ok
 

@@ -12,7 +12,7 @@ returns-clause-ok c =
     on_ok-map c.free.result
     (λ p. (
       subst (λ bytes. IsSome (chunk_of (block.chunks bytes) c.args.c)) e p.0,
-      lent-heap c.args.blocks.now (slot_of c.args.name) c.requires.there c.free.new.block c.bytes_mut.result.now _ e c.free.auto.block c.free.ensures.heap (p.1 ∙ ap (λ bytes. without (block.chunks bytes) c.args.c) e),
+      lent-heap c.args.blocks.now (slot_of c.args.name) c.requires.there c.free.new.block c.bytes_mut.result.now _ e c.free.auto.block c.free.ensures.heap c.free.ensures.handle (p.1 ∙ ap (λ bytes. without (block.chunks bytes) c.args.c) e),
     ))
     c.free.ensures.ok
 

@@ -13,7 +13,7 @@ returns-clause-ok c =
     (λ p. (
       subst (λ bytes. IsSome (chunk_of (block.chunks bytes) c.args.c)) e p.0,
       subst (λ bytes. c.args.at ≤ length (bytes_of (block.chunks bytes) c.args.c)) e p.1,
-      lent-heap c.args.blocks.now (slot_of c.args.name) c.requires.there c.insert.new.block c.bytes_mut.result.now _ e c.insert.auto.block c.insert.ensures.heap (p.2 ∙ ap (λ bytes. with_inserted (block.chunks bytes) c.args.c c.args.at c.args.n) e),
+      lent-heap c.args.blocks.now (slot_of c.args.name) c.requires.there c.insert.new.block c.bytes_mut.result.now _ e c.insert.auto.block c.insert.ensures.heap c.insert.ensures.handle (p.2 ∙ ap (λ bytes. with_inserted (block.chunks bytes) c.args.c c.args.at c.args.n) e),
     ))
     c.insert.ensures.ok
 

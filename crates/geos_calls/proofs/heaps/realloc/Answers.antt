@@ -12,7 +12,7 @@ returns-clause-ok c =
     on_ok-map c.realloc.result
     (λ p. (
       subst (λ bytes. IsSome (chunk_of (block.chunks bytes) c.args.c)) e p.0,
-      lent-heap c.args.blocks.now (slot_of c.args.name) c.requires.there c.realloc.new.block c.bytes_mut.result.now _ e c.realloc.auto.block c.realloc.ensures.heap (p.1 ∙ ap (λ bytes. with_resized (block.chunks bytes) c.args.c c.args.n) e),
+      lent-heap c.args.blocks.now (slot_of c.args.name) c.requires.there c.realloc.new.block c.bytes_mut.result.now _ e c.realloc.auto.block c.realloc.ensures.heap c.realloc.ensures.handle (p.1 ∙ ap (λ bytes. with_resized (block.chunks bytes) c.args.c c.args.n) e),
     ))
     c.realloc.ensures.ok
 

@@ -35,8 +35,8 @@ returns-clause-ok c =
     let e = c.lock-locked.ensures in
     let ok = first-lock old c.make.new.self slot made small c.lock-locked.new.self c.init.new.block c.lock-locked.result long (e.there, e.ok, e.bad_handle, e.locked, e.err) in
     let same = ok_fact (c.lock-locked.new.self ≡ with_lock_more (with_bytes c.make.new.self slot c.init.new.block) slot) c.lock-locked.result ok e.ok in
-    let heap = made-heap old c.make.new.self slot made small c.lock-locked.new.self c.init.new.block long c.init.ensures.heap c.init.ensures.chunks same in
-    on_ok (MakesHeap old c.lock-locked.new.self slot) c.of_handle.result heap
+    let heap = made-heap old c.make.new.self slot made small c.lock-locked.new.self c.init.new.block long c.init.ensures.heap c.args.name.h c.init.ensures.handle c.init.ensures.chunks same in
+    on_ok (MakesHeap old c.lock-locked.new.self slot c.args.name.h) c.of_handle.result heap
 
 pub returns-clause-no_room : goal.returns-clause-no_room
 returns-clause-no_room c =

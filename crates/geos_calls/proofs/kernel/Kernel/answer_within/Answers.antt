@@ -40,7 +40,7 @@ returns-in-Ldel c =
 pub returns-in-Lcontract : goal.returns-in-Lcontract
 returns-in-Lcontract c =
     subst (λ call. BlockAnswered c.args.name.h call Done c.args.self.now c.lcontract.new.self) (sym c.in-Lcontract.is)
-    (by_block_row done (lcontract c.args.name.h) c.args.self.now c.lcontract.new.self (Ok tt) Done refl c.lcontract.ensures c.args.name.h Lcontract (λ choice. refl))
+    (by_block_row done (lcontract c.args.name.h) c.args.self.now c.lcontract.new.self (Ok tt) Done refl c.lcontract.ensures.calls c.args.name.h Lcontract (λ choice. refl))
 
 pub returns-in-Write : goal.returns-in-Write
 returns-in-Write c =
