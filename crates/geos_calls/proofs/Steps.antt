@@ -7,7 +7,7 @@ use Rattle.geos_model.specs.Calls.{Reference}
 use Rattle.geos_calls.specs.declared.call.Call.{Call}
 use Rattle.geos_calls.specs.declared.call.Call.TheVariants.{Mnew}
 use Rattle.geos_calls.specs.declared.call.Reply.{Reply}
-use Rattle.geos_calls.specs.Answer.{Step, answer, answer_at, replies, memory_after, KeepFresh, Answered, AllAnswered}
+use Rattle.geos_calls.specs.Answer.{Step, answer, answer_at, replies, memory_after, KeepFresh, Answered, AnsweredInTurn, AllAnswered}
 use Rattle.geos_calls.specs.Spans.{IsFresh}
 use Rattle.geos_calls.specs.View.{memory_of}
 
@@ -28,6 +28,13 @@ module _ (s : Step) where
   fresh-more [] m ref f = (tt, f.0)
   fresh-more (t ∷ ss) m ref f = let rest = fresh-more ss (answer_at t m).after ref f.1 in ((f.0, rest.0), rest.1)
 
+turns-more : (asked : List Call) (given : List Reply) (old mid new : Store) (call : Call) (reply : Reply) → AnsweredInTurn asked given old mid → Answered call reply mid new
+    → AnsweredInTurn (asked ++ call ∷ []) (given ++ reply ∷ []) old new
+turns-more [] [] old mid new call reply t a = (new, subst (λ s. Answered call reply s new) t a, refl)
+turns-more [] (r ∷ given) old mid new call reply t a = absurd t
+turns-more (c ∷ asked) [] old mid new call reply t a = absurd t
+turns-more (c ∷ asked) (r ∷ given) old mid new call reply t a = (t.0, t.1, turns-more asked given t.0 mid new call reply t.2 a)
+
 -- one more call was answered
 pub answered-more : (asked : List Call) (given : List Reply) (old mid new : Store) (call : Call) (reply : Reply) → AllAnswered asked given old mid → Answered call reply mid new
     → AllAnswered (asked ++ call ∷ []) (given ++ reply ∷ []) old new
@@ -35,6 +42,7 @@ answered-more asked given old mid new call reply all a =
     let step : Step = record { call = call; choice = a.choice } in
     let m = memory_of old in
     record {
+      turns = turns-more asked given old mid new call reply all.turns a;
       steps = all.steps ++ step ∷ [];
       calls = calls-more all.steps step ∙ ap (λ l. l ++ call ∷ []) all.calls;
       replies = replies-more step all.steps m ∙ ap (λ l. l ++ (answer_at step (memory_after all.steps m)).reply ∷ []) all.replies
@@ -48,7 +56,7 @@ answered-more asked given old mid new call reply all a =
 
 -- no call yet
 pub answered-none : (old : Store) → AllAnswered [] [] old old
-answered-none old = record { steps = []; calls = refl; replies = refl; after = refl; spans = λ span ref stands fresh. stands }
+answered-none old = record { turns = refl; steps = []; calls = refl; replies = refl; after = refl; spans = λ span ref stands fresh. stands }
 
 -- the first calls and replies, and the next one
 pub answered-next : (asked : List Call) (given : List Reply) (k : ℕ) (old mid new : Store) (reply : Reply) → k < length asked → length given ≡ length asked → AllAnswered (take k asked) (take k given) old mid

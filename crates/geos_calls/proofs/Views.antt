@@ -1,6 +1,6 @@
 -- The memory that blocks spell, slot by slot.
-use Rattle.std.proofs.Common.{◌≡◌, ℕ, zero, suc, ◌-◌, ◌<◌, ◌≤◌, List, length, length-take, map, take, set, get_or, Option, Some, None, refl, sym, ap, ◌∙◌, arith, inl, inr, subst}
-use Rattle.std.proofs.lemmas.List.{get_or-map, get_or-take, get_or_past, map-set, length-map}
+use Rattle.std.proofs.Common.{◌≡◌, ℕ, zero, suc, ◌-◌, ◌<◌, ◌≤◌, List, length, length-take, map, take, replicate, set, get_or, Option, Some, None, refl, sym, ap, ◌∙◌, arith, inl, inr, subst}
+use Rattle.std.proofs.lemmas.List.{get_or-map, get_or-take, get_or_past, map-set, length-map, ext_get_or, length-replicate, get_or-replicate}
 use Rattle.std.proofs.Math.Seq.{take-set-lt}
 use Rattle.std.proofs.lemmas.Bool.{cases_lt}
 use Rattle.std.proofs.lemmas.Bool.Decides.{nat_tests}
@@ -8,6 +8,7 @@ use Rattle.block_handles.specs.declared.name.Name.{Name}
 use Rattle.block_handles.specs.declared.name.Owner.{Owner}
 use Rattle.block_handles.specs.declared.name.Owner.TheVariants.{Mem, Vm}
 use Rattle.block_handles.specs.Names.{IsHandle, slot_of}
+use Rattle.block_handles.specs.Layout.{IsEmpty}
 use Rattle.block_handles.specs.Store as store
 use Rattle.block_handles.proofs.Laws.{slot_of-handle}
 use Rattle.geos_model.specs.Block as block
@@ -82,12 +83,25 @@ slot_of-mem s name k there = same name.owner name.h there
     same Mem h t = refl
     same Vm h t = absurd (subst store.IsBlock (k.mem (slot_of (record { owner = Vm; h = h })) (high h)) t)
 
+-- a name of global memory has the slot of its handle
+pub slot_of-owner : (name : Name) → name.owner ≡ Mem → slot_of name ≡ slot_at name.h
+slot_of-owner name mem = λ i. slot_of (record { owner = mem i; h = name.h })
+
 -- the count of locks that the model has
 pub locks-view : (s : store.Store) (name : Name) → IsKernel s → name.owner ≡ Mem → store.locks_of s (slot_of name) ≡ model.locks_of (memory_of s) name.h
 locks-view s name k mem =
-    let slot : slot_of name ≡ slot_at name.h = λ i. slot_of (record { owner = mem i; h = name.h }) in
-    ap (store.locks_of s) slot ∙ spelled (store.block_at s (slot_at name.h)) ∙ sym (ap model.locks_in (block_of-view s name.h k))
+    ap (store.locks_of s) (slot_of-owner name mem) ∙ spelled (store.block_at s (slot_at name.h)) ∙ sym (ap model.locks_in (block_of-view s name.h k))
   where
     spelled : (o : Option store.Block) → store.locks_in o ≡ model.locks_in (block_in o)
     spelled None = refl
     spelled (Some b) = refl
+
+-- with no block in the region there is none in memory
+pub empty-view : (s : store.Store) (len : ℕ) → IsEmpty s len → memory_of s ≡ record { blocks = replicate 1024 None; region = len }
+empty-view s len empty = λ k. record { blocks = blocks k; region = empty.long k }
+  where
+    blocks : map block_in (take 1024 s.blocks) ≡ replicate {A = Option model.Block} 1024 None
+    blocks =
+        let long : length (map block_in (take 1024 s.blocks)) ≡ 1024 = omega (arith, length-map (take 1024 s.blocks) block_in, length-take 1024 s.blocks, empty.laid.slots) in
+        ext_get_or None (map block_in (take 1024 s.blocks)) (replicate {A = Option model.Block} 1024 None) (long ∙ sym (length-replicate {A = Option model.Block} 1024 None))
+        (λ i lt. get_or-view s.blocks i (omega (arith, lt, long)) ∙ ap block_in (empty.none i) ∙ sym (get_or-replicate {A = Option model.Block} 1024 i None None (omega (arith, lt, long))))

@@ -2,7 +2,7 @@
 use Rattle.std.specs.Prelude.{◌≡◌, ℕ, ◌==◌, nat_le, if◌then◌else◌, List, [], ◌∷◌, map, Result, Ok, Err}
 use Rattle.block_handles.specs.Store.{Store}
 use Rattle.geos_model.specs.declared.refusal.Refusal.{Refusal}
-use Rattle.geos_model.specs.declared.refusal.Refusal.TheVariants.{BadChunk, Range}
+use Rattle.geos_model.specs.declared.refusal.Refusal.TheVariants.{BadChunk, Range, NoRoom}
 use Rattle.geos_model.specs.Memory.{Memory, locks_of}
 use Rattle.geos_model.specs.Calls.{Choice, Row, Staleness, Reference, Nothing, outcome, has_no_chunk, length_of, load8, store, mnew, mlock, munlock, mfree, lalloc, lfree, lrealloc, lins, ldel, lsize, lcontract}
 use Rattle.geos_calls.specs.declared.call.Call.{Call}
@@ -13,7 +13,10 @@ use Rattle.geos_calls.specs.declared.call.Reply.{Reply}
 use Rattle.geos_calls.specs.declared.call.Reply.TheVariants.{Done, Number, Refused, NotLocked}
 use Rattle.geos_calls.specs.declared.span.Span.{Span}
 use Rattle.geos_calls.specs.Spans.{Stands, IsFresh, SpansStay}
-use Rattle.geos_calls.specs.View.{memory_of}
+use Rattle.geos_model.specs.Chunks.{need, with_new, with_resized, with_inserted}
+use Rattle.block_handles.specs.Stretch.{HasNoRoom}
+use Rattle.geos_calls.specs.Kernel.{NewHasNoRoom}
+use Rattle.geos_calls.specs.View.{memory_of, slot_at, chunks_at}
 
 -- the reply to a call that answers a number
 abbrev pub number : Result ℕ Refusal → Reply
@@ -93,11 +96,21 @@ abbrev pub KeepFresh : List Step → Memory → Reference → Type 0
 KeepFresh [] memory ref = Unit {0}
 KeepFresh (step ∷ steps) memory ref = IsFresh (answer_at step memory).stale ref × KeepFresh steps (answer_at step memory).after ref
 
--- a call was answered as the model answers it, under some choice; spans that it does not make stale stay
+-- no stretch of the region has room for what the call asks for, as blocks stand after it; nothing of calls that ask for no room
+abbrev pub FoundNoRoom : Call → Store → Store → Type 0
+FoundNoRoom Mnew old new = NewHasNoRoom old new
+FoundNoRoom (Within h (Lalloc n)) old new = HasNoRoom new (slot_at h) (need (with_new (chunks_at old (slot_at h)) n))
+FoundNoRoom (Within h (Lrealloc c n)) old new = HasNoRoom new (slot_at h) (need (with_resized (chunks_at old (slot_at h)) c n))
+FoundNoRoom (Within h (Lins c at n)) old new = HasNoRoom new (slot_at h) (need (with_inserted (chunks_at old (slot_at h)) c at n))
+FoundNoRoom call old new = Unit {0}
+
+-- a call was answered as the model answers it, under some choice, refused room only where there is none; spans that it does not
+-- make stale stay
 pub record Answered (call : Call) (given : Reply) (old new : Store) : Type 0 where
   pub choice : Choice
   pub reply : (answer call choice (memory_of old)).reply ≡ given
   pub after : (answer call choice (memory_of old)).after ≡ memory_of new
+  pub room : given ≡ Refused NoRoom → FoundNoRoom call old new
   pub spans : SpansStay old new (answer call choice (memory_of old)).stale
 
 -- a call on a locked block was answered so
@@ -105,10 +118,19 @@ pub record BlockAnswered (h : ℕ) (call : BlockCall) (given : Reply) (old new :
   pub choice : Choice
   pub reply : (block_answer h call choice (memory_of old)).reply ≡ given
   pub after : (block_answer h call choice (memory_of old)).after ≡ memory_of new
+  pub room : given ≡ Refused NoRoom → FoundNoRoom (Within h call) old new
   pub spans : SpansStay old new (block_answer h call choice (memory_of old)).stale
 
--- calls were answered one after another as the model answers them, under some choices; spans that none of them makes stale stay
+-- calls were answered one after another, each where the one before had left the blocks
+abbrev pub AnsweredInTurn : List Call → List Reply → Store → Store → Type 0
+AnsweredInTurn [] [] old new = new ≡ old
+AnsweredInTurn (call ∷ calls) (reply ∷ replies) old new = (between : Store) × Answered call reply old between × AnsweredInTurn calls replies between new
+AnsweredInTurn _ _ old new = ⊥
+
+-- calls were answered one after another; all in all as the model answers them, under some choices; spans that none of them makes
+-- stale stay
 pub record AllAnswered (asked : List Call) (given : List Reply) (old new : Store) : Type 0 where
+  pub turns : AnsweredInTurn asked given old new
   pub steps : List Step
   pub calls : map (λ step. step.call) steps ≡ asked
   pub replies : replies steps (memory_of old) ≡ given

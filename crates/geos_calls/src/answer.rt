@@ -34,7 +34,8 @@ impl Kernel {
         }
     }
 
-    /// Answers calls one after another: the reply to each stands where the call does.
+    /// Answers calls one after another: the reply to each stands where the call does. There are as many places for replies as
+    /// there are calls.
     pub fn answer_all(&mut self, calls: &[Call], replies: &mut [Reply])
         requires { length replies.old ≡ length calls.now }
         ensures { AllAnswered calls.now replies.new self.old self.new }
@@ -46,6 +47,7 @@ impl Kernel {
 
     /// Answers a call on a locked block.
     fn answer_within(&mut self, name: Name, call: BlockCall) -> Reply
+        requires mem { name.owner ≡ Owner.Mem }
         requires locked { 0 < locks_of self.old (slot_of name) }
         ensures { BlockAnswered name.h call result self.old self.new }
     {

@@ -49,13 +49,16 @@ impl Kernel {
     ghost use Rattle.geos_model.specs.Chunks.{need, with_new, with_resized, with_inserted};
     ghost use Rattle.geos_calls.specs.Kernel.{Calls, GivesSpan, NewHasNoRoom};
     ghost use Rattle.geos_calls.specs.Spans.{IsStanding};
+    ghost use Rattle.std.specs.Prelude.{None, replicate};
     ghost use Rattle.geos_model.specs.Memory as memory;
     ghost use Rattle.geos_calls.specs.View.{chunks_at, memory_of};
 
-    /// No block, in a region of `region` bytes. This is the only call that takes memory.
+    /// No block, in a region of `region` bytes, 65,536 to 16,777,216. This is the only call that takes memory; `AllocError` where
+    /// there is none.
     pub fn new(alloc: Global, region: u32) -> Result<Kernel, AllocError>
         requires { (65536 ≤ region) × (region ≤ 16777216) }
-        ensures { IfOk result (λ kernel. IsEmpty kernel region) }
+        ensures store { IfOk result (λ kernel. IsEmpty kernel region) }
+        ensures memory { IfOk result (λ kernel. memory_of kernel ≡ record { blocks = replicate 1024 None; region = region }) }
     {
         Ok(Kernel {
             blocks: Blocks::new(alloc, region)?,
@@ -132,8 +135,9 @@ impl Kernel {
         })
     }
 
-    /// Makes a chunk of `n` zero bytes, and answers its handle: the lowest one of the block that is free. `TooBig` where the
+    /// Makes a chunk of `n` zero bytes in a locked block, and answers its handle: the lowest one of the block that is free. `TooBig` where the
     /// block would need more than 65,520 bytes, `NoRoom` where it must grow and no stretch of the region has room for it.
+    /// Spans into the block are stale after it, also where it is refused.
     pub fn lalloc(&mut self, name: Name, n: u16) -> Result<u16, Refusal>
         requires { 0 < locks_of self.old (slot_of name) }
         ensures calls { Calls (table.lalloc name.h n) result self.old self.new }
@@ -142,7 +146,8 @@ impl Kernel {
         growth::alloc(&mut self.blocks, name, n)
     }
 
-    /// Frees a chunk. `BadChunk` where no chunk of the block has this handle.
+    /// Frees a chunk of a locked block. `BadChunk` where no chunk of the block has this handle. Spans into the block are stale
+    /// after it, also where it is refused.
     pub fn lfree(&mut self, name: Name, c: u16) -> Result<(), Refusal>
         requires { 0 < locks_of self.old (slot_of name) }
         ensures { Calls (table.lfree name.h c) result self.old self.new }
@@ -151,8 +156,8 @@ impl Kernel {
         of_free(freed)
     }
 
-    /// Gives a chunk `n` bytes: its first ones that fit, and zeros behind them. `BadChunk` where no chunk of the block has this
-    /// handle; else refused as `lalloc` is.
+    /// Gives a chunk of a locked block `n` bytes: its first ones that fit, and zeros behind them. `BadChunk` where no chunk of the
+    /// block has this handle; else refused as `lalloc` is, and makes stale what `lalloc` does.
     pub fn lrealloc(&mut self, name: Name, c: u16, n: u16) -> Result<(), Refusal>
         requires { 0 < locks_of self.old (slot_of name) }
         ensures calls { Calls (table.lrealloc name.h c n) result self.old self.new }
@@ -161,8 +166,8 @@ impl Kernel {
         growth::realloc(&mut self.blocks, name, c, n)
     }
 
-    /// Inserts `n` zero bytes at an offset of a chunk. `BadChunk` where no chunk of the block has this handle, `Range` where the
-    /// offset is past its length; else refused as `lalloc` is.
+    /// Inserts `n` zero bytes at an offset of a chunk of a locked block. `BadChunk` where no chunk of the block has this handle,
+    /// `Range` where the offset is past its length; else refused as `lalloc` is, and makes stale what `lalloc` does.
     pub fn lins(&mut self, name: Name, c: u16, at: u16, n: u16) -> Result<(), Refusal>
         requires { 0 < locks_of self.old (slot_of name) }
         ensures calls { Calls (table.lins name.h c at n) result self.old self.new }
@@ -171,8 +176,8 @@ impl Kernel {
         growth::insert(&mut self.blocks, name, c, at, n)
     }
 
-    /// Deletes `n` bytes at an offset of a chunk. `BadChunk` where no chunk of the block has this handle, `Range` where they
-    /// reach past its length.
+    /// Deletes `n` bytes at an offset of a chunk of a locked block. `BadChunk` where no chunk of the block has this handle,
+    /// `Range` where they reach past its length. Makes stale what `lalloc` does.
     pub fn ldel(&mut self, name: Name, c: u16, at: u16, n: u16) -> Result<(), Refusal>
         requires { 0 < locks_of self.old (slot_of name) }
         ensures { Calls (table.ldel name.h c at n) result self.old self.new }
@@ -181,7 +186,8 @@ impl Kernel {
         of_delete(deleted)
     }
 
-    /// Moves the chunks of a block together, so that its free bytes are in one piece. Handles and bytes stay.
+    /// Moves the chunks of a locked block together, so that its free bytes are in one piece, at its end. Handles and bytes stay;
+    /// spans into the block are stale after it.
     pub fn lcontract(&mut self, name: Name)
         requires { 0 < locks_of self.old (slot_of name) }
         ensures calls { Calls (table.lcontract name.h) (Ok tt) self.old self.new }
