@@ -41,6 +41,13 @@ module _ (old : store.Store) (k : IsKernel old) where
     other-block : (j : ℕ) → j ≢ slot_at h → store.block_at new j ≡ store.block_at old j
     other-block j ne = ap (λ bs. get_or bs j None) made.blocks ∙ get_or-set_other old.blocks (slot_at h) j (Some (record { locks = 1; bytes = made.bytes })) None ne
 
+    -- the new block is locked once
+    pub made-locked : store.locks_of new (slot_at h) ≡ 1
+    made-locked =
+        let place : slot_at h ≡ h - 1 = slot_at-handle h low.handle in
+        ap (λ bs. store.locks_in (get_or bs (slot_at h) None)) made.blocks
+        ∙ ap store.locks_in (get_or-set_same old.blocks (slot_at h) (Some (record { locks = 1; bytes = made.bytes })) None (omega (arith, place, low.handle.0, low.handle.1, k.slots)))
+
     -- a span stands in another block, which is locked and stays
     make-spans : SpansStay old new table.Nothing
     make-spans span ref s fresh =

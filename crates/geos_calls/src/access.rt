@@ -11,9 +11,9 @@ use crate::span::Span;
 impl Kernel {
     ghost use Rattle.geos_model.specs.Bytes.{word_bytes};
     ghost use Rattle.geos_model.specs.Calls as table;
-    ghost use Rattle.geos_model.specs.Calls.{Reference};
+    ghost use Rattle.geos_model.specs.Calls.{Reference, Nothing};
     ghost use Rattle.geos_calls.specs.Kernel.{Calls};
-    ghost use Rattle.geos_calls.specs.Spans.{Stands, IsStanding};
+    ghost use Rattle.geos_calls.specs.Spans.{Stands, IsStanding, SpansStay};
 
     /// The byte at the offset `i` of a span, which has one there.
     pub fn load8(&self, span: Span, i: u16) -> u8
@@ -39,7 +39,8 @@ impl Kernel {
     pub fn store8(&mut self, span: Span, i: u16, byte: u8)
         requires stands { IsStanding self.old span }
         requires within { i < span.len }
-        ensures { (ref : Reference) → Stands self.old span ref → Calls (table.store ref i (byte ∷ [])) (Ok tt) self.old self.new }
+        ensures row { (ref : Reference) → Stands self.old span ref → Calls (table.store ref i (byte ∷ [])) (Ok tt) self.old self.new }
+        ensures spans { SpansStay self.old self.new Nothing }
     {
         self.blocks.laid_out();
         self.blocks.write8(span.at + u32::from(i), byte);
@@ -49,7 +50,8 @@ impl Kernel {
     pub fn store16(&mut self, span: Span, i: u16, word: u16)
         requires stands { IsStanding self.old span }
         requires within { i + 2 ≤ span.len }
-        ensures { (ref : Reference) → Stands self.old span ref → Calls (table.store ref i (word_bytes word)) (Ok tt) self.old self.new }
+        ensures row { (ref : Reference) → Stands self.old span ref → Calls (table.store ref i (word_bytes word)) (Ok tt) self.old self.new }
+        ensures spans { SpansStay self.old self.new Nothing }
     {
         self.blocks.laid_out();
         self.blocks.write16(span.at + u32::from(i), word);
@@ -60,7 +62,8 @@ impl Kernel {
     pub fn copy(&mut self, to: Span, from: Span, n: u16)
         requires to { IsStanding self.old to × (n ≤ to.len) }
         requires from { IsStanding self.old from × (n ≤ from.len) }
-        ensures { (target source : Reference) → Stands self.old to target → Stands self.old from source → Calls (table.copy target source n) (Ok tt) self.old self.new }
+        ensures row { (target source : Reference) → Stands self.old to target → Stands self.old from source → Calls (table.copy target source n) (Ok tt) self.old self.new }
+        ensures spans { SpansStay self.old self.new Nothing }
     {
         self.blocks.laid_out();
         if n == 0 {

@@ -51,7 +51,7 @@ impl Kernel {
     ghost use Rattle.geos_calls.specs.Spans.{IsStanding};
     ghost use Rattle.std.specs.Prelude.{None, replicate};
     ghost use Rattle.geos_model.specs.Memory as memory;
-    ghost use Rattle.geos_calls.specs.View.{chunks_at, memory_of};
+    ghost use Rattle.geos_calls.specs.View.{chunks_at, memory_of, slot_at};
 
     /// No block, in a region of `region` bytes, 65,536 to 16,777,216. This is the only call that takes memory; `AllocError` where
     /// there is none.
@@ -78,6 +78,7 @@ impl Kernel {
     pub fn mnew(&mut self) -> Result<u16, Refusal>
         ensures calls { Calls table.mnew result self.old self.new }
         ensures no_room { result ≡ Err NoRoom → NewHasNoRoom self.old self.new }
+        ensures locked { IfOk result (λ h. locks_of self.new (slot_at h) ≡ 1) }
     {
         let Some(h) = self.blocks.lowest(Owner::Mem) else {
             return Err(Refusal::NoHandle);

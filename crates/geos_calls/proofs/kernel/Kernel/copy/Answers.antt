@@ -7,8 +7,8 @@ use Rattle.geos_calls.proofs.AccessReads.{IsGood, good-of, good-region, same-len
 use Rattle.geos_calls.proofs.AccessCopies.{nothing-copied, copied-kernel, copied-calls}
 use Rattle.geos_calls.proofs.kernel.Kernel.copy.Goals as goal
 
-pub returns-then-n-eq0 : goal.returns-then-n-eq0
-returns-then-n-eq0 c =
+pub returns-then-n-eq0-clause-row : goal.returns-then-n-eq0-clause-row
+returns-then-n-eq0-clause-row c =
     let old = c.self.inside.blocks in
     subst (λ s. (target source : table.Reference) → Stands s c.args.to target → Stands s c.args.from source → Calls (table.copy target source c.args.n) (Ok tt) s s) c.self.view_is
     (λ target source t u. nothing-copied old c.args.to target source c.args.n c.self.invariant c.if-n-eq0.true t)
@@ -35,8 +35,8 @@ invariant_of-self c =
     let copied : CopiesCovered old new c.args.from.at c.args.to.at n = subst (CopiesCovered old new c.args.from.at c.args.to.at) c.from.ensures c.copy.ensures.covered in
     copied-kernel old new c.self.invariant c.args.to c.args.from to.0 from.0 to.1 from.1 n some (omega (arith, to.2)) (omega (arith, from.2)) copied
 
-pub returns : goal.returns
-returns c =
+pub returns-clause-row : goal.returns-clause-row
+returns-clause-row c =
     let old = c.self.inside.blocks in
     let new = c.copy.new.self in
     let n = c.args.n in
@@ -46,3 +46,10 @@ returns c =
     let copied : CopiesCovered old new c.args.from.at c.args.to.at n = subst (CopiesCovered old new c.args.from.at c.args.to.at) c.from.ensures c.copy.ensures.covered in
     subst (λ s. (target source : table.Reference) → Stands s c.args.to target → Stands s c.args.from source → Calls (table.copy target source n) (Ok tt) s new) c.self.view_is
     (λ target source t u. copied-calls old new c.self.invariant c.args.to c.args.from target source t u n some (omega (arith, same-length old c.args.to 0 n target to t)) (omega (arith, same-length old c.args.from 0 n source from u)) copied)
+
+pub returns-clause-spans : goal.returns-clause-spans
+returns-clause-spans c =
+    let to = c.requires.to.0 in
+    let from = c.requires.from.0 in
+    let calls = returns-clause-row c to.0 from.0 to.1 from.1 in
+    calls.spans calls.answers.0

@@ -24,8 +24,8 @@ invariant_of-self c =
     let good : IsGood old span i 1 = good-of c.args.self.now c.self.inside.blocks c.args.span c.args.i 1 c.self.view_is c.requires.stands (omega (arith, c.requires.within)) in
     stored-kernel old c.write8.new.self c.self.invariant span good.0 good.1 i (span.at + c.from.result) (c.args.byte ∷ []) good.2 (omega arith) (ap (λ j. span.at + j) c.from.ensures) c.write8.ensures.covered
 
-pub returns : goal.returns
-returns c =
+pub returns-clause-row : goal.returns-clause-row
+returns-clause-row c =
     let old = c.self.inside.blocks in
     let new = c.write8.new.self in
     let span = c.args.span in
@@ -33,3 +33,9 @@ returns c =
     let good : IsGood old span i 1 = good-of c.args.self.now c.self.inside.blocks c.args.span c.args.i 1 c.self.view_is c.requires.stands (omega (arith, c.requires.within)) in
     subst (λ s. (ref : table.Reference) → Stands s span ref → Calls (table.store ref i (c.args.byte ∷ [])) (Ok tt) s new) c.self.view_is
     (λ ref stands. stored-calls old new c.self.invariant span ref stands i (span.at + c.from.result) (c.args.byte ∷ []) (same-length old span i 1 ref good stands) (omega arith) (ap (λ j. span.at + j) c.from.ensures) c.write8.ensures.covered)
+
+pub returns-clause-spans : goal.returns-clause-spans
+returns-clause-spans c =
+    let standing = c.requires.stands in
+    let calls = returns-clause-row c standing.0 standing.1 in
+    calls.spans calls.answers.0

@@ -10,4 +10,4 @@ returns c =
     let s = c.args.self.now in
     let h = c.args.name.h in
     let stands = whole-stands s h c.args.c c.in-Ok.span c.in-Ok.ensures.gives in
-    write-calls s h c.args.c c.in-Ok.span c.in-Ok.ensures.gives c.args.at c.args.byte c.store8.new.self (omega (arith, c.if-at-span.false)) (c.store8.ensures (whole-reference s h c.args.c) stands)
+    write-calls s h c.args.c c.in-Ok.span c.in-Ok.ensures.gives c.args.at c.args.byte c.store8.new.self (omega (arith, c.if-at-span.false)) (c.store8.ensures.row (whole-reference s h c.args.c) stands)
