@@ -7,37 +7,37 @@ ghost use Rattle.geos_image.specs.Opcodes.{code_of, opcode_of, operands_of, limi
 #[derive(Clone, Copy, Debug, PartialEq, Eq)]
 pub enum Opcode {
     /// `LDI wa n`: wa = n.
-    Ldi = 0x01,
+    Ldi,
     /// `MOV wa wb`: wa = wb.
-    Mov = 0x02,
+    Mov,
     /// `ADD wa wb wc`: wa = wb + wc modulo 65,536.
-    Add = 0x03,
+    Add,
     /// `SUB wa wb wc`: wa = wb - wc modulo 65,536.
-    Sub = 0x04,
+    Sub,
     /// `AND wa wb n`: wa = wb and n, bit by bit.
-    And = 0x05,
+    And,
     /// `SHR wa wb n`: wa = wb shifted right by n.
-    Shr = 0x06,
+    Shr,
     /// `MULI wa wb n`: wa = wb * n modulo 65,536.
-    Muli = 0x07,
+    Muli,
     /// `CHK wa n L`: to L if wa is above n.
-    Chk = 0x08,
+    Chk,
     /// `JMP L`: to L.
-    Jmp = 0x09,
+    Jmp,
     /// `BEQ wa wb L`: to L if wa is wb.
-    Beq = 0x0a,
+    Beq,
     /// `BLT wa wb L`: to L if wa is below wb.
-    Blt = 0x0b,
+    Blt,
     /// `SETK ka n`: ka = n.
-    Setk = 0x0c,
+    Setk,
     /// `SETKW ka wb`: ka = wb.
-    Setkw = 0x0d,
+    Setkw,
     /// `LOOP ka L`: if ka is above 0, takes 1 from it and goes to L.
-    Loop = 0x0e,
+    Loop,
     /// `RET`: returns; the outermost return ends the run.
-    Ret = 0x10,
+    Ret,
     /// `OUT wa L`: puts out wa; refused with 10 where 1,024 words are out.
-    Out = 0x11,
+    Out,
 }
 
 /// What a field of an instruction holds.
@@ -94,7 +94,24 @@ impl Opcode {
     pub fn code(self) -> u8
         ensures { result ≡ code_of self }
     {
-        self as u8
+        match self {
+            Opcode::Ldi => 0x01,
+            Opcode::Mov => 0x02,
+            Opcode::Add => 0x03,
+            Opcode::Sub => 0x04,
+            Opcode::And => 0x05,
+            Opcode::Shr => 0x06,
+            Opcode::Muli => 0x07,
+            Opcode::Chk => 0x08,
+            Opcode::Jmp => 0x09,
+            Opcode::Beq => 0x0a,
+            Opcode::Blt => 0x0b,
+            Opcode::Setk => 0x0c,
+            Opcode::Setkw => 0x0d,
+            Opcode::Loop => 0x0e,
+            Opcode::Ret => 0x10,
+            Opcode::Out => 0x11,
+        }
     }
 
     /// The opcode that the byte spells, if one does.
