@@ -3,8 +3,8 @@
 //! docs/MODEL.md says what a run is; docs/INSTRUCTIONS.md, what each instruction does.
 #![tactic(auto)]
 
+mod head;
 mod machine;
-mod names;
 mod outcome;
 mod step;
 
