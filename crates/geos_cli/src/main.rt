@@ -31,7 +31,10 @@ fn command<'a>(alloc: Global) -> Command<'a> {
 /// Runs a session on the standard streams, and gives the program's status.
 fn run(rt: &HostRuntime) -> Result<ExitCode> {
     let mut input = Counted::new(rt.stdin());
-    let mut out = Counted::new(BufWriter::new(rt.alloc(), io::writer(rt))?);
+    let Ok(writer) = BufWriter::new(rt.alloc(), io::writer(rt)) else {
+        return fail(rt, ScriptFault::Memory);
+    };
+    let mut out = Counted::new(writer);
     let ended = session::run_session(rt.alloc(), &mut input, &mut out);
     let flushed = out.flush();
     match ended {
