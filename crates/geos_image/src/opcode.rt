@@ -3,7 +3,7 @@
 ghost use Rattle.std.specs.Prelude.{◌≡◌};
 ghost use Rattle.geos_image.specs.Opcodes.{code_of, opcode_of, operands_of, limit};
 
-/// What an instruction does.
+/// What an instruction does. The byte that spells it is its `code`, and not its discriminant.
 #[derive(Clone, Copy, Debug, PartialEq, Eq)]
 pub enum Opcode {
     /// `LDI wa n`: wa = n.

@@ -2,7 +2,7 @@
 use Rattle.std.specs.Prelude.{ℕ, ◌+◌, ◌*◌, ◌/◌, ◌^◌, min, Bool, true, false, ◌&&◌, ◌||◌, not, nat_le, ◌==◌, if◌then◌else◌, List, Option, Some, None, slice_index, slice_index_or, slice_set, slice_get}
 use Rattle.std.specs.List.{list_all}
 use Rattle.geos_image.specs.declared.opcode.Opcode.{Opcode}
-use Rattle.geos_image.specs.declared.opcode.Opcode.TheVariants.{Ldi, Mov, Add, Sub, And, Shr, Muli, Chk, Jmp, Beq, Blt, Setk, Setkw, Loop, Ret, Out}
+use Rattle.geos_image.specs.declared.opcode.Opcode.TheVariants.{Ldi, Mov, Add, Sub, And, Shr, Muli, Chk, Jmp, Ret}
 use Rattle.geos_image.specs.declared.opcode.Operand.{Operand}
 use Rattle.geos_image.specs.declared.opcode.Operand.TheVariants.{Label}
 use Rattle.geos_image.specs.declared.instr.Instr.{Instr}

@@ -61,6 +61,7 @@ fn first_refusal(image: &Image) -> Option<Reject>
     ensures none { IfNone result (Accepted image.now) }
     ensures some { IfSome result (FirstRefusal image.now) }
 {
+    // For what `len` says of the image: its counts do not overflow.
     let _short = image.len();
     let mut start = 0;
     for r in 0..image.count() {

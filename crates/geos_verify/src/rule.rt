@@ -19,7 +19,7 @@ pub enum Rule {
     EdgeMisfit = 12,
     /// The potential does not pay for an edge or a return.
     EdgeUnpaid = 13,
-    /// The potential at the first pc is above the budget.
+    /// The potential at the first pc may be above the budget: its constant is, or a coefficient is not 0.
     OverBudget = 14,
 }
 
