@@ -19,7 +19,8 @@ mod stretch;
 
 use arena::Arena;
 pub use error::{HandleError, RoomError};
-pub use name::{Name, Owner};
+pub use geos_model::{Name, Owner};
+use name::{first_slot, slot_of};
 use room::{Gap, room_for};
 use slots::SlotSet;
 use std::alloc::{AllocError, Global};
@@ -77,7 +78,7 @@ impl Blocks {
         ensures found { IfSome result (IsLowest self.now owner) }
         ensures none { IfNone result (AllInUse self.now owner) }
     {
-        let first = owner.first_slot();
+        let first = first_slot(owner);
         let slot = self.used.lowest_free(first / 64)?;
         Some((slot - first) as u16 + 1)
     }
@@ -86,14 +87,14 @@ impl Blocks {
     pub fn has(&self, name: Name) -> bool
         ensures { IsTrue result ↔ IsThere self.now (slot_of name) }
     {
-        self.arena.has(name.slot())
+        self.arena.has(slot_of(name))
     }
 
     /// How often a block is locked; 0 where there is none.
     pub fn locks(&self, name: Name) -> u16
         ensures { result ≡ locks_of self.now (slot_of name) }
     {
-        let slot = name.slot();
+        let slot = slot_of(name);
         if self.arena.has(slot) {
             self.arena.locks(slot)
         } else {
@@ -108,7 +109,7 @@ impl Blocks {
         ensures laid { IsLaidOut self.now }
     {
         self.arena.laid_out();
-        self.arena.place(name.slot())
+        self.arena.place(slot_of(name))
     }
 
     /// What holds of blocks at all times: they lie in the region, and no two overlap.
@@ -125,7 +126,7 @@ impl Blocks {
         ensures legal { (64 ≤ result) × (result ≤ 65520) }
     {
         self.arena.laid_out();
-        self.arena.size(name.slot())
+        self.arena.size(slot_of(name))
     }
 
     /// A block's bytes.
@@ -133,7 +134,7 @@ impl Blocks {
         requires { IsThere self.now (slot_of name) }
         ensures { result.now ≡ bytes_of self.now (slot_of name) }
     {
-        self.arena.bytes(name.slot())
+        self.arena.bytes(slot_of(name))
     }
 
     /// Lends a block's bytes for writing. Once the loan ends, the block has what was left in
@@ -143,7 +144,7 @@ impl Blocks {
         ensures* writes_back { sem 𝓛 (LendsBlock self.entry (slot_of name) result) }
         ensures value { result.now ≡ bytes_of self.old (slot_of name) }
     {
-        self.arena.bytes_mut(name.slot())
+        self.arena.bytes_mut(slot_of(name))
     }
 
     /// The byte at an offset of the region, as the block that covers it has it.
@@ -202,7 +203,7 @@ impl Blocks {
         ensures locked { (result ≡ Err HandleError.Locked) ↔ (locks_of self.old (slot_of name) ≡ 65535) }
         ensures err { OnErr result (self.new ≡ self.old) }
     {
-        let slot = name.slot();
+        let slot = slot_of(name);
         if !self.arena.has(slot) {
             return Err(HandleError::BadHandle);
         }
@@ -219,7 +220,7 @@ impl Blocks {
         requires { 0 < locks_of self.old (slot_of name) }
         ensures { self.new ≡ with_lock_less self.old (slot_of name) }
     {
-        let slot = name.slot();
+        let slot = slot_of(name);
         let locks = self.arena.locks(slot);
         self.arena.set_locks(slot, locks - 1);
     }
@@ -233,7 +234,7 @@ impl Blocks {
         ensures locked { (result ≡ Err HandleError.Locked) ↔ (0 < locks_of self.old (slot_of name)) }
         ensures err { OnErr result (self.new ≡ self.old) }
     {
-        let slot = name.slot();
+        let slot = slot_of(name);
         if !self.arena.has(slot) {
             return Err(HandleError::BadHandle);
         }
@@ -262,7 +263,7 @@ impl Blocks {
         if size > MAX_SIZE {
             return Err(RoomError::TooBig);
         }
-        let slot = name.slot();
+        let slot = slot_of(name);
         let gap = room_for(&mut self.arena, self.gap, self.gap.end, slot, size)?;
         self.arena.create(slot, gap.at, size);
         self.used.insert(slot);
@@ -289,7 +290,7 @@ impl Blocks {
             return Err(RoomError::TooBig);
         }
         self.arena.laid_out();
-        let slot = name.slot();
+        let slot = slot_of(name);
         let place = self.arena.place(slot);
         let gap = self.gap.reaching(place, self.arena.end(slot));
         let gap = room_for(&mut self.arena, gap, self.gap.end, slot, size)?;

@@ -6,7 +6,7 @@ use Rattle.std.proofs.lemmas.Bool.{cases_eq}
 use Rattle.std.proofs.lemmas.List.{length-set, get_or-set_same}
 use Rattle.lmem_raw.specs.Bytes.{with_part}
 use Rattle.lmem_raw.proofs.Parts.{length-with_part, with_whole}
-use Rattle.block_handles.specs.declared.name.Owner.TheVariants.{Mem}
+use Rattle.geos_model.specs.declared.name.Owner.TheVariants.{Mem}
 use Rattle.block_handles.specs.Store as store
 use Rattle.block_handles.specs.Change.{with_bytes}
 use Rattle.block_handles.specs.Offsets.{WritesCovered}

@@ -1,7 +1,7 @@
 -- The calls that look at chunks.
 use Rattle.std.proofs.Common.{◌≤◌, ◌+◌, arith, drop, length-take, length-drop, ◌≡◌, ◌<◌, ℕ, List, length, Option, Some, None, refl, ap, ◌∙◌, sym, subst}
 use Rattle.std.specs.Prelude.{Ok, Err, IsSomeAnd, IfSome, nat_lt, true, false}
-use Rattle.block_handles.specs.declared.name.Name.{Name}
+use Rattle.geos_model.specs.declared.name.Name.{Name}
 use Rattle.block_handles.specs.Names.{slot_of}
 use Rattle.block_handles.specs.Store as store
 use Rattle.geos_model.specs.declared.refusal.Refusal.TheVariants.{BadChunk, Short}

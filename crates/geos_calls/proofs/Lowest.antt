@@ -4,7 +4,7 @@ use Rattle.std.specs.Prelude.{is_none, nat_lt}
 use Rattle.std.specs.List.{position_or_len}
 use Rattle.std.proofs.lemmas.List.{length-map}
 use Rattle.std.proofs.lemmas.List.Sums.{position_or_len_is}
-use Rattle.block_handles.specs.declared.name.Owner.TheVariants.{Mem}
+use Rattle.geos_model.specs.declared.name.Owner.TheVariants.{Mem}
 use Rattle.block_handles.specs.Store as store
 use Rattle.block_handles.specs.Used.{IsLowest, AllInUse}
 use Rattle.geos_model.specs.Memory as model

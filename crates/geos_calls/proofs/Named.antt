@@ -1,7 +1,7 @@
 -- The calls on the chunks of a block, by its name.
 use Rattle.std.proofs.Common.{◌≡◌, ℕ, ◌+◌, ◌<◌, ◌≤◌, List, length, Option, None, sym, subst}
 use Rattle.std.specs.Prelude.{Result, Ok, Err, IfOk, IfErr, OnOk, OnErr, IsSome}
-use Rattle.block_handles.specs.declared.name.Name.{Name}
+use Rattle.geos_model.specs.declared.name.Name.{Name}
 use Rattle.block_handles.specs.Names.{slot_of}
 use Rattle.block_handles.specs.Store.{Store, block_at, IsThere, size_of, locks_of}
 use Rattle.lmem_heap.specs.declared.error.BadChunk as heap

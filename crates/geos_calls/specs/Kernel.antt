@@ -4,7 +4,7 @@ use Rattle.block_handles.specs.Store.{Store, block_at, IsThere, bytes_of, slot_c
 use Rattle.block_handles.specs.Change.{LockedStay}
 use Rattle.block_handles.specs.Used.{IsLowest}
 use Rattle.block_handles.specs.Stretch.{HasNoRoom}
-use Rattle.block_handles.specs.declared.name.Owner.TheVariants.{Mem}
+use Rattle.geos_model.specs.declared.name.Owner.TheVariants.{Mem}
 use Rattle.geos_model.specs.Block as block
 use Rattle.geos_model.specs.Heap.{IsHeap}
 use Rattle.geos_model.specs.declared.refusal.Refusal.{Refusal}

@@ -1,6 +1,6 @@
 -- The memory of the model that the blocks of a region spell.
 use Rattle.std.specs.Prelude.{ℕ, List, length, take, map, Option, Some, None}
-use Rattle.block_handles.specs.declared.name.Owner.TheVariants.{Mem}
+use Rattle.geos_model.specs.declared.name.Owner.TheVariants.{Mem}
 use Rattle.block_handles.specs.Names.{slot_of}
 use Rattle.block_handles.specs.Store as store
 use Rattle.geos_model.specs.Block as block

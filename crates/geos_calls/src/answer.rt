@@ -1,7 +1,7 @@
 //! Calls as values: each is answered as the model answers it, and so is every list of them.
 
 ghost use Rattle.std.specs.Prelude.{◌≡◌, ◌<◌, length};
-ghost use Rattle.block_handles.specs.declared.name.Owner.{Owner};
+ghost use Rattle.geos_model.specs.declared.name.Owner.{Owner};
 ghost use Rattle.block_handles.specs.Names.{slot_of};
 ghost use Rattle.block_handles.specs.Store.{locks_of};
 ghost use Rattle.geos_calls.specs.Answer.{Answered, AllAnswered, BlockAnswered, read, write};

@@ -1,7 +1,7 @@
 //! The kernel: blocks of global memory, each with a heap of chunks.
 
 ghost use Rattle.std.specs.Prelude.{◌≡◌, ◌<◌, ◌≤◌, IfOk, IfErr, OnOk, Ok, Err};
-ghost use Rattle.block_handles.specs.declared.name.Owner.{Owner};
+ghost use Rattle.geos_model.specs.declared.name.Owner.{Owner};
 ghost use Rattle.block_handles.specs.Names.{IsHandle, slot_of};
 ghost use Rattle.block_handles.specs.Store.{IsThere};
 ghost use Rattle.block_handles.specs.Stretch.{HasNoRoom};

@@ -12,9 +12,9 @@ mod heaps;
 mod kernel;
 mod span;
 
-pub use block_handles::{Name, Owner};
+
 pub use call::{BlockCall, Call, Reply};
-pub use geos_model::Refusal;
+pub use geos_model::{Name, Owner, Refusal};
 pub use kernel::Kernel;
 pub use span::Span;
 

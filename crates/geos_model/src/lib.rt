@@ -5,6 +5,8 @@
 //! (GEOS SDK Concepts Book, chapter Local Memory.)
 #![tactic(auto)]
 
+mod name;
 mod refusal;
 
+pub use name::{Name, Owner};
 pub use refusal::Refusal;

@@ -6,5 +6,5 @@ use Rattle.block_handles.proofs.Blocks.unlock.Goals as goal
 
 pub invariant_of-self : goal.invariant_of-self
 invariant_of-self c = kept-locks _ _ _ _ _ _
-    (there_of_locks c.self.inside.arena c.slot-slot.result (omega (arith, c.requires, ap (λ s. locks_of s c.slot-slot.result) c.self.view_is, ap (locks_of c.args.self.now) c.slot-slot.ensures)))
+    (there_of_locks c.self.inside.arena c.slot_of-slot.result (omega (arith, c.requires, ap (λ s. locks_of s c.slot_of-slot.result) c.self.view_is, ap (locks_of c.args.self.now) c.slot_of-slot.ensures)))
     c.set_locks.ensures.store c.self.invariant

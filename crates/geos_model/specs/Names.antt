@@ -1,0 +1,13 @@
+-- Names of blocks.
+use Rattle.std.specs.Prelude.{ℕ}
+use Rattle.geos_model.specs.declared.name.Owner.{Owner}
+use Rattle.geos_model.specs.declared.name.Owner.TheVariants.{Mem}
+use Rattle.geos_model.specs.declared.name.Name.{Name}
+
+-- the block with a handle of an owner
+abbrev pub named : Owner → ℕ → Name
+named owner h = record { owner = owner; h = h }
+
+-- the block of global memory with a handle
+abbrev pub mem : ℕ → Name
+mem h = named Mem h
