@@ -1,215 +1,163 @@
--- The table of the kernel's calls.
-use Rattle.std.specs.Prelude.{◌≡◌, ℕ, ◌+◌, ◌-◌, Bool, ◌&&◌, nat_lt, ◌==◌, if◌then◌else◌, List, [], ◌∷◌, length, take, Option, Some, None, is_none, slice_index, unwrap_or, Result, Ok, Err}
+-- The table of the kernel's calls, a row for each: what it comes to, by its operands, a choice and memory.
+use Rattle.std.specs.Prelude.{ℕ, ◌+◌, ◌-◌, Bool, nat_lt, ◌==◌, List, [], ◌∷◌, ◌++◌, take, Option, Some, None, is_none, slice_index, unwrap_or}
 use Rattle.lmem_raw.specs.Bytes.{part, with_part}
+use Rattle.geos_model.specs.declared.name.Name.{Name}
+use Rattle.geos_model.specs.declared.name.Owner.TheVariants.{Mem}
 use Rattle.geos_model.specs.declared.refusal.Refusal.{Refusal}
-use Rattle.geos_model.specs.declared.refusal.Refusal.TheVariants.{BadHandle, BadChunk, Short, NoRoom, NoHandle, TooBig, Locked, Range}
-use Rattle.geos_model.specs.Refusals.{first_refusal}
+use Rattle.geos_model.specs.declared.refusal.Refusal.TheVariants.{BadHandle, NoHandle, NoRoom, Locked}
+use Rattle.geos_model.specs.Names.{mem}
 use Rattle.geos_model.specs.Bytes.{word}
-use Rattle.geos_model.specs.Chunks.{need, chunk_of, bytes_of, with_new, new_handle, with_bytes, without, with_resized, with_inserted, with_deleted}
-use Rattle.geos_model.specs.Memory.{Memory, block_of, with_block, locks_of, size_in, chunks_in, lowest_handle, new_block, with_locks, with_chunks, is_tight}
+use Rattle.geos_model.specs.Chunks.{bytes_of, with_bytes}
+use Rattle.geos_model.specs.Memory.{Memory, new_heap, block_of, with_block, locks_of, with_locks, chunks_at, with_chunks, lowest_handle}
+use Rattle.geos_model.specs.Effects.{Reference, Effect, Call, Nothing, InBlock, OfLock, unchanged, tells, most_locks, cannot_make, growing}
+use Rattle.geos_model.specs.Edits.{Edit, Part, alloc, free, realloc, insert_bytes, delete_bytes, size, refer, contract}
 
--- what may be refused from outside at a call: room at the first test for it, room at the last, the device, memory
-pub record Choice : Type 0 where
-  pub first_room : Bool
-  pub last_room : Bool
-  pub device : Bool
-  pub memory : Bool
+-- Calls on the chunks of one locked block, which are edits of a list of chunks
 
--- which references a call makes stale, where it succeeds and where it refuses
-pub data Staleness : Type 0 where
-  Nothing : Staleness
-  InBlock : ℕ → Staleness
+-- a call that changes the chunks, and no more bytes are wanted
+abbrev pub changes : {A : Type 0} → (List (Option (List ℕ)) → Edit A) → Name → Call A
+changes edit name choice memory =
+    let e = edit (chunks_at memory name) in
+    record { refusals = e.refusals; left = unchanged memory; after = with_chunks memory name e.chunks; answer = e.answer; stale = InBlock name }
 
--- a call on its operands: its refusals in the order in which they are tried, each with its test; where none comes, memory
--- after it and its answer; and the references that it makes stale
-pub record Row (A : Type 0) : Type 0 where
-  pub refusals : List (Bool × Refusal)
-  pub after : Memory
-  pub answer : A
-  pub stale : Staleness
+-- a call that changes the chunks, for which the block may grow
+abbrev pub enlarges : {A : Type 0} → (List (Option (List ℕ)) → Edit A) → Name → Call A
+enlarges edit name choice memory =
+    let e = edit (chunks_at memory name) in
+    record {
+      refusals = e.refusals ++ growing choice memory name e.chunks;
+      left = unchanged memory;
+      after = with_chunks memory name e.chunks;
+      answer = e.answer;
+      stale = InBlock name;
+    }
 
--- part of a chunk of a block
-pub record Reference : Type 0 where
-  pub handle : ℕ
-  pub chunk : ℕ
-  pub start : ℕ
-  pub len : ℕ
+-- a call that tells something of the chunks
+abbrev pub reads : {A : Type 0} → (List (Option (List ℕ)) → Edit A) → Name → Call A
+reads edit name choice memory =
+    let e = edit (chunks_at memory name) in
+    record { refusals = e.refusals; left = unchanged memory; after = memory; answer = e.answer; stale = Nothing }
 
--- the greatest size of a block
-abbrev pub most_size : ℕ
-most_size = 65520
+-- a part of a chunk of this block
+abbrev pub in_block : Name → Part → Reference
+in_block name p = record { name = name; chunk = p.chunk; start = p.start; len = p.len }
 
--- the greatest count of locks
-abbrev pub most_locks : ℕ
-most_locks = 65535
+-- a call that gives a reference into the block
+abbrev pub refers : (List (Option (List ℕ)) → Edit Part) → Name → Call Reference
+refers edit name choice memory =
+    let e = edit (chunks_at memory name) in
+    record { refusals = e.refusals; left = unchanged memory; after = memory; answer = in_block name e.answer; stale = Nothing }
 
--- room is refused, which may be only where it may be wanting
-abbrev pub has_no_room : Choice → Memory → ℕ → ℕ → Bool
-has_no_room choice memory h size = choice.last_room && is_tight memory h size
+-- Blocks
 
--- room is refused for a block that grows for these chunks
-abbrev pub cannot_grow : Choice → Memory → ℕ → List (Option (List ℕ)) → Bool
-cannot_grow choice memory h chunks = nat_lt (size_in (block_of memory h)) (need chunks) && has_no_room choice memory h (need chunks)
+-- the count of locks cannot rise
+abbrev pub locks_full : Memory → Name → Bool × Refusal
+locks_full memory name = (locks_of memory name == most_locks, Locked)
 
--- the block of a handle gets other chunks
-abbrev pub rechunked : Memory → ℕ → List (Option (List ℕ)) → Memory
-rechunked memory h chunks = with_block memory h (with_chunks chunks (block_of memory h))
-
--- no chunk of the block has this handle
-abbrev pub has_no_chunk : Memory → ℕ → ℕ → Bool
-has_no_chunk memory h c = is_none (chunk_of (chunks_in (block_of memory h)) c)
-
--- the length of a chunk
-abbrev pub length_of : Memory → ℕ → ℕ → ℕ
-length_of memory h c = length (bytes_of (chunks_in (block_of memory h)) c)
+-- a block that is locked is not freed
+abbrev pub is_in_use : Memory → Name → Bool × Refusal
+is_in_use memory name = (nat_lt 0 (locks_of memory name), Locked)
 
 -- makes a block under the lowest free handle, and locks it
-abbrev pub mnew : Choice → Memory → Row ℕ
+abbrev pub mnew : Call ℕ
 mnew choice memory =
-    let h = unwrap_or (lowest_handle memory) 0 in
+    let h = unwrap_or (lowest_handle memory Mem) 0 in
     record {
-      refusals = (is_none (lowest_handle memory), NoHandle) ∷ (has_no_room choice memory h 64, NoRoom) ∷ [];
-      after = with_block memory h (Some new_block);
+      refusals = (is_none (lowest_handle memory Mem), NoHandle) ∷ (cannot_make choice memory (mem h), NoRoom) ∷ [];
+      left = unchanged memory;
+      after = with_block memory (mem h) (Some (record { locks = 1; heap = new_heap }));
       answer = h;
       stale = Nothing;
     }
 
 -- locks a block once more
-abbrev pub mlock : ℕ → Choice → Memory → Row (Unit {0})
+abbrev pub mlock : ℕ → Call (Unit {0})
 mlock h choice memory = record {
-  refusals = (is_none (block_of memory h), BadHandle) ∷ (locks_of memory h == most_locks, Locked) ∷ [];
-  after = with_block memory h (with_locks (locks_of memory h + 1) (block_of memory h));
+  refusals = (is_none (block_of memory (mem h)), BadHandle) ∷ locks_full memory (mem h) ∷ [];
+  left = unchanged memory;
+  after = with_locks memory (mem h) (locks_of memory (mem h) + 1);
   answer = tt;
   stale = Nothing;
 }
 
--- unlocks a block once; when it is locked no more it may move
-abbrev pub munlock : ℕ → Choice → Memory → Row (Unit {0})
-munlock h choice memory = record {
+-- unlocks a block once: when it is locked no more it may move
+abbrev pub unlock : Name → Call (Unit {0})
+unlock name choice memory = record {
   refusals = [];
-  after = with_block memory h (with_locks (locks_of memory h - 1) (block_of memory h));
+  left = unchanged memory;
+  after = with_locks memory name (locks_of memory name - 1);
   answer = tt;
-  stale = if locks_of memory h == 1 then InBlock h else Nothing;
+  stale = OfLock name;
 }
 
 -- frees a block that is not locked
-abbrev pub mfree : ℕ → Choice → Memory → Row (Unit {0})
+abbrev pub mfree : ℕ → Call (Unit {0})
 mfree h choice memory = record {
-  refusals = (is_none (block_of memory h), BadHandle) ∷ (nat_lt 0 (locks_of memory h), Locked) ∷ [];
-  after = with_block memory h None;
+  refusals = (is_none (block_of memory (mem h)), BadHandle) ∷ is_in_use memory (mem h) ∷ [];
+  left = unchanged memory;
+  after = with_block memory (mem h) None;
   answer = tt;
   stale = Nothing;
 }
+
+-- Chunks
 
 -- makes a chunk of n zero bytes under the lowest free handle of the block
-abbrev pub lalloc : ℕ → ℕ → Choice → Memory → Row ℕ
-lalloc h n choice memory =
-    let chunks = chunks_in (block_of memory h) in
-    record {
-      refusals = (nat_lt most_size (need (with_new chunks n)), TooBig) ∷ (cannot_grow choice memory h (with_new chunks n), NoRoom) ∷ [];
-      after = rechunked memory h (with_new chunks n);
-      answer = new_handle chunks;
-      stale = InBlock h;
-    }
+abbrev pub lalloc : Name → ℕ → Call ℕ
+lalloc name n = enlarges (alloc n) name
 
 -- frees a chunk
-abbrev pub lfree : ℕ → ℕ → Choice → Memory → Row (Unit {0})
-lfree h c choice memory = record {
-  refusals = (has_no_chunk memory h c, BadChunk) ∷ [];
-  after = rechunked memory h (without (chunks_in (block_of memory h)) c);
-  answer = tt;
-  stale = InBlock h;
-}
+abbrev pub lfree : Name → ℕ → Call (Unit {0})
+lfree name c = changes (free c) name
 
 -- gives a chunk n bytes: the first ones that fit, and zeros behind them
-abbrev pub lrealloc : ℕ → ℕ → ℕ → Choice → Memory → Row (Unit {0})
-lrealloc h c n choice memory =
-    let chunks = with_resized (chunks_in (block_of memory h)) c n in
-    record {
-      refusals = (has_no_chunk memory h c, BadChunk) ∷ (nat_lt most_size (need chunks), TooBig) ∷ (cannot_grow choice memory h chunks, NoRoom) ∷ [];
-      after = rechunked memory h chunks;
-      answer = tt;
-      stale = InBlock h;
-    }
+abbrev pub lrealloc : Name → ℕ → ℕ → Call (Unit {0})
+lrealloc name c n = enlarges (realloc c n) name
 
 -- puts n zero bytes into a chunk at an offset
-abbrev pub lins : ℕ → ℕ → ℕ → ℕ → Choice → Memory → Row (Unit {0})
-lins h c at n choice memory =
-    let chunks = with_inserted (chunks_in (block_of memory h)) c at n in
-    record {
-      refusals =
-          (has_no_chunk memory h c, BadChunk)
-          ∷ (nat_lt (length_of memory h c) at, Range)
-          ∷ (nat_lt most_size (need chunks), TooBig)
-          ∷ (cannot_grow choice memory h chunks, NoRoom)
-          ∷ [];
-      after = rechunked memory h chunks;
-      answer = tt;
-      stale = InBlock h;
-    }
+abbrev pub lins : Name → ℕ → ℕ → ℕ → Call (Unit {0})
+lins name c at n = enlarges (insert_bytes c at n) name
 
 -- takes n bytes out of a chunk at an offset
-abbrev pub ldel : ℕ → ℕ → ℕ → ℕ → Choice → Memory → Row (Unit {0})
-ldel h c at n choice memory = record {
-  refusals = (has_no_chunk memory h c, BadChunk) ∷ (nat_lt (length_of memory h c) (at + n), Range) ∷ [];
-  after = rechunked memory h (with_deleted (chunks_in (block_of memory h)) c at n);
-  answer = tt;
-  stale = InBlock h;
-}
+abbrev pub ldel : Name → ℕ → ℕ → ℕ → Call (Unit {0})
+ldel name c at n = changes (delete_bytes c at n) name
 
 -- tells the length of a chunk
-abbrev pub lsize : ℕ → ℕ → Choice → Memory → Row ℕ
-lsize h c choice memory = record {
-  refusals = (has_no_chunk memory h c, BadChunk) ∷ [];
-  after = memory;
-  answer = length_of memory h c;
-  stale = Nothing;
-}
+abbrev pub lsize : Name → ℕ → Call ℕ
+lsize name c = reads (size c) name
 
 -- gives a reference to a chunk of n bytes at least
-abbrev pub deref : ℕ → ℕ → ℕ → Choice → Memory → Row Reference
-deref h c n choice memory = record {
-  refusals = (has_no_chunk memory h c, BadChunk) ∷ (nat_lt (length_of memory h c) n, Short) ∷ [];
-  after = memory;
-  answer = record { handle = h; chunk = c; start = 0; len = length_of memory h c };
-  stale = Nothing;
-}
+abbrev pub deref : Name → ℕ → ℕ → Call Reference
+deref name c n = refers (refer c n) name
 
 -- moves the chunks of a block together, which no one can tell but by references that are stale
-abbrev pub lcontract : ℕ → Choice → Memory → Row (Unit {0})
-lcontract h choice memory = record { refusals = []; after = memory; answer = tt; stale = InBlock h }
+abbrev pub lcontract : Name → Call (Unit {0})
+lcontract name = changes contract name
+
+-- Bytes
 
 -- the bytes that a reference names
 abbrev pub named_bytes : Memory → Reference → List ℕ
-named_bytes memory ref = part (bytes_of (chunks_in (block_of memory ref.handle)) ref.chunk) ref.start ref.len
+named_bytes memory ref = part (bytes_of (chunks_at memory ref.name) ref.chunk) ref.start ref.len
 
 -- reads the byte at an offset of a reference
-abbrev pub load8 : Reference → ℕ → Choice → Memory → Row ℕ
-load8 ref i choice memory = record { refusals = []; after = memory; answer = slice_index (named_bytes memory ref) i; stale = Nothing }
+abbrev pub load8 : Reference → ℕ → Call ℕ
+load8 ref i choice memory = tells memory (slice_index (named_bytes memory ref) i)
 
 -- reads the word at an offset of a reference, little end first
-abbrev pub load16 : Reference → ℕ → Choice → Memory → Row ℕ
-load16 ref i choice memory = record { refusals = []; after = memory; answer = word (named_bytes memory ref) i; stale = Nothing }
+abbrev pub load16 : Reference → ℕ → Call ℕ
+load16 ref i choice memory = tells memory (word (named_bytes memory ref) i)
+
+-- memory with these bytes at an offset of a reference
+abbrev pub written : Memory → Reference → ℕ → List ℕ → Memory
+written memory ref i ws =
+    let chunks = chunks_at memory ref.name in
+    with_chunks memory ref.name (with_bytes chunks ref.chunk (with_part (bytes_of chunks ref.chunk) (ref.start + i) ws))
 
 -- writes bytes at an offset of a reference
-abbrev pub store : Reference → ℕ → List ℕ → Choice → Memory → Row (Unit {0})
-store ref i ws choice memory =
-    let chunks = chunks_in (block_of memory ref.handle) in
-    record {
-      refusals = [];
-      after = rechunked memory ref.handle (with_bytes chunks ref.chunk (with_part (bytes_of chunks ref.chunk) (ref.start + i) ws));
-      answer = tt;
-      stale = Nothing;
-    }
+abbrev pub store : Reference → ℕ → List ℕ → Call (Unit {0})
+store ref i ws choice memory = record { refusals = []; left = unchanged memory; after = written memory ref i ws; answer = tt; stale = Nothing }
 
 -- writes the first n bytes of one reference, as they were before, to the beginning of another
-abbrev pub copy : Reference → Reference → ℕ → Choice → Memory → Row (Unit {0})
+abbrev pub copy : Reference → Reference → ℕ → Call (Unit {0})
 copy to from n choice memory = store to 0 (take n (named_bytes memory from)) choice memory
-
--- what a call comes to: its answer with memory after it, or the first refusal whose test holds, with memory as it was
-abbrev pub outcome : {A : Type 0} → Row A → Memory → Result A Refusal × Memory
-outcome row before = elim (first_refusal row.refusals) [ Some refusal ↦ (Err refusal, before) | None ↦ (Ok row.answer, row.after) ]
-
--- a call answered, and left memory, as its row says, under some choice of what is refused from outside
-abbrev pub Answers : {A : Type 0} → (Choice → Memory → Row A) → Result A Refusal → Memory → Memory → Type 0
-Answers row result before after = (choice : Choice) × (outcome (row choice before) before ≡ (result, after))

@@ -6,4 +6,9 @@ pub mod Heap
 pub mod Writes
 pub mod Refusals
 pub mod Memory
+pub mod Tight
+pub mod Effects
+pub mod Edits
 pub mod Calls
+pub mod Legal
+pub mod Keeping

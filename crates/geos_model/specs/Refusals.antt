@@ -1,7 +1,7 @@
 -- The refusals of calls, in order, and their numbers.
-use Rattle.std.specs.Prelude.{ℕ, Bool, true, false, List, [], ◌∷◌, Option, Some, None}
+use Rattle.std.specs.Prelude.{ℕ, Bool, List, [], ◌∷◌, Option, Some, None, if◌then◌else◌}
 use Rattle.geos_model.specs.declared.refusal.Refusal.{Refusal}
-use Rattle.geos_model.specs.declared.refusal.Refusal.TheVariants.{BadHandle, BadChunk, Short, NoRoom, NoHandle, TooBig, Locked, Range}
+use Rattle.geos_model.specs.declared.refusal.Refusal.TheVariants.{BadHandle, BadChunk, Short, NoRoom, NoHandle, TooBig, Locked, Full, Range}
 
 -- the number that a routine sees
 abbrev pub refusal_number : Refusal → ℕ
@@ -12,10 +12,10 @@ refusal_number NoRoom = 4
 refusal_number NoHandle = 5
 refusal_number TooBig = 6
 refusal_number Locked = 7
+refusal_number Full = 10
 refusal_number Range = 14
 
--- of refusals with their tests, the first whose test holds
-abbrev pub first_refusal : List (Bool × Refusal) → Option Refusal
+-- what stands beside the first test that holds: of refusals in the order in which they are tried, the one that comes
+abbrev pub first_refusal : {R : Type 0} → List (Bool × R) → Option R
 first_refusal [] = None
-first_refusal ((true, refusal) ∷ others) = Some refusal
-first_refusal ((false, refusal) ∷ others) = first_refusal others
+first_refusal (test ∷ tests) = if test.0 then Some test.1 else first_refusal tests

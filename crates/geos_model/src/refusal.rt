@@ -4,8 +4,8 @@ ghost use Rattle.std.specs.Prelude.{◌≡◌};
 
 use thiserror::Error;
 
-/// Why a call of the kernel refuses. Every block keeps its chunks, its size and its count of locks; references may have
-/// become stale. Each refusal has a number, which a routine sees in w7.
+/// Why a call of the kernel refuses. Every block keeps its chunks, its size and its count of locks; references may
+/// have become stale. Each refusal has a number, which a routine sees in w7.
 #[derive(Clone, Copy, Debug, Drop, PartialEq, Eq, Error)]
 pub enum Refusal {
     /// No block has this handle.
@@ -29,6 +29,9 @@ pub enum Refusal {
     /// The count of locks can't rise, or the block is locked and can't be freed.
     #[error("the block is locked")]
     Locked,
+    /// 1,024 words are put out.
+    #[error("no more words can be put out")]
+    Full,
     /// The offset, or where the bytes end, is past the chunk's end.
     #[error("past the end of the chunk")]
     Range,
@@ -49,6 +52,7 @@ impl Refusal {
             Refusal::NoHandle => 5,
             Refusal::TooBig => 6,
             Refusal::Locked => 7,
+            Refusal::Full => 10,
             Refusal::Range => 14,
         }
     }
