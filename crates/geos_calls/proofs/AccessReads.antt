@@ -4,6 +4,7 @@ use Rattle.std.specs.Prelude.{Ok, IfSome}
 use Rattle.std.specs.Option.{option_map}
 use Rattle.std.proofs.lemmas.List.{get_or-take, get_or-drop, take-take}
 use Rattle.lmem_raw.specs.Bytes.{part}
+use Rattle.block_handles.specs.Names.{slot_of}
 use Rattle.block_handles.specs.Store as store
 use Rattle.block_handles.specs.Layout.{IsLaidOut}
 use Rattle.block_handles.specs.Offsets.{Covers, byte_of, ReadsByte, ReadsWord}
@@ -12,42 +13,43 @@ use Rattle.geos_model.specs.Block as block
 use Rattle.geos_model.specs.Bytes.{word}
 use Rattle.geos_model.specs.Chunks.{bytes_of}
 use Rattle.geos_model.specs.Memory as model
+use Rattle.geos_model.specs.Effects.{Reference, Nothing}
 use Rattle.geos_model.specs.Calls as table
 use Rattle.geos_model.proofs.Places.{chunk-place}
 use Rattle.geos_calls.specs.declared.span.Span.{Span}
-use Rattle.geos_calls.specs.View.{slot_at, memory_of}
+use Rattle.geos_calls.specs.View.{KernelState, memory_of, chunks_at}
 use Rattle.geos_calls.specs.Spans.{Stands, IsStanding}
 use Rattle.geos_calls.specs.Kernel.{IsKernel, Calls}
-use Rattle.geos_calls.proofs.Locks.{there-view, there_of_locks}
-use Rattle.geos_calls.proofs.Rows.{willing}
+use Rattle.geos_model.proofs.Laws.{willing}
+use Rattle.geos_calls.proofs.Views.{there_of_locks, chunks-known}
 
 -- a span stands for some reference, and n bytes at an offset lie in it
-abbrev pub IsGood : store.Store → Span → ℕ → ℕ → Type 0
-IsGood s span i n = (ref : table.Reference) × Stands s span ref × (i + n ≤ ref.len)
+abbrev pub IsGood : KernelState → Span → ℕ → ℕ → Type 0
+IsGood s span i n = (ref : Reference) × Stands s span ref × (i + n ≤ ref.len)
 
-pub good-of : (old s : store.Store) (span : Span) (i n : ℕ) → s ≡ old → IsStanding old span → i + n ≤ span.len → IsGood s span i n
+pub good-of : (old s : KernelState) (span : Span) (i n : ℕ) → s ≡ old → IsStanding old span → i + n ≤ span.len → IsGood s span i n
 good-of old s span i n same standing within = subst (λ t. IsGood t span i n) (sym same) (standing.0, standing.1, omega (arith, within, standing.1.len))
 
 -- the place of a reference's chunk in its block
-pub record HasPlace (s : store.Store) (ref : table.Reference) : Type 0 where
+pub record HasPlace (s : KernelState) (ref : Reference) : Type 0 where
   pub place : block.Place
-  pub is : block.place_of (store.bytes_of s (slot_at ref.handle)) ref.chunk ≡ Some place
+  pub is : block.place_of (store.bytes_of s.blocks (slot_of ref.name)) ref.chunk ≡ Some place
   pub room : ref.start + ref.len ≤ place.len
 
 -- the bytes that a span stands for lie there, and in the block
-pub record Lies (s : store.Store) (span : Span) (ref : table.Reference) : Type 0 where
+pub record Lies (s : KernelState) (span : Span) (ref : Reference) : Type 0 where
   pub chunk : HasPlace s ref
-  pub at : span.at ≡ store.place_of s (slot_at ref.handle) + chunk.place.at + ref.start
-  pub within : chunk.place.at + ref.start + ref.len ≤ store.size_of s (slot_at ref.handle)
+  pub at : span.at ≡ store.place_of s.blocks (slot_of ref.name) + chunk.place.at + ref.start
+  pub within : chunk.place.at + ref.start + ref.len ≤ store.size_of s.blocks (slot_of ref.name)
 
 -- a chunk that is there has a place
 pub chunk-placed : (o : Option block.Place) (b bytes : List ℕ) → option_map (block.bytes_at b) o ≡ Some bytes → (p : block.Place) × (o ≡ Some p) × (block.bytes_at b p ≡ bytes)
 chunk-placed None b bytes e = absurd cc
 chunk-placed (Some p) b bytes e = (p, refl, cc)
 
-module _ (s : store.Store) (span : Span) (ref : table.Reference) (stands : Stands s span ref) where
+module _ (s : KernelState) (span : Span) (ref : Reference) (stands : Stands s span ref) where
   abbrev block_bytes : List ℕ
-  block_bytes = store.bytes_of s (slot_at ref.handle)
+  block_bytes = store.bytes_of s.blocks (slot_of ref.name)
 
   abbrev placed : (p : block.Place) × (block.place_of block_bytes ref.chunk ≡ Some p) × (block.bytes_at block_bytes p ≡ stands.bytes)
   placed = chunk-placed (block.place_of block_bytes ref.chunk) block_bytes stands.bytes (sym (chunk-place block_bytes ref.chunk) ∙ stands.chunk)
@@ -64,67 +66,67 @@ module _ (s : store.Store) (span : Span) (ref : table.Reference) (stands : Stand
       let p = placed.0 in
       record {
         chunk = has-place;
-        at = subst (λ o. IfSome o (λ p. span.at ≡ store.place_of s (slot_at ref.handle) + p.at + ref.start)) placed.1 (stands.place some);
+        at = subst (λ o. IfSome o (λ p. span.at ≡ store.place_of s.blocks (slot_of ref.name) + p.at + ref.start)) placed.1 (stands.place some);
         within = omega (arith, some, stands.fits, ap length placed.2, length-take p.len (drop p.at block_bytes), length-drop p.at block_bytes);
       }
 
   module _ (k : IsKernel s) where
     -- a block that a span lies in is there
-    pub stands-there : store.IsThere s (slot_at ref.handle)
-    stands-there = there_of_locks s ref.handle k (store.block_at s (slot_at ref.handle)) stands.locked
+    pub stands-there : store.IsThere s.blocks (slot_of ref.name)
+    stands-there = there_of_locks (store.block_at s.blocks (slot_of ref.name)) stands.locked
 
     -- the bytes that a reference names are bytes of its block
     pub named-is : (l : Lies s span ref) → table.named_bytes (memory_of s) ref ≡ part block_bytes (l.chunk.place.at + ref.start) ref.len
     named-is l =
         let p = l.chunk.place in
-        let chunks : model.chunks_in (model.block_of (memory_of s) ref.handle) ≡ block.chunks block_bytes = ap model.chunks_in (there-view s ref.handle k stands-there) in
+        let chunks : model.chunks_at (memory_of s) ref.name ≡ block.chunks block_bytes = sym (chunks-known s ref.name k stands-there) in
         let bytes : bytes_of (block.chunks block_bytes) ref.chunk ≡ block.bytes_at block_bytes p = ap (λ o. unwrap_or o []) (chunk-place block_bytes ref.chunk ∙ ap (option_map (block.bytes_at block_bytes)) l.chunk.is) in
         ap (λ cs. part (bytes_of cs ref.chunk) ref.start ref.len) chunks ∙ ap (λ bs. part bs ref.start ref.len) bytes ∙ part-part block_bytes p.at p.len ref.start ref.len l.chunk.room
 
-    byte-named : (l : Lies s span ref) (i at : ℕ) → i < ref.len → at ≡ span.at + i → byte_of s (slot_at ref.handle) at ≡ slice_index (table.named_bytes (memory_of s) ref) i
+    byte-named : (l : Lies s span ref) (i at : ℕ) → i < ref.len → at ≡ span.at + i → byte_of s.blocks (slot_of ref.name) at ≡ slice_index (table.named_bytes (memory_of s) ref) i
     byte-named l i at less e =
         let begin = l.chunk.place.at + ref.start in
-        let index : at - store.place_of s (slot_at ref.handle) ≡ begin + i = omega (arith, e, l.at) in
+        let index : at - store.place_of s.blocks (slot_of ref.name) ≡ begin + i = omega (arith, e, l.at) in
         ap (slice_index block_bytes) index ∙ sym (ap (λ bs. slice_index bs i) (named-is l) ∙ get_or-take ref.len (drop begin block_bytes) i 0 less ∙ get_or-drop begin block_bytes i 0)
 
-    covers : (l : Lies s span ref) (i at : ℕ) → i < ref.len → at ≡ span.at + i → Covers s (slot_at ref.handle) at
+    covers : (l : Lies s span ref) (i at : ℕ) → i < ref.len → at ≡ span.at + i → Covers s.blocks (slot_of ref.name) at
     covers l i at less e = (omega (arith, e, l.at), omega (arith, less, e, l.at, l.within))
 
-    pub load8-calls : (i at byte : ℕ) → i + 1 ≤ ref.len → at ≡ span.at + i → ReadsByte s at byte → Calls (table.load8 ref i) (Ok byte) s s
+    pub load8-calls : (i at byte : ℕ) → i + 1 ≤ ref.len → at ≡ span.at + i → ReadsByte s.blocks at byte → Calls (table.load8 ref i) (Ok byte) s s
     load8-calls i at byte fits e read =
         let l = lies (omega (arith, fits)) in
-        let is : byte ≡ slice_index (table.named_bytes (memory_of s) ref) i = read (slot_at ref.handle) (covers l i at (omega (arith, fits)) e) ∙ byte-named l i at (omega (arith, fits)) e in
+        let is : byte ≡ slice_index (table.named_bytes (memory_of s) ref) i = read (slot_of ref.name) (covers l i at (omega (arith, fits)) e) ∙ byte-named l i at (omega (arith, fits)) e in
         record { answers = (willing, ap (λ b. (Ok b, memory_of s)) (sym is)); spans = λ choice other r t fresh. t }
 
     word-named : (bytes : List ℕ) (i low high : ℕ) → low ≡ slice_index bytes i → high ≡ slice_index bytes (i + 1) → low + 256 * high ≡ word bytes i
     unfolding word
     word-named bytes i low high e f = omega (arith, e, f)
 
-    pub load16-calls : (i at w : ℕ) → i + 2 ≤ ref.len → at ≡ span.at + i → ReadsWord s at w → Calls (table.load16 ref i) (Ok w) s s
+    pub load16-calls : (i at w : ℕ) → i + 2 ≤ ref.len → at ≡ span.at + i → ReadsWord s.blocks at w → Calls (table.load16 ref i) (Ok w) s s
     load16-calls i at w fits e read =
         let l = lies (omega (arith, fits)) in
-        let slot = slot_at ref.handle in
+        let slot = slot_of ref.name in
         let low : i < ref.len = omega (arith, fits) in
         let high : i + 1 < ref.len = omega (arith, fits) in
         let next : at + 1 ≡ span.at + (i + 1) = omega (arith, e) in
         let is : w ≡ word (table.named_bytes (memory_of s) ref) i =
         read slot slot (covers l i at low e) (covers l (i + 1) (at + 1) high next)
-        ∙ word-named (table.named_bytes (memory_of s) ref) i (byte_of s slot at) (byte_of s slot (at + 1)) (byte-named l i at low e) (byte-named l (i + 1) (at + 1) high next) in
+        ∙ word-named (table.named_bytes (memory_of s) ref) i (byte_of s.blocks slot at) (byte_of s.blocks slot (at + 1)) (byte-named l i at low e) (byte-named l (i + 1) (at + 1) high next) in
         record { answers = (willing, ap (λ b. (Ok b, memory_of s)) (sym is)); spans = λ choice other r t fresh. t }
 
     -- the first bytes that a reference names, as a copy takes them
-    pub first-named : (l : Lies s span ref) (n : ℕ) → n ≤ ref.len → part block_bytes (span.at - store.place_of s (slot_at ref.handle)) n ≡ take n (table.named_bytes (memory_of s) ref)
+    pub first-named : (l : Lies s span ref) (n : ℕ) → n ≤ ref.len → part block_bytes (span.at - store.place_of s.blocks (slot_of ref.name)) n ≡ take n (table.named_bytes (memory_of s) ref)
     first-named l n fits =
         let begin = l.chunk.place.at + ref.start in
-        let index : span.at - store.place_of s (slot_at ref.handle) ≡ begin = omega (arith, l.at) in
+        let index : span.at - store.place_of s.blocks (slot_of ref.name) ≡ begin = omega (arith, l.at) in
         ap (λ j. part block_bytes j n) index ∙ sym (ap (take n) (named-is l) ∙ take-take n ref.len (drop begin block_bytes) fits)
 
 -- bytes of a span lie in the region
-pub good-region : (s : store.Store) (span : Span) (i n : ℕ) → IsLaidOut s → IsGood s span i n → 0 < n → span.at + i + n ≤ store.region_len s
+pub good-region : (s : KernelState) (span : Span) (i n : ℕ) → IsLaidOut s.blocks → IsGood s span i n → 0 < n → span.at + i + n ≤ store.region_len s.blocks
 good-region s span i n laid (ref, stands, fits) some =
     let l = lies s span ref stands (omega (arith, fits, some)) in
-    omega (arith, fits, l.at, l.within, laid.within (slot_at ref.handle))
+    omega (arith, fits, l.at, l.within, laid.within (slot_of ref.name))
 
 -- spans that stand for two references have the length of both
-pub same-length : (s : store.Store) (span : Span) (i n : ℕ) (ref : table.Reference) → IsGood s span i n → Stands s span ref → i + n ≤ ref.len
+pub same-length : (s : KernelState) (span : Span) (i n : ℕ) (ref : Reference) → IsGood s span i n → Stands s span ref → i + n ≤ ref.len
 same-length s span i n ref (other, stands, fits) t = omega (arith, fits, stands.len, t.len)

@@ -6,7 +6,10 @@ use Rattle.std.proofs.lemmas.Bool.{cases_eq}
 use Rattle.std.proofs.lemmas.List.{length-set, get_or-set_same}
 use Rattle.lmem_raw.specs.Bytes.{with_part}
 use Rattle.lmem_raw.proofs.Parts.{length-with_part, with_whole}
-use Rattle.geos_model.specs.declared.name.Owner.TheVariants.{Mem}
+use Rattle.geos_model.specs.declared.name.Name.{Name}
+use Rattle.geos_model.specs.declared.name.Owner.TheVariants.{Vm}
+use Rattle.geos_model.specs.Names.{named}
+use Rattle.block_handles.specs.Names.{slot_of}
 use Rattle.block_handles.specs.Store as store
 use Rattle.block_handles.specs.Change.{with_bytes}
 use Rattle.block_handles.specs.Offsets.{WritesCovered}
@@ -16,20 +19,21 @@ use Rattle.geos_model.specs.Block as block
 use Rattle.geos_model.specs.Chunks as chunks
 use Rattle.geos_model.specs.Heap.{IsHeap}
 use Rattle.geos_model.specs.Memory as model
+use Rattle.geos_model.specs.Effects.{Reference, Nothing}
 use Rattle.geos_model.specs.Calls as table
 use Rattle.geos_model.specs.Writes.{ChangesChunk}
 use Rattle.geos_model.proofs.Fits.{need-fits}
 use Rattle.geos_model.proofs.Places.{chunk-place}
 use Rattle.geos_model.proofs.Writes.{writes-stay}
 use Rattle.geos_calls.specs.declared.span.Span.{Span}
-use Rattle.geos_calls.specs.View.{slot_at, memory_of}
+use Rattle.geos_calls.specs.View.{KernelState, memory_of, chunks_at}
 use Rattle.geos_calls.specs.Spans.{Stands, SpansStay}
 use Rattle.geos_calls.specs.Kernel.{IsKernel, Calls}
 use Rattle.geos_calls.proofs.AccessReads.{HasPlace, Lies, chunk-placed, lies, stands-there}
-use Rattle.geos_calls.proofs.Locks.{there-view}
-use Rattle.geos_calls.proofs.Rows.{willing}
+use Rattle.geos_model.proofs.Laws.{willing}
+use Rattle.geos_calls.proofs.Locks.{with_store}
 use Rattle.geos_calls.proofs.Stays.{stands-on}
-use Rattle.geos_calls.proofs.Views.{memory_of-set, handle_of-there}
+use Rattle.geos_calls.proofs.Views.{memory_of-set, there-view, owner-there, handle_of-there}
 
 -- a block that is there, in full
 block-there : (o : Option store.Block) → store.IsBlock o → o ≡ Some (record { locks = store.locks_in o; bytes = store.bytes_in o })
@@ -51,74 +55,75 @@ chunk-kept b d c bytes long places is =
       omega (arith, long, ap length q.2, length-take p.len (drop p.at d), length-drop p.at d, length-take p.len (drop p.at b), length-drop p.at b),
     )
 
-module _ (old : store.Store) (k : IsKernel old) (ref : table.Reference) (there : store.IsThere old (slot_at ref.handle)) (place : HasPlace old ref) (i : ℕ) (ws : List ℕ) (fits : i + length ws ≤ ref.len) where
+module _ (old : KernelState) (k : IsKernel old) (ref : Reference) (there : store.IsThere old.blocks (slot_of ref.name)) (place : HasPlace old ref) (i : ℕ) (ws : List ℕ) (fits : i + length ws ≤ ref.len) where
   abbrev slot : ℕ
-  slot = slot_at ref.handle
+  slot = slot_of ref.name
 
   abbrev before : List ℕ
-  before = store.bytes_of old slot
+  before = store.bytes_of old.blocks slot
 
   -- the block with these bytes at an offset of the reference
   abbrev written : List ℕ
   written = with_part before (place.place.at + (ref.start + i)) ws
 
-  abbrev pub written-store : store.Store
-  written-store = with_bytes old slot written
+  abbrev pub written-store : KernelState
+  written-store = with_store (with_bytes old.blocks slot written)
 
   long : length written ≡ length before
   long = length-with_part before (place.place.at + (ref.start + i)) ws
 
   changes : ChangesChunk before written ref.chunk place.place (ref.start + i) ws
-  changes = writes-stay before ref.chunk place.place (ref.start + i) ws (k.heaps slot there) place.is (omega (arith, fits, place.room))
+  changes = writes-stay before ref.chunk place.place (ref.start + i) ws (k.heaps ref.name there) place.is (omega (arith, fits, place.room))
 
-  blocks-set : written-store.blocks ≡ set old.blocks slot (Some (record { locks = store.locks_of old slot; bytes = written }))
+  blocks-set : written-store.blocks.blocks ≡ set old.blocks.blocks slot (Some (record { locks = store.locks_of old.blocks slot; bytes = written }))
   blocks-set =
-      let b : store.Block = record { locks = store.locks_of old slot; bytes = before } in
-      let locked : List ℕ → List (Option store.Block) = λ bs. set old.blocks slot (Some (record { locks = store.locks_of old slot; bytes = bs })) in
-      blocks_with_bytes-set old.blocks slot written b (block-there (store.block_at old slot) there) ∙ ap locked (with_whole before written long)
+      let b : store.Block = record { locks = store.locks_of old.blocks slot; bytes = before } in
+      let locked : List ℕ → List (Option store.Block) = λ bs. set old.blocks.blocks slot (Some (record { locks = store.locks_of old.blocks slot; bytes = bs })) in
+      blocks_with_bytes-set old.blocks.blocks slot written b (block-there (store.block_at old.blocks slot) there) ∙ ap locked (with_whole before written long)
 
-  block-own : store.block_at written-store slot ≡ Some (record { locks = store.locks_of old slot; bytes = written })
+  block-own : store.block_at written-store.blocks slot ≡ Some (record { locks = store.locks_of old.blocks slot; bytes = written })
   block-own =
-      let small : slot < length old.blocks = omega (arith, slot_of-small (record { owner = Mem; h = ref.handle }) (handle_of-there old ref.handle k there), k.slots) in
-      ap (λ bs. get_or bs slot None) blocks-set ∙ get_or-set_same old.blocks slot (Some (record { locks = store.locks_of old slot; bytes = written })) None small
+      let small : slot < length old.blocks.blocks = omega (arith, slot_of-small ref.name (handle_of-there old ref.name k there), k.slots) in
+      ap (λ bs. get_or bs slot None) blocks-set ∙ get_or-set_same old.blocks.blocks slot (Some (record { locks = store.locks_of old.blocks slot; bytes = written })) None small
 
-  own : store.bytes_of written-store slot ≡ written
+  own : store.bytes_of written-store.blocks slot ≡ written
   own = ap store.bytes_in block-own
 
-  other : (j : ℕ) → j ≢ slot → store.block_at written-store j ≡ store.block_at old j
-  other j ne = others-same old slot j written (λ e. ne (sym e))
+  other : (j : ℕ) → j ≢ slot → store.block_at written-store.blocks j ≡ store.block_at old.blocks j
+  other j ne = others-same old.blocks slot j written (λ e. ne (sym e))
 
-  still-there : (j : ℕ) → store.IsThere written-store j → store.IsThere old j
-  still-there j t = elim (cases_eq j slot) [ inl e ↦ subst (store.IsThere old) (sym e) there | inr ne ↦ subst store.IsBlock (other j ne) t ]
+  still-there : (j : ℕ) → store.IsThere written-store.blocks j → store.IsThere old.blocks j
+  still-there j t = elim (cases_eq j slot) [ inl e ↦ subst (store.IsThere old.blocks) (sym e) there | inr ne ↦ subst store.IsBlock (other j ne) t ]
 
   -- the blocks still are a kernel's
   pub written-kernel : IsKernel written-store
-  written-kernel = record { heaps = heap; handles = handle; mem = high; slots = ap length blocks-set ∙ length-set old.blocks slot _ ∙ k.slots; small = k.small }
+  written-kernel = record { heaps = heap; handles = handle; no_vm = none; slots = ap length blocks-set ∙ length-set old.blocks.blocks slot _ ∙ k.slots; small = k.small }
     where
-      heap : (j : ℕ) → store.IsThere written-store j → IsHeap (store.bytes_of written-store j)
-      heap j t = elim (cases_eq j slot) [
-        | inl e ↦ subst (λ j. IsHeap (store.bytes_of written-store j)) (sym e) (subst IsHeap (sym own) changes.heap)
-        | inr ne ↦ subst IsHeap (sym (ap store.bytes_in (other j ne))) (k.heaps j (still-there j t))
+      heap : (name : Name) → store.IsThere written-store.blocks (slot_of name) → IsHeap (store.bytes_of written-store.blocks (slot_of name))
+      heap name t = elim (cases_eq (slot_of name) (slot_of ref.name)) [
+        | inl e ↦ subst (λ j. IsHeap (store.bytes_of written-store.blocks j)) (sym e) (subst IsHeap (sym own) changes.heap)
+        | inr ne ↦ subst IsHeap (sym (ap store.bytes_in (other (slot_of name) ne))) (k.heaps name (still-there (slot_of name) t))
       ]
 
-      handle : (j : ℕ) → store.IsThere written-store j → block.handle_word (store.bytes_of written-store j) ≡ j + 1
-      handle j t = elim (cases_eq j slot) [
-        | inl e ↦ subst (λ j. block.handle_word (store.bytes_of written-store j) ≡ j + 1) (sym e) (ap block.handle_word own ∙ changes.handle ∙ k.handles slot there)
-        | inr ne ↦ ap (λ o. block.handle_word (store.bytes_in o)) (other j ne) ∙ k.handles j (still-there j t)
+      handle : (name : Name) → store.IsThere written-store.blocks (slot_of name) → block.handle_word (store.bytes_of written-store.blocks (slot_of name)) ≡ name.h
+      handle name t = elim (cases_eq (slot_of name) (slot_of ref.name)) [
+        | inl e ↦ subst (λ j. block.handle_word (store.bytes_of written-store.blocks j) ≡ name.h) (sym e)
+            (ap block.handle_word own ∙ changes.handle ∙ subst (λ j. block.handle_word (store.bytes_of old.blocks j) ≡ name.h) e (k.handles name (still-there (slot_of name) t)))
+        | inr ne ↦ ap (λ o. block.handle_word (store.bytes_in o)) (other (slot_of name) ne) ∙ k.handles name (still-there (slot_of name) t)
       ]
 
-      high : (j : ℕ) → 1024 ≤ j → store.block_at written-store j ≡ None
-      high j le = other j (λ e. subst store.IsBlock (k.mem j le) (subst (store.IsThere old) (sym e) there)) ∙ k.mem j le
+      none : (h : ℕ) → store.IsThere written-store.blocks (slot_of (named Vm h)) → ⊥
+      none h t = k.no_vm h (still-there (slot_of (named Vm h)) t)
 
   -- a span in this block: its chunk has the place and the length that it had
-  stands-own : (span : Span) (r : table.Reference) → slot_at r.handle ≡ slot → Stands old span r → Stands written-store span r
+  stands-own : (span : Span) (r : Reference) → slot_of r.name ≡ slot → Stands old span r → Stands written-store span r
   stands-own span r e s =
-      let was : store.bytes_of old (slot_at r.handle) ≡ before = ap (store.bytes_of old) e in
-      let is : store.bytes_of written-store (slot_at r.handle) ≡ written = ap (store.bytes_of written-store) e ∙ own in
+      let was : store.bytes_of old.blocks (slot_of r.name) ≡ before = ap (store.bytes_of old.blocks) e in
+      let is : store.bytes_of written-store.blocks (slot_of r.name) ≡ written = ap (store.bytes_of written-store.blocks) e ∙ own in
       let kept = chunk-kept before written r.chunk s.bytes long (changes.places r.chunk) (subst (λ b. chunks.chunk_of (block.chunks b) r.chunk ≡ Some s.bytes) was s.chunk) in
-      let stays : block.place_of (store.bytes_of written-store (slot_at r.handle)) r.chunk ≡ block.place_of (store.bytes_of old (slot_at r.handle)) r.chunk =
+      let stays : block.place_of (store.bytes_of written-store.blocks (slot_of r.name)) r.chunk ≡ block.place_of (store.bytes_of old.blocks (slot_of r.name)) r.chunk =
       ap (λ b. block.place_of b r.chunk) is ∙ changes.places r.chunk ∙ sym (ap (λ b. block.place_of b r.chunk) was) in
-      let locks : store.locks_of written-store (slot_at r.handle) ≡ store.locks_of old (slot_at r.handle) = ap (store.locks_of written-store) e ∙ ap store.locks_in block-own ∙ sym (ap (store.locks_of old) e) in
+      let locks : store.locks_of written-store.blocks (slot_of r.name) ≡ store.locks_of old.blocks (slot_of r.name) = ap (store.locks_of written-store.blocks) e ∙ ap store.locks_in block-own ∙ sym (ap (store.locks_of old.blocks) e) in
       record {
         bytes = kept.0;
         locked = rw locks s.locked;
@@ -129,10 +134,10 @@ module _ (old : store.Store) (k : IsKernel old) (ref : table.Reference) (there :
       }
 
   -- every span stays
-  pub written-spans : SpansStay old written-store table.Nothing
-  written-spans span r s fresh = elim (cases_eq (slot_at r.handle) slot) [
+  pub written-spans : SpansStay old written-store Nothing
+  written-spans span r s fresh = elim (cases_eq (slot_of r.name) slot) [
     | inl same ↦ stands-own span r same s
-    | inr apart ↦ (let is = other (slot_at r.handle) apart in stands-on old written-store span r (ap store.bytes_in is) (rw (ap store.locks_in is) s.locked) refl s)
+    | inr apart ↦ (let is = other (slot_of r.name) apart in stands-on old written-store span r (ap store.bytes_in is) (rw (ap store.locks_in is) s.locked) refl s)
   ]
 
   written-bytes : chunks.bytes_of (block.chunks before) ref.chunk ≡ block.bytes_at before place.place
@@ -145,43 +150,43 @@ module _ (old : store.Store) (k : IsKernel old) (ref : table.Reference) (there :
   spelled : block.chunks written ≡ row_chunks
   spelled = changes.chunks ∙ ap (λ bs. chunks.with_bytes (block.chunks before) ref.chunk (with_part bs (ref.start + i) ws)) (sym written-bytes)
 
-  size : length written ≡ max (store.size_of old slot) (chunks.need row_chunks)
-  size = max-is (length written) (store.size_of old slot) (chunks.need row_chunks) long (subst (λ cs. chunks.need cs ≤ length written) spelled (need-fits written changes.heap))
+  size : length written ≡ max (store.size_of old.blocks slot) (chunks.need row_chunks)
+  size = max-is (length written) (store.size_of old.blocks slot) (chunks.need row_chunks) long (subst (λ cs. chunks.need cs ≤ length written) spelled (need-fits written changes.heap))
 
   -- the block with other chunks, and another size
   abbrev resized : List (Option (List ℕ)) → ℕ → Option model.Block
-  resized cs n = Some (record { locks = store.locks_of old slot; chunks = cs; size = n })
+  resized cs n = Some (record { locks = store.locks_of old.blocks slot; heap = record { chunks = cs; size = n } })
 
-  same-block : resized (block.chunks written) (length written) ≡ resized row_chunks (max (store.size_of old slot) (chunks.need row_chunks))
+  same-block : resized (block.chunks written) (length written) ≡ resized row_chunks (max (store.size_of old.blocks slot) (chunks.need row_chunks))
   same-block = λ j. resized (spelled j) (size j)
 
   -- memory is as the row says
   written-memory : memory_of written-store ≡ (table.store ref i ws willing (memory_of old)).after
   written-memory =
-      memory_of-set old written-store ref.handle (Some (record { locks = store.locks_of old slot; bytes = written })) (handle_of-there old ref.handle k there) blocks-set refl
-      ∙ ap (model.with_block (memory_of old) ref.handle) (rw (there-view old ref.handle k there) same-block)
+      memory_of-set old written-store ref.name (Some (record { locks = store.locks_of old.blocks slot; bytes = written })) (owner-there old ref.name k there) (handle_of-there old ref.name k there) blocks-set refl
+      ∙ ap (model.with_block (memory_of old) ref.name) (rw (there-view old ref.name k there) same-block)
 
   pub written-calls : Calls (table.store ref i ws) (Ok tt) old written-store
   written-calls = record { answers = (willing, ap (λ m. (Ok tt, m)) (sym written-memory)); spans = λ choice. written-spans }
 
 -- a write that covers bytes of a span is a write to the chunk for which it stands
-module _ (old new : store.Store) (k : IsKernel old) (span : Span) (ref : table.Reference) (stands : Stands old span ref) (i at : ℕ) (ws : List ℕ) (fits : i + length ws ≤ ref.len) (some : 0 < length ws) (e : at ≡ span.at + i)
-    (covered : WritesCovered old new at ws) where
-  abbrev there : store.IsThere old (slot_at ref.handle)
+module _ (old : KernelState) (new : store.Store) (k : IsKernel old) (span : Span) (ref : Reference) (stands : Stands old span ref) (i at : ℕ) (ws : List ℕ) (fits : i + length ws ≤ ref.len) (some : 0 < length ws) (e : at ≡ span.at + i)
+    (covered : WritesCovered old.blocks new at ws) where
+  abbrev there : store.IsThere old.blocks (slot_of ref.name)
   there = stands-there old span ref stands k
 
   abbrev place : Lies old span ref
   place = lies old span ref stands (omega (arith, fits, some))
 
-  stored : new ≡ written-store old k ref there place.chunk i ws fits
+  stored : new ≡ (written-store old k ref there place.chunk i ws fits).blocks
   stored =
-      let slot = slot_at ref.handle in
-      let before = store.bytes_of old slot in
-      let index : at - store.place_of old slot ≡ place.chunk.place.at + (ref.start + i) = omega (arith, e, place.at) in
-      covered slot some (omega (arith, e, place.at), omega (arith, e, fits, place.at, place.within)) ∙ ap (λ j. with_bytes old slot (with_part before j ws)) index
+      let slot = slot_of ref.name in
+      let before = store.bytes_of old.blocks slot in
+      let index : at - store.place_of old.blocks slot ≡ place.chunk.place.at + (ref.start + i) = omega (arith, e, place.at) in
+      covered slot some (omega (arith, e, place.at), omega (arith, e, fits, place.at, place.within)) ∙ ap (λ j. with_bytes old.blocks slot (with_part before j ws)) index
 
-  pub stored-kernel : IsKernel new
-  stored-kernel = subst IsKernel (sym stored) (written-kernel old k ref there place.chunk i ws fits)
+  pub stored-kernel : IsKernel (with_store new)
+  stored-kernel = subst (λ s. IsKernel (with_store s)) (sym stored) (written-kernel old k ref there place.chunk i ws fits)
 
-  pub stored-calls : Calls (table.store ref i ws) (Ok tt) old new
-  stored-calls = subst (λ t. Calls (table.store ref i ws) (Ok tt) old t) (sym stored) (written-calls old k ref there place.chunk i ws fits)
+  pub stored-calls : Calls (table.store ref i ws) (Ok tt) old (with_store new)
+  stored-calls = subst (λ t. Calls (table.store ref i ws) (Ok tt) old (with_store t)) (sym stored) (written-calls old k ref there place.chunk i ws fits)

@@ -1,65 +1,88 @@
--- The calls that change the chunks of a block: memory after them, and the spans that stay.
+-- A block that has other chunks: memory after the change, the spans that stay, and that the blocks still are a kernel's.
 use Rattle.std.proofs.Common.{◌≡◌, ◌≢◌, ℕ, ◌+◌, ◌<◌, ◌≤◌, List, length, length-set, Option, Some, None, sym, ap, ◌∙◌, arith, subst, inl, inr}
 use Rattle.std.specs.Prelude.{max}
 use Rattle.std.proofs.lemmas.Bool.{cases_eq}
-use Rattle.block_handles.specs.Store.{Store, block_at, IsBlock, IsThere, bytes_in, locks_in, bytes_of, size_of, locks_of}
+use Rattle.geos_model.specs.declared.name.Name.{Name}
+use Rattle.geos_model.specs.declared.name.Owner.TheVariants.{Vm}
+use Rattle.geos_model.specs.Names.{named}
 use Rattle.geos_model.specs.Block as block
 use Rattle.geos_model.specs.Chunks.{need}
 use Rattle.geos_model.specs.Heap.{IsHeap}
 use Rattle.geos_model.specs.Memory as model
-use Rattle.geos_model.specs.Calls as table
-use Rattle.geos_calls.specs.View.{slot_at, memory_of}
+use Rattle.geos_model.specs.Effects.{InBlock}
+use Rattle.geos_model.proofs.Fits.{need-fits}
+use Rattle.block_handles.specs.Names.{slot_of}
+use Rattle.block_handles.specs.Store.{Store, block_at, IsBlock, IsThere, bytes_in, locks_in, bytes_of, locks_of}
+use Rattle.block_handles.proofs.Laws.{same-name}
+use Rattle.geos_calls.specs.View.{KernelState, memory_of, size_at}
 use Rattle.geos_calls.specs.Spans.{SpansStay}
 use Rattle.geos_calls.specs.Kernel.{IsKernel}
-use Rattle.geos_calls.specs.Heaps.{Regrows}
-use Rattle.geos_calls.proofs.Locks.{there-view, there_of_locks, other-slot}
+use Rattle.geos_calls.specs.Heaps.{Rechunks, Edits, Regrows}
+use Rattle.geos_calls.proofs.Locks.{with_store}
 use Rattle.geos_calls.proofs.Regrown.{rechunked-other, rechunked-heap, rechunked-handle}
 use Rattle.geos_calls.proofs.Stays.{stands-on}
-use Rattle.geos_calls.proofs.Views.{memory_of-set, handle_of-there}
+use Rattle.geos_calls.proofs.Views.{memory_of-set, there_of_locks, spelled, there-view, handle_of-there, owner-there, other-slot}
 
-module _ (old new : Store) (h : ℕ) (k : IsKernel old) (there : IsThere old (slot_at h)) (cs : List (Option (List ℕ))) (r : Regrows old new (slot_at h) cs) where
+-- chunks that a block has got without growing need no more than it has
+kept-max : (old new : Store) (name : Name) (cs : List (Option (List ℕ))) → Edits old new name cs → size_at old name ≡ max (size_at old name) (need cs)
+kept-max old new name cs r =
+    let fits : need cs ≤ length r.bytes = subst (λ c. need c ≤ length r.bytes) r.spells (need-fits r.bytes r.heap) in
+    larger (size_at old name) (need cs) (omega (arith, fits, r.long))
+  where
+    larger : (n m : ℕ) → m ≤ n → n ≡ max n m
+    larger n m le = omega (arith, le)
+
+-- to change chunks in place is to let the block grow by nothing
+pub kept-size : (old new : Store) (name : Name) (cs : List (Option (List ℕ))) → Edits old new name cs → Regrows old new name cs
+kept-size old new name cs r = subst (Rechunks old new (slot_of name) cs) (kept-max old new name cs r) r
+
+module _ (old : KernelState) (new : Store) (name : Name) (k : IsKernel old) (there : IsThere old.blocks (slot_of name)) (cs : List (Option (List ℕ))) (r : Regrows old.blocks new name cs) where
   abbrev slot : ℕ
-  slot = slot_at h
+  slot = slot_of name
+
+  abbrev size : ℕ
+  size = max (size_at old.blocks name) (need cs)
 
   -- chunks that a block has got fit into the largest one
   pub regrown-small : need cs ≤ 65520
   regrown-small = omega (arith, r.long, r.heap.0.most)
 
-  pub regrown-memory : memory_of new ≡ table.rechunked (memory_of old) h cs
+  pub regrown-memory : memory_of (with_store new) ≡ model.with_chunks (memory_of old) name cs
   regrown-memory =
-      let own : model.Block = record { locks = locks_of old slot; chunks = cs; size = max (size_of old slot) (need cs) } in
-      let got : Some (record { locks = locks_of old slot; chunks = block.chunks r.bytes; size = length r.bytes }) ≡ Some own = λ i. Some (record { locks = locks_of old slot; chunks = r.spells i; size = r.long i }) in
-      memory_of-set old new h (Some (record { locks = locks_of old slot; bytes = r.bytes })) (handle_of-there old h k there) r.blocks r.len
-      ∙ ap (model.with_block (memory_of old) h) (got ∙ sym (ap (model.with_chunks cs) (there-view old h k there)))
+      let own : model.Block = record { locks = locks_of old.blocks slot; heap = record { chunks = cs; size = size } } in
+      let got : Some (spelled (locks_of old.blocks slot) r.bytes) ≡ Some own = λ i. Some (record { locks = locks_of old.blocks slot; heap = record { chunks = r.spells i; size = r.long i } }) in
+      memory_of-set old (with_store new) name (Some (record { locks = locks_of old.blocks slot; bytes = r.bytes })) (owner-there old name k there) (handle_of-there old name k there) r.blocks r.len
+      ∙ ap (model.with_block (memory_of old) name) (rw (there-view old name k there) got)
+
+  same : (j : ℕ) → j ≢ slot → block_at new j ≡ block_at old.blocks j
+  same = rechunked-other old.blocks new slot there cs size r
 
   -- a span in another block stays
-  pub regrown-spans : SpansStay old new (table.InBlock h)
+  pub regrown-spans : SpansStay old (with_store new) (InBlock name)
   regrown-spans span ref s fresh =
-      let standing : IsThere old (slot_at ref.handle) = there_of_locks old ref.handle k (block_at old (slot_at ref.handle)) s.locked in
-      let apart : slot_at ref.handle ≢ slot = other-slot old h k ref there standing fresh in
-      let same = rechunked-other old new slot there cs (max (size_of old slot) (need cs)) r (slot_at ref.handle) apart in
-      stands-on old new span ref (ap bytes_in same) (subst (λ o. 0 < locks_in o) (sym same) s.locked) (r.stay (slot_at ref.handle) apart s.locked) s
+      let standing : IsThere old.blocks (slot_of ref.name) = there_of_locks (block_at old.blocks (slot_of ref.name)) s.locked in
+      let apart : slot_of ref.name ≢ slot = other-slot old ref.name name k standing there fresh in
+      let is = same (slot_of ref.name) apart in
+      stands-on old (with_store new) span ref (ap bytes_in is) (subst (λ o. 0 < locks_in o) (sym is) s.locked) (r.stay (slot_of ref.name) apart s.locked) s
 
-  pub regrown-kernel : IsKernel new
-  regrown-kernel = record { heaps = heap; handles = handle; mem = none; slots = ap length r.blocks ∙ length-set old.blocks slot _ ∙ k.slots; small = rw r.len k.small }
+  pub regrown-kernel : IsKernel (with_store new)
+  regrown-kernel = record { heaps = heap; handles = handle; no_vm = none; slots = ap length r.blocks ∙ length-set old.blocks.blocks slot _ ∙ k.slots; small = rw r.len k.small }
     where
-      same : (j : ℕ) → j ≢ slot_at h → block_at new j ≡ block_at old j
-      same = rechunked-other old new (slot_at h) there cs (max (size_of old (slot_at h)) (need cs)) r
+      was : (other : Name) → IsThere new (slot_of other) → IsThere old.blocks (slot_of other)
+      was other t = elim (cases_eq (slot_of other) (slot_of name)) [ inl e ↦ subst (IsThere old.blocks) (sym e) there | inr ne ↦ subst IsBlock (same (slot_of other) ne) t ]
 
-      heap : (j : ℕ) → IsThere new j → IsHeap (bytes_of new j)
-      heap j standing = elim (cases_eq j (slot_at h)) [
-        | inl own ↦ subst (λ i. IsHeap (bytes_of new i)) (sym own) (rechunked-heap old new (slot_at h) there cs (max (size_of old (slot_at h)) (need cs)) r)
-        | inr ne ↦ subst IsHeap (sym (ap bytes_in (same j ne))) (k.heaps j (subst IsBlock (same j ne) standing))
+      heap : (other : Name) → IsThere new (slot_of other) → IsHeap (bytes_of new (slot_of other))
+      heap other t = elim (cases_eq (slot_of other) (slot_of name)) [
+        | inl own ↦ subst (λ i. IsHeap (bytes_of new i)) (sym own) (rechunked-heap old.blocks new slot there cs size r)
+        | inr ne ↦ subst IsHeap (sym (ap bytes_in (same (slot_of other) ne))) (k.heaps other (was other t))
       ]
 
-      handle : (j : ℕ) → IsThere new j → block.handle_word (bytes_of new j) ≡ j + 1
-      handle j standing = elim (cases_eq j (slot_at h)) [
-        | inl own ↦ subst (λ i. block.handle_word (bytes_of new i) ≡ i + 1) (sym own) (rechunked-handle old new (slot_at h) there cs (max (size_of old (slot_at h)) (need cs)) r ∙ k.handles (slot_at h) there)
-        | inr ne ↦ ap (λ o. block.handle_word (bytes_in o)) (same j ne) ∙ k.handles j (subst IsBlock (same j ne) standing)
+      handle : (other : Name) → IsThere new (slot_of other) → block.handle_word (bytes_of new (slot_of other)) ≡ other.h
+      handle other t = elim (cases_eq (slot_of other) (slot_of name)) [
+        | inl own ↦ subst (λ i. block.handle_word (bytes_of new i) ≡ other.h) (sym own)
+            (rechunked-handle old.blocks new slot there cs size r ∙ subst (λ i. block.handle_word (bytes_of old.blocks i) ≡ other.h) own (k.handles other (was other t)))
+        | inr ne ↦ ap (λ o. block.handle_word (bytes_in o)) (same (slot_of other) ne) ∙ k.handles other (was other t)
       ]
 
-      none : (j : ℕ) → 1024 ≤ j → block_at new j ≡ None
-      none j le = elim (cases_eq j (slot_at h)) [
-        | inl own ↦ absurd (subst IsBlock (k.mem (slot_at h) (subst (λ i. 1024 ≤ i) own le)) there)
-        | inr ne ↦ same j ne ∙ k.mem j le
-      ]
+      none : (h : ℕ) → IsThere new (slot_of (named Vm h)) → ⊥
+      none h t = k.no_vm h (was (named Vm h) t)

@@ -8,28 +8,30 @@ use Rattle.geos_model.specs.declared.name.Owner.TheVariants.{Mem}
 use Rattle.block_handles.specs.Store as store
 use Rattle.block_handles.specs.Used.{IsLowest, AllInUse}
 use Rattle.geos_model.specs.Memory as model
-use Rattle.geos_calls.specs.View.{slot_at, block_in, memory_of}
+use Rattle.block_handles.specs.Names.{slot_of}
+use Rattle.geos_model.specs.Names.{mem}
+use Rattle.geos_calls.specs.View.{KernelState, block_in, memory_of}
 use Rattle.geos_calls.specs.Kernel.{IsKernel}
-use Rattle.geos_calls.proofs.Views.{slot_at-handle, get_or-view, view-there, view-absent}
+use Rattle.geos_calls.proofs.Views.{slot_of-mem, get_or-view, view-there, view-absent}
 
-module _ (s : store.Store) (k : IsKernel s) where
+module _ (s : KernelState) (k : IsKernel s) where
   abbrev blocks : List (Option model.Block)
-  blocks = map block_in (take 1024 s.blocks)
+  blocks = map block_in (take 1024 s.blocks.blocks)
 
   count : length blocks ≡ 1024
-  count = omega (arith, length-map (take 1024 s.blocks) block_in, length-take 1024 s.blocks, k.slots)
+  count = omega (arith, length-map (take 1024 s.blocks.blocks) block_in, length-take 1024 s.blocks.blocks, k.slots)
 
-  used : (i : ℕ) → i < 1024 → store.IsThere s (slot_at (suc i)) → is_none (get_or blocks i None) ≡ false
+  used : (i : ℕ) → i < 1024 → store.IsThere s.blocks (slot_of (mem (suc i))) → is_none (get_or blocks i None) ≡ false
   used i lt there =
-      let slot : slot_at (suc i) ≡ i = slot_at-handle (suc i) (omega arith, omega arith) ∙ omega arith in
-      ap is_none (get_or-view s.blocks i lt ∙ view-there (store.block_at s i) (subst (store.IsThere s) slot there))
+      let slot : slot_of (mem (suc i)) ≡ i = slot_of-mem (suc i) (omega arith, omega arith) ∙ omega arith in
+      ap is_none (get_or-view s.blocks.blocks i lt ∙ view-there (store.block_at s.blocks i) (subst (store.IsThere s.blocks) slot there))
 
-  unused : (i : ℕ) → i < 1024 → (store.IsThere s (slot_at (suc i)) → ⊥) → is_none (get_or blocks i None) ≡ true
+  unused : (i : ℕ) → i < 1024 → (store.IsThere s.blocks (slot_of (mem (suc i))) → ⊥) → is_none (get_or blocks i None) ≡ true
   unused i lt absent =
-      let slot : slot_at (suc i) ≡ i = slot_at-handle (suc i) (omega arith, omega arith) ∙ omega arith in
-      ap is_none (get_or-view s.blocks i lt ∙ view-absent (store.block_at s i) (λ there. absent (subst (store.IsThere s) (sym slot) there)))
+      let slot : slot_of (mem (suc i)) ≡ i = slot_of-mem (suc i) (omega arith, omega arith) ∙ omega arith in
+      ap is_none (get_or-view s.blocks.blocks i lt ∙ view-absent (store.block_at s.blocks i) (λ there. absent (subst (store.IsThere s.blocks) (sym slot) there)))
 
-  pub lowest-some : (h : ℕ) → IsLowest s Mem h → model.lowest_handle (memory_of s) ≡ Some h
+  pub lowest-some : (h : ℕ) → IsLowest s.blocks Mem h → model.lowest_handle (memory_of s) Mem ≡ Some h
   lowest-some zero l = absurd (omega (arith, l.handle.0))
   lowest-some (suc i) l =
       let lt : i < 1024 = omega (arith, l.handle.1) in
@@ -38,7 +40,7 @@ module _ (s : store.Store) (k : IsKernel s) where
       let inside : nat_lt i (length blocks) ≡ true = rw count (grind (arith, lt)) in
       rw (first, inside) refl
 
-  pub lowest-none : AllInUse s Mem → model.lowest_handle (memory_of s) ≡ None
+  pub lowest-none : AllInUse s.blocks Mem → model.lowest_handle (memory_of s) Mem ≡ None
   lowest-none all =
       let last : position_or_len is_none blocks ≡ 1024 =
       position_or_len_is is_none blocks 1024 None (omega (arith, count)) (λ j below. used j below (all (suc j) (omega arith, omega arith))) (λ inside. absurd (omega (arith, inside, count))) in

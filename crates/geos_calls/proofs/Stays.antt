@@ -1,17 +1,22 @@
 -- Spans that stay, and blocks that still are a kernel's.
-use Rattle.std.proofs.Common.{◌≡◌, ℕ, ◌+◌, ◌<◌, ◌≤◌, ◌∙◌, Option, Some, None, refl, subst, ◌⊎◌, inl, inr}
-use Rattle.block_handles.specs.Store.{Block, Store, slot_count, block_at, IsBlock, IsThere, bytes_of, locks_of, place_of}
+use Rattle.std.proofs.Common.{◌≡◌, ℕ, ◌+◌, ◌<◌, ◌≤◌, ◌∙◌, Option, Some, None, refl, subst, sym, ap, ◌⊎◌, inl, inr}
+use Rattle.std.specs.Prelude.{IfSome}
+use Rattle.geos_model.specs.declared.name.Name.{Name}
+use Rattle.geos_model.specs.declared.name.Owner.TheVariants.{Vm}
+use Rattle.geos_model.specs.Names.{named}
 use Rattle.geos_model.specs.Block as block
-use Rattle.geos_model.specs.Calls.{Reference}
+use Rattle.geos_model.specs.Effects.{Reference, Staleness}
 use Rattle.geos_model.specs.Heap.{IsHeap}
+use Rattle.block_handles.specs.Names.{slot_of}
+use Rattle.block_handles.specs.Store.{Block, slot_count, block_at, IsBlock, IsThere, bytes_of, locks_of, place_of}
 use Rattle.geos_calls.specs.declared.span.Span.{Span}
-use Rattle.geos_calls.specs.View.{slot_at}
-use Rattle.geos_calls.specs.Spans.{Stands}
+use Rattle.geos_calls.specs.View.{KernelState}
+use Rattle.geos_calls.specs.Spans.{Stands, SpansStay}
 use Rattle.geos_calls.specs.Kernel.{IsKernel}
 
 -- a span stands on where its block keeps its bytes and its place, and stays locked
-pub stands-on : (old new : Store) (span : Span) (ref : Reference) → bytes_of new (slot_at ref.handle) ≡ bytes_of old (slot_at ref.handle) → 0 < locks_of new (slot_at ref.handle)
-    → place_of new (slot_at ref.handle) ≡ place_of old (slot_at ref.handle) → Stands old span ref → Stands new span ref
+pub stands-on : (old new : KernelState) (span : Span) (ref : Reference) → bytes_of new.blocks (slot_of ref.name) ≡ bytes_of old.blocks (slot_of ref.name) → 0 < locks_of new.blocks (slot_of ref.name)
+    → place_of new.blocks (slot_of ref.name) ≡ place_of old.blocks (slot_of ref.name) → Stands old span ref → Stands new span ref
 stands-on old new span ref bytes locked place s = record {
   bytes = s.bytes;
   locked = locked;
@@ -21,26 +26,32 @@ stands-on old new span ref bytes locked place s = record {
   place = λ some. rw (bytes, place) (s.place some);
 }
 
-no_block : (o : Option Block) → (IsBlock o → ⊥) → o ≡ None
-no_block None absent = refl
-no_block (Some b) absent = absurd (absent tt)
+-- where nothing has changed, all spans stay
+pub spans-same : (old new : KernelState) (stale : Staleness) → new ≡ old → SpansStay old new stale
+spans-same old new stale e span ref s fresh = subst (λ t. Stands t span ref) (sym e) s
 
 -- a slot has no block, or the bytes that it had
-abbrev pub Same : Store → Store → ℕ → Type 0
-Same old new slot = (block_at new slot ≡ None) ⊎ ((bytes_of new slot ≡ bytes_of old slot) × (IsThere new slot → IsThere old slot))
+abbrev pub Same : KernelState → KernelState → ℕ → Type 0
+Same old new slot = (block_at new.blocks slot ≡ None) ⊎ ((bytes_of new.blocks slot ≡ bytes_of old.blocks slot) × (IsThere new.blocks slot → IsThere old.blocks slot))
 
 -- blocks still are a kernel's where each slot has the bytes that it had, or none
-pub kernel-on : (old new : Store) → slot_count new ≡ slot_count old → new.len ≡ old.len → ((slot : ℕ) → Same old new slot) → IsKernel old → IsKernel new
-kernel-on old new count len same k = record { slots = count ∙ k.slots; small = rw len k.small; heaps = λ slot there. heap slot there (same slot); handles = λ slot there. handle slot there (same slot); mem = λ slot le. no_block (block_at new slot) (λ there. gone slot le there (same slot)) }
+pub kernel-on : (old new : KernelState) → slot_count new.blocks ≡ slot_count old.blocks → new.blocks.len ≡ old.blocks.len → ((slot : ℕ) → Same old new slot) → IsKernel old → IsKernel new
+kernel-on old new count len same k = record {
+  slots = count ∙ k.slots;
+  small = rw len k.small;
+  heaps = λ name there. heap name there (same (slot_of name));
+  handles = λ name there. handle name there (same (slot_of name));
+  no_vm = λ h there. k.no_vm h (was (slot_of (named Vm h)) there (same (slot_of (named Vm h))));
+}
   where
-    heap : (slot : ℕ) → IsThere new slot → Same old new slot → IsHeap (bytes_of new slot)
-    heap slot there (inl none) = absurd (subst IsBlock none there)
-    heap slot there (inr (bytes, back)) = rw bytes (k.heaps slot (back there))
+    was : (slot : ℕ) → IsThere new.blocks slot → Same old new slot → IsThere old.blocks slot
+    was slot there (inl none) = absurd (subst IsBlock none there)
+    was slot there (inr (bytes, back)) = back there
 
-    handle : (slot : ℕ) → (there : IsThere new slot) → Same old new slot → block.handle_word (bytes_of new slot) ≡ slot + 1
-    handle slot there (inl none) = absurd (subst IsBlock none there)
-    handle slot there (inr (bytes, back)) = rw bytes (k.handles slot (back there))
+    heap : (name : Name) → IsThere new.blocks (slot_of name) → Same old new (slot_of name) → IsHeap (bytes_of new.blocks (slot_of name))
+    heap name there (inl none) = absurd (subst IsBlock none there)
+    heap name there (inr (bytes, back)) = rw bytes (k.heaps name (back there))
 
-    gone : (slot : ℕ) → 1024 ≤ slot → IsThere new slot → Same old new slot → ⊥
-    gone slot le there (inl none) = subst IsBlock none there
-    gone slot le there (inr (bytes, back)) = subst IsBlock (k.mem slot le) (back there)
+    handle : (name : Name) → (there : IsThere new.blocks (slot_of name)) → Same old new (slot_of name) → block.handle_word (bytes_of new.blocks (slot_of name)) ≡ name.h
+    handle name there (inl none) = absurd (subst IsBlock none there)
+    handle name there (inr (bytes, back)) = rw bytes (k.handles name (back there))

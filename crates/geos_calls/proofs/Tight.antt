@@ -1,5 +1,5 @@
 -- Where no stretch of the region has room, the sizes of the blocks say so.
-use Rattle.std.proofs.Common.{◌≡◌, ◌≢◌, ℕ, zero, suc, ◌+◌, ◌-◌, ◌*◌, ◌<◌, ◌≤◌, List, [], ◌∷◌, ◌++◌, length, length-take, length-set, map, take, get_or, Option, Some, None, Bool, true, false, refl, sym, ap, ◌∙◌, arith, inl, inr}
+use Rattle.std.proofs.Common.{◌≡◌, ◌≢◌, ℕ, zero, suc, ◌+◌, ◌-◌, ◌*◌, ◌<◌, ◌≤◌, List, [], ◌∷◌, ◌++◌, length, length-take, length-set, map, take, set, get_or, Option, Some, None, Bool, true, false, refl, sym, ap, ◌∙◌, arith, inl, inr}
 use Rattle.std.specs.Prelude.{sum_by, count_by, nat_lt, nat_eq, cond, if◌then◌else◌}
 use Rattle.std.proofs.lemmas.Bool.{cases_eq}
 use Rattle.std.proofs.lemmas.Bool.Decides.{nat_tests}
@@ -8,10 +8,16 @@ use Rattle.std.proofs.lemmas.List.Sums.{sum_by_push}
 use Rattle.block_handles.specs.Names.{IsHandle}
 use Rattle.block_handles.specs.Store as store
 use Rattle.block_handles.specs.Stretch.{total, other_size, locked_one, other_locked, other_sizes, IsCrowded}
+use Rattle.block_handles.specs.Names.{slot_of}
+use Rattle.geos_model.specs.declared.name.Name.{Name}
+use Rattle.geos_model.specs.declared.name.Owner.{Owner}
+use Rattle.geos_model.specs.declared.name.Owner.TheVariants.{Mem, Vm}
+use Rattle.geos_model.specs.Names.{named, mem}
 use Rattle.geos_model.specs.Memory as model
-use Rattle.geos_calls.specs.View.{slot_at, block_in, memory_of}
+use Rattle.geos_model.specs.Tight as tight
+use Rattle.geos_calls.specs.View.{KernelState, block_in, memory_of}
 use Rattle.geos_calls.specs.Kernel.{IsKernel}
-use Rattle.geos_calls.proofs.Views.{slot_at-handle, get_or-view}
+use Rattle.geos_calls.proofs.Views.{slot_of-mem, high-absent, get_or-view}
 
 -- a sum over numbers that stands for one over a list
 total_sum : {A : Type 0} (g : A → ℕ) (xs : List A) (d : A) (f : ℕ → ℕ) (n : ℕ) → n ≤ length xs → ((i : ℕ) → i < n → f i ≡ g (get_or xs i d)) → total n f ≡ sum_by g (take n xs)
@@ -41,29 +47,37 @@ flag : (n : ℕ) → cond {A = ℕ} (nat_eq n 0) 0 1 ≡ cond (nat_lt 0 n) 1 0
 flag zero = refl
 flag (suc n) = grind (arith, nat_tests)
 
-module _ (s : store.Store) (h : ℕ) (k : IsKernel s) (q : IsHandle h) where
+-- what is written under a handle is written one place before
+entries-set : (xs : List (Option model.Block)) (h : ℕ) → 1 ≤ h → model.with_entry_at xs h None ≡ set xs (h - 1) None
+entries-set xs zero some = absurd (omega (arith, some))
+entries-set xs (suc h) some = let last : h ≡ suc h - 1 = omega arith in ap (λ i. set xs i None) last
+
+module _ (s : KernelState) (h : ℕ) (k : IsKernel s) (q : IsHandle h) where
   abbrev others : List (Option model.Block)
-  others = model.others (memory_of s) h
+  others = set (map block_in (take 1024 s.blocks.blocks)) (h - 1) None
+
+  others-set : tight.others (memory_of s) (mem h) ≡ others
+  others-set = entries-set (map block_in (take 1024 s.blocks.blocks)) h q.0
 
   abbrev slot : ℕ
-  slot = slot_at h
+  slot = slot_of (mem h)
 
   count : length others ≡ 1024
-  count = omega (arith, length-set (map block_in (take 1024 s.blocks)) (h - 1) None, length-map (take 1024 s.blocks) block_in, length-take 1024 s.blocks, k.slots)
+  count = omega (arith, length-set (map block_in (take 1024 s.blocks.blocks)) (h - 1) None, length-map (take 1024 s.blocks.blocks) block_in, length-take 1024 s.blocks.blocks, k.slots)
 
   own : get_or others slot None ≡ None
   own =
-      let e = slot_at-handle h q in
-      ap (λ i. get_or others i None) e ∙ get_or-set_same (map block_in (take 1024 s.blocks)) (h - 1) None None (omega (arith, q.0, q.1, length-map (take 1024 s.blocks) block_in, length-take 1024 s.blocks, k.slots))
+      let e = slot_of-mem h q in
+      ap (λ i. get_or others i None) e ∙ get_or-set_same (map block_in (take 1024 s.blocks.blocks)) (h - 1) None None (omega (arith, q.0, q.1, length-map (take 1024 s.blocks.blocks) block_in, length-take 1024 s.blocks.blocks, k.slots))
 
-  other : (i : ℕ) → i < 1024 → i ≢ slot → get_or others i None ≡ block_in (store.block_at s i)
+  other : (i : ℕ) → i < 1024 → i ≢ slot → get_or others i None ≡ block_in (store.block_at s.blocks i)
   other i lt ne =
-      let apart : i ≢ h - 1 = λ e. ne (e ∙ sym (slot_at-handle h q)) in
-      get_or-set_other (map block_in (take 1024 s.blocks)) (h - 1) i None None apart ∙ get_or-view s.blocks i lt
+      let apart : i ≢ h - 1 = λ e. ne (e ∙ sym (slot_of-mem h q)) in
+      get_or-set_other (map block_in (take 1024 s.blocks.blocks)) (h - 1) i None None apart ∙ get_or-view s.blocks.blocks i lt
 
   -- f counts what g does of the others, and nothing past the last handle
   total_others : (f : ℕ → ℕ) (g : Option model.Block → ℕ) → ((i : ℕ) → i < 1024 → f i ≡ g (get_or others i None)) → ((i : ℕ) → 1024 ≤ i → f i ≡ 0)
-      → total (store.slot_count s) f ≡ sum_by g others
+      → total (store.slot_count s.blocks) f ≡ sum_by g others
   total_others f g same none =
       ap (λ n. total n f) k.slots ∙ total_zero f 1024 2048 (omega arith) none ∙ total_sum g others None f 1024 (omega (arith, count)) same
       ∙ ap (sum_by g) (take_all 1024 others (omega (arith, count)))
@@ -76,38 +90,46 @@ module _ (s : store.Store) (h : ℕ) (k : IsKernel s) (q : IsHandle h) where
   locks_view None = refl
   locks_view (Some b) = refl
 
-  size_at : (i : ℕ) → i < 1024 → other_size s slot i ≡ model.size_in (get_or others i None)
+  size_at : (i : ℕ) → i < 1024 → other_size s.blocks slot i ≡ model.size_in (get_or others i None)
   size_at i lt = elim (cases_eq i slot) [
     | inl same ↦ (let yes_is : nat_eq i slot ≡ true = grind (arith, nat_tests, same) in rw yes_is (sym (ap model.size_in (ap (λ j. get_or others j None) same ∙ own))))
-    | inr ne ↦ (let no_is : nat_eq i slot ≡ false = grind (arith, nat_tests, ne) in rw no_is (size_view (store.block_at s i) ∙ sym (ap model.size_in (other i lt ne))))
+    | inr ne ↦ (let no_is : nat_eq i slot ≡ false = grind (arith, nat_tests, ne) in rw no_is (size_view (store.block_at s.blocks i) ∙ sym (ap model.size_in (other i lt ne))))
   ]
 
-  no_size : (i : ℕ) → 1024 ≤ i → other_size s slot i ≡ 0
-  no_size i le = either (nat_eq i slot) (store.size_of s i) (ap (λ o. length (store.bytes_in o)) (k.mem i le))
+  no_size : (i : ℕ) → 1024 ≤ i → other_size s.blocks slot i ≡ 0
+  no_size i le = either (nat_eq i slot) (store.size_of s.blocks i) (ap (λ o. length (store.bytes_in o)) (high-absent s k i le))
 
-  pub sizes_same : other_sizes s slot ≡ sum_by model.size_in others
-  sizes_same = total_others (other_size s slot) model.size_in size_at no_size
+  pub sizes_same : other_sizes s.blocks slot ≡ sum_by model.size_in others
+  sizes_same = total_others (other_size s.blocks slot) model.size_in size_at no_size
 
   abbrev one_if_locked : Option model.Block → ℕ
   one_if_locked b = cond (nat_lt 0 (model.locks_in b)) 1 0
 
-  locked_at : (i : ℕ) → i < 1024 → locked_one s slot i ≡ one_if_locked (get_or others i None)
+  locked_at : (i : ℕ) → i < 1024 → locked_one s.blocks slot i ≡ one_if_locked (get_or others i None)
   locked_at i lt = elim (cases_eq i slot) [
     | inl same ↦ (let yes_is : nat_eq i slot ≡ true = grind (arith, nat_tests, same) in rw yes_is (sym (ap one_if_locked (ap (λ j. get_or others j None) same ∙ own))))
     | inr ne ↦ (let no_is : nat_eq i slot ≡ false = grind (arith, nat_tests, ne) in
-        rw no_is (flag (store.locks_of s i) ∙ ap (λ n. cond (nat_lt 0 n) 1 0) (locks_view (store.block_at s i)) ∙ sym (ap one_if_locked (other i lt ne))))
+        rw no_is (flag (store.locks_of s.blocks i) ∙ ap (λ n. cond (nat_lt 0 n) 1 0) (locks_view (store.block_at s.blocks i)) ∙ sym (ap one_if_locked (other i lt ne))))
   ]
 
-  no_lock : (i : ℕ) → 1024 ≤ i → locked_one s slot i ≡ 0
+  no_lock : (i : ℕ) → 1024 ≤ i → locked_one s.blocks slot i ≡ 0
   no_lock i le =
-      let unlocked : store.locks_of s i ≡ 0 = ap store.locks_in (k.mem i le) in
-      let none : (if nat_eq (store.locks_of s i) 0 then 0 else 1) ≡ 0 = rw unlocked refl in
-      either (nat_eq i slot) (if nat_eq (store.locks_of s i) 0 then 0 else 1) none
+      let unlocked : store.locks_of s.blocks i ≡ 0 = ap store.locks_in (high-absent s k i le) in
+      let none : (if nat_eq (store.locks_of s.blocks i) 0 then 0 else 1) ≡ 0 = rw unlocked refl in
+      either (nat_eq i slot) (if nat_eq (store.locks_of s.blocks i) 0 then 0 else 1) none
 
-  pub locked_same : other_locked s slot ≡ count_by (λ b. nat_lt 0 (model.locks_in b)) others
-  locked_same = total_others (locked_one s slot) one_if_locked locked_at no_lock
+  pub locked_same : other_locked s.blocks slot ≡ count_by tight.is_locked others
+  locked_same = total_others (locked_one s.blocks slot) one_if_locked locked_at no_lock
 
-  pub is_tight-crowded : (size : ℕ) → IsCrowded s slot size → model.is_tight (memory_of s) h size ≡ true
+  pub is_tight-crowded : (size : ℕ) → IsCrowded s.blocks slot size → tight.is_tight (memory_of s) (mem h) size ≡ true
   is_tight-crowded size crowded =
-      let more : s.len < (count_by (λ b. nat_lt 0 (model.locks_in b)) others + 1) * size + sum_by model.size_in others = rw (sym locked_same, sym sizes_same) crowded in
-      grind (arith, more)
+      let more : s.blocks.len < (count_by tight.is_locked others + 1) * size + sum_by model.size_in others = rw (sym locked_same, sym sizes_same) crowded in
+      rw others-set (grind (arith, more))
+
+-- the same of a named block of global memory
+pub tight-named : (s : KernelState) (name : Name) → IsKernel s → name.owner ≡ Mem → IsHandle name.h → (size : ℕ) → IsCrowded s.blocks (slot_of name) size → tight.is_tight (memory_of s) name size ≡ true
+tight-named s name k mine q size crowded = at name.owner mine crowded
+  where
+    at : (owner : Owner) → owner ≡ Mem → IsCrowded s.blocks (slot_of (named owner name.h)) size → tight.is_tight (memory_of s) (named owner name.h) size ≡ true
+    at Mem e c = is_tight-crowded s name.h k q size c
+    at Vm e c = absurd cc

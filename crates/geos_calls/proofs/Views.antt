@@ -1,5 +1,5 @@
--- The memory that blocks spell, slot by slot.
-use Rattle.std.proofs.Common.{◌≡◌, ℕ, zero, suc, ◌-◌, ◌<◌, ◌≤◌, List, length, length-take, map, take, replicate, set, get_or, Option, Some, None, refl, sym, ap, ◌∙◌, arith, inl, inr, subst}
+-- The memory that blocks spell, name by name.
+use Rattle.std.proofs.Common.{◌≡◌, ◌≢◌, ℕ, zero, suc, ◌-◌, ◌<◌, ◌≤◌, List, length, length-take, map, take, replicate, set, get_or, Option, Some, None, refl, sym, ap, ◌∙◌, arith, inl, inr, subst}
 use Rattle.std.proofs.lemmas.List.{get_or-map, get_or-take, get_or_past, map-set, length-map, ext_get_or, length-replicate, get_or-replicate}
 use Rattle.std.proofs.Math.Seq.{take-set-lt}
 use Rattle.std.proofs.lemmas.Bool.{cases_lt}
@@ -7,22 +7,85 @@ use Rattle.std.proofs.lemmas.Bool.Decides.{nat_tests}
 use Rattle.geos_model.specs.declared.name.Name.{Name}
 use Rattle.geos_model.specs.declared.name.Owner.{Owner}
 use Rattle.geos_model.specs.declared.name.Owner.TheVariants.{Mem, Vm}
+use Rattle.geos_model.specs.Names.{named, mem}
+use Rattle.geos_model.specs.Block as block
+use Rattle.geos_model.specs.Memory as model
 use Rattle.block_handles.specs.Names.{IsHandle, slot_of}
 use Rattle.block_handles.specs.Layout.{IsEmpty}
 use Rattle.block_handles.specs.Store as store
-use Rattle.block_handles.proofs.Laws.{slot_of-handle}
-use Rattle.geos_model.specs.Block as block
-use Rattle.geos_model.specs.Memory as model
-use Rattle.geos_calls.specs.View.{slot_at, block_in, memory_of}
+use Rattle.block_handles.proofs.Laws.{slot_of-handle, same-name}
+use Rattle.geos_calls.specs.View.{KernelState, IsLocked, block_in, memory_of, chunks_at, size_at}
+use Rattle.geos_calls.specs.Heaps.{HoldsHeap}
 use Rattle.geos_calls.specs.Kernel.{IsKernel}
 
--- the slot of a handle is one less
-pub slot_at-handle : (h : ℕ) → IsHandle h → slot_at h ≡ h - 1
-slot_at-handle h q = omega (arith, slot_of-handle Mem h q)
+-- a slot with a block is one of the list
+pub inside : (s : store.Store) (slot : ℕ) → store.IsThere s slot → slot < length s.blocks
+inside s slot there = elim (cases_lt slot (length s.blocks)) [ inl lt ↦ lt | inr past ↦ absurd (subst store.IsBlock (get_or_past s.blocks slot None past) there) ]
 
--- what is no handle has no slot
-slot_at-past : (h : ℕ) → 1024 < h → slot_at h ≡ 2048
-slot_at-past h past = grind (arith, nat_tests)
+-- a block that is locked is there
+pub there_of_locks : (o : Option store.Block) → 0 < store.locks_in o → store.IsBlock o
+there_of_locks None some = absurd (omega (arith, some))
+there_of_locks (Some b) some = tt
+
+-- no block is at a name that has no slot
+pub slotless : (s : KernelState) (name : Name) → IsKernel s → slot_of name ≡ 2048 → store.IsThere s.blocks (slot_of name) → ⊥
+slotless s name k past there = omega (arith, inside s.blocks (slot_of name) there, k.slots, past)
+
+-- the slot of a handle of global memory is one less
+pub slot_of-mem : (h : ℕ) → IsHandle h → slot_of (mem h) ≡ h - 1
+slot_of-mem h q = omega (arith, slot_of-handle Mem h q)
+
+slot_of-zero : (owner : Owner) → slot_of (named owner 0) ≡ 2048
+slot_of-zero owner = refl
+
+slot_of-past : (owner : Owner) (h : ℕ) → 1024 < h → slot_of (named owner h) ≡ 2048
+slot_of-past owner h past = grind (arith, nat_tests)
+
+-- a name with a slot has a handle
+pub slot_handle : (name : Name) → slot_of name < 2048 → IsHandle name.h
+slot_handle name few = elim (cases_lt name.h 1) [
+  | inl below ↦ (let zero_is : name.h ≡ 0 = omega (arith, below) in absurd (omega (arith, few, ap (λ h. slot_of (named name.owner h)) zero_is)))
+  | inr low ↦ elim (cases_lt 1024 name.h) [
+    | inl past ↦ absurd (omega (arith, few, slot_of-past name.owner name.h past))
+    | inr high ↦ (low, high)
+  ]
+]
+
+-- a name with a block has a handle
+pub handle_of-there : (s : KernelState) (name : Name) → IsKernel s → store.IsThere s.blocks (slot_of name) → IsHandle name.h
+handle_of-there s name k there = slot_handle name (omega (arith, inside s.blocks (slot_of name) there, k.slots))
+
+-- two names with blocks have one slot only where they are one
+pub other-slot : (s : KernelState) (a b : Name) → IsKernel s → store.IsThere s.blocks (slot_of a) → store.IsThere s.blocks (slot_of b) → a ≢ b → slot_of a ≢ slot_of b
+other-slot s a b k there standing ne same = ne (same-name a b (handle_of-there s a k there) (handle_of-there s b k standing) same)
+
+-- no slot behind those of global memory has a block
+pub high-absent : (s : KernelState) → IsKernel s → (i : ℕ) → 1024 ≤ i → store.block_at s.blocks i ≡ None
+high-absent s k i high = elim (cases_lt i 2048) [
+  | inl lt ↦ (
+      let slot : slot_of (named Vm (i - 1023)) ≡ i = slot_of-handle Vm (i - 1023) (omega (arith, high), omega (arith, lt)) ∙ omega (arith, high) in
+      no_block (store.block_at s.blocks i) (λ there. k.no_vm (i - 1023) (subst (store.IsThere s.blocks) (sym slot) there))
+      )
+  | inr past ↦ get_or_past s.blocks.blocks i None (omega (arith, past, k.slots))
+]
+  where
+    no_block : (o : Option store.Block) → (store.IsBlock o → ⊥) → o ≡ None
+    no_block None absent = refl
+    no_block (Some b) absent = absurd (absent tt)
+
+-- what is no block spells none
+pub view-absent : (o : Option store.Block) → (store.IsBlock o → ⊥) → block_in o ≡ None
+view-absent None absent = refl
+view-absent (Some b) absent = absurd (absent tt)
+
+-- the block that bytes spell, locked so often
+abbrev pub spelled : ℕ → List ℕ → model.Block
+spelled locks bytes = record { locks = locks; heap = record { chunks = block.chunks bytes; size = length bytes } }
+
+-- a block there spells a block
+pub view-there : (o : Option store.Block) → store.IsBlock o → block_in o ≡ Some (spelled (store.locks_in o) (store.bytes_in o))
+view-there None there = absurd there
+view-there (Some b) there = refl
 
 pub get_or-view : (bs : List (Option store.Block)) (k : ℕ) → k < 1024 → get_or (map block_in (take 1024 bs)) k None ≡ block_in (get_or bs k None)
 get_or-view bs k lt = elim (cases_lt k (length bs)) [
@@ -30,78 +93,81 @@ get_or-view bs k lt = elim (cases_lt k (length bs)) [
   | inr past ↦ get_or_past (map block_in (take 1024 bs)) k None (omega (arith, length-map (take 1024 bs) block_in, length-take 1024 bs)) ∙ ap block_in (sym (get_or_past bs k None past))
 ]
 
--- the block of a handle is what the bytes in its slot spell
-pub block_of-view : (s : store.Store) (h : ℕ) → IsKernel s → model.block_of (memory_of s) h ≡ block_in (store.block_at s (slot_at h))
-block_of-view s zero k = ap block_in (sym (k.mem 2048 (omega arith)))
-block_of-view s (suc h) k = elim (cases_lt h 1024) [
-  | inl lt ↦ get_or-view s.blocks h lt ∙ ap (λ j. block_in (store.block_at s j)) (sym (slot_at-handle (suc h) (omega arith, omega arith) ∙ omega arith))
-  | inr past ↦ get_or_past (map block_in (take 1024 s.blocks)) h None (omega (arith, length-map (take 1024 s.blocks) block_in, length-take 1024 s.blocks))
-      ∙ ap block_in (sym (k.mem 2048 (omega arith))) ∙ ap (λ j. block_in (store.block_at s j)) (sym (slot_at-past (suc h) (omega arith)))
-]
+-- the block of a name is what the bytes in its slot spell
+pub block_of-view : (s : KernelState) (name : Name) → IsKernel s → model.block_of (memory_of s) name ≡ block_in (store.block_at s.blocks (slot_of name))
+block_of-view s name k = view name.owner name.h
+  where
+    gone : (owner : Owner) (h : ℕ) → slot_of (named owner h) ≡ 2048 → None ≡ block_in (store.block_at s.blocks (slot_of (named owner h)))
+    gone owner h past = sym (view-absent (store.block_at s.blocks (slot_of (named owner h))) (slotless s (named owner h) k past))
+
+    view : (owner : Owner) (h : ℕ) → model.owned_block (memory_of s) owner h ≡ block_in (store.block_at s.blocks (slot_of (named owner h)))
+    view Vm h = sym (view-absent (store.block_at s.blocks (slot_of (named Vm h))) (k.no_vm h))
+    view Mem zero = gone Mem 0 (slot_of-zero Mem)
+    view Mem (suc h) = elim (cases_lt h 1024) [
+      | inl lt ↦ get_or-view s.blocks.blocks h lt ∙ ap (λ j. block_in (store.block_at s.blocks j)) (sym (slot_of-mem (suc h) (omega arith, omega arith) ∙ omega arith))
+      | inr past ↦ get_or_past (map block_in (take 1024 s.blocks.blocks)) h None (omega (arith, length-map (take 1024 s.blocks.blocks) block_in, length-take 1024 s.blocks.blocks))
+          ∙ gone Mem (suc h) (slot_of-past Mem (suc h) (omega arith))
+    ]
 
 -- a slot that is changed is a block that is changed
-pub memory_of-set : (old new : store.Store) (h : ℕ) (b : Option store.Block) → IsHandle h → new.blocks ≡ set old.blocks (slot_at h) b → new.len ≡ old.len
-    → memory_of new ≡ model.with_block (memory_of old) h (block_in b)
-memory_of-set old new h b q e l =
-    let slot = slot_at-handle h q in
-    let blocks : map block_in (take 1024 new.blocks) ≡ set (map block_in (take 1024 old.blocks)) (h - 1) (block_in b) =
-    ap (λ bs. map block_in (take 1024 bs)) (e ∙ ap (λ i. set old.blocks i b) slot) ∙ ap (map block_in) (take-set-lt 1024 old.blocks (h - 1) b (omega (arith, q.0, q.1)))
-    ∙ map-set block_in (take 1024 old.blocks) (h - 1) b in
-    λ k. record { blocks = blocks k; region = l k }
-
--- a block there spells a block
-pub view-there : (o : Option store.Block) → store.IsBlock o → block_in o ≡ Some (record { locks = store.locks_in o; chunks = block.chunks (store.bytes_in o); size = length (store.bytes_in o) })
-view-there None there = absurd there
-view-there (Some b) there = refl
-
--- what is no block spells none
-pub view-absent : (o : Option store.Block) → (store.IsBlock o → ⊥) → block_in o ≡ None
-view-absent None absent = refl
-view-absent (Some b) absent = absurd (absent tt)
-
--- a slot with a block is that of a handle
-pub handle_of-there : (s : store.Store) (h : ℕ) → IsKernel s → store.IsThere s (slot_at h) → IsHandle h
-handle_of-there s h k there = elim (cases_lt h 1) [
-  | inl below ↦ (let zero_is : h ≡ 0 = omega arith in absurd (none 2048 (omega arith) (subst (λ j. store.IsThere s (slot_at j)) zero_is there)))
-  | inr low ↦ elim (cases_lt 1024 h) [
-    | inl past ↦ absurd (none 2048 (omega arith) (subst (store.IsThere s) (slot_at-past h past) there))
-    | inr high ↦ (low, high)
-  ]
-]
+pub memory_of-set : (old new : KernelState) (name : Name) (b : Option store.Block) → name.owner ≡ Mem → IsHandle name.h → new.blocks.blocks ≡ set old.blocks.blocks (slot_of name) b → new.blocks.len ≡ old.blocks.len
+    → memory_of new ≡ model.with_block (memory_of old) name (block_in b)
+memory_of-set old new name b mine q e l = at name.owner name.h mine q e
   where
-    none : (slot : ℕ) → 1024 ≤ slot → store.IsThere s slot → ⊥
-    none slot le there = subst store.IsBlock (k.mem slot le) there
+    at : (owner : Owner) (h : ℕ) → owner ≡ Mem → IsHandle h → new.blocks.blocks ≡ set old.blocks.blocks (slot_of (named owner h)) b → memory_of new ≡ model.with_owned_block (memory_of old) owner h (block_in b)
+    at Vm h mine q e = absurd cc
+    at Mem zero mine q e = absurd (omega (arith, q.0))
+    at Mem (suc h) mine q e =
+        let slot : slot_of (mem (suc h)) ≡ h = slot_of-mem (suc h) q ∙ omega arith in
+        let blocks : map block_in (take 1024 new.blocks.blocks) ≡ set (map block_in (take 1024 old.blocks.blocks)) h (block_in b) =
+        ap (λ bs. map block_in (take 1024 bs)) (e ∙ ap (λ i. set old.blocks.blocks i b) slot) ∙ ap (map block_in) (take-set-lt 1024 old.blocks.blocks h b (omega (arith, q.1)))
+        ∙ map-set block_in (take 1024 old.blocks.blocks) h b in
+        λ k. record { blocks = blocks k; region = l k }
 
--- the name of a block is that of a block of global memory
-pub slot_of-mem : (s : store.Store) (name : Name) → IsKernel s → store.IsThere s (slot_of name) → slot_of name ≡ slot_at name.h
-slot_of-mem s name k there = same name.owner name.h there
+-- a block that is there is one of global memory
+pub owner-there : (s : KernelState) (name : Name) → IsKernel s → store.IsThere s.blocks (slot_of name) → name.owner ≡ Mem
+owner-there s name k there = mine name.owner name.h there
   where
-    high : (h : ℕ) → 1024 ≤ slot_of (record { owner = Vm; h = h })
-    high h = grind (arith, nat_tests)
+    mine : (owner : Owner) (h : ℕ) → store.IsThere s.blocks (slot_of (named owner h)) → owner ≡ Mem
+    mine Mem h t = refl
+    mine Vm h t = absurd (k.no_vm h t)
 
-    same : (owner : Owner) (h : ℕ) → store.IsThere s (slot_of (record { owner = owner; h = h })) → slot_of (record { owner = owner; h = h }) ≡ slot_at h
-    same Mem h t = refl
-    same Vm h t = absurd (subst store.IsBlock (k.mem (slot_of (record { owner = Vm; h = h })) (high h)) t)
-
--- a name of global memory has the slot of its handle
-pub slot_of-owner : (name : Name) → name.owner ≡ Mem → slot_of name ≡ slot_at name.h
-slot_of-owner name mem = λ i. slot_of (record { owner = mem i; h = name.h })
+locks_view : (o : Option store.Block) → store.locks_in o ≡ model.locks_in (block_in o)
+locks_view None = refl
+locks_view (Some b) = refl
 
 -- the count of locks that the model has
-pub locks-view : (s : store.Store) (name : Name) → IsKernel s → name.owner ≡ Mem → store.locks_of s (slot_of name) ≡ model.locks_of (memory_of s) name.h
-locks-view s name k mem =
-    ap (store.locks_of s) (slot_of-owner name mem) ∙ spelled (store.block_at s (slot_at name.h)) ∙ sym (ap model.locks_in (block_of-view s name.h k))
-  where
-    spelled : (o : Option store.Block) → store.locks_in o ≡ model.locks_in (block_in o)
-    spelled None = refl
-    spelled (Some b) = refl
+pub locks-view : (s : KernelState) (name : Name) → IsKernel s → store.locks_of s.blocks (slot_of name) ≡ model.locks_of (memory_of s) name
+locks-view s name k = locks_view (store.block_at s.blocks (slot_of name)) ∙ sym (ap model.locks_in (block_of-view s name k))
+
+-- what the model has of a block that is there
+module _ (s : KernelState) (name : Name) (k : IsKernel s) (there : store.IsThere s.blocks (slot_of name)) where
+  pub there-view : model.block_of (memory_of s) name ≡ Some (spelled (store.locks_of s.blocks (slot_of name)) (store.bytes_of s.blocks (slot_of name)))
+  there-view = block_of-view s name k ∙ view-there (store.block_at s.blocks (slot_of name)) there
+
+  pub chunks-known : chunks_at s.blocks name ≡ model.chunks_at (memory_of s) name
+  chunks-known = sym (ap model.chunks_in there-view)
+
+  pub size-known : model.size_of (memory_of s) name ≡ size_at s.blocks name
+  size-known = ap model.size_in there-view
+
+pub absent-view : (s : KernelState) (name : Name) → IsKernel s → (store.IsThere s.blocks (slot_of name) → ⊥) → model.block_of (memory_of s) name ≡ None
+absent-view s name k absent = block_of-view s name k ∙ view-absent (store.block_at s.blocks (slot_of name)) absent
+
+-- a block that the model has locked is there
+pub locked-there : (s : KernelState) (name : Name) → IsKernel s → 0 < model.locks_of (memory_of s) name → store.IsThere s.blocks (slot_of name)
+locked-there s name k locked = there_of_locks (store.block_at s.blocks (slot_of name)) (omega (arith, locked, locks-view s name k))
+
+-- such a block holds a heap
+pub locked-heap : (s : KernelState) (name : Name) → IsKernel s → IsLocked s name → HoldsHeap s.blocks name
+locked-heap s name k locked = let there = locked-there s name k locked in record { there = there; heap = k.heaps name there }
 
 -- with no block in the region there is none in memory
-pub empty-view : (s : store.Store) (len : ℕ) → IsEmpty s len → memory_of s ≡ record { blocks = replicate 1024 None; region = len }
+pub empty-view : (s : KernelState) (len : ℕ) → IsEmpty s.blocks len → memory_of s ≡ record { blocks = replicate 1024 None; region = len }
 empty-view s len empty = λ k. record { blocks = blocks k; region = empty.long k }
   where
-    blocks : map block_in (take 1024 s.blocks) ≡ replicate {A = Option model.Block} 1024 None
+    blocks : map block_in (take 1024 s.blocks.blocks) ≡ replicate {A = Option model.Block} 1024 None
     blocks =
-        let long : length (map block_in (take 1024 s.blocks)) ≡ 1024 = omega (arith, length-map (take 1024 s.blocks) block_in, length-take 1024 s.blocks, empty.laid.slots) in
-        ext_get_or None (map block_in (take 1024 s.blocks)) (replicate {A = Option model.Block} 1024 None) (long ∙ sym (length-replicate {A = Option model.Block} 1024 None))
-        (λ i lt. get_or-view s.blocks i (omega (arith, lt, long)) ∙ ap block_in (empty.none i) ∙ sym (get_or-replicate {A = Option model.Block} 1024 i None None (omega (arith, lt, long))))
+        let long : length (map block_in (take 1024 s.blocks.blocks)) ≡ 1024 = omega (arith, length-map (take 1024 s.blocks.blocks) block_in, length-take 1024 s.blocks.blocks, empty.laid.slots) in
+        ext_get_or None (map block_in (take 1024 s.blocks.blocks)) (replicate {A = Option model.Block} 1024 None) (long ∙ sym (length-replicate {A = Option model.Block} 1024 None))
+        (λ i lt. get_or-view s.blocks.blocks i (omega (arith, lt, long)) ∙ ap block_in (empty.none i) ∙ sym (get_or-replicate {A = Option model.Block} 1024 i None None (omega (arith, lt, long))))

@@ -1,34 +1,38 @@
--- What holds of the kernel's blocks, and what its calls promise.
-use Rattle.std.specs.Prelude.{List, [], ◌∷◌, length, set, Some, ◌≡◌, ℕ, ◌+◌, ◌≤◌, None, Result, Ok, Err}
-use Rattle.block_handles.specs.Store.{Store, block_at, IsThere, bytes_of, slot_count, region_len}
+-- What holds of a kernel, and what its calls promise.
+use Rattle.std.specs.Prelude.{List, [], ◌∷◌, length, set, Some, ◌≡◌, ℕ, ◌≤◌, Option, None, Result, Ok, Err}
+use Rattle.block_handles.specs.Names.{slot_of}
+use Rattle.block_handles.specs.Store.{Store, IsThere, bytes_of, slot_count, region_len}
 use Rattle.block_handles.specs.Change.{LockedStay}
 use Rattle.block_handles.specs.Used.{IsLowest}
 use Rattle.block_handles.specs.Stretch.{HasNoRoom}
-use Rattle.geos_model.specs.declared.name.Owner.TheVariants.{Mem}
+use Rattle.geos_model.specs.declared.name.Owner.TheVariants.{Mem, Vm}
+use Rattle.geos_model.specs.declared.name.Name.{Name}
+use Rattle.geos_model.specs.Names.{named, mem}
 use Rattle.geos_model.specs.Block as block
+use Rattle.geos_model.specs.Chunks.{need}
 use Rattle.geos_model.specs.Heap.{IsHeap}
 use Rattle.geos_model.specs.declared.refusal.Refusal.{Refusal}
-use Rattle.geos_model.specs.Memory.{Memory}
-use Rattle.geos_model.specs.Calls.{Choice, Row, Answers, Reference}
+use Rattle.geos_model.specs.Effects.{Choice, Call, Answers, Reference}
 use Rattle.geos_calls.specs.declared.span.Span.{Span}
-use Rattle.geos_calls.specs.View.{memory_of, slot_at}
+use Rattle.geos_calls.specs.View.{KernelState, memory_of}
 use Rattle.geos_calls.specs.Spans.{Stands, SpansStay}
 
--- each block holds a heap, which begins with the block's handle; all blocks are of global memory, there is a slot for each name,
--- and offsets are small numbers
-pub record IsKernel (store : Store) : Type 0 where
-  pub heaps : (slot : ℕ) → IsThere store slot → IsHeap (bytes_of store slot)
-  pub handles : (slot : ℕ) → IsThere store slot → block.handle_word (bytes_of store slot) ≡ slot + 1
-  pub mem : (slot : ℕ) → 1024 ≤ slot → block_at store slot ≡ None
-  pub slots : slot_count store ≡ 2048
-  pub small : region_len store ≤ 16777216
+-- each named block holds a heap, which begins with the block's handle; no block of the VM file is there; there is a slot for
+-- each name, and offsets are small numbers
+pub record IsKernel (s : KernelState) : Type 0 where
+  pub heaps : (name : Name) → IsThere s.blocks (slot_of name) → IsHeap (bytes_of s.blocks (slot_of name))
+  pub handles : (name : Name) → IsThere s.blocks (slot_of name) → block.handle_word (bytes_of s.blocks (slot_of name)) ≡ name.h
+  pub no_vm : (h : ℕ) → IsThere s.blocks (slot_of (named Vm h)) → ⊥
+  pub slots : slot_count s.blocks ≡ 2048
+  pub small : region_len s.blocks ≤ 16777216
 
 -- a call answers as its row says, and spans that it does not make stale stay
-pub record Calls {A : Type 0} (row : Choice → Memory → Row A) (result : Result A Refusal) (old new : Store) : Type 0 where
-  pub answers : Answers row result (memory_of old) (memory_of new)
-  pub spans : (choice : Choice) → SpansStay old new (row choice (memory_of old)).stale
+pub record Calls {A : Type 0} (call : Call A) (result : Result A Refusal) (old new : KernelState) : Type 0 where
+  pub answers : Answers call result (memory_of old) (memory_of new)
+  pub spans : (choice : Choice) → SpansStay old new (call choice (memory_of old)).stale
 
--- a new heap without a chunk is in a slot, under its handle, locked once; every other block is as it was, and lies where it lay if it is locked
+-- a new heap without a chunk is in a slot, under its handle, locked once; every other block is as it was, and lies where it
+-- lay if it is locked
 pub record MakesHeap (old new : Store) (slot h : ℕ) : Type 0 where
   pub bytes : List ℕ
   pub blocks : new.blocks ≡ set old.blocks slot (Some (record { locks = 1; bytes = bytes }))
@@ -39,16 +43,20 @@ pub record MakesHeap (old new : Store) (slot h : ℕ) : Type 0 where
   pub handle : block.handle_word bytes ≡ h
   pub long : length bytes ≡ 64
 
+-- no stretch of the region has room for a named block that is as large as these chunks need
+abbrev pub HasNoRoomFor : KernelState → Name → List (Option (List ℕ)) → Type 0
+HasNoRoomFor s name chunks = HasNoRoom s.blocks (slot_of name) (need chunks)
+
 -- no stretch of the region has room for a new block, under the lowest handle that is free
-abbrev pub NewHasNoRoom : Store → Store → Type 0
-NewHasNoRoom old new = (h : ℕ) × IsLowest old Mem h × HasNoRoom new (slot_at h) 64
+abbrev pub NewHasNoRoom : KernelState → KernelState → Type 0
+NewHasNoRoom old new = (h : ℕ) × IsLowest old.blocks Mem h × HasNoRoom new.blocks (slot_of (mem h)) 64
 
 -- a span stands for the reference that a row gives, or both are refused alike
-abbrev pub StandsFor : Store → Result Span Refusal → Result Reference Refusal → Type 0
-StandsFor store (Ok span) (Ok ref) = Stands store span ref
-StandsFor store (Err a) (Err b) = a ≡ b
-StandsFor store _ _ = ⊥
+abbrev pub StandsFor : KernelState → Result Span Refusal → Result Reference Refusal → Type 0
+StandsFor s (Ok span) (Ok ref) = Stands s span ref
+StandsFor s (Err a) (Err b) = a ≡ b
+StandsFor s _ _ = ⊥
 
 -- a call answers a span that stands for the reference that its row gives, or refuses as the row does; nothing changes
-abbrev pub GivesSpan : (Choice → Memory → Row Reference) → Result Span Refusal → Store → Type 0
-GivesSpan row result store = (given : Result Reference Refusal) × Answers row given (memory_of store) (memory_of store) × StandsFor store result given
+abbrev pub GivesSpan : Call Reference → Result Span Refusal → KernelState → Type 0
+GivesSpan call result s = (given : Result Reference Refusal) × Answers call given (memory_of s) (memory_of s) × StandsFor s result given

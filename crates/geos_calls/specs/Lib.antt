@@ -3,4 +3,3 @@ pub mod Spans
 pub mod Kernel
 pub mod Refused
 pub mod Heaps
-pub mod Answer

@@ -1,24 +1,32 @@
--- The memory of the model that the blocks of a region spell.
-use Rattle.std.specs.Prelude.{ℕ, List, length, take, map, Option, Some, None}
-use Rattle.geos_model.specs.declared.name.Owner.TheVariants.{Mem}
+-- The memory of the model that a kernel's blocks spell.
+use Rattle.std.specs.Prelude.{ℕ, ◌<◌, List, length, take, map, Option, Some, None}
+use Rattle.geos_model.specs.declared.name.Name.{Name}
 use Rattle.block_handles.specs.Names.{slot_of}
 use Rattle.block_handles.specs.Store as store
 use Rattle.geos_model.specs.Block as block
 use Rattle.geos_model.specs.Memory as model
 
--- the slot of a handle
-abbrev pub slot_at : ℕ → ℕ
-slot_at h = slot_of (record { owner = Mem; h = h })
+-- a kernel, as its calls see it: the blocks in its region
+pub record KernelState : Type 0 where
+  pub blocks : store.Store
 
 -- what the bytes of a block spell
 abbrev pub block_in : Option store.Block → Option model.Block
 block_in None = None
-block_in (Some b) = Some (record { locks = b.locks; chunks = block.chunks b.bytes; size = length b.bytes })
+block_in (Some b) = Some (record { locks = b.locks; heap = record { chunks = block.chunks b.bytes; size = length b.bytes } })
 
 -- what all blocks of global memory spell
-abbrev pub memory_of : store.Store → model.Memory
-memory_of s = record { blocks = map block_in (take 1024 s.blocks); region = s.len }
+abbrev pub memory_of : KernelState → model.Memory
+memory_of s = record { blocks = map block_in (take 1024 s.blocks.blocks); region = s.blocks.len }
 
--- the chunks that the bytes in a slot spell
-abbrev pub chunks_at : store.Store → ℕ → List (Option (List ℕ))
-chunks_at s slot = block.chunks (store.bytes_of s slot)
+-- a named block is locked
+abbrev pub IsLocked : KernelState → Name → Type 0
+IsLocked s name = 0 < model.locks_of (memory_of s) name
+
+-- the chunks that the bytes of a named block spell
+abbrev pub chunks_at : store.Store → Name → List (Option (List ℕ))
+chunks_at s name = block.chunks (store.bytes_of s (slot_of name))
+
+-- the size of a named block
+abbrev pub size_at : store.Store → Name → ℕ
+size_at s name = store.size_of s (slot_of name)

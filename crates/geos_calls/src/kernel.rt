@@ -1,18 +1,16 @@
 //! The kernel: blocks of global memory, each with a heap of chunks.
 
 ghost use Rattle.std.specs.Prelude.{◌≡◌, ◌<◌, ◌≤◌, IfOk, IfErr, OnOk, Ok, Err};
-ghost use Rattle.geos_model.specs.declared.name.Owner.{Owner};
 ghost use Rattle.block_handles.specs.Names.{IsHandle, slot_of};
 ghost use Rattle.block_handles.specs.Store.{IsThere};
-ghost use Rattle.block_handles.specs.Stretch.{HasNoRoom};
-ghost use Rattle.geos_model.specs.declared.refusal.Refusal.TheVariants.{NoRoom};
+ghost use Rattle.geos_calls.specs.Heaps.{FindsNoRoom};
 ghost use Rattle.geos_calls.specs.Kernel.{IsKernel, MakesHeap};
 ghost use Rattle.geos_calls.specs.Refused.{of_handle, of_free, of_delete};
 
 use crate::span::Span;
 use crate::{growth, heaps};
-use block_handles::{Blocks, HandleError, Name, Owner, RoomError};
-use geos_model::Refusal;
+use block_handles::{Blocks, HandleError, RoomError};
+use geos_model::{Name, Owner, Refusal};
 use lmem_heap::{BadChunk, DeleteError, init, place, size};
 use std::alloc::{AllocError, Global};
 use std::marker::Model;
@@ -27,37 +25,37 @@ pub struct Kernel {
 }
 
 impl Model for Kernel {
-    ghost use Rattle.block_handles.specs.Store.{Store};
+    ghost use Rattle.geos_calls.specs.View.{KernelState};
 
-    ghost Value = { Store };
+    ghost Value = { KernelState };
 
     ghost use Rattle.geos_calls.specs.Kernel.{IsKernel};
 
-    ghost view = { λ k. k.blocks };
+    ghost view = { λ k. record { blocks = k.blocks } };
 
-    ghost invariant = { λ k. IsKernel k.blocks };
+    ghost invariant = { λ k. IsKernel (record { blocks = k.blocks }) };
 }
 
 impl Kernel {
-    ghost use Rattle.block_handles.specs.Names.{slot_of};
+    ghost use Rattle.std.specs.Prelude.{None, replicate};
     ghost use Rattle.block_handles.specs.Layout.{IsEmpty};
-    ghost use Rattle.block_handles.specs.Store.{locks_of, bytes_of};
-    ghost use Rattle.geos_model.specs.Heap.{IsCompact};
-    ghost use Rattle.block_handles.specs.Stretch.{HasNoRoom};
+    ghost use Rattle.block_handles.specs.Names.{slot_of};
+    ghost use Rattle.block_handles.specs.Store.{bytes_of};
     ghost use Rattle.geos_model.specs.declared.refusal.Refusal.TheVariants.{NoRoom};
     ghost use Rattle.geos_model.specs.Calls as table;
-    ghost use Rattle.geos_model.specs.Chunks.{need, with_new, with_resized, with_inserted};
-    ghost use Rattle.geos_calls.specs.Kernel.{Calls, GivesSpan, NewHasNoRoom};
+    ghost use Rattle.geos_model.specs.Chunks.{with_new, with_resized, with_inserted};
+    ghost use Rattle.geos_model.specs.Heap.{IsCompact};
+    ghost use Rattle.geos_model.specs.Memory.{chunks_at, locks_of};
+    ghost use Rattle.geos_model.specs.Names.{mem};
+    ghost use Rattle.geos_calls.specs.Kernel.{Calls, GivesSpan, HasNoRoomFor, NewHasNoRoom};
     ghost use Rattle.geos_calls.specs.Spans.{IsStanding};
-    ghost use Rattle.std.specs.Prelude.{None, replicate};
-    ghost use Rattle.geos_model.specs.Memory as memory;
-    ghost use Rattle.geos_calls.specs.View.{chunks_at, memory_of, slot_at};
+    ghost use Rattle.geos_calls.specs.View.{IsLocked, memory_of};
 
     /// No block, in a region of `region` bytes, 65,536 to 16,777,216. This is the only call that takes memory; `AllocError` where
     /// there is none.
     pub fn new(alloc: Global, region: u32) -> Result<Kernel, AllocError>
         requires { (65536 ≤ region) × (region ≤ 16777216) }
-        ensures store { IfOk result (λ kernel. IsEmpty kernel region) }
+        ensures store { IfOk result (λ kernel. IsEmpty kernel.blocks region) }
         ensures memory { IfOk result (λ kernel. memory_of kernel ≡ record { blocks = replicate 1024 None; region = region }) }
     {
         Ok(Kernel {
@@ -67,8 +65,7 @@ impl Kernel {
 
     /// How often a block is locked; 0 where there is none.
     pub fn locks(&self, name: Name) -> u16
-        ensures store { result ≡ locks_of self.now (slot_of name) }
-        ensures memory { name.owner ≡ Owner.Mem → result ≡ memory.locks_of (memory_of self.now) name.h }
+        ensures { result ≡ locks_of (memory_of self.now) name }
     {
         self.blocks.locks(name)
     }
@@ -78,16 +75,12 @@ impl Kernel {
     pub fn mnew(&mut self) -> Result<u16, Refusal>
         ensures calls { Calls table.mnew result self.old self.new }
         ensures no_room { result ≡ Err NoRoom → NewHasNoRoom self.old self.new }
-        ensures locked { IfOk result (λ h. locks_of self.new (slot_at h) ≡ 1) }
+        ensures locked { IfOk result (λ h. locks_of (memory_of self.new) (mem h) ≡ 1) }
     {
         let Some(h) = self.blocks.lowest(Owner::Mem) else {
             return Err(Refusal::NoHandle);
         };
-        let name = Name {
-            owner: Owner::Mem,
-            h,
-        };
-        match make_heap(&mut self.blocks, name) {
+        match make_heap(&mut self.blocks, Name::mem(h)) {
             Ok(()) => Ok(h),
             Err(refusal) => Err(refusal),
         }
@@ -97,14 +90,14 @@ impl Kernel {
     pub fn mlock(&mut self, h: u16) -> Result<(), Refusal>
         ensures { Calls (table.mlock h) result self.old self.new }
     {
-        let locked = self.blocks.lock(mem(h));
+        let locked = self.blocks.lock(Name::mem(h));
         of_handle(locked)
     }
 
     /// Unlocks a block once. When it is locked no more, references into it are stale.
     pub fn munlock(&mut self, name: Name)
-        requires { 0 < locks_of self.old (slot_of name) }
-        ensures { Calls (table.munlock name.h) (Ok tt) self.old self.new }
+        requires { IsLocked self.old name }
+        ensures { Calls (table.unlock name) (Ok tt) self.old self.new }
     {
         self.blocks.unlock(name);
     }
@@ -113,15 +106,15 @@ impl Kernel {
     pub fn mfree(&mut self, h: u16) -> Result<(), Refusal>
         ensures { Calls (table.mfree h) result self.old self.new }
     {
-        let freed = self.blocks.free(mem(h));
+        let freed = self.blocks.free(Name::mem(h));
         of_handle(freed)
     }
 
     /// Where a chunk's bytes lie, which must be `n` at least. `BadChunk` where no chunk of the block has this handle, `Short`
     /// where it has fewer bytes. The span stands until a call makes the chunk's references stale.
     pub fn deref(&self, name: Name, c: u16, n: u16) -> Result<Span, Refusal>
-        requires { 0 < locks_of self.now (slot_of name) }
-        ensures gives { GivesSpan (table.deref name.h c n) result self.now }
+        requires { IsLocked self.now name }
+        ensures gives { GivesSpan (table.deref name c n) result self.now }
         ensures stands { IfOk result (λ span. IsStanding self.now span × (n ≤ span.len)) }
     {
         let Ok((at, len)) = place(self.blocks.bytes(name), c) else {
@@ -140,9 +133,9 @@ impl Kernel {
     /// block would need more than 65,520 bytes, `NoRoom` where it must grow and no stretch of the region has room for it.
     /// Spans into the block are stale after it, also where it is refused.
     pub fn lalloc(&mut self, name: Name, n: u16) -> Result<u16, Refusal>
-        requires { 0 < locks_of self.old (slot_of name) }
-        ensures calls { Calls (table.lalloc name.h n) result self.old self.new }
-        ensures no_room { result ≡ Err NoRoom → HasNoRoom self.new (slot_of name) (need (with_new (chunks_at self.old (slot_of name)) n)) }
+        requires { IsLocked self.old name }
+        ensures calls { Calls (table.lalloc name n) result self.old self.new }
+        ensures no_room { result ≡ Err NoRoom → HasNoRoomFor self.new name (with_new (chunks_at (memory_of self.old) name) n) }
     {
         growth::alloc(&mut self.blocks, name, n)
     }
@@ -150,8 +143,8 @@ impl Kernel {
     /// Frees a chunk of a locked block. `BadChunk` where no chunk of the block has this handle. Spans into the block are stale
     /// after it, also where it is refused.
     pub fn lfree(&mut self, name: Name, c: u16) -> Result<(), Refusal>
-        requires { 0 < locks_of self.old (slot_of name) }
-        ensures { Calls (table.lfree name.h c) result self.old self.new }
+        requires { IsLocked self.old name }
+        ensures { Calls (table.lfree name c) result self.old self.new }
     {
         let freed = heaps::free(&mut self.blocks, name, c);
         of_free(freed)
@@ -160,9 +153,9 @@ impl Kernel {
     /// Gives a chunk of a locked block `n` bytes: its first ones that fit, and zeros behind them. `BadChunk` where no chunk of the
     /// block has this handle; else refused as `lalloc` is, and makes stale what `lalloc` does.
     pub fn lrealloc(&mut self, name: Name, c: u16, n: u16) -> Result<(), Refusal>
-        requires { 0 < locks_of self.old (slot_of name) }
-        ensures calls { Calls (table.lrealloc name.h c n) result self.old self.new }
-        ensures no_room { result ≡ Err NoRoom → HasNoRoom self.new (slot_of name) (need (with_resized (chunks_at self.old (slot_of name)) c n)) }
+        requires { IsLocked self.old name }
+        ensures calls { Calls (table.lrealloc name c n) result self.old self.new }
+        ensures no_room { result ≡ Err NoRoom → HasNoRoomFor self.new name (with_resized (chunks_at (memory_of self.old) name) c n) }
     {
         growth::realloc(&mut self.blocks, name, c, n)
     }
@@ -170,9 +163,9 @@ impl Kernel {
     /// Inserts `n` zero bytes at an offset of a chunk of a locked block. `BadChunk` where no chunk of the block has this handle,
     /// `Range` where the offset is past its length; else refused as `lalloc` is, and makes stale what `lalloc` does.
     pub fn lins(&mut self, name: Name, c: u16, at: u16, n: u16) -> Result<(), Refusal>
-        requires { 0 < locks_of self.old (slot_of name) }
-        ensures calls { Calls (table.lins name.h c at n) result self.old self.new }
-        ensures no_room { result ≡ Err NoRoom → HasNoRoom self.new (slot_of name) (need (with_inserted (chunks_at self.old (slot_of name)) c at n)) }
+        requires { IsLocked self.old name }
+        ensures calls { Calls (table.lins name c at n) result self.old self.new }
+        ensures no_room { result ≡ Err NoRoom → HasNoRoomFor self.new name (with_inserted (chunks_at (memory_of self.old) name) c at n) }
     {
         growth::insert(&mut self.blocks, name, c, at, n)
     }
@@ -180,8 +173,8 @@ impl Kernel {
     /// Deletes `n` bytes at an offset of a chunk of a locked block. `BadChunk` where no chunk of the block has this handle,
     /// `Range` where they reach past its length. Makes stale what `lalloc` does.
     pub fn ldel(&mut self, name: Name, c: u16, at: u16, n: u16) -> Result<(), Refusal>
-        requires { 0 < locks_of self.old (slot_of name) }
-        ensures { Calls (table.ldel name.h c at n) result self.old self.new }
+        requires { IsLocked self.old name }
+        ensures { Calls (table.ldel name c at n) result self.old self.new }
     {
         let deleted = heaps::delete(&mut self.blocks, name, c, at, n);
         of_delete(deleted)
@@ -190,31 +183,23 @@ impl Kernel {
     /// Moves the chunks of a locked block together, so that its free bytes are in one piece, at its end. Handles and bytes stay;
     /// spans into the block are stale after it.
     pub fn lcontract(&mut self, name: Name)
-        requires { 0 < locks_of self.old (slot_of name) }
-        ensures calls { Calls (table.lcontract name.h) (Ok tt) self.old self.new }
-        ensures compact { IsCompact (bytes_of self.new (slot_of name)) }
+        requires { IsLocked self.old name }
+        ensures calls { Calls (table.lcontract name) (Ok tt) self.old self.new }
+        ensures compact { IsCompact (bytes_of self.new.blocks (slot_of name)) }
     {
         heaps::contract(&mut self.blocks, name);
     }
 
     /// The length of a chunk in bytes. `BadChunk` where no chunk of the block has this handle.
     pub fn lsize(&self, name: Name, c: u16) -> Result<u16, Refusal>
-        requires { 0 < locks_of self.now (slot_of name) }
-        ensures { Calls (table.lsize name.h c) result self.now self.now }
+        requires { IsLocked self.now name }
+        ensures { Calls (table.lsize name c) result self.now self.now }
     {
         match size(self.blocks.bytes(name), c) {
             Ok(n) => Ok(n),
             Err(_) => Err(Refusal::BadChunk),
         }
     }
-}
-
-/// The name of a block of global memory.
-fn mem(h: u16) -> Name
-    ensures { result ≡ record { owner = Owner.Mem; h = h } }
-{
-    let owner = Owner::Mem;
-    Name { owner, h }
 }
 
 /// Why a block was not locked or freed, as the kernel says it.
@@ -251,11 +236,11 @@ fn of_delete(done: Result<(), DeleteError>) -> Result<(), Refusal>
 
 /// Makes a block of 64 bytes with no chunk, and locks it.
 fn make_heap(blocks: &mut Blocks, name: Name) -> Result<(), Refusal>
-    requires kernel { IsKernel blocks.old }
+    requires kernel { IsKernel (record { blocks = blocks.old }) }
     requires handle { IsHandle name.h }
     requires free { IsThere blocks.old (slot_of name) → ⊥ }
     ensures ok { OnOk result (MakesHeap blocks.old blocks.new (slot_of name) name.h) }
-    ensures no_room { IfErr result (λ refusal. (refusal ≡ NoRoom) × HasNoRoom blocks.new (slot_of name) 64 × (blocks.new ≡ blocks.old)) }
+    ensures no_room { IfErr result (λ refusal. FindsNoRoom refusal blocks.old blocks.new (slot_of name) 64) }
 {
     if blocks.make(name, NEW_SIZE).is_err() {
         return Err(Refusal::NoRoom);

@@ -5,18 +5,11 @@
 #![tactic(auto)]
 
 mod access;
-mod answer;
-mod call;
 mod growth;
 mod heaps;
 mod kernel;
 mod span;
 
-
-pub use call::{BlockCall, Call, Reply};
 pub use geos_model::{Name, Owner, Refusal};
 pub use kernel::Kernel;
 pub use span::Span;
-
-#[cfg(test)]
-mod tests;

@@ -18,3 +18,4 @@ pub mod Lowest
 pub mod Fits
 pub mod Examples
 pub mod CallExamples
+pub mod Laws

@@ -1,21 +1,21 @@
-use Rattle.std.proofs.Common.{◌∙◌, ap}
+use Rattle.std.proofs.Common.{◌∙◌, ◌≤◌, ◌+◌, List, ℕ, Option, length, ap, subst}
+use Rattle.std.specs.Prelude.{IsSome, OnOk, OnErr, IfErr, ◌≡◌, None}
 use Rattle.block_handles.specs.Names.{slot_of}
 use Rattle.geos_model.specs.Block as block
-use Rattle.geos_model.specs.Chunks.{new_handle, with_new}
+use Rattle.geos_model.specs.Chunks.{need, new_handle, with_new}
+use Rattle.lmem_heap.specs.Refusals.{IsRoomError}
 use Rattle.geos_calls.proofs.Lent.{lent-heap, lent-same, if_ok-map, on_err-map}
 use Rattle.geos_calls.proofs.heaps.alloc.Goals as goal
 
-pub returns-clause-ok : goal.returns-clause-ok
-returns-clause-ok c =
-    let e = c.bytes_mut.ensures.value in
+pub returns : goal.returns
+returns c =
+    let old = c.args.blocks.now in
     let slot = slot_of c.args.name in
-    if_ok-map c.alloc.result
-    (λ h p. (
-      p.0 ∙ ap (λ bytes. new_handle (block.chunks bytes)) e,
-      lent-heap c.args.blocks.now slot c.requires.there c.alloc.new.block c.bytes_mut.result.now _ e c.alloc.auto.block c.alloc.ensures.heap c.alloc.ensures.handle (p.1 ∙ ap (λ bytes. with_new (block.chunks bytes) c.args.n) e),
-    ))
-    c.alloc.ensures.ok
-
-pub returns-clause-err : goal.returns-clause-err
-returns-clause-err c =
-    on_err-map c.alloc.result (lent-same c.args.blocks.now (slot_of c.args.name) c.requires.there c.alloc.new.block c.bytes_mut.result.now c.bytes_mut.ensures.value) c.alloc.ensures.err
+    let e = c.bytes_mut.ensures.value in
+    let ensures = c.alloc.ensures in
+    record {
+      ok = if_ok-map c.alloc.result (λ h p. (p.0 ∙ ap (λ bytes. new_handle (block.chunks bytes)) e, lent-heap old slot c.requires.there c.alloc.new.block c.bytes_mut.result.now _ e c.alloc.auto.block ensures.heap ensures.handle (p.1 ∙ ap (λ bytes. with_new (block.chunks bytes) c.args.n) e))) ensures.ok;
+      fits = subst (λ bytes. OnOk c.alloc.result (need (with_new (block.chunks bytes) c.args.n) ≤ length bytes)) e ensures.fits;
+      refused = subst (λ bytes. IfErr c.alloc.result (λ error. IsRoomError error (need (with_new (block.chunks bytes) c.args.n)) (length bytes))) e ensures.refused;
+      err = on_err-map c.alloc.result (lent-same old slot c.requires.there c.alloc.new.block c.bytes_mut.result.now e) ensures.err;
+    }

@@ -6,12 +6,14 @@ use Rattle.geos_model.specs.Heap.{IsCompact}
 use Rattle.geos_calls.proofs.Lent.{lent-heap}
 use Rattle.geos_calls.proofs.heaps.contract.Goals as goal
 
-pub returns-clause-chunks : goal.returns-clause-chunks
-returns-clause-chunks c =
+pub returns : goal.returns
+returns c =
+    let old = c.args.blocks.now in
+    let slot = slot_of c.args.name in
     let e = c.bytes_mut.ensures.value in
-    lent-heap c.args.blocks.now (slot_of c.args.name) c.requires.there c.contract.new.block c.bytes_mut.result.now _ e c.contract.auto.block c.contract.ensures.heap c.contract.ensures.handle (c.contract.ensures.chunks ∙ ap block.chunks e)
-
-pub returns-clause-compact : goal.returns-clause-compact
-returns-clause-compact c =
-    let long = c.contract.auto.block ∙ ap length c.bytes_mut.ensures.value in
-    subst IsCompact (sym (bytes-same c.args.blocks.now (slot_of c.args.name) c.contract.new.block c.requires.there long)) c.contract.ensures.compact
+    let ensures = c.contract.ensures in
+    let long = c.contract.auto.block ∙ ap length e in
+    record {
+      chunks = lent-heap old slot c.requires.there c.contract.new.block c.bytes_mut.result.now _ e c.contract.auto.block ensures.heap ensures.handle (ensures.chunks ∙ ap block.chunks e);
+      compact = subst IsCompact (sym (bytes-same old slot c.contract.new.block c.requires.there long)) ensures.compact;
+    }

@@ -1,50 +1,52 @@
 use Rattle.std.proofs.Common.{◌<◌, Ok, subst, arith}
 use Rattle.block_handles.specs.Offsets.{CopiesCovered}
+use Rattle.geos_model.specs.Effects.{Reference}
 use Rattle.geos_model.specs.Calls as table
 use Rattle.geos_calls.specs.Kernel.{Calls}
 use Rattle.geos_calls.specs.Spans.{Stands}
+use Rattle.geos_calls.proofs.Locks.{with_store}
 use Rattle.geos_calls.proofs.AccessReads.{IsGood, good-of, good-region, same-length}
 use Rattle.geos_calls.proofs.AccessCopies.{nothing-copied, copied-kernel, copied-calls}
 use Rattle.geos_calls.proofs.kernel.Kernel.copy.Goals as goal
 
 pub returns-then-n-eq0-clause-row : goal.returns-then-n-eq0-clause-row
 returns-then-n-eq0-clause-row c =
-    let old = c.self.inside.blocks in
-    subst (λ s. (target source : table.Reference) → Stands s c.args.to target → Stands s c.args.from source → Calls (table.copy target source c.args.n) (Ok tt) s s) c.self.view_is
+    let old = with_store c.self.inside.blocks in
+    subst (λ s. (target source : Reference) → Stands s c.args.to target → Stands s c.args.from source → Calls (table.copy target source c.args.n) (Ok tt) s s) c.self.view_is
     (λ target source t u. nothing-copied old c.args.to target source c.args.n c.self.invariant c.if-n-eq0.true t)
 
 pub copy-requires : goal.copy-requires
 copy-requires c =
-    let s = c.self.inside.blocks in
+    let s = with_store c.self.inside.blocks in
     let n = c.args.n in
     let some : 0 < n = omega (arith, c.if-n-eq0.false) in
-    let to : IsGood s c.args.to 0 n = good-of c.args.self.now c.self.inside.blocks c.args.to 0 n c.self.view_is c.requires.to.0 (omega (arith, c.requires.to.1)) in
-    let from : IsGood s c.args.from 0 n = good-of c.args.self.now c.self.inside.blocks c.args.from 0 n c.self.view_is c.requires.from.0 (omega (arith, c.requires.from.1)) in
+    let to : IsGood s c.args.to 0 n = good-of c.args.self.now (with_store c.self.inside.blocks) c.args.to 0 n c.self.view_is c.requires.to.0 (omega (arith, c.requires.to.1)) in
+    let from : IsGood s c.args.from 0 n = good-of c.args.self.now (with_store c.self.inside.blocks) c.args.from 0 n c.self.view_is c.requires.from.0 (omega (arith, c.requires.from.1)) in
     let to_lies = good-region s c.args.to 0 n c.laid_out.ensures to some in
     let from_lies = good-region s c.args.from 0 n c.laid_out.ensures from some in
     (omega (arith, from_lies, c.from.ensures), omega (arith, to_lies, c.from.ensures))
 
 pub invariant_of-self : goal.invariant_of-self
 invariant_of-self c =
-    let old = c.self.inside.blocks in
+    let old = with_store c.self.inside.blocks in
     let new = c.copy.new.self in
     let n = c.args.n in
     let some : 0 < n = omega (arith, c.if-n-eq0.false) in
-    let to : IsGood old c.args.to 0 n = good-of c.args.self.now c.self.inside.blocks c.args.to 0 n c.self.view_is c.requires.to.0 (omega (arith, c.requires.to.1)) in
-    let from : IsGood old c.args.from 0 n = good-of c.args.self.now c.self.inside.blocks c.args.from 0 n c.self.view_is c.requires.from.0 (omega (arith, c.requires.from.1)) in
-    let copied : CopiesCovered old new c.args.from.at c.args.to.at n = subst (CopiesCovered old new c.args.from.at c.args.to.at) c.from.ensures c.copy.ensures.covered in
+    let to : IsGood old c.args.to 0 n = good-of c.args.self.now (with_store c.self.inside.blocks) c.args.to 0 n c.self.view_is c.requires.to.0 (omega (arith, c.requires.to.1)) in
+    let from : IsGood old c.args.from 0 n = good-of c.args.self.now (with_store c.self.inside.blocks) c.args.from 0 n c.self.view_is c.requires.from.0 (omega (arith, c.requires.from.1)) in
+    let copied : CopiesCovered old.blocks new c.args.from.at c.args.to.at n = subst (CopiesCovered old.blocks new c.args.from.at c.args.to.at) c.from.ensures c.copy.ensures.covered in
     copied-kernel old new c.self.invariant c.args.to c.args.from to.0 from.0 to.1 from.1 n some (omega (arith, to.2)) (omega (arith, from.2)) copied
 
 pub returns-clause-row : goal.returns-clause-row
 returns-clause-row c =
-    let old = c.self.inside.blocks in
+    let old = with_store c.self.inside.blocks in
     let new = c.copy.new.self in
     let n = c.args.n in
     let some : 0 < n = omega (arith, c.if-n-eq0.false) in
-    let to : IsGood old c.args.to 0 n = good-of c.args.self.now c.self.inside.blocks c.args.to 0 n c.self.view_is c.requires.to.0 (omega (arith, c.requires.to.1)) in
-    let from : IsGood old c.args.from 0 n = good-of c.args.self.now c.self.inside.blocks c.args.from 0 n c.self.view_is c.requires.from.0 (omega (arith, c.requires.from.1)) in
-    let copied : CopiesCovered old new c.args.from.at c.args.to.at n = subst (CopiesCovered old new c.args.from.at c.args.to.at) c.from.ensures c.copy.ensures.covered in
-    subst (λ s. (target source : table.Reference) → Stands s c.args.to target → Stands s c.args.from source → Calls (table.copy target source n) (Ok tt) s new) c.self.view_is
+    let to : IsGood old c.args.to 0 n = good-of c.args.self.now (with_store c.self.inside.blocks) c.args.to 0 n c.self.view_is c.requires.to.0 (omega (arith, c.requires.to.1)) in
+    let from : IsGood old c.args.from 0 n = good-of c.args.self.now (with_store c.self.inside.blocks) c.args.from 0 n c.self.view_is c.requires.from.0 (omega (arith, c.requires.from.1)) in
+    let copied : CopiesCovered old.blocks new c.args.from.at c.args.to.at n = subst (CopiesCovered old.blocks new c.args.from.at c.args.to.at) c.from.ensures c.copy.ensures.covered in
+    subst (λ s. (target source : Reference) → Stands s c.args.to target → Stands s c.args.from source → Calls (table.copy target source n) (Ok tt) s (with_store new)) c.self.view_is
     (λ target source t u. copied-calls old new c.self.invariant c.args.to c.args.from target source t u n some (omega (arith, same-length old c.args.to 0 n target to t)) (omega (arith, same-length old c.args.from 0 n source from u)) copied)
 
 pub returns-clause-spans : goal.returns-clause-spans

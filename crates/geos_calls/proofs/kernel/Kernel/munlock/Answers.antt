@@ -1,15 +1,27 @@
-use Rattle.std.proofs.Common.{subst, sym, ap, ◌∙◌, ◌<◌}
+use Rattle.std.proofs.Common.{subst, sym, ◌<◌, arith}
 use Rattle.block_handles.specs.Names.{slot_of}
-use Rattle.block_handles.specs.Change.{with_lock_less}
-use Rattle.block_handles.specs.Store.{locks_of, block_at}
-use Rattle.geos_calls.proofs.Views.{slot_of-mem}
-use Rattle.geos_calls.proofs.Locks.{munlock-calls, there_of_locks}
+use Rattle.block_handles.specs.Store as store
+use Rattle.geos_calls.specs.View.{IsLocked}
+use Rattle.geos_calls.proofs.Locks.{unlock-calls, unlock-kernel, with_store}
+use Rattle.geos_calls.proofs.Views.{locks-view}
 use Rattle.geos_calls.proofs.kernel.Kernel.munlock.Goals as goal
+
+pub unlock-requires : goal.unlock-requires
+unlock-requires c =
+    let old = with_store c.self.inside.blocks in
+    let locked = subst (λ s. IsLocked s c.args.name) (sym c.self.view_is) c.requires in
+    omega (arith, locked, locks-view old c.args.name c.self.invariant)
+
+pub invariant_of-self : goal.invariant_of-self
+invariant_of-self c =
+    let old = with_store c.self.inside.blocks in
+    let locked = subst (λ s. IsLocked s c.args.name) (sym c.self.view_is) c.requires in
+    let count : 0 < store.locks_of c.self.inside.blocks (slot_of c.args.name) = omega (arith, locked, locks-view old c.args.name c.self.invariant) in
+    unlock-kernel old c.args.name c.self.invariant c.unlock.new.self count c.unlock.ensures
 
 pub returns : goal.returns
 returns c =
-    let old = c.self.inside.blocks in
-    let name = c.args.name in
-    let locked : 0 < locks_of old (slot_of name) = subst (λ s. 0 < locks_of s (slot_of name)) (sym c.self.view_is) c.requires in
-    let slot = slot_of-mem old name c.self.invariant (there_of_locks old name.h c.self.invariant (block_at old (slot_of name)) locked) in
-    rw (sym c.self.view_is) (munlock-calls old name.h c.self.invariant c.unlock.new.self (rw (sym slot) locked) (c.unlock.ensures ∙ ap (with_lock_less old) slot))
+    let old = with_store c.self.inside.blocks in
+    let locked = subst (λ s. IsLocked s c.args.name) (sym c.self.view_is) c.requires in
+    let count : 0 < store.locks_of c.self.inside.blocks (slot_of c.args.name) = omega (arith, locked, locks-view old c.args.name c.self.invariant) in
+    rw (sym c.self.view_is) (unlock-calls old c.args.name c.self.invariant c.unlock.new.self count c.unlock.ensures)

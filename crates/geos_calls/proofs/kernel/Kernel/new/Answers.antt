@@ -1,12 +1,22 @@
 use Rattle.std.proofs.Common.{subst}
 use Rattle.block_handles.specs.Store.{IsBlock}
+use Rattle.geos_model.specs.Names.{named}
+use Rattle.geos_model.specs.declared.name.Owner.TheVariants.{Vm}
+use Rattle.block_handles.specs.Names.{slot_of}
+use Rattle.geos_calls.proofs.Locks.{with_store}
 use Rattle.geos_calls.proofs.Views.{empty-view}
 use Rattle.geos_calls.proofs.kernel.Kernel.new.Goals as goal
 
 pub invariant_of-result : goal.invariant_of-result
 invariant_of-result c =
     let empty = c.in_ok-new.ensures in
-    record { heaps = λ slot there. absurd (subst IsBlock (empty.none slot) there); handles = λ slot there. absurd (subst IsBlock (empty.none slot) there); mem = λ slot le. empty.none slot; slots = empty.laid.slots; small = rw empty.long c.requires.1 }
+    record {
+      heaps = λ name there. absurd (subst IsBlock (empty.none (slot_of name)) there);
+      handles = λ name there. absurd (subst IsBlock (empty.none (slot_of name)) there);
+      no_vm = λ h there. absurd (subst IsBlock (empty.none (slot_of (named Vm h))) there);
+      slots = empty.laid.slots;
+      small = rw empty.long c.requires.1;
+    }
 
 pub returns-clause-memory : goal.returns-clause-memory
-returns-clause-memory c = empty-view c.in_ok-new.field-0 c.args.region c.in_ok-new.ensures
+returns-clause-memory c = empty-view (with_store c.in_ok-new.field-0) c.args.region c.in_ok-new.ensures

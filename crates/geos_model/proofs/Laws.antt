@@ -1,0 +1,109 @@
+-- General laws of the table of calls.
+use Rattle.std.proofs.Common.{◌≡◌, ◌≢◌, ℕ, zero, suc, ◌<◌, ◌≤◌, Bool, true, false, List, [], ◌∷◌, ◌++◌, length, Option, Some, None, refl, sym, ap, ◌∙◌, arith}
+use Rattle.std.specs.Prelude.{nat_lt, ◌&&◌, Ok, Err}
+use Rattle.std.proofs.lemmas.Option.{none-some}
+use Rattle.std.proofs.lemmas.List.{get_or-set_same, get_or-set_other}
+use Rattle.geos_model.specs.declared.name.Name.{Name}
+use Rattle.geos_model.specs.declared.refusal.Refusal.{Refusal}
+use Rattle.geos_model.specs.declared.refusal.Refusal.TheVariants.{TooBig, NoRoom}
+use Rattle.geos_model.specs.Chunks.{need}
+use Rattle.geos_model.specs.Refusals.{first_refusal}
+use Rattle.geos_model.specs.Memory.{Memory, at_handle, with_entry_at, size_of, chunks_at, with_chunks}
+use Rattle.geos_model.specs.Tight.{is_tight}
+use Rattle.geos_model.specs.Effects.{Choice, Answers, most_size, growing}
+use Rattle.geos_model.specs.Edits.{Edit, Part}
+use Rattle.geos_model.specs.Calls.{changes, enlarges, reads, refers, in_block}
+
+-- nothing is refused from outside
+abbrev pub willing : Choice
+willing = record { first_room = false; last_room = false; device = false; unsure = false; memory = false }
+
+-- all is refused from outside that may be
+abbrev pub unwilling : Choice
+unwilling = record { first_room = true; last_room = true; device = true; unsure = true; memory = true }
+
+-- what is written under a handle is read there
+pub entry-same : {X : Type 0} (none x : X) (xs : List X) (h : ℕ) → 1 ≤ h → h ≤ length xs → at_handle none (with_entry_at xs h x) h ≡ x
+entry-same none x xs zero some most = absurd (omega (arith, some))
+entry-same none x xs (suc h) some most = get_or-set_same xs h x none (omega (arith, most))
+
+-- and under no other
+pub entry-other : {X : Type 0} (none x : X) (xs : List X) (h k : ℕ) → k ≢ h → at_handle none (with_entry_at xs h x) k ≡ at_handle none xs k
+entry-other none x xs zero k ne = refl
+entry-other none x xs (suc h) zero ne = refl
+entry-other none x xs (suc h) (suc k) ne = get_or-set_other xs h k x none (λ e. ne (ap suc e))
+
+-- where none of some refusals comes, those behind them are tried
+pub first_refusal-passed : (xs ys : List (Bool × Refusal)) → first_refusal xs ≡ None → first_refusal (xs ++ ys) ≡ first_refusal ys
+first_refusal-passed [] ys none = refl
+first_refusal-passed ((true, why) ∷ xs) ys none = absurd (none-some why (sym none))
+first_refusal-passed ((false, why) ∷ xs) ys none = first_refusal-passed xs ys none
+
+-- where one of some refusals comes, those behind them are not tried
+pub first_refusal-came : (xs ys : List (Bool × Refusal)) (why : Refusal) → first_refusal xs ≡ Some why → first_refusal (xs ++ ys) ≡ Some why
+first_refusal-came [] ys why some = absurd (none-some why some)
+first_refusal-came ((true, w) ∷ xs) ys why some = some
+first_refusal-came ((false, w) ∷ xs) ys why some = first_refusal-came xs ys why some
+
+fits : (n : ℕ) → n ≤ 65520 → nat_lt 65520 n ≡ false
+fits n le = grind (arith, le)
+
+over : (n m : ℕ) → n < m → nat_lt n m ≡ true
+over n m lt = grind (arith, lt)
+
+module _ {A : Type 0} (edit : List (Option (List ℕ)) → Edit A) (name : Name) (before : Memory) where
+  -- what the call makes of the block's chunks
+  abbrev pub made : Edit A
+  made = edit (chunks_at before name)
+
+  -- a call that may make a block larger succeeds where its own tests pass and the block is not too big
+  pub enlarges-ok : first_refusal made.refusals ≡ None → need made.chunks ≤ 65520 → Answers (enlarges edit name) (Ok made.answer) before (with_chunks before name made.chunks)
+  enlarges-ok passed small = (willing, rw none refl)
+    where
+      grows : (b : Bool) → first_refusal ((false, TooBig) ∷ ((◌&&◌ (◌&&◌ b false) (is_tight before name (need made.chunks))), NoRoom) ∷ []) ≡ None
+      grows true = refl
+      grows false = refl
+
+      none : first_refusal (made.refusals ++ growing willing before name made.chunks) ≡ None
+      none = first_refusal-passed made.refusals (growing willing before name made.chunks) passed ∙ rw (fits (need made.chunks) small) (grows (nat_lt (size_of before name) (need made.chunks)))
+
+  -- it refuses by its own tests first
+  pub enlarges-refused : (why : Refusal) → first_refusal made.refusals ≡ Some why → Answers (enlarges edit name) (Err why) before before
+  enlarges-refused why came = (willing, rw (first_refusal-came made.refusals (growing willing before name made.chunks) why came) refl)
+
+  -- then where the block would be too big
+  pub enlarges-big : first_refusal made.refusals ≡ None → 65520 < need made.chunks → Answers (enlarges edit name) (Err TooBig) before before
+  enlarges-big passed big = (willing, rw came refl)
+    where
+      came : first_refusal (made.refusals ++ growing willing before name made.chunks) ≡ Some TooBig
+      came = first_refusal-passed made.refusals (growing willing before name made.chunks) passed ∙ rw (over 65520 (need made.chunks) big) refl
+
+  -- and may refuse room where the block would grow and room may be wanting
+  pub enlarges-tight : first_refusal made.refusals ≡ None → need made.chunks ≤ 65520 → size_of before name < need made.chunks
+      → is_tight before name (need made.chunks) ≡ true → Answers (enlarges edit name) (Err NoRoom) before before
+  enlarges-tight passed small grows tight = (unwilling, rw came refl)
+    where
+      came : first_refusal (made.refusals ++ growing unwilling before name made.chunks) ≡ Some NoRoom
+      came = first_refusal-passed made.refusals (growing unwilling before name made.chunks) passed
+          ∙ rw (fits (need made.chunks) small, over (size_of before name) (need made.chunks) grows, tight) refl
+
+  -- a call that changes chunks, or tells something of them, goes by its own tests alone
+  pub changes-ok : first_refusal made.refusals ≡ None → Answers (changes edit name) (Ok made.answer) before (with_chunks before name made.chunks)
+  changes-ok passed = (willing, rw passed refl)
+
+  pub changes-refused : (why : Refusal) → first_refusal made.refusals ≡ Some why → Answers (changes edit name) (Err why) before before
+  changes-refused why came = (willing, rw came refl)
+
+  pub reads-ok : first_refusal made.refusals ≡ None → Answers (reads edit name) (Ok made.answer) before before
+  reads-ok passed = (willing, rw passed refl)
+
+  pub reads-refused : (why : Refusal) → first_refusal made.refusals ≡ Some why → Answers (reads edit name) (Err why) before before
+  reads-refused why came = (willing, rw came refl)
+
+module _ (edit : List (Option (List ℕ)) → Edit Part) (name : Name) (before : Memory) where
+  pub refers-ok : first_refusal (edit (chunks_at before name)).refusals ≡ None
+      → Answers (refers edit name) (Ok (in_block name (edit (chunks_at before name)).answer)) before before
+  refers-ok passed = (willing, rw passed refl)
+
+  pub refers-refused : (why : Refusal) → first_refusal (edit (chunks_at before name)).refusals ≡ Some why → Answers (refers edit name) (Err why) before before
+  refers-refused why came = (willing, rw came refl)
