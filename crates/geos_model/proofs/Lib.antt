@@ -19,3 +19,7 @@ pub mod Fits
 pub mod Examples
 pub mod CallExamples
 pub mod Laws
+pub mod LegalBytes
+pub mod LegalChunks
+pub mod LegalBlocks
+pub mod Keeps

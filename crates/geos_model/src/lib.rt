@@ -7,8 +7,10 @@
 //! (GEOS SDK Concepts Book, chapters Memory Management and Local Memory.)
 #![tactic(auto)]
 
+mod law;
 mod name;
 mod refusal;
 
+pub use law::rows_keep_memory;
 pub use name::{Name, Owner};
 pub use refusal::Refusal;

@@ -1,0 +1,139 @@
+-- Each row of the table of calls keeps memory legal.
+use Rattle.std.proofs.Common.{◌≡◌, ℕ, ◌+◌, ◌-◌, ◌≤◌, ◌<◌, Bool, true, false, ◌==◌, if◌then◌else◌, List, [], ◌∷◌, ◌++◌, Option, Some, None, take, nat_lt, refl, arith, ltb-false}
+use Rattle.std.specs.Prelude.{All, is_none, unwrap_or}
+use Rattle.std.proofs.lemmas.Bool.Decides.{nat_tests}
+use Rattle.std.proofs.lemmas.List.Elements.{All-take}
+use Rattle.lmem_raw.specs.Bytes.{with_part}
+use Rattle.geos_model.specs.declared.name.Name.{Name}
+use Rattle.geos_model.specs.declared.name.Owner.TheVariants.{Mem}
+use Rattle.geos_model.specs.declared.refusal.Refusal.{Refusal}
+use Rattle.geos_model.specs.declared.refusal.Refusal.TheVariants.{BadHandle, NoRoom, TooBig, Locked}
+use Rattle.geos_model.specs.Names.{mem}
+use Rattle.geos_model.specs.Refusals.{first_refusal}
+use Rattle.geos_model.specs.Chunks.{need, bytes_of, with_bytes}
+use Rattle.geos_model.specs.Memory.{Memory, new_heap, block_of, locks_of, lowest_handle, chunks_at}
+use Rattle.geos_model.specs.Effects.{Choice, Reference, Effect, come_to, outcome, most_size, most_locks, cannot_grow, growing}
+use Rattle.geos_model.specs.Edits.{Edit, Part, alloc, free, realloc, insert_bytes, delete_bytes, size, refer, contract}
+use Rattle.geos_model.specs.Calls.{changes, enlarges, reads, refers, locks_full, mnew, mlock, unlock, mfree, named_bytes, store, copy}
+use Rattle.geos_model.specs.Legal.{AreBytes, IsChunk, IsMemory}
+use Rattle.geos_model.specs.Keeping.{Keeps, RowsKeepMemory}
+use Rattle.geos_model.proofs.LegalBytes.{bytes-part}
+use Rattle.geos_model.proofs.LegalChunks.{bytes_of-legal, with_new-legal, without-legal, with_resized-legal, with_inserted-legal, with_deleted-legal, with_written-legal, need-without, need-with_deleted, need-with_written}
+use Rattle.geos_model.proofs.LegalBlocks.{new_heap-legal, with_block-legal, with_locks-legal, with_chunks-legal, chunks-need, chunks-bytes, locks-most}
+
+-- Refusals in order
+
+-- where no refusal comes, the first test fails, and of the others none comes
+pub none-here : {R : Type 0} (test : Bool) (refusal : R) (rest : Option R) → (if test then Some refusal else rest) ≡ None → (test ≡ false) × (rest ≡ None)
+none-here true refusal rest h = absurd (let x : Some refusal ≡ None = h in cc)
+none-here false refusal rest h = (refl, h)
+
+pub none-behind : {R : Type 0} (front back : List (Bool × R)) → first_refusal (front ++ back) ≡ None → first_refusal back ≡ None
+none-behind [] back h = h
+none-behind (test ∷ front) back h = none-behind front back (none-here test.0 test.1 (first_refusal (front ++ back)) h).1
+
+-- chunks that are not refused need no more than a block can have
+pub grown-small : (choice : Choice) (memory : Memory) (name : Name) (front : List (Bool × Refusal)) (chunks : List (Option (List ℕ))) →
+    first_refusal (front ++ growing choice memory name chunks) ≡ None → need chunks ≤ most_size
+grown-small choice memory name front chunks h =
+    let behind = none-behind front (growing choice memory name chunks) h in
+    ltb-false most_size (need chunks) (none-here (nat_lt most_size (need chunks)) TooBig (first_refusal ((cannot_grow choice memory name chunks, NoRoom) ∷ [])) behind).0
+
+come_to-kept : {A : Type 0} (refusal : Option Refusal) (left : Refusal → Memory) (answer : A) (after : Memory) → ((r : Refusal) → IsMemory (left r)) →
+    (refusal ≡ None → IsMemory after) → IsMemory (come_to refusal left answer after).1
+come_to-kept None left answer after refused done = done refl
+come_to-kept (Some r) left answer after refused done = refused r
+
+-- a call leaves memory legal where each refusal does, and where it does when no refusal comes
+pub outcome-kept : {A : Type 0} (effect : Effect A) → ((r : Refusal) → IsMemory (effect.left r)) → (first_refusal effect.refusals ≡ None → IsMemory effect.after) → IsMemory (outcome effect).1
+outcome-kept effect refused done = come_to-kept (first_refusal effect.refusals) effect.left effect.answer effect.after refused done
+
+-- Calls on the chunks of one block
+
+-- the chunks that an edit gives are chunks of bytes
+abbrev KeepsBytes : {A : Type 0} → (List (Option (List ℕ)) → Edit A) → Type 0
+KeepsBytes edit = (cs : List (Option (List ℕ))) → All IsChunk cs → All IsChunk (edit cs).chunks
+
+-- an edit needs no more
+abbrev NeedsNoMore : {A : Type 0} → (List (Option (List ℕ)) → Edit A) → Type 0
+NeedsNoMore edit = (cs : List (Option (List ℕ))) → need (edit cs).chunks ≤ need cs
+
+pub changes-kept : {A : Type 0} (edit : List (Option (List ℕ)) → Edit A) (name : Name) → KeepsBytes edit → NeedsNoMore edit → Keeps (changes edit name)
+changes-kept edit name keep less choice memory legal =
+    let most = chunks-need memory name legal in let l = less (chunks_at memory name) in
+    outcome-kept (changes edit name choice memory) (λ r. legal) (λ fine. with_chunks-legal (λ cs. (edit cs).chunks) memory name keep (omega (arith, most, l)) legal)
+
+pub enlarges-kept : {A : Type 0} (edit : List (Option (List ℕ)) → Edit A) (name : Name) → KeepsBytes edit → Keeps (enlarges edit name)
+enlarges-kept edit name keep choice memory legal =
+    let e = edit (chunks_at memory name) in
+    outcome-kept (enlarges edit name choice memory) (λ r. legal) (λ fine. with_chunks-legal (λ cs. (edit cs).chunks) memory name keep (grown-small choice memory name e.refusals e.chunks fine) legal)
+
+pub reads-kept : {A : Type 0} (edit : List (Option (List ℕ)) → Edit A) (name : Name) → Keeps (reads edit name)
+reads-kept edit name choice memory legal = outcome-kept (reads edit name choice memory) (λ r. legal) (λ fine. legal)
+
+pub refers-kept : (edit : List (Option (List ℕ)) → Edit Part) (name : Name) → Keeps (refers edit name)
+refers-kept edit name choice memory legal = outcome-kept (refers edit name choice memory) (λ r. legal) (λ fine. legal)
+
+-- Blocks
+
+mnew-kept : Keeps mnew
+mnew-kept choice memory legal =
+    outcome-kept (mnew choice memory) (λ r. legal)
+    (λ fine. with_block-legal memory (mem (unwrap_or (lowest_handle memory Mem) 0)) (Some (record { locks = 1; heap = new_heap })) (record { heap = new_heap-legal; few = omega arith }) legal)
+
+-- a count that is not the greatest may rise
+locks-rise : (n : ℕ) → (n == most_locks) ≡ false → n ≤ most_locks → n + 1 ≤ most_locks
+locks-rise n h most = grind (arith, nat_tests)
+
+mlock-kept : (h : ℕ) → Keeps (mlock h)
+mlock-kept h choice memory legal =
+    let n = locks_of memory (mem h) in
+    outcome-kept (mlock h choice memory) (λ r. legal) (λ fine.
+    let behind = none-behind ((is_none (block_of memory (mem h)), BadHandle) ∷ []) (locks_full memory (mem h) ∷ []) fine in
+    with_locks-legal memory (mem h) (n + 1) (locks-rise n (none-here (n == most_locks) Locked None behind).0 (locks-most memory (mem h) legal)) legal)
+
+unlock-kept : (name : Name) → Keeps (unlock name)
+unlock-kept name choice memory legal =
+    let most = locks-most memory name legal in
+    outcome-kept (unlock name choice memory) (λ r. legal) (λ fine. with_locks-legal memory name (locks_of memory name - 1) (omega (arith, most)) legal)
+
+mfree-kept : (h : ℕ) → Keeps (mfree h)
+mfree-kept h choice memory legal = outcome-kept (mfree h choice memory) (λ r. legal) (λ fine. with_block-legal memory (mem h) None tt legal)
+
+-- Bytes
+
+store-kept : (ref : Reference) (i : ℕ) (ws : List ℕ) → AreBytes ws → Keeps (store ref i ws)
+store-kept ref i ws are choice memory legal =
+    let most = chunks-need memory ref.name legal in let less = need-with_written (chunks_at memory ref.name) ref.chunk (ref.start + i) ws in
+    outcome-kept (store ref i ws choice memory) (λ r. legal) (λ fine.
+    with_chunks-legal (λ cs. with_bytes cs ref.chunk (with_part (bytes_of cs ref.chunk) (ref.start + i) ws)) memory ref.name
+    (λ cs. with_written-legal cs ref.chunk (ref.start + i) ws are) (omega (arith, most, less)) legal)
+
+pub named_bytes-legal : (memory : Memory) (ref : Reference) → IsMemory memory → AreBytes (named_bytes memory ref)
+named_bytes-legal memory ref legal =
+    bytes-part (bytes_of (chunks_at memory ref.name) ref.chunk) ref.start ref.len (bytes_of-legal (chunks_at memory ref.name) ref.chunk (chunks-bytes memory ref.name legal))
+
+copy-kept : (to from : Reference) (n : ℕ) → Keeps (copy to from n)
+copy-kept to from n choice memory legal =
+    let ws = take n (named_bytes memory from) in
+    store-kept to 0 ws (All-take (λ b. b < 256) n (named_bytes memory from) (named_bytes-legal memory from legal)) choice memory legal
+
+pub rows_keep_memory : RowsKeepMemory
+rows_keep_memory = record {
+  by_mnew = mnew-kept;
+  by_mlock = mlock-kept;
+  by_unlock = unlock-kept;
+  by_mfree = mfree-kept;
+  by_lalloc = λ name n. enlarges-kept (alloc n) name (λ cs. with_new-legal cs n);
+  by_lfree = λ name c. changes-kept (free c) name (λ cs. without-legal cs c) (λ cs. need-without cs c);
+  by_lrealloc = λ name c n. enlarges-kept (realloc c n) name (λ cs. with_resized-legal cs c n);
+  by_lins = λ name c at n. enlarges-kept (insert_bytes c at n) name (λ cs. with_inserted-legal cs c at n);
+  by_ldel = λ name c at n. changes-kept (delete_bytes c at n) name (λ cs. with_deleted-legal cs c at n) (λ cs. need-with_deleted cs c at n);
+  by_lsize = λ name c. reads-kept (size c) name;
+  by_deref = λ name c n. refers-kept (refer c n) name;
+  by_lcontract = λ name. changes-kept contract name (λ cs h. h) (λ cs. omega arith);
+  by_load8 = λ ref i choice memory legal. legal;
+  by_load16 = λ ref i choice memory legal. legal;
+  by_store = store-kept;
+  by_copy = copy-kept;
+}

@@ -1,0 +1,104 @@
+-- What edits do to legal chunks: their bytes stay bytes, and to free, to delete and to write
+-- need no more.
+use Rattle.std.proofs.Common.{◌≡◌, ℕ, ◌+◌, ◌%◌, ◌<◌, ◌≤◌, Bool, true, false, ◌&&◌, ◌==◌, if◌then◌else◌, List, [], ◌∷◌, ◌++◌, Option, Some, None, length, get_or, set, take, drop, replicate, unwrap_or, ap, sym, subst, inl, inr, arith, length-append, length-take, length-drop}
+use Rattle.std.specs.Prelude.{All, nat_le}
+use Rattle.std.proofs.lemmas.Bool.{cases_lt}
+use Rattle.std.proofs.lemmas.List.{set_past, get_or_past}
+use Rattle.std.proofs.lemmas.List.Elements.{All-nil, All-cons, All-append, All-set}
+use Rattle.lmem_raw.specs.Bytes.{with_part}
+use Rattle.lmem_raw.proofs.Parts.{length-with_part}
+use Rattle.geos_model.specs.Chunks.{cost, cost_of, used_bytes, sixteens, need, entry_of, chunk_of, bytes_of, lowest_entry, with_entry, with_new, with_bytes, without, resized, with_zeros, without_part, with_resized, with_inserted, with_deleted}
+use Rattle.geos_model.specs.Legal.{AreBytes, IsChunk}
+use Rattle.geos_model.proofs.Costs.{cost-mono}
+use Rattle.geos_model.proofs.Sums.{cost-zero}
+use Rattle.geos_model.proofs.Lowest.{used-set}
+use Rattle.geos_model.proofs.LegalBytes.{bytes-zeros, bytes-with_part, bytes-resized, bytes-with_zeros, bytes-without_part}
+
+-- Bytes
+
+all-if : (b : Bool) (cs ds : List (Option (List ℕ))) → All IsChunk cs → All IsChunk ds → All IsChunk (if b then cs else ds)
+all-if true cs ds h k = h
+all-if false cs ds h k = k
+
+chunk-if : (b : Bool) (x : Option (List ℕ)) → IsChunk x → IsChunk (if b then x else None)
+chunk-if true x h = h
+chunk-if false x h = tt
+
+chunk-bytes : (x : Option (List ℕ)) → IsChunk x → AreBytes (unwrap_or x [])
+chunk-bytes None h = All-nil (λ b. b < 256)
+chunk-bytes (Some bytes) h = h
+
+entry-legal : (cs : List (Option (List ℕ))) (i : ℕ) → All IsChunk cs → IsChunk (get_or cs i None)
+entry-legal cs i h = elim (cases_lt i (length cs)) [
+  | inl l ↦ h i None l
+  | inr l ↦ subst IsChunk (sym (get_or_past cs i None l)) tt
+]
+
+-- the chunk of a handle has bytes
+pub bytes_of-legal : (cs : List (Option (List ℕ))) (c : ℕ) → All IsChunk cs → AreBytes (bytes_of cs c)
+bytes_of-legal cs c h = chunk-bytes (chunk_of cs c) (chunk-if (nat_le 16 c && (c % 2 == 0)) (get_or cs (entry_of c) None) (entry-legal cs (entry_of c) h))
+
+pub with_entry-legal : (cs : List (Option (List ℕ))) → All IsChunk cs → All IsChunk (with_entry cs)
+with_entry-legal cs h =
+    let two = All-cons IsChunk None (None ∷ []) tt (All-cons IsChunk None [] tt (All-nil IsChunk)) in
+    all-if (lowest_entry cs == length cs) (cs ++ (None ∷ (None ∷ []))) cs (All-append IsChunk cs (None ∷ (None ∷ [])) h two) h
+
+pub with_new-legal : (cs : List (Option (List ℕ))) (n : ℕ) → All IsChunk cs → All IsChunk (with_new cs n)
+with_new-legal cs n h = All-set IsChunk (with_entry cs) (lowest_entry cs) (Some (replicate n 0)) (bytes-zeros n) (with_entry-legal cs h)
+
+pub without-legal : (cs : List (Option (List ℕ))) (c : ℕ) → All IsChunk cs → All IsChunk (without cs c)
+without-legal cs c h = All-set IsChunk cs (entry_of c) None tt h
+
+pub with_bytes-legal : (cs : List (Option (List ℕ))) (c : ℕ) (bytes : List ℕ) → AreBytes bytes → All IsChunk cs → All IsChunk (with_bytes cs c bytes)
+with_bytes-legal cs c bytes are h = All-set IsChunk cs (entry_of c) (Some bytes) are h
+
+pub with_resized-legal : (cs : List (Option (List ℕ))) (c n : ℕ) → All IsChunk cs → All IsChunk (with_resized cs c n)
+with_resized-legal cs c n h = with_bytes-legal cs c (resized (bytes_of cs c) n) (bytes-resized (bytes_of cs c) n (bytes_of-legal cs c h)) h
+
+pub with_inserted-legal : (cs : List (Option (List ℕ))) (c at n : ℕ) → All IsChunk cs → All IsChunk (with_inserted cs c at n)
+with_inserted-legal cs c at n h = with_bytes-legal cs c (with_zeros (bytes_of cs c) at n) (bytes-with_zeros (bytes_of cs c) at n (bytes_of-legal cs c h)) h
+
+pub with_deleted-legal : (cs : List (Option (List ℕ))) (c at n : ℕ) → All IsChunk cs → All IsChunk (with_deleted cs c at n)
+with_deleted-legal cs c at n h = with_bytes-legal cs c (without_part (bytes_of cs c) at n) (bytes-without_part (bytes_of cs c) at n (bytes_of-legal cs c h)) h
+
+pub with_written-legal : (cs : List (Option (List ℕ))) (c at : ℕ) (ws : List ℕ) → AreBytes ws → All IsChunk cs → All IsChunk (with_bytes cs c (with_part (bytes_of cs c) at ws))
+with_written-legal cs c at ws are h = with_bytes-legal cs c (with_part (bytes_of cs c) at ws) (bytes-with_part (bytes_of cs c) at ws (bytes_of-legal cs c h) are) h
+
+-- Need
+
+pub sixteens-mono : (m n : ℕ) → m ≤ n → sixteens m ≤ sixteens n
+sixteens-mono m n h = omega arith
+
+pub need-sixteens : (cs : List (Option (List ℕ))) → need cs % 16 ≡ 0
+need-sixteens cs = omega arith
+
+-- an entry whose chunk takes less than the one before
+pub used-less : (cs : List (Option (List ℕ))) (i : ℕ) (x : Option (List ℕ)) → cost_of x ≤ cost_of (get_or cs i None) → used_bytes (set cs i x) ≤ used_bytes cs
+used-less cs i x h = elim (cases_lt i (length cs)) [
+  | inl l ↦ (let s = used-set cs i x l in omega (arith, s))
+  | inr l ↦ (let s = ap used_bytes (set_past cs i x l) in omega (arith, s))
+]
+
+-- and with other bytes for the chunk of a handle, so many at most as it has
+cost-if : (b : Bool) (x : Option (List ℕ)) → cost (length (unwrap_or (if b then x else None) [])) ≤ cost_of x
+cost-if true None = omega (arith, cost-zero)
+cost-if true (Some bytes) = omega arith
+cost-if false x = omega (arith, cost-zero)
+
+pub need-with_bytes : (cs : List (Option (List ℕ))) (c : ℕ) (bytes : List ℕ) → length bytes ≤ length (bytes_of cs c) → need (with_bytes cs c bytes) ≤ need cs
+need-with_bytes cs c bytes h =
+    let old = cost-if (nat_le 16 c && (c % 2 == 0)) (get_or cs (entry_of c) None) in
+    let new = cost-mono (length bytes) (length (bytes_of cs c)) h in
+    sixteens-mono (used_bytes (with_bytes cs c bytes)) (used_bytes cs) (used-less cs (entry_of c) (Some bytes) (omega (arith, old, new)))
+
+pub need-without : (cs : List (Option (List ℕ))) (c : ℕ) → need (without cs c) ≤ need cs
+need-without cs c = sixteens-mono (used_bytes (without cs c)) (used_bytes cs) (used-less cs (entry_of c) None (omega arith))
+
+pub length-without_part : (bs : List ℕ) (at n : ℕ) → length (without_part bs at n) ≤ length bs
+length-without_part bs at n = omega (arith, length-append (take at bs) (drop (at + n) bs), length-take at bs, length-drop (at + n) bs)
+
+pub need-with_deleted : (cs : List (Option (List ℕ))) (c at n : ℕ) → need (with_deleted cs c at n) ≤ need cs
+need-with_deleted cs c at n = need-with_bytes cs c (without_part (bytes_of cs c) at n) (length-without_part (bytes_of cs c) at n)
+
+pub need-with_written : (cs : List (Option (List ℕ))) (c at : ℕ) (ws : List ℕ) → need (with_bytes cs c (with_part (bytes_of cs c) at ws)) ≤ need cs
+need-with_written cs c at ws = need-with_bytes cs c (with_part (bytes_of cs c) at ws) (omega (arith, length-with_part (bytes_of cs c) at ws))
