@@ -1,7 +1,9 @@
 -- What keeps blocks and memory legal.
-use Rattle.std.proofs.Common.{◌≡◌, ℕ, zero, suc, ◌%◌, ◌≤◌, max, List, [], ◌∷◌, Option, Some, None, length, get_or, set, refl, ◌∙◌, arith, length-set}
+use Rattle.std.proofs.Common.{◌≡◌, ℕ, zero, suc, ◌%◌, ◌≤◌, max, List, [], ◌∷◌, Option, Some, None, length, get_or, set, replicate, refl, sym, subst, inl, inr, ◌∙◌, arith, length-set}
 use Rattle.std.specs.Prelude.{All, IfSome, option_map}
-use Rattle.std.proofs.lemmas.List.Elements.{All-nil, All-cons}
+use Rattle.std.proofs.lemmas.Bool.{cases_lt}
+use Rattle.std.proofs.lemmas.List.{get_or_past, length-replicate}
+use Rattle.std.proofs.lemmas.List.Elements.{All-nil, All-cons, All-replicate}
 use Rattle.geos_model.specs.declared.name.Owner.{Owner}
 use Rattle.geos_model.specs.declared.name.Owner.TheVariants.{Mem, Vm}
 use Rattle.geos_model.specs.declared.name.Name.{Name}
@@ -101,6 +103,26 @@ owned-kept memory Vm h block other k new old = old
 owned-handles : (memory : Memory) (owner : Owner) (h : ℕ) (block : Option Block) → length (with_owned_block memory owner h block).blocks ≡ length memory.blocks
 owned-handles memory Mem h block = length-with_entry_at memory.blocks h block
 owned-handles memory Vm h block = refl
+
+-- where each entry has a legal block or none
+pub memory-legal : (memory : Memory) → length memory.blocks ≡ 1024 → All (λ b. IfSome b IsLegalBlock) memory.blocks → IsMemory memory
+memory-legal memory handles all = record { handles = handles; blocks = λ name. owned-legal name.owner name.h }
+  where
+    entry-legal : (i : ℕ) → IfSome (get_or memory.blocks i None) IsLegalBlock
+    entry-legal i = elim (cases_lt i (length memory.blocks)) [
+      | inl l ↦ all i None l
+      | inr l ↦ subst (λ b. IfSome b IsLegalBlock) (sym (get_or_past memory.blocks i None l)) tt
+    ]
+
+    owned-legal : (owner : Owner) (h : ℕ) → IfSome (owned_block memory owner h) IsLegalBlock
+    owned-legal Mem zero = tt
+    owned-legal Mem (suc h) = entry-legal h
+    owned-legal Vm h = tt
+
+-- memory without a block
+pub empty-legal : (region : ℕ) → IsMemory (record { blocks = replicate 1024 None; region = region })
+empty-legal region =
+    memory-legal (record { blocks = replicate 1024 None; region = region }) (length-replicate {A = Option Block} 1024 None) (All-replicate (λ b. IfSome b IsLegalBlock) 1024 None tt)
 
 -- a legal block, or none, put under a name
 pub with_block-legal : (memory : Memory) (name : Name) (block : Option Block) → IfSome block IsLegalBlock → IsMemory memory → IsMemory (with_block memory name block)

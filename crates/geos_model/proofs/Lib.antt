@@ -21,5 +21,6 @@ pub mod CallExamples
 pub mod Laws
 pub mod LegalBytes
 pub mod LegalChunks
+pub mod LegalHeaps
 pub mod LegalBlocks
 pub mod Keeps
