@@ -1,6 +1,6 @@
 -- Each row of the table of calls keeps memory legal.
 use Rattle.std.proofs.Common.{◌≡◌, ℕ, ◌+◌, ◌-◌, ◌≤◌, ◌<◌, Bool, true, false, ◌==◌, if◌then◌else◌, List, [], ◌∷◌, ◌++◌, Option, Some, None, take, nat_lt, refl, arith, ltb-false}
-use Rattle.std.specs.Prelude.{All, is_none, unwrap_or}
+use Rattle.std.specs.Prelude.{is_none, unwrap_or}
 use Rattle.std.proofs.lemmas.Bool.Decides.{nat_tests}
 use Rattle.std.proofs.lemmas.List.Elements.{All-take}
 use Rattle.lmem_raw.specs.Bytes.{with_part}
@@ -15,7 +15,7 @@ use Rattle.geos_model.specs.Memory.{Memory, new_heap, block_of, locks_of, lowest
 use Rattle.geos_model.specs.Effects.{Choice, Reference, Effect, come_to, outcome, most_size, most_locks, cannot_grow, growing}
 use Rattle.geos_model.specs.Edits.{Edit, Part, alloc, free, realloc, insert_bytes, delete_bytes, size, refer, contract}
 use Rattle.geos_model.specs.Calls.{changes, enlarges, reads, refers, locks_full, mnew, mlock, unlock, mfree, named_bytes, store, copy}
-use Rattle.geos_model.specs.Legal.{AreBytes, IsChunk, IsMemory}
+use Rattle.geos_model.specs.Legal.{AreBytes, AreChunks, IsMemory}
 use Rattle.geos_model.specs.Keeping.{Keeps, RowsKeepMemory}
 use Rattle.geos_model.proofs.LegalBytes.{bytes-part}
 use Rattle.geos_model.proofs.LegalChunks.{bytes_of-legal, with_new-legal, without-legal, with_resized-legal, with_inserted-legal, with_deleted-legal, with_written-legal, need-without, need-with_deleted, need-with_written}
@@ -50,20 +50,20 @@ outcome-kept effect refused done = come_to-kept (first_refusal effect.refusals) 
 
 -- Calls on the chunks of one block
 
--- the chunks that an edit gives are chunks of bytes
-abbrev KeepsBytes : {A : Type 0} → (List (Option (List ℕ)) → Edit A) → Type 0
-KeepsBytes edit = (cs : List (Option (List ℕ))) → All IsChunk cs → All IsChunk (edit cs).chunks
+-- an edit of legal chunks gives legal ones
+abbrev KeepsChunks : {A : Type 0} → (List (Option (List ℕ)) → Edit A) → Type 0
+KeepsChunks edit = (cs : List (Option (List ℕ))) → AreChunks cs → AreChunks (edit cs).chunks
 
 -- an edit needs no more
 abbrev NeedsNoMore : {A : Type 0} → (List (Option (List ℕ)) → Edit A) → Type 0
 NeedsNoMore edit = (cs : List (Option (List ℕ))) → need (edit cs).chunks ≤ need cs
 
-pub changes-kept : {A : Type 0} (edit : List (Option (List ℕ)) → Edit A) (name : Name) → KeepsBytes edit → NeedsNoMore edit → Keeps (changes edit name)
+pub changes-kept : {A : Type 0} (edit : List (Option (List ℕ)) → Edit A) (name : Name) → KeepsChunks edit → NeedsNoMore edit → Keeps (changes edit name)
 changes-kept edit name keep less choice memory legal =
     let most = chunks-need memory name legal in let l = less (chunks_at memory name) in
     outcome-kept (changes edit name choice memory) (λ r. legal) (λ fine. with_chunks-legal (λ cs. (edit cs).chunks) memory name keep (omega (arith, most, l)) legal)
 
-pub enlarges-kept : {A : Type 0} (edit : List (Option (List ℕ)) → Edit A) (name : Name) → KeepsBytes edit → Keeps (enlarges edit name)
+pub enlarges-kept : {A : Type 0} (edit : List (Option (List ℕ)) → Edit A) (name : Name) → KeepsChunks edit → Keeps (enlarges edit name)
 enlarges-kept edit name keep choice memory legal =
     let e = edit (chunks_at memory name) in
     outcome-kept (enlarges edit name choice memory) (λ r. legal) (λ fine. with_chunks-legal (λ cs. (edit cs).chunks) memory name keep (grown-small choice memory name e.refusals e.chunks fine) legal)

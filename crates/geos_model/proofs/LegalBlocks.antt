@@ -10,14 +10,18 @@ use Rattle.geos_model.specs.declared.name.Name.{Name}
 use Rattle.geos_model.specs.Chunks.{need}
 use Rattle.geos_model.specs.Memory.{Block, Memory, at_handle, with_entry_at, owned_block, with_owned_block, block_of, with_block, locks_in, chunks_in, locks_of, chunks_at, new_heap, locked_block, rechunked_block, with_locks, with_chunks}
 use Rattle.geos_model.specs.Effects.{most_size, most_locks}
-use Rattle.geos_model.specs.Legal.{IsChunk, IsLegalHeap, IsLegalBlock, IsMemory}
+use Rattle.geos_model.specs.Legal.{IsChunk, AreChunks, IsLegalHeap, IsLegalBlock, IsMemory}
 use Rattle.geos_model.proofs.LegalChunks.{need-sixteens}
 
 -- One block
 
 pub new_heap-legal : IsLegalHeap new_heap
 new_heap-legal = record {
-  bytes = All-cons IsChunk None (None ∷ []) tt (All-cons IsChunk None [] tt (All-nil IsChunk));
+  chunks = record {
+    bytes = All-cons IsChunk None (None ∷ []) tt (All-cons IsChunk None [] tt (All-nil IsChunk));
+    pairs = refl;
+    some = omega arith;
+  };
   least = omega arith;
   most = omega arith;
   sixteens = refl;
@@ -27,12 +31,12 @@ new_heap-legal = record {
 pub locked-legal : (block : Block) (n : ℕ) → n ≤ most_locks → IsLegalBlock block → IsLegalBlock (locked_block n block)
 locked-legal block n h legal = record { heap = legal.heap; few = h }
 
--- a legal block that grows for chunks of bytes which need no more than a block can have
-pub rechunked-legal : (chunks : List (Option (List ℕ))) (block : Block) → All IsChunk chunks → need chunks ≤ most_size → IsLegalBlock block → IsLegalBlock (rechunked_block chunks block)
-rechunked-legal chunks block bytes small legal =
+-- a legal block that grows for legal chunks which need no more than a block can have
+pub rechunked-legal : (chunks : List (Option (List ℕ))) (block : Block) → AreChunks chunks → need chunks ≤ most_size → IsLegalBlock block → IsLegalBlock (rechunked_block chunks block)
+rechunked-legal chunks block are small legal =
     let size = block.heap.size in let n = need chunks in let rest = need-sixteens chunks in
     let heap : IsLegalHeap (record { chunks = chunks; size = max size n }) = record {
-      bytes = bytes;
+      chunks = are;
       least = sized-least size n legal.heap.least;
       most = sized-most size n legal.heap.most small;
       sixteens = sized-sixteens size n legal.heap.sixteens rest;
@@ -58,10 +62,10 @@ pub if-locked : (block : Option Block) (n : ℕ) → n ≤ most_locks → IfSome
 if-locked None n h legal = tt
 if-locked (Some block) n h legal = locked-legal block n h legal
 
-pub if-rechunked : (f : List (Option (List ℕ)) → List (Option (List ℕ))) (block : Option Block) → ((cs : List (Option (List ℕ))) → All IsChunk cs → All IsChunk (f cs)) →
+pub if-rechunked : (f : List (Option (List ℕ)) → List (Option (List ℕ))) (block : Option Block) → ((cs : List (Option (List ℕ))) → AreChunks cs → AreChunks (f cs)) →
     need (f (chunks_in block)) ≤ most_size → IfSome block IsLegalBlock → IfSome (option_map (rechunked_block (f (chunks_in block))) block) IsLegalBlock
 if-rechunked f None keep small legal = tt
-if-rechunked f (Some block) keep small legal = rechunked-legal (f block.heap.chunks) block (keep block.heap.chunks legal.heap.bytes) small legal
+if-rechunked f (Some block) keep small legal = rechunked-legal (f block.heap.chunks) block (keep block.heap.chunks legal.heap.chunks) small legal
 
 pub need-small : (block : Option Block) → IfSome block IsLegalBlock → need (chunks_in block) ≤ most_size
 need-small None legal = omega arith
@@ -69,7 +73,7 @@ need-small (Some block) legal = let fits = legal.heap.fits in let most = legal.h
 
 pub bytes-all : (block : Option Block) → IfSome block IsLegalBlock → All IsChunk (chunks_in block)
 bytes-all None legal = All-nil IsChunk
-bytes-all (Some block) legal = legal.heap.bytes
+bytes-all (Some block) legal = legal.heap.chunks.bytes
 
 pub locks-few : (block : Option Block) → IfSome block IsLegalBlock → locks_in block ≤ most_locks
 locks-few None legal = omega arith
@@ -135,8 +139,8 @@ with_block-legal memory name block new legal = record {
 pub with_locks-legal : (memory : Memory) (name : Name) (n : ℕ) → n ≤ most_locks → IsMemory memory → IsMemory (with_locks memory name n)
 with_locks-legal memory name n h legal = with_block-legal memory name (option_map (locked_block n) (block_of memory name)) (if-locked (block_of memory name) n h (legal.blocks name)) legal
 
--- other chunks of bytes, which need no more than a block can have
-pub with_chunks-legal : (f : List (Option (List ℕ)) → List (Option (List ℕ))) (memory : Memory) (name : Name) → ((cs : List (Option (List ℕ))) → All IsChunk cs → All IsChunk (f cs)) →
+-- other legal chunks, which need no more than a block can have
+pub with_chunks-legal : (f : List (Option (List ℕ)) → List (Option (List ℕ))) (memory : Memory) (name : Name) → ((cs : List (Option (List ℕ))) → AreChunks cs → AreChunks (f cs)) →
     need (f (chunks_at memory name)) ≤ most_size → IsMemory memory → IsMemory (with_chunks memory name (f (chunks_at memory name)))
 with_chunks-legal f memory name keep small legal =
     let block = block_of memory name in

@@ -1,5 +1,5 @@
 -- The bytes of a heap spell a legal one.
-use Rattle.std.proofs.Common.{ℕ, List, Option, Some, None, length, get_or}
+use Rattle.std.proofs.Common.{◌≡◌, ℕ, ◌%◌, ◌≤◌, List, Option, Some, None, length, get_or, arith}
 use Rattle.std.specs.Prelude.{All, option_map}
 use Rattle.std.specs.List.{range_with_len}
 use Rattle.std.proofs.lemmas.List.Elements.{All-map}
@@ -7,6 +7,7 @@ use Rattle.geos_model.specs.Block.{Place, entry, entries, place_at, bytes_at, ch
 use Rattle.geos_model.specs.Heap.{IsHeap}
 use Rattle.geos_model.specs.Legal.{AreBytes, IsChunk, IsLegalHeap}
 use Rattle.geos_model.proofs.Fits.{need-fits}
+use Rattle.geos_model.proofs.Sums.{count-chunks}
 use Rattle.geos_model.proofs.LegalBytes.{bytes-part}
 
 placed-legal : (b : List ℕ) (place : Option Place) → AreBytes b → IsChunk (option_map (bytes_at b) place)
@@ -22,9 +23,15 @@ chunks-legal b h =
 
 pub heap-legal : (b : List ℕ) → IsHeap b → AreBytes b → IsLegalHeap (record { chunks = chunks b; size = length b })
 heap-legal b heap h = record {
-  bytes = chunks-legal b h;
+  chunks = record { bytes = chunks-legal b h; pairs = even (count-chunks b) heap.0.pairs; some = two (count-chunks b) heap.0.some };
   least = heap.0.least;
   most = heap.0.most;
   sixteens = heap.0.sixteens;
   fits = need-fits b heap;
 }
+  where
+    even : length (chunks b) ≡ entries b → entries b % 2 ≡ 0 → length (chunks b) % 2 ≡ 0
+    even n h = omega arith
+
+    two : length (chunks b) ≡ entries b → 2 ≤ entries b → 2 ≤ length (chunks b)
+    two n h = omega arith

@@ -14,9 +14,15 @@ abbrev pub IsChunk : Option (List ℕ) → Type 0
 IsChunk None = Unit {0}
 IsChunk (Some bytes) = AreBytes bytes
 
--- chunks of bytes, in a block of a legal size that has room for them
+-- entries of a chunk handle table: chunks of bytes, or none; in pairs, one pair at least
+pub record AreChunks (chunks : List (Option (List ℕ))) : Type 0 where
+  pub bytes : All IsChunk chunks
+  pub pairs : length chunks % 2 ≡ 0
+  pub some : 2 ≤ length chunks
+
+-- such chunks, in a block of a legal size that has room for them
 pub record IsLegalHeap (heap : Heap) : Type 0 where
-  pub bytes : All IsChunk heap.chunks
+  pub chunks : AreChunks heap.chunks
   pub least : 64 ≤ heap.size
   pub most : heap.size ≤ most_size
   pub sixteens : heap.size % 16 ≡ 0
