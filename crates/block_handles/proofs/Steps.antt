@@ -1,12 +1,12 @@
 -- What each step of an arena leaves: its fields are sound, and the store is the one that is promised.
-use Rattle.std.proofs.Common.{◌≡◌, ◌≢◌, ℕ, ◌+◌, ◌-◌, ◌/◌, ◌≤◌, ◌<◌, List, ◌++◌, length, replicate, Option, Some, None, slice_index_or, slice_set, refl, ap, sym, subst, ◌∙◌, arith, inr, length-append}
+use Rattle.std.proofs.Common.{◌≡◌, ◌≢◌, ℕ, ◌+◌, ◌-◌, ◌/◌, ◌%◌, ◌≤◌, ◌<◌, List, ◌++◌, length, replicate, Option, Some, None, slice_index_or, slice_set, refl, ap, sym, subst, ◌∙◌, arith, inr, length-append}
 use Rattle.std.proofs.lemmas.List.{length-replicate, get_or-set_same, get_or-set_other, set-get_or}
 use Rattle.lmem_raw.specs.Bytes.{part, with_part}
 use Rattle.lmem_raw.proofs.Parts.{length-with_part, part-same}
 use Rattle.block_handles.specs.declared.arena.Entry.{Entry}
 use Rattle.block_handles.specs.Store.{Block, Store, bytes_of, locks_in, locks_of, IsBlock, IsThere, size_of, place_of}
 use Rattle.block_handles.specs.Change.{with_block, new_block, grown_block, with_locks, block_with_locks}
-use Rattle.block_handles.specs.Layout.{IsLaidOut, IsFreeBut}
+use Rattle.block_handles.specs.Layout.{IsLaidOut, IsFreeBut, IsSize}
 use Rattle.block_handles.specs.View.{block_in, store_in, place_in, Lies, IsSound, IsIndexed}
 use Rattle.block_handles.proofs.Views.{OffEntry, off_slot, off_same, off_less, store-set, part-two, block_there, bytes_there, place_there, lies_there, size_there, lies_set, length-part}
 use Rattle.block_handles.proofs.Layouts.{with_locks-shape, Differs, with_block-differs, laid-differs, SameShape, laid-same, indexed-same, size_of_none, there_small}
@@ -43,17 +43,17 @@ module _ (region : List ℕ) (table : List (Option Entry)) (index : List (Option
       let off : OffEntry (slice_index_or table j None) at (at + n) = off_slot region table at (at + n) j (sound.lies j) (free j ne) in
       off_same region at ws (slice_index_or table j None) (off_less (slice_index_or table j None) at (at + n) at (at + length ws) (omega arith) (omega (arith, e)) off)
 
-  pub create-step : (at size : ℕ) → i < 2048 → (IsThere S i → ⊥) → 64 ≤ size → size ≤ 65520 → at + size ≤ length region → IsFreeBut S i at (at + size) → (region' : List ℕ) → region' ≡ with_part region at (replicate size 0)
+  pub create-step : (at size : ℕ) → i < 2048 → (IsThere S i → ⊥) → IsSize size → at + size ≤ length region → IsFreeBut S i at (at + size) → (region' : List ℕ) → region' ≡ with_part region at (replicate size 0)
       → Step region' (slice_set table i (Some (record { place = at; size = size; locks = 0 }))) (slice_set index (at / 64) (Some i)) (with_block S i (new_block size) at)
-  create-step at size small not big legal room free region' e =
+  create-step at size small not legal room free region' e =
       let long : length (replicate {A = ℕ} size 0) ≡ size = length-replicate size 0 in
       let len : length region' ≡ length region = ap length e ∙ length-with_part region at (replicate size 0) in
       let d : Differs S (with_block S i (new_block size) at) i size at = subst (λ n. Differs S (with_block S i (new_block size) at) i n at) long (with_block-differs S i (new_block size) at sound.laid small) in
-      let laid : IsLaidOut (with_block S i (new_block size) at) = laid-differs S (with_block S i (new_block size) at) i size at d sound.laid room free (λ _. (big, legal)) (λ z. absurd (omega (arith, z))) in
+      let laid : IsLaidOut (with_block S i (new_block size) at) = laid-differs S (with_block S i (new_block size) at) i size at d sound.laid room free (λ _. legal) (λ z. absurd (omega (arith, z, legal.0))) in
       step region' (Some (record { place = at; size = size; locks = 0 })) (slice_set index (at / 64) (Some i)) (new_block size) len
       (λ j ne. ap (λ r. block_in r (slice_index_or table j None)) e ∙ off_all at size (replicate size 0) long free j ne)
       (ap (λ r. Some (record { locks = 0; bytes = part r at size })) e ∙ ap (λ bs. Some (record { locks = 0; bytes = bs })) (ap (λ n. part (with_part region at (replicate size 0)) at n) (sym long) ∙ part-same region at (replicate size 0) (omega (arith, long))))
-      (omega (arith, len)) laid (indexed-put S (with_block S i (new_block size) at) index i size at d (size_of_none S i not) big laid sound.indexed)
+      (omega (arith, len)) laid (indexed-put S (with_block S i (new_block size) at) index i size at d (size_of_none S i not) legal.0 laid sound.indexed)
 
   module _ (e : Entry) (is : slice_index_or table i None ≡ Some e) where
     size-is : size_of S i ≡ e.size
@@ -90,9 +90,9 @@ module _ (region : List ℕ) (table : List (Option Entry)) (index : List (Option
     locks-is : locks_of S i ≡ e.locks
     locks-is = ap locks_in (block_there region table i e is)
 
-    pub relocate-step : (to size : ℕ) → size_of S i ≤ size → size ≤ 65520 → to + size ≤ length region → IsFreeBut S i to (to + size) → (region' : List ℕ) → region' ≡ with_part (with_part region to (part region e.place e.size)) (to + e.size) (replicate (size - e.size) 0)
+    pub relocate-step : (to size : ℕ) → size_of S i ≤ size → size ≤ 65520 → size % 16 ≡ 0 → to + size ≤ length region → IsFreeBut S i to (to + size) → (region' : List ℕ) → region' ≡ with_part (with_part region to (part region e.place e.size)) (to + e.size) (replicate (size - e.size) 0)
         → Step region' (slice_set table i (Some (record { place = to; size = size; locks = e.locks }))) (slice_set (slice_set index (e.place / 64) None) (to / 64) (Some i)) (with_block S i (grown_block S i size) to)
-    relocate-step to size more legal room free region' eq =
+    relocate-step to size more small even room free region' eq =
         let xs : List ℕ = part region e.place e.size in
         let zs : List ℕ = replicate (size - e.size) 0 in
         let one : List ℕ = with_part region to xs in
@@ -107,7 +107,7 @@ module _ (region : List ℕ) (table : List (Option Entry)) (index : List (Option
         let whole : length (bytes_of S i ++ replicate (size - size_of S i) 0) ≡ size = omega (arith, length-append (bytes_of S i) (replicate (size - size_of S i) 0), length-replicate {A = ℕ} (size - size_of S i) 0, more) in
         let d : Differs S S' i size to = subst (λ n. Differs S S' i n to) whole (with_block-differs S i (grown_block S i size) to sound.laid slot-small) in
         let big : 64 ≤ size = omega (arith, (sound.laid.sized i is-there).0, more) in
-        let laid : IsLaidOut S' = laid-differs S S' i size to d sound.laid room free (λ _. (big, legal)) (λ z. absurd (omega (arith, z, big))) in
+        let laid : IsLaidOut S' = laid-differs S S' i size to d sound.laid room free (λ _. (big, small, even)) (λ z. absurd (omega (arith, z, big))) in
         let M : Store = with_block S i None 0 in
         let d' : Differs M S' i size to = record {
           size = d.size;
@@ -150,11 +150,11 @@ module _ (region : List ℕ) (table : List (Option Entry)) (index : List (Option
 
 -- the same over the store that callers see
 module _ (region : List ℕ) (table : List (Option Entry)) (index : List (Option ℕ)) (seen : Store) (view : store_in region table ≡ seen) (sound : IsSound region table index) (i : ℕ) where
-  pub create_seen : (at size : ℕ) → (i < 2048) × (IsThere seen i → ⊥) → (64 ≤ size) × (size ≤ 65520) → at + size ≤ seen.len → IsFreeBut seen i at (at + size) → (region' : List ℕ) → region' ≡ with_part region at (replicate size 0)
+  pub create_seen : (at size : ℕ) → (i < 2048) × (IsThere seen i → ⊥) → IsSize size → at + size ≤ seen.len → IsFreeBut seen i at (at + size) → (region' : List ℕ) → region' ≡ with_part region at (replicate size 0)
       → Step region' (slice_set table i (Some (record { place = at; size = size; locks = 0 }))) (slice_set index (at / 64) (Some i)) (with_block seen i (new_block size) at)
   create_seen at size slot legal room free region' eq =
       subst (λ s. (i < 2048) × (IsThere s i → ⊥) → at + size ≤ s.len → IsFreeBut s i at (at + size) → Step region' (slice_set table i (Some (record { place = at; size = size; locks = 0 }))) (slice_set index (at / 64) (Some i)) (with_block s i (new_block size) at))
-      view (λ slot room free. create-step region table index sound i at size slot.0 slot.1 legal.0 legal.1 room free region' eq) slot room free
+      view (λ slot room free. create-step region table index sound i at size slot.0 slot.1 legal room free region' eq) slot room free
 
   module _ (e : Entry) (is : slice_index_or table i None ≡ Some e) where
     pub remove_seen : Step region (slice_set table i None) (slice_set index (e.place / 64) None) (with_block seen i None 0)
@@ -166,8 +166,8 @@ module _ (region : List ℕ) (table : List (Option Entry)) (index : List (Option
     pub size_seen : e.size ≡ size_of seen i
     size_seen = subst (λ s. e.size ≡ size_of s i) view (sym (size-is region table index sound i e is))
 
-    pub relocate_seen : (to size : ℕ) → (size_of seen i ≤ size) × (size ≤ 65520) → to + size ≤ seen.len → IsFreeBut seen i to (to + size) → (region' : List ℕ) → region' ≡ with_part (with_part region to (part region e.place e.size)) (to + e.size) (replicate (size - e.size) 0)
+    pub relocate_seen : (to size : ℕ) → (size_of seen i ≤ size) × (size ≤ 65520) × (size % 16 ≡ 0) → to + size ≤ seen.len → IsFreeBut seen i to (to + size) → (region' : List ℕ) → region' ≡ with_part (with_part region to (part region e.place e.size)) (to + e.size) (replicate (size - e.size) 0)
         → Step region' (slice_set table i (Some (record { place = to; size = size; locks = e.locks }))) (slice_set (slice_set index (e.place / 64) None) (to / 64) (Some i)) (with_block seen i (grown_block seen i size) to)
     relocate_seen to size legal room free region' eq =
-        subst (λ s. (size_of s i ≤ size) × (size ≤ 65520) → to + size ≤ s.len → IsFreeBut s i to (to + size) → Step region' (slice_set table i (Some (record { place = to; size = size; locks = e.locks }))) (slice_set (slice_set index (e.place / 64) None) (to / 64) (Some i)) (with_block s i (grown_block s i size) to))
-        view (λ legal room free. relocate-step region table index sound i e is to size legal.0 legal.1 room free region' eq) legal room free
+        subst (λ s. (size_of s i ≤ size) × (size ≤ 65520) × (size % 16 ≡ 0) → to + size ≤ s.len → IsFreeBut s i to (to + size) → Step region' (slice_set table i (Some (record { place = to; size = size; locks = e.locks }))) (slice_set (slice_set index (e.place / 64) None) (to / 64) (Some i)) (with_block s i (grown_block s i size) to))
+        view (λ legal room free. relocate-step region table index sound i e is to size legal.0 legal.1 legal.2 room free region' eq) legal room free

@@ -83,7 +83,7 @@ impl Arena {
     ghost use Rattle.block_handles.specs.Layout.{IsEmpty};
     ghost use Rattle.block_handles.specs.Search.{IsFirst, IsLast, BeginsNone};
     ghost use Rattle.block_handles.specs.Store.{IsThere, bytes_of, size_of, place_of, end_of, locks_of, region_len};
-    ghost use Rattle.block_handles.specs.Layout.{IsLaidOut, IsFreeBut};
+    ghost use Rattle.block_handles.specs.Layout.{IsLaidOut, IsFreeBut, IsSize};
     ghost use Rattle.block_handles.specs.Change.{with_block, new_block, grown_block, with_place, with_locks, after_write, block_with_locks};
     ghost use Rattle.block_handles.specs.Lending.{LendsBytes};
     ghost use Rattle.block_handles.specs.Offsets.{Copies, ReadsByte, ReadsWord};
@@ -206,7 +206,7 @@ impl Arena {
     /// Puts a new block into a free slot, where no other lies.
     pub(crate) fn create(&mut self, slot: usize, at: u32, size: u32)
         requires slot { (slot < 2048) × (IsThere self.old slot → ⊥) }
-        requires legal { (64 ≤ size) × (size ≤ 65520) }
+        requires legal { IsSize size }
         requires room { at + size ≤ region_len self.old }
         requires free { IsFreeBut self.old slot at (at + size) }
         ensures store { self.new ≡ with_block self.old slot (new_block size) at }
@@ -225,7 +225,7 @@ impl Arena {
     /// own old place.
     pub(crate) fn relocate(&mut self, slot: usize, to: u32, size: u32)
         requires there { IsThere self.old slot }
-        requires legal { (size_of self.old slot ≤ size) × (size ≤ 65520) }
+        requires legal { (size_of self.old slot ≤ size) × (size ≤ 65520) × (size % 16 ≡ 0) }
         requires room { to + size ≤ region_len self.old }
         requires free { IsFreeBut self.old slot to (to + size) }
         ensures store { self.new ≡ with_block self.old slot (grown_block self.old slot size) to }

@@ -52,7 +52,7 @@ impl Model for Blocks {
 impl Blocks {
     ghost use Rattle.block_handles.specs.Calls.{Makes, Grows};
     ghost use Rattle.block_handles.specs.Change.{with_lock_more, with_lock_less, without, after_write};
-    ghost use Rattle.block_handles.specs.Layout.{IsEmpty, IsLaidOut};
+    ghost use Rattle.block_handles.specs.Layout.{IsEmpty, IsLaidOut, IsSize};
     ghost use Rattle.block_handles.specs.LendingBlocks.{LendsBlock};
     ghost use Rattle.block_handles.specs.Names.{slot_of, IsHandle};
     ghost use Rattle.block_handles.specs.Offsets.{Copies, CopiesCovered, ReadsByte, ReadsWord, WritesCovered};
@@ -119,11 +119,11 @@ impl Blocks {
         self.arena.laid_out();
     }
 
-    /// A block's size in bytes: from 64 to 65,520.
+    /// A block's size in bytes: from 64 to 65,520, a multiple of 16.
     pub fn size(&self, name: Name) -> u32
         requires { IsThere self.now (slot_of name) }
         ensures size { result ≡ size_of self.now (slot_of name) }
-        ensures legal { (64 ≤ result) × (result ≤ 65520) }
+        ensures legal { IsSize result }
     {
         self.arena.laid_out();
         self.arena.size(slot_of(name))
