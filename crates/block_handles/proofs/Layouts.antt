@@ -119,6 +119,17 @@ laid-differs S S' i n p d laid fits free legal none = record {
     both j k nj nk (inl h) = inl (omega (arith, h, d.sizes j nj, d.places j nj, d.places k nk))
     both j k nj nk (inr h) = inr (omega (arith, h, d.sizes k nk, d.places j nj, d.places k nk))
 
+-- a block leaves
+pub laid-gone : (S : Store) (i : ℕ) → IsLaidOut S → IsThere S i → IsLaidOut (with_block S i None 0)
+laid-gone S i laid there =
+    laid-differs S (with_block S i None 0) i 0 0 (with_block-differs S i None 0 laid small) laid (omega arith) (λ j ne. inr (omega arith)) (λ h. absurd (not-none h)) (λ z. refl)
+  where
+    small : i < 2048
+    small = there_small S i laid there
+
+    not-none : IsThere (with_block S i None 0) i → ⊥
+    not-none h = let slot : i < length S.blocks = omega (arith, small, laid.slots) in subst IsBlock (get_or-set_same S.blocks i None None slot) h
+
 -- every block keeps its place and its size
 pub record SameShape (S S' : Store) : Type 0 where
   pub sizes : (j : ℕ) → size_of S' j ≡ size_of S j

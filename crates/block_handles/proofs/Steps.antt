@@ -1,6 +1,6 @@
 -- What each step of an arena leaves: its fields are sound, and the store is the one that is promised.
-use Rattle.std.proofs.Common.{◌≡◌, ◌≢◌, ℕ, ◌+◌, ◌-◌, ◌/◌, ◌%◌, ◌≤◌, ◌<◌, List, ◌++◌, length, replicate, Option, Some, None, slice_index_or, slice_set, refl, ap, sym, subst, ◌∙◌, arith, inr, length-append}
-use Rattle.std.proofs.lemmas.List.{length-replicate, get_or-set_same, get_or-set_other, set-get_or}
+use Rattle.std.proofs.Common.{◌≡◌, ◌≢◌, ℕ, ◌+◌, ◌-◌, ◌/◌, ◌%◌, ◌≤◌, ◌<◌, List, ◌++◌, length, replicate, Option, Some, None, slice_index_or, slice_set, refl, ap, sym, subst, ◌∙◌, arith, length-append}
+use Rattle.std.proofs.lemmas.List.{length-replicate, get_or-set_other, set-get_or}
 use Rattle.lmem_raw.specs.Bytes.{part, with_part}
 use Rattle.lmem_raw.proofs.Parts.{length-with_part, part-same}
 use Rattle.block_handles.specs.declared.arena.Entry.{Entry}
@@ -9,7 +9,7 @@ use Rattle.block_handles.specs.Change.{with_block, new_block, grown_block, with_
 use Rattle.block_handles.specs.Layout.{IsLaidOut, IsFreeBut, IsSize}
 use Rattle.block_handles.specs.View.{block_in, store_in, place_in, Lies, IsSound, IsIndexed}
 use Rattle.block_handles.proofs.Views.{OffEntry, off_slot, off_same, off_less, store-set, part-two, block_there, bytes_there, place_there, lies_there, size_there, lies_set, length-part}
-use Rattle.block_handles.proofs.Layouts.{with_locks-shape, Differs, with_block-differs, laid-differs, SameShape, laid-same, indexed-same, size_of_none, there_small}
+use Rattle.block_handles.proofs.Layouts.{with_locks-shape, Differs, with_block-differs, laid-differs, laid-gone, SameShape, laid-same, indexed-same, size_of_none, there_small}
 use Rattle.block_handles.proofs.Indexing.{indexed-freed, indexed-put}
 
 pub record Step (region : List ℕ) (table : List (Option Entry)) (index : List (Option ℕ)) (S : Store) : Type 0 where
@@ -81,11 +81,7 @@ module _ (region : List ℕ) (table : List (Option Entry)) (index : List (Option
         ap-at h = subst (λ p. IsIndexed (with_block S i None 0) (slice_set index (p / 64) None)) (place_there region table i e is) h
 
     pub remove-step : Step region (slice_set table i None) (slice_set index (e.place / 64) None) (with_block S i None 0)
-    remove-step = step region None (slice_set index (e.place / 64) None) None refl (λ j ne. refl) refl tt
-        (laid-differs S (with_block S i None 0) i 0 0 gone sound.laid (omega arith) (λ j ne. inr (omega arith)) (λ h. absurd (not-none h)) (λ z. refl)) index-gone
-      where
-        not-none : IsThere (with_block S i None 0) i → ⊥
-        not-none h = let slot : i < length S.blocks = omega (arith, slot-small, sound.laid.slots) in subst IsBlock (get_or-set_same S.blocks i None None slot) h
+    remove-step = step region None (slice_set index (e.place / 64) None) None refl (λ j ne. refl) refl tt (laid-gone S i sound.laid is-there) index-gone
 
     locks-is : locks_of S i ≡ e.locks
     locks-is = ap locks_in (block_there region table i e is)

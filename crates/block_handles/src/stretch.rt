@@ -34,9 +34,9 @@ impl Stretch {
 
 /// The stretch with the most room, for a call that may move and replace the block in `but`.
 pub(crate) fn roomiest(arena: &Arena, but: usize) -> Stretch
+    requires { IsLaidOut arena.now }
     ensures { IsRoomiest arena.now but result.from result.until result.room }
 {
-    arena.laid_out();
     let len = arena.len();
     let mut best = Stretch {
         from: 0,
@@ -66,12 +66,12 @@ pub(crate) fn roomiest(arena: &Arena, but: usize) -> Stretch
 /// The first stretch behind an offset with at least `least` bytes of room, for a call that may
 /// move and replace the block in `but`. No block crosses the offset.
 pub(crate) fn next_roomy(arena: &Arena, after: u32, but: usize, least: u32) -> Option<Stretch>
+    requires laid { IsLaidOut arena.now }
     requires edge { IsEdge arena.now after }
     requires inside { after ≤ region_len arena.now }
     ensures roomy { IfSome result (λ s. IsRoomy arena.now but s.from s.until s.room) }
     ensures enough { IfSome result (λ s. least ≤ s.room) }
 {
-    arena.laid_out();
     let len = arena.len();
     let mut from = after;
     let mut scan = after;
