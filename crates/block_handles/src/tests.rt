@@ -158,3 +158,28 @@ fn reads_and_writes_by_offset(rt: HostRuntime) -> Result<(), Fail> {
     );
     Ok(())
 }
+
+#[test]
+fn fills_the_largest_region(rt: HostRuntime) -> Result<(), Fail> {
+    let mut blocks = Blocks::new(rt.alloc(), 16_777_216)?;
+    for h in 1..=256u16 {
+        make(&rt, &mut blocks, h, 65_520)?;
+        fill(&rt, &mut blocks, h, (h % 251) as u8);
+    }
+    assert_eq!(rt; make(&rt, &mut blocks, 257, 4_112), Err(RoomError::NoRoom));
+    make(&rt, &mut blocks, 257, 4_096)?;
+    fill(&rt, &mut blocks, 257, 9);
+    assert_eq!(rt; place(&rt, &blocks, 257), 16_777_216 - 4_096);
+    assert!(rt; is_filled(&rt, &blocks, 257, 4_096, 9));
+    assert_eq!(rt; make(&rt, &mut blocks, 258, 64), Err(RoomError::NoRoom));
+    blocks.free(mem(1))?;
+    blocks.free(mem(257))?;
+    make(&rt, &mut blocks, 258, 4_112)?;
+    make(&rt, &mut blocks, 259, 65_504)?;
+    assert!(rt; is_filled(&rt, &blocks, 259, 0, 0));
+    for h in 2..=256u16 {
+        assert!(rt; is_filled(&rt, &blocks, h, 65_520, (h % 251) as u8));
+    }
+    assert_eq!(rt; make(&rt, &mut blocks, 260, 64), Err(RoomError::NoRoom));
+    Ok(())
+}

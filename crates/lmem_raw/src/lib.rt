@@ -152,29 +152,4 @@ impl Drop for Region {
 }
 
 #[cfg(test)]
-mod tests {
-    use super::*;
-    use std::test::Fail;
-
-    #[test]
-    fn reads_writes_and_moves(rt: HostRuntime) -> Result<(), Fail> {
-        let mut region = Region::new(rt.alloc(), 16)?;
-        assert_eq!(rt; region.len(), 16);
-        assert_eq!(rt; region.slice(0, 16), [0; 16].as_slice());
-        region.put8(1, 7);
-        region.put16(2, 0x1234);
-        assert_eq!(rt; region.get8(1), 7);
-        assert_eq!(rt; region.get16(2), 0x1234);
-        assert_eq!(rt; region.slice(0, 5), [0, 7, 0x34, 0x12, 0].as_slice());
-        region.move_bytes(1, 2, 3);
-        assert_eq!(rt; region.slice(0, 6), [0, 7, 7, 0x34, 0x12, 0].as_slice());
-        region.move_bytes(2, 1, 3);
-        assert_eq!(rt; region.slice(0, 6), [0, 7, 0x34, 0x12, 0x12, 0].as_slice());
-        region.fill(4, 2, 9);
-        assert_eq!(rt; region.slice(3, 4), [0x12, 9, 9, 0].as_slice());
-        region.slice_mut(14, 2).fill(5);
-        assert_eq!(rt; region.get16(14), 0x0505);
-        region.fill(16, 0, 1);
-        Ok(())
-    }
-}
+mod tests;
