@@ -1,4 +1,4 @@
--- Packing a range: the free range between what is packed and what is not goes from one end to the other.
+-- Packing a range: the free range in it goes from one end to the other.
 use Rattle.std.proofs.Common.{◌≡◌, ◌≢◌, ℕ, ◌+◌, ◌-◌, ◌≤◌, ◌<◌, ◌⊎◌, length, slice_index_or, None, refl, ap, sym, subst, ◌∙◌, arith, inl, inr}
 use Rattle.std.proofs.lemmas.Bool.{cases_eq, cases_lt}
 use Rattle.block_handles.specs.Store.{Store, bytes_in, size_of, locks_of, place_of, end_of, slot_count}

@@ -1,4 +1,4 @@
--- What each step of an arena leaves: its fields are sound, and the store is the one that is promised.
+-- What each step of an arena leaves: its fields are sound, and the store is as promised.
 use Rattle.std.proofs.Common.{◌≡◌, ◌≢◌, ℕ, ◌+◌, ◌-◌, ◌/◌, ◌%◌, ◌≤◌, ◌<◌, List, ◌++◌, length, replicate, Option, Some, None, slice_index_or, slice_set, refl, ap, sym, subst, ◌∙◌, arith, length-append}
 use Rattle.std.proofs.lemmas.List.{length-replicate, get_or-set_other, set-get_or}
 use Rattle.lmem_raw.specs.Bytes.{part, with_part}

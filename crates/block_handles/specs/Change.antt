@@ -39,7 +39,7 @@ with_lock_less store slot = with_locks store slot (locks_of store slot - 1)
 abbrev pub without : Store → ℕ → Store
 without store slot = with_block store slot None 0
 
--- the blocks with ws as the bytes of one; where ws has another length it is cut, or filled up from what was there
+-- the blocks with ws as the bytes of one, cut to its size, or filled up from what was there
 abbrev pub blocks_with_bytes : List (Option Block) → ℕ → List ℕ → List (Option Block)
 blocks_with_bytes [] slot ws = []
 blocks_with_bytes (None ∷ blocks) zero ws = None ∷ blocks
@@ -50,7 +50,7 @@ blocks_with_bytes (block ∷ blocks) (suc slot) ws = block ∷ blocks_with_bytes
 abbrev pub with_bytes : Store → ℕ → List ℕ → Store
 with_bytes store slot ws = record store { blocks = blocks_with_bytes store.blocks slot ws }
 
--- a block at this place, after ws were written at an offset of the region: each byte of ws lands where it covers the block
+-- a block at this place, after ws were written at an offset: what falls into it is written
 abbrev pub block_after_write : Option Block → ℕ → ℕ → List ℕ → Option Block
 block_after_write None place at ws = None
 block_after_write (Some block) place at ws = Some (record block { bytes = with_part block.bytes (at - place) (drop (place - at) ws) })

@@ -18,7 +18,7 @@ IsFreeBut store but from until = (slot : ℕ) → slot ≢ but → (end_of store
 abbrev pub IsSize : ℕ → Type 0
 IsSize n = (64 ≤ n) × (n ≤ 65520) × (n % 16 ≡ 0)
 
--- blocks lie in the region, no two overlap, each has a legal size, and what is no block is nowhere
+-- blocks lie in the region, no two overlap, sizes are legal, and a slot with none has place 0
 pub record IsLaidOut (store : Store) : Type 0 where
   pub slots : slot_count store ≡ 2048
   pub spots : length store.places ≡ 2048

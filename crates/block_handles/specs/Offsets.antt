@@ -12,13 +12,15 @@ Covers store slot at = (place_of store slot ≤ at) × (at < end_of store slot)
 abbrev pub CoversRange : Store → ℕ → ℕ → ℕ → Type 0
 CoversRange store slot at n = (place_of store slot ≤ at) × (at + n ≤ end_of store slot)
 
--- where a block covers one of the bytes ws that lie from an offset on, it is the byte of that block
+-- where a block covers one of the bytes ws from an offset on, it is the byte of that block
 abbrev pub ReadsAs : Store → ℕ → List ℕ → Type 0
-ReadsAs store at ws = (slot k : ℕ) → k < length ws → Covers store slot (at + k) → slice_index ws k ≡ slice_index (bytes_of store slot) (at + k - place_of store slot)
+ReadsAs store at ws =
+    (slot k : ℕ) → k < length ws → Covers store slot (at + k) → slice_index ws k ≡ slice_index (bytes_of store slot) (at + k - place_of store slot)
 
 -- where a block covers what is written, that part of it is written, and nothing else
 abbrev pub WritesCovered : Store → Store → ℕ → List ℕ → Type 0
-WritesCovered old new at ws = (slot : ℕ) → 0 < length ws → CoversRange old slot at (length ws) → new ≡ with_bytes old slot (with_part (bytes_of old slot) (at - place_of old slot) ws)
+WritesCovered old new at ws =
+    (slot : ℕ) → 0 < length ws → CoversRange old slot at (length ws) → new ≡ with_bytes old slot (with_part (bytes_of old slot) (at - place_of old slot) ws)
 
 -- the n bytes from one offset on are written at another, as they were before
 pub record Copies (old new : Store) (from to n : ℕ) : Type 0 where
@@ -35,7 +37,7 @@ byte_of store slot at = slice_index (bytes_of store slot) (at - place_of store s
 abbrev pub ReadsByte : Store → ℕ → ℕ → Type 0
 ReadsByte store at byte = (slot : ℕ) → Covers store slot at → byte ≡ byte_of store slot at
 
--- where blocks cover the offset and the next, this is the word of their bytes there, little end first
+-- where blocks cover the offset and the next, this is the word of both, little end first
 abbrev pub ReadsWord : Store → ℕ → ℕ → Type 0
 ReadsWord store at word = (low high : ℕ) → Covers store low at → Covers store high (at + 1) → word ≡ byte_of store low at + 256 * byte_of store high (at + 1)
 

@@ -6,18 +6,23 @@ use Rattle.block_handles.specs.Stretch.{sum_in, unlocked_size, IsStretch, other_
 
 -- each block lies in a range or off it, and but one that lies in it is not locked
 abbrev pub CanPackBut : Store → ℕ → ℕ → ℕ → Type 0
-CanPackBut store but from until = (slot : ℕ) → (end_of store slot ≤ from) ⊎ ((until ≤ place_of store slot) ⊎ ((from ≤ place_of store slot) × (end_of store slot ≤ until) × ((slot ≡ but) ⊎ (locks_of store slot ≡ 0))))
+CanPackBut store but from until =
+    (slot : ℕ) → (end_of store slot ≤ from)
+    ⊎ ((until ≤ place_of store slot) ⊎ ((from ≤ place_of store slot) × (end_of store slot ≤ until) × ((slot ≡ but) ⊎ (locks_of store slot ≡ 0))))
 
 -- each block lies in a range or off it, and none that lies in it is locked
 abbrev pub CanPack : Store → ℕ → ℕ → Type 0
-CanPack store from until = (slot : ℕ) → (end_of store slot ≤ from) ⊎ ((until ≤ place_of store slot) ⊎ ((from ≤ place_of store slot) × (end_of store slot ≤ until) × (locks_of store slot ≡ 0)))
+CanPack store from until =
+    (slot : ℕ) → (end_of store slot ≤ from)
+    ⊎ ((until ≤ place_of store slot) ⊎ ((from ≤ place_of store slot) × (end_of store slot ≤ until) × (locks_of store slot ≡ 0)))
 
--- blocks that lay from `from` to `until` now lie from `low` to `high`; nothing else has changed
+-- blocks that lay from `from` to `until` lie from `low` to `high` now; all else is as it was
 pub record Moves (old new : Store) (from until low high : ℕ) : Type 0 where
   pub blocks : new.blocks ≡ old.blocks
   pub len : new.len ≡ old.len
   pub laid : IsLaidOut new
-  pub moved : (slot : ℕ) → (place_of new slot ≡ place_of old slot) ⊎ ((from ≤ place_of old slot) × (end_of old slot ≤ until) × (locks_of old slot ≡ 0) × (low ≤ place_of new slot) × (end_of new slot ≤ high))
+  pub moved : (slot : ℕ) → (place_of new slot ≡ place_of old slot)
+      ⊎ ((from ≤ place_of old slot) × (end_of old slot ≤ until) × (locks_of old slot ≡ 0) × (low ≤ place_of new slot) × (end_of new slot ≤ high))
 
 -- no block crosses an offset
 abbrev pub IsEdge : Store → ℕ → Type 0

@@ -31,7 +31,7 @@ locked_one store but slot = if nat_eq slot but then 0 else if nat_eq (locks_of s
 abbrev pub IsOtherLocked : Store → ℕ → ℕ → Type 0
 IsOtherLocked store but slot = (slot ≢ but) × (0 < locks_of store slot)
 
--- a stretch of the region before, between or behind the other locked blocks; the whole region where there is none
+-- a stretch before, between or behind the other locked blocks; the region, where there is none
 pub record IsStretch (store : Store) (but from until : ℕ) : Type 0 where
   pub ordered : from ≤ until
   pub begins : (from ≡ 0) ⊎ ((slot : ℕ) × IsOtherLocked store but slot × (end_of store slot ≡ from))

@@ -1,8 +1,9 @@
 //! Moving blocks by their names, in one region.
 //!
-//! A block is named by an owner and a handle. The store may move a block while it is not locked:
-//! it packs the blocks of one stretch of the region, between two locked ones, where a request
-//! needs the room. A locked block keeps its place over every call that does not grow it.
+//! A block is named by an owner and a handle. The store may move a block while it is not
+//! locked: it packs the blocks of one stretch of the region, between two locked ones, where a
+//! request needs the room. A locked block keeps its place over every call that does not grow
+//! it.
 //! (GEOS SDK Concepts Book, chapters Handles and Memory Management.)
 #![tactic(auto)]
 
@@ -247,9 +248,9 @@ impl Blocks {
         Ok(())
     }
 
-    /// Makes a block of `size` zero bytes, not locked, under a name that is not in use. `NoRoom`
-    /// where no stretch of the region has the room, `TooBig` above 65,520 bytes; nothing
-    /// changes then. Unlocked blocks may move.
+    /// Makes a block of `size` zero bytes, not locked, under a name that is not in use.
+    /// `NoRoom` where no stretch of the region has the room, `TooBig` above 65,520 bytes;
+    /// nothing changes then. Unlocked blocks may move.
     pub fn make(&mut self, name: Name, size: u32) -> Result<(), RoomError>
         requires name { IsHandle name.h × (IsThere self.old (slot_of name) → ⊥) }
         requires size { (64 ≤ size) × (size % 16 ≡ 0) }

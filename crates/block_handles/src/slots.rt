@@ -1,4 +1,4 @@
-//! Which slots are in use: a bit for each, so that the lowest free one is found in a few words.
+//! Which slots are in use: a bit for each, so the lowest free one is found in a few words.
 ghost use Rattle.std.specs.Prelude.{◌≡◌, ◌≢◌, ℕ, ◌+◌, ◌*◌, ◌<◌, ◌≤◌, length, IfOk, IfSome, IfNone};
 
 use std::alloc::{AllocError, Global};

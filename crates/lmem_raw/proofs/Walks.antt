@@ -1,4 +1,5 @@
--- What the walks share: the parts of a body, what follows a part, and a walk that holds the thread's token. Assumes `Logic`.
+-- What the walks share: the parts of a body, what follows a part, and a walk that holds the
+-- thread's token. Assumes `Logic`.
 use Rattle.std.proofs.Common.{ℕ, zero, suc, List, [], ◌∷◌}
 use seplogic.Ra.Ura.{Ura}
 use mir.Syntax.{Body}

@@ -112,7 +112,7 @@ slice_mut_spec 𝓤 𝓛 𝓜 𝓡 wired =
     sets ! (of_opd ! (get ! refl)) refl (tt, (tt, (record { fits = fits_n }, tt))) $
     rewrite ! 3 Cell (sym word) refl $
     use1 𝓛 (‵ (Run b (at + o) xs) ⊛ ‵ (Around 𝓛 b o bs at n)) (run_out 𝓛 b o bs at n within) $ split ! $
-    -- [the run; the bytes around it; the room; the field; its cell; the open borrow; obs; auth]
+    -- [the run; the bytes around; the room; the field; its cell; the open borrow; obs; auth]
     move ! (3 ∷ 4 ∷ []) $ fjoin ! $ move ! (3 ∷ 0 ∷ []) $ fjoin ! $ move ! (2 ∷ 0 ∷ []) $ fjoin ! $ move ! (2 ∷ 3 ∷ 4 ∷ 1 ∷ 0 ∷ []) $ group ! 5 $
     let F = new 𝓛 rb ro b o h at n us in let rest = sem 𝓛 (Rest 𝓛 rb ro b o h at n us) in
     let way : (ws : List ℕ) → length ws ≡ length xs → ent 𝓤 (sep 𝓤 (sem 𝓛 (cells (mem u8) ws b (at + o))) rest) (sem 𝓛 ((mem R).own_at (F ws) rb ro)) = λ ws same. back 𝓛 rb ro b o h at n us e within small ws (same ∙ long) in
