@@ -1,6 +1,6 @@
 //! Blocks by slots in a region: what a slot holds, where its block lies, and the one step by
 //! which a block moves or grows.
-ghost use Rattle.std.specs.Prelude.{◌≡◌, ◌≢◌, ℕ, ◌+◌, ◌*◌, ◌-◌, ◌/◌, ◌%◌, ◌^◌, ◌<◌, ◌≤◌, ◌↔◌, List, [], ◌∷◌, length, slice_index, slice_index_or, slice_set, Option, Some, None, IfOk, IfSome, IfNone, IsTrue, All};
+ghost use Rattle.std.specs.Prelude.{◌≡◌, ℕ, ◌+◌, ◌*◌, ◌/◌, ◌%◌, ◌<◌, ◌≤◌, ◌↔◌, [], ◌∷◌, length, slice_index_or, Some, None, IfOk, IfSome, IfNone, IsTrue};
 ghost use Rattle.std.specs.Borrow.{sem};
 ghost use Rattle.block_handles.specs.View.{IsEntry};
 
@@ -84,7 +84,7 @@ impl Arena {
     ghost use Rattle.block_handles.specs.Search.{IsFirst, IsLast, BeginsNone};
     ghost use Rattle.block_handles.specs.Store.{IsThere, bytes_of, size_of, place_of, end_of, locks_of, region_len};
     ghost use Rattle.block_handles.specs.Layout.{IsLaidOut, IsFreeBut, IsSize};
-    ghost use Rattle.block_handles.specs.Change.{with_block, new_block, grown_block, with_place, with_locks, after_write, block_with_locks};
+    ghost use Rattle.block_handles.specs.Change.{with_block, new_block, grown_block, with_place, with_locks, after_write};
     ghost use Rattle.block_handles.specs.Lending.{LendsBytes};
     ghost use Rattle.block_handles.specs.Offsets.{Copies, ReadsByte, ReadsWord};
 

@@ -1,5 +1,5 @@
 //! Packing the unlocked blocks of a stretch: each moves at most once.
-ghost use Rattle.std.specs.Prelude.{◌≡◌, ℕ, ◌+◌, ◌-◌, ◌<◌, ◌≤◌};
+ghost use Rattle.std.specs.Prelude.{◌≡◌, ◌+◌, ◌≤◌};
 ghost use Rattle.block_handles.specs.Layout.{IsLaidOut, IsFree};
 ghost use Rattle.block_handles.specs.Packing.{CanPack, Moves};
 ghost use Rattle.block_handles.specs.Store.{region_len, size_of};

@@ -1,5 +1,5 @@
 //! Room for a block that is made or grown.
-ghost use Rattle.std.specs.Prelude.{◌≡◌, ℕ, ◌+◌, ◌<◌, ◌≤◌, IfOk, OnErr, Err};
+ghost use Rattle.std.specs.Prelude.{◌≡◌, ◌<◌, ◌≤◌, IfOk, OnErr, Err};
 ghost use Rattle.block_handles.specs.Gap.{IsGapBut, MakesRoom};
 ghost use Rattle.block_handles.specs.Layout.{IsLaidOut};
 ghost use Rattle.block_handles.specs.Packing.{IsEdge, IsRoomy};

@@ -1,5 +1,5 @@
 //! The stretches of the region between locked blocks.
-ghost use Rattle.std.specs.Prelude.{◌≡◌, ℕ, ◌+◌, ◌-◌, ◌<◌, ◌≤◌, IfSome};
+ghost use Rattle.std.specs.Prelude.{◌+◌, ◌≤◌, IfSome};
 ghost use Rattle.block_handles.specs.Packing.{IsEdge, IsRoomiest, IsRoomy};
 ghost use Rattle.block_handles.specs.Store.{region_len};
 ghost use Rattle.block_handles.specs.Layout.{IsLaidOut};
