@@ -13,3 +13,4 @@ pub mod Sums
 pub mod Views
 pub mod Walks
 pub mod Writes
+pub mod Regions

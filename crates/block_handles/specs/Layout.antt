@@ -1,6 +1,7 @@
 -- How blocks lie in the region.
-use Rattle.std.specs.Prelude.{◌≡◌, ◌≢◌, ℕ, ◌%◌, ◌≤◌, ◌⊎◌, length, None}
-use Rattle.block_handles.specs.Store.{Store, block_at, IsThere, size_of, place_of, end_of, slot_count}
+use Rattle.std.specs.Prelude.{◌≡◌, ◌≢◌, ℕ, ◌%◌, ◌≤◌, ◌⊎◌, List, length, None}
+use Rattle.lmem_raw.specs.Bytes.{part}
+use Rattle.block_handles.specs.Store.{Store, block_at, IsThere, bytes_of, size_of, place_of, end_of, slot_count}
 
 -- one block ends before the other begins
 abbrev pub Apart : Store → ℕ → ℕ → Type 0
@@ -32,3 +33,8 @@ pub record IsEmpty (store : Store) (len : ℕ) : Type 0 where
   pub none : (slot : ℕ) → block_at store slot ≡ None
   pub long : store.len ≡ len
   pub laid : IsLaidOut store
+
+-- the bytes in which the blocks lie, each from its place on
+pub record IsRegion (store : Store) (region : List ℕ) : Type 0 where
+  pub long : length region ≡ store.len
+  pub blocks : (slot : ℕ) → bytes_of store slot ≡ part region (place_of store slot) (size_of store slot)

@@ -80,7 +80,7 @@ fn empty_index(alloc: Global, n: usize) -> Result<Vec<Option<u16>>, AllocError>
 }
 
 impl Arena {
-    ghost use Rattle.block_handles.specs.Layout.{IsEmpty};
+    ghost use Rattle.block_handles.specs.Layout.{IsEmpty, IsRegion};
     ghost use Rattle.block_handles.specs.Search.{IsFirst, IsLast, BeginsNone};
     ghost use Rattle.block_handles.specs.Store.{IsThere, bytes_of, size_of, place_of, end_of, locks_of, region_len};
     ghost use Rattle.block_handles.specs.Layout.{IsLaidOut, IsFreeBut, IsSize};
@@ -103,6 +103,13 @@ impl Arena {
         ensures { result ≡ region_len self.now }
     {
         self.region.len()
+    }
+
+    /// The bytes of the region, in which the blocks lie.
+    pub(crate) fn region(&self) -> &[u8]
+        ensures { IsRegion self.now result.now }
+    {
+        self.region.slice(0, self.region.len())
     }
 
     /// Whether a slot is in use.

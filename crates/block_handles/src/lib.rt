@@ -53,7 +53,7 @@ impl Model for Blocks {
 impl Blocks {
     ghost use Rattle.block_handles.specs.Calls.{Makes, Grows};
     ghost use Rattle.block_handles.specs.Change.{with_lock_more, with_lock_less, without, after_write};
-    ghost use Rattle.block_handles.specs.Layout.{IsEmpty, IsLaidOut, IsSize};
+    ghost use Rattle.block_handles.specs.Layout.{IsEmpty, IsLaidOut, IsRegion, IsSize};
     ghost use Rattle.block_handles.specs.LendingBlocks.{LendsBlock};
     ghost use Rattle.block_handles.specs.Names.{slot_of, IsHandle};
     ghost use Rattle.block_handles.specs.Offsets.{Copies, CopiesCovered, ReadsByte, ReadsWord, WritesCovered};
@@ -84,6 +84,13 @@ impl Blocks {
         Some((slot - first) as u16 + 1)
     }
 
+    /// The bytes of the region, in which the blocks lie: each block's bytes are those from its place on.
+    pub fn region(&self) -> &[u8]
+        ensures { IsRegion self.now result.now }
+    {
+        self.arena.region()
+    }
+
     /// Whether a block has this name.
     pub fn has(&self, name: Name) -> bool
         ensures { IsTrue result ↔ IsThere self.now (slot_of name) }
@@ -110,13 +117,6 @@ impl Blocks {
         ensures laid { IsLaidOut self.now }
     {
         self.arena.place(slot_of(name))
-    }
-
-    /// What holds of blocks at all times: they lie in the region, and no two overlap.
-    pub fn laid_out(&self)
-        ensures { IsLaidOut self.now }
-    {
-        let _ = &self.arena;
     }
 
     /// A block's size in bytes: from 64 to 65,520, a multiple of 16.

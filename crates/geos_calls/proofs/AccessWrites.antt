@@ -3,7 +3,7 @@ use Rattle.std.proofs.Common.{◌≡◌, ◌≢◌, ℕ, ◌+◌, ◌-◌, ◌<�
 use Rattle.std.specs.Prelude.{Ok, max}
 use Rattle.std.specs.Option.{option_map}
 use Rattle.std.proofs.lemmas.Bool.{cases_eq}
-use Rattle.std.proofs.lemmas.List.{length-set, get_or-set_same}
+use Rattle.std.proofs.lemmas.List.{get_or-set_same}
 use Rattle.lmem_raw.specs.Bytes.{with_part}
 use Rattle.lmem_raw.proofs.Parts.{length-with_part, with_whole}
 use Rattle.geos_model.specs.declared.name.Name.{Name}
@@ -13,7 +13,7 @@ use Rattle.block_handles.specs.Names.{slot_of}
 use Rattle.block_handles.specs.Store as store
 use Rattle.block_handles.specs.Change.{with_bytes}
 use Rattle.block_handles.specs.Offsets.{WritesCovered}
-use Rattle.block_handles.proofs.Laws.{others-same, slot_of-small}
+use Rattle.block_handles.proofs.Laws.{others-same, slot_of-small, laid-with_bytes}
 use Rattle.block_handles.proofs.Writes.{blocks_with_bytes-set}
 use Rattle.geos_model.specs.Block as block
 use Rattle.geos_model.specs.Chunks as chunks
@@ -83,7 +83,7 @@ module _ (old : KernelState) (k : IsKernel old) (ref : Reference) (there : store
 
   block-own : store.block_at written-store.blocks slot ≡ Some (record { locks = store.locks_of old.blocks slot; bytes = written })
   block-own =
-      let small : slot < length old.blocks.blocks = omega (arith, slot_of-small ref.name (handle_of-there old ref.name k there), k.slots) in
+      let small : slot < length old.blocks.blocks = omega (arith, slot_of-small ref.name (handle_of-there old ref.name k there), k.laid.slots) in
       ap (λ bs. get_or bs slot None) blocks-set ∙ get_or-set_same old.blocks.blocks slot (Some (record { locks = store.locks_of old.blocks slot; bytes = written })) None small
 
   own : store.bytes_of written-store.blocks slot ≡ written
@@ -97,7 +97,7 @@ module _ (old : KernelState) (k : IsKernel old) (ref : Reference) (there : store
 
   -- the blocks still are a kernel's
   pub written-kernel : IsKernel written-store
-  written-kernel = record { heaps = heap; handles = handle; no_vm = none; slots = ap length blocks-set ∙ length-set old.blocks.blocks slot _ ∙ k.slots; small = k.small }
+  written-kernel = record { laid = laid-with_bytes old.blocks k.laid slot written; heaps = heap; handles = handle; no_vm = none; small = k.small }
     where
       heap : (name : Name) → store.IsThere written-store.blocks (slot_of name) → IsHeap (store.bytes_of written-store.blocks (slot_of name))
       heap name t = elim (cases_eq (slot_of name) (slot_of ref.name)) [

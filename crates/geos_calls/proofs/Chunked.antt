@@ -1,5 +1,5 @@
 -- A block that has other chunks: memory after the change, the spans that stay, and that the blocks still are a kernel's.
-use Rattle.std.proofs.Common.{◌≡◌, ◌≢◌, ℕ, ◌+◌, ◌<◌, ◌≤◌, List, length, length-set, Option, Some, None, sym, ap, ◌∙◌, arith, subst, inl, inr}
+use Rattle.std.proofs.Common.{◌≡◌, ◌≢◌, ℕ, ◌+◌, ◌<◌, ◌≤◌, List, length, Option, Some, None, sym, ap, ◌∙◌, arith, subst, inl, inr}
 use Rattle.std.specs.Prelude.{max}
 use Rattle.std.proofs.lemmas.Bool.{cases_eq}
 use Rattle.geos_model.specs.declared.name.Name.{Name}
@@ -66,7 +66,7 @@ module _ (old : KernelState) (new : Store) (name : Name) (k : IsKernel old) (the
       stands-on old (with_store new) span ref (ap bytes_in is) (subst (λ o. 0 < locks_in o) (sym is) s.locked) (r.stay (slot_of ref.name) apart s.locked) s
 
   pub regrown-kernel : IsKernel (with_store new)
-  regrown-kernel = record { heaps = heap; handles = handle; no_vm = none; slots = ap length r.blocks ∙ length-set old.blocks.blocks slot _ ∙ k.slots; small = rw r.len k.small }
+  regrown-kernel = record { laid = r.laid k.laid; heaps = heap; handles = handle; no_vm = none; small = rw r.len k.small }
     where
       was : (other : Name) → IsThere new (slot_of other) → IsThere old.blocks (slot_of other)
       was other t = elim (cases_eq (slot_of other) (slot_of name)) [ inl e ↦ subst (IsThere old.blocks) (sym e) there | inr ne ↦ subst IsBlock (same (slot_of other) ne) t ]

@@ -4,7 +4,7 @@ use Rattle.std.specs.Prelude.{Result, Ok, Err, OnOk, OnErr, IfOk}
 use Rattle.lmem_raw.proofs.Parts.{with_whole}
 use Rattle.block_handles.specs.Change.{blocks_with_bytes, with_bytes}
 use Rattle.block_handles.specs.Store.{Block, Store, IsBlock, IsThere, bytes_in, locks_in, bytes_of, size_of}
-use Rattle.block_handles.proofs.Laws.{with_own}
+use Rattle.block_handles.proofs.Laws.{with_own, laid-with_bytes}
 use Rattle.geos_model.specs.Block as block
 use Rattle.geos_model.specs.Heap.{IsHeap}
 use Rattle.geos_calls.specs.Heaps.{Rechunks}
@@ -40,6 +40,7 @@ module _ (old : Store) (slot : ℕ) (there : IsThere old slot) (ws : List ℕ) w
     blocks = with_bytes-set old.blocks slot ws there (long ∙ ap length value);
     stay = λ j ne locked. refl;
     len = refl;
+    laid = λ l. laid-with_bytes old l slot ws;
     heap = heap;
     handle = handle ∙ ap block.handle_word value;
     spells = spells;

@@ -3,7 +3,7 @@ use Rattle.std.proofs.Common.{◌≡◌, ◌≢◌, ℕ, zero, suc, ◌<◌, ◌
 use Rattle.std.specs.Prelude.{Result, Ok, Err, ◌↔◌, OnOk, OnErr, IfSome, nat_lt, ◌==◌, if◌then◌else◌}
 use Rattle.std.proofs.lemmas.Bool.{cases_eq}
 use Rattle.std.proofs.lemmas.Bool.Decides.{nat_tests}
-use Rattle.std.proofs.lemmas.List.{get_or-set_same, get_or-set_other, length-set}
+use Rattle.std.proofs.lemmas.List.{get_or-set_same, get_or-set_other}
 use Rattle.geos_model.specs.declared.name.Name.{Name}
 use Rattle.geos_model.specs.Names.{mem}
 use Rattle.geos_model.specs.Memory as model
@@ -14,6 +14,7 @@ use Rattle.block_handles.specs.declared.error.HandleError.TheVariants as handle
 use Rattle.block_handles.specs.Names.{slot_of}
 use Rattle.block_handles.specs.Store as store
 use Rattle.block_handles.specs.Change as change
+use Rattle.block_handles.proofs.Laws.{laid-with_locks, laid-without}
 use Rattle.geos_calls.specs.declared.span.Span.{Span}
 use Rattle.geos_calls.specs.View.{KernelState, memory_of}
 use Rattle.geos_calls.specs.Spans.{Stands, SpansStay}
@@ -72,7 +73,7 @@ module _ (old : KernelState) (name : Name) (k : IsKernel old) where
 
   -- the blocks still are a kernel's
   pub relocked-kernel : (n : ℕ) → store.IsThere old.blocks slot → IsKernel (relocked n)
-  relocked-kernel n there = kernel-on old (relocked n) (length-set old.blocks.blocks slot (change.block_with_locks old.blocks slot n)) refl same k
+  relocked-kernel n there = kernel-on old (relocked n) refl same (laid-with_locks old.blocks k.laid slot there n) k
     where
       same : (j : ℕ) → Same old (relocked n) j
       same j = elim (cases_eq j (slot_of name)) [
@@ -186,7 +187,7 @@ module _ (old : KernelState) (h : ℕ) (k : IsKernel old) where
 
   pub mfree-kernel : (new : store.Store) (r : Result (Unit {0}) HandleError) → FreesSlot old.blocks new mem_slot r → IsKernel (with_store new)
   mfree-kernel new (Err e) (there, ok, bad, full, err) = subst (λ s. IsKernel (with_store s)) (sym err) k
-  mfree-kernel new (Ok done) (there, ok, bad, full, err) = subst (λ s. IsKernel (with_store s)) (sym ok) (kernel-on old (with_store (change.without old.blocks mem_slot)) (length-set old.blocks.blocks mem_slot None) refl same k)
+  mfree-kernel new (Ok done) (there, ok, bad, full, err) = subst (λ s. IsKernel (with_store s)) (sym ok) (kernel-on old (with_store (change.without old.blocks mem_slot)) refl same (laid-without old.blocks k.laid mem_slot there) k)
     where
       same : (j : ℕ) → Same old (with_store (change.without old.blocks (slot_of (mem h)))) j
       same j = elim (cases_eq j (slot_of (mem h))) [

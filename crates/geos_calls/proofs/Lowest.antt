@@ -19,7 +19,7 @@ module _ (s : KernelState) (k : IsKernel s) where
   blocks = map block_in (take 1024 s.blocks.blocks)
 
   count : length blocks ≡ 1024
-  count = omega (arith, length-map (take 1024 s.blocks.blocks) block_in, length-take 1024 s.blocks.blocks, k.slots)
+  count = omega (arith, length-map (take 1024 s.blocks.blocks) block_in, length-take 1024 s.blocks.blocks, k.laid.slots)
 
   used : (i : ℕ) → i < 1024 → store.IsThere s.blocks (slot_of (mem (suc i))) → is_none (get_or blocks i None) ≡ false
   used i lt there =

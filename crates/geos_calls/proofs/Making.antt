@@ -7,6 +7,8 @@ use Rattle.block_handles.specs.declared.error.HandleError.{HandleError}
 use Rattle.block_handles.specs.declared.error.HandleError.TheVariants as handle
 use Rattle.block_handles.specs.Calls.{Makes}
 use Rattle.block_handles.specs.Change.{blocks_with_bytes, with_bytes, with_lock_more, new_block}
+use Rattle.block_handles.specs.Layout.{IsLaidOut}
+use Rattle.block_handles.proofs.Laws.{laid-with_bytes, laid-with_locks}
 use Rattle.block_handles.specs.Store.{Block, Store, block_at, IsBlock, IsThere, bytes_of, place_of, locks_of, locks_in, bytes_in}
 use Rattle.geos_model.specs.Block as block
 use Rattle.geos_model.specs.Heap.{IsHeap}
@@ -68,6 +70,7 @@ module _ (old made : Store) (slot : ℕ) (m : Makes old made slot 64) (small : s
         blocks = blocks;
         stay = λ j ne some. ap (λ (t : Store). place_of t j) e ∙ m.stay j ne some;
         len = ap (λ (t : Store). t.len) e ∙ m.len;
+        laid = subst IsLaidOut (sym e) (laid-with_locks mid (laid-with_bytes made m.laid slot ws) slot (subst IsBlock (sym there) tt) (locks_of mid slot + 1));
         heap = heap;
         chunks = chunks;
         handle = handle;

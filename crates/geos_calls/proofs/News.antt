@@ -2,7 +2,7 @@
 use Rattle.std.proofs.Common.{◌≡◌, ◌≢◌, ℕ, ◌+◌, ◌-◌, ◌<◌, length, get_or, Option, Some, None, refl, sym, ap, ◌∙◌, arith, subst, inl, inr}
 use Rattle.std.specs.Prelude.{Result, Ok, Err}
 use Rattle.std.proofs.lemmas.Bool.{cases_eq}
-use Rattle.std.proofs.lemmas.List.{get_or-set_same, get_or-set_other, length-set}
+use Rattle.std.proofs.lemmas.List.{get_or-set_same, get_or-set_other}
 use Rattle.geos_model.specs.declared.name.Name.{Name}
 use Rattle.geos_model.specs.declared.name.Owner.TheVariants.{Mem, Vm}
 use Rattle.geos_model.specs.declared.refusal.Refusal.TheVariants.{NoHandle, NoRoom}
@@ -45,7 +45,7 @@ module _ (old : KernelState) (k : IsKernel old) where
     slot = slot_of (mem h)
 
     small : slot < length old.blocks.blocks
-    small = omega (arith, slot_of-small (mem h) low.handle, k.slots)
+    small = omega (arith, slot_of-small (mem h) low.handle, k.laid.slots)
 
     made-other : (j : ℕ) → j ≢ slot → store.block_at new j ≡ store.block_at old.blocks j
     made-other j ne = ap (λ bs. get_or bs j None) made.blocks ∙ get_or-set_other old.blocks.blocks slot j (Some (record { locks = 1; bytes = made.bytes })) None ne
@@ -86,7 +86,7 @@ module _ (old : KernelState) (k : IsKernel old) where
     apart i there same = let e : Vm ≡ Mem = ap (λ n. n.owner) (named-slot (named Vm i) same) in absurd cc
 
     pub kernel-made : IsKernel (with_store new)
-    kernel-made = record { heaps = heap; handles = handle; no_vm = none; slots = ap length made.blocks ∙ length-set old.blocks.blocks slot _ ∙ k.slots; small = rw made.len k.small }
+    kernel-made = record { laid = made.laid; heaps = heap; handles = handle; no_vm = none; small = rw made.len k.small }
       where
         heap : (name : Name) → store.IsThere new (slot_of name) → IsHeap (store.bytes_of new (slot_of name))
         heap name there = elim (cases_eq (slot_of name) slot) [

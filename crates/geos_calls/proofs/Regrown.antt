@@ -8,6 +8,7 @@ use Rattle.block_handles.specs.Store.{Block, Store, block_at, IsBlock, IsThere, 
 use Rattle.geos_model.specs.Block as block
 use Rattle.geos_model.specs.Heap.{IsHeap}
 use Rattle.geos_calls.specs.Heaps.{Rechunks}
+use Rattle.block_handles.proofs.Laws.{laid-with_bytes}
 use Rattle.lmem_heap.proofs.Enlarging.{handle-take}
 use Rattle.geos_calls.proofs.Lent.{with_bytes-set}
 use Rattle.geos_calls.proofs.Views.{inside}
@@ -48,6 +49,7 @@ module _ (old mid : Store) (slot : ℕ) (there : IsThere old slot) (cs : List (O
         ∙ ap (λ l. set old.blocks slot (Some (record { locks = l; bytes = s.bytes }))) rechunked-locks;
     stay = λ j ne locked. s.stay j ne (subst (λ o. 0 < locks_in o) (sym (rechunked-other j ne)) locked) ∙ r.stay j ne locked;
     len = s.len ∙ r.len;
+    laid = λ l. s.laid (r.laid l);
     heap = s.heap;
     handle = s.handle ∙ ap (λ o. block.handle_word (bytes_in o)) rechunked ∙ r.handle;
     spells = s.spells;
@@ -77,6 +79,7 @@ module _ (old mid : Store) (slot size : ℕ) (there : IsThere old slot) (g : Gro
             ∙ ap (λ o. set old.blocks slot (Some (record { locks = locks_in o; bytes = ws }))) grown;
         stay = g.stay;
         len = g.len;
+        laid = λ l. laid-with_bytes mid g.laid slot ws;
         heap = heap;
         handle = handle ∙ sym (handle-take was old_size some) ∙ ap block.handle_word first;
         spells = spells ∙ ap block.chunks first;

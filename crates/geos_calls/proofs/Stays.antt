@@ -8,7 +8,8 @@ use Rattle.geos_model.specs.Block as block
 use Rattle.geos_model.specs.Effects.{Reference, Staleness}
 use Rattle.geos_model.specs.Heap.{IsHeap}
 use Rattle.block_handles.specs.Names.{slot_of}
-use Rattle.block_handles.specs.Store.{Block, slot_count, block_at, IsBlock, IsThere, bytes_of, locks_of, place_of}
+use Rattle.block_handles.specs.Layout.{IsLaidOut}
+use Rattle.block_handles.specs.Store.{Block, block_at, IsBlock, IsThere, bytes_of, locks_of, place_of}
 use Rattle.geos_calls.specs.declared.span.Span.{Span}
 use Rattle.geos_calls.specs.View.{KernelState}
 use Rattle.geos_calls.specs.Spans.{Stands, SpansStay}
@@ -35,9 +36,9 @@ abbrev pub Same : KernelState → KernelState → ℕ → Type 0
 Same old new slot = (block_at new.blocks slot ≡ None) ⊎ ((bytes_of new.blocks slot ≡ bytes_of old.blocks slot) × (IsThere new.blocks slot → IsThere old.blocks slot))
 
 -- blocks still are a kernel's where each slot has the bytes that it had, or none
-pub kernel-on : (old new : KernelState) → slot_count new.blocks ≡ slot_count old.blocks → new.blocks.len ≡ old.blocks.len → ((slot : ℕ) → Same old new slot) → IsKernel old → IsKernel new
-kernel-on old new count len same k = record {
-  slots = count ∙ k.slots;
+pub kernel-on : (old new : KernelState) → new.blocks.len ≡ old.blocks.len → ((slot : ℕ) → Same old new slot) → IsLaidOut new.blocks → IsKernel old → IsKernel new
+kernel-on old new len same laid k = record {
+  laid = laid;
   small = rw len k.small;
   heaps = λ name there. heap name there (same (slot_of name));
   handles = λ name there. handle name there (same (slot_of name));

@@ -63,12 +63,12 @@ module _ (s : KernelState) (h : ℕ) (k : IsKernel s) (q : IsHandle h) where
   slot = slot_of (mem h)
 
   count : length others ≡ 1024
-  count = omega (arith, length-set (map block_in (take 1024 s.blocks.blocks)) (h - 1) None, length-map (take 1024 s.blocks.blocks) block_in, length-take 1024 s.blocks.blocks, k.slots)
+  count = omega (arith, length-set (map block_in (take 1024 s.blocks.blocks)) (h - 1) None, length-map (take 1024 s.blocks.blocks) block_in, length-take 1024 s.blocks.blocks, k.laid.slots)
 
   own : get_or others slot None ≡ None
   own =
       let e = slot_of-mem h q in
-      ap (λ i. get_or others i None) e ∙ get_or-set_same (map block_in (take 1024 s.blocks.blocks)) (h - 1) None None (omega (arith, q.0, q.1, length-map (take 1024 s.blocks.blocks) block_in, length-take 1024 s.blocks.blocks, k.slots))
+      ap (λ i. get_or others i None) e ∙ get_or-set_same (map block_in (take 1024 s.blocks.blocks)) (h - 1) None None (omega (arith, q.0, q.1, length-map (take 1024 s.blocks.blocks) block_in, length-take 1024 s.blocks.blocks, k.laid.slots))
 
   other : (i : ℕ) → i < 1024 → i ≢ slot → get_or others i None ≡ block_in (store.block_at s.blocks i)
   other i lt ne =
@@ -79,7 +79,7 @@ module _ (s : KernelState) (h : ℕ) (k : IsKernel s) (q : IsHandle h) where
   total_others : (f : ℕ → ℕ) (g : Option model.Block → ℕ) → ((i : ℕ) → i < 1024 → f i ≡ g (get_or others i None)) → ((i : ℕ) → 1024 ≤ i → f i ≡ 0)
       → total (store.slot_count s.blocks) f ≡ sum_by g others
   total_others f g same none =
-      ap (λ n. total n f) k.slots ∙ total_zero f 1024 2048 (omega arith) none ∙ total_sum g others None f 1024 (omega (arith, count)) same
+      ap (λ n. total n f) k.laid.slots ∙ total_zero f 1024 2048 (omega arith) none ∙ total_sum g others None f 1024 (omega (arith, count)) same
       ∙ ap (sum_by g) (take_all 1024 others (omega (arith, count)))
 
   size_view : (o : Option store.Block) → length (store.bytes_in o) ≡ model.size_in (block_in o)

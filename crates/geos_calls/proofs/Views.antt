@@ -29,7 +29,7 @@ there_of_locks (Some b) some = tt
 
 -- no block is at a name that has no slot
 pub slotless : (s : KernelState) (name : Name) → IsKernel s → slot_of name ≡ 2048 → store.IsThere s.blocks (slot_of name) → ⊥
-slotless s name k past there = omega (arith, inside s.blocks (slot_of name) there, k.slots, past)
+slotless s name k past there = omega (arith, inside s.blocks (slot_of name) there, k.laid.slots, past)
 
 -- the slot of a handle of global memory is one less
 pub slot_of-mem : (h : ℕ) → IsHandle h → slot_of (mem h) ≡ h - 1
@@ -53,7 +53,7 @@ slot_handle name few = elim (cases_lt name.h 1) [
 
 -- a name with a block has a handle
 pub handle_of-there : (s : KernelState) (name : Name) → IsKernel s → store.IsThere s.blocks (slot_of name) → IsHandle name.h
-handle_of-there s name k there = slot_handle name (omega (arith, inside s.blocks (slot_of name) there, k.slots))
+handle_of-there s name k there = slot_handle name (omega (arith, inside s.blocks (slot_of name) there, k.laid.slots))
 
 -- two names with blocks have one slot only where they are one
 pub other-slot : (s : KernelState) (a b : Name) → IsKernel s → store.IsThere s.blocks (slot_of a) → store.IsThere s.blocks (slot_of b) → a ≢ b → slot_of a ≢ slot_of b
@@ -66,7 +66,7 @@ high-absent s k i high = elim (cases_lt i 2048) [
       let slot : slot_of (named Vm (i - 1023)) ≡ i = slot_of-handle Vm (i - 1023) (omega (arith, high), omega (arith, lt)) ∙ omega (arith, high) in
       no_block (store.block_at s.blocks i) (λ there. k.no_vm (i - 1023) (subst (store.IsThere s.blocks) (sym slot) there))
       )
-  | inr past ↦ get_or_past s.blocks.blocks i None (omega (arith, past, k.slots))
+  | inr past ↦ get_or_past s.blocks.blocks i None (omega (arith, past, k.laid.slots))
 ]
   where
     no_block : (o : Option store.Block) → (store.IsBlock o → ⊥) → o ≡ None

@@ -5,6 +5,7 @@ use Rattle.block_handles.specs.Names.{slot_of}
 use Rattle.block_handles.specs.Store as store
 use Rattle.block_handles.specs.Store.{Store, IsThere, locks_of}
 use Rattle.block_handles.specs.Change.{LockedStay}
+use Rattle.block_handles.specs.Layout.{IsLaidOut}
 use Rattle.block_handles.specs.Stretch.{HasNoRoom}
 use Rattle.lmem_heap.specs.declared.error.RoomError.{RoomError}
 use Rattle.lmem_heap.specs.declared.error.RoomError.TheVariants as room
@@ -35,6 +36,7 @@ pub record Rechunks (old new : Store) (slot : ℕ) (chunks : List (Option (List 
   pub blocks : new.blocks ≡ set old.blocks slot (Some (record { locks = locks_of old slot; bytes = bytes }))
   pub stay : LockedStay old new slot
   pub len : new.len ≡ old.len
+  pub laid : IsLaidOut old → IsLaidOut new
   pub heap : IsHeap bytes
   pub handle : block.handle_word bytes ≡ block.handle_word (store.bytes_of old slot)
   pub spells : block.chunks bytes ≡ chunks

@@ -1,8 +1,9 @@
 -- What holds of a kernel, and what its calls promise.
 use Rattle.std.specs.Prelude.{List, [], ◌∷◌, length, set, Some, ◌≡◌, ℕ, ◌≤◌, Option, None, Result, Ok, Err}
 use Rattle.block_handles.specs.Names.{slot_of}
-use Rattle.block_handles.specs.Store.{Store, IsThere, bytes_of, slot_count, region_len}
+use Rattle.block_handles.specs.Store.{Store, IsThere, bytes_of, region_len}
 use Rattle.block_handles.specs.Change.{LockedStay}
+use Rattle.block_handles.specs.Layout.{IsLaidOut}
 use Rattle.block_handles.specs.Used.{IsLowest}
 use Rattle.block_handles.specs.Stretch.{HasNoRoom}
 use Rattle.geos_model.specs.declared.name.Owner.TheVariants.{Mem, Vm}
@@ -17,13 +18,13 @@ use Rattle.geos_calls.specs.declared.span.Span.{Span}
 use Rattle.geos_calls.specs.View.{KernelState, memory_of}
 use Rattle.geos_calls.specs.Spans.{Stands, SpansStay}
 
--- each named block holds a heap, which begins with the block's handle; no block of the VM file is there; there is a slot for
--- each name, and offsets are small numbers
+-- blocks lie in the region, and no two overlap; each named block holds a heap, which begins with the block's handle; no block of
+-- the VM file is there; and offsets are small numbers
 pub record IsKernel (s : KernelState) : Type 0 where
+  pub laid : IsLaidOut s.blocks
   pub heaps : (name : Name) → IsThere s.blocks (slot_of name) → IsHeap (bytes_of s.blocks (slot_of name))
   pub handles : (name : Name) → IsThere s.blocks (slot_of name) → block.handle_word (bytes_of s.blocks (slot_of name)) ≡ name.h
   pub no_vm : (h : ℕ) → IsThere s.blocks (slot_of (named Vm h)) → ⊥
-  pub slots : slot_count s.blocks ≡ 2048
   pub small : region_len s.blocks ≤ 16777216
 
 -- a call answers as its row says, and spans that it does not make stale stay
@@ -38,6 +39,7 @@ pub record MakesHeap (old new : Store) (slot h : ℕ) : Type 0 where
   pub blocks : new.blocks ≡ set old.blocks slot (Some (record { locks = 1; bytes = bytes }))
   pub stay : LockedStay old new slot
   pub len : new.len ≡ old.len
+  pub laid : IsLaidOut new
   pub heap : IsHeap bytes
   pub chunks : block.chunks bytes ≡ None ∷ None ∷ []
   pub handle : block.handle_word bytes ≡ h

@@ -21,7 +21,6 @@ impl Kernel {
         requires within { i < span.len }
         ensures { (ref : Reference) → Stands self.now span ref → Calls (table.load8 ref i) (Ok result) self.now self.now }
     {
-        self.blocks.laid_out();
         self.blocks.read8(span.at + u32::from(i))
     }
 
@@ -31,7 +30,6 @@ impl Kernel {
         requires within { i + 2 ≤ span.len }
         ensures { (ref : Reference) → Stands self.now span ref → Calls (table.load16 ref i) (Ok result) self.now self.now }
     {
-        self.blocks.laid_out();
         self.blocks.read16(span.at + u32::from(i))
     }
 
@@ -42,7 +40,6 @@ impl Kernel {
         ensures row { (ref : Reference) → Stands self.old span ref → Calls (table.store ref i (byte ∷ [])) (Ok tt) self.old self.new }
         ensures spans { SpansStay self.old self.new Nothing }
     {
-        self.blocks.laid_out();
         self.blocks.write8(span.at + u32::from(i), byte);
     }
 
@@ -53,7 +50,6 @@ impl Kernel {
         ensures row { (ref : Reference) → Stands self.old span ref → Calls (table.store ref i (word_bytes word)) (Ok tt) self.old self.new }
         ensures spans { SpansStay self.old self.new Nothing }
     {
-        self.blocks.laid_out();
         self.blocks.write16(span.at + u32::from(i), word);
     }
 
@@ -65,10 +61,10 @@ impl Kernel {
         ensures row { (target source : Reference) → Stands self.old to target → Stands self.old from source → Calls (table.copy target source n) (Ok tt) self.old self.new }
         ensures spans { SpansStay self.old self.new Nothing }
     {
-        self.blocks.laid_out();
+        let blocks = &mut self.blocks;
         if n == 0 {
             return;
         }
-        self.blocks.copy(from.at, to.at, u32::from(n));
+        blocks.copy(from.at, to.at, u32::from(n));
     }
 }

@@ -2,7 +2,7 @@ use super::*;
 use std::process::Abort;
 use std::test::Fail;
 
-/// The length of the largest region.
+/// The length of the largest region that a kernel has.
 const MOST: u32 = 16_777_216;
 
 fn get8(rt: &impl Abort, region: &Region, at: u32) -> u8 {

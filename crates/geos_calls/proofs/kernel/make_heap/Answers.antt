@@ -13,7 +13,7 @@ bytes_mut-requires c =
     let old = c.args.blocks.now in
     let slot = slot_of c.args.name in
     let made = of_ok (Makes old c.make.new.self slot 64) c.make.result (sym c.is_err.ensures.value ∙ c.if-is_err.false) c.make.ensures.ok in
-    let small : slot < slot_count old = omega (arith, slot_of-small c.args.name c.requires.handle, c.requires.kernel.slots) in
+    let small : slot < slot_count old = omega (arith, slot_of-small c.args.name c.requires.handle, c.requires.kernel.laid.slots) in
     made-there old c.make.new.self slot made small
 
 pub init-requires : goal.init-requires
@@ -21,7 +21,7 @@ init-requires c =
     let old = c.args.blocks.now in
     let slot = slot_of c.args.name in
     let made = of_ok (Makes old c.make.new.self slot 64) c.make.result (sym c.is_err.ensures.value ∙ c.if-is_err.false) c.make.ensures.ok in
-    let small : slot < slot_count old = omega (arith, slot_of-small c.args.name c.requires.handle, c.requires.kernel.slots) in
+    let small : slot < slot_count old = omega (arith, slot_of-small c.args.name c.requires.handle, c.requires.kernel.laid.slots) in
     let long : length c.bytes_mut.result.now ≡ 64 = ap length c.bytes_mut.ensures.value ∙ made-length old c.make.new.self slot made small in
     (omega (arith, long), omega (arith, long), rw long refl)
 
@@ -30,7 +30,7 @@ returns-clause-ok c =
     let old = c.args.blocks.now in
     let slot = slot_of c.args.name in
     let made = of_ok (Makes old c.make.new.self slot 64) c.make.result (sym c.is_err.ensures.value ∙ c.if-is_err.false) c.make.ensures.ok in
-    let small : slot < slot_count old = omega (arith, slot_of-small c.args.name c.requires.handle, c.requires.kernel.slots) in
+    let small : slot < slot_count old = omega (arith, slot_of-small c.args.name c.requires.handle, c.requires.kernel.laid.slots) in
     let long : length c.init.new.block ≡ 64 = c.init.auto.block ∙ ap length c.bytes_mut.ensures.value ∙ made-length old c.make.new.self slot made small in
     let e = c.lock-locked.ensures in
     let ok = first-lock old c.make.new.self slot made small c.lock-locked.new.self c.init.new.block c.lock-locked.result long (e.there, e.ok, e.bad_handle, e.locked, e.err) in
@@ -43,7 +43,7 @@ returns-clause-no_room c =
     let old = c.args.blocks.now in
     let slot = slot_of c.args.name in
     let made = of_ok (Makes old c.make.new.self slot 64) c.make.result (sym c.is_err.ensures.value ∙ c.if-is_err.false) c.make.ensures.ok in
-    let small : slot < slot_count old = omega (arith, slot_of-small c.args.name c.requires.handle, c.requires.kernel.slots) in
+    let small : slot < slot_count old = omega (arith, slot_of-small c.args.name c.requires.handle, c.requires.kernel.laid.slots) in
     let long : length c.init.new.block ≡ 64 = c.init.auto.block ∙ ap length c.bytes_mut.ensures.value ∙ made-length old c.make.new.self slot made small in
     let e = c.lock-locked.ensures in
     let ok = first-lock old c.make.new.self slot made small c.lock-locked.new.self c.init.new.block c.lock-locked.result long (e.there, e.ok, e.bad_handle, e.locked, e.err) in

@@ -12,7 +12,7 @@ use Rattle.geos_calls.proofs.kernel.Kernel.copy.Goals as goal
 pub returns-then-n-eq0-clause-row : goal.returns-then-n-eq0-clause-row
 returns-then-n-eq0-clause-row c =
     let old = with_store c.self.inside.blocks in
-    subst (λ s. (target source : Reference) → Stands s c.args.to target → Stands s c.args.from source → Calls (table.copy target source c.args.n) (Ok tt) s s) c.self.view_is
+    subst (λ s. (target source : Reference) → Stands s c.args.to target → Stands s c.args.from source → Calls (table.copy target source c.args.n) (Ok tt) s old) c.self.view_is
     (λ target source t u. nothing-copied old c.args.to target source c.args.n c.self.invariant c.if-n-eq0.true t)
 
 pub copy-requires : goal.copy-requires
@@ -22,12 +22,12 @@ copy-requires c =
     let some : 0 < n = omega (arith, c.if-n-eq0.false) in
     let to : IsGood s c.args.to 0 n = good-of c.args.self.now (with_store c.self.inside.blocks) c.args.to 0 n c.self.view_is c.requires.to.0 (omega (arith, c.requires.to.1)) in
     let from : IsGood s c.args.from 0 n = good-of c.args.self.now (with_store c.self.inside.blocks) c.args.from 0 n c.self.view_is c.requires.from.0 (omega (arith, c.requires.from.1)) in
-    let to_lies = good-region s c.args.to 0 n c.laid_out.ensures to some in
-    let from_lies = good-region s c.args.from 0 n c.laid_out.ensures from some in
+    let to_lies = good-region s c.args.to 0 n c.self.invariant.laid to some in
+    let from_lies = good-region s c.args.from 0 n c.self.invariant.laid from some in
     (omega (arith, from_lies, c.from.ensures), omega (arith, to_lies, c.from.ensures))
 
-pub invariant_of-self : goal.invariant_of-self
-invariant_of-self c =
+pub invariant_of-self-2 : goal.invariant_of-self-2
+invariant_of-self-2 c =
     let old = with_store c.self.inside.blocks in
     let new = c.copy.new.self in
     let n = c.args.n in

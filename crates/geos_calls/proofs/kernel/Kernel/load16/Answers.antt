@@ -10,12 +10,12 @@ use Rattle.geos_calls.proofs.kernel.Kernel.load16.Goals as goal
 pub overflow_add-span : goal.overflow_add-span
 overflow_add-span c =
     let good : IsGood (with_store c.self.inside.blocks) c.args.span c.args.i 2 = good-of c.args.self.now (with_store c.self.inside.blocks) c.args.span c.args.i 2 c.self.view_is c.requires.stands (omega (arith, c.requires.within)) in
-    omega (arith, good-region (with_store c.self.inside.blocks) c.args.span c.args.i 2 c.laid_out.ensures good (omega arith), c.self.invariant.small, c.from.ensures)
+    omega (arith, good-region (with_store c.self.inside.blocks) c.args.span c.args.i 2 c.self.invariant.laid good (omega arith), c.self.invariant.small, c.from.ensures)
 
 pub read16-requires : goal.read16-requires
 read16-requires c =
     let good : IsGood (with_store c.self.inside.blocks) c.args.span c.args.i 2 = good-of c.args.self.now (with_store c.self.inside.blocks) c.args.span c.args.i 2 c.self.view_is c.requires.stands (omega (arith, c.requires.within)) in
-    omega (arith, good-region (with_store c.self.inside.blocks) c.args.span c.args.i 2 c.laid_out.ensures good (omega arith), c.from.ensures)
+    omega (arith, good-region (with_store c.self.inside.blocks) c.args.span c.args.i 2 c.self.invariant.laid good (omega arith), c.from.ensures)
 
 pub returns : goal.returns
 returns c =

@@ -10,12 +10,12 @@ use Rattle.geos_calls.proofs.kernel.Kernel.load8.Goals as goal
 pub overflow_add-span : goal.overflow_add-span
 overflow_add-span c =
     let good : IsGood (with_store c.self.inside.blocks) c.args.span c.args.i 1 = good-of c.args.self.now (with_store c.self.inside.blocks) c.args.span c.args.i 1 c.self.view_is c.requires.stands (omega (arith, c.requires.within)) in
-    omega (arith, good-region (with_store c.self.inside.blocks) c.args.span c.args.i 1 c.laid_out.ensures good (omega arith), c.self.invariant.small, c.from.ensures)
+    omega (arith, good-region (with_store c.self.inside.blocks) c.args.span c.args.i 1 c.self.invariant.laid good (omega arith), c.self.invariant.small, c.from.ensures)
 
 pub read8-requires : goal.read8-requires
 read8-requires c =
     let good : IsGood (with_store c.self.inside.blocks) c.args.span c.args.i 1 = good-of c.args.self.now (with_store c.self.inside.blocks) c.args.span c.args.i 1 c.self.view_is c.requires.stands (omega (arith, c.requires.within)) in
-    omega (arith, good-region (with_store c.self.inside.blocks) c.args.span c.args.i 1 c.laid_out.ensures good (omega arith), c.from.ensures)
+    omega (arith, good-region (with_store c.self.inside.blocks) c.args.span c.args.i 1 c.self.invariant.laid good (omega arith), c.from.ensures)
 
 pub returns : goal.returns
 returns c =

@@ -11,10 +11,10 @@ pub invariant_of-result : goal.invariant_of-result
 invariant_of-result c =
     let empty = c.in_ok-new.ensures in
     record {
+      laid = empty.laid;
       heaps = λ name there. absurd (subst IsBlock (empty.none (slot_of name)) there);
       handles = λ name there. absurd (subst IsBlock (empty.none (slot_of name)) there);
       no_vm = λ h there. absurd (subst IsBlock (empty.none (slot_of (named Vm h))) there);
-      slots = empty.laid.slots;
       small = rw empty.long c.requires.1;
     }
 

@@ -11,12 +11,12 @@ use Rattle.geos_calls.proofs.kernel.Kernel.store8.Goals as goal
 pub overflow_add-span : goal.overflow_add-span
 overflow_add-span c =
     let good : IsGood (with_store c.self.inside.blocks) c.args.span c.args.i 1 = good-of c.args.self.now (with_store c.self.inside.blocks) c.args.span c.args.i 1 c.self.view_is c.requires.stands (omega (arith, c.requires.within)) in
-    omega (arith, good-region (with_store c.self.inside.blocks) c.args.span c.args.i 1 c.laid_out.ensures good (omega arith), c.self.invariant.small, c.from.ensures)
+    omega (arith, good-region (with_store c.self.inside.blocks) c.args.span c.args.i 1 c.self.invariant.laid good (omega arith), c.self.invariant.small, c.from.ensures)
 
 pub write8-requires : goal.write8-requires
 write8-requires c =
     let good : IsGood (with_store c.self.inside.blocks) c.args.span c.args.i 1 = good-of c.args.self.now (with_store c.self.inside.blocks) c.args.span c.args.i 1 c.self.view_is c.requires.stands (omega (arith, c.requires.within)) in
-    omega (arith, good-region (with_store c.self.inside.blocks) c.args.span c.args.i 1 c.laid_out.ensures good (omega arith), c.from.ensures)
+    omega (arith, good-region (with_store c.self.inside.blocks) c.args.span c.args.i 1 c.self.invariant.laid good (omega arith), c.from.ensures)
 
 pub invariant_of-self : goal.invariant_of-self
 invariant_of-self c =
