@@ -1,6 +1,6 @@
 //! Blocks by slots in a region: what a slot holds, where its block lies, and the one step by
 //! which a block moves or grows.
-ghost use Rattle.std.specs.Prelude.{◌≡◌, ℕ, ◌+◌, ◌*◌, ◌/◌, ◌%◌, ◌<◌, ◌≤◌, ◌↔◌, [], ◌∷◌, length, slice_index_or, Some, None, IfOk, IfSome, IfNone, IsTrue};
+ghost use Rattle.std.specs.Prelude.{◌≡◌, ℕ, ◌+◌, ◌*◌, ◌/◌, ◌%◌, ◌<◌, ◌≤◌, ◌↔◌, [], ◌∷◌, length, All, slice_index_or, Some, None, IfOk, IfSome, IfNone, IsTrue};
 ghost use Rattle.std.specs.Borrow.{sem};
 ghost use Rattle.block_handles.specs.View.{IsEntry};
 
@@ -107,9 +107,11 @@ impl Arena {
 
     /// The bytes of the region, in which the blocks lie.
     pub(crate) fn region(&self) -> &[u8]
-        ensures { IsRegion self.now result.now }
+        ensures region { IsRegion self.now result.now }
+        ensures bytes { All (λ b. b < 256) result.now }
     {
-        self.region.slice(0, self.region.len())
+        let all = self.region.slice(0, self.region.len());
+        all
     }
 
     /// Whether a slot is in use.

@@ -7,7 +7,7 @@
 //! (GEOS SDK Concepts Book, chapters Handles and Memory Management.)
 #![tactic(auto)]
 
-ghost use Rattle.std.specs.Prelude.{◌≡◌, ◌+◌, ◌/◌, ◌%◌, ◌<◌, ◌≤◌, ◌↔◌, [], ◌∷◌, IsTrue, IfOk, IfSome, IfNone, OnOk, OnErr, Err};
+ghost use Rattle.std.specs.Prelude.{◌≡◌, ◌+◌, ◌/◌, ◌%◌, ◌<◌, ◌≤◌, ◌↔◌, [], ◌∷◌, IsTrue, All, IfOk, IfSome, IfNone, OnOk, OnErr, Err};
 ghost use Rattle.std.specs.Borrow.{sem};
 
 mod arena;
@@ -86,7 +86,8 @@ impl Blocks {
 
     /// The bytes of the region, in which the blocks lie: each block's bytes are those from its place on.
     pub fn region(&self) -> &[u8]
-        ensures { IsRegion self.now result.now }
+        ensures region { IsRegion self.now result.now }
+        ensures bytes { All (λ b. b < 256) result.now }
     {
         self.arena.region()
     }

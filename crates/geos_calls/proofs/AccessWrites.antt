@@ -97,8 +97,14 @@ module _ (old : KernelState) (k : IsKernel old) (ref : Reference) (there : store
 
   -- the blocks still are a kernel's
   pub written-kernel : IsKernel written-store
-  written-kernel = record { laid = laid-with_bytes old.blocks k.laid slot written; heaps = heap; handles = handle; no_vm = none; small = k.small }
+  written-kernel = record { laid = laid-with_bytes old.blocks k.laid slot written; heaps = heap; handles = handle; few = counts; no_vm = none; small = k.small }
     where
+      counts : (name : Name) → store.locks_of written-store.blocks (slot_of name) ≤ 65535
+      counts name = elim (cases_eq (slot_of name) (slot_of ref.name)) [
+        | inl e ↦ omega (arith, ap (store.locks_of written-store.blocks) e, ap store.locks_in block-own, k.few ref.name)
+        | inr ne ↦ omega (arith, ap store.locks_in (other (slot_of name) ne), k.few name)
+      ]
+
       heap : (name : Name) → store.IsThere written-store.blocks (slot_of name) → IsHeap (store.bytes_of written-store.blocks (slot_of name))
       heap name t = elim (cases_eq (slot_of name) (slot_of ref.name)) [
         | inl e ↦ subst (λ j. IsHeap (store.bytes_of written-store.blocks j)) (sym e) (subst IsHeap (sym own) changes.heap)

@@ -19,7 +19,7 @@ use Rattle.geos_calls.specs.Spans.{SpansStay}
 use Rattle.geos_calls.specs.Kernel.{IsKernel}
 use Rattle.geos_calls.specs.Heaps.{Rechunks, Edits, Regrows}
 use Rattle.geos_calls.proofs.Locks.{with_store}
-use Rattle.geos_calls.proofs.Regrown.{rechunked-other, rechunked-heap, rechunked-handle}
+use Rattle.geos_calls.proofs.Regrown.{rechunked-other, rechunked-locks, rechunked-heap, rechunked-handle}
 use Rattle.geos_calls.proofs.Stays.{stands-on}
 use Rattle.geos_calls.proofs.Views.{memory_of-set, there_of_locks, spelled, there-view, handle_of-there, owner-there, other-slot}
 
@@ -66,8 +66,14 @@ module _ (old : KernelState) (new : Store) (name : Name) (k : IsKernel old) (the
       stands-on old (with_store new) span ref (ap bytes_in is) (subst (λ o. 0 < locks_in o) (sym is) s.locked) (r.stay (slot_of ref.name) apart s.locked) s
 
   pub regrown-kernel : IsKernel (with_store new)
-  regrown-kernel = record { laid = r.laid k.laid; heaps = heap; handles = handle; no_vm = none; small = rw r.len k.small }
+  regrown-kernel = record { laid = r.laid k.laid; heaps = heap; handles = handle; few = counts; no_vm = none; small = rw r.len k.small }
     where
+      counts : (other : Name) → locks_of new (slot_of other) ≤ 65535
+      counts other = elim (cases_eq (slot_of other) (slot_of name)) [
+        | inl own ↦ omega (arith, ap (locks_of new) own, rechunked-locks old.blocks new slot there cs size r, k.few name)
+        | inr ne ↦ omega (arith, ap locks_in (same (slot_of other) ne), k.few other)
+      ]
+
       was : (other : Name) → IsThere new (slot_of other) → IsThere old.blocks (slot_of other)
       was other t = elim (cases_eq (slot_of other) (slot_of name)) [ inl e ↦ subst (IsThere old.blocks) (sym e) there | inr ne ↦ subst IsBlock (same (slot_of other) ne) t ]
 

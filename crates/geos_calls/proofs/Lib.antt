@@ -15,3 +15,4 @@ pub mod Looks
 pub mod AccessReads
 pub mod AccessWrites
 pub mod AccessCopies
+pub mod Lawful

@@ -1,5 +1,5 @@
 -- The calls that lock, unlock and free a block.
-use Rattle.std.proofs.Common.{◌≡◌, ◌≢◌, ℕ, zero, suc, ◌<◌, ◌+◌, ◌-◌, Bool, true, false, Option, Some, None, refl, sym, ap, ◌∙◌, arith, subst, inl, inr, length}
+use Rattle.std.proofs.Common.{◌≡◌, ◌≢◌, ℕ, zero, suc, ◌<◌, ◌≤◌, ◌+◌, ◌-◌, Bool, true, false, Option, Some, None, refl, sym, ap, ◌∙◌, arith, subst, inl, inr, length}
 use Rattle.std.specs.Prelude.{Result, Ok, Err, ◌↔◌, OnOk, OnErr, IfSome, nat_lt, ◌==◌, if◌then◌else◌}
 use Rattle.std.proofs.lemmas.Bool.{cases_eq}
 use Rattle.std.proofs.lemmas.Bool.Decides.{nat_tests}
@@ -72,9 +72,15 @@ module _ (old : KernelState) (name : Name) (k : IsKernel old) where
       stands-on old (relocked n) span ref (ap store.bytes_in same) (rw (ap store.locks_in same) s.locked) refl s
 
   -- the blocks still are a kernel's
-  pub relocked-kernel : (n : ℕ) → store.IsThere old.blocks slot → IsKernel (relocked n)
-  relocked-kernel n there = kernel-on old (relocked n) refl same (laid-with_locks old.blocks k.laid slot there n) k
+  pub relocked-kernel : (n : ℕ) → n ≤ 65535 → store.IsThere old.blocks slot → IsKernel (relocked n)
+  relocked-kernel n few there = kernel-on old (relocked n) refl same (laid-with_locks old.blocks k.laid slot there n) counts k
     where
+      counts : (other : Name) → store.locks_of (relocked n).blocks (slot_of other) ≤ 65535
+      counts other = elim (cases_eq (slot_of other) (slot_of name)) [
+        | inl e ↦ omega (arith, few, ap (store.locks_of (relocked n).blocks) e, ap store.locks_in (relocked-own n there))
+        | inr ne ↦ omega (arith, ap store.locks_in (relocked-other n (slot_of other) ne), k.few other)
+      ]
+
       same : (j : ℕ) → Same old (relocked n) j
       same j = elim (cases_eq j (slot_of name)) [
         | inl e ↦ inr (ap (store.bytes_of (relocked n).blocks) e ∙ ap store.bytes_in (relocked-own n there) ∙ sym (ap (store.bytes_of old.blocks) e), λ t. subst (store.IsThere old.blocks) (sym e) there)
@@ -110,7 +116,7 @@ module _ (old : KernelState) (name : Name) (k : IsKernel old) where
       }
 
   pub unlock-kernel : (new : store.Store) → 0 < store.locks_of old.blocks slot → new ≡ change.with_lock_less old.blocks slot → IsKernel (with_store new)
-  unlock-kernel new locked e = subst (λ s. IsKernel (with_store s)) (sym e) (relocked-kernel (store.locks_of old.blocks slot - 1) (there_of_locks (store.block_at old.blocks slot) locked))
+  unlock-kernel new locked e = subst (λ s. IsKernel (with_store s)) (sym e) (relocked-kernel (store.locks_of old.blocks slot - 1) (omega (arith, k.few name)) (there_of_locks (store.block_at old.blocks slot) locked))
 
 module _ (old : KernelState) (h : ℕ) (k : IsKernel old) where
   abbrev mem_slot : ℕ
@@ -144,7 +150,14 @@ module _ (old : KernelState) (h : ℕ) (k : IsKernel old) where
       }
 
   pub mlock-kernel : (new : store.Store) (r : Result (Unit {0}) HandleError) → LocksSlot old.blocks new mem_slot r → IsKernel (with_store new)
-  mlock-kernel new (Ok done) (there, ok, bad, full, err) = subst (λ s. IsKernel (with_store s)) (sym ok) (relocked-kernel old (mem h) k (store.locks_of old.blocks mem_slot + 1) there)
+  mlock-kernel new (Ok done) (there, ok, bad, full, err) =
+      subst (λ s. IsKernel (with_store s)) (sym ok) (relocked-kernel old (mem h) k (store.locks_of old.blocks mem_slot + 1) (more (store.locks_of old.blocks mem_slot) (k.few (mem h)) (λ e. not_err (full.1 e))) there)
+    where
+      not_err : (Ok done) ≡ Err handle.Locked → ⊥
+      not_err e = absurd cc
+
+      more : (n : ℕ) → n ≤ 65535 → (n ≡ 65535 → ⊥) → n + 1 ≤ 65535
+      more n few ne = elim (cases_eq n 65535) [ inl e ↦ absurd (ne e) | inr less ↦ omega (arith, few, less) ]
   mlock-kernel new (Err e) (there, ok, bad, full, err) = subst (λ s. IsKernel (with_store s)) (sym err) k
 
   -- a block that goes takes no span with it, since it is not locked
@@ -187,8 +200,14 @@ module _ (old : KernelState) (h : ℕ) (k : IsKernel old) where
 
   pub mfree-kernel : (new : store.Store) (r : Result (Unit {0}) HandleError) → FreesSlot old.blocks new mem_slot r → IsKernel (with_store new)
   mfree-kernel new (Err e) (there, ok, bad, full, err) = subst (λ s. IsKernel (with_store s)) (sym err) k
-  mfree-kernel new (Ok done) (there, ok, bad, full, err) = subst (λ s. IsKernel (with_store s)) (sym ok) (kernel-on old (with_store (change.without old.blocks mem_slot)) refl same (laid-without old.blocks k.laid mem_slot there) k)
+  mfree-kernel new (Ok done) (there, ok, bad, full, err) = subst (λ s. IsKernel (with_store s)) (sym ok) (kernel-on old (with_store (change.without old.blocks mem_slot)) refl same (laid-without old.blocks k.laid mem_slot there) counts k)
     where
+      counts : (other : Name) → store.locks_of (change.without old.blocks (slot_of (mem h))) (slot_of other) ≤ 65535
+      counts other = elim (cases_eq (slot_of other) (slot_of (mem h))) [
+        | inl e ↦ omega (arith, ap (store.locks_of (change.without old.blocks (slot_of (mem h)))) e, ap store.locks_in (get_or-set_same old.blocks.blocks (slot_of (mem h)) None None (inside old.blocks (slot_of (mem h)) there)))
+        | inr ne ↦ omega (arith, ap store.locks_in (get_or-set_other old.blocks.blocks (slot_of (mem h)) (slot_of other) None None ne), k.few other)
+      ]
+
       same : (j : ℕ) → Same old (with_store (change.without old.blocks (slot_of (mem h)))) j
       same j = elim (cases_eq j (slot_of (mem h))) [
         | inl e ↦ inl (ap (store.block_at (change.without old.blocks (slot_of (mem h)))) e ∙ get_or-set_same old.blocks.blocks (slot_of (mem h)) None None (inside old.blocks (slot_of (mem h)) there))

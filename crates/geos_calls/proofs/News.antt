@@ -1,5 +1,5 @@
 -- The call that makes a block.
-use Rattle.std.proofs.Common.{◌≡◌, ◌≢◌, ℕ, ◌+◌, ◌-◌, ◌<◌, length, get_or, Option, Some, None, refl, sym, ap, ◌∙◌, arith, subst, inl, inr}
+use Rattle.std.proofs.Common.{◌≡◌, ◌≢◌, ℕ, ◌+◌, ◌-◌, ◌<◌, ◌≤◌, length, get_or, Option, Some, None, refl, sym, ap, ◌∙◌, arith, subst, inl, inr}
 use Rattle.std.specs.Prelude.{Result, Ok, Err}
 use Rattle.std.proofs.lemmas.Bool.{cases_eq}
 use Rattle.std.proofs.lemmas.List.{get_or-set_same, get_or-set_other}
@@ -86,8 +86,14 @@ module _ (old : KernelState) (k : IsKernel old) where
     apart i there same = let e : Vm ≡ Mem = ap (λ n. n.owner) (named-slot (named Vm i) same) in absurd cc
 
     pub kernel-made : IsKernel (with_store new)
-    kernel-made = record { laid = made.laid; heaps = heap; handles = handle; no_vm = none; small = rw made.len k.small }
+    kernel-made = record { laid = made.laid; heaps = heap; handles = handle; few = counts; no_vm = none; small = rw made.len k.small }
       where
+        counts : (name : Name) → store.locks_of new (slot_of name) ≤ 65535
+        counts name = elim (cases_eq (slot_of name) slot) [
+          | inl same ↦ omega (arith, ap (store.locks_of new) same, ap store.locks_in made-own)
+          | inr ne ↦ omega (arith, ap store.locks_in (made-other (slot_of name) ne), k.few name)
+        ]
+
         heap : (name : Name) → store.IsThere new (slot_of name) → IsHeap (store.bytes_of new (slot_of name))
         heap name there = elim (cases_eq (slot_of name) slot) [
           | inl same ↦ subst IsHeap (sym (ap (store.bytes_of new) same ∙ ap store.bytes_in made-own)) made.heap

@@ -36,9 +36,11 @@ abbrev pub Same : KernelState → KernelState → ℕ → Type 0
 Same old new slot = (block_at new.blocks slot ≡ None) ⊎ ((bytes_of new.blocks slot ≡ bytes_of old.blocks slot) × (IsThere new.blocks slot → IsThere old.blocks slot))
 
 -- blocks still are a kernel's where each slot has the bytes that it had, or none
-pub kernel-on : (old new : KernelState) → new.blocks.len ≡ old.blocks.len → ((slot : ℕ) → Same old new slot) → IsLaidOut new.blocks → IsKernel old → IsKernel new
-kernel-on old new len same laid k = record {
+pub kernel-on : (old new : KernelState) → new.blocks.len ≡ old.blocks.len → ((slot : ℕ) → Same old new slot) → IsLaidOut new.blocks
+    → ((name : Name) → locks_of new.blocks (slot_of name) ≤ 65535) → IsKernel old → IsKernel new
+kernel-on old new len same laid few k = record {
   laid = laid;
+  few = few;
   small = rw len k.small;
   heaps = λ name there. heap name there (same (slot_of name));
   handles = λ name there. handle name there (same (slot_of name));

@@ -1,7 +1,7 @@
 -- What holds of a kernel, and what its calls promise.
 use Rattle.std.specs.Prelude.{List, [], ◌∷◌, length, set, Some, ◌≡◌, ℕ, ◌≤◌, Option, None, Result, Ok, Err}
 use Rattle.block_handles.specs.Names.{slot_of}
-use Rattle.block_handles.specs.Store.{Store, IsThere, bytes_of, region_len}
+use Rattle.block_handles.specs.Store.{Store, IsThere, bytes_of, locks_of, region_len}
 use Rattle.block_handles.specs.Change.{LockedStay}
 use Rattle.block_handles.specs.Layout.{IsLaidOut}
 use Rattle.block_handles.specs.Used.{IsLowest}
@@ -18,12 +18,13 @@ use Rattle.geos_calls.specs.declared.span.Span.{Span}
 use Rattle.geos_calls.specs.View.{KernelState, memory_of}
 use Rattle.geos_calls.specs.Spans.{Stands, SpansStay}
 
--- blocks lie in the region, and no two overlap; each named block holds a heap, which begins with the block's handle; no block of
--- the VM file is there; and offsets are small numbers
+-- blocks lie in the region, and no two overlap; each named block holds a heap, which begins with the block's handle, and is
+-- locked no more often than it can be; no block of the VM file is there; and offsets are small numbers
 pub record IsKernel (s : KernelState) : Type 0 where
   pub laid : IsLaidOut s.blocks
   pub heaps : (name : Name) → IsThere s.blocks (slot_of name) → IsHeap (bytes_of s.blocks (slot_of name))
   pub handles : (name : Name) → IsThere s.blocks (slot_of name) → block.handle_word (bytes_of s.blocks (slot_of name)) ≡ name.h
+  pub few : (name : Name) → locks_of s.blocks (slot_of name) ≤ 65535
   pub no_vm : (h : ℕ) → IsThere s.blocks (slot_of (named Vm h)) → ⊥
   pub small : region_len s.blocks ≤ 16777216
 

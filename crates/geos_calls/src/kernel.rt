@@ -45,6 +45,7 @@ impl Kernel {
     ghost use Rattle.geos_model.specs.Calls as table;
     ghost use Rattle.geos_model.specs.Chunks.{with_new, with_resized, with_inserted};
     ghost use Rattle.geos_model.specs.Heap.{IsCompact};
+    ghost use Rattle.geos_model.specs.Legal.{IsMemory};
     ghost use Rattle.geos_model.specs.Memory.{chunks_at, locks_of};
     ghost use Rattle.geos_model.specs.Names.{mem};
     ghost use Rattle.geos_calls.specs.Kernel.{Calls, GivesSpan, HasNoRoomFor, NewHasNoRoom};
@@ -68,6 +69,14 @@ impl Kernel {
         ensures { result ≡ locks_of (memory_of self.now) name }
     {
         self.blocks.locks(name)
+    }
+
+    /// What holds of the kernel's memory at all times: sizes of blocks are legal and have room for their chunks, chunks are
+    /// lists of bytes, and no block is locked more often than it can be.
+    pub fn memory_is_legal(&self)
+        ensures { IsMemory (memory_of self.now) }
+    {
+        let _region = self.blocks.region();
     }
 
     /// Makes a block of 64 bytes with no chunk, under the lowest handle that is free, and locks it. `NoHandle` where all

@@ -5,8 +5,8 @@ use Rattle.block_handles.specs.Layout.{IsRegion}
 use Rattle.block_handles.proofs.Regions.{region-of}
 use Rattle.block_handles.proofs.arena.Arena.region.Goals as goal
 
-pub returns : goal.returns
-returns c =
+pub returns-clause-region : goal.returns-clause-region
+returns-clause-region c =
     let region = c.self.inside.region in
-    let all : c.slice.result.now ≡ region = c.slice.ensures ∙ ap (part region 0) c.len.ensures ∙ take_all (length region) region (omega arith) in
-    subst (λ s. IsRegion s c.slice.result.now) c.self.view_is (subst (IsRegion _) (sym all) (region-of region c.self.inside.table.items c.self.invariant.lies))
+    let all : c.slice-all.result.now ≡ region = c.slice-all.ensures ∙ ap (part region 0) c.len.ensures ∙ take_all (length region) region (omega arith) in
+    subst (λ s. IsRegion s c.slice-all.result.now) c.self.view_is (subst (IsRegion _) (sym all) (region-of region c.self.inside.table.items c.self.invariant.lies))

@@ -1,5 +1,5 @@
-use Rattle.std.proofs.Common.{subst}
-use Rattle.block_handles.specs.Store.{IsBlock}
+use Rattle.std.proofs.Common.{subst, ap, arith}
+use Rattle.block_handles.specs.Store.{IsBlock, locks_in}
 use Rattle.geos_model.specs.Names.{named}
 use Rattle.geos_model.specs.declared.name.Owner.TheVariants.{Vm}
 use Rattle.block_handles.specs.Names.{slot_of}
@@ -14,6 +14,7 @@ invariant_of-result c =
       laid = empty.laid;
       heaps = λ name there. absurd (subst IsBlock (empty.none (slot_of name)) there);
       handles = λ name there. absurd (subst IsBlock (empty.none (slot_of name)) there);
+      few = λ name. omega (arith, ap locks_in (empty.none (slot_of name)));
       no_vm = λ h there. absurd (subst IsBlock (empty.none (slot_of (named Vm h))) there);
       small = rw empty.long c.requires.1;
     }

@@ -1,0 +1,11 @@
+use Rattle.std.proofs.Common.{subst}
+use Rattle.geos_model.specs.Legal.{IsMemory}
+use Rattle.geos_calls.specs.View.{memory_of}
+use Rattle.geos_calls.proofs.Lawful.{memory-legal}
+use Rattle.geos_calls.proofs.Locks.{with_store}
+use Rattle.geos_calls.proofs.kernel.Kernel.memory_is_legal.Goals as goal
+
+pub returns : goal.returns
+returns c =
+    let region = c.region-region in
+    subst (λ s. IsMemory (memory_of s)) c.self.view_is (memory-legal (with_store c.self.inside.blocks) region.result.now c.self.invariant region.ensures.region region.ensures.bytes)
