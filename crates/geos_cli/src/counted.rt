@@ -11,9 +11,11 @@ use std::io::{Read, Write};
 /// A stream that counts how often it was asked, and how many of its calls failed. A count stays at its greatest value.
 #[derive(Drop)]
 pub struct Counted<S> {
-    stream: S,
-    asked: u64,
-    failures: u64,
+    pub stream: S,
+    /// How many calls there were.
+    pub asked: u64,
+    /// How many of them failed.
+    pub failures: u64,
 }
 
 impl<S> Counted<S> {

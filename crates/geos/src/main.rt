@@ -1,17 +1,9 @@
 //! The program `geos`: runs a session on its standard input.
 #![tactic(auto)]
 
-mod counted;
-mod fault;
-mod hex;
-mod script;
-mod session;
-mod text;
-
-use crate::counted::Counted;
-use crate::fault::ScriptFault;
 use anyhow::Result;
 use clap::Command;
+use geos_cli::{Counted, ScriptFault, run_session};
 use std::alloc::Global;
 use std::io::{BufWriter, Write};
 use std::process::ExitCode;
@@ -35,7 +27,7 @@ fn run(rt: &HostRuntime) -> Result<ExitCode> {
         return fail(rt, ScriptFault::Memory);
     };
     let mut out = Counted::new(writer);
-    let ended = session::run_session(rt.alloc(), &mut input, &mut out);
+    let ended = run_session(rt.alloc(), &mut input, &mut out);
     let flushed = out.flush();
     match ended {
         Err(fault) => fail(rt, fault),
