@@ -5,7 +5,7 @@ use anyhow::Result;
 use clap::Command;
 use geos_cli::{Counted, ScriptFault, run_session};
 use std::alloc::Global;
-use std::io::{BufWriter, Write};
+use std::io::BufWriter;
 use std::process::ExitCode;
 use std::{env, io};
 
@@ -27,14 +27,9 @@ fn run(rt: &HostRuntime) -> Result<ExitCode> {
         return fail(rt, ScriptFault::Memory);
     };
     let mut out = Counted::new(writer);
-    let ended = run_session(rt.alloc(), &mut input, &mut out);
-    let flushed = out.flush();
-    match ended {
+    match run_session(rt.alloc(), &mut input, &mut out) {
+        Ok(()) => Ok(ExitCode::SUCCESS),
         Err(fault) => fail(rt, fault),
-        Ok(()) => match flushed {
-            Ok(()) => Ok(ExitCode::SUCCESS),
-            Err(_) => fail(rt, ScriptFault::Write),
-        },
     }
 }
 

@@ -4,6 +4,7 @@ pub mod Examples
 pub mod HexLines
 pub mod Lines
 pub mod Numbers
+pub mod Parts
 pub mod Prints
 pub mod Registers
 pub mod Searches

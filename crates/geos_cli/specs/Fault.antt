@@ -1,4 +1,5 @@
--- Faults that come from below.
+-- Faults that come from below, and the streams that they tell of.
+use Rattle.std.specs.Prelude.{◌≡◌, ◌≢◌, ℕ, Result, MatchResult}
 use Rattle.geos_image.specs.declared.error.ReadError.{ReadError}
 use Rattle.geos_image.specs.declared.error.ReadError.TheVariants as read
 use Rattle.geos_cli.specs.declared.fault.ScriptFault.{ScriptFault}
@@ -8,3 +9,7 @@ use Rattle.geos_cli.specs.declared.fault.ScriptFault.TheVariants.{BadImage, Memo
 abbrev pub of_read : ReadError → ScriptFault
 of_read (read.BadImage at) = BadImage at
 of_read read.Memory = Memory
+
+-- a stream's count of failures is as it was, unless the answer is this fault
+abbrev pub KeptUnless : {A : Type 0} → ScriptFault → Result A ScriptFault → ℕ → ℕ → Type 0
+KeptUnless fault result before now = MatchResult result (λ _. now ≡ before) (λ other. other ≢ fault → now ≡ before)

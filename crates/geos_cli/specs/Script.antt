@@ -2,6 +2,7 @@
 use Rattle.std.specs.Prelude.{◌≡◌, ◌<◌, ◌≤◌, ℕ, ◌-◌, Bool, true, ◌&&◌, not, nat_le, if◌then◌else◌, List, [], ◌∷◌, ◌++◌, length, replicate, position, filter_map, flat_map, Option, Some, None, option_map, option_and_then, is_none, Ok, Err, codes, bytes_eq, decimal, take, unwrap_or}
 use Rattle.std.specs.List.{position_from}
 use Rattle.std.specs.Str.Lines.{lines}
+use Rattle.std.specs.Io.KnownBytes.{Appends}
 use Rattle.geos_image.specs.declared.routine.Routine.{Routine}
 use Rattle.geos_image.specs.Parts.{Parts}
 use Rattle.geos_image.specs.Legal.{text_end}
@@ -76,6 +77,31 @@ Prints image [] text = text ≡ []
 Prints image (call ∷ calls) text =
     (outcome : Outcome) × (others : List ℕ) × Ran image call.routine call.words outcome × Prints image calls others × (text ≡ printed outcome.output.items ++ others)
 
+-- what the calls have printed when the writer fails: some calls are done, with all that they print; the next one was run,
+-- and a beginning of what it prints is written, not all; the others were not begun
+pub record PrintsPart (image : Parts) (calls : List Call) (text : List ℕ) : Type 0 where
+  pub done : List Call
+  pub call : Call
+  pub others : List Call
+  pub in_order : calls ≡ done ++ call ∷ others
+  pub before : List ℕ
+  pub printed_before : Prints image done before
+  pub outcome : Outcome
+  pub ran : Ran image call.routine call.words outcome
+  pub part : List ℕ
+  pub rest : List ℕ
+  pub begun : printed outcome.output.items ≡ part ++ rest
+  pub not_all : 0 < length rest
+  pub written : text ≡ before ++ part
+
+-- the calls were run, and a writer got their text
+abbrev pub RanCalls : Parts → List Call → Option (List ℕ) → Option (List ℕ) → Type 0
+RanCalls image calls old new = (text : List ℕ) × Prints image calls text × Appends old new text
+
+-- the calls were stopped by a writer that failed, which got the text up to there
+abbrev pub StoppedCalls : Parts → List Call → Option (List ℕ) → Option (List ℕ) → Type 0
+StoppedCalls image calls old new = (text : List ℕ) × PrintsPart image calls text × Appends old new text
+
 -- bytes spell an image that the verifier accepts, and no line of the script is bad
 pub record Loads (bytes : List ℕ) (lines : List (List ℕ)) (image : Parts) : Type 0 where
   pub read : image_at bytes ≡ Ok image
@@ -99,6 +125,10 @@ IsBadLine image lines _ = ⊥
 abbrev pub Runs : List ℕ → List (List ℕ) → List ℕ → Type 0
 Runs bytes lines text = (image : Parts) × Loads bytes lines image × Prints image (calls_of image lines) text
 
+-- a script of these lines runs on the image that the bytes spell, and has printed the text when the writer fails
+abbrev pub Stops : List ℕ → List (List ℕ) → List ℕ → Type 0
+Stops bytes lines text = (image : Parts) × Loads bytes lines image × PrintsPart image (calls_of image lines) text
+
 -- when such a script ends with a fault: each of them in the order in which they are looked for
 abbrev pub EndsBy : List ℕ → List (List ℕ) → ScriptFault → Type 0
 EndsBy bytes lines (BadImage at) = image_at bytes ≡ Err at
@@ -117,6 +147,18 @@ most_bytes = 1048576
 -- the script runs on the image that the bytes spell, and prints the text
 abbrev pub RunsScript : List ℕ → List ℕ → List ℕ → Type 0
 RunsScript bytes script text = (length script ≤ most_bytes) × Runs bytes (lines script) text
+
+-- the script runs on the image that the bytes spell, and has printed the text when the writer fails
+abbrev pub StopsScript : List ℕ → List ℕ → List ℕ → Type 0
+StopsScript bytes script text = (length script ≤ most_bytes) × Stops bytes (lines script) text
+
+-- the script ran, and a writer got its text
+abbrev pub RanScript : List ℕ → List ℕ → Option (List ℕ) → Option (List ℕ) → Type 0
+RanScript bytes script old new = (text : List ℕ) × RunsScript bytes script text × Appends old new text
+
+-- the script was stopped by a writer that failed, which got the text up to there
+abbrev pub StoppedScript : List ℕ → List ℕ → Option (List ℕ) → Option (List ℕ) → Type 0
+StoppedScript bytes script old new = (text : List ℕ) × StopsScript bytes script text × Appends old new text
 
 -- when a script ends with a fault: first of all, where it is too long
 abbrev pub ScriptEndsBy : List ℕ → List ℕ → ScriptFault → Type 0

@@ -1,11 +1,11 @@
 -- What a session is, and when it ends early.
-use Rattle.std.specs.Prelude.{◌≡◌, ◌<◌, ◌≤◌, ℕ, List, length, Option, Some, None}
+use Rattle.std.specs.Prelude.{◌≡◌, ◌<◌, ◌≤◌, ◌⊎◌, ℕ, List, length, Option, Some, None}
 use Rattle.std.specs.Str.Lines.{lines}
-use Rattle.std.specs.Io.KnownBytes.{Consumes, IsAtEnd}
+use Rattle.std.specs.Io.KnownBytes.{Appends, Consumes, IsAtEnd}
 use Rattle.geos_cli.specs.declared.fault.ScriptFault.{ScriptFault}
 use Rattle.geos_cli.specs.declared.fault.ScriptFault.TheVariants.{TooLong, BadHex, Read, Memory}
 use Rattle.geos_cli.specs.Hex.{hex_fault, image_bytes, script_lines}
-use Rattle.geos_cli.specs.Script.{most_bytes, Runs, EndsBy}
+use Rattle.geos_cli.specs.Script.{most_bytes, Runs, Stops, EndsBy}
 
 -- a reader gave the bytes, and has no more, where that is known
 abbrev pub Reads : Option (List ℕ) → Option (List ℕ) → List ℕ → Type 0
@@ -15,6 +15,20 @@ Reads before now bytes = Consumes before now bytes × IsAtEnd now
 abbrev pub RunsSession : List ℕ → List ℕ → Type 0
 RunsSession bytes text =
     (length bytes ≤ most_bytes) × (hex_fault (lines bytes) ≡ None) × Runs (image_bytes (lines bytes)) (script_lines (lines bytes)) text
+
+-- such bytes, whose script has printed the text when the writer fails: a part of it, or all where the last flush failed
+abbrev pub StopsSession : List ℕ → List ℕ → Type 0
+StopsSession bytes text =
+    (length bytes ≤ most_bytes) × (hex_fault (lines bytes) ≡ None)
+    × (Stops (image_bytes (lines bytes)) (script_lines (lines bytes)) text ⊎ Runs (image_bytes (lines bytes)) (script_lines (lines bytes)) text)
+
+-- a reader gave a session, which ran, and a writer got its text
+abbrev pub RanSession : Option (List ℕ) → Option (List ℕ) → Option (List ℕ) → Option (List ℕ) → Type 0
+RanSession given left old new = (bytes text : List ℕ) × Reads given left bytes × RunsSession bytes text × Appends old new text
+
+-- a reader gave a session, which was stopped by a writer that failed, and which got the text up to there
+abbrev pub StoppedSession : Option (List ℕ) → Option (List ℕ) → Option (List ℕ) → Option (List ℕ) → Type 0
+StoppedSession given left old new = (bytes text : List ℕ) × Reads given left bytes × StopsSession bytes text × Appends old new text
 
 -- when a session of these bytes ends with a fault: each of them in the order in which they are looked for
 abbrev pub SessionEndsBy : List ℕ → ScriptFault → Type 0

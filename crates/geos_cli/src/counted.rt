@@ -1,14 +1,15 @@
 //! Streams that count their calls.
 
-ghost use Rattle.std.specs.Prelude.{◌≡◌, OnOk, OnErr, MatchBool};
+ghost use Rattle.std.specs.Prelude.{◌≡◌, true, false, OnOk, OnErr, MatchBool};
 ghost use Rattle.std.specs.Io.{ReadsAtMost, WritesAtMost};
 ghost use Rattle.std.specs.Io.KnownBytes.{Appends, Keeps, ReadConsumes, WriteAppends};
-ghost use Rattle.geos_cli.specs.Counted.{one_more};
+ghost use Rattle.geos_cli.specs.Counted.{one_more, AppendsPart};
 
 use std::io;
-use std::io::{Read, Write};
+use std::io::{ErrorKind, Read, Write};
 
-/// A stream that counts how often it was asked, and how many of its calls failed. A count stays at its greatest value.
+/// A stream that counts how often it was asked, and how many of its calls failed. A count stays
+/// at its greatest value.
 #[derive(Drop)]
 pub struct Counted<S> {
     pub stream: S,
@@ -16,6 +17,8 @@ pub struct Counted<S> {
     pub asked: u64,
     /// How many of them failed.
     pub failures: u64,
+    /// Whether the last of them was a flush that did not fail.
+    pub flushed: bool,
 }
 
 impl<S> Counted<S> {
@@ -24,20 +27,24 @@ impl<S> Counted<S> {
         ensures stream { result.stream ≡ stream }
         ensures asked { result.asked ≡ 0 }
         ensures failures { result.failures ≡ 0 }
+        ensures flushed { result.flushed ≡ false }
     {
         Counted {
             stream,
             asked: 0,
             failures: 0,
+            flushed: false,
         }
     }
 
-    /// Counts a call.
+    /// Counts a call that is no flush.
     fn count(&mut self, failed: bool)
         ensures stream { self.new.stream ≡ self.old.stream }
+        ensures flushed { self.new.flushed ≡ false }
         ensures asked { self.new.asked ≡ one_more self.old.asked }
         ensures failures { MatchBool failed (self.new.failures ≡ one_more self.old.failures) (self.new.failures ≡ self.old.failures) }
     {
+        self.flushed = false;
         self.asked = self.asked.saturating_add(1);
         if failed {
             self.failures = self.failures.saturating_add(1);
@@ -61,6 +68,23 @@ impl<R: Read> Read for Counted<R> {
     }
 }
 
+/// Writes the bytes by as many writes as that takes, the first that fails or takes no byte being
+/// the last. `Write::write_all` does so too, but does not promise what it leaves where it fails.
+fn write_whole<W: Write>(stream: &mut W, bytes: &[u8]) -> io::Result<()>
+    ensures bytes { OnOk result (Appends (W.contents stream.old) (W.contents stream.new) bytes.now) }
+    ensures part { OnErr result (AppendsPart (W.contents stream.old) (W.contents stream.new) bytes.now) }
+{
+    let mut rest = bytes;
+    while !rest.is_empty() {
+        match stream.write(rest) {
+            Ok(0) => return Err(io::Error::from(ErrorKind::WriteZero)),
+            Ok(count) => rest = &rest[count..],
+            Err(error) => return Err(error),
+        }
+    }
+    Ok(())
+}
+
 impl<W: Write> Write for Counted<W> {
     ghost contents = { λ c. W.contents c.stream };
 
@@ -78,22 +102,25 @@ impl<W: Write> Write for Counted<W> {
 
     fn flush(&mut self) -> io::Result<()>
         ensures bytes { Keeps (W.contents self.old.stream) (W.contents self.new.stream) }
+        ensures flushed { OnOk result (self.new.flushed ≡ true) }
         ensures asked { self.new.asked ≡ one_more self.old.asked }
         ensures failed { OnErr result (self.new.failures ≡ one_more self.old.failures) }
         ensures kept { OnOk result (self.new.failures ≡ self.old.failures) }
     {
         let result = self.stream.flush();
         self.count(result.is_err());
+        self.flushed = result.is_ok();
         result
     }
 
     fn write_all(&mut self, bytes: &[u8]) -> io::Result<()>
         ensures bytes { OnOk result (Appends (W.contents self.old.stream) (W.contents self.new.stream) bytes.now) }
+        ensures part { OnErr result (AppendsPart (W.contents self.old.stream) (W.contents self.new.stream) bytes.now) }
         ensures asked { self.new.asked ≡ one_more self.old.asked }
         ensures failed { OnErr result (self.new.failures ≡ one_more self.old.failures) }
         ensures kept { OnOk result (self.new.failures ≡ self.old.failures) }
     {
-        let result = self.stream.write_all(bytes);
+        let result = write_whole(&mut self.stream, bytes);
         self.count(result.is_err());
         result
     }

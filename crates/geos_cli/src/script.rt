@@ -1,11 +1,14 @@
 //! Scripts: lines of commands, read whole before the first one runs.
 
-ghost use Rattle.std.specs.Prelude.{◌≡◌, ◌≢◌, ◌≤◌, ℕ, List, length, All, None, Ok, IfOk, IfErr};
+ghost use Rattle.std.specs.Prelude.{◌≡◌, ◌≢◌, All, None, Ok, IfOk, IfErr};
 ghost use Rattle.std.specs.Str.Lines.{lines};
 ghost use Rattle.std.specs.Io.KnownBytes.{Appends, Keeps};
 ghost use Rattle.geos_cli.specs.declared.fault.ScriptFault.TheVariants.{Write};
-ghost use Rattle.geos_cli.specs.Counted.{Rose};
-ghost use Rattle.geos_cli.specs.Script.{IsAdmitted, routine_named, registers_of, call_named, call_of, calls_of, first_bad, IsBadLine, printed, Prints, RunsScript, ScriptEndsBy, IsBadImage};
+ghost use Rattle.geos_cli.specs.Counted.{Rose, AppendsPart};
+ghost use Rattle.geos_cli.specs.Fault.{KeptUnless};
+ghost use Rattle.geos_cli.specs.Script.{IsAdmitted, routine_named, registers_of, call_named, call_of};
+ghost use Rattle.geos_cli.specs.Script.{calls_of, first_bad, IsBadLine, IsBadImage, printed};
+ghost use Rattle.geos_cli.specs.Script.{RanCalls, StoppedCalls, RanScript, StoppedScript, ScriptEndsBy};
 ghost use Rattle.geos_image.specs.Reading.{image_at};
 ghost use Rattle.geos_verify.specs.Rules.{Accepted};
 ghost use Rattle.geos_cli.specs.Text.{words};
@@ -111,6 +114,7 @@ fn calls_of(alloc: Global, checked: &Checked, script: &[u8]) -> Result<Vec<Call>
 
 fn write<W: Write>(out: &mut Counted<W>, bytes: &[u8]) -> Result<(), ScriptFault>
     ensures ok { IfOk result (λ _. Appends (W.contents out.old.stream) (W.contents out.new.stream) bytes.now) }
+    ensures part { IfErr result (λ _. AppendsPart (W.contents out.old.stream) (W.contents out.new.stream) bytes.now) }
     ensures kept { IfOk result (λ _. out.new.failures ≡ out.old.failures) }
     ensures failed { IfErr result (λ fault. (fault ≡ Write) × Rose out.old.failures out.new.failures) }
 {
@@ -123,6 +127,7 @@ fn write<W: Write>(out: &mut Counted<W>, bytes: &[u8]) -> Result<(), ScriptFault
 /// Prints each word in decimal on a line.
 fn print<W: Write>(words: &[u16], out: &mut Counted<W>) -> Result<(), ScriptFault>
     ensures ok { IfOk result (λ _. Appends (W.contents out.old.stream) (W.contents out.new.stream) (printed words.now)) }
+    ensures part { IfErr result (λ _. AppendsPart (W.contents out.old.stream) (W.contents out.new.stream) (printed words.now)) }
     ensures kept { IfOk result (λ _. out.new.failures ≡ out.old.failures) }
     ensures failed { IfErr result (λ fault. (fault ≡ Write) × Rose out.old.failures out.new.failures) }
 {
@@ -141,7 +146,9 @@ fn run_calls<W: Write>(
     out: &mut Counted<W>,
 ) -> Result<(), ScriptFault>
     requires { All (IsAdmitted checked.now) calls.now }
-    ensures ok { IfOk result (λ _. (text : List ℕ) × Prints checked.now calls.now text × Appends (W.contents out.old.stream) (W.contents out.new.stream) text) }
+    ensures ok { IfOk result (λ _. RanCalls checked.now calls.now (W.contents out.old.stream) (W.contents out.new.stream)) }
+    ensures stopped { IfErr result (λ _. StoppedCalls checked.now calls.now (W.contents out.old.stream) (W.contents out.new.stream)) }
+    ensures kept { IfOk result (λ _. out.new.failures ≡ out.old.failures) }
     ensures failed { IfErr result (λ fault. (fault ≡ Write) × Rose out.old.failures out.new.failures) }
 {
     let mut machine = Machine::new();
@@ -164,22 +171,30 @@ fn load(alloc: Global, image: &[u8]) -> Result<Checked, ScriptFault>
     }
 }
 
-/// Checks an image and runs a script of calls, which print the words that they put out. The script is read whole first,
-/// and a bad one runs nothing.
+/// Checks an image and runs a script of calls, which print the words that they put out. The
+/// script is read whole first, and a bad one runs nothing. The writer is not flushed.
 ///
-/// Of the faults, the first that is due is answered: `TooLong` where the script has more than 1,048,576 bytes; `BadImage`;
-/// `Rejected`; `BadScript`. `Memory` may come before the first call runs. Up to then nothing is written. `Write` comes
-/// where the writer failed: the calls so far are done, and the one being printed.
+/// Of the faults, the first that is due is answered: `TooLong` where the script has more than
+/// 1,048,576 bytes; `BadImage`; `Rejected`; `BadScript`. `Memory` may come before the first call
+/// runs. Up to then nothing is asked of the writer. `Write` comes where the writer failed: it got
+/// all that the calls before print and a beginning of what the call prints that was run last, and
+/// no other call was begun. Where `Write` is not answered, no call of the writer failed.
 pub fn run_script<W: Write>(
     alloc: Global,
     image: &[u8],
     script: &[u8],
     out: &mut Counted<W>,
 ) -> Result<(), ScriptFault>
-    ensures ran { IfOk result (λ _. (text : List ℕ) × RunsScript image.now script.now text × Appends (W.contents out.old.stream) (W.contents out.new.stream) text) }
+    ensures ran { IfOk result (λ _. RanScript image.now script.now (W.contents out.old.stream) (W.contents out.new.stream)) }
     ensures due { IfErr result (ScriptEndsBy image.now script.now) }
+    ensures stopped { IfErr result (λ fault. fault ≡ Write →
+        StoppedScript image.now script.now (W.contents out.old.stream) (W.contents out.new.stream)) }
+
+    // The writer: nothing is asked of it before the first call, and it failed exactly where `Write` is answered.
     ensures nothing_written { IfErr result (λ fault. fault ≢ Write → Keeps (W.contents out.old.stream) (W.contents out.new.stream)) }
+    ensures not_asked { IfErr result (λ fault. fault ≢ Write → out.new.asked ≡ out.old.asked) }
     ensures writer_failed { IfErr result (λ fault. fault ≡ Write → Rose out.old.failures out.new.failures) }
+    ensures writer_kept { KeptUnless Write result out.old.failures out.new.failures }
 {
     if script.len() > MOST_BYTES {
         return Err(ScriptFault::TooLong);

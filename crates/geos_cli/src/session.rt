@@ -1,11 +1,12 @@
 //! Sessions: an image in hexadecimal digits, a line `end`, and a script.
 
-ghost use Rattle.std.specs.Prelude.{◌≡◌, ◌≢◌, ◌≤◌, ◌<◌, ◌+◌, ℕ, List, length, IfOk, IfErr};
-ghost use Rattle.std.specs.Io.KnownBytes.{Appends, Keeps, Consumes};
+ghost use Rattle.std.specs.Prelude.{◌≡◌, ◌≢◌, ◌≤◌, ◌<◌, ◌+◌, true, length, IfOk, IfErr};
+ghost use Rattle.std.specs.Io.KnownBytes.{Keeps};
 ghost use Rattle.geos_cli.specs.declared.fault.ScriptFault.TheVariants.{Read, Write};
 ghost use Rattle.geos_cli.specs.Counted.{Rose};
+ghost use Rattle.geos_cli.specs.Fault.{KeptUnless};
 ghost use Rattle.geos_cli.specs.Script.{most_bytes};
-ghost use Rattle.geos_cli.specs.Session.{Reads, RunsSession, EndsReading, EndsSession};
+ghost use Rattle.geos_cli.specs.Session.{Reads, EndsReading, RanSession, StoppedSession, EndsSession};
 
 use crate::counted::Counted;
 use crate::fault::ScriptFault;
@@ -17,12 +18,14 @@ use std::io::{Read, Write};
 /// How many bytes are asked for at a time.
 const CHUNK: usize = 4096;
 
-/// All that the reader gives, at most `MOST_BYTES`. Each turn gives a byte at least, or is the last: so the reader is
-/// asked at most `MOST_BYTES` + 1 times.
+/// All that the reader gives, at most `MOST_BYTES`. Each turn gives a byte at least, or is the
+/// last: so the reader is asked at most `MOST_BYTES` + 1 times.
 fn read_all<R: Read>(alloc: Global, input: &mut Counted<R>) -> Result<Vec<u8>, ScriptFault>
-    ensures whole { IfOk result (λ bytes. Reads (R.remaining input.old.stream) (R.remaining input.new.stream) bytes.items × (length bytes.items ≤ most_bytes)) }
+    ensures whole { IfOk result (λ bytes. Reads (R.remaining input.old.stream) (R.remaining input.new.stream) bytes.items) }
+    ensures short { IfOk result (λ bytes. length bytes.items ≤ most_bytes) }
     ensures fault { IfErr result (EndsReading (R.remaining input.old.stream) (R.remaining input.new.stream)) }
     ensures reader_failed { IfErr result (λ fault. fault ≡ Read → Rose input.old.failures input.new.failures) }
+    ensures reader_kept { KeptUnless Read result input.old.failures input.new.failures }
     ensures asked { input.new.asked ≤ input.old.asked + most_bytes + 1 }
 {
     let mut bytes = Vec::new(alloc);
@@ -44,24 +47,42 @@ fn read_all<R: Read>(alloc: Global, input: &mut Counted<R>) -> Result<Vec<u8>, S
     Err(ScriptFault::TooLong)
 }
 
-/// Reads a session to its end, and runs it: an image in hexadecimal digits, a line `end`, and a script as of
-/// `run_script`.
+/// Reads a session to its end, runs it, and flushes the writer: an image in hexadecimal digits, a
+/// line `end`, and a script as of `run_script`.
 ///
-/// Of the faults, the first that is due is answered: `TooLong` where there are more than 1,048,576 bytes; `BadHex`; then
-/// those of `run_script`. `Read` comes where the reader failed. The reader is asked at most 1,048,577 times.
+/// Of the faults, the first that is due is answered: `TooLong` where there are more than
+/// 1,048,576 bytes; `BadHex`; then those of `run_script`. `Read` comes where the reader failed,
+/// which is asked at most 1,048,577 times. `Write` comes where the writer failed, in a call as of
+/// `run_script`, or behind the last one, where the flush failed: then the writer got all that the
+/// calls print. Where neither is answered, no call of the reader or the writer failed.
 pub fn run_session<R: Read, W: Write>(
     alloc: Global,
     input: &mut Counted<R>,
     out: &mut Counted<W>,
 ) -> Result<(), ScriptFault>
-    ensures ran { IfOk result (λ _. (bytes text : List ℕ) × Reads (R.remaining input.old.stream) (R.remaining input.new.stream) bytes × RunsSession bytes text × Appends (W.contents out.old.stream) (W.contents out.new.stream) text) }
+    ensures ran { IfOk result (λ _.
+        RanSession (R.remaining input.old.stream) (R.remaining input.new.stream) (W.contents out.old.stream) (W.contents out.new.stream)) }
+    ensures flushed { IfOk result (λ _. out.new.flushed ≡ true) }
     ensures due { IfErr result (EndsSession (R.remaining input.old.stream) (R.remaining input.new.stream)) }
+    ensures stopped { IfErr result (λ fault. fault ≡ Write →
+        StoppedSession (R.remaining input.old.stream) (R.remaining input.new.stream) (W.contents out.old.stream) (W.contents out.new.stream)) }
+
+    // The writer: nothing is asked of it before the first call, and it failed exactly where `Write` is answered.
     ensures nothing_written { IfErr result (λ fault. fault ≢ Write → Keeps (W.contents out.old.stream) (W.contents out.new.stream)) }
-    ensures reader_failed { IfErr result (λ fault. fault ≡ Read → Rose input.old.failures input.new.failures) }
+    ensures not_asked { IfErr result (λ fault. fault ≢ Write → out.new.asked ≡ out.old.asked) }
     ensures writer_failed { IfErr result (λ fault. fault ≡ Write → Rose out.old.failures out.new.failures) }
+    ensures writer_kept { KeptUnless Write result out.old.failures out.new.failures }
+
+    // The reader: it failed exactly where `Read` is answered.
+    ensures reader_failed { IfErr result (λ fault. fault ≡ Read → Rose input.old.failures input.new.failures) }
+    ensures reader_kept { KeptUnless Read result input.old.failures input.new.failures }
     ensures asked { input.new.asked ≤ input.old.asked + most_bytes + 1 }
 {
     let bytes = read_all(alloc, input)?;
     let (image, script) = image_and_script(alloc, &bytes)?;
-    run_script(alloc, &image, script, out)
+    run_script(alloc, &image, script, out)?;
+    match out.flush() {
+        Ok(()) => Ok(()),
+        Err(_) => Err(ScriptFault::Write),
+    }
 }

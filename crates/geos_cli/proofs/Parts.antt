@@ -1,0 +1,75 @@
+-- What a failed write leaves of a longer text.
+use Rattle.std.proofs.Common.{◌≡◌, ◌<◌, ℕ, ◌+◌, suc, List, [], ◌∷◌, ◌++◌, length, take, drop, get_or, refl, sym, ap, ◌∙◌, arith, subst, append_assoc, length-append, take-append-drop, drop-cons}
+use Rattle.std.specs.Prelude.{Option, Result, Ok, Err, IfErr, decimal, flat_map}
+use Rattle.std.specs.Io.KnownBytes.{Appends}
+use Rattle.std.proofs.KnownBytes.{Appends-trans}
+use Rattle.std.proofs.lemmas.Grind.{flat_map-append}
+use Rattle.geos_image.specs.Parts.{Parts}
+use Rattle.geos_machine.specs.declared.outcome.Outcome.{Outcome}
+use Rattle.geos_machine.specs.Runs.{Ran}
+use Rattle.geos_cli.specs.declared.script.Call.{Call}
+use Rattle.geos_cli.specs.Counted.{AppendsPart}
+use Rattle.geos_cli.specs.Script.{printed, Prints, PrintsPart, StoppedCalls}
+
+-- what holds at all holds at each error
+pub IfErr-any : {A E : Type 0} {P : Type 0} (result : Result A E) → P → IfErr result (λ _. P)
+IfErr-any (Ok x) p = tt
+IfErr-any (Err e) p = p
+
+-- a part of bytes that stand between others is a part of all of them
+pub part-between : (a b c : Option (List ℕ)) (front bytes behind : List ℕ) → Appends a b front → AppendsPart b c bytes → AppendsPart a c (front ++ (bytes ++ behind))
+part-between a b c front bytes behind p (part, rest, e, some, q) =
+    let whole : front ++ (bytes ++ behind) ≡ (front ++ part) ++ (rest ++ behind) =
+    ap (λ bs. front ++ (bs ++ behind)) e ∙ ap (λ bs. front ++ bs) (append_assoc part rest behind) ∙ sym (append_assoc front part (rest ++ behind)) in
+    let more : 0 < length (rest ++ behind) = omega (arith, length-append rest behind, some) in
+    (front ++ part, rest ++ behind, whole, more, Appends-trans a b c front part p q)
+
+-- a word that is printed stands between those before it and those behind it
+pub printed-at : (words : List ℕ) (k : ℕ) → k < length words
+    → printed words ≡ printed (take k words) ++ (decimal (get_or words k 0) ++ (10 ∷ printed (drop (suc k) words)))
+printed-at words k lt =
+    let line : ℕ → List ℕ = λ word. decimal word ++ 10 ∷ [] in
+    let w = get_or words k 0 in
+    let rest = drop (suc k) words in
+    let split : words ≡ take k words ++ (w ∷ rest) = sym (take-append-drop k words) ∙ ap (λ ws. take k words ++ ws) (drop-cons words k 0 lt) in
+    ap printed split ∙ flat_map-append line (take k words) (w ∷ rest) ∙ ap (λ bs. printed (take k words) ++ bs) (append_assoc (decimal w) (10 ∷ []) (printed rest))
+
+-- the writer failed at the digits of a word
+pub part-digits : (a b c : Option (List ℕ)) (words : List ℕ) (k : ℕ) → k < length words
+    → Appends a b (printed (take k words)) → AppendsPart b c (decimal (get_or words k 0)) → AppendsPart a c (printed words)
+part-digits a b c words k lt p q =
+    subst (AppendsPart a c) (sym (printed-at words k lt)) (part-between a b c (printed (take k words)) (decimal (get_or words k 0)) (10 ∷ printed (drop (suc k) words)) p q)
+
+-- the writer failed at the line feed behind them
+pub part-line-feed : (a b c d : Option (List ℕ)) (words : List ℕ) (k : ℕ) → k < length words
+    → Appends a b (printed (take k words)) → Appends b c (decimal (get_or words k 0)) → AppendsPart c d (10 ∷ []) → AppendsPart a d (printed words)
+part-line-feed a b c d words k lt p q r =
+    let front = printed (take k words) in
+    let digits = decimal (get_or words k 0) in
+    let behind = printed (drop (suc k) words) in
+    let whole = printed-at words k lt ∙ sym (append_assoc front digits (10 ∷ behind)) in
+    subst (AppendsPart a d) (sym whole) (part-between a c d (front ++ digits) (10 ∷ []) behind (Appends-trans a b c front digits p q) r)
+
+-- the writer failed while a call was printed
+pub stopped-at : (image : Parts) (calls : List Call) (k : ℕ) (default : Call) (outcome : Outcome) (a b c : Option (List ℕ)) (text : List ℕ) → k < length calls
+    → Prints image (take k calls) text → Appends a b text → Ran image (get_or calls k default).routine (get_or calls k default).words outcome
+    → AppendsPart b c (printed outcome.output.items) → StoppedCalls image calls a c
+stopped-at image calls k default outcome a b c text lt prints p ran (part, rest, e, some, q) =
+    let split : calls ≡ take k calls ++ (get_or calls k default ∷ drop (suc k) calls) =
+    sym (take-append-drop k calls) ∙ ap (λ cs. take k calls ++ cs) (drop-cons calls k default lt) in
+    let stops : PrintsPart image calls (text ++ part) = record {
+      done = take k calls;
+      call = get_or calls k default;
+      others = drop (suc k) calls;
+      in_order = split;
+      before = text;
+      printed_before = prints;
+      outcome = outcome;
+      ran = ran;
+      part = part;
+      rest = rest;
+      begun = e;
+      not_all = some;
+      written = refl;
+    } in
+    (text ++ part, stops, Appends-trans a b c text part p q)
