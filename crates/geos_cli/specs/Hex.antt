@@ -1,5 +1,6 @@
 -- Images in hexadecimal digits, up to a line `end`.
-use Rattle.std.specs.Prelude.{◌≡◌, ℕ, ◌+◌, ◌*◌, ◌/◌, ◌%◌, Bool, ◌||◌, not, ◌==◌, nat_lt, if◌then◌else◌, List, [], ◌∷◌, ◌++◌, length, option_to_list, filter_map, flat_map, Option, Some, None, codes, bytes_eq}
+use Rattle.std.specs.Prelude.{◌≡◌, ℕ, ◌+◌, ◌*◌, ◌/◌, ◌%◌, Bool, ◌||◌, not, ◌==◌, nat_lt, if◌then◌else◌}
+use Rattle.std.specs.Prelude.{List, [], ◌∷◌, ◌++◌, length, filter_map, flat_map, Option, Some, None, option_to_list, codes, bytes_eq}
 use Rattle.std.specs.List.{list_all, before_first, after_first, position_from}
 use Rattle.std.specs.Char.{digit_value}
 use Rattle.std.specs.Cmp.Lexicographic.{pointwise}
@@ -37,8 +38,8 @@ bytes_of [] = []
 bytes_of (high ∷ []) = []
 bytes_of (high ∷ low ∷ digits) = (16 * high + low) ∷ bytes_of digits
 
--- the first of the three: a line with another character; no line `end`, which is told by 0; a line `end` behind digits that
--- are odd in number
+-- the first of the three: a line with another character; no line `end`, which is told by 0; a
+-- line `end` behind digits that are odd in number
 abbrev pub first_hex_fault : Option ℕ → Option ℕ → List ℕ → Option ℕ
 first_hex_fault (Some line) end digits = Some line
 first_hex_fault None None digits = Some 0
@@ -56,6 +57,10 @@ image_bytes lines = bytes_of (digits_of (hex_lines lines))
 -- the digits of bytes, and a last one whose pair has not come
 abbrev pub digits_in : List ℕ → Option ℕ → List ℕ
 digits_in bytes high = flat_map (λ byte. byte / 16 ∷ byte % 16 ∷ []) bytes ++ option_to_list high
+
+-- digits are taken behind those that are in bytes and a last one
+abbrev pub Takes : List ℕ → Option ℕ → List ℕ → Option ℕ → List ℕ → Type 0
+Takes bytes high new_bytes new_high digits = digits_in new_bytes new_high ≡ digits_in bytes high ++ digits
 
 -- why the lines are no image in digits
 abbrev pub IsBadHex : List (List ℕ) → ScriptFault → Type 0

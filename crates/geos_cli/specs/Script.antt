@@ -1,5 +1,7 @@
 -- What the lines of a script say, when a script ends early, and what it prints.
-use Rattle.std.specs.Prelude.{◌≡◌, ◌<◌, ◌≤◌, ℕ, ◌-◌, Bool, true, ◌&&◌, not, nat_le, if◌then◌else◌, List, [], ◌∷◌, ◌++◌, length, replicate, position, filter_map, flat_map, Option, Some, None, option_map, option_and_then, is_none, Ok, Err, codes, bytes_eq, decimal, take, unwrap_or}
+use Rattle.std.specs.Prelude.{◌≡◌, ◌<◌, ◌≤◌, ℕ, ◌-◌, Bool, true, ◌&&◌, not, nat_le, if◌then◌else◌, decimal, codes, bytes_eq}
+use Rattle.std.specs.Prelude.{List, [], ◌∷◌, ◌++◌, length, replicate, take, position, filter_map, flat_map}
+use Rattle.std.specs.Prelude.{Option, Some, None, option_map, option_and_then, is_none, unwrap_or, Ok, Err}
 use Rattle.std.specs.List.{position_from}
 use Rattle.std.specs.Str.Lines.{lines}
 use Rattle.std.specs.Io.KnownBytes.{Appends}
@@ -75,10 +77,12 @@ printed words = flat_map (λ word. decimal word ++ 10 ∷ []) words
 abbrev pub Prints : Parts → List Call → List ℕ → Type 0
 Prints image [] text = text ≡ []
 Prints image (call ∷ calls) text =
-    (outcome : Outcome) × (others : List ℕ) × Ran image call.routine call.words outcome × Prints image calls others × (text ≡ printed outcome.output.items ++ others)
+    (outcome : Outcome) × (others : List ℕ) × Ran image call.routine call.words outcome × Prints image calls others
+    × (text ≡ printed outcome.output.items ++ others)
 
--- what the calls have printed when the writer fails: some calls are done, with all that they print; the next one was run,
--- and a beginning of what it prints is written, not all; the others were not begun
+-- what the calls have printed when the writer fails: some calls are done, with all that they
+-- print; the next one was run, and a beginning of what it prints is written, not all; the
+-- others were not begun
 pub record PrintsPart (image : Parts) (calls : List Call) (text : List ℕ) : Type 0 where
   pub done : List Call
   pub call : Call
@@ -125,7 +129,8 @@ IsBadLine image lines _ = ⊥
 abbrev pub Runs : List ℕ → List (List ℕ) → List ℕ → Type 0
 Runs bytes lines text = (image : Parts) × Loads bytes lines image × Prints image (calls_of image lines) text
 
--- a script of these lines runs on the image that the bytes spell, and has printed the text when the writer fails
+-- a script of these lines runs on the image that the bytes spell, and has printed the text
+-- when the writer fails
 abbrev pub Stops : List ℕ → List (List ℕ) → List ℕ → Type 0
 Stops bytes lines text = (image : Parts) × Loads bytes lines image × PrintsPart image (calls_of image lines) text
 
@@ -148,7 +153,8 @@ most_bytes = 1048576
 abbrev pub RunsScript : List ℕ → List ℕ → List ℕ → Type 0
 RunsScript bytes script text = (length script ≤ most_bytes) × Runs bytes (lines script) text
 
--- the script runs on the image that the bytes spell, and has printed the text when the writer fails
+-- the script runs on the image that the bytes spell, and has printed the text when the writer
+-- fails
 abbrev pub StopsScript : List ℕ → List ℕ → List ℕ → Type 0
 StopsScript bytes script text = (length script ≤ most_bytes) × Stops bytes (lines script) text
 

@@ -11,12 +11,14 @@ use Rattle.geos_cli.specs.Script.{most_bytes, Runs, Stops, EndsBy}
 abbrev pub Reads : Option (List ℕ) → Option (List ℕ) → List ℕ → Type 0
 Reads before now bytes = Consumes before now bytes × IsAtEnd now
 
--- the bytes are an image in digits, a line `end`, and a script that runs on the image and prints the text
+-- the bytes are an image in digits, a line `end`, and a script that runs on the image and
+-- prints the text
 abbrev pub RunsSession : List ℕ → List ℕ → Type 0
 RunsSession bytes text =
     (length bytes ≤ most_bytes) × (hex_fault (lines bytes) ≡ None) × Runs (image_bytes (lines bytes)) (script_lines (lines bytes)) text
 
--- such bytes, whose script has printed the text when the writer fails: a part of it, or all where the last flush failed
+-- such bytes, whose script has printed the text when the writer fails: a part of it, or all
+-- where the last flush failed
 abbrev pub StopsSession : List ℕ → List ℕ → Type 0
 StopsSession bytes text =
     (length bytes ≤ most_bytes) × (hex_fault (lines bytes) ≡ None)
@@ -26,11 +28,13 @@ StopsSession bytes text =
 abbrev pub RanSession : Option (List ℕ) → Option (List ℕ) → Option (List ℕ) → Option (List ℕ) → Type 0
 RanSession given left old new = (bytes text : List ℕ) × Reads given left bytes × RunsSession bytes text × Appends old new text
 
--- a reader gave a session, which was stopped by a writer that failed, and which got the text up to there
+-- a reader gave a session, which was stopped by a writer that failed, and which got the text
+-- up to there
 abbrev pub StoppedSession : Option (List ℕ) → Option (List ℕ) → Option (List ℕ) → Option (List ℕ) → Type 0
 StoppedSession given left old new = (bytes text : List ℕ) × Reads given left bytes × StopsSession bytes text × Appends old new text
 
--- when a session of these bytes ends with a fault: each of them in the order in which they are looked for
+-- when a session of these bytes ends with a fault: each of them in the order in which they are
+-- looked for
 abbrev pub SessionEndsBy : List ℕ → ScriptFault → Type 0
 SessionEndsBy bytes TooLong = most_bytes < length bytes
 SessionEndsBy bytes (BadHex line) = (length bytes ≤ most_bytes) × (hex_fault (lines bytes) ≡ Some line)
@@ -44,8 +48,9 @@ EndsReading before now Read = Unit {0}
 EndsReading before now Memory = Unit {0}
 EndsReading before now _ = ⊥
 
--- why a session ends with a fault, by what its reader gave: it was not read to its end where it is too long, and nothing is
--- said of it where the reader failed or an allocation was refused
+-- why a session ends with a fault, by what its reader gave: it was not read to its end where
+-- it is too long, and nothing is said of it where the reader failed or an allocation was
+-- refused
 abbrev pub EndsSession : Option (List ℕ) → Option (List ℕ) → ScriptFault → Type 0
 EndsSession before now Read = Unit {0}
 EndsSession before now Memory = Unit {0}

@@ -8,8 +8,8 @@ ghost use Rattle.geos_cli.specs.Counted.{one_more, AppendsPart};
 use std::io;
 use std::io::{ErrorKind, Read, Write};
 
-/// A stream that counts how often it was asked, and how many of its calls failed. A count stays
-/// at its greatest value.
+/// A stream that counts how often it was asked, and how many of its calls failed. A count
+/// stays at its greatest value.
 #[derive(Drop)]
 pub struct Counted<S> {
     pub stream: S,
@@ -68,8 +68,9 @@ impl<R: Read> Read for Counted<R> {
     }
 }
 
-/// Writes the bytes by as many writes as that takes, the first that fails or takes no byte being
-/// the last. `Write::write_all` does so too, but does not promise what it leaves where it fails.
+/// Writes the bytes by as many writes as that takes, the first that fails or takes no byte
+/// being the last. `Write::write_all` does so too, but does not promise what it leaves where
+/// it fails.
 fn write_whole<W: Write>(stream: &mut W, bytes: &[u8]) -> io::Result<()>
     ensures bytes { OnOk result (Appends (W.contents stream.old) (W.contents stream.new) bytes.now) }
     ensures part { OnErr result (AppendsPart (W.contents stream.old) (W.contents stream.new) bytes.now) }

@@ -8,15 +8,16 @@ use geos_verify::{Reject, Rule};
 use std::alloc::{AllocError, AllocFailed};
 use thiserror::Error;
 
-/// Why a script or a session ended early. Each but `Write` comes before the first command runs.
+/// Why a script or a session ended early. Each but `Write` comes before the first command
+/// runs.
 #[derive(Debug, Drop, Error)]
 pub enum ScriptFault {
     /// The input, or the script, has more than 1,048,576 bytes.
     #[error("too long")]
     TooLong,
-    /// A line before `end` has another character than hexadecimal digits, spaces and tabs; 0 where
-    /// `end` is missing; the `end` line where the digits are odd in number. Lines are counted
-    /// from 1.
+    /// A line before `end` has another character than hexadecimal digits, spaces and tabs; 0
+    /// where `end` is missing; the `end` line where the digits are odd in number. Lines are
+    /// counted from 1.
     #[error("bad hex line {0}")]
     BadHex(usize),
     /// The image has a fault at this offset.
@@ -25,15 +26,15 @@ pub enum ScriptFault {
     /// The verifier refuses the image at this pc by this rule.
     #[error("rejected at {0} by {1}")]
     Rejected(u16, Rule),
-    /// The line of the script, counted from 1, is no command, names no public routine, or has a word
-    /// past its bound.
+    /// The line of the script, counted from 1, is no command, names no public routine, or has
+    /// a word past its bound.
     #[error("bad script line {0}")]
     BadScript(usize),
     /// The reader failed.
     #[error("cannot read -")]
     Read,
-    /// The writer failed: the commands so far are done, and the one that was being printed; or all
-    /// of them, where the last flush failed.
+    /// The writer failed: the commands so far are done, and the one that was being printed; or
+    /// all of them, where the last flush failed.
     #[error("cannot write -")]
     Write,
     /// An allocation was refused.

@@ -3,7 +3,8 @@
 ghost use Rattle.std.specs.Prelude.{◌≡◌, ◌<◌, ◌≤◌, ◌++◌, ◌∷◌, [], ◌%◌, length, true, None, IfSome, IfNone, IfOk, IfErr, filter_map};
 ghost use Rattle.std.specs.Option.{ForSome};
 ghost use Rattle.std.specs.Str.Lines.{lines};
-ghost use Rattle.geos_cli.specs.Hex.{digit_of, bytes_of, digits_in, is_hex_line, is_end, hex_fault, image_bytes, script_lines, IsBadHex};
+ghost use Rattle.geos_cli.specs.Hex.{digit_of, bytes_of, digits_in, is_hex_line, is_end};
+ghost use Rattle.geos_cli.specs.Hex.{hex_fault, image_bytes, script_lines, Takes, IsBadHex};
 
 use crate::fault::ScriptFault;
 use crate::text::{first_line, first_word, is_blank};
@@ -32,7 +33,7 @@ struct Digits {
 impl Digits {
     fn push(&mut self, digit: u8) -> Result<(), AllocError>
         requires { digit < 16 }
-        ensures { IfOk result (λ _. digits_in self.new.bytes.items self.new.high ≡ digits_in self.old.bytes.items self.old.high ++ digit ∷ []) }
+        ensures { IfOk result (λ _. Takes self.old.bytes.items self.old.high self.new.bytes.items self.new.high (digit ∷ [])) }
     {
         match self.high {
             None => self.high = Some(digit),
@@ -47,7 +48,8 @@ impl Digits {
     /// Takes the digits of a line; `false` at another character.
     fn take_line(&mut self, line: &[u8]) -> Result<bool, AllocError>
         ensures hex { IfOk result (λ hex. hex ≡ is_hex_line line.now) }
-        ensures taken { IfOk result (λ hex. hex ≡ true → digits_in self.new.bytes.items self.new.high ≡ digits_in self.old.bytes.items self.old.high ++ filter_map digit_of line.now) }
+        ensures taken { IfOk result (λ hex. hex ≡ true →
+            Takes self.old.bytes.items self.old.high self.new.bytes.items self.new.high (filter_map digit_of line.now)) }
     {
         for byte in line {
             match digit(*byte) {
@@ -64,7 +66,8 @@ impl Digits {
 
     /// The bytes, unless the digits are odd in number.
     fn finish(self) -> Option<Vec<u8>>
-        ensures even { IfSome result (λ bytes. (bytes.items ≡ bytes_of (digits_in self.bytes.items self.high)) × (length (digits_in self.bytes.items self.high) % 2 ≡ 0)) }
+        ensures whole { IfSome result (λ bytes. bytes.items ≡ bytes_of (digits_in self.bytes.items self.high)) }
+        ensures even { IfSome result (λ _. length (digits_in self.bytes.items self.high) % 2 ≡ 0) }
         ensures odd { IfNone result (length (digits_in self.bytes.items self.high) % 2 ≡ 1) }
     {
         match self.high {

@@ -1,9 +1,10 @@
-//! Sessions: an image in hexadecimal digits, a line `end`, and a script of calls, which is run on the image.
+//! Sessions: an image in hexadecimal digits, a line `end`, and a script of calls, which is run
+//! on the image.
 //!
 //! | Module | Has |
 //! |---|---|
 //! | session | `run_session`: reads a session to its end, and runs it |
-//! | script | `run_script`: reads a script whole, then runs its calls and prints what they put out |
+//! | script | `run_script`: runs the calls of a script, and prints what they put out |
 //! | hex | the image in hexadecimal digits, up to the line `end` |
 //! | text | the lines of a text, the words of a line, the number of a word |
 //! | fault | `ScriptFault`: why a session or a script ended early |

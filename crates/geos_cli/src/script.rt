@@ -25,7 +25,8 @@ use std::io::Write;
 /// The most bytes of a script or a session.
 pub const MOST_BYTES: usize = 1_048_576;
 
-/// A command that may be carried out: a call of a routine that it is admitted to, on these words.
+/// A command that may be carried out: a call of a routine that it is admitted to, on these
+/// words.
 #[derive(Clone, Copy, Debug, PartialEq, Eq)]
 pub struct Call {
     pub routine: u16,
@@ -175,10 +176,11 @@ fn load(alloc: Global, image: &[u8]) -> Result<Checked, ScriptFault>
 /// script is read whole first, and a bad one runs nothing. The writer is not flushed.
 ///
 /// Of the faults, the first that is due is answered: `TooLong` where the script has more than
-/// 1,048,576 bytes; `BadImage`; `Rejected`; `BadScript`. `Memory` may come before the first call
-/// runs. Up to then nothing is asked of the writer. `Write` comes where the writer failed: it got
-/// all that the calls before print and a beginning of what the call prints that was run last, and
-/// no other call was begun. Where `Write` is not answered, no call of the writer failed.
+/// 1,048,576 bytes; `BadImage`; `Rejected`; `BadScript`. `Memory` may come before the first
+/// call runs. Up to then nothing is asked of the writer. `Write` comes where the writer
+/// failed: it got all that the calls before print and a beginning of what the call prints that
+/// was run last, and no other call was begun. Where `Write` is not answered, no call of the
+/// writer failed.
 pub fn run_script<W: Write>(
     alloc: Global,
     image: &[u8],
@@ -190,7 +192,8 @@ pub fn run_script<W: Write>(
     ensures stopped { IfErr result (λ fault. fault ≡ Write →
         StoppedScript image.now script.now (W.contents out.old.stream) (W.contents out.new.stream)) }
 
-    // The writer: nothing is asked of it before the first call, and it failed exactly where `Write` is answered.
+    // The writer: nothing is asked of it before the first call, and it failed exactly where
+    // `Write` is answered.
     ensures nothing_written { IfErr result (λ fault. fault ≢ Write → Keeps (W.contents out.old.stream) (W.contents out.new.stream)) }
     ensures not_asked { IfErr result (λ fault. fault ≢ Write → out.new.asked ≡ out.old.asked) }
     ensures writer_failed { IfErr result (λ fault. fault ≡ Write → Rose out.old.failures out.new.failures) }

@@ -47,14 +47,15 @@ fn read_all<R: Read>(alloc: Global, input: &mut Counted<R>) -> Result<Vec<u8>, S
     Err(ScriptFault::TooLong)
 }
 
-/// Reads a session to its end, runs it, and flushes the writer: an image in hexadecimal digits, a
-/// line `end`, and a script as of `run_script`.
+/// Reads a session to its end, runs it, and flushes the writer: an image in hexadecimal
+/// digits, a line `end`, and a script as of `run_script`.
 ///
 /// Of the faults, the first that is due is answered: `TooLong` where there are more than
-/// 1,048,576 bytes; `BadHex`; then those of `run_script`. `Read` comes where the reader failed,
-/// which is asked at most 1,048,577 times. `Write` comes where the writer failed, in a call as of
-/// `run_script`, or behind the last one, where the flush failed: then the writer got all that the
-/// calls print. Where neither is answered, no call of the reader or the writer failed.
+/// 1,048,576 bytes; `BadHex`; then those of `run_script`. `Read` comes where the reader
+/// failed, which is asked at most 1,048,577 times. `Write` comes where the writer failed, in a
+/// call as of `run_script`, or behind the last one, where the flush failed: then the writer
+/// got all that the calls print. Where neither is answered, no call of the reader or the
+/// writer failed.
 pub fn run_session<R: Read, W: Write>(
     alloc: Global,
     input: &mut Counted<R>,
@@ -67,7 +68,8 @@ pub fn run_session<R: Read, W: Write>(
     ensures stopped { IfErr result (λ fault. fault ≡ Write →
         StoppedSession (R.remaining input.old.stream) (R.remaining input.new.stream) (W.contents out.old.stream) (W.contents out.new.stream)) }
 
-    // The writer: nothing is asked of it before the first call, and it failed exactly where `Write` is answered.
+    // The writer: nothing is asked of it before the first call, and it failed exactly where
+    // `Write` is answered.
     ensures nothing_written { IfErr result (λ fault. fault ≢ Write → Keeps (W.contents out.old.stream) (W.contents out.new.stream)) }
     ensures not_asked { IfErr result (λ fault. fault ≢ Write → out.new.asked ≡ out.old.asked) }
     ensures writer_failed { IfErr result (λ fault. fault ≡ Write → Rose out.old.failures out.new.failures) }

@@ -24,7 +24,8 @@ fn without_carriage_return(line: &[u8]) -> &[u8]
     }
 }
 
-/// The first line, without its end, and the text behind it. A line ends with LF, CR LF or the end of the text.
+/// The first line, without its end, and the text behind it. A line ends with LF, CR LF or the
+/// end of the text.
 pub fn first_line(text: &[u8]) -> (&[u8], &[u8])
     ensures line { 0 < length text.now → lines text.now ≡ result.0.now ∷ lines result.1.now }
     ensures less { 0 < length text.now → length result.1.now < length text.now }
@@ -71,7 +72,8 @@ fn end_of_word(line: &[u8]) -> usize
         .unwrap_or(line.len())
 }
 
-/// The first word, which blanks may precede, and the line behind it; `None` where there is none.
+/// The first word, which blanks may precede, and the line behind it; `None` where there is
+/// none.
 pub fn first_word(line: &[u8]) -> Option<(&[u8], &[u8])>
     ensures none { IfNone result (words line.now ≡ []) }
     ensures some { IfSome result (λ r. words line.now ≡ r.0.now ∷ words r.1.now) }
