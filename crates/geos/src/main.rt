@@ -5,19 +5,40 @@ use anyhow::Result;
 use clap::Command;
 use geos_cli::{Counted, ScriptFault, run_session};
 use std::alloc::Global;
-use std::io::BufWriter;
+use std::io::{BufWriter, ErrorKind};
 use std::process::ExitCode;
 use std::{env, io};
 
 const ABOUT: &str =
-    "Runs a session: reads from standard input the image of a set of routines in hexadecimal digits, \
-    a line `end`, and a script. Each line of the script is `call NAME n..`, with at most eight numbers, or blank; text \
-    from `;` on is skipped. The image is checked first, and a call prints each word that the routine puts out on a line.";
+    "Runs a session: checks an image of routines, then calls them as a script says.";
+
+const SESSION: &str = "\
+A session is read from standard input, at most 1,048,576 bytes of it. It is
+  1. an image, a set of routines in hexadecimal digits;
+  2. a line `end`;
+  3. a script, with one command a line: `call NAME n..` runs the public routine of that name on
+     at most eight numbers, its words w0 to w7. A line may be blank; text from `;` on is skipped.
+
+Nothing runs unless the whole image is accepted and no line of the script is bad. A call prints
+each word that its routine puts out, in decimal on a line.
+
+Example:
+  ./geos < examples/add.session     prints 5
+examples/README.md has the routines of that folder in words, docs/FORMATS.md the digits of an image.
+
+Status: 0 where the script ran; 1 after a fault, which one line on standard error names; 2 where a
+word on the command line is not known.";
+
+/// A usage fault's status.
+const USAGE: u8 = 2;
 
 fn command<'a>(alloc: Global) -> Command<'a> {
     Command::new(alloc, "geos")
         .no_binary_name(true)
+        .version("0.1.0")
         .about(ABOUT)
+        .override_usage("geos < SESSION")
+        .after_help(SESSION)
 }
 
 /// Runs a session on the standard streams, and gives the program's status.
@@ -39,13 +60,25 @@ fn fail(rt: &HostRuntime, fault: ScriptFault) -> Result<ExitCode> {
     Ok(ExitCode::FAILURE)
 }
 
+/// The words behind the program's name. `ErrorKind::InvalidData`: one of them is no text.
+fn words(rt: &HostRuntime) -> io::Result<Vec<String>> {
+    Ok(env::args(rt)?.skip(1).collect(rt.alloc())?)
+}
+
 fn main(rt: HostRuntime) -> Result<ExitCode> {
-    let words: Vec<String> = env::args(&rt)?.skip(1).collect(rt.alloc())?;
+    let words = match words(&rt) {
+        Ok(words) => words,
+        Err(error) if error.kind() == ErrorKind::InvalidData => {
+            eprintln!(rt; "error: a word on the command line is no text: it is not UTF-8")?;
+            return Ok(ExitCode::from(USAGE));
+        }
+        Err(_) => return fail(&rt, ScriptFault::Memory),
+    };
     match command(rt.alloc()).try_get_matches_from(words.as_slice()) {
         Ok(_) => run(&rt),
-        Err(error) => {
-            error.print(&rt)?;
-            Ok(ExitCode::from(error.exit_code() as u8))
-        }
+        Err(answer) => match answer.print(&rt) {
+            Ok(()) => Ok(ExitCode::from(answer.exit_code() as u8)),
+            Err(_) => fail(&rt, ScriptFault::Write),
+        },
     }
 }

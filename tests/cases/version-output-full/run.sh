@@ -1,0 +1,1 @@
+"$1" --version >/dev/full
