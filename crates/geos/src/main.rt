@@ -24,10 +24,10 @@ each word that its routine puts out, in decimal on a line.
 
 Example:
   ./geos < examples/add.session     prints 5
-examples/README.md has the routines of that folder in words, docs/FORMATS.md the digits of an image.
+examples/README.md has the routines of that folder in words.
 
 Status: 0 where the script ran; 1 after a fault, which one line on standard error names; 2 where a
-word on the command line is not known.";
+word on the command line is not known. docs/FORMATS.md has the faults, and the digits of an image.";
 
 /// A usage fault's status.
 const USAGE: u8 = 2;

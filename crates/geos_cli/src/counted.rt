@@ -68,9 +68,9 @@ impl<R: Read> Read for Counted<R> {
     }
 }
 
-/// Writes the bytes by as many writes as that takes, the first that fails or takes no byte
-/// being the last. `Write::write_all` does so too, but does not promise what it leaves where
-/// it fails.
+/// Writes the bytes by as many writes as that takes. The first that fails, be it interrupted,
+/// or that takes no byte, is the last. Std's `write_all` tries an interrupted one again, and
+/// does not promise what it leaves where it fails.
 fn write_whole<W: Write>(stream: &mut W, bytes: &[u8]) -> io::Result<()>
     ensures bytes { OnOk result (Appends (W.contents stream.old) (W.contents stream.new) bytes.now) }
     ensures part { OnErr result (AppendsPart (W.contents stream.old) (W.contents stream.new) bytes.now) }
