@@ -1,6 +1,6 @@
 //! Streams that count their calls.
 
-ghost use Rattle.std.specs.Prelude.{◌≡◌, true, false, OnOk, OnErr, MatchBool};
+ghost use Rattle.std.specs.Prelude.{◌≡◌, true, false, OnOk, OnErr, MatchBool, MatchResult};
 ghost use Rattle.std.specs.Io.{ReadsAtMost, WritesAtMost};
 ghost use Rattle.std.specs.Io.KnownBytes.{Appends, Keeps, ReadConsumes, WriteAppends};
 ghost use Rattle.geos_cli.specs.Counted.{one_more, AppendsPart};
@@ -58,6 +58,7 @@ impl<R: Read> Read for Counted<R> {
     fn read(&mut self, into: &mut [u8]) -> io::Result<usize>
         ensures bound { ReadsAtMost result into.new }
         ensures bytes { ReadConsumes (R.remaining self.old.stream) (R.remaining self.new.stream) result into.new }
+        ensures flushed { self.new.flushed ≡ false }
         ensures asked { self.new.asked ≡ one_more self.old.asked }
         ensures failed { OnErr result (self.new.failures ≡ one_more self.old.failures) }
         ensures kept { OnOk result (self.new.failures ≡ self.old.failures) }
@@ -92,6 +93,7 @@ impl<W: Write> Write for Counted<W> {
     fn write(&mut self, bytes: &[u8]) -> io::Result<usize>
         ensures bound { WritesAtMost result bytes.now }
         ensures bytes { WriteAppends (W.contents self.old.stream) (W.contents self.new.stream) result bytes.now }
+        ensures flushed { self.new.flushed ≡ false }
         ensures asked { self.new.asked ≡ one_more self.old.asked }
         ensures failed { OnErr result (self.new.failures ≡ one_more self.old.failures) }
         ensures kept { OnOk result (self.new.failures ≡ self.old.failures) }
@@ -103,7 +105,7 @@ impl<W: Write> Write for Counted<W> {
 
     fn flush(&mut self) -> io::Result<()>
         ensures bytes { Keeps (W.contents self.old.stream) (W.contents self.new.stream) }
-        ensures flushed { OnOk result (self.new.flushed ≡ true) }
+        ensures flushed { MatchResult result (λ _. self.new.flushed ≡ true) (λ _. self.new.flushed ≡ false) }
         ensures asked { self.new.asked ≡ one_more self.old.asked }
         ensures failed { OnErr result (self.new.failures ≡ one_more self.old.failures) }
         ensures kept { OnOk result (self.new.failures ≡ self.old.failures) }
@@ -117,6 +119,7 @@ impl<W: Write> Write for Counted<W> {
     fn write_all(&mut self, bytes: &[u8]) -> io::Result<()>
         ensures bytes { OnOk result (Appends (W.contents self.old.stream) (W.contents self.new.stream) bytes.now) }
         ensures part { OnErr result (AppendsPart (W.contents self.old.stream) (W.contents self.new.stream) bytes.now) }
+        ensures flushed { self.new.flushed ≡ false }
         ensures asked { self.new.asked ≡ one_more self.old.asked }
         ensures failed { OnErr result (self.new.failures ≡ one_more self.old.failures) }
         ensures kept { OnOk result (self.new.failures ≡ self.old.failures) }
