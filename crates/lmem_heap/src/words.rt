@@ -3,12 +3,14 @@ ghost use Rattle.std.specs.Prelude.{◌≡◌, ◌+◌, ◌*◌, ◌≤◌, leng
 ghost use Rattle.lmem_raw.specs.Bytes.{part, with_part};
 ghost use Rattle.geos_model.specs.Bytes.{AreWords, with_word, with_words, word};
 
+use byteorder::{ByteOrder, LittleEndian};
+
 /// The word at an offset, little-endian.
 pub(crate) fn get16(block: &[u8], at: usize) -> u16
     requires { at + 2 ≤ length block.now }
     ensures { result ≡ word block.now at }
 {
-    u16::from_le_bytes([block[at], block[at + 1]])
+    LittleEndian::read_u16(&block[at..at + 2])
 }
 
 /// Writes a word, little-endian.
@@ -16,9 +18,7 @@ pub(crate) fn put16(block: &mut [u8], at: usize, word: u16)
     requires { at + 2 ≤ length block.old }
     ensures { block.new ≡ with_word block.old at word }
 {
-    let [low, high] = word.to_le_bytes();
-    block[at] = low;
-    block[at + 1] = high;
+    LittleEndian::write_u16(&mut block[at..at + 2], word);
 }
 
 /// Writes words one after the other.
