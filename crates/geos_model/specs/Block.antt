@@ -26,6 +26,10 @@ total_free block = word block 14
 abbrev pub entry : List ℕ → ℕ → ℕ
 entry block i = word block (16 + 2 * i)
 
+-- the offset of an entry
+abbrev pub entry_offset : ℕ → ℕ
+entry_offset i = 16 + 2 * i
+
 -- where the table ends
 abbrev pub table_end : List ℕ → ℕ
 table_end block = 16 + 2 * entries block

@@ -8,7 +8,8 @@ ghost use Rattle.lmem_heap.specs.Refusals.{IsRoomError};
 
 use crate::chunks::{put_chunk, remove_chunk};
 use crate::error::{BadChunk, RoomError};
-use crate::look::{entries, find};
+use crate::header::{entries, handle_of};
+use crate::look::find;
 use crate::room::{room_for, used_with_new};
 use crate::table::{add_entries, lowest_entry};
 use crate::tail::pack;
@@ -33,7 +34,7 @@ pub fn alloc(block: &mut [u8], n: u16) -> Result<u16, RoomError>
     pack(block);
     make_entry(block, i);
     put_chunk(block, i, n);
-    Ok((16 + 2 * i) as u16)
+    Ok(handle_of(i))
 }
 
 /// Sees that the table has an entry for a new chunk.

@@ -5,7 +5,7 @@ ghost use Rattle.geos_model.specs.Block.{chunks, entries, entry, handle_word, ta
 ghost use Rattle.geos_model.specs.Heap.{IsOffset};
 ghost use Rattle.lmem_heap.specs.Packed.{chunks_end, chunk_end, chunk_length, EditsChunk, HasResized, IsPacked, PutsChunk};
 
-use crate::look::{NO_BYTE, entry};
+use crate::header::{NO_BYTE, entry, put_entry};
 use crate::runs::move_run;
 use crate::tail::{chunks_end, set_tail};
 use crate::words::{clear, get16, put16};
@@ -58,7 +58,7 @@ pub(crate) fn remove_chunk(block: &mut [u8], i: usize)
     ensures free { entry block.new i ≡ 0 }
 {
     if entry(block, i) == NO_BYTE {
-        put16(block, 16 + 2 * i, 0);
+        put_entry(block, i, 0);
     } else {
         take_out(block, i);
     }
@@ -75,7 +75,7 @@ fn take_out(block: &mut [u8], i: usize)
     let chunk = Extent::of(block, i);
     let at = chunks_end(block);
     move_run(block, chunk.end, at, chunk.begin);
-    put16(block, 16 + 2 * i, 0);
+    put_entry(block, i, 0);
     set_tail(block, chunk.begin + (at - chunk.end));
 }
 
@@ -90,7 +90,7 @@ pub(crate) fn put_chunk(block: &mut [u8], i: usize, n: u16)
     ensures handle { handle_word block.new ≡ handle_word block.old }
 {
     if n == 0 {
-        put16(block, 16 + 2 * i, NO_BYTE);
+        put_entry(block, i, NO_BYTE);
     } else {
         put_behind(block, i, n);
     }
@@ -105,7 +105,7 @@ fn put_behind(block: &mut [u8], i: usize, n: u16)
     ensures { PutsChunk block.old block.new i n }
 {
     let at = chunks_end(block);
-    put16(block, 16 + 2 * i, (at + 2) as u16);
+    put_entry(block, i, (at + 2) as u16);
     put16(block, at, n + 2);
     clear(block, at + 2, n as usize);
     set_tail(block, at + cost(n as usize));

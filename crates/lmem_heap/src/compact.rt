@@ -4,6 +4,7 @@ ghost use Rattle.geos_model.specs.Bytes.{word};
 ghost use Rattle.geos_model.specs.Block.{chunks, first_free, handle_word};
 ghost use Rattle.geos_model.specs.Heap.{IsHeader, IsHeap, IsCompact};
 
+use crate::header::FIRST_FREE;
 use crate::runs::move_run;
 use crate::words::{get16, put16};
 
@@ -27,7 +28,7 @@ fn is_compact(block: &[u8]) -> bool
     requires { IsHeap block.now }
     ensures { IsTrue result ↔ IsCompact block.now }
 {
-    let first = get16(block, 12) as usize;
+    let first = get16(block, FIRST_FREE) as usize;
     if first == 0 {
         return true;
     }
@@ -61,7 +62,7 @@ impl Gap {
         ensures first { result.first ≡ first_free block.now }
         ensures some { result.first + result.size < result.end }
     {
-        let first = get16(block, 12);
+        let first = get16(block, FIRST_FREE);
         let size = get16(block, first as usize);
         let next = get16(block, first as usize + 2);
         if next == 0 {
@@ -94,6 +95,6 @@ impl Gap {
         move_run(block, first + size, end, first);
         put16(block, end - size, self.size + self.more);
         put16(block, end - size + 2, self.after);
-        put16(block, 12, self.end - self.size);
+        put16(block, FIRST_FREE, self.end - self.size);
     }
 }

@@ -3,6 +3,7 @@ ghost use Rattle.std.specs.Prelude.{◌≡◌, ◌≤◌, length, take};
 ghost use Rattle.geos_model.specs.Block.{chunks, handle_word};
 ghost use Rattle.geos_model.specs.Heap.{IsBlockSize, IsHeap};
 
+use crate::header::BLOCK_SIZE;
 use crate::tail::{chunks_end, pack, set_tail};
 use crate::words::put16;
 
@@ -21,6 +22,6 @@ pub fn enlarged(block: &mut [u8], old_size: u16)
     let heap = &mut block[..old_size as usize];
     pack(heap);
     let at = chunks_end(heap);
-    put16(block, 8, size);
+    put16(block, BLOCK_SIZE, size);
     set_tail(block, at);
 }

@@ -4,7 +4,9 @@ ghost use Rattle.geos_model.specs.Block.{table_end, entries};
 ghost use Rattle.geos_model.specs.Heap.{IsHeader, IsHeap};
 ghost use Rattle.lmem_heap.specs.Check.{CanTile, Goes, IsTiled, Marks};
 
-use crate::look::entries;
+use crate::header::{
+    BLOCK_SIZE, FIRST_FREE, FLAGS, KIND, TABLE, TABLE_BEGIN, TOTAL_FREE, entries, table_end,
+};
 use crate::marks::{PLACES, any_marked, mark};
 use crate::words::get16;
 
@@ -28,13 +30,13 @@ fn is_header(block: &[u8]) -> bool
         return false;
     }
     let n = entries(block);
-    get16(block, 2) == 16
-        && get16(block, 4) == 0
-        && get16(block, 6) == 0
-        && get16(block, 8) as usize == size
+    get16(block, TABLE_BEGIN) as usize == TABLE
+        && get16(block, FLAGS) == 0
+        && get16(block, KIND) == 0
+        && get16(block, BLOCK_SIZE) as usize == size
         && n >= 2
         && n % 2 == 0
-        && 16 + 2 * n <= size
+        && table_end(block) <= size
 }
 
 /// Whether pieces tile the block behind the table: goes over them from the lowest on.
@@ -44,8 +46,8 @@ fn is_tiled(block: &[u8], starts: &[bool]) -> bool
     requires length { length starts.now ≡ PLACES }
     ensures { IsTrue result ↔ IsTiled block.now }
 {
-    let mut at = 16 + 2 * entries(block);
-    let mut free = get16(block, 12) as usize;
+    let mut at = table_end(block);
+    let mut free = get16(block, FIRST_FREE) as usize;
     let mut sum: usize = 0;
     while at < block.len() {
         match next_piece(block, starts, at, free, sum) {
@@ -57,7 +59,7 @@ fn is_tiled(block: &[u8], starts: &[bool]) -> bool
             None => return false,
         }
     }
-    let total = get16(block, 14) as usize;
+    let total = get16(block, TOTAL_FREE) as usize;
     if free != 0 || sum != total {
         return false;
     }

@@ -17,6 +17,7 @@ mod compact;
 mod enlarge;
 mod error;
 mod grammar;
+mod header;
 mod look;
 mod marks;
 mod resize;
@@ -31,6 +32,7 @@ pub use compact::contract;
 pub use enlarge::enlarged;
 pub use error::{BadChunk, DeleteError, InsertError, ReallocError, RoomError};
 pub use grammar::check;
+use header::TABLE;
 pub use look::{next, place, size, total_free};
 pub use resize::{delete, insert, realloc};
 use words::put_words;
@@ -45,9 +47,23 @@ pub fn init(block: &mut [u8], handle: u16)
     ensures handle { handle_word block.new ≡ handle }
 {
     let size = block.len() as u16;
-    let free = size - 20;
+    let first = TABLE as u16 + 4;
+    let free = size - first;
     // the header, two entries that are not in use, one free chunk
-    let words = [handle, 16, 0, 0, size, 2, 20, free, 0, 0, free, 0];
+    let words = [
+        handle,
+        TABLE as u16,
+        0,
+        0,
+        size,
+        2,
+        first,
+        free,
+        0,
+        0,
+        free,
+        0,
+    ];
     put_words(block, 0, &words);
 }
 

@@ -7,27 +7,8 @@ ghost use Rattle.geos_model.specs.Block.{chunks, entries, entry, table_end, plac
 ghost use Rattle.geos_model.specs.Heap.{IsHeap};
 
 use crate::error::BadChunk;
+use crate::header::{NO_BYTE, TABLE, TOTAL_FREE, entries, entry, handle_of};
 use crate::words::get16;
-
-/// The entry of a chunk of no byte.
-pub(crate) const NO_BYTE: u16 = 0xffff;
-
-/// The number of table entries.
-pub(crate) fn entries(block: &[u8]) -> usize
-    requires { 16 ≤ length block.now }
-    ensures value { result ≡ entries block.now }
-    ensures small { result < 65536 }
-{
-    get16(block, 10) as usize
-}
-
-/// An entry of the table: 0 for no chunk, `NO_BYTE`, or the offset of a chunk's first byte.
-pub(crate) fn entry(block: &[u8], i: usize) -> u16
-    requires { 18 + 2 * i ≤ length block.now }
-    ensures { result ≡ entry block.now i }
-{
-    get16(block, 16 + 2 * i)
-}
 
 /// The entry of a chunk's handle. `BadChunk` where no chunk has it.
 pub(crate) fn find(block: &[u8], c: u16) -> Result<usize, BadChunk>
@@ -35,11 +16,12 @@ pub(crate) fn find(block: &[u8], c: u16) -> Result<usize, BadChunk>
     ensures place { MatchResult result (λ i. place_of block.now c ≡ place_at block.now (entry block.now i)) (λ _. place_of block.now c ≡ None) }
     ensures found { MatchResult result (λ i. (c ≡ handle_of i) × (i < entries block.now) × (entry block.now i ≢ 0)) (λ _. chunk_of (chunks block.now) c ≡ None) }
 {
-    if c < 16 || c % 2 != 0 {
+    let c = c as usize;
+    if c < TABLE || c % 2 != 0 {
         return Err(BadChunk);
     }
     let n = entries(block);
-    let i = (c as usize - 16) / 2;
+    let i = (c - TABLE) / 2;
     if i >= n || entry(block, i) == 0 {
         return Err(BadChunk);
     }
@@ -89,7 +71,7 @@ pub fn total_free(block: &[u8]) -> u16
     requires { IsHeap block.now }
     ensures { result + used_bytes (chunks block.now) ≡ length block.now }
 {
-    get16(block, 14)
+    get16(block, TOTAL_FREE)
 }
 
 /// The lowest handle above `c` that has a chunk, or none where there is none.
@@ -97,10 +79,11 @@ pub fn next(block: &[u8], c: u16) -> Option<u16>
     requires { IsHeap block.now }
     ensures { MatchOption result ((h : ℕ) → c < h → chunk_of (chunks block.now) h ≡ None) (λ h. (c < h) × IsSome (chunk_of (chunks block.now) h) × ((k : ℕ) → c < k → k < h → chunk_of (chunks block.now) k ≡ None)) }
 {
-    let first = if c < 16 { 0 } else { (c as usize - 16) / 2 + 1 };
+    let c = c as usize;
+    let first = if c < TABLE { 0 } else { (c - TABLE) / 2 + 1 };
     for i in first..entries(block) {
         if entry(block, i) != 0 {
-            return Some((16 + 2 * i) as u16);
+            return Some(handle_of(i));
         }
     }
     None

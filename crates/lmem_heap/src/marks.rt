@@ -4,7 +4,7 @@ ghost use Rattle.geos_model.specs.Block.{entries};
 ghost use Rattle.geos_model.specs.Heap.{IsHeader};
 ghost use Rattle.lmem_heap.specs.Check.{IsTiled, Marks};
 
-use crate::look::{NO_BYTE, entries, entry};
+use crate::header::{NO_BYTE, entries, entry, table_end};
 
 /// One place for each four bytes of the largest block.
 pub(crate) const PLACES: usize = 16384;
@@ -22,7 +22,7 @@ pub(crate) fn mark(block: &[u8], starts: &mut [bool]) -> bool
         let e = entry(block, i);
         if e != 0 && e != NO_BYTE {
             let at = e as usize;
-            if at < 18 + 2 * n || at >= block.len() || at % 4 != 2 || starts[at / 4] {
+            if at < table_end(block) + 2 || at >= block.len() || at % 4 != 2 || starts[at / 4] {
                 return false;
             }
             starts[at / 4] = true;

@@ -7,7 +7,8 @@ ghost use Rattle.lmem_heap.specs.Refusals.{IsRoomError};
 
 use crate::chunks::cost;
 use crate::error::RoomError;
-use crate::look::{entries, place_of_entry};
+use crate::header::{TOTAL_FREE, entries};
+use crate::look::place_of_entry;
 use crate::words::get16;
 
 /// Whether a block of this size has room for so many bytes; else how large it must be.
@@ -31,7 +32,7 @@ fn used_bytes(block: &[u8]) -> usize
     requires { IsHeap block.now }
     ensures { result ≡ used_bytes (chunks block.now) }
 {
-    block.len() - get16(block, 14) as usize
+    block.len() - get16(block, TOTAL_FREE) as usize
 }
 
 /// What they take with a new chunk of n bytes, whose entry is to be the i-th.

@@ -3,8 +3,8 @@ ghost use Rattle.std.specs.Prelude.{◌≡◌, ℕ, ◌+◌, ◌-◌, ◌≤◌,
 ghost use Rattle.geos_model.specs.Block.{entries, table_end};
 ghost use Rattle.lmem_heap.specs.Moves.{entry_moved, MovesEntries, MovesRun};
 
-use crate::look::{entries, entry};
-use crate::words::{move_bytes, put16};
+use crate::header::{entries, entry, put_entry};
+use crate::words::move_bytes;
 
 /// Moves the chunks that stand from `from` to `end` so that they begin at `to`, and their entries
 /// with them.
@@ -29,7 +29,7 @@ fn move_entries(block: &mut [u8], from: usize, end: usize, to: usize)
 {
     for i in 0..entries(block) {
         let moved = moved_entry(entry(block, i), from, end, to);
-        put16(block, 16 + 2 * i, moved);
+        put_entry(block, i, moved);
     }
 }
 

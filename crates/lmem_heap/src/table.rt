@@ -4,7 +4,7 @@ ghost use Rattle.geos_model.specs.Chunks.{lowest_entry};
 ghost use Rattle.geos_model.specs.Block.{chunks, entries, entry, handle_word, table_end, total_free};
 ghost use Rattle.lmem_heap.specs.Packed.{GrowsTable, IsPacked};
 
-use crate::look::{entries, entry};
+use crate::header::{ENTRIES, entries, entry, table_end};
 use crate::runs::move_run;
 use crate::tail::{chunks_end, set_tail};
 use crate::words::put16;
@@ -44,11 +44,11 @@ fn grow_table(block: &mut [u8])
     ensures { GrowsTable block.old block.new }
 {
     let n = entries(block);
-    let end = 16 + 2 * n;
+    let end = table_end(block);
     let at = chunks_end(block);
     move_run(block, end, at, end + 4);
     put16(block, end, 0);
     put16(block, end + 2, 0);
-    put16(block, 10, (n + 2) as u16);
+    put16(block, ENTRIES, (n + 2) as u16);
     set_tail(block, at + 4);
 }

@@ -5,6 +5,7 @@ ghost use Rattle.geos_model.specs.Heap.{IsHeap};
 ghost use Rattle.lmem_heap.specs.Packed.{chunks_end, IsPacked, SetsTail};
 
 use crate::compact::contract;
+use crate::header::{FIRST_FREE, TOTAL_FREE};
 use crate::words::{get16, put16};
 
 /// Moves the chunks together, with all free bytes behind them.
@@ -22,7 +23,7 @@ pub(crate) fn chunks_end(block: &[u8]) -> usize
     requires { IsPacked block.now }
     ensures { result ≡ chunks_end block.now }
 {
-    block.len() - get16(block, 14) as usize
+    block.len() - get16(block, TOTAL_FREE) as usize
 }
 
 /// Makes the bytes from `at` to the block's end free: one free chunk, or none where there are
@@ -33,11 +34,11 @@ pub(crate) fn set_tail(block: &mut [u8], at: usize)
     ensures { SetsTail block.old block.new at }
 {
     let free = block.len() - at;
-    put16(block, 14, free as u16);
+    put16(block, TOTAL_FREE, free as u16);
     if free == 0 {
-        put16(block, 12, 0);
+        put16(block, FIRST_FREE, 0);
     } else {
-        put16(block, 12, at as u16);
+        put16(block, FIRST_FREE, at as u16);
         put16(block, at, free as u16);
         put16(block, at + 2, 0);
     }

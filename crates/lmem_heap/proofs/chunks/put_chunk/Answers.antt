@@ -6,13 +6,13 @@ use Rattle.lmem_heap.proofs.Entrywise.{emptied}
 use Rattle.lmem_heap.proofs.chunks.put_chunk.Goals as goal
 
 pub returns-then-n-eq0-clause-packed : goal.returns-then-n-eq0-clause-packed
-returns-then-n-eq0-clause-packed c = (emptied c.args.block.now c.put16.new.block c.args.i c.requires.packed c.requires.known c.requires.free c.put16.ensures).packed
+returns-then-n-eq0-clause-packed c = (emptied c.args.block.now c.put_entry.new.block c.args.i c.requires.packed c.requires.known c.requires.free c.put_entry.ensures).packed
 
 pub returns-then-n-eq0-clause-chunks : goal.returns-then-n-eq0-clause-chunks
-returns-then-n-eq0-clause-chunks c = (emptied c.args.block.now c.put16.new.block c.args.i c.requires.packed c.requires.known c.requires.free c.put16.ensures).chunks ∙ ap (λ x. set (chunks c.args.block.now) c.args.i (Some (replicate x 0))) (sym c.if-n-eq0.true)
+returns-then-n-eq0-clause-chunks c = (emptied c.args.block.now c.put_entry.new.block c.args.i c.requires.packed c.requires.known c.requires.free c.put_entry.ensures).chunks ∙ ap (λ x. set (chunks c.args.block.now) c.args.i (Some (replicate x 0))) (sym c.if-n-eq0.true)
 
 pub returns-then-n-eq0-clause-handle : goal.returns-then-n-eq0-clause-handle
-returns-then-n-eq0-clause-handle c = (emptied c.args.block.now c.put16.new.block c.args.i c.requires.packed c.requires.known c.requires.free c.put16.ensures).handle
+returns-then-n-eq0-clause-handle c = (emptied c.args.block.now c.put_entry.new.block c.args.i c.requires.packed c.requires.known c.requires.free c.put_entry.ensures).handle
 
 pub returns-else-n-eq0-clause-packed : goal.returns-else-n-eq0-clause-packed
 returns-else-n-eq0-clause-packed c = put-packed c.args.block.now c.put_behind.new.block c.args.i c.args.n c.requires.packed c.requires.known c.requires.free (omega arith) c.requires.room c.put_behind.ensures

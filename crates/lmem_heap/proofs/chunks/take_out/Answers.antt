@@ -10,7 +10,7 @@ set_tail-requires-clause-fours c =
     omega (arith, f, k.wide, k.high, bs.room, bs.fours, c.chunks_end-at.ensures)
 
 pub returns-clause-edit : goal.returns-clause-edit
-returns-clause-edit c = (took-out c.args.block.now c.move_run.new.block c.put16.new.block c.set_tail.new.block c.args.i c.chunks_end-at.result c.of-chunk.result c.requires.packed c.requires.known c.of-chunk.ensures c.chunks_end-at.ensures c.move_run.ensures c.put16.ensures c.set_tail.ensures).0
+returns-clause-edit c = (took-out c.args.block.now c.move_run.new.block c.put_entry.new.block c.set_tail.new.block c.args.i c.chunks_end-at.result c.of-chunk.result c.requires.packed c.requires.known c.of-chunk.ensures c.chunks_end-at.ensures c.move_run.ensures c.put_entry.ensures c.set_tail.ensures).0
 
 pub returns-clause-gone : goal.returns-clause-gone
-returns-clause-gone c = (took-out c.args.block.now c.move_run.new.block c.put16.new.block c.set_tail.new.block c.args.i c.chunks_end-at.result c.of-chunk.result c.requires.packed c.requires.known c.of-chunk.ensures c.chunks_end-at.ensures c.move_run.ensures c.put16.ensures c.set_tail.ensures).1
+returns-clause-gone c = (took-out c.args.block.now c.move_run.new.block c.put_entry.new.block c.set_tail.new.block c.args.i c.chunks_end-at.result c.of-chunk.result c.requires.packed c.requires.known c.of-chunk.ensures c.chunks_end-at.ensures c.move_run.ensures c.put_entry.ensures c.set_tail.ensures).1

@@ -7,6 +7,6 @@ pub loop-i-preserved : goal.loop-i-preserved
 loop-i-preserved c =
     let a = c.args in
     let P : List ℕ → Type 0 = λ b. MovesEntries a.block.now b a.from a.end a.to (c.loop-i.i + 1) in
-    subst P (sym c.put16.ensures)
+    subst P (sym c.put_entry.ensures)
     (entries-more a.block.now c.loop-i.block a.from a.end a.to c.loop-i.i c.moved_entry-moved.result c.loop-i.invariant (omega (arith, c.entries-i-end.ensures.value)) c.requires.table
     (c.moved_entry-moved.ensures ∙ ap (entry_moved a.from a.end a.to) c.entry.ensures) c.moved_entry-moved.type_inv)

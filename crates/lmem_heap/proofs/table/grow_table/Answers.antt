@@ -17,5 +17,5 @@ put16-requires-2 c = let bs = bounds c.args.block.now c.requires.packed in omega
 pub returns : goal.returns
 returns c =
     let bs = bounds c.args.block.now c.requires.packed in let n = c.entries-n.ensures.value in let at = c.chunks_end-at.ensures in let low = bs.low in let room = bs.room in let r = c.requires.room in
-    grow-made c.args.block.now c.move_run.new.block c.put16.new.block c.put16-2.new.block c.put16-3.new.block c.set_tail.new.block c.entries-n.result (16 + 2 * c.entries-n.result) c.chunks_end-at.result n (ap (λ x. 16 + 2 * x) n) at (omega arith) (omega arith) bs.most
+    grow-made c.args.block.now c.move_run.new.block c.put16.new.block c.put16-2.new.block c.put16-3.new.block c.set_tail.new.block c.entries-n.result c.table_end-end.result c.chunks_end-at.result n c.table_end-end.ensures.value at (omega arith) (omega arith) bs.most
     c.move_run.ensures c.put16.ensures c.put16-2.ensures c.put16-3.ensures c.set_tail.ensures
