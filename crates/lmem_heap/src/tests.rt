@@ -1,7 +1,10 @@
 ghost use Rattle.std.specs.Prelude.{◌≤◌, ◌↔◌, IsTrue, length, take};
 ghost use Rattle.geos_model.specs.Heap.{IsHeap};
 
-use super::*;
+use crate::{
+    BadChunk, DeleteError, InsertError, RoomError, alloc, check, contract, delete, enlarged, free,
+    init, insert, next, place, realloc, size, total_free,
+};
 use std::process::Abort;
 use std::test::Fail;
 
