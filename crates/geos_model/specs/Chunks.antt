@@ -1,7 +1,9 @@
--- The chunks of a heap: one item per entry of its chunk handle table, the chunk's bytes where the entry has a chunk.
+-- The chunks of a heap: one item per entry of its chunk handle table, the chunk's bytes where
+-- the entry has a chunk.
 use Rattle.std.specs.Prelude.{ℕ, zero, suc, ◌+◌, ◌-◌, ◌*◌, ◌/◌, ◌%◌, ◌==◌, ◌&&◌, nat_le, if◌then◌else◌, List, [], ◌∷◌, Option, Some, None, length, sum_by, slice_index_or, slice_set, replicate, ◌++◌, take, drop, unwrap_or}
 
--- the bytes that a chunk of n bytes takes in a block: a size word and its bytes, filled up to fours; none for no byte
+-- the bytes that a chunk of n bytes takes in a block: a size word and its bytes, filled up to
+-- fours; none for no byte
 unfoldable pub cost : ℕ → ℕ
 cost zero = 0
 cost (suc n) = (suc n + 2 + 3) / 4 * 4

@@ -4,16 +4,21 @@ use Rattle.geos_model.specs.Bytes.{word}
 use Rattle.geos_model.specs.Chunks.{cost}
 use Rattle.geos_model.specs.Block.{entries, entry, table_end, first_free, total_free}
 
--- what stands behind the table: the chunk of an entry, of so many bytes, or a free chunk, of so many bytes in all
+-- what stands behind the table: the chunk of an entry, of so many bytes, or a free chunk, of
+-- so many bytes in all
 pub data Piece : Type 0 where
   Used : ℕ → ℕ → Piece
   Free : ℕ → Piece
 
--- these pieces stand side by side from `at` to `end`. The first free one is at `free`, and the last one says that the next one is at `next`. A used one begins with its size word, a free one with its size and the offset of the next one, which does not touch it
+-- these pieces stand side by side from `at` to `end`. The first free one is at `free`, and the
+-- last one says that the next one is at `next`. A used one begins with its size word, a free
+-- one with its size and the offset of the next one, which does not touch it
 abbrev pub Tiles : List ℕ → ℕ → ℕ → List Piece → ℕ → ℕ → Type 0
 Tiles block at free [] end next = (at ≡ end) × (free ≡ next)
-Tiles block at free (Used i n ∷ rest) end next = (0 < n) × (i < entries block) × (entry block i ≡ at + 2) × (word block at ≡ n + 2) × Tiles block (at + cost n) free rest end next
-Tiles block at free (Free s ∷ rest) end next = (0 < s) × (s % 4 ≡ 0) × (free ≡ at) × (word block at ≡ s) × (word block (at + 2) ≢ at + s) × Tiles block (at + s) (word block (at + 2)) rest end next
+Tiles block at free (Used i n ∷ rest) end next =
+    (0 < n) × (i < entries block) × (entry block i ≡ at + 2) × (word block at ≡ n + 2) × Tiles block (at + cost n) free rest end next
+Tiles block at free (Free s ∷ rest) end next =
+    (0 < s) × (s % 4 ≡ 0) × (free ≡ at) × (word block at ≡ s) × (word block (at + 2) ≢ at + s) × Tiles block (at + s) (word block (at + 2)) rest end next
 
 -- the chunk of an entry is among the pieces
 abbrev pub HasChunk : ℕ → List Piece → Type 0
@@ -54,7 +59,8 @@ pub record IsHeader (block : List ℕ) : Type 0 where
   pub some : 2 ≤ entries block
   pub fits : table_end block ≤ length block
 
--- the pieces tile the block behind the table, each chunk of the table is among them, and the header counts the free ones
+-- the pieces tile the block behind the table, each chunk of the table is among them, and the
+-- header counts the free ones
 pub record IsTiledBy (block : List ℕ) (pieces : List Piece) : Type 0 where
   pub tiles : Tiles block (table_end block) (first_free block) pieces (length block) 0
   pub all : (i : ℕ) → i < entries block → IsOffset (entry block i) → HasChunk i pieces

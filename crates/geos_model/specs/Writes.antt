@@ -12,6 +12,9 @@ pub record ChangesChunk (old new : List ℕ) (c : ℕ) (place : Place) (at : ℕ
   pub places : (d : ℕ) → place_of new d ≡ place_of old d
   pub handle : handle_word new ≡ handle_word old
 
--- bytes that are written within the place of a chunk change the list of that chunk alone: every place stays, and the block still is a heap
+-- bytes that are written within the place of a chunk change the list of that chunk alone:
+-- every place stays, and the block still is a heap
 abbrev pub WritesStayInTheirChunk : Type 0
-WritesStayInTheirChunk = (block : List ℕ) (c : ℕ) (place : Place) (at : ℕ) (ws : List ℕ) → IsHeap block → place_of block c ≡ Some place → at + length ws ≤ place.len → ChangesChunk block (with_part block (place.at + at) ws) c place at ws
+WritesStayInTheirChunk =
+    (block : List ℕ) (c : ℕ) (place : Place) (at : ℕ) (ws : List ℕ) →
+    IsHeap block → place_of block c ≡ Some place → at + length ws ≤ place.len → ChangesChunk block (with_part block (place.at + at) ws) c place at ws

@@ -11,7 +11,8 @@ use Rattle.lmem_heap.specs.Gaps.{HasGap}
 abbrev pub gap_of : ℕ → ℕ → ℕ → ℕ → ℕ → Gap
 gap_of first size end more after = record { first = first; size = size; end = end; more = more; after = after }
 
--- the first free chunk of a heap that is not compact: it lies behind the table, and does not end the block
+-- the first free chunk of a heap that is not compact: it lies behind the table, and does not
+-- end the block
 pub record IsFirstGap (b : List ℕ) (f : ℕ) : Type 0 where
   pub some : f ≢ 0
   pub four : 4 ≤ word b f

@@ -22,7 +22,8 @@ unmarked-start b at n starts m fours h i l t e =
 abbrev pub Clear : List Bool → ℕ → ℕ → Type 0
 Clear starts at size = (k : ℕ) → at / 4 + 1 ≤ k → k < (at + size) / 4 → get_or starts k false ≡ true → ⊥
 
--- where the pieces from `at` on begin with one of this size, no entry tells of a place within it
+-- where the pieces from `at` on begin with one of this size, no entry tells of a place within
+-- it
 clear : (b : List ℕ) (at f size : ℕ) (ps : List Piece) (starts : List Bool) → Marks b (entries b) starts → at % 4 ≡ 0 → size % 4 ≡ 0 →
     ((i : ℕ) → i < entries b → IsOffset (entry b i) → at + 2 < entry b i → HasChunk i ps) → Tiles b (at + size) f ps (length b) 0 → Clear starts at size
 clear b at f size ps starts m fours four all s k low high h =

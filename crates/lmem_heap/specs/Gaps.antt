@@ -6,7 +6,8 @@ use Rattle.geos_model.specs.Heap.{Piece, Tiles, HasChunk, IsOffset, AreUsed, fre
 use Rattle.lmem_heap.specs.Moves.{entry_moved}
 use Rattle.lmem_heap.specs.declared.compact.Gap.{Gap}
 
--- a gap of free bytes, the first one: chunks before it, chunks behind it up to its end, and there more free bytes, or none at the block's end
+-- a gap of free bytes, the first one: chunks before it, chunks behind it up to its end, and
+-- there more free bytes, or none at the block's end
 pub record HasGap (block : List ℕ) (gap : Gap) : Type 0 where
   pub pre : List Piece
   pub mid : List Piece
@@ -22,7 +23,8 @@ pub record HasGap (block : List ℕ) (gap : Gap) : Type 0 where
   pub total : total_free block ≡ gap.size + (gap.more + free_bytes post)
   pub places : (16 ≤ gap.first) × (gap.first + gap.size ≤ gap.end) × (gap.end + gap.more ≤ length block)
 
--- the chunks behind the gap stand where it began, and behind them it is one free chunk with the free bytes there
+-- the chunks behind the gap stand where it began, and behind them it is one free chunk with
+-- the free bytes there
 pub record ClosesGap (old new : List ℕ) (gap : Gap) : Type 0 where
   pub long : length new ≡ length old
   pub head : (k : ℕ) → k < 12 → slice_index new k ≡ slice_index old k

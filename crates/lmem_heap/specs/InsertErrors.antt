@@ -5,8 +5,10 @@ use Rattle.lmem_heap.specs.declared.error.InsertError.{InsertError}
 use Rattle.lmem_heap.specs.declared.error.InsertError.TheVariants.{BadChunk, Range, Room}
 use Rattle.lmem_heap.specs.Refusals.{IsRoomError}
 
--- no chunk has the handle; else the offset is past its length; else the block has no room for n more bytes
+-- no chunk has the handle; else the offset is past its length; else the block has no room for
+-- n more bytes
 abbrev pub IsInsertError : InsertError → List (Option (List ℕ)) → ℕ → ℕ → ℕ → ℕ → Type 0
 IsInsertError BadChunk chunks size c at n = chunk_of chunks c ≡ None
 IsInsertError Range chunks size c at n = IsSome (chunk_of chunks c) × (length (bytes_of chunks c) < at)
-IsInsertError (Room room) chunks size c at n = IsSome (chunk_of chunks c) × (at ≤ length (bytes_of chunks c)) × IsRoomError room (need (with_inserted chunks c at n)) size
+IsInsertError (Room room) chunks size c at n =
+    IsSome (chunk_of chunks c) × (at ≤ length (bytes_of chunks c)) × IsRoomError room (need (with_inserted chunks c at n)) size

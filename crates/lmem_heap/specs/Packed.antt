@@ -42,7 +42,8 @@ chunk_length block i = word block (entry block i - 2) - 2
 abbrev pub chunk_end : List ℕ → ℕ → ℕ
 chunk_end block i = entry block i - 2 + cost (chunk_length block i)
 
--- the chunks behind that of entry i stand at `to`, with their entries; what lies before it is as it was
+-- the chunks behind that of entry i stand at `to`, with their entries; what lies before it is
+-- as it was
 pub record EditsChunk (old new : List ℕ) (i to : ℕ) : Type 0 where
   pub long : length new ≡ length old
   pub head : (k : ℕ) → k < 12 → slice_index new k ≡ slice_index old k

@@ -14,11 +14,11 @@ use crate::room::{room_for, used_with_new};
 use crate::table::{add_entries, lowest_entry};
 use crate::tail::pack;
 
-/// Makes a chunk of `n` zero bytes and answers its handle: the lowest one that is not in use. Where
-/// all entries of the table are in use, it gets two more. Other chunks may move.
+/// Makes a chunk of `n` zero bytes and answers its handle: the lowest one that is not in use.
+/// Where all entries of the table are in use, it gets two more. Other chunks may move.
 ///
-/// `NeedMore` names the size that the block needs, where it is larger than the block is; `TooBig`
-/// where no block is that large.
+/// `NeedMore` names the size that the block needs, where it is larger than the block is;
+/// `TooBig` where no block is that large.
 pub fn alloc(block: &mut [u8], n: u16) -> Result<u16, RoomError>
     requires { IsHeap block.old }
     ensures heap { IsHeap block.new }

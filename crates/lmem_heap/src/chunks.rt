@@ -3,6 +3,7 @@ ghost use Rattle.std.specs.Prelude.{◌≡◌, ◌≢◌, ℕ, ◌+◌, ◌-◌,
 ghost use Rattle.geos_model.specs.Chunks.{cost, cost_of, entry_bytes, resized};
 ghost use Rattle.geos_model.specs.Block.{chunks, entries, entry, handle_word, table_end, total_free};
 ghost use Rattle.geos_model.specs.Heap.{IsOffset};
+ghost use Rattle.lmem_heap.specs.Changes.{entry_resized};
 ghost use Rattle.lmem_heap.specs.Packed.{chunks_end, chunk_end, chunk_length, EditsChunk, HasResized, IsPacked, PutsChunk};
 
 use crate::header::{NO_BYTE, entry, put_entry};
@@ -118,7 +119,7 @@ pub(crate) fn resize_chunk(block: &mut [u8], i: usize, n: u16)
     requires used { entry block.old i ≢ 0 }
     requires room { cost n ≤ total_free block.old + cost_of (slice_index_or (chunks block.old) i None) }
     ensures packed { IsPacked block.new }
-    ensures chunks { chunks block.new ≡ slice_set (chunks block.old) i (Some (resized (entry_bytes (chunks block.old) i) n)) }
+    ensures chunks { chunks block.new ≡ entry_resized (chunks block.old) i n }
     ensures handle { handle_word block.new ≡ handle_word block.old }
 {
     let at = entry(block, i);

@@ -8,8 +8,8 @@ use crate::header::FIRST_FREE;
 use crate::runs::move_run;
 use crate::words::{get16, put16};
 
-/// Moves the chunks together, so that at most one free chunk is left, at the block's end. Every
-/// chunk keeps its handle and its bytes. Each byte moves at most once.
+/// Moves the chunks together, so that at most one free chunk is left, at the block's end.
+/// Every chunk keeps its handle and its bytes. Each byte moves at most once.
 pub fn contract(block: &mut [u8])
     requires { IsHeap block.old }
     ensures heap { IsHeap block.new }
@@ -85,7 +85,8 @@ impl Gap {
         }
     }
 
-    /// Moves the chunks behind the gap to where it begins, and joins it with the free chunk there.
+    /// Moves the chunks behind the gap to where it begins, and joins it with the free chunk
+    /// there.
     fn close(self, block: &mut [u8])
         requires header { IsHeader block.old }
         requires gap { HasGap block.old self }

@@ -7,9 +7,9 @@ use crate::header::BLOCK_SIZE;
 use crate::tail::{chunks_end, pack, set_tail};
 use crate::words::put16;
 
-/// Makes the bytes behind a heap part of it, as free bytes. The first `old_size` bytes are the heap
-/// as it was, and the block's length is its new size, a legal one. Every chunk keeps its handle and
-/// its bytes, and the table stays as long as it is.
+/// Makes the bytes behind a heap part of it, as free bytes. The first `old_size` bytes are the
+/// heap as it was, and the block's length is its new size, a legal one. Every chunk keeps its
+/// handle and its bytes, and the table stays as long as it is.
 pub fn enlarged(block: &mut [u8], old_size: u16)
     requires heap { IsHeap (take old_size block.old) }
     requires within { old_size ≤ length block.old }

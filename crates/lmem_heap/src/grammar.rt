@@ -10,8 +10,8 @@ use crate::header::{
 use crate::marks::{PLACES, any_marked, mark};
 use crate::words::get16;
 
-/// Whether the bytes are a heap: exactly where they are header, table, chunks and free chunks that
-/// tile the block, as the format says. It takes time in proportion to the block's size.
+/// Whether the bytes are a heap: exactly where they are header, table, chunks and free chunks
+/// that tile the block, as the format says. It takes time in proportion to the block's size.
 pub fn check(block: &[u8]) -> bool
     ensures { IsTrue result ↔ IsHeap block.now }
 {
@@ -76,8 +76,8 @@ struct Piece {
     sum: usize,
 }
 
-/// The piece at an offset, where the next free chunk is to be at `free` and the ones so far have
-/// `sum` bytes. None where no piece can stand there.
+/// The piece at an offset, where the next free chunk is to be at `free` and the ones so far
+/// have `sum` bytes. None where no piece can stand there.
 fn next_piece(block: &[u8], starts: &[bool], at: usize, free: usize, sum: usize) -> Option<Piece>
     requires header { IsHeader block.now }
     requires marks { Marks block.now (entries block.now) starts.now }

@@ -1,9 +1,9 @@
 //! Heaps of chunks in a block of bytes.
 //!
-//! A heap has a header, a table of chunk handles, and behind it chunks and free chunks that tile
-//! the block. A chunk handle is the offset of the chunk's entry in the table, and the entry holds
-//! the chunk's offset: so chunks move and their handles stay. Every call works in the block alone
-//! and takes no memory. (GEOS SDK Concepts Book, chapter Local Memory.)
+//! A heap has a header, a table of chunk handles, and behind it chunks and free chunks that
+//! tile the block. A chunk handle is the offset of the chunk's entry in the table, and the
+//! entry holds the chunk's offset: so chunks move and their handles stay. Every call works in
+//! the block alone and takes no memory. (GEOS SDK Concepts Book, chapter Local Memory.)
 #![tactic(auto)]
 
 ghost use Rattle.std.specs.Prelude.{◌≡◌, [], ◌∷◌, length};
@@ -37,9 +37,9 @@ pub use look::{next, place, size, total_free};
 pub use resize::{delete, insert, realloc};
 use words::put_words;
 
-/// Makes a heap with two table entries and no chunk, whatever the bytes were. The block's length
-/// is a legal block size: a multiple of 16 from 64 to 65,520. `handle` is the block's handle,
-/// which no other call changes.
+/// Makes a heap with two table entries and no chunk, whatever the bytes were. The block's
+/// length is a legal block size: a multiple of 16 from 64 to 65,520. `handle` is the block's
+/// handle, which no other call changes.
 pub fn init(block: &mut [u8], handle: u16)
     requires { IsBlockSize (length block.old) }
     ensures heap { IsHeap block.new }
@@ -67,9 +67,9 @@ pub fn init(block: &mut [u8], handle: u16)
     put_words(block, 0, &words);
 }
 
-/// Bytes that are written within the place of a chunk change that chunk alone: every chunk stays
-/// where it is, every other one has its bytes, and the block still is a heap. So whoever knows a
-/// place may write there without a call.
+/// Bytes that are written within the place of a chunk change that chunk alone: every chunk
+/// stays where it is, every other one has its bytes, and the block still is a heap. So whoever
+/// knows a place may write there without a call.
 pub fn writes_stay_in_their_chunk()
     ensures { WritesStayInTheirChunk }
 {}

@@ -5,6 +5,7 @@ ghost use Rattle.geos_model.specs.Bytes.{word};
 ghost use Rattle.geos_model.specs.Chunks.{chunk_of, handle_of, used_bytes};
 ghost use Rattle.geos_model.specs.Block.{chunks, entries, entry, table_end, place_of, place_at, IsPlaced};
 ghost use Rattle.geos_model.specs.Heap.{IsHeap};
+ghost use Rattle.lmem_heap.specs.Changes.{HasEntry, IsLast, IsNext};
 
 use crate::error::BadChunk;
 use crate::header::{NO_BYTE, TABLE, TOTAL_FREE, entries, entry, handle_of};
@@ -14,7 +15,7 @@ use crate::words::get16;
 pub(crate) fn find(block: &[u8], c: u16) -> Result<usize, BadChunk>
     requires { IsHeap block.now }
     ensures place { MatchResult result (λ i. place_of block.now c ≡ place_at block.now (entry block.now i)) (λ _. place_of block.now c ≡ None) }
-    ensures found { MatchResult result (λ i. (c ≡ handle_of i) × (i < entries block.now) × (entry block.now i ≢ 0)) (λ _. chunk_of (chunks block.now) c ≡ None) }
+    ensures found { MatchResult result (λ i. HasEntry block.now c i) (λ _. chunk_of (chunks block.now) c ≡ None) }
 {
     let c = c as usize;
     if c < TABLE || c % 2 != 0 {
@@ -52,9 +53,9 @@ pub fn size(block: &[u8], c: u16) -> Result<u16, BadChunk>
     Ok(n)
 }
 
-/// Where the bytes of a chunk stand: the offset of the first one, and how many there are. A chunk
-/// of no byte has offset 0. `BadChunk` exactly where no chunk has this handle. Bytes may be
-/// written there: see `writes_stay_in_their_chunk`.
+/// Where the bytes of a chunk stand: the offset of the first one, and how many there are. A
+/// chunk of no byte has offset 0. `BadChunk` exactly where no chunk has this handle. Bytes may
+/// be written there: see `writes_stay_in_their_chunk`.
 pub fn place(block: &[u8], c: u16) -> Result<(u16, u16), BadChunk>
     requires { IsHeap block.now }
     ensures within { IfOk result (λ p. p.0 + p.1 ≤ length block.now) }
@@ -77,7 +78,7 @@ pub fn total_free(block: &[u8]) -> u16
 /// The lowest handle above `c` that has a chunk, or none where there is none.
 pub fn next(block: &[u8], c: u16) -> Option<u16>
     requires { IsHeap block.now }
-    ensures { MatchOption result ((h : ℕ) → c < h → chunk_of (chunks block.now) h ≡ None) (λ h. (c < h) × IsSome (chunk_of (chunks block.now) h) × ((k : ℕ) → c < k → k < h → chunk_of (chunks block.now) k ≡ None)) }
+    ensures { MatchOption result (IsLast (chunks block.now) c) (λ h. IsNext (chunks block.now) c h) }
 {
     let c = c as usize;
     let first = if c < TABLE { 0 } else { (c - TABLE) / 2 + 1 };

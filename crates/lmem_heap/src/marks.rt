@@ -2,16 +2,16 @@
 ghost use Rattle.std.specs.Prelude.{◌≡◌, ℕ, ◌<◌, ◌≤◌, Bool, true, false, length, MatchBool, replicate, slice_index_or};
 ghost use Rattle.geos_model.specs.Block.{entries};
 ghost use Rattle.geos_model.specs.Heap.{IsHeader};
-ghost use Rattle.lmem_heap.specs.Check.{IsTiled, Marks};
+ghost use Rattle.lmem_heap.specs.Check.{HasMark, HasNoMark, IsTiled, Marks};
 
 use crate::header::{NO_BYTE, entries, entry, table_end};
 
 /// One place for each four bytes of the largest block.
 pub(crate) const PLACES: usize = 16384;
 
-/// Marks where the chunks of the table begin, each place once. False where an entry can't be the
-/// offset of a chunk: it lies in the table, behind the block, at a place that no chunk can have,
-/// or where another entry's chunk begins.
+/// Marks where the chunks of the table begin, each place once. False where an entry can't be
+/// the offset of a chunk: it lies in the table, behind the block, at a place that no chunk can
+/// have, or where another entry's chunk begins.
 pub(crate) fn mark(block: &[u8], starts: &mut [bool]) -> bool
     requires header { IsHeader block.now }
     requires blank { starts.old ≡ replicate PLACES false }
@@ -34,7 +34,7 @@ pub(crate) fn mark(block: &[u8], starts: &mut [bool]) -> bool
 /// Whether one of these places is marked.
 pub(crate) fn any_marked(starts: &[bool], from: usize, end: usize) -> bool
     requires { (from ≤ end) × (end ≤ length starts.now) }
-    ensures { MatchBool result ((k : ℕ) × (from ≤ k) × (k < end) × (slice_index_or starts.now k false ≡ true)) ((k : ℕ) → from ≤ k → k < end → slice_index_or starts.now k false ≡ false) }
+    ensures { MatchBool result (HasMark starts.now from end) (HasNoMark starts.now from end) }
 {
     for k in from..end {
         if starts[k] {

@@ -4,6 +4,7 @@ ghost use Rattle.lmem_raw.specs.Bytes.{part, with_part};
 ghost use Rattle.geos_model.specs.Chunks.{bytes_of, chunk_of, entry_bytes, need, resized, with_deleted, with_inserted, with_resized};
 ghost use Rattle.geos_model.specs.Block.{chunks, entries, entry, handle_word};
 ghost use Rattle.geos_model.specs.Heap.{IsHeap};
+ghost use Rattle.lmem_heap.specs.Changes.{closed, Deletes, entry_resized, Inserts, opened, Resizes};
 ghost use Rattle.lmem_heap.specs.Refusals.{IsRoomError};
 ghost use Rattle.lmem_heap.specs.ReallocErrors.{IsReallocError};
 ghost use Rattle.lmem_heap.specs.InsertErrors.{IsInsertError};
@@ -16,15 +17,16 @@ use crate::room::{room_for, used_with};
 use crate::tail::pack;
 use crate::words::{clear, move_bytes};
 
-/// Gives a chunk `n` bytes: its first ones that fit, and zeros behind them. Other chunks may move.
+/// Gives a chunk `n` bytes: its first ones that fit, and zeros behind them. Other chunks may
+/// move.
 ///
-/// `BadChunk` exactly where no chunk has this handle; else `Room` where the block has no room: see
-/// `alloc`.
+/// `BadChunk` exactly where no chunk has this handle; else `Room` where the block has no room:
+/// see `alloc`.
 pub fn realloc(block: &mut [u8], c: u16, n: u16) -> Result<(), ReallocError>
     requires { IsHeap block.old }
     ensures heap { IsHeap block.new }
     ensures handle { handle_word block.new ≡ handle_word block.old }
-    ensures ok { OnOk result (IsSome (chunk_of (chunks block.old) c) × (chunks block.new ≡ with_resized (chunks block.old) c n)) }
+    ensures ok { OnOk result (Resizes (chunks block.old) (chunks block.new) c n) }
     ensures fits { OnOk result (need (with_resized (chunks block.old) c n) ≤ length block.old) }
     ensures refused { IfErr result (λ e. IsReallocError e (chunks block.old) (length block.old) c n) }
     ensures err { OnErr result (block.new ≡ block.old) }
@@ -36,13 +38,13 @@ pub fn realloc(block: &mut [u8], c: u16, n: u16) -> Result<(), ReallocError>
 
 /// Inserts `n` zero bytes at an offset of a chunk. Other chunks may move.
 ///
-/// `BadChunk` exactly where no chunk has this handle; else `Range` where `at` is past the chunk's
-/// length; else `Room` where the block has no room: see `alloc`.
+/// `BadChunk` exactly where no chunk has this handle; else `Range` where `at` is past the
+/// chunk's length; else `Room` where the block has no room: see `alloc`.
 pub fn insert(block: &mut [u8], c: u16, at: u16, n: u16) -> Result<(), InsertError>
     requires { IsHeap block.old }
     ensures heap { IsHeap block.new }
     ensures handle { handle_word block.new ≡ handle_word block.old }
-    ensures ok { OnOk result (IsSome (chunk_of (chunks block.old) c) × (at ≤ length (bytes_of (chunks block.old) c)) × (chunks block.new ≡ with_inserted (chunks block.old) c at n)) }
+    ensures ok { OnOk result (Inserts (chunks block.old) (chunks block.new) c at n) }
     ensures fits { OnOk result (need (with_inserted (chunks block.old) c at n) ≤ length block.old) }
     ensures refused { IfErr result (λ e. IsInsertError e (chunks block.old) (length block.old) c at n) }
     ensures err { OnErr result (block.new ≡ block.old) }
@@ -65,7 +67,7 @@ pub fn delete(block: &mut [u8], c: u16, at: u16, n: u16) -> Result<(), DeleteErr
     requires { IsHeap block.old }
     ensures heap { IsHeap block.new }
     ensures handle { handle_word block.new ≡ handle_word block.old }
-    ensures ok { OnOk result (IsSome (chunk_of (chunks block.old) c) × (at + n ≤ length (bytes_of (chunks block.old) c)) × (chunks block.new ≡ with_deleted (chunks block.old) c at n)) }
+    ensures ok { OnOk result (Deletes (chunks block.old) (chunks block.new) c at n) }
     ensures refused { IfErr result (λ e. IsDeleteError e (chunks block.old) c at n) }
     ensures err { OnErr result (block.new ≡ block.old) }
 {
@@ -89,9 +91,9 @@ fn resize(block: &mut [u8], i: usize, n: usize) -> Result<(), RoomError>
     requires small { n ≤ 131070 }
     ensures heap { IsHeap block.new }
     ensures handle { handle_word block.new ≡ handle_word block.old }
-    ensures ok { OnOk result (chunks block.new ≡ slice_set (chunks block.old) i (Some (resized (entry_bytes (chunks block.old) i) n))) }
-    ensures fits { OnOk result (need (slice_set (chunks block.old) i (Some (resized (entry_bytes (chunks block.old) i) n))) ≤ length block.old) }
-    ensures refused { IfErr result (λ e. IsRoomError e (need (slice_set (chunks block.old) i (Some (resized (entry_bytes (chunks block.old) i) n)))) (length block.old)) }
+    ensures ok { OnOk result (chunks block.new ≡ entry_resized (chunks block.old) i n) }
+    ensures fits { OnOk result (need (entry_resized (chunks block.old) i n) ≤ length block.old) }
+    ensures refused { IfErr result (λ e. IsRoomError e (need (entry_resized (chunks block.old) i n)) (length block.old)) }
     ensures err { OnErr result (block.new ≡ block.old) }
 {
     let used = used_with(block, i, n);
@@ -101,8 +103,8 @@ fn resize(block: &mut [u8], i: usize, n: usize) -> Result<(), RoomError>
     Ok(())
 }
 
-/// Moves the bytes of a chunk from an offset on up by n, and writes zeros there. Its last n bytes
-/// go.
+/// Moves the bytes of a chunk from an offset on up by n, and writes zeros there. Its last n
+/// bytes go.
 fn open_bytes(block: &mut [u8], i: usize, at: usize, n: usize)
     requires heap { IsHeap block.old }
     requires known { i < entries block.old }
@@ -110,7 +112,7 @@ fn open_bytes(block: &mut [u8], i: usize, at: usize, n: usize)
     requires within { at + n ≤ length (entry_bytes (chunks block.old) i) }
     ensures heap { IsHeap block.new }
     ensures handle { handle_word block.new ≡ handle_word block.old }
-    ensures chunks { let bytes = entry_bytes (chunks block.old) i in chunks block.new ≡ slice_set (chunks block.old) i (Some (with_part (with_part bytes (at + n) (part bytes at (length bytes - (at + n)))) at (replicate n 0))) }
+    ensures chunks { chunks block.new ≡ slice_set (chunks block.old) i (Some (opened (entry_bytes (chunks block.old) i) at n)) }
 {
     let (begin, len) = place_of_entry(block, i);
     let begin = begin as usize + at;
@@ -126,7 +128,7 @@ fn close_bytes(block: &mut [u8], i: usize, at: usize, n: usize)
     requires within { at + n ≤ length (entry_bytes (chunks block.old) i) }
     ensures heap { IsHeap block.new }
     ensures handle { handle_word block.new ≡ handle_word block.old }
-    ensures chunks { let bytes = entry_bytes (chunks block.old) i in chunks block.new ≡ slice_set (chunks block.old) i (Some (with_part bytes at (part bytes (at + n) (length bytes - (at + n))))) }
+    ensures chunks { chunks block.new ≡ slice_set (chunks block.old) i (Some (closed (entry_bytes (chunks block.old) i) at n)) }
 {
     let (begin, len) = place_of_entry(block, i);
     let begin = begin as usize + at;

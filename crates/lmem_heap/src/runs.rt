@@ -6,8 +6,8 @@ ghost use Rattle.lmem_heap.specs.Moves.{entry_moved, MovesEntries, MovesRun};
 use crate::header::{entries, entry, put_entry};
 use crate::words::move_bytes;
 
-/// Moves the chunks that stand from `from` to `end` so that they begin at `to`, and their entries
-/// with them.
+/// Moves the chunks that stand from `from` to `end` so that they begin at `to`, and their
+/// entries with them.
 pub(crate) fn move_run(block: &mut [u8], from: usize, end: usize, to: usize)
     requires behind_table { (table_end block.old ≤ from) × (table_end block.old ≤ to) }
     requires within { (from ≤ end) × (end ≤ length block.old) × (to + (end - from) ≤ length block.old) }

@@ -1,4 +1,4 @@
-use Rattle.std.proofs.Common.{◌≡◌, ◌+◌, ◌-◌, ◌*◌, ◌/◌, ◌%◌, ◌≤◌, refl, ◌∙◌, arith}
+use Rattle.std.proofs.Common.{◌≡◌, ◌-◌, ◌/◌, ◌%◌, ◌≤◌, ◌∙◌, arith}
 use Rattle.geos_model.proofs.Nexts.{no-chunk, some-chunk}
 use Rattle.lmem_heap.proofs.look.next.Goals as goal
 use Rattle.lmem_heap.proofs.look.next.Goals.{then-c-lt-TABLE, else-c-lt-TABLE}

@@ -1,4 +1,4 @@
-use Rattle.std.proofs.Common.{◌+◌, ◌*◌, ap, arith}
+use Rattle.std.proofs.Common.{arith}
 use Rattle.lmem_heap.proofs.PackedHeaps.{bounds}
 use Rattle.lmem_heap.proofs.Making.{grow-made}
 use Rattle.lmem_heap.proofs.table.grow_table.Goals as goal

@@ -1,4 +1,4 @@
-use Rattle.std.proofs.Common.{◌≡◌, ℕ, List, ◌+◌, ◌-◌, ◌≤◌, ◌<◌, ◌/◌, ◌%◌, [], ◌∷◌, length, take, drop, ap, ◌∙◌, arith, length-take, length-drop}
+use Rattle.std.proofs.Common.{◌≡◌, ℕ, List, ◌+◌, ◌-◌, ◌<◌, ◌/◌, ◌%◌, [], ◌∷◌, length, take, drop, ap, ◌∙◌, arith, length-take}
 use Rattle.std.proofs.lemmas.List.{drop_all}
 use Rattle.geos_model.proofs.Parts.{put_over}
 use Rattle.geos_model.specs.Bytes.{word_bytes, with_word}
