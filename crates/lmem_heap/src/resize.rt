@@ -4,7 +4,7 @@ ghost use Rattle.lmem_raw.specs.Bytes.{part, with_part};
 ghost use Rattle.geos_model.specs.Chunks.{bytes_of, chunk_of, entry_bytes, need, resized, with_deleted, with_inserted, with_resized};
 ghost use Rattle.geos_model.specs.Block.{chunks, entries, entry, handle_word};
 ghost use Rattle.geos_model.specs.Heap.{IsHeap};
-ghost use Rattle.lmem_heap.specs.Changes.{closed, Deletes, entry_resized, Inserts, opened, Resizes};
+ghost use Rattle.lmem_heap.specs.Changes.{closed, entry_resized, opened};
 ghost use Rattle.lmem_heap.specs.Refusals.{IsRoomError};
 ghost use Rattle.lmem_heap.specs.ReallocErrors.{IsReallocError};
 ghost use Rattle.lmem_heap.specs.InsertErrors.{IsInsertError};
@@ -26,7 +26,7 @@ pub fn realloc(block: &mut [u8], c: u16, n: u16) -> Result<(), ReallocError>
     requires { IsHeap block.old }
     ensures heap { IsHeap block.new }
     ensures handle { handle_word block.new ≡ handle_word block.old }
-    ensures ok { OnOk result (Resizes (chunks block.old) (chunks block.new) c n) }
+    ensures ok { let old = chunks block.old in OnOk result (IsSome (chunk_of old c) × (chunks block.new ≡ with_resized old c n)) }
     ensures fits { OnOk result (need (with_resized (chunks block.old) c n) ≤ length block.old) }
     ensures refused { IfErr result (λ e. IsReallocError e (chunks block.old) (length block.old) c n) }
     ensures err { OnErr result (block.new ≡ block.old) }
@@ -44,7 +44,8 @@ pub fn insert(block: &mut [u8], c: u16, at: u16, n: u16) -> Result<(), InsertErr
     requires { IsHeap block.old }
     ensures heap { IsHeap block.new }
     ensures handle { handle_word block.new ≡ handle_word block.old }
-    ensures ok { OnOk result (Inserts (chunks block.old) (chunks block.new) c at n) }
+    ensures ok { let old = chunks block.old in
+        OnOk result (IsSome (chunk_of old c) × (at ≤ length (bytes_of old c)) × (chunks block.new ≡ with_inserted old c at n)) }
     ensures fits { OnOk result (need (with_inserted (chunks block.old) c at n) ≤ length block.old) }
     ensures refused { IfErr result (λ e. IsInsertError e (chunks block.old) (length block.old) c at n) }
     ensures err { OnErr result (block.new ≡ block.old) }
@@ -67,7 +68,8 @@ pub fn delete(block: &mut [u8], c: u16, at: u16, n: u16) -> Result<(), DeleteErr
     requires { IsHeap block.old }
     ensures heap { IsHeap block.new }
     ensures handle { handle_word block.new ≡ handle_word block.old }
-    ensures ok { OnOk result (Deletes (chunks block.old) (chunks block.new) c at n) }
+    ensures ok { let old = chunks block.old in
+        OnOk result (IsSome (chunk_of old c) × (at + n ≤ length (bytes_of old c)) × (chunks block.new ≡ with_deleted old c at n)) }
     ensures refused { IfErr result (λ e. IsDeleteError e (chunks block.old) c at n) }
     ensures err { OnErr result (block.new ≡ block.old) }
 {
