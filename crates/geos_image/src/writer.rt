@@ -11,18 +11,23 @@ use crate::instr::Instr;
 use crate::potential::Potential;
 use crate::routine::Routine;
 use crate::row::{Pointer, Row, SlotState};
+use byteorder::{ByteOrder, LittleEndian};
 use std::alloc::{AllocError, Global};
 
 fn put_word(out: &mut Vec<u8>, n: u16) -> Result<(), AllocError>
     ensures { OnOk result (out.new.items ≡ out.old.items ++ word n) }
 {
-    out.extend_from_slice(&n.to_le_bytes())
+    let mut bytes = [0; 2];
+    LittleEndian::write_u16(&mut bytes, n);
+    out.extend_from_slice(&bytes)
 }
 
 fn put_long(out: &mut Vec<u8>, n: u32) -> Result<(), AllocError>
     ensures { OnOk result (out.new.items ≡ out.old.items ++ long n) }
 {
-    out.extend_from_slice(&n.to_le_bytes())
+    let mut bytes = [0; 4];
+    LittleEndian::write_u32(&mut bytes, n);
+    out.extend_from_slice(&bytes)
 }
 
 fn put_instr(out: &mut Vec<u8>, i: &Instr) -> Result<(), AllocError>

@@ -3,6 +3,8 @@
 ghost use Rattle.std.specs.Prelude.{◌≡◌, ◌<◌, ◌^◌, IfOk};
 ghost use Rattle.geos_image.specs.Reading.{byte_at, word_at, long_at, byte_below, word_below};
 
+use byteorder::{ByteOrder, LittleEndian};
+
 /// The offset of the first byte of a field that is cut or breaks its rule.
 pub(crate) type Fault = usize;
 
@@ -21,7 +23,7 @@ pub(crate) fn word_at(bytes: &[u8], at: usize) -> Result<u16, Fault>
     ensures { result ≡ word_at bytes.now at }
 {
     if at + 1 < bytes.len() {
-        Ok(u16::from_le_bytes([bytes[at], bytes[at + 1]]))
+        Ok(LittleEndian::read_u16(&bytes[at..]))
     } else {
         Err(at)
     }
@@ -32,7 +34,7 @@ pub(crate) fn long_at(bytes: &[u8], at: usize) -> Result<u32, Fault>
     ensures { result ≡ long_at bytes.now at }
 {
     if at + 3 < bytes.len() {
-        Ok(u32::from_le_bytes([bytes[at], bytes[at + 1], bytes[at + 2], bytes[at + 3]]))
+        Ok(LittleEndian::read_u32(&bytes[at..]))
     } else {
         Err(at)
     }
