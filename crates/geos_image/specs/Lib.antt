@@ -1,5 +1,6 @@
 pub mod Opcodes
 pub mod Parts
+pub mod Open
 pub mod Legal
 pub mod Fields
 pub mod Reading

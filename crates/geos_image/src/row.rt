@@ -1,5 +1,8 @@
 //! Entry states: what is known of the registers wherever control comes to a place.
 
+ghost use Rattle.std.specs.Prelude.{◌≡◌};
+ghost use Rattle.geos_image.specs.Open.{open_row};
+
 /// What a row says of a slot.
 #[derive(Clone, Copy, Debug, PartialEq, Eq)]
 pub enum SlotState {
@@ -40,11 +43,15 @@ pub struct Row {
 }
 
 impl Row {
-    /// Nothing is known, and nothing is held.
-    pub const OPEN: Row = Row {
-        bounds: [65_535; 8],
-        slots: [SlotState::Empty; 4],
-        pointers: [None; 4],
-        pairs: [false; 6],
-    };
+    /// The open row: nothing is known of the words and pointers, and no slot is held.
+    pub fn open() -> Row
+        ensures { result ≡ open_row }
+    {
+        Row {
+            bounds: [u16::MAX; 8],
+            slots: [SlotState::Empty; 4],
+            pointers: [None; 4],
+            pairs: [false; 6],
+        }
+    }
 }

@@ -1,17 +1,12 @@
 -- The images of the worked examples, by the definitions.
-use Rattle.std.proofs.Common.{ℕ, true, false, List, [], ◌∷◌, replicate, None}
+use Rattle.std.proofs.Common.{ℕ, true, List, [], ◌∷◌, replicate}
 use Rattle.geos_image.specs.declared.opcode.Opcode.{Opcode}
 use Rattle.geos_image.specs.declared.opcode.Opcode.TheVariants.{Ldi, Add, Setk, Loop, Ret, Out}
 use Rattle.geos_image.specs.declared.instr.Instr.{Instr}
-use Rattle.geos_image.specs.declared.row.Row.{Row}
-use Rattle.geos_image.specs.declared.row.SlotState.TheVariants.{Empty}
 use Rattle.geos_image.specs.declared.potential.Potential.{Potential}
 use Rattle.geos_image.specs.declared.routine.Routine.{Routine}
 use Rattle.geos_image.specs.Parts.{Parts}
-
--- nothing is known
-abbrev pub open_row : Row
-open_row = record { bounds = replicate 8 65535; slots = replicate 4 Empty; pointers = replicate 4 None; pairs = replicate 6 false }
+use Rattle.geos_image.specs.Open.{open_row}
 
 -- a constant, and the coefficient of k0
 abbrev pub potential : ℕ → ℕ → Potential

@@ -30,8 +30,8 @@ pub fn routine(text: &[u8], count: u16, budget: u32) -> Routine {
         public: true,
         count,
         budget,
-        entry: Row::OPEN,
-        exit: Row::OPEN,
+        entry: Row::open(),
+        exit: Row::open(),
     }
 }
 
@@ -53,7 +53,7 @@ pub fn image(
     routines.push(routine)?;
     let mut points = Vec::new(alloc);
     for (instr, potential) in code {
-        points.push((*instr, Row::OPEN, *potential))?;
+        points.push((*instr, Row::open(), *potential))?;
     }
     Ok(Image::new(routines, points))
 }
