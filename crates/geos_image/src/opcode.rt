@@ -1,7 +1,7 @@
 //! The opcodes, and what each field of their instructions holds.
 
 ghost use Rattle.std.specs.Prelude.{◌≡◌};
-ghost use Rattle.geos_image.specs.Opcodes.{code_of, opcode_of, operands_of, limit};
+ghost use Rattle.geos_image.specs.Opcodes.{code_of, opcode_of, fields, refusable_fields, operands_of, limit};
 
 /// What an instruction does. The byte that spells it is its `code`, and not its discriminant.
 #[derive(Clone, Copy, Debug, PartialEq, Eq)]
@@ -76,17 +76,29 @@ pub struct Operands {
     pub refusable: bool,
 }
 
-impl Operands {
-    /// No field is used.
-    const NONE: Operands = Operands {
-        a: Operand::Unused,
-        b: Operand::Unused,
-        c: Operand::Unused,
-        d: Operand::Unused,
-        imm: Operand::Unused,
-        target: Operand::Unused,
+/// The operands of an instruction that is never refused: the fields a, b, c and d, then imm and target.
+fn fields(a: Operand, b: Operand, c: Operand, d: Operand, imm: Operand, target: Operand) -> Operands
+    ensures { result ≡ fields a b c d imm target }
+{
+    Operands {
+        a,
+        b,
+        c,
+        d,
+        imm,
+        target,
         refusable: false,
-    };
+    }
+}
+
+/// The operands of one that can be refused: its target is a label.
+fn refusable_fields(a: Operand, b: Operand, c: Operand, d: Operand, imm: Operand) -> Operands
+    ensures { result ≡ refusable_fields a b c d imm }
+{
+    Operands {
+        refusable: true,
+        ..fields(a, b, c, d, imm, Operand::Label)
+    }
 }
 
 impl Opcode {
@@ -143,73 +155,24 @@ impl Opcode {
     pub fn operands(self) -> Operands
         ensures { result ≡ operands_of self }
     {
+        use Operand::{Counter, Label, Number, Shift, Unused, Word};
         match self {
-            Opcode::Ldi => Operands {
-                a: Operand::Word,
-                imm: Operand::Number,
-                ..Operands::NONE
-            },
-            Opcode::Mov => Operands {
-                a: Operand::Word,
-                b: Operand::Word,
-                ..Operands::NONE
-            },
-            Opcode::Add | Opcode::Sub => Operands {
-                a: Operand::Word,
-                b: Operand::Word,
-                c: Operand::Word,
-                ..Operands::NONE
-            },
-            Opcode::And | Opcode::Muli => Operands {
-                a: Operand::Word,
-                b: Operand::Word,
-                imm: Operand::Number,
-                ..Operands::NONE
-            },
-            Opcode::Shr => Operands {
-                a: Operand::Word,
-                b: Operand::Word,
-                imm: Operand::Shift,
-                ..Operands::NONE
-            },
-            Opcode::Chk => Operands {
-                a: Operand::Word,
-                imm: Operand::Number,
-                target: Operand::Label,
-                ..Operands::NONE
-            },
-            Opcode::Jmp => Operands {
-                target: Operand::Label,
-                ..Operands::NONE
-            },
-            Opcode::Beq | Opcode::Blt => Operands {
-                a: Operand::Word,
-                b: Operand::Word,
-                target: Operand::Label,
-                ..Operands::NONE
-            },
-            Opcode::Setk => Operands {
-                a: Operand::Counter,
-                imm: Operand::Number,
-                ..Operands::NONE
-            },
-            Opcode::Setkw => Operands {
-                a: Operand::Counter,
-                b: Operand::Word,
-                ..Operands::NONE
-            },
-            Opcode::Loop => Operands {
-                a: Operand::Counter,
-                target: Operand::Label,
-                ..Operands::NONE
-            },
-            Opcode::Ret => Operands::NONE,
-            Opcode::Out => Operands {
-                a: Operand::Word,
-                target: Operand::Label,
-                refusable: true,
-                ..Operands::NONE
-            },
+            Opcode::Ldi => fields(Word, Unused, Unused, Unused, Number, Unused),
+            Opcode::Mov => fields(Word, Word, Unused, Unused, Unused, Unused),
+            Opcode::Add => fields(Word, Word, Word, Unused, Unused, Unused),
+            Opcode::Sub => fields(Word, Word, Word, Unused, Unused, Unused),
+            Opcode::And => fields(Word, Word, Unused, Unused, Number, Unused),
+            Opcode::Shr => fields(Word, Word, Unused, Unused, Shift, Unused),
+            Opcode::Muli => fields(Word, Word, Unused, Unused, Number, Unused),
+            Opcode::Chk => fields(Word, Unused, Unused, Unused, Number, Label),
+            Opcode::Jmp => fields(Unused, Unused, Unused, Unused, Unused, Label),
+            Opcode::Beq => fields(Word, Word, Unused, Unused, Unused, Label),
+            Opcode::Blt => fields(Word, Word, Unused, Unused, Unused, Label),
+            Opcode::Setk => fields(Counter, Unused, Unused, Unused, Number, Unused),
+            Opcode::Setkw => fields(Counter, Word, Unused, Unused, Unused, Unused),
+            Opcode::Loop => fields(Counter, Unused, Unused, Unused, Unused, Label),
+            Opcode::Ret => fields(Unused, Unused, Unused, Unused, Unused, Unused),
+            Opcode::Out => refusable_fields(Word, Unused, Unused, Unused, Unused),
         }
     }
 }
