@@ -10,3 +10,4 @@ pub mod RowLaws
 pub mod PointLaws
 pub mod RoutineLaws
 pub mod ImageLaws
+pub mod Starts

@@ -1,8 +1,8 @@
 //! Images.
 
-ghost use Rattle.std.specs.Prelude.{◌≡◌, ◌<◌, ◌≤◌, ◌↔◌, IsTrue, IsSome, IfSome, true, [], length, slice_get, Some};
+ghost use Rattle.std.specs.Prelude.{◌≡◌, ◌<◌, ◌≤◌, ◌+◌, ◌↔◌, IsTrue, IsSome, IfSome, true, [], length, slice_get, Some};
 ghost use Rattle.std.specs.List.{list_all};
-ghost use Rattle.geos_image.specs.Parts.{Parts, Point};
+ghost use Rattle.geos_image.specs.Parts.{Parts, Point, start_of};
 ghost use Rattle.geos_image.specs.Legal.{is_image, are_routines, is_point};
 ghost use Rattle.geos_image.specs.Fields.{FieldsFit, TargetFits};
 
@@ -91,6 +91,17 @@ impl Image {
         ensures { slice_get self.now.routines i ≡ Some result.now }
     {
         &self.routines[i as usize]
+    }
+
+    /// The pc of a routine's first instruction.
+    pub fn start(&self, i: u16) -> u16
+        requires { i < length self.now.routines }
+        ensures start { result ≡ start_of self.now.routines i }
+        // The routine's instructions are some of the image's.
+        ensures room { IfSome (slice_get self.now.routines i) (λ routine. result + routine.count ≤ length self.now.points) }
+        ensures short { length self.now.points ≤ MOST_INSTRS }
+    {
+        total_count(&self.routines[..usize::from(i)]) as u16
     }
 
     /// How many instructions there are, 1 to 4,096.

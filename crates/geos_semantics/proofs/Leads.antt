@@ -13,7 +13,8 @@ use Rattle.geos_verify.specs.Lists.{first_refusal}
 use Rattle.geos_verify.specs.Rows.{falls_through, branches, at_point, row_along, row_branching, fits, is_plain}
 use Rattle.geos_verify.specs.Potentials.{pays_along, pays_branching, is_within}
 use Rattle.geos_verify.specs.Rules.{has_place, returns, leaves_routine, entry_misfits, exit_misfits, misfits_at, edge_misfits, unpaid_along, unpaid_branching, edge_unpaid, over_budget, tests, HasPoint, Accepted}
-use Rattle.geos_verify.proofs.Places.{place_bounds, place_true, start_of-end, item_at}
+use Rattle.geos_image.proofs.Starts.{start_of-end}
+use Rattle.geos_verify.proofs.Places.{place_bounds, place_true, item_at}
 
 -- every test is false
 abbrev pub Passed : {R : Type 0} → List (Bool × R) → Type 0

@@ -61,15 +61,10 @@ fn first_refusal(image: &Image) -> Option<Reject>
     ensures none { IfNone result (Accepted image.now) }
     ensures some { IfSome result (FirstRefusal image.now) }
 {
-    // For what `len` says of the image: its counts do not overflow.
-    let _short = image.len();
-    let mut start = 0;
     for r in 0..image.count() {
-        let routine = image.routine(r);
-        if let Some(reject) = refusal_in(image, routine, start) {
+        if let Some(reject) = refusal_in(image, image.routine(r), image.start(r)) {
             return Some(reject);
         }
-        start += routine.count;
     }
     None
 }

@@ -1,0 +1,13 @@
+use Rattle.std.proofs.Common.{◌≡◌, ◌+◌, ◌≤◌, ℕ, true, length, slice_get, subst, sym, rules}
+use Rattle.std.specs.Prelude.{IfSome}
+use Rattle.geos_image.specs.Legal.{is_image}
+use Rattle.geos_image.specs.Parts.{Parts, start_of}
+use Rattle.geos_image.proofs.Starts.{start_of-room}
+use Rattle.geos_image.proofs.image.Image.start.Goals as goal
+
+pub returns-clause-room : goal.returns-clause-room
+returns-clause-room c =
+    let image = c.args.self.now in
+    let legal : is_image image ≡ true = subst (λ (p : Parts). is_image p ≡ true) c.self.view_is c.self.invariant in
+    let start_is : c.total_count.result ≡ start_of image.routines c.args.i = search rules in
+    subst (λ (n : ℕ). IfSome (slice_get image.routines c.args.i) (λ routine. n + routine.count ≤ length image.points)) (sym start_is) (start_of-room image c.args.i legal)
