@@ -8,12 +8,18 @@ ghost use Rattle.geos_verify.specs.Rules.{names_empty_slot};
 
 use geos_image::{Pointer, Row, SlotState};
 
-/// Whether each bound is at most the other row's.
-fn bounds_fit(r: &[u16; 8], s: &[u16; 8]) -> bool
-    ensures { result ≡ all2 nat_le r.now s.now }
+/// Whether each word is within its bound; and of two rows' bounds, whether those of the first are enough for the second.
+pub fn within_bounds(words: &[u16; 8], bounds: &[u16; 8]) -> bool
+    ensures { result ≡ all2 nat_le words.now bounds.now }
 {
-    let low = (r[0] <= s[0]) & (r[1] <= s[1]) & (r[2] <= s[2]) & (r[3] <= s[3]);
-    let high = (r[4] <= s[4]) & (r[5] <= s[5]) & (r[6] <= s[6]) & (r[7] <= s[7]);
+    let low = (words[0] <= bounds[0])
+        & (words[1] <= bounds[1])
+        & (words[2] <= bounds[2])
+        & (words[3] <= bounds[3]);
+    let high = (words[4] <= bounds[4])
+        & (words[5] <= bounds[5])
+        & (words[6] <= bounds[6])
+        & (words[7] <= bounds[7]);
     low & high
 }
 
@@ -70,7 +76,7 @@ fn pairs_fit(r: &[bool; 6], s: &[bool; 6]) -> bool
 pub(crate) fn fits(r: &Row, s: &Row) -> bool
     ensures { result ≡ fits r.now s.now }
 {
-    bounds_fit(&r.bounds, &s.bounds)
+    within_bounds(&r.bounds, &s.bounds)
         && slots_fit(&r.slots, &s.slots)
         && pointers_fit(&r.pointers, &s.pointers)
         && pairs_fit(&r.pairs, &s.pairs)

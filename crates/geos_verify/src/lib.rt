@@ -12,4 +12,5 @@ mod rule;
 
 pub use checked::{Checked, check};
 pub use edges::after;
+pub use fits::within_bounds;
 pub use rule::{Reject, Rule};
