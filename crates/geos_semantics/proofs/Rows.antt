@@ -11,7 +11,7 @@ use Rattle.geos_image.specs.declared.row.SlotState.{SlotState}
 use Rattle.geos_image.specs.declared.row.SlotState.TheVariants.{Empty, Mem, Vm, VmMarked, Db, DbMarked}
 use Rattle.geos_verify.specs.Lists.{all2}
 use Rattle.geos_verify.specs.Rows.{bound, with_bound, or_any, slot_fits, pointer_fits, pair_fits, fits}
-use Rattle.geos_semantics.specs.Model.{Held, Reference, State, word, with_word}
+use Rattle.geos_semantics.specs.Model.{Held, SlotReference, State, word, with_word}
 use Rattle.geos_semantics.specs.Meets.{SlotMeets, PointerMeets, PairMeets, slot_pairs, Meets}
 use Rattle.geos_semantics.proofs.Lists.{each2-set, each2-get, each2-from_test, each2-trans, each2-trans_back}
 
@@ -28,7 +28,7 @@ slot-meets None DbMarked Db m e = m
 slot-meets (Some k) DbMarked Db m e = m
 slot-meets h _ _ m e = absurd cc
 
-pointer-meets : (x : Option Reference) (y z : Option Pointer) → PointerMeets x y → pointer_fits y z ≡ true → PointerMeets x z
+pointer-meets : (x : Option SlotReference) (y z : Option Pointer) → PointerMeets x y → pointer_fits y z ≡ true → PointerMeets x z
 pointer-meets x y None m e = tt
 pointer-meets x None (Some q) m e = absurd cc
 pointer-meets None (Some p) (Some q) m e = absurd m

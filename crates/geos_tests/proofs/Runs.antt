@@ -1,17 +1,14 @@
 -- What the model's runs of the worked examples come to.
-use Rattle.std.proofs.Common.{◌≡◌, refl, ℕ, false, List, [], ◌∷◌, replicate}
+use Rattle.std.proofs.Common.{◌≡◌, refl, ℕ, List, [], ◌∷◌, replicate}
 use Rattle.geos_image.specs.Parts.{Parts}
-use Rattle.geos_semantics.specs.Model.{Choice, Ending, Faulted, Running, Returned, run}
+use Rattle.geos_semantics.specs.Model.{Ending, Faulted, Running, Returned, run}
 use Rattle.geos_machine.specs.Runs.{begin}
+use Rattle.geos_machine.proofs.Going.{quiet}
 use Rattle.geos_tests.proofs.Images.{add, outputs}
-
--- nothing is refused from outside
-abbrev pub granted : Choice
-granted = record { first_room = false; last_room = false; device = false; memory = false }
 
 -- the ending of a run of at most n steps of the first routine, on words that are 0
 abbrev pub ending : Parts → ℕ → Ending
-ending image n = run image (replicate n granted) 0 (begin image 0 (replicate 8 0))
+ending image n = run image (replicate n quiet) 0 (begin image 0 (replicate 8 0))
 
 -- the steps, the words and the output of a run that has returned
 abbrev pub returned : Ending → List (ℕ × List ℕ × List ℕ)

@@ -1,5 +1,5 @@
 -- Tests over lists.
-use Rattle.std.specs.Prelude.{Bool, true, false, ◌&&◌, List, [], ◌∷◌, Option, Some, None, if◌then◌else◌}
+use Rattle.std.specs.Prelude.{Bool, true, false, ◌&&◌, List, [], ◌∷◌}
 
 -- the lists have one length, and the test holds of each two elements at one place
 abbrev pub all2 : {X Y : Type 0} → (X → Y → Bool) → List X → List Y → Bool
@@ -7,8 +7,3 @@ all2 test [] [] = true
 all2 test (x ∷ xs) (y ∷ ys) = test x y && all2 test xs ys
 all2 test [] (y ∷ ys) = false
 all2 test (x ∷ xs) [] = false
-
--- what stands beside the first test that is true
-abbrev pub first_refusal : {R : Type 0} → List (Bool × R) → Option R
-first_refusal [] = None
-first_refusal (test ∷ tests) = if test.0 then Some test.1 else first_refusal tests

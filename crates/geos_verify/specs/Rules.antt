@@ -1,6 +1,7 @@
 -- The rules of the verifier, and the images that it accepts.
 use Rattle.std.specs.Prelude.{◌≡◌, ◌<◌, ℕ, ◌+◌, Bool, true, false, ◌&&◌, ◌||◌, not, nat_lt, nat_le, ◌==◌, List, [], ◌∷◌, Option, Some, None, slice_get}
 use Rattle.std.specs.List.{list_any}
+use Rattle.geos_model.specs.Refusals.{first_refusal}
 use Rattle.geos_image.specs.declared.opcode.Opcode.{Opcode}
 use Rattle.geos_image.specs.declared.opcode.Opcode.TheVariants.{Ret}
 use Rattle.geos_image.specs.declared.instr.Instr.{Instr}
@@ -12,7 +13,6 @@ use Rattle.geos_image.specs.Legal.{is_image}
 use Rattle.geos_verify.specs.declared.rule.Rule.{Rule}
 use Rattle.geos_verify.specs.declared.rule.Rule.TheVariants.{LeavesRoutine, NamesEmptySlot, EntryMisfit, ExitMisfit, EdgeMisfit, EdgeUnpaid, OverBudget}
 use Rattle.geos_verify.specs.declared.rule.Reject.{Reject}
-use Rattle.geos_verify.specs.Lists.{first_refusal}
 use Rattle.geos_verify.specs.Rows.{falls_through, branches, at_point, row_along, row_branching, fits, is_plain, leads_nowhere}
 use Rattle.geos_verify.specs.Potentials.{pays_along, pays_branching, is_within}
 
