@@ -125,3 +125,26 @@ pub fn outputs(
     ];
     image(alloc, routine(b"outputs", 4, budget), &code)
 }
+
+/// How many instructions each routine of `longest` has: half of what an image has room for.
+const HALF: u16 = 2048;
+
+/// Two routines that add w1 to w0 in each of their instructions but the last, with as many instructions as an image has.
+pub fn longest(alloc: Global) -> Result<Option<Image>, AllocError> {
+    let mut routines = Vec::new(alloc);
+    routines.push(routine(b"first", HALF, u32::from(HALF)))?;
+    routines.push(routine(b"second", HALF, u32::from(HALF)))?;
+    let add = Instr {
+        opcode: Opcode::Add,
+        c: 1,
+        ..BLANK
+    };
+    let mut points = Vec::new(alloc);
+    for _ in 0..2 {
+        for done in 0..HALF - 1 {
+            points.push((add, Row::open(), potential(u32::from(HALF - done), 0)))?;
+        }
+        points.push((BLANK, Row::open(), potential(1, 0)))?;
+    }
+    Ok(Image::new(routines, points))
+}

@@ -1,6 +1,6 @@
 //! Images of word instructions, from their bytes to what they put out.
 
-use crate::fixtures::{add, outputs, potential};
+use crate::fixtures::{add, longest, outputs, potential};
 use geos_image::{Image, read, write};
 use geos_machine::{Machine, Outcome, admits};
 use geos_verify::{Checked, Reject, Rule, check};
@@ -50,9 +50,9 @@ fn refused(image: Option<Image>) -> Result<Reject, Fail> {
     Ok(reject)
 }
 
-fn run(checked: &Checked, words: &[u16; 8]) -> Option<Outcome> {
-    if admits(checked, 0, words) {
-        Some(Machine::new().run(checked, 0, words))
+fn run(checked: &Checked, routine: u16, words: &[u16; 8]) -> Option<Outcome> {
+    if admits(checked, routine, words) {
+        Some(Machine::new().run(checked, routine, words))
     } else {
         None
     }
@@ -75,7 +75,7 @@ fn bytes_and_image(rt: HostRuntime) -> Result<(), Fail> {
 #[test]
 fn adds(rt: HostRuntime) -> Result<(), Fail> {
     let checked = checked(add(rt.alloc(), 5)?)?;
-    let outcome = run(&checked, &[0; 8]).ok_or("the routine may be called")?;
+    let outcome = run(&checked, 0, &[0; 8]).ok_or("the routine may be called")?;
     assert_eq!(rt; outcome.output.as_slice(), [5].as_slice());
     assert_eq!(rt; outcome.steps, 5);
     assert_eq!(rt; outcome.words, [5, 3, 0, 0, 0, 0, 0, 0]);
@@ -94,7 +94,7 @@ fn puts_out_1024_words(rt: HostRuntime) -> Result<(), Fail> {
         potential(1, 0),
     ];
     let checked = checked(outputs(rt.alloc(), 1024, 2052, paid)?)?;
-    let outcome = run(&checked, &[7, 0, 0, 0, 0, 0, 0, 0]).ok_or("the routine may be called")?;
+    let outcome = run(&checked, 0, &[7, 0, 0, 0, 0, 0, 0, 0]).ok_or("the routine may be called")?;
     assert_eq!(rt; outcome.output.len(), 1024);
     assert!(rt; outcome.output.as_slice().iter().all(|word| *word == 7));
     assert_eq!(rt;
@@ -125,5 +125,25 @@ fn loops_are_paid_for(rt: HostRuntime) -> Result<(), Fail> {
     let reject = refused(outputs(rt.alloc(), 1024, 2052, unpaid)?)?;
     assert_eq!(rt; reject.pc, 2);
     assert_eq!(rt; reject.rule, Rule::EdgeUnpaid);
+    Ok(())
+}
+
+#[test]
+fn images_have_4096_instructions(rt: HostRuntime) -> Result<(), Fail> {
+    let image = longest(rt.alloc())?.ok_or("the image is legal")?;
+    let bytes = write(rt.alloc(), &image)?;
+    assert_eq!(rt; bytes.len(), 8 + 100 * 2 + 68 * 4096);
+    let image = read(rt.alloc(), &bytes)?;
+    assert_eq!(rt; image.count(), 2);
+    assert_eq!(rt; image.len(), 4096);
+    let again = write(rt.alloc(), &image)?;
+    assert!(rt; again.as_slice() == bytes.as_slice());
+    let checked = checked(Some(image))?;
+    for routine in 0..2 {
+        let outcome = run(&checked, routine, &[1, 3, 0, 0, 0, 0, 0, 0]);
+        let outcome = outcome.ok_or("the routine may be called")?;
+        assert_eq!(rt; outcome.words, [1 + 2047 * 3, 3, 0, 0, 0, 0, 0, 0]);
+        assert_eq!(rt; outcome.steps, 2048);
+    }
     Ok(())
 }
