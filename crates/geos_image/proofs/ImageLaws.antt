@@ -1,4 +1,5 @@
--- The two laws: bytes that are read as an image are its spelling, and its spelling is read as the image.
+-- The two laws: bytes that are read as an image are its spelling, and its spelling is read as
+-- the image.
 use Rattle.std.proofs.Common.{◌≡◌, ℕ, ◌+◌, ◌*◌, ◌^◌, ◌<◌, ◌≤◌, true, List, [], ◌∷◌, ◌++◌, length, take, drop, All, Ok, refl, sym, ap, subst, ◌∙◌, lit<, arith}
 use Rattle.std.specs.Prelude.{◌==◌, ◌&&◌, nat_lt, nat_le, nat_eq}
 use Rattle.std.specs.List.{flat_map, list_all}

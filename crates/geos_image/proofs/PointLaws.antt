@@ -1,4 +1,5 @@
--- What the verifier is told at an instruction: what is read is spelled there, and what is spelled there is read.
+-- What the verifier is told at an instruction: what is read is spelled there, and what is
+-- spelled there is read.
 use Rattle.std.proofs.Common.{◌≡◌, ℕ, ◌+◌, ◌*◌, true, List, [], ◌∷◌, ◌++◌, length, map, All, Ok, refl, ap, subst, ◌∙◌, append_assoc}
 use Rattle.std.specs.List.{flat_map, list_all}
 use Rattle.std.proofs.lemmas.Bool.{and_parts}

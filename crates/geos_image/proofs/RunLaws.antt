@@ -1,4 +1,5 @@
--- Things of one width: a run that is read is spelled there, and a run that is spelled there is read.
+-- Things of one width: a run that is read is spelled there, and a run that is spelled there is
+-- read.
 use Rattle.std.proofs.Common.{◌≡◌, ℕ, zero, suc, ◌+◌, ◌*◌, List, [], ◌∷◌, ◌++◌, length, All, Result, Ok, refl, sym, ap, subst, ◌∙◌, append_assoc, arith}
 use Rattle.std.specs.List.{flat_map}
 use Rattle.std.proofs.lemmas.List.Elements.{All-head, All-tail}

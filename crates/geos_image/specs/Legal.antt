@@ -1,5 +1,5 @@
 -- Which images there are.
-use Rattle.std.specs.Prelude.{ℕ, Bool, true, ◌&&◌, ◌||◌, not, nat_lt, nat_le, nat_eq, ◌==◌, List, [], ◌∷◌, ◌++◌, length, take, drop, position, unwrap_or, slice_index, Option, Some, None}
+use Rattle.std.specs.Prelude.{◌≡◌, ℕ, Bool, true, ◌&&◌, ◌||◌, not, nat_lt, nat_le, nat_eq, ◌==◌, List, [], ◌∷◌, ◌++◌, length, take, drop, position, unwrap_or, slice_index, Option, Some, None}
 use Rattle.std.specs.List.{list_all, list_any}
 use Rattle.std.specs.Cmp.Lexicographic.{pointwise}
 use Rattle.std.specs.Char.{is_ascii_alphabetic, is_ascii_alphanumeric}
@@ -33,10 +33,12 @@ is_pointer (Some p) = nat_lt p.slot 4
 abbrev pub is_shaped : Row → Bool
 is_shaped row = length row.bounds == 8 && length row.slots == 4 && length row.pointers == 4 && length row.pairs == 6
 
+-- a row of such a shape whose pointers lead into slots
 abbrev pub is_row : Row → Bool
 is_row row = is_shaped row && list_all is_pointer row.pointers
 
--- each field is below the limit of its operand, in an image with so many routines and instructions
+-- each field is below the limit of its operand, in an image with so many routines and
+-- instructions
 abbrev pub is_instr : ℕ → ℕ → Instr → Bool
 is_instr routines instrs i =
     let fields = operands_of i.opcode in
@@ -47,14 +49,20 @@ is_instr routines instrs i =
     && nat_lt i.imm (limit routines instrs fields.imm)
     && nat_lt i.target (limit routines instrs fields.target)
 
+-- an instruction and a row that may stand in such an image
 abbrev pub is_point : ℕ → ℕ → Point → Bool
 is_point routines instrs point = is_instr routines instrs point.0 && is_row point.1
+
+-- the points are legal in each image in which the instructions are
+abbrev pub LegalWhere : List Instr → List Point → Type 0
+LegalWhere code points = (routines instrs : ℕ) → list_all (is_instr routines instrs) code ≡ true → list_all (is_point routines instrs) points ≡ true
 
 -- some routine has the name
 abbrev pub is_named : List ℕ → List Routine → Bool
 is_named name routines = list_any (λ r. pointwise nat_eq r.name name) routines
 
--- a routine behind those before it: its name is one, and none of theirs, and it has instructions
+-- a routine behind those before it: its name is one, and none of theirs, and it has
+-- instructions
 abbrev pub is_routine : List Routine → Routine → Bool
 is_routine earlier r =
     is_name r.name

@@ -34,14 +34,17 @@ guard at false = Err at
 
 -- Numbers at an offset; where they are cut, the fault is there
 
+-- the byte at an offset
 abbrev pub byte_at : List ℕ → ℕ → Result ℕ ℕ
 byte_at bytes at = if nat_lt at (length bytes) then Ok (slice_index bytes at) else Err at
 
+-- the 16 bits at an offset, the low byte first
 abbrev pub word_at : List ℕ → ℕ → Result ℕ ℕ
 word_at bytes at = if nat_lt (at + 1) (length bytes)
     then Ok (from_le_bytes w16 (slice_index bytes at ∷ slice_index bytes (at + 1) ∷ []))
     else Err at
 
+-- the 32 bits at an offset, the low byte first
 abbrev pub long_at : List ℕ → ℕ → Result ℕ ℕ
 long_at bytes at = if nat_lt (at + 3) (length bytes)
     then Ok (from_le_bytes w32 (slice_index bytes at ∷ slice_index bytes (at + 1) ∷ slice_index bytes (at + 2) ∷ slice_index bytes (at + 3) ∷ []))
@@ -54,9 +57,11 @@ below limit at number = do
   in_range ← guard at (nat_lt n limit)
   Ok n
 
+-- a byte below a limit
 abbrev pub byte_below : ℕ → List ℕ → ℕ → Result ℕ ℕ
 byte_below limit bytes at = below limit at (byte_at bytes at)
 
+-- a word below a limit
 abbrev pub word_below : ℕ → List ℕ → ℕ → Result ℕ ℕ
 word_below limit bytes at = below limit at (word_at bytes at)
 
@@ -68,6 +73,8 @@ items_at read width (suc n) at = do
   others ← items_at read width n (at + width)
   Ok (first ∷ others)
 
+-- an instruction in an image with so many routines and instructions: each field is below its
+-- limit
 unfoldable pub instr_at : ℕ → ℕ → List ℕ → ℕ → Result Instr ℕ
 instr_at routines instrs bytes at = do
   code ← byte_at bytes at
@@ -89,11 +96,13 @@ slot_states = Empty ∷ Mem ∷ Vm ∷ VmMarked ∷ Db ∷ DbMarked ∷ []
 abbrev pub slot_of : ℕ → Option SlotState
 slot_of code = find (λ state. slot_code state == code) slot_states
 
+-- the state of a slot
 unfoldable pub slot_at : List ℕ → ℕ → Result SlotState ℕ
 slot_at bytes at = do
   code ← byte_at bytes at
   or_fault at (slot_of code)
 
+-- a pointer: its slot, 0, and the least length; slot 255 with length 0 is a stale one
 unfoldable pub pointer_at : List ℕ → ℕ → Result (Option Pointer) ℕ
 pointer_at bytes at = do
   slot ← byte_at bytes at
@@ -106,6 +115,7 @@ pointer_at bytes at = do
 abbrev pub pairs_of : ℕ → List Bool
 pairs_of n = (n % 2 == 1) ∷ (n / 2 % 2 == 1) ∷ (n / 4 % 2 == 1) ∷ (n / 8 % 2 == 1) ∷ (n / 16 % 2 == 1) ∷ (n / 32 % 2 == 1) ∷ []
 
+-- a row: eight bounds, four slots, four pointers, the pairs, and 0
 unfoldable pub row_at : List ℕ → ℕ → Result Row ℕ
 row_at bytes at = do
   bounds ← items_at (word_at bytes) 2 8 at
@@ -115,6 +125,7 @@ row_at bytes at = do
   unused ← byte_below 1 bytes (at + 37)
   Ok (record { bounds = bounds; slots = slots; pointers = pointers; pairs = pairs_of pairs })
 
+-- a potential: the constant and four coefficients
 unfoldable pub potential_at : List ℕ → ℕ → Result Potential ℕ
 potential_at bytes at = do
   constant ← long_at bytes at
@@ -193,6 +204,7 @@ abbrev pub Fails : {Y : Type 0} → ReadError → Result Y ℕ → Type 0
 Fails Memory read = Unit {0}
 Fails (BadImage at) read = read ≡ Err at
 
+-- the function gives what reading gives: the value as it is viewed, or the fault
 abbrev pub Gives : {X Y : Type 0} → (X → Y) → Result X ReadError → Result Y ℕ → Type 0
 Gives view (Ok x) read = read ≡ Ok (view x)
 Gives view (Err e) read = Fails e read

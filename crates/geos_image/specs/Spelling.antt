@@ -24,6 +24,7 @@ word n = to_le_bytes w16 n
 abbrev pub long : ℕ → List ℕ
 long n = to_le_bytes w32 n
 
+-- a truth value as a byte
 abbrev pub flag : Bool → ℕ
 flag false = 0
 flag true = 1
@@ -32,6 +33,7 @@ flag true = 1
 abbrev pub instr : Instr → List ℕ
 instr i = (code_of i.opcode ∷ i.a ∷ i.b ∷ i.c ∷ i.d ∷ 0 ∷ []) ++ word i.imm ++ word i.target
 
+-- the byte of a slot's state
 abbrev pub slot_code : SlotState → ℕ
 slot_code Empty = 0
 slot_code Mem = 1
@@ -54,6 +56,7 @@ pairs_byte (b ∷ pairs) = flag b + 2 * pairs_byte pairs
 abbrev pub row : Row → List ℕ
 row r = flat_map word r.bounds ++ map slot_code r.slots ++ flat_map pointer r.pointers ++ pairs_byte r.pairs ∷ 0 ∷ []
 
+-- the constant, then the four coefficients
 abbrev pub potential : Potential → List ℕ
 potential p = long p.constant ++ flat_map long p.coefficients
 
@@ -61,7 +64,8 @@ potential p = long p.constant ++ flat_map long p.coefficients
 abbrev pub routine : Routine → List ℕ
 routine r = r.name ++ (flag r.public ∷ 0 ∷ []) ++ word r.count ++ long r.budget ++ row r.entry ++ row r.exit
 
--- `GRT1`, the version 1, the number of routines, the routines, the instructions, and a row and a potential for each
+-- `GRT1`, the version 1, the number of routines, the routines, the instructions, and a row and
+-- a potential for each
 abbrev pub spelling : Parts → List ℕ
 spelling image =
     magic ++ word 1 ++ word (length image.routines)

@@ -9,7 +9,8 @@ use thiserror::Error;
 /// Why bytes could not be read as an image.
 #[derive(Debug, Drop, Error)]
 pub enum ReadError {
-    /// The offset of the first byte of the first field, in file order, that is cut or breaks its rule.
+    /// The offset of the first byte of the first field, in file order, that is cut or breaks
+    /// its rule.
     #[error("bad image at {0}")]
     BadImage(usize),
     /// An allocation was refused.

@@ -13,8 +13,8 @@ use crate::routine::Routine;
 use crate::row::Row;
 use std::marker::Model;
 
-/// Routines and their instructions, each instruction with its entry state and potential. An image is always one that
-/// the format allows (docs/FORMATS.md).
+/// Routines and their instructions, each instruction with its entry state and potential. An
+/// image is always one that the format allows (docs/FORMATS.md).
 #[derive(Drop)]
 pub struct Image {
     pub(crate) routines: Vec<Routine>,
@@ -65,7 +65,8 @@ fn is_image(routines: &[Routine], points: &[(Instr, Row, Potential)]) -> bool
 }
 
 impl Image {
-    /// The image of these routines and points; `None` exactly where the format allows none. It takes no memory.
+    /// The image of these routines and points; `None` exactly where the format allows none. It
+    /// takes no memory.
     pub fn new(routines: Vec<Routine>, points: Vec<(Instr, Row, Potential)>) -> Option<Image>
         ensures some { IsSome result ↔ IsTrue (is_image (record { routines = routines.items; points = points.items })) }
         ensures value { IfSome result (λ image. image ≡ record { routines = routines.items; points = points.items }) }

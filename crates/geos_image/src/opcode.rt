@@ -63,7 +63,8 @@ pub enum Operand {
     Label,
 }
 
-/// What each field of an opcode's instructions holds, and whether the instruction can be refused.
+/// What each field of an opcode's instructions holds, and whether the instruction can be
+/// refused.
 #[derive(Clone, Copy, Debug, PartialEq, Eq)]
 pub struct Operands {
     pub a: Operand,
@@ -76,7 +77,8 @@ pub struct Operands {
     pub refusable: bool,
 }
 
-/// The operands of an instruction that is never refused: the fields a, b, c and d, then imm and target.
+/// The operands of an instruction that is never refused: the fields a, b, c and d, then imm
+/// and target.
 fn fields(a: Operand, b: Operand, c: Operand, d: Operand, imm: Operand, target: Operand) -> Operands
     ensures { result ≡ fields a b c d imm target }
 {
@@ -178,7 +180,8 @@ impl Opcode {
 }
 
 impl Operand {
-    /// The operand is a number below this limit, in an image with so many routines and instructions.
+    /// The operand is a number below this limit, in an image with so many routines and
+    /// instructions.
     pub fn limit(self, routines: u32, instrs: u32) -> u32
         ensures { result ≡ limit routines instrs self }
     {

@@ -1,6 +1,7 @@
 //! Potentials: how many steps are left, at most.
 
-/// A bound on the steps that are left before an instruction: the constant, and each coefficient times its counter.
+/// A bound on the steps that are left before an instruction: the constant, and each
+/// coefficient times its counter.
 #[derive(Clone, Copy, Debug, PartialEq, Eq)]
 pub struct Potential {
     pub constant: u32,

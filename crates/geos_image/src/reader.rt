@@ -16,8 +16,8 @@ use crate::reader::points::{instrs_at, points_at};
 use crate::reader::routines::{header_at, routines_at};
 use std::alloc::Global;
 
-/// The image that the bytes spell; no other bytes do. A fault is named by the offset of the first byte of the first
-/// field, in file order, that is cut or breaks its rule.
+/// The image that the bytes spell; no other bytes do. A fault is named by the offset of the
+/// first byte of the first field, in file order, that is cut or breaks its rule.
 #[tactic(auto, unfolding(crate::specs::Reading::image_at))]
 pub fn read(alloc: Global, bytes: &[u8]) -> Result<Image, ReadError>
     ensures found { IfOk result (λ image. bytes.now ≡ spelling image) }

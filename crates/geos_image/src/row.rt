@@ -38,7 +38,8 @@ pub struct Row {
     pub slots: [SlotState; 4],
     /// The pointers p0 to p3; nothing is known of one that is `None`, which may be stale.
     pub pointers: [Option<Pointer>; 4],
-    /// The pairs of slots that are known to hold different blocks: s0s1, s0s2, s0s3, s1s2, s1s3, s2s3.
+    /// The pairs of slots that are known to hold different blocks: s0s1, s0s2, s0s3, s1s2,
+    /// s1s3, s2s3.
     pub pairs: [bool; 6],
 }
 

@@ -26,7 +26,8 @@ passed [] e = tt
 passed ((true, rule) ∷ tests) e = absurd cc
 passed ((false, rule) ∷ tests) e = (refl, passed tests e)
 
--- where control goes: a point of the routine, whose row the given one fits, and whose potential is paid for
+-- where control goes: a point of the routine, whose row the given one fits, and whose
+-- potential is paid for
 pub record Leads (image : Parts) (r : ℕ) (routine : Routine) (to : ℕ) (row : Row) (paid : Potential → Bool) : Type 0 where
   pub point : Point
   pub has : HasPoint image r routine to point

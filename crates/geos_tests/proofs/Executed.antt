@@ -1,10 +1,11 @@
--- What each instruction on words and counters does, on values that a wrong definition would show itself at.
-use Rattle.std.proofs.Common.{◌≡◌, refl, ℕ, List, [], ◌∷◌, ◌++◌, Option, None, replicate}
+-- What each instruction on words and counters does, on values that a wrong definition would
+-- show itself at.
+use Rattle.std.proofs.Common.{◌≡◌, refl, ℕ, List, [], ◌∷◌, ◌++◌, replicate}
 use Rattle.geos_image.specs.declared.opcode.Opcode.TheVariants.{Ldi, Mov, Add, Sub, And, Shr, Muli, Chk, Jmp, Beq, Blt, Setk, Setkw, Loop, Ret, Out}
 use Rattle.geos_image.specs.declared.instr.Instr.{Instr}
 use Rattle.geos_image.specs.Open.{open_row}
 use Rattle.geos_image.specs.Parts.{Parts}
-use Rattle.geos_semantics.specs.Model.{Frame, State, Outcome, Fault, Next, Done, step}
+use Rattle.geos_semantics.specs.Model.{State, Outcome, Fault, Next, Done, step}
 use Rattle.geos_machine.specs.Machine.{empty_slots, stale_pointers}
 use Rattle.geos_machine.proofs.Going.{quiet}
 use Rattle.geos_tests.proofs.Images.{potential, routine, instr}

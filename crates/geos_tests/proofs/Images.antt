@@ -33,8 +33,8 @@ add budget = record {
       ∷ [];
 }
 
--- `SETK k0 1024`, `a: OUT w0 x`, `LOOP k0 a`, `x: RET`, with a budget, the constant at the LOOP, and the coefficients of k0
--- at the OUT and the LOOP
+-- `SETK k0 1024`, `a: OUT w0 x`, `LOOP k0 a`, `x: RET`, with a budget, the constant at the
+-- LOOP, and the coefficients of k0 at the OUT and the LOOP
 abbrev pub outputs : ℕ → ℕ → ℕ → Parts
 outputs budget constant k0 = record {
   routines = routine (111 ∷ replicate 15 0) 4 budget ∷ [];

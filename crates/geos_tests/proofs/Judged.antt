@@ -26,7 +26,8 @@ pub record Judged : Type 0 where
   pub add_over_budget : judged (add 4) ≡ Some OverBudget ∷ None ∷ None ∷ None ∷ None ∷ []
   pub outputs_accepted : judged (outputs 2052 2 2) ≡ None ∷ None ∷ None ∷ None ∷ []
   pub outputs_over_budget : judged (outputs 2051 2 2) ≡ Some OverBudget ∷ None ∷ None ∷ None ∷ []
-  -- the LOOP's constant does not pay for the RET behind it, nor with its coefficient for the way back
+  -- the LOOP's constant does not pay for the RET behind it, nor with its coefficient for the
+  -- way back
   pub outputs_unpaid_loop : judged (outputs 2052 1 2) ≡ None ∷ None ∷ Some EdgeUnpaid ∷ None ∷ []
   -- with no coefficient, nothing pays for the way back
   pub outputs_no_coefficient : judged (outputs 2052 2 0) ≡ None ∷ None ∷ Some EdgeUnpaid ∷ None ∷ []

@@ -129,7 +129,8 @@ pub fn outputs(
 /// How many instructions each routine of `longest` has: half of what an image has room for.
 const HALF: u16 = 2048;
 
-/// Two routines that add w1 to w0 in each of their instructions but the last, with as many instructions as an image has.
+/// Two routines that add w1 to w0 in each of their instructions but the last, with as many
+/// instructions as an image has.
 pub fn longest(alloc: Global) -> Result<Option<Image>, AllocError> {
     let mut routines = Vec::new(alloc);
     routines.push(routine(b"first", HALF, u32::from(HALF)))?;

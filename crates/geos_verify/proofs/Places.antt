@@ -1,12 +1,12 @@
 -- Where the routines of an image lie: one behind the other, so that each pc is in one of them.
-use Rattle.std.proofs.Common.{◌≡◌, ◌<◌, ◌≤◌, ◌+◌, ℕ, zero, suc, true, List, [], ◌∷◌, Option, Some, None, length, take, slice_get, refl, sym, ap, subst, ◌∙◌, arith, inl, inr}
+use Rattle.std.proofs.Common.{◌≡◌, ◌<◌, ◌≤◌, ◌+◌, ℕ, zero, suc, true, List, [], ◌∷◌, Option, Some, None, length, slice_get, refl, sym, ap, subst, ◌∙◌, arith, inl, inr}
 use Rattle.std.specs.Prelude.{nat_lt, nat_le, IfSome}
 use Rattle.std.proofs.lemmas.Bool.{and_parts, ltb-true, leb-true, lt-ltb, le-leb, cases_lt}
 use Rattle.geos_image.specs.declared.routine.Routine.{Routine}
 use Rattle.geos_image.specs.Parts.{Point, Parts, start_of}
 use Rattle.geos_image.proofs.Starts.{some_routine, start_of-next, start_of-le, start_of-end, start_of-all}
 use Rattle.geos_verify.specs.declared.rule.Reject.{Reject}
-use Rattle.geos_verify.specs.Rules.{has_place, refusal, Accepted, AcceptedBelow, FirstRefusal}
+use Rattle.geos_verify.specs.Rules.{has_place, refusal, RefusesNone, Refuses, Accepted, AcceptedBelow, FirstRefusal}
 
 pub place_bounds : (start count pc : ℕ) → has_place start count pc ≡ true → (start ≤ pc) × (pc < start + count)
 place_bounds start count pc h =
@@ -43,7 +43,7 @@ one_routine routines q r pc before after e f h k =
 module _ (image : Parts) (r start : ℕ) (routine : Routine) (there : slice_get image.routines r ≡ Some routine) (start_is : start ≡ start_of image.routines r) where
   -- nothing is refused before the routine, nor in it before a limit
   pub accepted-before : (limit : ℕ) → limit ≤ start + routine.count → AcceptedBelow image start
-      → ((pc : ℕ) (point : Point) → start ≤ pc → pc < limit → slice_get image.points pc ≡ Some point → refusal image routine start pc point ≡ None) → AcceptedBelow image limit
+      → RefusesNone image routine start limit → AcceptedBelow image limit
   accepted-before limit within earlier here q pc other point lt has =
       elim (cases_lt pc start) [
         | inl below ↦ earlier q pc other point below has
@@ -71,8 +71,7 @@ if_some P (Some y) x e h = let same : y ≡ x = cc in subst P same h
 -- a refusal in a routine before which nothing is refused is the first one
 pub is_first : (image : Parts) (r start : ℕ) (routine : Routine) (reject : Reject) → slice_get image.routines r ≡ Some routine → start ≡ start_of image.routines r → AcceptedBelow image start
     → start + routine.count ≤ length image.points → (start ≤ reject.pc) × (reject.pc < start + routine.count)
-    → IfSome (slice_get image.points reject.pc) (λ point. refusal image routine start reject.pc point ≡ Some reject.rule)
-    → ((pc : ℕ) (point : Point) → start ≤ pc → pc < reject.pc → slice_get image.points pc ≡ Some point → refusal image routine start pc point ≡ None) → FirstRefusal image reject
+    → Refuses image routine start reject → RefusesNone image routine start reject.pc → FirstRefusal image reject
 is_first image r start routine reject there start_is earlier end within refuses first =
     let read = item_at image.points reject.pc (omega (arith, within.1)) in made read.0 read.1
   where

@@ -13,8 +13,8 @@ use Rattle.geos_verify.specs.Rows.{bound}
 abbrev pub pays : Potential → Potential → Bool
 pays p q = nat_le (q.constant + 1) p.constant && all2 nat_le q.coefficients p.coefficients
 
--- the same where counter k is set to a number that is at most n: the constant pays for that too, and nothing is asked of
--- the counter's own coefficient
+-- the same where counter k is set to a number that is at most n: the constant pays for that
+-- too, and nothing is asked of the counter's own coefficient
 abbrev pub pays_setting : ℕ → ℕ → Potential → Potential → Bool
 pays_setting k n p q =
     nat_le (q.constant + 1 + slice_index q.coefficients k * n) p.constant

@@ -1,5 +1,5 @@
 -- What is known after an instruction, and whether an entry state fits another.
-use Rattle.std.specs.Prelude.{ℕ, ◌+◌, ◌*◌, ◌/◌, ◌^◌, min, Bool, true, false, ◌&&◌, ◌||◌, not, nat_le, ◌==◌, if◌then◌else◌, List, Option, Some, None, slice_index, slice_index_or, slice_set, slice_get}
+use Rattle.std.specs.Prelude.{◌≡◌, ℕ, ◌+◌, ◌*◌, ◌/◌, ◌^◌, min, Bool, true, false, ◌&&◌, ◌||◌, not, nat_le, ◌==◌, if◌then◌else◌, List, Option, Some, None, slice_index, slice_index_or, slice_set, slice_get}
 use Rattle.std.specs.List.{list_all}
 use Rattle.geos_image.specs.declared.opcode.Opcode.{Opcode}
 use Rattle.geos_image.specs.declared.opcode.Opcode.TheVariants.{Ldi, Mov, Add, Sub, And, Shr, Muli, Chk, Jmp, Ret}
@@ -26,6 +26,7 @@ falls_through Jmp = false
 falls_through Ret = false
 falls_through _ = true
 
+-- the operand is the pc of an instruction
 abbrev pub is_label : Operand → Bool
 is_label Label = true
 is_label _ = false
@@ -34,8 +35,14 @@ is_label _ = false
 abbrev pub branches : Opcode → Bool
 branches opcode = is_label (operands_of opcode).target
 
+-- the instruction at a pc, if there is one, has the edge: to its target, or else to the next
+-- instruction
+abbrev pub HasEdge : Parts → ℕ → Bool → Type 0
+HasEdge image pc branch = at_point image pc (λ point. if branch then branches point.0.opcode else falls_through point.0.opcode) ≡ true
+
 -- Bounds
 
+-- what a word is at most
 abbrev pub bound : Row → ℕ → ℕ
 bound row a = slice_index row.bounds a
 
@@ -86,7 +93,8 @@ slot_fits DbMarked DbMarked = true
 slot_fits DbMarked Db = true
 slot_fits _ _ = false
 
--- nothing is wanted, or the pointer leads into the wanted slot, with at least the wanted length
+-- nothing is wanted, or the pointer leads into the wanted slot, with at least the wanted
+-- length
 abbrev pub pointer_fits : Option Pointer → Option Pointer → Bool
 pointer_fits p None = true
 pointer_fits None (Some q) = false
@@ -106,10 +114,12 @@ fits r s =
 
 -- Rows that a caller from outside can meet
 
+-- nothing is held
 abbrev pub is_empty : SlotState → Bool
 is_empty Empty = true
 is_empty _ = false
 
+-- nothing is known of the pointer
 abbrev pub is_stale : Option Pointer → Bool
 is_stale None = true
 is_stale (Some p) = false

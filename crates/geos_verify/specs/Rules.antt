@@ -1,5 +1,5 @@
 -- The rules of the verifier, and the images that it accepts.
-use Rattle.std.specs.Prelude.{◌≡◌, ◌<◌, ℕ, ◌+◌, Bool, true, false, ◌&&◌, ◌||◌, not, nat_lt, nat_le, ◌==◌, List, [], ◌∷◌, Option, Some, None, slice_get}
+use Rattle.std.specs.Prelude.{◌≡◌, ◌<◌, ◌≤◌, ℕ, ◌+◌, Bool, true, false, ◌&&◌, ◌||◌, not, nat_lt, nat_le, ◌==◌, List, [], ◌∷◌, Option, Some, None, IfSome, slice_get}
 use Rattle.std.specs.List.{list_any}
 use Rattle.geos_model.specs.Refusals.{first_refusal}
 use Rattle.geos_image.specs.declared.opcode.Opcode.{Opcode}
@@ -20,12 +20,13 @@ use Rattle.geos_verify.specs.Potentials.{pays_along, pays_branching, is_within}
 abbrev pub has_place : ℕ → ℕ → ℕ → Bool
 has_place start count pc = nat_le start pc && nat_lt pc (start + count)
 
+-- the instruction is the return
 abbrev pub returns : Opcode → Bool
 returns Ret = true
 returns _ = false
 
--- Each rule is a test that refuses where it is true: of a routine, where it starts, and the instruction, the row and the
--- potential at pc
+-- Each rule is a test that refuses where it is true: of a routine, where it starts, and the
+-- instruction, the row and the potential at pc
 
 -- a branch or the fall-through leaves the routine
 unfoldable pub leaves_routine : Routine → ℕ → ℕ → Instr → Bool
@@ -37,8 +38,8 @@ leaves_routine routine start pc i =
 unfoldable pub names_empty_slot : Row → Bool
 names_empty_slot row = list_any (leads_nowhere row.slots) row.pointers
 
--- at the first pc: the entry row does not fit the row here, or a routine that is public has an entry or exit row that a
--- caller from outside cannot meet
+-- at the first pc: the entry row does not fit the row here, or a routine that is public has an
+-- entry or exit row that a caller from outside cannot meet
 unfoldable pub entry_misfits : Routine → ℕ → ℕ → Row → Bool
 entry_misfits routine start pc row =
     pc == start
@@ -95,6 +96,15 @@ tests image routine start pc point =
 -- the lowest rule that refuses the point at a pc of a routine
 abbrev pub refusal : Parts → Routine → ℕ → ℕ → Point → Option Rule
 refusal image routine start pc point = first_refusal (tests image routine start pc point)
+
+-- no rule refuses from a routine's start up to a limit
+abbrev pub RefusesNone : Parts → Routine → ℕ → ℕ → Type 0
+RefusesNone image routine start limit = (pc : ℕ) (point : Point) → start ≤ pc → pc < limit → slice_get image.points pc ≡ Some point
+    → refusal image routine start pc point ≡ None
+
+-- the rule refuses the point at the pc, in a routine that begins at start
+abbrev pub Refuses : Parts → Routine → ℕ → Reject → Type 0
+Refuses image routine start reject = IfSome (slice_get image.points reject.pc) (λ point. refusal image routine start reject.pc point ≡ Some reject.rule)
 
 -- routine r has the point at pc
 pub record HasPoint (image : Parts) (r : ℕ) (routine : Routine) (pc : ℕ) (point : Point) : Type 0 where

@@ -4,7 +4,7 @@ ghost use Rattle.std.specs.Prelude.{◌≡◌, ◌<◌, ◌≤◌, ◌+◌, ℕ,
 ghost use Rattle.geos_image.specs.declared.routine.Routine.{Routine};
 ghost use Rattle.geos_image.specs.Parts.{Point, start_of};
 ghost use Rattle.geos_image.specs.Legal.{is_image};
-ghost use Rattle.geos_verify.specs.Rules.{refusal, Accepted, IsChecked, FirstRefusal};
+ghost use Rattle.geos_verify.specs.Rules.{RefusesNone, Refuses, Accepted, IsChecked, FirstRefusal};
 
 use crate::refusal::refusal;
 use crate::rule::Reject;
@@ -42,10 +42,10 @@ impl Checked {
 fn refusal_in(image: &Image, routine: &Routine, start: u16) -> Option<Reject>
     requires end { start + routine.now.count ≤ length image.now.points }
     requires short { length image.now.points ≤ 4096 }
-    ensures none { IfNone result ((pc : ℕ) (point : Point) → start ≤ pc → pc < start + routine.now.count → slice_get image.now.points pc ≡ Some point → refusal image.now routine.now start pc point ≡ None) }
+    ensures none { IfNone result (RefusesNone image.now routine.now start (start + routine.now.count)) }
     ensures within { IfSome result (λ reject. (start ≤ reject.pc) × (reject.pc < start + routine.now.count)) }
-    ensures some { IfSome result (λ reject. IfSome (slice_get image.now.points reject.pc) (λ point. refusal image.now routine.now start reject.pc point ≡ Some reject.rule)) }
-    ensures first { IfSome result (λ reject. (pc : ℕ) (point : Point) → start ≤ pc → pc < reject.pc → slice_get image.now.points pc ≡ Some point → refusal image.now routine.now start pc point ≡ None) }
+    ensures some { IfSome result (Refuses image.now routine.now start) }
+    ensures first { IfSome result (λ reject. RefusesNone image.now routine.now start reject.pc) }
 {
     for pc in start..start + routine.count {
         if let Some(rule) = refusal(image, routine, u32::from(start), pc) {
@@ -69,7 +69,8 @@ fn first_refusal(image: &Image) -> Option<Reject>
     None
 }
 
-/// Checks an image by the rules of docs/VERIFIER.md, and hands it back where one refuses. It takes no memory.
+/// Checks an image by the rules of docs/VERIFIER.md, and hands it back where one refuses. It
+/// takes no memory.
 pub fn check(image: Image) -> Result<Checked, (Image, Reject)>
     ensures checked { IfOk result (λ checked. checked ≡ image) }
     ensures image { IfErr result (λ refused. refused.0 ≡ image) }

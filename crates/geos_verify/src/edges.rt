@@ -1,7 +1,7 @@
 //! Where control goes after an instruction, and what is known there.
 
-ghost use Rattle.std.specs.Prelude.{◌≡◌, ◌<◌, length, true, MatchBool};
-ghost use Rattle.geos_verify.specs.Rows.{falls_through, branches, with_bound, row_along, row_branching, after, at_point};
+ghost use Rattle.std.specs.Prelude.{◌≡◌, ◌<◌, length};
+ghost use Rattle.geos_verify.specs.Rows.{falls_through, branches, with_bound, row_along, row_branching, after, HasEdge};
 ghost use Rattle.geos_image.specs.Fields.{FieldsFit};
 
 use geos_image::{Image, Instr, Opcode, Operand, Row};
@@ -67,11 +67,12 @@ pub(crate) fn row_branching(opcode: Opcode, row: &Row) -> Row
     }
 }
 
-/// What is known at the end of an edge of the instruction at `pc`, where `row` is known before it: of the edge to its
-/// target where `branch` says so, else of the edge to the next instruction.
+/// What is known at the end of an edge of the instruction at `pc`, where `row` is known before
+/// it: of the edge to its target where `branch` says so, else of the edge to the next
+/// instruction.
 pub fn after(image: &Image, pc: u16, row: &Row, branch: bool) -> Row
     requires there { pc < length image.now.points }
-    requires edge { MatchBool branch (at_point image.now pc (λ point. branches point.0.opcode) ≡ true) (at_point image.now pc (λ point. falls_through point.0.opcode) ≡ true) }
+    requires edge { HasEdge image.now pc branch }
     ensures { result ≡ after image.now pc row.now branch }
 {
     let i = image.instr(pc);

@@ -8,7 +8,8 @@ ghost use Rattle.geos_verify.specs.Rules.{names_empty_slot};
 
 use geos_image::{Pointer, Row, SlotState};
 
-/// Whether each word is within its bound; and of two rows' bounds, whether those of the first are enough for the second.
+/// Whether each word is within its bound; and of two rows' bounds, whether those of the first
+/// are enough for the second.
 pub fn within_bounds(words: &[u16; 8], bounds: &[u16; 8]) -> bool
     ensures { result ≡ all2 nat_le words.now bounds.now }
 {

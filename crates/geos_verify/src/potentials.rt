@@ -13,7 +13,8 @@ fn coefficients_pay(p: &[u32; 4], q: &[u32; 4]) -> bool
     (q[0] <= p[0]) & (q[1] <= p[1]) & (q[2] <= p[2]) & (q[3] <= p[3])
 }
 
-/// Whether the constant pays for a step and the next constant, and each coefficient for the next one.
+/// Whether the constant pays for a step and the next constant, and each coefficient for the
+/// next one.
 fn pays(p: &Potential, q: &Potential) -> bool
     ensures { result ≡ pays p.now q.now }
 {
@@ -28,7 +29,8 @@ fn price(coefficient: u32, n: u16) -> u64
     u64::from(coefficient) * u64::from(n)
 }
 
-/// Whether the constant also pays for setting counter k, to at most n; its own coefficient may be anything.
+/// Whether the constant also pays for setting counter k, to at most n; its own coefficient may
+/// be anything.
 fn pays_setting(k: u8, n: u16, p: &Potential, q: &Potential) -> bool
     requires { k < 4 }
     ensures { result ≡ pays_setting k n p.now q.now }
@@ -43,7 +45,8 @@ fn pays_setting(k: u8, n: u16, p: &Potential, q: &Potential) -> bool
         && coefficients_pay(&p.coefficients, &coefficients)
 }
 
-/// Whether the constant, with the coefficient of counter k, from which 1 is taken, pays for a step and the next constant.
+/// Whether the constant, with the coefficient of counter k, from which 1 is taken, pays for a
+/// step and the next constant.
 fn pays_taking(k: u8, p: &Potential, q: &Potential) -> bool
     requires { k < 4 }
     ensures { result ≡ pays_taking k p.now q.now }
@@ -53,7 +56,8 @@ fn pays_taking(k: u8, p: &Potential, q: &Potential) -> bool
         && coefficients_pay(&p.coefficients, &q.coefficients)
 }
 
-/// Whether the potential p at an instruction pays for the edge to the next one, where the potential is q.
+/// Whether the potential p at an instruction pays for the edge to the next one, where the
+/// potential is q.
 pub(crate) fn pays_along(i: &Instr, row: &Row, p: &Potential, q: &Potential) -> bool
     requires { FieldsFit i.now.opcode i.now }
     ensures { result ≡ pays_along i.now i.now.opcode row.now p.now q.now }

@@ -3,15 +3,16 @@
 use std::fmt;
 use thiserror::Error;
 
-/// Why the verifier refuses a point. Rules that speak of opcodes which do not exist yet are left out.
+/// Why the verifier refuses a point. Rules that speak of opcodes which do not exist yet are
+/// left out.
 #[derive(Clone, Copy, Debug, PartialEq, Eq)]
 pub enum Rule {
     /// A branch or the fall-through leaves the routine.
     LeavesRoutine = 1,
     /// A pointer of the row leads into an empty slot.
     NamesEmptySlot = 2,
-    /// The entry row does not fit the first row, or a public routine's entry or exit row has a slot held or a pointer
-    /// that is not stale.
+    /// The entry row does not fit the first row, or a public routine's entry or exit row has a
+    /// slot held or a pointer that is not stale.
     EntryMisfit = 3,
     /// A return where the row does not fit the exit row.
     ExitMisfit = 11,
@@ -19,7 +20,8 @@ pub enum Rule {
     EdgeMisfit = 12,
     /// The potential does not pay for an edge or a return.
     EdgeUnpaid = 13,
-    /// The potential at the first pc may be above the budget: its constant is, or a coefficient is not 0.
+    /// The potential at the first pc may be above the budget: its constant is, or a
+    /// coefficient is not 0.
     OverBudget = 14,
 }
 

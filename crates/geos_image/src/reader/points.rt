@@ -2,7 +2,7 @@
 
 ghost use Rattle.std.specs.Prelude.{◌≡◌, ℕ, ◌<◌, ◌≤◌, ◌^◌, length, true, IfOk};
 ghost use Rattle.std.specs.List.{list_all};
-ghost use Rattle.geos_image.specs.Legal.{is_instr, is_point};
+ghost use Rattle.geos_image.specs.Legal.{is_instr, LegalWhere};
 ghost use Rattle.geos_image.specs.Reading.{instr_at, items_at, points_at, Gives};
 
 use crate::error::ReadError;
@@ -73,7 +73,7 @@ pub(crate) fn points_at(
     requires place { start < 2 ^ 20 }
     requires short { length code.now ≤ MOST_INSTRS }
     ensures exact { Gives (λ v. v.items) result (points_at bytes.now code.now start) }
-    ensures legal { IfOk result (λ v. (routines instrs : ℕ) → list_all (is_instr routines instrs) code.now ≡ true → list_all (is_point routines instrs) v.items ≡ true) }
+    ensures legal { IfOk result (λ v. LegalWhere code.now v.items) }
     ensures len { IfOk result (λ v. length v.items ≡ length code.now) }
 {
     let mut points = Vec::with_capacity(alloc, code.len())?;

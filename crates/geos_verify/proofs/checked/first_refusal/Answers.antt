@@ -1,4 +1,4 @@
-use Rattle.std.proofs.Common.{◌≡◌, ◌+◌, ◌≤◌, ℕ, length, slice_get, refl, sym, ap, subst, arith, add-one}
+use Rattle.std.proofs.Common.{◌≡◌, ◌+◌, ◌≤◌, length, slice_get, refl, sym, ap, subst, arith, add-one}
 use Rattle.geos_image.specs.Parts.{start_of}
 use Rattle.geos_image.proofs.Starts.{start_of-next}
 use Rattle.geos_verify.specs.Rules.{AcceptedBelow}
