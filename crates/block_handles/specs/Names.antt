@@ -16,7 +16,3 @@ IsHandle h = (1 ≤ h) × (h ≤ 1024)
 -- the slot of a name: 1,024 for each owner, and past the last one for what is no handle
 abbrev pub slot_of : Name → ℕ
 slot_of name = if nat_le 1 name.h && nat_le name.h 1024 then first_slot name.owner + (name.h - 1) else 2048
-
--- the name of a block of global memory
-abbrev pub IsMem : Name → ℕ → Type 0
-IsMem name h = name ≡ record { owner = Mem; h = h }

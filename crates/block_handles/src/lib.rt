@@ -301,6 +301,3 @@ impl Blocks {
         Ok(())
     }
 }
-
-#[cfg(test)]
-mod tests;

@@ -1,7 +1,13 @@
-//! Tests that cross crates: images from bytes to the words that their routines put out.
+//! Tests that cross crates, and those of the crates below: a crate with tests is proved twice, so that they stand in one.
 #![tactic(auto)]
 
 #[cfg(test)]
+mod blocks;
+#[cfg(test)]
 mod fixtures;
+#[cfg(test)]
+mod heaps;
+#[cfg(test)]
+mod regions;
 #[cfg(test)]
 mod words;

@@ -73,6 +73,3 @@ pub fn init(block: &mut [u8], handle: u16)
 pub fn writes_stay_in_their_chunk()
     ensures { WritesStayInTheirChunk }
 {}
-
-#[cfg(test)]
-mod tests;

@@ -150,6 +150,3 @@ impl Drop for Region {
         raw.free(token, &alloc, len as usize);
     }
 }
-
-#[cfg(test)]
-mod tests;

@@ -1,7 +1,7 @@
 ghost use Rattle.std.specs.Prelude.{◌≤◌, ◌↔◌, IsTrue, length, take};
 ghost use Rattle.geos_model.specs.Heap.{IsHeap};
 
-use crate::{
+use lmem_heap::{
     BadChunk, DeleteError, InsertError, RoomError, alloc, check, contract, delete, enlarged, free,
     init, insert, next, place, realloc, size, total_free,
 };

@@ -1,4 +1,5 @@
-use super::*;
+use lmem_raw::Region;
+use std::alloc::Global;
 use std::process::Abort;
 use std::test::Fail;
 
