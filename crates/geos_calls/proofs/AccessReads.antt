@@ -13,11 +13,11 @@ use Rattle.geos_model.specs.Block as block
 use Rattle.geos_model.specs.Bytes.{word}
 use Rattle.geos_model.specs.Chunks.{bytes_of}
 use Rattle.geos_model.specs.Memory as model
-use Rattle.geos_model.specs.Effects.{Reference, Nothing}
+use Rattle.geos_model.specs.Effects.{Reference}
 use Rattle.geos_model.specs.Calls as table
 use Rattle.geos_model.proofs.Places.{chunk-place}
 use Rattle.geos_calls.specs.declared.span.Span.{Span}
-use Rattle.geos_calls.specs.View.{KernelState, memory_of, chunks_at}
+use Rattle.geos_calls.specs.View.{KernelState, memory_of}
 use Rattle.geos_calls.specs.Spans.{Stands, IsStanding}
 use Rattle.geos_calls.specs.Kernel.{IsKernel, Calls}
 use Rattle.geos_model.proofs.Laws.{willing}

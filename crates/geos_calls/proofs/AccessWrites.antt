@@ -26,7 +26,7 @@ use Rattle.geos_model.proofs.Fits.{need-fits}
 use Rattle.geos_model.proofs.Places.{chunk-place}
 use Rattle.geos_model.proofs.Writes.{writes-stay}
 use Rattle.geos_calls.specs.declared.span.Span.{Span}
-use Rattle.geos_calls.specs.View.{KernelState, memory_of, chunks_at}
+use Rattle.geos_calls.specs.View.{KernelState, memory_of}
 use Rattle.geos_calls.specs.Spans.{Stands, SpansStay}
 use Rattle.geos_calls.specs.Kernel.{IsKernel, Calls}
 use Rattle.geos_calls.proofs.AccessReads.{HasPlace, Lies, chunk-placed, lies, stands-there}

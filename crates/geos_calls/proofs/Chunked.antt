@@ -1,5 +1,6 @@
--- A block that has other chunks: memory after the change, the spans that stay, and that the blocks still are a kernel's.
-use Rattle.std.proofs.Common.{◌≡◌, ◌≢◌, ℕ, ◌+◌, ◌<◌, ◌≤◌, List, length, Option, Some, None, sym, ap, ◌∙◌, arith, subst, inl, inr}
+-- A block that has other chunks: memory after the change, the spans that stay, and that the
+-- blocks still are a kernel's.
+use Rattle.std.proofs.Common.{◌≡◌, ◌≢◌, ℕ, ◌<◌, ◌≤◌, List, length, Option, Some, sym, ap, ◌∙◌, arith, subst, inl, inr}
 use Rattle.std.specs.Prelude.{max}
 use Rattle.std.proofs.lemmas.Bool.{cases_eq}
 use Rattle.geos_model.specs.declared.name.Name.{Name}
@@ -13,7 +14,6 @@ use Rattle.geos_model.specs.Effects.{InBlock}
 use Rattle.geos_model.proofs.Fits.{need-fits}
 use Rattle.block_handles.specs.Names.{slot_of}
 use Rattle.block_handles.specs.Store.{Store, block_at, IsBlock, IsThere, bytes_in, locks_in, bytes_of, locks_of}
-use Rattle.block_handles.proofs.Laws.{same-name}
 use Rattle.geos_calls.specs.View.{KernelState, memory_of, size_at}
 use Rattle.geos_calls.specs.Spans.{SpansStay}
 use Rattle.geos_calls.specs.Kernel.{IsKernel}

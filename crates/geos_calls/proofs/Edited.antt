@@ -1,13 +1,13 @@
--- The calls on the chunks of a block, by their edits: all calls that may enlarge a block at once, and all that only change it.
-use Rattle.std.proofs.Common.{◌≡◌, ℕ, ◌+◌, ◌<◌, ◌≤◌, true, false, List, [], ◌∷◌, length, Option, Some, None, refl, sym, ap, ◌∙◌, arith, subst}
-use Rattle.std.specs.Prelude.{Bool, Result, Ok, Err, IfOk, IfErr, OnOk, OnErr, IsSome, is_none, nat_lt}
+-- The calls on the chunks of a block, by their edits: all calls that may enlarge a block at
+-- once, and all that only change it.
+use Rattle.std.proofs.Common.{◌≡◌, ℕ, ◌+◌, ◌<◌, ◌≤◌, true, false, List, [], ◌∷◌, length, Option, Some, None, refl, sym, ap, arith, subst}
+use Rattle.std.specs.Prelude.{Bool, Result, Ok, Err, IsSome, is_none, nat_lt}
 use Rattle.geos_model.specs.declared.name.Name.{Name}
 use Rattle.geos_model.specs.declared.refusal.Refusal.{Refusal}
 use Rattle.geos_model.specs.declared.refusal.Refusal.TheVariants as refusal
 use Rattle.geos_model.specs.Refusals.{first_refusal}
 use Rattle.geos_model.specs.Chunks.{need, chunk_of, bytes_of, with_new, with_resized, with_inserted}
 use Rattle.geos_model.specs.Memory as model
-use Rattle.geos_model.specs.Tight.{is_tight}
 use Rattle.geos_model.specs.Effects.{Answers, InBlock}
 use Rattle.geos_model.specs.Edits as edits
 use Rattle.geos_model.specs.Calls as table
@@ -17,7 +17,7 @@ use Rattle.block_handles.specs.Store.{Store, IsThere}
 use Rattle.lmem_heap.specs.declared.error.BadChunk as heap
 use Rattle.lmem_heap.specs.declared.error.DeleteError.{DeleteError}
 use Rattle.lmem_heap.specs.declared.error.DeleteError.TheVariants as error
-use Rattle.geos_calls.specs.View.{KernelState, memory_of, chunks_at, size_at}
+use Rattle.geos_calls.specs.View.{KernelState, memory_of, chunks_at}
 use Rattle.geos_calls.specs.Kernel.{IsKernel, Calls, HasNoRoomFor}
 use Rattle.geos_calls.specs.Heaps as heaps
 use Rattle.geos_calls.specs.Refused.{of_free, of_delete}
@@ -33,7 +33,8 @@ below n m lt = grind (arith, lt)
 not_below : (n m : ℕ) → m ≤ n → nat_lt n m ≡ false
 not_below n m le = grind (arith, le)
 
--- an edit whose one test is for the chunk passes where there is one, and is refused where there is none
+-- an edit whose one test is for the chunk passes where there is one, and is refused where
+-- there is none
 pub chunk-there : (cs : List (Option (List ℕ))) (c : ℕ) → IsSome (chunk_of cs c) → first_refusal (edits.no_chunk cs c ∷ []) ≡ None
 chunk-there cs c some = known (chunk_of cs c) some
   where
@@ -44,7 +45,8 @@ chunk-there cs c some = known (chunk_of cs c) some
 pub chunk-absent : (cs : List (Option (List ℕ))) (c : ℕ) (others : List (Bool × Refusal)) → chunk_of cs c ≡ None → first_refusal (edits.no_chunk cs c ∷ others) ≡ Some refusal.BadChunk
 chunk-absent cs c others none = rw none refl
 
--- one whose second test is for an offset passes where it lies in the chunk, and is refused where it does not
+-- one whose second test is for an offset passes where it lies in the chunk, and is refused
+-- where it does not
 pub offset-within : (cs : List (Option (List ℕ))) (c at : ℕ) → IsSome (chunk_of cs c) → at ≤ length (bytes_of cs c)
     → first_refusal (edits.no_chunk cs c ∷ ((nat_lt (edits.length_of cs c) at, refusal.Range) ∷ [])) ≡ None
 offset-within cs c at some within = rw (not_below (edits.length_of cs c) at within) (known (chunk_of cs c) some)

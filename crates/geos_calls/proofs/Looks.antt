@@ -1,9 +1,8 @@
 -- The calls that look at chunks.
-use Rattle.std.proofs.Common.{◌≡◌, ℕ, ◌+◌, ◌<◌, ◌≤◌, List, [], length, drop, Option, Some, None, refl, sym, ap, ◌∙◌, arith, subst, length-take, length-drop}
-use Rattle.std.specs.Prelude.{Bool, Ok, Err, IsSomeAnd, nat_lt, true, false}
+use Rattle.std.proofs.Common.{◌≡◌, ℕ, ◌+◌, ◌<◌, ◌≤◌, List, length, drop, Option, Some, None, refl, sym, arith, subst, length-take, length-drop}
+use Rattle.std.specs.Prelude.{Ok, Err, IsSomeAnd, nat_lt, true, false}
 use Rattle.lmem_raw.specs.Bytes.{part}
 use Rattle.geos_model.specs.declared.name.Name.{Name}
-use Rattle.geos_model.specs.declared.refusal.Refusal.{Refusal}
 use Rattle.geos_model.specs.declared.refusal.Refusal.TheVariants.{BadChunk, Short}
 use Rattle.geos_model.specs.Refusals.{first_refusal}
 use Rattle.geos_model.specs.Block as block

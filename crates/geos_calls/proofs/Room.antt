@@ -1,5 +1,5 @@
 -- Changes of a heap for which room was made first.
-use Rattle.std.proofs.Common.{◌≡◌, ℕ, ◌<◌, ◌≤◌, List, length, Option, Some, None, ap, ◌∙◌, arith, subst}
+use Rattle.std.proofs.Common.{◌≡◌, ℕ, ◌<◌, ◌≤◌, List, length, Option, Some, None, ◌∙◌, arith, subst}
 use Rattle.std.specs.Prelude.{max, Ok, IsSome}
 use Rattle.geos_model.specs.declared.name.Name.{Name}
 use Rattle.geos_model.specs.Chunks as model

@@ -1,5 +1,5 @@
 -- Rows of the table of calls on whole blocks, where a block is known.
-use Rattle.std.proofs.Common.{◌≡◌, ℕ, ◌+◌, ◌-◌, Bool, true, false, Option, Some, None, refl}
+use Rattle.std.proofs.Common.{◌≡◌, ℕ, ◌+◌, ◌-◌, true, false, Some, None, refl}
 use Rattle.std.specs.Prelude.{Ok, Err, nat_lt, ◌==◌}
 use Rattle.geos_model.specs.declared.name.Name.{Name}
 use Rattle.geos_model.specs.declared.name.Owner.TheVariants.{Mem}

@@ -1,6 +1,5 @@
 -- Spans that stay, and blocks that still are a kernel's.
-use Rattle.std.proofs.Common.{◌≡◌, ℕ, ◌+◌, ◌<◌, ◌≤◌, ◌∙◌, Option, Some, None, refl, subst, sym, ap, ◌⊎◌, inl, inr}
-use Rattle.std.specs.Prelude.{IfSome}
+use Rattle.std.proofs.Common.{◌≡◌, ℕ, ◌<◌, ◌≤◌, None, subst, sym, ◌⊎◌, inl, inr}
 use Rattle.geos_model.specs.declared.name.Name.{Name}
 use Rattle.geos_model.specs.declared.name.Owner.TheVariants.{Vm}
 use Rattle.geos_model.specs.Names.{named}
@@ -9,7 +8,7 @@ use Rattle.geos_model.specs.Effects.{Reference, Staleness}
 use Rattle.geos_model.specs.Heap.{IsHeap}
 use Rattle.block_handles.specs.Names.{slot_of}
 use Rattle.block_handles.specs.Layout.{IsLaidOut}
-use Rattle.block_handles.specs.Store.{Block, block_at, IsBlock, IsThere, bytes_of, locks_of, place_of}
+use Rattle.block_handles.specs.Store.{block_at, IsBlock, IsThere, bytes_of, locks_of, place_of}
 use Rattle.geos_calls.specs.declared.span.Span.{Span}
 use Rattle.geos_calls.specs.View.{KernelState}
 use Rattle.geos_calls.specs.Spans.{Stands, SpansStay}

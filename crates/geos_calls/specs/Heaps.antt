@@ -29,8 +29,8 @@ pub record HoldsHeap (s : Store) (name : Name) : Type 0 where
   pub there : IsThere s (slot_of name)
   pub heap : IsHeap (store.bytes_of s (slot_of name))
 
--- the block in a slot has other bytes, a heap of this size with these chunks and the same handle; every other block is as it
--- was, and lies where it lay if it is locked
+-- the block in a slot has other bytes, a heap of this size with these chunks and the same
+-- handle; every other block is as it was, and lies where it lay if it is locked
 pub record Rechunks (old new : Store) (slot : ℕ) (chunks : List (Option (List ℕ))) (size : ℕ) : Type 0 where
   pub bytes : List ℕ
   pub blocks : new.blocks ≡ set old.blocks slot (Some (record { locks = locks_of old slot; bytes = bytes }))
@@ -92,7 +92,8 @@ pub record Compacts (old new : Store) (name : Name) : Type 0 where
 
 -- Calls that make the block larger where its heap needs more
 
--- the size that a heap asks for is a legal one, and more than the block has; or it asks for more than a block can have
+-- the size that a heap asks for is a legal one, and more than the block has; or it asks for
+-- more than a block can have
 abbrev pub AsksFor : RoomError → ℕ → Type 0
 AsksFor room.TooBig size = Unit {0}
 AsksFor (room.NeedMore k) size = (size < k) × (k ≤ 65520) × (k % 16 ≡ 0)
@@ -111,7 +112,8 @@ abbrev pub MakesRoom : RoomError → Result (Unit {0}) Refusal → Store → Sto
 MakesRoom room.TooBig result old new name = (result ≡ Err TooBig) × (new ≡ old)
 MakesRoom (room.NeedMore k) result old new name = Enlarges old new name k result
 
--- why a block does not get these chunks: it would be too big, or it must grow and no stretch of the region has room
+-- why a block does not get these chunks: it would be too big, or it must grow and no stretch
+-- of the region has room
 abbrev pub LacksRoom : Refusal → Store → Name → List (Option (List ℕ)) → Type 0
 LacksRoom TooBig s name chunks = 65520 < need chunks
 LacksRoom NoRoom s name chunks = (size_at s name < need chunks) × (need chunks ≤ 65520) × HasNoRoom s (slot_of name) (need chunks)
@@ -127,7 +129,8 @@ pub record AllocatesGrowing (old new : Store) (name : Name) (n : ℕ) (result : 
   pub refused : IfErr result (λ refusal. LacksRoom refusal old name (with_new (chunks_at old name) n))
   pub err : OnErr result (new ≡ old)
 
--- why a chunk does not get n bytes: there is none with this handle, or its block lacks the room
+-- why a chunk does not get n bytes: there is none with this handle, or its block lacks the
+-- room
 abbrev pub ReallocRefused : Refusal → Store → Name → ℕ → ℕ → Type 0
 ReallocRefused BadChunk s name c n = chunk_of (chunks_at s name) c ≡ None
 ReallocRefused refusal s name c n = IsSome (chunk_of (chunks_at s name) c) × LacksRoom refusal s name (with_resized (chunks_at s name) c n)
@@ -138,7 +141,8 @@ pub record ResizesGrowing (old new : Store) (name : Name) (c n : ℕ) (result : 
   pub refused : IfErr result (λ refusal. ReallocRefused refusal old name c n)
   pub err : OnErr result (new ≡ old)
 
--- why no bytes are inserted: there is no chunk with this handle, the offset is past its length, or its block lacks the room
+-- why no bytes are inserted: there is no chunk with this handle, the offset is past its
+-- length, or its block lacks the room
 abbrev pub InsertRefused : Refusal → Store → Name → ℕ → ℕ → ℕ → Type 0
 InsertRefused BadChunk s name c at n = chunk_of (chunks_at s name) c ≡ None
 InsertRefused Range s name c at n = IsSome (chunk_of (chunks_at s name) c) × (length (bytes_of (chunks_at s name) c) < at)

@@ -18,8 +18,9 @@ use Rattle.geos_calls.specs.declared.span.Span.{Span}
 use Rattle.geos_calls.specs.View.{KernelState, memory_of}
 use Rattle.geos_calls.specs.Spans.{Stands, SpansStay}
 
--- blocks lie in the region, and no two overlap; each named block holds a heap, which begins with the block's handle, and is
--- locked no more often than it can be; no block of the VM file is there; and offsets are small numbers
+-- blocks lie in the region, and no two overlap; each named block holds a heap, which begins
+-- with the block's handle, and is locked no more often than it can be; no block of the VM file
+-- is there; and offsets are small numbers
 pub record IsKernel (s : KernelState) : Type 0 where
   pub laid : IsLaidOut s.blocks
   pub heaps : (name : Name) → IsThere s.blocks (slot_of name) → IsHeap (bytes_of s.blocks (slot_of name))
@@ -33,8 +34,8 @@ pub record Calls {A : Type 0} (call : Call A) (result : Result A Refusal) (old n
   pub answers : Answers call result (memory_of old) (memory_of new)
   pub spans : (choice : Choice) → SpansStay old new (call choice (memory_of old)).stale
 
--- a new heap without a chunk is in a slot, under its handle, locked once; every other block is as it was, and lies where it
--- lay if it is locked
+-- a new heap without a chunk is in a slot, under its handle, locked once; every other block is
+-- as it was, and lies where it lay if it is locked
 pub record MakesHeap (old new : Store) (slot h : ℕ) : Type 0 where
   pub bytes : List ℕ
   pub blocks : new.blocks ≡ set old.blocks slot (Some (record { locks = 1; bytes = bytes }))
@@ -60,6 +61,7 @@ StandsFor s (Ok span) (Ok ref) = Stands s span ref
 StandsFor s (Err a) (Err b) = a ≡ b
 StandsFor s _ _ = ⊥
 
--- a call answers a span that stands for the reference that its row gives, or refuses as the row does; nothing changes
+-- a call answers a span that stands for the reference that its row gives, or refuses as the
+-- row does; nothing changes
 abbrev pub GivesSpan : Call Reference → Result Span Refusal → KernelState → Type 0
 GivesSpan call result s = (given : Result Reference Refusal) × Answers call given (memory_of s) (memory_of s) × StandsFor s result given

@@ -10,17 +10,23 @@ use Rattle.geos_model.specs.Effects.{Reference, Staleness, Nothing, InBlock, OfL
 use Rattle.geos_calls.specs.declared.span.Span.{Span}
 use Rattle.geos_calls.specs.View.{KernelState, memory_of, chunks_at}
 
--- a span stands for a reference: its block is locked, its chunk is there and long enough, and the span lies where those
--- bytes of the chunk lie now
+-- the bytes that a reference names lie at this offset of the region
+abbrev pub LiesAt : KernelState → Reference → ℕ → Type 0
+LiesAt s ref at =
+    IfSome (block.place_of (bytes_of s.blocks (slot_of ref.name)) ref.chunk) (λ p. at ≡ place_of s.blocks (slot_of ref.name) + p.at + ref.start)
+
+-- a span stands for a reference: its block is locked, its chunk is there and long enough, and
+-- the span lies where those bytes of the chunk lie now
 pub record Stands (s : KernelState) (span : Span) (ref : Reference) : Type 0 where
   pub bytes : List ℕ
   pub locked : 0 < locks_of s.blocks (slot_of ref.name)
   pub chunk : chunk_of (chunks_at s.blocks ref.name) ref.chunk ≡ Some bytes
   pub fits : ref.start + ref.len ≤ length bytes
   pub len : span.len ≡ ref.len
-  pub place : 0 < ref.len → IfSome (block.place_of (bytes_of s.blocks (slot_of ref.name)) ref.chunk) (λ p. span.at ≡ place_of s.blocks (slot_of ref.name) + p.at + ref.start)
+  pub place : 0 < ref.len → LiesAt s ref span.at
 
--- the block whose references a call makes stale, as the kernel sees it: a lock that is given back does where it is the last
+-- the block whose references a call makes stale, as the kernel sees it: a lock that is given
+-- back does where it is the last
 abbrev pub stale_block : model.Memory → Staleness → Option Name
 stale_block before Nothing = None
 stale_block before (InBlock name) = Some name

@@ -1,7 +1,7 @@
 //! Loads, stores and copies over spans.
 //!
-//! Each call does what its row says at every reference that a span stands for. Nothing here is tested when it runs: the
-//! caller knows that its spans are good.
+//! Each call does what its row says at every reference that a span stands for. Nothing here is
+//! tested when it runs: the caller knows that its spans are good.
 
 ghost use Rattle.std.specs.Prelude.{[], ◌∷◌, ◌+◌, ◌<◌, ◌≤◌, Ok};
 
@@ -43,7 +43,8 @@ impl Kernel {
         self.blocks.write8(span.at + u32::from(i), byte);
     }
 
-    /// Writes a word at the offset `i` of a span, little end first. The span has both bytes. All spans stay.
+    /// Writes a word at the offset `i` of a span, little end first. The span has both bytes.
+    /// All spans stay.
     pub fn store16(&mut self, span: Span, i: u16, word: u16)
         requires stands { IsStanding self.old span }
         requires within { i + 2 ≤ span.len }
@@ -53,12 +54,13 @@ impl Kernel {
         self.blocks.write16(span.at + u32::from(i), word);
     }
 
-    /// Copies the first `n` bytes of `from`, as they were before, to the beginning of `to`, also where both overlap. Both
-    /// spans have so many bytes. All spans stay.
+    /// Copies the first `n` bytes of `from`, as they were before, to the beginning of `to`,
+    /// also where both overlap. Both spans have so many bytes. All spans stay.
     pub fn copy(&mut self, to: Span, from: Span, n: u16)
         requires to { IsStanding self.old to × (n ≤ to.len) }
         requires from { IsStanding self.old from × (n ≤ from.len) }
-        ensures row { (target source : Reference) → Stands self.old to target → Stands self.old from source → Calls (table.copy target source n) (Ok tt) self.old self.new }
+        ensures row { (target source : Reference) → Stands self.old to target → Stands self.old from source →
+            Calls (table.copy target source n) (Ok tt) self.old self.new }
         ensures spans { SpansStay self.old self.new Nothing }
     {
         let blocks = &mut self.blocks;

@@ -9,7 +9,8 @@ use block_handles::Blocks;
 use geos_model::{Name, Refusal};
 use lmem_heap::{InsertError, ReallocError, RoomError, enlarged};
 
-/// Makes a block larger, and what is new in it free. `NoRoom` where no stretch of the region has room for it.
+/// Makes a block larger, and what is new in it free. `NoRoom` where no stretch of the region
+/// has room for it.
 fn enlarge(blocks: &mut Blocks, name: Name, size: u16) -> Result<(), Refusal>
     requires heap { HoldsHeap blocks.old name }
     requires larger { size_at blocks.old name < size }
@@ -36,7 +37,8 @@ fn make_room(blocks: &mut Blocks, name: Name, room: RoomError) -> Result<(), Ref
     }
 }
 
-/// Makes a chunk of n zero bytes. `TooBig` where no block is that large, `NoRoom` where no stretch of the region has room.
+/// Makes a chunk of n zero bytes. `TooBig` where no block is that large, `NoRoom` where no
+/// stretch of the region has room.
 pub(crate) fn alloc(blocks: &mut Blocks, name: Name, n: u16) -> Result<u16, Refusal>
     requires { HoldsHeap blocks.old name }
     ensures { AllocatesGrowing blocks.old blocks.new name n result }
@@ -75,8 +77,8 @@ pub(crate) fn realloc(blocks: &mut Blocks, name: Name, c: u16, n: u16) -> Result
     }
 }
 
-/// Inserts n zero bytes into a chunk. `BadChunk` where there is none, `Range` where the offset is past its length; else as
-/// `alloc`.
+/// Inserts n zero bytes into a chunk. `BadChunk` where there is none, `Range` where the offset
+/// is past its length; else as `alloc`.
 pub(crate) fn insert(
     blocks: &mut Blocks,
     name: Name,

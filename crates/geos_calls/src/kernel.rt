@@ -52,8 +52,8 @@ impl Kernel {
     ghost use Rattle.geos_calls.specs.Spans.{IsStanding};
     ghost use Rattle.geos_calls.specs.View.{IsLocked, memory_of};
 
-    /// No block, in a region of `region` bytes, 65,536 to 16,777,216. This is the only call that takes memory; `AllocError` where
-    /// there is none.
+    /// No block, in a region of `region` bytes, 65,536 to 16,777,216. This is the only call
+    /// that takes memory; `AllocError` where there is none.
     pub fn new(alloc: Global, region: u32) -> Result<Kernel, AllocError>
         requires { (65536 ≤ region) × (region ≤ 16777216) }
         ensures store { IfOk result (λ kernel. IsEmpty kernel.blocks region) }
@@ -71,16 +71,18 @@ impl Kernel {
         self.blocks.locks(name)
     }
 
-    /// What holds of the kernel's memory at all times: sizes of blocks are legal and have room for their chunks, chunks are
-    /// lists of bytes, and no block is locked more often than it can be.
+    /// What holds of the kernel's memory at all times: sizes of blocks are legal and have room
+    /// for their chunks, chunks are lists of bytes, and no block is locked more often than it
+    /// can be.
     pub fn memory_is_legal(&self)
         ensures { IsMemory (memory_of self.now) }
     {
         let _region = self.blocks.region();
     }
 
-    /// Makes a block of 64 bytes with no chunk, under the lowest handle that is free, and locks it. `NoHandle` where all
-    /// 1,024 are in use, `NoRoom` where no stretch of the region has room for it.
+    /// Makes a block of 64 bytes with no chunk, under the lowest handle that is free, and
+    /// locks it. `NoHandle` where all 1,024 are in use, `NoRoom` where no stretch of the
+    /// region has room for it.
     pub fn mnew(&mut self) -> Result<u16, Refusal>
         ensures calls { Calls table.mnew result self.old self.new }
         ensures no_room { result ≡ Err NoRoom → NewHasNoRoom self.old self.new }
@@ -95,7 +97,8 @@ impl Kernel {
         }
     }
 
-    /// Locks a block once more. `BadHandle` where there is none, `Locked` where its count is 65,535.
+    /// Locks a block once more. `BadHandle` where there is none, `Locked` where its count is
+    /// 65,535.
     pub fn mlock(&mut self, h: u16) -> Result<(), Refusal>
         ensures { Calls (table.mlock h) result self.old self.new }
     {
@@ -119,8 +122,9 @@ impl Kernel {
         of_handle(freed)
     }
 
-    /// Where a chunk's bytes lie, which must be `n` at least. `BadChunk` where no chunk of the block has this handle, `Short`
-    /// where it has fewer bytes. The span stands until a call makes the chunk's references stale.
+    /// Where a chunk's bytes lie, which must be `n` at least. `BadChunk` where no chunk of the
+    /// block has this handle, `Short` where it has fewer bytes. The span stands until a call
+    /// makes the chunk's references stale.
     pub fn deref(&self, name: Name, c: u16, n: u16) -> Result<Span, Refusal>
         requires { IsLocked self.now name }
         ensures gives { GivesSpan (table.deref name c n) result self.now }
@@ -138,9 +142,10 @@ impl Kernel {
         })
     }
 
-    /// Makes a chunk of `n` zero bytes in a locked block, and answers its handle: the lowest one of the block that is free. `TooBig` where the
-    /// block would need more than 65,520 bytes, `NoRoom` where it must grow and no stretch of the region has room for it.
-    /// Spans into the block are stale after it, also where it is refused.
+    /// Makes a chunk of `n` zero bytes in a locked block, and answers its handle: the lowest
+    /// one of the block that is free. `TooBig` where the block would need more than 65,520
+    /// bytes, `NoRoom` where it must grow and no stretch of the region has room for it. Spans
+    /// into the block are stale after it, also where it is refused.
     pub fn lalloc(&mut self, name: Name, n: u16) -> Result<u16, Refusal>
         requires { IsLocked self.old name }
         ensures calls { Calls (table.lalloc name n) result self.old self.new }
@@ -149,8 +154,8 @@ impl Kernel {
         growth::alloc(&mut self.blocks, name, n)
     }
 
-    /// Frees a chunk of a locked block. `BadChunk` where no chunk of the block has this handle. Spans into the block are stale
-    /// after it, also where it is refused.
+    /// Frees a chunk of a locked block. `BadChunk` where no chunk of the block has this
+    /// handle. Spans into the block are stale after it, also where it is refused.
     pub fn lfree(&mut self, name: Name, c: u16) -> Result<(), Refusal>
         requires { IsLocked self.old name }
         ensures { Calls (table.lfree name c) result self.old self.new }
@@ -159,8 +164,9 @@ impl Kernel {
         of_free(freed)
     }
 
-    /// Gives a chunk of a locked block `n` bytes: its first ones that fit, and zeros behind them. `BadChunk` where no chunk of the
-    /// block has this handle; else refused as `lalloc` is, and makes stale what `lalloc` does.
+    /// Gives a chunk of a locked block `n` bytes: its first ones that fit, and zeros behind
+    /// them. `BadChunk` where no chunk of the block has this handle; else refused as `lalloc`
+    /// is, and makes stale what `lalloc` does.
     pub fn lrealloc(&mut self, name: Name, c: u16, n: u16) -> Result<(), Refusal>
         requires { IsLocked self.old name }
         ensures calls { Calls (table.lrealloc name c n) result self.old self.new }
@@ -169,8 +175,9 @@ impl Kernel {
         growth::realloc(&mut self.blocks, name, c, n)
     }
 
-    /// Inserts `n` zero bytes at an offset of a chunk of a locked block. `BadChunk` where no chunk of the block has this handle,
-    /// `Range` where the offset is past its length; else refused as `lalloc` is, and makes stale what `lalloc` does.
+    /// Inserts `n` zero bytes at an offset of a chunk of a locked block. `BadChunk` where no
+    /// chunk of the block has this handle, `Range` where the offset is past its length; else
+    /// refused as `lalloc` is, and makes stale what `lalloc` does.
     pub fn lins(&mut self, name: Name, c: u16, at: u16, n: u16) -> Result<(), Refusal>
         requires { IsLocked self.old name }
         ensures calls { Calls (table.lins name c at n) result self.old self.new }
@@ -179,8 +186,9 @@ impl Kernel {
         growth::insert(&mut self.blocks, name, c, at, n)
     }
 
-    /// Deletes `n` bytes at an offset of a chunk of a locked block. `BadChunk` where no chunk of the block has this handle,
-    /// `Range` where they reach past its length. Makes stale what `lalloc` does.
+    /// Deletes `n` bytes at an offset of a chunk of a locked block. `BadChunk` where no chunk
+    /// of the block has this handle, `Range` where they reach past its length. Makes stale
+    /// what `lalloc` does.
     pub fn ldel(&mut self, name: Name, c: u16, at: u16, n: u16) -> Result<(), Refusal>
         requires { IsLocked self.old name }
         ensures { Calls (table.ldel name c at n) result self.old self.new }
@@ -189,8 +197,8 @@ impl Kernel {
         of_delete(deleted)
     }
 
-    /// Moves the chunks of a locked block together, so that its free bytes are in one piece, at its end. Handles and bytes stay;
-    /// spans into the block are stale after it.
+    /// Moves the chunks of a locked block together, so that its free bytes are in one piece,
+    /// at its end. Handles and bytes stay; spans into the block are stale after it.
     pub fn lcontract(&mut self, name: Name)
         requires { IsLocked self.old name }
         ensures calls { Calls (table.lcontract name) (Ok tt) self.old self.new }

@@ -1,7 +1,8 @@
 //! The kernel's calls on memory blocks and on the chunks in them.
 //!
-//! Each call is a row of one table (docs/MODEL.md): its refusals in order, what it does to memory, its answer, and which
-//! references it makes stale. (GEOS SDK Concepts Book, chapters Memory Management and Local Memory.)
+//! Each call is a row of one table (docs/MODEL.md): its refusals in order, what it does to
+//! memory, its answer, and which references it makes stale. (GEOS SDK Concepts Book, chapters
+//! Memory Management and Local Memory.)
 #![tactic(auto)]
 
 mod access;

@@ -115,8 +115,8 @@ offsets_computed = record { odd = refl; absent = refl; short = refl; found = ref
 abbrev pub bytes_from : ℕ → ℕ → Reference
 bytes_from start n = record { name = mem 1; chunk = 16; start = start; len = n }
 
--- bytes are read and written from the reference's start on, and a copy takes the bytes as they were before, where both
--- overlap too
+-- bytes are read and written from the reference's start on, and a copy takes the bytes as they
+-- were before, where both overlap too
 pub record Accesses : Type 0 where
   pub byte : outcome (load8 (bytes_from 2 4) 1 willing eight) ≡ (Ok 4, eight)
   pub word : answer (load16 (bytes_from 2 4) 1 willing eight) ≡ Ok (4 + 256 * 5)
@@ -138,8 +138,8 @@ all_in_use = refl
 abbrev pub stale : {A : Type 0} → Effect A → Staleness
 stale effect = effect.stale
 
--- a moving call makes the references into its block stale, also where it is refused; an unlock those that go with the lock;
--- nothing else makes any stale
+-- a moving call makes the references into its block stale, also where it is refused; an unlock
+-- those that go with the lock; nothing else makes any stale
 pub record Stale : Type 0 where
   pub by_mnew : stale (mnew willing none) ≡ Nothing
   pub by_mlock : stale (mlock 1 willing one) ≡ Nothing
@@ -189,8 +189,8 @@ sized size locks = Some (record { locks = locks; heap = record { chunks = None �
 abbrev pub three : ℕ → Memory
 three region = record { blocks = sized 64 1 ∷ sized 1008 1 ∷ sized 2000 0 ∷ None ∷ []; region = region }
 
--- a block that is to have 4,000 bytes wants them once for itself and once more for each other block that is locked, beside the
--- sizes of all others; one more byte of region is enough room
+-- a block that is to have 4,000 bytes wants them once for itself and once more for each other
+-- block that is locked, beside the sizes of all others; one more byte of region is enough room
 pub record Tight : Type 0 where
   pub grows : is_tight (three 11007) (mem 1) 4000 ≡ true
   pub fits : is_tight (three 11008) (mem 1) 4000 ≡ false
@@ -218,8 +218,8 @@ tight_computed = record {
   granted = refl;
 }
 
--- handles 0, and past the last one, name no block, and to change them changes nothing; nor is a block of the VM file one of
--- global memory
+-- handles 0, and past the last one, name no block, and to change them changes nothing; nor is
+-- a block of the VM file one of global memory
 pub record Nameless : Type 0 where
   pub zero : with_block one (mem 0) None ≡ one
   pub past : with_block one (mem 5) None ≡ one

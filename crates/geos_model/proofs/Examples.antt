@@ -29,7 +29,8 @@ fresh_is_heap = (
     all (suc zero) h t = absurd (t.0 refl)
     all (suc (suc i)) h t = absurd (omega arith)
 
--- 44 bytes are free; a chunk of 10 bytes is 16, and 32 are left; one of 30 is 18, and none is left
+-- 44 bytes are free; a chunk of 10 bytes is 16, and 32 are left; one of 30 is 18, and none is
+-- left
 fresh_bytes_left : (used_bytes (None ∷ None ∷ []) + 44 ≡ 64) × (used_bytes (with_new (None ∷ None ∷ []) 10) + 32 ≡ 64) × (used_bytes (with_new (with_new (None ∷ None ∷ []) 10) 30) + 0 ≡ 64)
 unfolding cost
 fresh_bytes_left = (refl, refl, refl)
@@ -37,12 +38,14 @@ fresh_bytes_left = (refl, refl, refl)
 fresh_handles : (new_handle (None ∷ None ∷ []) ≡ 16) × (new_handle (with_new (None ∷ None ∷ []) 10) ≡ 18)
 fresh_handles = (refl, refl)
 
--- a third chunk, of one byte, is 20 and makes the table larger: 80 bytes are needed, of which 8 are left
+-- a third chunk, of one byte, is 20 and makes the table larger: 80 bytes are needed, of which
+-- 8 are left
 third_chunk_needs : (need (with_new (with_new (with_new (None ∷ None ∷ []) 10) 30) 1) ≡ 80) × (used_bytes (with_new (with_new (with_new (None ∷ None ∷ []) 10) 30) 1) + 8 ≡ 80) × (new_handle (with_new (with_new (None ∷ None ∷ []) 10) 30) ≡ 20)
 unfolding cost
 third_chunk_needs = (refl, refl, refl)
 
--- the largest block takes a chunk of 65,498 bytes and one of none, not one of 65,499, and no third
+-- the largest block takes a chunk of 65,498 bytes and one of none, not one of 65,499, and no
+-- third
 largest_block : (16 + 4 + cost 65498 + cost 0 ≡ 65520) × (16 + 4 + cost 65499 ≡ 65524) × (16 + 8 + cost 65498 + cost 0 + cost 0 ≡ 65524)
 unfolding cost
 largest_block = (refl, refl, refl)

@@ -10,7 +10,7 @@ use Rattle.geos_model.specs.Chunks.{need}
 use Rattle.geos_model.specs.Refusals.{first_refusal}
 use Rattle.geos_model.specs.Memory.{Memory, at_handle, with_entry_at, size_of, chunks_at, with_chunks}
 use Rattle.geos_model.specs.Tight.{is_tight}
-use Rattle.geos_model.specs.Effects.{Choice, Answers, most_size, growing}
+use Rattle.geos_model.specs.Effects.{Choice, Answers, growing}
 use Rattle.geos_model.specs.Edits.{Edit, Part}
 use Rattle.geos_model.specs.Calls.{changes, enlarges, reads, refers, in_block}
 
@@ -56,7 +56,8 @@ module _ {A : Type 0} (edit : List (Option (List ℕ)) → Edit A) (name : Name)
   abbrev pub made : Edit A
   made = edit (chunks_at before name)
 
-  -- a call that may make a block larger succeeds where its own tests pass and the block is not too big
+  -- a call that may make a block larger succeeds where its own tests pass and the block is not
+  -- too big
   pub enlarges-ok : first_refusal made.refusals ≡ None → need made.chunks ≤ 65520 → Answers (enlarges edit name) (Ok made.answer) before (with_chunks before name made.chunks)
   enlarges-ok passed small = (willing, rw none refl)
     where

@@ -18,7 +18,7 @@ placed-legal b (Some place) h = bytes-part b place.at place.len h
 pub chunks-legal : (b : List ℕ) → AreBytes b → All IsChunk (chunks b)
 chunks-legal b h =
     let spelled : All (λ i. IsChunk (chunk_at b (entry b i))) (range_with_len 0 (entries b)) =
-      λ k d l. placed-legal b (place_at b (entry b (get_or (range_with_len 0 (entries b)) k d))) h in
+    λ k d l. placed-legal b (place_at b (entry b (get_or (range_with_len 0 (entries b)) k d))) h in
     All-map IsChunk (λ i. chunk_at b (entry b i)) (range_with_len 0 (entries b)) spelled
 
 pub heap-legal : (b : List ℕ) → IsHeap b → AreBytes b → IsLegalHeap (record { chunks = chunks b; size = length b })

@@ -30,7 +30,8 @@ chunks-set b c i x n h here other =
     ])
     ∙ sym (get_or_default (set (chunks b) i x) k d None (omega (arith, ns, nb))))
 
--- the chunks of two entries are the same where both are 0, both 0xFFFF, or both are offsets of equal chunks
+-- the chunks of two entries are the same where both are 0, both 0xFFFF, or both are offsets of
+-- equal chunks
 pub chunk-cases : (b c : List ℕ) (e d : ℕ) → (e ≡ 0 → d ≡ 0) → (e ≡ 65535 → d ≡ 65535) → (IsOffset e → chunk_at c d ≡ chunk_at b e) → chunk_at c d ≡ chunk_at b e
 chunk-cases b c e d none nothing told = elim (cases_eq e 0) [
   | inl z ↦ chunk-none c d (none z) ∙ sym (chunk-none b e z)

@@ -1,4 +1,5 @@
--- The table of the kernel's calls, a row for each: what it comes to, by its operands, a choice and memory.
+-- The table of the kernel's calls, a row for each: what it comes to, by its operands, a choice
+-- and memory.
 use Rattle.std.specs.Prelude.{ℕ, ◌+◌, ◌-◌, Bool, nat_lt, ◌==◌, List, [], ◌∷◌, ◌++◌, take, Option, Some, None, is_none, slice_index, unwrap_or}
 use Rattle.lmem_raw.specs.Bytes.{part, with_part}
 use Rattle.geos_model.specs.declared.name.Name.{Name}
@@ -9,7 +10,7 @@ use Rattle.geos_model.specs.Names.{mem}
 use Rattle.geos_model.specs.Bytes.{word}
 use Rattle.geos_model.specs.Chunks.{bytes_of, with_bytes}
 use Rattle.geos_model.specs.Memory.{Memory, new_heap, block_of, with_block, locks_of, with_locks, chunks_at, with_chunks, lowest_handle}
-use Rattle.geos_model.specs.Effects.{Reference, Effect, Call, Nothing, InBlock, OfLock, unchanged, tells, most_locks, cannot_make, growing}
+use Rattle.geos_model.specs.Effects.{Reference, Call, Nothing, InBlock, OfLock, unchanged, tells, most_locks, cannot_make, growing}
 use Rattle.geos_model.specs.Edits.{Edit, Part, alloc, free, realloc, insert_bytes, delete_bytes, size, refer, contract}
 
 -- Calls on the chunks of one locked block, which are edits of a list of chunks

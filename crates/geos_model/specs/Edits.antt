@@ -4,7 +4,8 @@ use Rattle.geos_model.specs.Chunks.{chunk_of, bytes_of, with_new, new_handle, wi
 use Rattle.geos_model.specs.declared.refusal.Refusal.{Refusal}
 use Rattle.geos_model.specs.declared.refusal.Refusal.TheVariants.{BadChunk, Short, Range}
 
--- a change of chunks: its refusals, each with its test; where none comes, the chunks after it and its answer
+-- a change of chunks: its refusals, each with its test; where none comes, the chunks after it
+-- and its answer
 pub record Edit (A : Type 0) : Type 0 where
   pub refusals : List (Bool × Refusal)
   pub chunks : List (Option (List ℕ))

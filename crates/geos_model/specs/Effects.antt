@@ -8,8 +8,9 @@ use Rattle.geos_model.specs.Chunks.{need}
 use Rattle.geos_model.specs.Memory.{Memory, size_of}
 use Rattle.geos_model.specs.Tight.{is_tight}
 
--- what may be refused from outside at a call: room at the first test for it, which brings a block into memory; room at the
--- last, for which a block is made or grows; the device, and whether it is unsure then what the device holds; and memory
+-- what may be refused from outside at a call: room at the first test for it, which brings a
+-- block into memory; room at the last, for which a block is made or grows; the device, and
+-- whether it is unsure then what the device holds; and memory
 pub record Choice : Type 0 where
   pub first_room : Bool
   pub last_room : Bool
@@ -17,8 +18,8 @@ pub record Choice : Type 0 where
   pub unsure : Bool
   pub memory : Bool
 
--- which references a call makes stale, where it succeeds and where it refuses: none, those into a block, or those that go
--- with one lock of a block, which is given back
+-- which references a call makes stale, where it succeeds and where it refuses: none, those
+-- into a block, or those that go with one lock of a block, which is given back
 pub data Staleness : Type 0 where
   Nothing : Staleness
   InBlock : Name → Staleness
@@ -31,8 +32,9 @@ pub record Reference : Type 0 where
   pub start : ℕ
   pub len : ℕ
 
--- what a call comes to: its refusals in the order in which they are tried, each with its test; the memory that a refusal
--- leaves; where none comes, memory after the call and its answer; and the references that it makes stale
+-- what a call comes to: its refusals in the order in which they are tried, each with its test;
+-- the memory that a refusal leaves; where none comes, memory after the call and its answer;
+-- and the references that it makes stale
 pub record Effect (A : Type 0) : Type 0 where
   pub refusals : List (Bool × Refusal)
   pub left : Refusal → Memory
@@ -44,7 +46,8 @@ pub record Effect (A : Type 0) : Type 0 where
 abbrev pub Call : Type 0 → Type 0
 Call A = Choice → Memory → Effect A
 
--- the refusal that came, with the memory that it leaves; or, where none came, the answer with memory after the call
+-- the refusal that came, with the memory that it leaves; or, where none came, the answer with
+-- memory after the call
 abbrev pub come_to : {A : Type 0} → Option Refusal → (Refusal → Memory) → A → Memory → Result A Refusal × Memory
 come_to None left answer after = (Ok answer, after)
 come_to (Some refusal) left answer after = (Err refusal, left refusal)
@@ -53,7 +56,8 @@ come_to (Some refusal) left answer after = (Err refusal, left refusal)
 abbrev pub outcome : {A : Type 0} → Effect A → Result A Refusal × Memory
 outcome effect = come_to (first_refusal effect.refusals) effect.left effect.answer effect.after
 
--- a call answered, and left memory, as its row says, under some choice of what is refused from outside
+-- a call answered, and left memory, as its row says, under some choice of what is refused from
+-- outside
 abbrev pub Answers : {A : Type 0} → Call A → Result A Refusal → Memory → Memory → Type 0
 Answers call result before after = (choice : Choice) × (outcome (call choice before) ≡ (result, after))
 

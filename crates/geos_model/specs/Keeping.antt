@@ -6,7 +6,8 @@ use Rattle.geos_model.specs.Memory.{Memory}
 use Rattle.geos_model.specs.Effects.{Choice, Reference, Call, outcome}
 use Rattle.geos_model.specs.Calls.{mnew, mlock, unlock, mfree, lalloc, lfree, lrealloc, lins, ldel, lsize, deref, lcontract, load8, load16, store, copy}
 
--- whatever is refused from outside, the call leaves legal memory legal, where it succeeds and where it is refused
+-- whatever is refused from outside, the call leaves legal memory legal, where it succeeds and
+-- where it is refused
 abbrev pub Keeps : {A : Type 0} → Call A → Type 0
 Keeps call = (choice : Choice) (memory : Memory) → IsMemory memory → IsMemory (outcome (call choice memory)).1
 

@@ -15,8 +15,8 @@ pub record Block : Type 0 where
   pub locks : ℕ
   pub heap : Heap
 
--- the blocks of global memory, that of handle 1 first; and the length of the region, on which want of room alone depends.
--- A list by handles has 1,024 entries
+-- the blocks of global memory, that of handle 1 first; and the length of the region, on which
+-- want of room alone depends. A list by handles has 1,024 entries
 pub record Memory : Type 0 where
   pub blocks : List (Option Block)
   pub region : ℕ
@@ -26,7 +26,8 @@ abbrev pub at_handle : {X : Type 0} → X → List X → ℕ → X
 at_handle none entries zero = none
 at_handle none entries (suc h) = slice_index_or entries h none
 
--- a list by handles with something else for a handle; 0, and a handle past the list's end, change nothing
+-- a list by handles with something else for a handle; 0, and a handle past the list's end,
+-- change nothing
 abbrev pub with_entry_at : {X : Type 0} → List X → ℕ → X → List X
 with_entry_at entries zero x = entries
 with_entry_at entries (suc h) x = slice_set entries h x

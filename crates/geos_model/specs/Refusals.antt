@@ -15,7 +15,8 @@ refusal_number Locked = 7
 refusal_number Full = 10
 refusal_number Range = 14
 
--- what stands beside the first test that holds: of refusals in the order in which they are tried, the one that comes
+-- what stands beside the first test that holds: of refusals in the order in which they are
+-- tried, the one that comes
 abbrev pub first_refusal : {R : Type 0} → List (Bool × R) → Option R
 first_refusal [] = None
 first_refusal (test ∷ tests) = if test.0 then Some test.1 else first_refusal tests

@@ -11,8 +11,8 @@ is_locked block = nat_lt 0 (locks_in block)
 abbrev pub others : Memory → Name → List (Option Block)
 others memory name = (with_block memory name None).blocks
 
--- room may be wanting for a named block of this size: once for it, once more for each other block that is locked, and all
--- other blocks together need more than the region
+-- room may be wanting for a named block of this size: once for it, once more for each other
+-- block that is locked, and all other blocks together need more than the region
 abbrev pub is_tight : Memory → Name → ℕ → Bool
 is_tight memory name size =
     nat_lt memory.region ((count_by is_locked (others memory name) + 1) * size + sum_by size_in (others memory name))

@@ -2,8 +2,8 @@
 
 ghost use Rattle.std.specs.Prelude.{◌≡◌};
 
-/// Whose range of handles a name is of. The two ranges are apart: handle 1 of one owner and handle 1 of the other name
-/// different blocks.
+/// Whose range of handles a name is of. The two ranges are apart: handle 1 of one owner and
+/// handle 1 of the other name different blocks.
 #[derive(Clone, Copy, Debug, PartialEq, Eq)]
 pub enum Owner {
     /// Blocks of global memory.
@@ -12,7 +12,8 @@ pub enum Owner {
     Vm,
 }
 
-/// The name of a block: an owner and a handle, which is from 1 to [`Name::HANDLES`] where the name can be in use.
+/// The name of a block: an owner and a handle, which is from 1 to [`Name::HANDLES`] where the
+/// name can be in use.
 #[derive(Clone, Copy, Debug, PartialEq, Eq)]
 pub struct Name {
     pub owner: Owner,

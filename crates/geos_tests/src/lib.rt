@@ -1,4 +1,5 @@
-//! Tests that cross crates, and those of the crates below: a crate with tests is proved twice, so that they stand in one.
+//! Tests that cross crates, and those of the crates below: a crate with tests is proved twice,
+//! so that they stand in one.
 #![tactic(auto)]
 
 #[cfg(test)]
@@ -7,6 +8,8 @@ mod blocks;
 mod fixtures;
 #[cfg(test)]
 mod heaps;
+#[cfg(test)]
+mod kernel;
 #[cfg(test)]
 mod regions;
 #[cfg(test)]

@@ -1,5 +1,5 @@
-use Rattle.std.proofs.Common.{◌∙◌, ◌≤◌, ◌+◌, List, ℕ, Option, length, ap, subst}
-use Rattle.std.specs.Prelude.{IsSome, OnOk, OnErr, IfErr, ◌≡◌, None}
+use Rattle.std.proofs.Common.{◌∙◌, ◌≤◌, length, ap, subst}
+use Rattle.std.specs.Prelude.{OnOk, IfErr}
 use Rattle.block_handles.specs.Names.{slot_of}
 use Rattle.geos_model.specs.Block as block
 use Rattle.geos_model.specs.Chunks.{need, new_handle, with_new}

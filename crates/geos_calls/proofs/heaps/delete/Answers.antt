@@ -1,8 +1,8 @@
-use Rattle.std.proofs.Common.{◌∙◌, ◌≤◌, ◌+◌, List, ℕ, Option, length, ap, subst}
-use Rattle.std.specs.Prelude.{IsSome, OnOk, OnErr, IfErr, ◌≡◌, None}
+use Rattle.std.proofs.Common.{◌∙◌, ◌≤◌, ◌+◌, length, ap, subst}
+use Rattle.std.specs.Prelude.{IsSome, IfErr}
 use Rattle.block_handles.specs.Names.{slot_of}
 use Rattle.geos_model.specs.Block as block
-use Rattle.geos_model.specs.Chunks.{need, chunk_of, bytes_of, with_deleted}
+use Rattle.geos_model.specs.Chunks.{chunk_of, bytes_of, with_deleted}
 use Rattle.lmem_heap.specs.DeleteErrors.{IsDeleteError}
 use Rattle.geos_calls.proofs.Lent.{lent-heap, lent-same, on_ok-map, on_err-map}
 use Rattle.geos_calls.proofs.heaps.delete.Goals as goal

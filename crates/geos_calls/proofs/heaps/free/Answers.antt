@@ -1,8 +1,8 @@
-use Rattle.std.proofs.Common.{◌∙◌, ◌≤◌, ◌+◌, List, ℕ, Option, length, ap, subst}
-use Rattle.std.specs.Prelude.{IsSome, OnOk, OnErr, IfErr, ◌≡◌, None}
+use Rattle.std.proofs.Common.{◌∙◌, ap, subst}
+use Rattle.std.specs.Prelude.{IsSome, OnErr, ◌≡◌, None}
 use Rattle.block_handles.specs.Names.{slot_of}
 use Rattle.geos_model.specs.Block as block
-use Rattle.geos_model.specs.Chunks.{need, chunk_of, without}
+use Rattle.geos_model.specs.Chunks.{chunk_of, without}
 use Rattle.geos_calls.proofs.Lent.{lent-heap, lent-same, on_ok-map, on_err-map}
 use Rattle.geos_calls.proofs.heaps.free.Goals as goal
 

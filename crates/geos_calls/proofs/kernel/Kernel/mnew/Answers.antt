@@ -1,4 +1,4 @@
-use Rattle.std.proofs.Common.{subst, sym, ap, ◌∙◌}
+use Rattle.std.proofs.Common.{subst, sym, ◌∙◌}
 use Rattle.geos_model.specs.declared.name.Owner.TheVariants.{Mem}
 use Rattle.block_handles.specs.Names.{slot_of}
 use Rattle.block_handles.specs.Stretch.{HasNoRoom}
