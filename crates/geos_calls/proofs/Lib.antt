@@ -16,3 +16,8 @@ pub mod AccessReads
 pub mod AccessWrites
 pub mod AccessCopies
 pub mod Lawful
+pub mod Tied
+pub mod Replies
+pub mod Through
+pub mod Steps
+mod ListExamples

@@ -3,3 +3,5 @@ pub mod Spans
 pub mod Kernel
 pub mod Refused
 pub mod Heaps
+pub mod Places
+pub mod Answer

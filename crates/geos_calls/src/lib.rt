@@ -6,11 +6,15 @@
 #![tactic(auto)]
 
 mod access;
+mod answer;
+mod call;
 mod growth;
 mod heaps;
 mod kernel;
+mod places;
 mod span;
 
+pub use call::{BlockCall, Call, Reply};
 pub use geos_model::{Name, Owner, Refusal};
 pub use kernel::Kernel;
 pub use span::Span;
