@@ -84,7 +84,8 @@ impl Blocks {
         Some((slot - first) as u16 + 1)
     }
 
-    /// The bytes of the region, in which the blocks lie: each block's bytes are those from its place on.
+    /// The bytes of the region, in which the blocks lie: each block's bytes are those from its
+    /// place on.
     pub fn region(&self) -> &[u8]
         ensures region { IsRegion self.now result.now }
         ensures bytes { All (λ b. b < 256) result.now }

@@ -62,7 +62,8 @@ replied reply effect state = record {
 abbrev pub not_tried : Reply → ListState → Answer
 not_tried reply state = record { reply = reply; after = state; stale = Nothing }
 
--- puts the reference that was given, if one was, into a place; a number past the last place is none
+-- puts the reference that was given, if one was, into a place; a number past the last place is
+-- none
 abbrev pub with_given : List (Option Reference) → ℕ → Result Reference Refusal → List (Option Reference)
 with_given places place (Ok ref) = slice_set places place (Some ref)
 with_given places place (Err refusal) = places
@@ -154,7 +155,8 @@ abbrev pub KeepFresh : List Step → ListState → Reference → Type 0
 KeepFresh [] state ref = Unit {0}
 KeepFresh (step ∷ steps) state ref = IsFresh state.memory (answer_at step state).stale ref × KeepFresh steps (answer_at step state).after ref
 
--- no stretch of the region has room for what the call asks for, as blocks stand after it; nothing of calls that ask for no room
+-- no stretch of the region has room for what the call asks for, as blocks stand after it;
+-- nothing of calls that ask for no room
 abbrev pub FoundNoRoom : Call → KernelState → KernelState → Type 0
 FoundNoRoom Mnew old new = NewHasNoRoom old new
 FoundNoRoom (Within name (Lalloc n)) old new = HasNoRoomFor new name (with_new (chunks_at (memory_of old) name) n)
@@ -178,20 +180,22 @@ pub record Answered (call : Call) (given : Reply) (old new : KernelState) (befor
   pub came : Came (answer call) given old new before after
   pub room : given ≡ Refused NoRoom → FoundNoRoom call old new
 
--- it came so for all references for which the spans in the places stand, and the spans that are left stand for what is left
+-- it came so for all references for which the spans in the places stand, and the spans that
+-- are left stand for what is left
 abbrev pub Meets : Asked → Reply → KernelState → KernelState → List (Option Held) → List (Option Held) → Type 0
 Meets asked given old new held left =
     (before : List (Option Reference)) → Tied old held before → (after : List (Option Reference)) × Came asked given old new before after × Tied new left after
 
--- calls were answered one after another, each where the one before had left the kernel and the places
+-- calls were answered one after another, each where the one before had left the kernel and the
+-- places
 abbrev pub AnsweredInTurn : List Call → List Reply → KernelState → KernelState → List (Option Reference) → List (Option Reference) → Type 0
 AnsweredInTurn [] [] old new before after = (new ≡ old) × (after ≡ before)
 AnsweredInTurn (call ∷ calls) (reply ∷ replies) old new before after =
     (mid : KernelState) × (between : List (Option Reference)) × Answered call reply old mid before between × AnsweredInTurn calls replies mid new between after
 AnsweredInTurn _ _ old new before after = ⊥
 
--- calls were answered one after another, the places empty at first; all in all as the model answers them, under some choices;
--- spans that none of them makes stale stay
+-- calls were answered one after another, the places empty at first; all in all as the model
+-- answers them, under some choices; spans that none of them makes stale stay
 pub record AllAnswered (asked : List Call) (given : List Reply) (old new : KernelState) : Type 0 where
   pub places : List (Option Reference)
   pub turns : AnsweredInTurn asked given old new no_places places

@@ -1,4 +1,5 @@
--- The places of a list of calls: the references that the model has in them, and the spans that a list holds for these.
+-- The places of a list of calls: the references that the model has in them, and the spans that
+-- a list holds for these.
 use Rattle.std.specs.Prelude.{◌≡◌, ℕ, ◌==◌, ◌&&◌, Bool, true, false, nat_lt, if◌then◌else◌, List, [], ◌∷◌, map, replicate, Option, Some, None, Result, Ok, Err}
 use Rattle.geos_model.specs.declared.name.Name.{Name}
 use Rattle.geos_model.specs.declared.name.Owner.{Owner}
@@ -22,7 +23,8 @@ same_owner Vm Mem = false
 abbrev pub same_name : Name → Name → Bool
 same_name a b = same_owner a.owner b.owner && a.h == b.h
 
--- what a place keeps when references into a block become stale: nothing that leads into this block
+-- what a place keeps when references into a block become stale: nothing that leads into this
+-- block
 abbrev pub kept : {X : Type 0} → (X → Name) → Name → Option X → Option X
 kept block name None = None
 kept block name (Some x) = if same_name (block x) name then None else Some x

@@ -1,6 +1,6 @@
 //! Loads, stores and copies over spans.
 //!
-//! Each call does what its row says at every reference that a span stands for. Nothing here is
+//! Each call does what its row says at every reference that a span stands for. No span is
 //! tested when it runs: the caller knows that its spans are good.
 
 ghost use Rattle.std.specs.Prelude.{[], ◌∷◌, ◌+◌, ◌<◌, ◌≤◌, Ok};

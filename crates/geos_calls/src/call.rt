@@ -65,10 +65,11 @@ pub enum Reply {
     Refused(Refusal),
     /// It wants a block to be locked that is not, and was not tried.
     NotLocked,
-    /// It goes by a place that is empty: nothing was put there, or that reference is stale
-    /// since. It was not tried.
+    /// It goes by a place that is empty: nothing was put there, that reference has become
+    /// stale, or there is no such place. It was not tried.
     Stale,
-    /// It goes by a place whose reference has too few bytes, and was not tried.
+    /// It goes by a place whose reference has too few bytes, and was not tried. (A chunk that
+    /// has too few bytes for `Deref` is refused by `Short`.)
     TooShort,
 }
 

@@ -199,7 +199,7 @@ image_at bytes = do
   ended ← guard (8 + 100 * count + 68 * total_count routines) (length bytes == 8 + 100 * count + 68 * total_count routines)
   Ok (record { routines = routines; points = points })
 
--- A function that may also run out of memory gives what reading gives, unless it does
+-- the fault that reading names, or want of memory
 abbrev pub Fails : {Y : Type 0} → ReadError → Result Y ℕ → Type 0
 Fails Memory read = Unit {0}
 Fails (BadImage at) read = read ≡ Err at

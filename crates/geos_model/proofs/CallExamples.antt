@@ -134,6 +134,16 @@ accesses_computed = record { byte = refl; word = refl; last = refl; two = refl; 
 all_in_use : answer (mnew unwilling (record { blocks = replicate 1024 (Some new_block); region = 65536 })) ≡ Err NoHandle
 all_in_use = refl
 
+-- a lock more; a length told; chunks that stay where all are moved together
+pub record Plain : Type 0 where
+  pub locked : outcome (mlock 1 willing one) ≡ (Ok tt, region_of (Some (record new_block { locks = 2 }) ∷ []))
+  pub told : outcome (lsize (mem 1) 16 willing eight) ≡ (Ok 8, eight)
+  pub together : outcome (lcontract (mem 1) willing eight) ≡ (Ok tt, eight)
+
+plain_computed : Plain
+unfolding cost
+plain_computed = record { locked = refl; told = refl; together = refl }
+
 -- what a call makes stale
 abbrev pub stale : {A : Type 0} → Effect A → Staleness
 stale effect = effect.stale

@@ -1,5 +1,5 @@
 //! Definitions that several crates speak of, and their general laws; of code there are only
-//! the names of blocks and the refusals.
+//! the names of blocks, the refusals, and a law.
 //!
 //! `specs/Chunks.antt` has the chunks of a heap as one list, what they take, and what the
 //! calls on a heap do to them; `specs/Block.antt` what the bytes of a block spell;

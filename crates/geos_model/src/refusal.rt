@@ -1,12 +1,12 @@
-//! Why calls of the kernel refuse.
+//! Why calls of the kernel, and instructions, are refused.
 
 ghost use Rattle.std.specs.Prelude.{◌≡◌};
 
 use thiserror::Error;
 
-/// Why a call of the kernel refuses. Every block keeps its chunks, its size and its count of
-/// locks; references may have become stale. Each refusal has a number, which a routine sees in
-/// w7.
+/// Why a call of the kernel, or an instruction, is refused. Every block keeps its chunks, its
+/// size and its count of locks; references may have become stale. Each refusal has a number,
+/// which a routine sees in w7.
 #[derive(Clone, Copy, Debug, Drop, PartialEq, Eq, Error)]
 pub enum Refusal {
     /// No block has this handle.

@@ -1,3 +1,5 @@
+//! Moving blocks in one region.
+
 ghost use Rattle.std.specs.Prelude.{◌≡◌};
 ghost use Rattle.block_handles.specs.Store.{region_len};
 

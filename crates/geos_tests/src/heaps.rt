@@ -1,3 +1,5 @@
+//! Heaps of chunks in one block.
+
 ghost use Rattle.std.specs.Prelude.{◌≤◌, ◌↔◌, IsTrue, length, take};
 ghost use Rattle.geos_model.specs.Heap.{IsHeap};
 

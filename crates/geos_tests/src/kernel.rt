@@ -1,3 +1,5 @@
+//! The kernel's calls.
+
 ghost use Rattle.std.specs.Prelude.{◌≤◌};
 ghost use Rattle.geos_calls.specs.Spans.{IsStanding};
 

@@ -11,6 +11,8 @@ mod heaps;
 #[cfg(test)]
 mod kernel;
 #[cfg(test)]
+mod lists;
+#[cfg(test)]
 mod regions;
 #[cfg(test)]
 mod words;

@@ -1,3 +1,5 @@
+//! The raw region.
+
 use lmem_raw::Region;
 use std::alloc::Global;
 use std::process::Abort;

@@ -35,10 +35,11 @@ pub record SetsTail (old new : List ℕ) (at : ℕ) : Type 0 where
   pub ends : EndsFree new at
   pub same : (k : ℕ) → k < at → (k < 12) ⊎ (16 ≤ k) → slice_index new k ≡ slice_index old k
 
--- the length of an entry's chunk, and where it ends
+-- the length of an entry's chunk
 abbrev pub chunk_length : List ℕ → ℕ → ℕ
 chunk_length block i = word block (entry block i - 2) - 2
 
+-- where an entry's chunk ends
 abbrev pub chunk_end : List ℕ → ℕ → ℕ
 chunk_end block i = entry block i - 2 + cost (chunk_length block i)
 
