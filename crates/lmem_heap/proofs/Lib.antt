@@ -12,4 +12,10 @@ pub mod Tails
 pub mod Making
 pub mod Extending
 pub mod Shifts
+pub mod FreeLists
+pub mod Relinking
+pub mod Giving
+pub mod Filling
+pub mod Taking
+pub mod Unplaced
 pub mod Enlarging

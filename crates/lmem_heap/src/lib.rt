@@ -18,6 +18,7 @@ mod enlarge;
 mod error;
 mod grammar;
 mod header;
+mod holes;
 mod look;
 mod marks;
 mod resize;

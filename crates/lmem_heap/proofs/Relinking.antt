@@ -1,0 +1,184 @@
+-- Blocks whose free list changes at a hole.
+use Rattle.std.proofs.Common.{◌≡◌, ◌≢◌, ℕ, ◌+◌, ◌-◌, ◌*◌, ◌%◌, ◌<◌, ◌≤◌, ◌⊎◌, List, [], ◌∷◌, ◌++◌, length, get_or, refl, ap, sym, ◌∙◌, subst, inl, inr, arith}
+use Rattle.std.proofs.lemmas.Bool.{cases_eq, cases_lt}
+use Rattle.geos_model.specs.Bytes.{word, with_word, IsShifted}
+use Rattle.geos_model.specs.Chunks.{cost}
+use Rattle.geos_model.specs.Block.{entry, entries, table_end, first_free, total_free, chunk_at, chunks, handle_word}
+use Rattle.geos_model.specs.Heap.{Piece, Used, Free, Tiles, HasChunk, IsOffset, AreUsed, IsHeader, IsHeap, free_bytes}
+use Rattle.geos_model.proofs.Words.{word-same, word-other, length-with_word, byte-other, word-bytes, word-shifted}
+use Rattle.geos_model.proofs.Costs.{cost-four, cost-least}
+use Rattle.geos_model.proofs.Pieces.{LiesWithin, lies, tiles-le, has-left, has-right, has-split, free_bytes-append, tiles-join}
+use Rattle.geos_model.proofs.Moves.{tiles-kept, chunk-shifted}
+use Rattle.geos_model.proofs.Tables.{chunks-same, chunk-cases}
+use Rattle.geos_model.proofs.Headers.{SameHead, head-word, same-header}
+use Rattle.geos_model.proofs.FreePieces.{used-any, nothing-left}
+use Rattle.lmem_heap.specs.Holes.{IsFirstLink, IsNextLink, IsLink, IsOpen, IsBeside}
+use Rattle.lmem_heap.proofs.FreeLists.{first-behind, used-next, link-tiles, link-lies, link-place, open-place, open-heap}
+
+-- a byte outside a word
+abbrev pub Apart : ℕ → ℕ → Type 0
+Apart k at = (k < at) ⊎ (at + 2 ≤ k)
+
+-- a word outside a word
+abbrev pub Clear : ℕ → ℕ → Type 0
+Clear j at = (j + 2 ≤ at) ⊎ (at + 2 ≤ j)
+
+pub other : (b d : List ℕ) (at v k : ℕ) → d ≡ with_word b at v → Apart k at → get_or d k 0 ≡ get_or b k 0
+other b d at v k is h = ap (λ x. get_or x k 0) is ∙ byte-other b at v k h
+
+pub clear : (b d : List ℕ) (at v j : ℕ) → d ≡ with_word b at v → Clear j at → word d j ≡ word b j
+clear b d at v j is h = ap (λ x. word x j) is ∙ word-other b at v j h
+
+pub put : (b d : List ℕ) (at v : ℕ) → d ≡ with_word b at v → v < 65536 → at + 2 ≤ length b → word d at ≡ v
+put b d at v is small fits = ap (λ x. word x at) is ∙ word-same b at v small fits
+
+pub long : (b d : List ℕ) (at v : ℕ) → d ≡ with_word b at v → length d ≡ length b
+long b d at v is = ap length is ∙ length-with_word b at v
+
+-- an offset, by its bounds
+pub offset-in : (e low high : ℕ) → 2 ≤ low → low ≤ e → e < high → high ≤ 65520 → IsOffset e
+offset-in e low high l g h most = ((λ z. absurd (omega (arith, z))), (λ z. absurd (omega (arith, z))))
+
+-- what stands before a hole is as it was, but for the link
+pub record Relinks (b c : List ℕ) (link at upto : ℕ) : Type 0 where
+  pub long : length c ≡ length b
+  pub head : SameHead b c 12
+  pub each : (j : ℕ) → j < entries b → table_end b + 2 ≤ entry b j → entry b j < at → entry c j ≡ entry b j
+  pub low : IsShifted b c 0 0 (table_end b) (link - 2)
+  pub says : table_end b + 2 ≤ link → word c (link - 2) ≡ word b (link - 2)
+  pub first : table_end b + 2 ≤ link → first_free c ≡ first_free b
+  pub apart : table_end b + 2 ≤ link → word c link ≢ upto
+  pub mid : IsShifted b c 0 0 upto at
+
+pub relinked : (b c : List ℕ) (link at upto : ℕ) (before : List Piece) → IsHeader b → IsLink b link upto before → upto ≤ at → Relinks b c link at upto → IsLink c link upto before
+relinked b c link at upto before header (inl k) le r =
+    let n : entries c ≡ entries b = head-word b c 12 10 r.head (omega arith) in let start = k.start in
+    inl (record { is = k.is; none = k.none; start = omega (arith, start, n) })
+relinked b c link at upto before header (inr k) le r =
+    let n : entries c ≡ entries b = head-word b c 12 10 r.head (omega arith) in let low = k.low in let ends = k.ends in
+    let front : Tiles c (table_end b) (first_free b) k.pre (link - 2) (link - 2) =
+    tiles-kept b c (table_end b) (first_free b) k.pre (link - 2) (link - 2) k.front r.low (omega (arith, n)) (λ j l a z. r.each j l a (omega (arith, ends))) in
+    let start : table_end b ≡ table_end c = ap (λ x. 16 + 2 * x) (sym n) in
+    let S : ℕ → Type 0 = λ x. Tiles c x (first_free b) k.pre (link - 2) (link - 2) in
+    let F : ℕ → Type 0 = λ x. Tiles c (table_end c) x k.pre (link - 2) (link - 2) in
+    inr (record {
+      pre = k.pre;
+      size = k.size;
+      is = k.is;
+      some = k.some;
+      fours = k.fours;
+      front = subst F (sym (r.first low)) (subst S start front);
+      low = omega (arith, low, n);
+      says = r.says low ∙ k.says;
+      apart = r.apart low;
+      ends = ends;
+    })
+
+-- a hole whose other side is another
+pub reopened : (b c : List ℕ) (link at end end' : ℕ) (behind : List Piece) → (s : IsBeside b link at end) → Relinks b c link at s.is.upto → Tiles c end' (word c link) behind (length c) 0 → at ≤ end' →
+    ((i : ℕ) → i < entries c → IsOffset (entry c i) → HasChunk i s.is.before ⊎ (HasChunk i s.is.ahead ⊎ HasChunk i behind)) →
+    total_free c + free_bytes s.is.behind ≡ total_free b + free_bytes behind → IsBeside c link at end'
+reopened b c link at end end' behind s r tiles order all total =
+    let o = s.is in
+    let n : entries c ≡ entries b = head-word b c 12 10 r.head (omega arith) in
+    let k = link-place b link o.upto o.before o.linked in let start = k.start in
+    let le = tiles-le b o.upto (word b link) o.ahead at o.next o.tiles_ahead in
+    let ahead : Tiles c o.upto (word b link) o.ahead at o.next =
+    tiles-kept b c o.upto (word b link) o.ahead at o.next o.tiles_ahead r.mid (omega (arith, n)) (λ j l a z. r.each j l (omega (arith, start)) z) in
+    record {
+      is = record {
+        header = same-header b c o.header r.long r.head;
+        before = o.before;
+        upto = o.upto;
+        ahead = o.ahead;
+        next = word c link;
+        behind = behind;
+        linked = relinked b c link at o.upto o.before o.header o.linked le r;
+        tiles_ahead = used-any c o.upto (word b link) (word c link) o.ahead at o.next s.used ahead;
+        tiles_behind = tiles;
+        order = order;
+        fours = o.fours;
+        all = all;
+        total = (let t = o.total in omega (arith, t, total));
+      };
+      used = s.used;
+    }
+
+-- the bytes before a hole are as they were, but for the link and the total
+abbrev pub KeepsFront : List ℕ → List ℕ → ℕ → ℕ → Type 0
+KeepsFront b c link at = (k : ℕ) → k < at → Apart k link → Apart k 14 → get_or c k 0 ≡ get_or b k 0
+
+abbrev pub KeepsBack : List ℕ → List ℕ → ℕ → Type 0
+KeepsBack b c lo = (k : ℕ) → lo ≤ k → get_or c k 0 ≡ get_or b k 0
+
+pub kept-entry : (b c : List ℕ) (link at end j : ℕ) → IsOpen b link at end → KeepsFront b c link at → j < entries b → entry c j ≡ entry b j
+kept-entry b c link at end j o keep h =
+    let p = open-place b link at end o in let low = p.low in let out = p.link_out in
+    let byte : (k : ℕ) → 16 ≤ k → k < table_end b → get_or c k 0 ≡ get_or b k 0 = (λ k g l. keep k (omega arith) (elim out [ inl e ↦ inr (omega (arith, e)) | inr f ↦ inl (omega (arith, f)) ]) (inr (omega arith))) in
+    word-bytes b c (16 + 2 * j) (16 + 2 * j) (byte (16 + 2 * j) (omega arith) (omega arith)) (byte (16 + 2 * j + 1) (omega arith) (omega arith))
+
+pub relinks : (b c : List ℕ) (link at end : ℕ) → (o : IsOpen b link at end) → length c ≡ length b → KeepsFront b c link at → (table_end b + 2 ≤ link → word c link ≢ o.upto) → Relinks b c link at o.upto
+relinks b c link at end o same keep apart =
+    let p = open-place b link at end o in let low = p.link_low in let high = p.link_high in let start = p.low in
+    let k = link-place b link o.upto o.before o.linked in let within = k.within in
+    record {
+      long = same;
+      head = (λ q h. keep q (omega arith) (inl (omega arith)) (inl (omega arith)));
+      each = (λ j h a z. kept-entry b c link at end j o keep h);
+      low = (λ j q e g l. let is : j ≡ q = omega arith in ap (λ x. get_or c x 0) is ∙ keep q (omega arith) (inl (omega arith)) (inr (omega arith)));
+      says = (λ far. word-bytes b c (link - 2) (link - 2) (keep (link - 2) (omega arith) (inl (omega arith)) (inr (omega arith))) (keep (link - 2 + 1) (omega arith) (inl (omega arith)) (inr (omega arith))));
+      first = (λ far. word-bytes b c 12 12 (keep 12 (omega arith) (inl (omega arith)) (inl (omega arith))) (keep 13 (omega arith) (inl (omega arith)) (inl (omega arith))));
+      apart = apart;
+      mid = (λ j q e g l. let is : j ≡ q = omega arith in ap (λ x. get_or c x 0) is ∙ keep q l (inr (omega arith)) (inr (omega arith)));
+    }
+
+-- the parts of the front that stay
+pub front-kept : (b c : List ℕ) (link at end : ℕ) → IsOpen b link at end → KeepsFront b c link at → IsShifted b c 0 0 (table_end b) (link - 2)
+front-kept b c link at end o keep =
+    let p = open-place b link at end o in let high = p.link_high in let table = p.table in
+    (λ j q e g l. let is : j ≡ q = omega arith in ap (λ x. get_or c x 0) is ∙ keep q (omega arith) (inl (omega arith)) (inr (omega arith)))
+
+pub mid-kept : (b c : List ℕ) (link at end : ℕ) → (o : IsOpen b link at end) → KeepsFront b c link at → IsShifted b c 0 0 o.upto at
+mid-kept b c link at end o keep =
+    let p = open-place b link at end o in let table = p.table in let k = link-place b link o.upto o.before o.linked in let within = k.within in let start = k.start in
+    (λ j q e g l. let is : j ≡ q = omega arith in ap (λ x. get_or c x 0) is ∙ keep q l (inr (omega arith)) (inr (omega arith)))
+
+-- a chunk whose bytes and entry stay
+pub kept-chunk : (b c : List ℕ) (link at end lo j : ℕ) → (o : IsOpen b link at end) → length c ≡ length b → IsShifted b c 0 0 (table_end b) (link - 2) → IsShifted b c 0 0 o.upto at → IsShifted b c 0 0 lo (length b) →
+    (HasChunk j o.behind → LiesWithin b (entry b j) lo (length b)) → j < entries b → entry c j ≡ entry b j → chunk_at c (entry c j) ≡ chunk_at b (entry b j)
+kept-chunk b c link at end lo j o same front mid rear lies_behind h d =
+    let p = open-place b link at end o in let low = p.low in let high = p.high in let most = p.most in let link_high = p.link_high in let order = o.order in
+    chunk-cases b c (entry b j) (entry c j) (λ z. d ∙ z) (λ z. d ∙ z) (λ u.
+    let told : IsOffset (entry c j) = ((λ z. u.0 (sym d ∙ z)), (λ z. u.1 (sym d ∙ z))) in
+    elim (o.all j h u) [
+      | inl x ↦ (let y = link-lies b link o.upto o.before j o.linked x in let from = y.from in
+          chunk-shifted b c 0 0 (table_end b) (link - 2) (link - 2) (entry b j) (entry c j) y front (omega (arith, d)) (omega arith) (omega (arith, d)) (omega arith) (omega (arith, same)) u told)
+      | inr w ↦ elim w [
+        | inl x ↦ (let y = lies b o.upto (word b link) o.ahead at o.next j o.tiles_ahead x in let from = y.from in
+            chunk-shifted b c 0 0 o.upto at at (entry b j) (entry c j) y mid (omega (arith, d)) (omega arith) (omega (arith, d)) (omega arith) (omega (arith, same)) u told)
+        | inr x ↦ (let y = lies_behind x in let from = y.from in
+            chunk-shifted b c 0 0 lo (length b) (length b) (entry b j) (entry c j) y rear (omega (arith, d)) (omega arith) (omega (arith, d)) (omega arith) (omega (arith, same)) u told)
+      ]
+    ])
+
+-- the free chunk behind a hole
+pub record FreeBehind (b : List ℕ) (link at end : ℕ) (o : IsOpen b link at end) : Type 0 where
+  pub size : ℕ
+  pub rest : List Piece
+  pub is : o.behind ≡ Free size ∷ rest
+  pub here : Tiles b end end (Free size ∷ rest) (length b) 0
+
+free-at : (b : List ℕ) (at : ℕ) (ps : List Piece) (end : ℕ) → Tiles b at at ps end 0 → 0 < at → (size : ℕ) × ((rest : List Piece) × (ps ≡ Free size ∷ rest))
+free-at b at [] end s low = let e = s.1 in absurd (omega (arith, e))
+free-at b at (Used i n ∷ ps) end s low = let four = cost-four n s.0 in absurd (elim (first-behind b (at + cost n) at ps end s.4) [ inl e ↦ omega (arith, e) | inr h ↦ omega (arith, h, four) ])
+free-at b at (Free m ∷ ps) end s low = (m, (ps, refl))
+
+pub free-behind : (b : List ℕ) (link at end : ℕ) → (s : IsBeside b link at end) → word b link ≡ end → FreeBehind b link at end s.is
+free-behind b link at end s is =
+    let o = s.is in let p = open-place b link at end o in let low = p.low in let table = p.table in let order = o.order in
+    let next : o.next ≡ end = sym (used-next b o.upto (word b link) o.ahead at o.next s.used o.tiles_ahead) ∙ is in
+    let N : ℕ → Type 0 = λ x. Tiles b end x o.behind (length b) 0 in
+    let tiles : Tiles b end end o.behind (length b) 0 = subst N next o.tiles_behind in
+    let f = free-at b end o.behind (length b) tiles (omega arith) in
+    let T : List Piece → Type 0 = λ ps. Tiles b end end ps (length b) 0 in
+    record { size = f.0; rest = f.1.0; is = f.1.1; here = subst T f.1.1 tiles }

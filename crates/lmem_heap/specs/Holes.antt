@@ -1,0 +1,64 @@
+-- Bytes that no piece has, and the free list that passes over them.
+use Rattle.std.specs.Prelude.{◌≡◌, ◌≢◌, ℕ, ◌+◌, ◌-◌, ◌%◌, ◌<◌, ◌≤◌, ◌⊎◌, List, [], ◌∷◌, ◌++◌, length}
+use Rattle.geos_model.specs.Bytes.{word, IsShifted}
+use Rattle.geos_model.specs.Block.{chunks, entry, entries, handle_word, table_end, first_free, total_free}
+use Rattle.geos_model.specs.Heap.{Piece, Free, Tiles, HasChunk, IsOffset, AreUsed, IsHeader, IsHeap, free_bytes}
+
+-- a link that is the header's word: no piece stands before it
+pub record IsFirstLink (block : List ℕ) (link upto : ℕ) (before : List Piece) : Type 0 where
+  pub is : link ≡ 12
+  pub none : before ≡ []
+  pub start : upto ≡ table_end block
+
+-- a link that is the next word of a free chunk, the last one of these pieces
+pub record IsNextLink (block : List ℕ) (link upto : ℕ) (before : List Piece) : Type 0 where
+  pub pre : List Piece
+  pub size : ℕ
+  pub is : before ≡ pre ++ (Free size ∷ [])
+  pub some : 0 < size
+  pub fours : size % 4 ≡ 0
+  pub front : Tiles block (table_end block) (first_free block) pre (link - 2) (link - 2)
+  pub low : table_end block + 2 ≤ link
+  pub says : word block (link - 2) ≡ size
+  pub apart : word block link ≢ upto
+  pub ends : upto ≡ link - 2 + size
+
+-- the word that names the first free chunk behind these pieces, which end at `upto`
+abbrev pub IsLink : List ℕ → ℕ → ℕ → List Piece → Type 0
+IsLink block link upto before = IsFirstLink block link upto before ⊎ IsNextLink block link upto before
+
+-- a heap but for the bytes from `at` to `end`, which no piece has; the link lies before them
+pub record IsOpen (block : List ℕ) (link at end : ℕ) : Type 0 where
+  pub header : IsHeader block
+  pub before : List Piece
+  pub upto : ℕ
+  pub ahead : List Piece
+  pub next : ℕ
+  pub behind : List Piece
+  pub linked : IsLink block link upto before
+  pub tiles_ahead : Tiles block upto (word block link) ahead at next
+  pub tiles_behind : Tiles block end next behind (length block) 0
+  pub order : at ≤ end
+  pub fours : at % 4 ≡ 0
+  pub all : (i : ℕ) → i < entries block → IsOffset (entry block i) → HasChunk i before ⊎ (HasChunk i ahead ⊎ HasChunk i behind)
+  pub total : total_free block ≡ free_bytes before + (free_bytes ahead + free_bytes behind)
+
+-- no free chunk lies between the link and those bytes
+pub record IsBeside (block : List ℕ) (link at end : ℕ) : Type 0 where
+  pub is : IsOpen block link at end
+  pub used : AreUsed is.ahead
+
+-- the hole reaches up to another offset now, in a block with the same chunks
+pub record Widens (old new : List ℕ) (link at end to : ℕ) : Type 0 where
+  pub beside : IsBeside new link at to
+  pub chunks : chunks new ≡ chunks old
+  pub handle : handle_word new ≡ handle_word old
+  pub count : entries new ≡ entries old
+  pub each : (j : ℕ) → j < entries old → entry new j ≡ entry old j
+  pub bytes : IsShifted old new 0 0 at end
+
+-- the hole's bytes are free, in a heap with the same chunks
+pub record GivesBack (old new : List ℕ) : Type 0 where
+  pub heap : IsHeap new
+  pub chunks : chunks new ≡ chunks old
+  pub handle : handle_word new ≡ handle_word old

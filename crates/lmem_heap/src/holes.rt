@@ -1,0 +1,136 @@
+//! Holes: bytes that neither a chunk nor a free chunk has, while chunks come and go.
+ghost use Rattle.std.specs.Prelude.{◌≡◌, ◌≢◌, ℕ, ◌+◌, ◌-◌, ◌*◌, ◌%◌, ◌<◌, ◌≤◌, ◌⊎◌, length, slice_set, MatchOption, IsTrue, ◌↔◌};
+ghost use Rattle.lmem_raw.specs.Bytes.{part};
+ghost use Rattle.geos_model.specs.Bytes.{word};
+ghost use Rattle.geos_model.specs.Chunks.{cost, resized};
+ghost use Rattle.geos_model.specs.Block.{chunks, entries, entry, handle_word, table_end, total_free};
+ghost use Rattle.geos_model.specs.Heap.{IsHeap};
+ghost use Rattle.lmem_heap.specs.Holes.{GivesBack, IsBeside, IsOpen, Widens};
+
+use crate::header::{FIRST_FREE, TOTAL_FREE};
+use crate::words::{get16, put16};
+
+/// The bytes of a hole, and the link of the free list before it: the offset of the word that
+/// names the next free chunk, which is the header's or that of the last free chunk before the
+/// hole.
+#[derive(Clone, Copy)]
+pub(crate) struct Hole {
+    link: usize,
+    at: usize,
+    end: usize,
+}
+
+impl Hole {
+    /// The hole at these bytes: goes along the free list up to it.
+    pub(crate) fn at(block: &[u8], at: usize, end: usize) -> Hole
+        requires { IsOpen block.now 12 at end }
+        ensures hole { IsBeside block.now result.link at end }
+        ensures place { (result.at ≡ at) × (result.end ≡ end) }
+    {
+        let mut link = FIRST_FREE;
+        let mut next = get16(block, link) as usize;
+        while next != 0 && next < at {
+            link = next + 2;
+            next = get16(block, link) as usize;
+        }
+        Hole { link, at, end }
+    }
+
+    /// Makes the hole's bytes free: one free chunk with those that touch it.
+    pub(crate) fn give_back(self, block: &mut [u8])
+        requires hole { IsBeside block.old self.link self.at self.end }
+        requires some { self.at < self.end }
+        requires fours { self.end % 4 ≡ 0 }
+        ensures { GivesBack block.old block.new }
+    {
+        let hole = self.merge_behind(block);
+        if hole.touches_before(block) {
+            hole.merge_before(block);
+        } else {
+            hole.link_in(block);
+        }
+    }
+
+    /// Takes the free chunk behind the hole, if there is one that touches it.
+    fn merge_behind(self, block: &mut [u8]) -> Hole
+        requires hole { IsBeside block.old self.link self.at self.end }
+        requires some { self.at < self.end }
+        requires fours { self.end % 4 ≡ 0 }
+        ensures hole { IsBeside block.new result.link result.at result.end }
+        ensures apart { word block.new result.link ≢ result.end }
+        ensures some { result.at < result.end }
+        ensures fours { result.end % 4 ≡ 0 }
+        ensures chunks { chunks block.new ≡ chunks block.old }
+        ensures handle { handle_word block.new ≡ handle_word block.old }
+    {
+        if get16(block, self.link) as usize != self.end {
+            return self;
+        }
+        self.take_whole(block)
+    }
+
+    /// Takes the free chunk behind the hole.
+    fn take_whole(self, block: &mut [u8]) -> Hole
+        requires hole { IsBeside block.old self.link self.at self.end }
+        requires behind { word block.old self.link ≡ self.end }
+        ensures wider { Widens block.old block.new self.link self.at self.end result.end }
+        ensures place { (result.link ≡ self.link) × (result.at ≡ self.at) × (result.end ≡ self.end + word block.old self.end) }
+        ensures apart { word block.new self.link ≢ result.end }
+    {
+        let size = get16(block, self.end);
+        let next = get16(block, self.end + 2);
+        let total = get16(block, TOTAL_FREE);
+        put16(block, self.link, next);
+        put16(block, TOTAL_FREE, total - size);
+        Hole {
+            link: self.link,
+            at: self.at,
+            end: self.end + size as usize,
+        }
+    }
+
+    /// Whether the hole begins where the free chunk before it ends.
+    fn touches_before(self, block: &[u8]) -> bool
+        requires { IsBeside block.now self.link self.at self.end }
+        ensures { IsTrue result ↔ ((self.link ≢ 12) × (self.link - 2 + word block.now (self.link - 2) ≡ self.at)) }
+    {
+        if self.link == FIRST_FREE {
+            return false;
+        }
+        let before = self.link - 2;
+        before + get16(block, before) as usize == self.at
+    }
+
+    /// Makes the hole part of the free chunk before it.
+    fn merge_before(self, block: &mut [u8])
+        requires hole { IsBeside block.old self.link self.at self.end }
+        requires apart { word block.old self.link ≢ self.end }
+        requires some { self.at < self.end }
+        requires fours { self.end % 4 ≡ 0 }
+        requires touch { (self.link ≢ 12) × (self.link - 2 + word block.old (self.link - 2) ≡ self.at) }
+        ensures { GivesBack block.old block.new }
+    {
+        let before = self.link - 2;
+        let total = get16(block, TOTAL_FREE);
+        put16(block, before, (self.end - before) as u16);
+        put16(block, TOTAL_FREE, total + (self.end - self.at) as u16);
+    }
+
+    /// Makes the hole a free chunk, and links it in.
+    fn link_in(self, block: &mut [u8])
+        requires hole { IsBeside block.old self.link self.at self.end }
+        requires apart { word block.old self.link ≢ self.end }
+        requires some { self.at < self.end }
+        requires fours { self.end % 4 ≡ 0 }
+        requires alone { (self.link ≢ 12) × (self.link - 2 + word block.old (self.link - 2) ≡ self.at) → ⊥ }
+        ensures { GivesBack block.old block.new }
+    {
+        let size = (self.end - self.at) as u16;
+        let next = get16(block, self.link);
+        let total = get16(block, TOTAL_FREE);
+        put16(block, self.at, size);
+        put16(block, self.at + 2, next);
+        put16(block, self.link, self.at as u16);
+        put16(block, TOTAL_FREE, total + size);
+    }
+}
