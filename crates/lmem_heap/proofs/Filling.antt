@@ -39,6 +39,7 @@ pub record LeftHole (b c : List ℕ) (i : ℕ) : Type 0 where
   pub handle : word c 0 ≡ word b 0
   pub count : entries c ≡ entries b
   pub here : entry c i ≡ 0
+  pub bytes : IsShifted b c 0 0 (table_end b) (length b)
 
 pub left-hole : (b c : List ℕ) (i : ℕ) → IsHeap b → i < entries b → IsOffset (entry b i) → c ≡ with_word b (16 + 2 * i) 0 → LeftHole b c i
 left-hole b c i heap h t is =
@@ -95,6 +96,7 @@ left-hole b c i heap h t is =
       handle = ap (λ x. word x 0) is ∙ word-other b (16 + 2 * i) 0 0 (inl (omega arith));
       count = n;
       here = here;
+      bytes = far (table_end b) (length b) (omega arith);
     }
 
 -- what the front of a hole is as a chunk

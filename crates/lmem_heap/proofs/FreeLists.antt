@@ -10,7 +10,7 @@ use Rattle.geos_model.proofs.Pieces.{LiesWithin, lies, tiles-le, tiles-join, has
 use Rattle.geos_model.proofs.Moves.{tiles-kept, chunk-shifted}
 use Rattle.geos_model.proofs.Tables.{chunks-same, chunk-cases}
 use Rattle.geos_model.proofs.FreePieces.{used-any, used-free, nothing-left}
-use Rattle.lmem_heap.specs.Holes.{IsFirstLink, IsNextLink, IsLink, IsOpen, IsBeside}
+use Rattle.lmem_heap.specs.Holes.{IsFirstLink, IsNextLink, IsLink, IsOpen, IsBeside, FitsBehind}
 
 -- the first free piece is the end's next one, or not before the end
 pub first-behind : (b : List ℕ) (at f : ℕ) (ps : List Piece) (end : ℕ) → Tiles b at f ps end 0 → (f ≡ 0) ⊎ (at ≤ f)
@@ -230,3 +230,66 @@ pub open-beside : (b : List ℕ) (link at end : ℕ) → IsOpen b link at end �
 open-beside b link at end o h =
     let k = link-place b link o.upto o.before o.linked in let low = k.low in let within = k.within in
     record { is = o; used = none-before b o.upto (word b link) o.ahead at o.next o.tiles_ahead (omega (arith, low, within)) h }
+
+-- a free chunk lies before the end
+free-below : (b : List ℕ) (at f : ℕ) (ps : List Piece) (end next : ℕ) → Tiles b at f ps end next → next ≡ 0 → f ≢ 0 → f < end
+free-below b at f [] end next s z ne = absurd (ne (s.1 ∙ z))
+free-below b at f (Used i n ∷ ps) end next s z ne = free-below b (at + cost n) f ps end next s.4 z ne
+free-below b at f (Free m ∷ ps) end next s z ne = let le = tiles-le b (at + m) (word b (at + 2)) ps end next s.5 in let is = s.2 in let some = s.0 in omega (arith, le, is, some)
+
+-- the next free chunk of a heap, behind an empty hole
+pub open-fits : (b : List ℕ) (link : ℕ) → IsOpen b link (length b) (length b) → word b link ≢ 0 → (size : ℕ) → size ≤ word b (word b link) → FitsBehind b link (word b link) (word b link) size
+open-fits b link o ne size fits =
+    let f = word b link in let end = length b in
+    let none : o.behind ≡ [] = nothing-left b end o.next o.behind end 0 (omega arith) o.tiles_behind in
+    let B : List Piece → Type 0 = λ ps. Tiles b end o.next ps end 0 in
+    let next : o.next ≡ 0 = (let t : Tiles b end o.next [] end 0 = subst B none o.tiles_behind in t.1) in
+    let l : f < end = free-below b o.upto f o.ahead end o.next o.tiles_ahead next ne in
+    let r = reach b o.upto f o.ahead end o.next o.tiles_ahead l (inl next) ne in
+    let start_fours : table_end b % 4 ≡ 0 = (let pairs = o.header.pairs in omega (arith, pairs)) in
+    let upto_fours : o.upto % 4 ≡ 0 = tiles-fours b (table_end b) (first_free b) o.before o.upto f (link-tiles b link o.upto o.before o.linked) start_fours in
+    record {
+      beside = record {
+        is = record {
+          header = o.header;
+          before = o.before;
+          upto = o.upto;
+          ahead = r.pre;
+          next = f;
+          behind = (Free r.size ∷ r.rest) ++ o.behind;
+          linked = o.linked;
+          tiles_ahead = r.front;
+          tiles_behind = tiles-join b f f (Free r.size ∷ r.rest) o.behind end o.next end 0 r.here o.tiles_behind;
+          order = omega arith;
+          fours = tiles-fours b o.upto f r.pre f f r.front upto_fours;
+          all = (λ i h t. elim (o.all i h t) [
+            | inl x ↦ inl x
+            | inr x ↦ inr (elim x [
+              | inl y ↦ (let H : List Piece → Type 0 = λ ps. HasChunk i ps in elim (has-split i r.pre (Free r.size ∷ r.rest) (subst H r.is y)) [ inl z ↦ inl z | inr z ↦ inr (has-left i (Free r.size ∷ r.rest) o.behind z) ])
+              | inr y ↦ inr (has-right i (Free r.size ∷ r.rest) o.behind y)
+            ])
+          ]);
+          total = (let t = o.total in let u = ap free_bytes r.is ∙ free_bytes-append r.pre (Free r.size ∷ r.rest) in let v = free_bytes-append (Free r.size ∷ r.rest) o.behind in omega (arith, t, u, v));
+        };
+        used = r.used;
+      };
+      empty = refl;
+      next = refl;
+      room = fits;
+    }
+
+-- the next free chunk of a heap lies in it
+pub record NextInHeap (b : List ℕ) (link : ℕ) : Type 0 where
+  pub is : IsOpen b (word b link + 2) (length b) (length b)
+  pub above : link < word b link
+  pub inside : word b link + 4 ≤ length b
+
+pub heap-next : (b : List ℕ) (link : ℕ) → IsOpen b link (length b) (length b) → word b link ≢ 0 → NextInHeap b link
+heap-next b link o ne =
+    let end = length b in
+    let none : o.behind ≡ [] = nothing-left b end o.next o.behind end 0 (omega arith) o.tiles_behind in
+    let B : List Piece → Type 0 = λ ps. Tiles b end o.next ps end 0 in
+    let next : o.next ≡ 0 = (let t : Tiles b end o.next [] end 0 = subst B none o.tiles_behind in t.1) in
+    let l : word b link < end = free-below b o.upto (word b link) o.ahead end o.next o.tiles_ahead next ne in
+    let n = open-next b link end end o ne l in let inside = n.inside in let four = n.four in
+    record { is = n.is; above = n.above; inside = omega (arith, inside, four) }

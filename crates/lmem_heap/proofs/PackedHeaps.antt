@@ -1,8 +1,11 @@
 -- Packed heaps are the compact ones.
-use Rattle.std.proofs.Common.{◌≡◌, ◌≢◌, ℕ, ◌+◌, ◌%◌, ◌≤◌, List, [], ◌∷◌, ◌++◌, length, refl, ap, sym, ◌∙◌, subst, inl, inr, arith}
+use Rattle.std.proofs.Common.{◌≡◌, ◌≢◌, ℕ, ◌+◌, ◌%◌, ◌≤◌, List, [], ◌∷◌, ◌++◌, Some, None, get_or, ◌<◌, length, refl, ap, sym, ◌∙◌, subst, inl, inr, arith}
 use Rattle.std.proofs.lemmas.Bool.{cases_eq}
 use Rattle.geos_model.specs.Bytes.{word}
-use Rattle.geos_model.specs.Block.{table_end, first_free, total_free}
+use Rattle.geos_model.specs.Chunks.{used_bytes}
+use Rattle.geos_model.specs.Block.{chunks, entries, entry, table_end, first_free, total_free}
+use Rattle.geos_model.proofs.Lowest.{block-used, entries-same, in-use-bytes}
+use Rattle.geos_model.proofs.Entries.{chunks-at, chunk-none}
 use Rattle.geos_model.specs.Heap.{Piece, Free, Tiles, HasChunk, free_bytes, IsHeap, IsCompact}
 use Rattle.geos_model.proofs.Pieces.{tiles-le, tiles-join, has-split, has-left, free_bytes-append}
 use Rattle.geos_model.proofs.FreePieces.{first-piece, none-free, used-free, used-any, nothing-left}
@@ -96,3 +99,21 @@ pub bounds : (b : List ℕ) → IsPacked b → Bounds b
 bounds b p =
     let low = tiles-le b (table_end b) 0 p.pre p.at 0 p.tiles in let room = p.room in let some = p.header.some in
     record { low = omega arith; room = omega arith; most = p.header.most; least = p.header.least; fours = p.fours; table = omega arith }
+
+-- packing leaves as many bytes free
+pub packed-room : (b d : List ℕ) → IsHeap b → IsPacked d → chunks d ≡ chunks b → length d ≡ length b → total_free d ≡ total_free b
+packed-room b d heap p same long = let e = ap used_bytes same in omega (arith, e, block-used b heap, block-used d (packed-heap d p), long)
+
+-- nor does it change which entries are in use
+pub free-same : (b d : List ℕ) (i : ℕ) → chunks d ≡ chunks b → i < entries b → entry b i ≡ 0 → (i < entries d) × (entry d i ≡ 0)
+free-same b d i same h none =
+    let n = entries-same b d same in let l : i < entries d = omega (arith, n) in (
+      l,
+      (elim (cases_eq (entry d i) 0) [
+        | inl e ↦ e
+        | inr ne ↦ absurd (some-none (sym (in-use-bytes d i l ne) ∙ ap (λ xs. get_or xs i None) same ∙ chunks-at b i h ∙ chunk-none b (entry b i) none))
+      ]),
+    )
+  where
+    some-none : {x : List ℕ} → Some x ≡ None → ⊥
+    some-none h = cc

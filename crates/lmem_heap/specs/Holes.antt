@@ -1,5 +1,5 @@
 -- Bytes that no piece has, and the free list that passes over them.
-use Rattle.std.specs.Prelude.{◌≡◌, ◌≢◌, ℕ, ◌+◌, ◌-◌, ◌%◌, ◌<◌, ◌≤◌, ◌⊎◌, List, [], ◌∷◌, ◌++◌, length}
+use Rattle.std.specs.Prelude.{◌≡◌, ◌≢◌, ℕ, ◌+◌, ◌-◌, ◌%◌, ◌<◌, ◌≤◌, ◌⊎◌, List, [], ◌∷◌, ◌++◌, length, replicate, slice_set, Some}
 use Rattle.geos_model.specs.Bytes.{word, IsShifted}
 use Rattle.geos_model.specs.Block.{chunks, entry, entries, handle_word, table_end, first_free, total_free}
 use Rattle.geos_model.specs.Heap.{Piece, Free, Tiles, HasChunk, IsOffset, AreUsed, IsHeader, IsHeap, free_bytes}
@@ -48,6 +48,13 @@ pub record IsBeside (block : List ℕ) (link at end : ℕ) : Type 0 where
   pub is : IsOpen block link at end
   pub used : AreUsed is.ahead
 
+-- an empty hole before a free chunk of at least this size
+pub record FitsBehind (block : List ℕ) (link at end size : ℕ) : Type 0 where
+  pub beside : IsBeside block link at end
+  pub empty : at ≡ end
+  pub next : word block link ≡ end
+  pub room : size ≤ word block end
+
 -- the hole reaches up to another offset now, in a block with the same chunks
 pub record Widens (old new : List ℕ) (link at end to : ℕ) : Type 0 where
   pub beside : IsBeside new link at to
@@ -61,4 +68,10 @@ pub record Widens (old new : List ℕ) (link at end to : ℕ) : Type 0 where
 pub record GivesBack (old new : List ℕ) : Type 0 where
   pub heap : IsHeap new
   pub chunks : chunks new ≡ chunks old
+  pub handle : handle_word new ≡ handle_word old
+
+-- the entry has a chunk of n zeros now
+pub record PlacesChunk (old new : List ℕ) (i n : ℕ) : Type 0 where
+  pub heap : IsHeap new
+  pub chunks : chunks new ≡ slice_set (chunks old) i (Some (replicate n 0))
   pub handle : handle_word new ≡ handle_word old

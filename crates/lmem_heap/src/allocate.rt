@@ -3,16 +3,14 @@ ghost use Rattle.std.specs.Prelude.{◌≡◌, ◌≢◌, ℕ, ◌<◌, ◌≤�
 ghost use Rattle.geos_model.specs.Chunks.{chunk_of, lowest_entry, need, new_handle, used_bytes, with_entry, with_new, without};
 ghost use Rattle.geos_model.specs.Block.{chunks, entries, entry, handle_word};
 ghost use Rattle.geos_model.specs.Heap.{IsHeap};
-ghost use Rattle.lmem_heap.specs.Packed.{IsPacked};
 ghost use Rattle.lmem_heap.specs.Refusals.{IsRoomError};
 
-use crate::chunks::{put_chunk, remove_chunk};
+use crate::chunks::{new_chunk, release_chunk};
 use crate::error::{BadChunk, RoomError};
 use crate::header::{entries, handle_of};
 use crate::look::find;
 use crate::room::{room_for, used_with_new};
 use crate::table::{add_entries, lowest_entry};
-use crate::tail::pack;
 
 /// Makes a chunk of `n` zero bytes and answers its handle: the lowest one that is not in use.
 /// Where all entries of the table are in use, it gets two more. Other chunks may move.
@@ -31,18 +29,17 @@ pub fn alloc(block: &mut [u8], n: u16) -> Result<u16, RoomError>
     let i = lowest_entry(block);
     let used = used_with_new(block, i, n);
     room_for(used, block.len())?;
-    pack(block);
     make_entry(block, i);
-    put_chunk(block, i, n);
+    new_chunk(block, i, n);
     Ok(handle_of(i))
 }
 
 /// Sees that the table has an entry for a new chunk.
 fn make_entry(block: &mut [u8], i: usize)
-    requires packed { IsPacked block.old }
+    requires heap { IsHeap block.old }
     requires lowest { i ≡ lowest_entry (chunks block.old) }
     requires room { used_bytes (with_entry (chunks block.old)) ≤ length block.old }
-    ensures packed { IsPacked block.new }
+    ensures heap { IsHeap block.new }
     ensures chunks { chunks block.new ≡ with_entry (chunks block.old) }
     ensures handle { handle_word block.new ≡ handle_word block.old }
     ensures known { i < entries block.new }
@@ -64,7 +61,6 @@ pub fn free(block: &mut [u8], c: u16) -> Result<(), BadChunk>
     ensures err { OnErr result (block.new ≡ block.old) }
 {
     let i = find(block, c)?;
-    pack(block);
-    remove_chunk(block, i);
+    release_chunk(block, i);
     Ok(())
 }

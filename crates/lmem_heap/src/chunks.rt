@@ -1,14 +1,16 @@
 //! Chunks of a packed heap that come, go and change their length.
-ghost use Rattle.std.specs.Prelude.{◌≡◌, ◌≢◌, ℕ, ◌+◌, ◌-◌, ◌*◌, ◌<◌, ◌≤◌, length, replicate, slice_index_or, slice_set, unwrap_or, [], ◌∷◌, List, Option};
+ghost use Rattle.std.specs.Prelude.{◌≡◌, ◌≢◌, ℕ, ◌+◌, ◌-◌, ◌*◌, ◌<◌, ◌≤◌, length, replicate, slice_index_or, slice_set, unwrap_or, MatchBool, [], ◌∷◌, List, Option};
 ghost use Rattle.geos_model.specs.Chunks.{cost, cost_of, entry_bytes, resized};
 ghost use Rattle.geos_model.specs.Block.{chunks, entries, entry, handle_word, table_end, total_free};
-ghost use Rattle.geos_model.specs.Heap.{IsOffset};
+ghost use Rattle.geos_model.specs.Heap.{IsHeap, IsOffset};
+ghost use Rattle.lmem_heap.specs.Holes.{PlacesChunk};
 ghost use Rattle.lmem_heap.specs.Changes.{entry_resized};
 ghost use Rattle.lmem_heap.specs.Packed.{chunks_end, chunk_end, chunk_length, EditsChunk, HasResized, IsPacked, PutsChunk};
 
 use crate::header::{NO_BYTE, entry, put_entry};
+use crate::holes::Hole;
 use crate::runs::move_run;
-use crate::tail::{chunks_end, set_tail};
+use crate::tail::{chunks_end, pack, set_tail};
 use crate::words::{clear, get16, put16};
 
 /// What a chunk of n bytes takes: its size word and its bytes, filled up to fours.
@@ -44,6 +46,65 @@ impl Extent {
             end: begin + cost(len),
             len,
         }
+    }
+}
+
+/// Takes the chunk of an entry away, and leaves the others where they are. The entry is not in
+/// use then, and the chunk's bytes are free.
+pub(crate) fn release_chunk(block: &mut [u8], i: usize)
+    requires heap { IsHeap block.old }
+    requires known { i < entries block.old }
+    requires used { entry block.old i ≢ 0 }
+    ensures heap { IsHeap block.new }
+    ensures chunks { chunks block.new ≡ slice_set (chunks block.old) i None }
+    ensures handle { handle_word block.new ≡ handle_word block.old }
+{
+    if entry(block, i) == NO_BYTE {
+        put_entry(block, i, 0);
+        return;
+    }
+    let hole = Hole::left_by(block, i);
+    hole.give_back(block);
+}
+
+/// Gives an entry that is not in use a chunk of n zero bytes. Where no free chunk is large
+/// enough, the others move together.
+pub(crate) fn new_chunk(block: &mut [u8], i: usize, n: u16)
+    requires heap { IsHeap block.old }
+    requires known { i < entries block.old }
+    requires free { entry block.old i ≡ 0 }
+    requires room { cost n ≤ total_free block.old }
+    ensures heap { IsHeap block.new }
+    ensures chunks { chunks block.new ≡ slice_set (chunks block.old) i (Some (replicate n 0)) }
+    ensures handle { handle_word block.new ≡ handle_word block.old }
+{
+    if place_chunk(block, i, n) {
+        return;
+    }
+    pack(block);
+    put_chunk(block, i, n);
+}
+
+/// Gives an entry that is not in use a chunk of n zero bytes, in front of the first free chunk
+/// that is large enough. False where none is; then nothing is changed.
+fn place_chunk(block: &mut [u8], i: usize, n: u16) -> bool
+    requires heap { IsHeap block.old }
+    requires known { i < entries block.old }
+    requires free { entry block.old i ≡ 0 }
+    ensures { MatchBool result (PlacesChunk block.old block.new i n) (block.new ≡ block.old) }
+{
+    if n == 0 {
+        put_entry(block, i, NO_BYTE);
+        return true;
+    }
+    let size = cost(n as usize);
+    match Hole::first_fit(block, size) {
+        Some(hole) => {
+            let hole = hole.take(block, size);
+            hole.fill(block, i, 0, n);
+            true
+        }
+        None => false,
     }
 }
 

@@ -1,14 +1,16 @@
 //! Holes: bytes that neither a chunk nor a free chunk has, while chunks come and go.
-ghost use Rattle.std.specs.Prelude.{◌≡◌, ◌≢◌, ℕ, ◌+◌, ◌-◌, ◌*◌, ◌%◌, ◌<◌, ◌≤◌, ◌⊎◌, length, slice_set, MatchOption, IsTrue, ◌↔◌};
+ghost use Rattle.std.specs.Prelude.{◌≡◌, ◌≢◌, ℕ, ◌+◌, ◌-◌, ◌*◌, ◌%◌, ◌<◌, ◌≤◌, ◌⊎◌, length, slice_set, IfSome, IsTrue, None, Some, ◌↔◌};
 ghost use Rattle.lmem_raw.specs.Bytes.{part};
 ghost use Rattle.geos_model.specs.Bytes.{word};
 ghost use Rattle.geos_model.specs.Chunks.{cost, resized};
 ghost use Rattle.geos_model.specs.Block.{chunks, entries, entry, handle_word, table_end, total_free};
-ghost use Rattle.geos_model.specs.Heap.{IsHeap};
-ghost use Rattle.lmem_heap.specs.Holes.{GivesBack, IsBeside, IsOpen, Widens};
+ghost use Rattle.geos_model.specs.Heap.{IsHeap, IsOffset};
+ghost use Rattle.lmem_heap.specs.Packed.{chunk_end, chunk_length};
+ghost use Rattle.lmem_heap.specs.Holes.{FitsBehind, GivesBack, IsBeside, IsOpen, Widens};
 
-use crate::header::{FIRST_FREE, TOTAL_FREE};
-use crate::words::{get16, put16};
+use crate::chunks::cost;
+use crate::header::{FIRST_FREE, TOTAL_FREE, entry, put_entry};
+use crate::words::{clear, get16, put16};
 
 /// The bytes of a hole, and the link of the free list before it: the offset of the word that
 /// names the next free chunk, which is the header's or that of the last free chunk before the
@@ -34,6 +36,114 @@ impl Hole {
             next = get16(block, link) as usize;
         }
         Hole { link, at, end }
+    }
+
+    /// The first free chunk of at least this size, as what stands behind an empty hole.
+    pub(crate) fn first_fit(block: &[u8], size: usize) -> Option<Hole>
+        requires { IsHeap block.now }
+        ensures { IfSome result (λ hole. FitsBehind block.now hole.link hole.at hole.end size) }
+    {
+        let mut link = FIRST_FREE;
+        let mut next = get16(block, link) as usize;
+        while next != 0 {
+            if get16(block, next) as usize >= size {
+                return Some(Hole {
+                    link,
+                    at: next,
+                    end: next,
+                });
+            }
+            link = next + 2;
+            next = get16(block, link) as usize;
+        }
+        None
+    }
+
+    /// The hole that the chunk of an entry leaves. The entry is not in use then.
+    pub(crate) fn left_by(block: &mut [u8], i: usize) -> Hole
+        requires heap { IsHeap block.old }
+        requires known { i < entries block.old }
+        requires offset { IsOffset (entry block.old i) }
+        ensures hole { IsBeside block.new result.link result.at result.end }
+        ensures place { (result.at ≡ entry block.old i - 2) × (result.end ≡ chunk_end block.old i) }
+        ensures some { result.at < result.end }
+        ensures fours { result.end % 4 ≡ 0 }
+        ensures chunks { chunks block.new ≡ slice_set (chunks block.old) i None }
+        ensures handle { handle_word block.new ≡ handle_word block.old }
+        ensures count { entries block.new ≡ entries block.old }
+        ensures free { entry block.new i ≡ 0 }
+        ensures bytes { part block.new (entry block.old i) (chunk_length block.old i) ≡ part block.old (entry block.old i) (chunk_length block.old i) }
+    {
+        let begin = entry(block, i) as usize - 2;
+        let len = get16(block, begin) as usize - 2;
+        put_entry(block, i, 0);
+        Hole::at(block, begin, begin + cost(len))
+    }
+
+    /// Makes the front of the hole the chunk of an entry that is not in use. Its first `keep`
+    /// bytes are those that stand there, the others zeros. The rest of the hole is left.
+    pub(crate) fn fill(self, block: &mut [u8], i: usize, keep: usize, n: u16) -> Hole
+        requires hole { IsBeside block.old self.link self.at self.end }
+        requires some { 0 < n }
+        requires room { self.at + cost n ≤ self.end }
+        requires kept { self.at + 2 + keep ≤ length block.old }
+        requires known { i < entries block.old }
+        requires free { entry block.old i ≡ 0 }
+        ensures hole { IsBeside block.new result.link result.at result.end }
+        ensures place { (result.link ≡ self.link) × (result.at ≡ self.at + cost n) × (result.end ≡ self.end) }
+        ensures chunks { chunks block.new ≡ slice_set (chunks block.old) i (Some (resized (part block.old (self.at + 2) keep) n)) }
+        ensures handle { handle_word block.new ≡ handle_word block.old }
+    {
+        put_entry(block, i, (self.at + 2) as u16);
+        put16(block, self.at, n + 2);
+        let more = (n as usize).saturating_sub(keep);
+        clear(block, self.at + 2 + keep, more);
+        Hole {
+            link: self.link,
+            at: self.at + cost(n as usize),
+            end: self.end,
+        }
+    }
+
+    /// Takes so many bytes from the front of the free chunk behind the hole.
+    pub(crate) fn take(self, block: &mut [u8], size: usize) -> Hole
+        requires hole { IsBeside block.old self.link self.at self.end }
+        requires behind { word block.old self.link ≡ self.end }
+        requires some { 0 < size }
+        requires fours { size % 4 ≡ 0 }
+        requires room { size ≤ word block.old self.end }
+        ensures wider { Widens block.old block.new self.link self.at self.end result.end }
+        ensures place { (result.link ≡ self.link) × (result.at ≡ self.at) × (result.end ≡ self.end + size) }
+    {
+        if size == get16(block, self.end) as usize {
+            return self.take_whole(block);
+        }
+        self.take_front(block, size)
+    }
+
+    /// Takes bytes from the front of the free chunk behind the hole, fewer than it has.
+    fn take_front(self, block: &mut [u8], size: usize) -> Hole
+        requires hole { IsBeside block.old self.link self.at self.end }
+        requires behind { word block.old self.link ≡ self.end }
+        requires some { 0 < size }
+        requires fours { size % 4 ≡ 0 }
+        requires room { size < word block.old self.end }
+        ensures wider { Widens block.old block.new self.link self.at self.end result.end }
+        ensures place { (result.link ≡ self.link) × (result.at ≡ self.at) × (result.end ≡ self.end + size) }
+    {
+        let left = get16(block, self.end) - size as u16;
+        let next = get16(block, self.end + 2);
+        let total = get16(block, TOTAL_FREE);
+        let end = self.end + size;
+        put16(block, end, left);
+        put16(block, end + 2, next);
+        put16(block, self.link, end as u16);
+        put16(block, TOTAL_FREE, total - size as u16);
+        Hole {
+            link: self.link,
+            at: self.at,
+            end,
+        }
     }
 
     /// Makes the hole's bytes free: one free chunk with those that touch it.

@@ -2,11 +2,12 @@
 ghost use Rattle.std.specs.Prelude.{◌≡◌, ℕ, ◌+◌, ◌*◌, ◌<◌, ◌≤◌, [], ◌∷◌, ◌++◌, length};
 ghost use Rattle.geos_model.specs.Chunks.{lowest_entry};
 ghost use Rattle.geos_model.specs.Block.{chunks, entries, entry, handle_word, table_end, total_free};
+ghost use Rattle.geos_model.specs.Heap.{IsHeap};
 ghost use Rattle.lmem_heap.specs.Packed.{GrowsTable, IsPacked};
 
 use crate::header::{ENTRIES, entries, entry, table_end};
 use crate::runs::move_run;
-use crate::tail::{chunks_end, set_tail};
+use crate::tail::{chunks_end, pack, set_tail};
 use crate::words::put16;
 
 /// The lowest entry that is not in use, or the number of entries where all are.
@@ -27,17 +28,19 @@ pub(crate) fn lowest_entry(block: &[u8]) -> usize
 
 /// Gives the table two more entries. The chunks move up to make room.
 pub(crate) fn add_entries(block: &mut [u8])
-    requires packed { IsPacked block.old }
+    requires heap { IsHeap block.old }
     requires room { 4 ≤ total_free block.old }
-    ensures packed { IsPacked block.new }
+    ensures heap { IsHeap block.new }
     ensures chunks { chunks block.new ≡ chunks block.old ++ (None ∷ (None ∷ [])) }
     ensures handle { handle_word block.new ≡ handle_word block.old }
     ensures count { entries block.new ≡ entries block.old + 2 }
     ensures fresh { entry block.new (entries block.old) ≡ 0 }
 {
+    pack(block);
     grow_table(block);
 }
 
+/// Gives the table of a packed heap two more entries.
 fn grow_table(block: &mut [u8])
     requires packed { IsPacked block.old }
     requires room { 4 ≤ total_free block.old }

@@ -3,14 +3,13 @@ use Rattle.geos_model.specs.Chunks.{lowest_entry}
 use Rattle.geos_model.specs.Block.{chunks, entry}
 use Rattle.geos_model.proofs.Sums.{count-chunks}
 use Rattle.geos_model.proofs.Lowest.{block-used, used-full, entry-full, entry-room, lowest-within, lowest-free}
-use Rattle.lmem_heap.proofs.PackedHeaps.{packed-heap}
 use Rattle.lmem_heap.proofs.allocate.make_entry.Goals as goal
 
 pub add_entries-requires-clause-room : goal.add_entries-requires-clause-room
 add_entries-requires-clause-room c =
     let b = c.args.block.now in
     let full : lowest_entry (chunks b) ≡ length (chunks b) = sym c.requires.lowest ∙ c.if-i-entries.true ∙ c.entries.ensures.value ∙ sym (count-chunks b) in
-    let u = used-full (chunks b) 0 full in omega (arith, u.0, block-used b (packed-heap b c.requires.packed), c.requires.room)
+    let u = used-full (chunks b) 0 full in omega (arith, u.0, block-used b c.requires.heap, c.requires.room)
 
 pub returns-then-i-entries-clause-chunks : goal.returns-then-i-entries-clause-chunks
 returns-then-i-entries-clause-chunks c =
