@@ -18,4 +18,5 @@ pub mod Giving
 pub mod Filling
 pub mod Taking
 pub mod Unplaced
+pub mod Refits
 pub mod Enlarging

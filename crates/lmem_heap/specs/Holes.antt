@@ -1,6 +1,7 @@
 -- Bytes that no piece has, and the free list that passes over them.
 use Rattle.std.specs.Prelude.{◌≡◌, ◌≢◌, ℕ, ◌+◌, ◌-◌, ◌%◌, ◌<◌, ◌≤◌, ◌⊎◌, List, [], ◌∷◌, ◌++◌, length, replicate, slice_set, Some}
 use Rattle.geos_model.specs.Bytes.{word, IsShifted}
+use Rattle.lmem_heap.specs.Changes.{entry_resized}
 use Rattle.geos_model.specs.Block.{chunks, entry, entries, handle_word, table_end, first_free, total_free}
 use Rattle.geos_model.specs.Heap.{Piece, Free, Tiles, HasChunk, IsOffset, AreUsed, IsHeader, IsHeap, free_bytes}
 
@@ -74,4 +75,21 @@ pub record GivesBack (old new : List ℕ) : Type 0 where
 pub record PlacesChunk (old new : List ℕ) (i n : ℕ) : Type 0 where
   pub heap : IsHeap new
   pub chunks : chunks new ≡ slice_set (chunks old) i (Some (replicate n 0))
+  pub handle : handle_word new ≡ handle_word old
+
+-- the hole has at least this size, in a block with the same chunks
+pub record MakesRoom (old new : List ℕ) (end size link at to : ℕ) : Type 0 where
+  pub beside : IsBeside new link at to
+  pub room : at + size ≤ to
+  pub fours : to % 4 ≡ 0
+  pub chunks : chunks new ≡ chunks old
+  pub handle : handle_word new ≡ handle_word old
+  pub count : entries new ≡ entries old
+  pub each : (j : ℕ) → j < entries old → entry new j ≡ entry old j
+  pub bytes : IsShifted old new 0 0 at end
+
+-- the chunk of an entry has n bytes now
+pub record ResizesChunk (old new : List ℕ) (i n : ℕ) : Type 0 where
+  pub heap : IsHeap new
+  pub chunks : chunks new ≡ entry_resized (chunks old) i n
   pub handle : handle_word new ≡ handle_word old

@@ -3,7 +3,7 @@ ghost use Rattle.std.specs.Prelude.{◌≡◌, ◌≢◌, ℕ, ◌+◌, ◌-◌,
 ghost use Rattle.geos_model.specs.Chunks.{cost, cost_of, entry_bytes, resized};
 ghost use Rattle.geos_model.specs.Block.{chunks, entries, entry, handle_word, table_end, total_free};
 ghost use Rattle.geos_model.specs.Heap.{IsHeap, IsOffset};
-ghost use Rattle.lmem_heap.specs.Holes.{PlacesChunk};
+ghost use Rattle.lmem_heap.specs.Holes.{GivesBack, PlacesChunk, ResizesChunk};
 ghost use Rattle.lmem_heap.specs.Changes.{entry_resized};
 ghost use Rattle.lmem_heap.specs.Packed.{chunks_end, chunk_end, chunk_length, EditsChunk, HasResized, IsPacked, PutsChunk};
 
@@ -108,39 +108,6 @@ fn place_chunk(block: &mut [u8], i: usize, n: u16) -> bool
     }
 }
 
-/// Takes the chunk of an entry away. The entry is not in use then, and its bytes are free.
-pub(crate) fn remove_chunk(block: &mut [u8], i: usize)
-    requires packed { IsPacked block.old }
-    requires known { i < entries block.old }
-    requires used { entry block.old i ≢ 0 }
-    ensures packed { IsPacked block.new }
-    ensures chunks { chunks block.new ≡ slice_set (chunks block.old) i None }
-    ensures handle { handle_word block.new ≡ handle_word block.old }
-    ensures count { entries block.new ≡ entries block.old }
-    ensures free { entry block.new i ≡ 0 }
-{
-    if entry(block, i) == NO_BYTE {
-        put_entry(block, i, 0);
-    } else {
-        take_out(block, i);
-    }
-}
-
-/// Takes a chunk out, and moves those behind it to where it began.
-fn take_out(block: &mut [u8], i: usize)
-    requires packed { IsPacked block.old }
-    requires known { i < entries block.old }
-    requires offset { IsOffset (entry block.old i) }
-    ensures edit { EditsChunk block.old block.new i (entry block.old i - 2) }
-    ensures gone { entry block.new i ≡ 0 }
-{
-    let chunk = Extent::of(block, i);
-    let at = chunks_end(block);
-    move_run(block, chunk.end, at, chunk.begin);
-    put_entry(block, i, 0);
-    set_tail(block, chunk.begin + (at - chunk.end));
-}
-
 /// Gives an entry that is not in use a chunk of n zero bytes.
 pub(crate) fn put_chunk(block: &mut [u8], i: usize, n: u16)
     requires packed { IsPacked block.old }
@@ -173,34 +140,64 @@ fn put_behind(block: &mut [u8], i: usize, n: u16)
     set_tail(block, at + cost(n as usize));
 }
 
-/// Gives a chunk n bytes: the first ones that fit, and zeros behind them.
+/// Gives a chunk n bytes: the first ones that fit, and zeros behind them. Where the free chunk
+/// behind it is not large enough, the others move.
 pub(crate) fn resize_chunk(block: &mut [u8], i: usize, n: u16)
-    requires packed { IsPacked block.old }
+    requires heap { IsHeap block.old }
     requires known { i < entries block.old }
     requires used { entry block.old i ≢ 0 }
     requires room { cost n ≤ total_free block.old + cost_of (slice_index_or (chunks block.old) i None) }
-    ensures packed { IsPacked block.new }
+    ensures heap { IsHeap block.new }
     ensures chunks { chunks block.new ≡ entry_resized (chunks block.old) i n }
     ensures handle { handle_word block.new ≡ handle_word block.old }
 {
-    let at = entry(block, i);
-    if n == 0 || at == NO_BYTE {
-        remove_chunk(block, i);
-        put_chunk(block, i, n);
-    } else {
-        resize_in_place(block, i, n);
+    if n == 0 || entry(block, i) == NO_BYTE {
+        release_chunk(block, i);
+        new_chunk(block, i, n);
+        return;
+    }
+    if resize_beside(block, i, n) {
+        return;
+    }
+    pack(block);
+    resize_in_place(block, i, n);
+}
+
+/// Gives a chunk another length where it stands, and leaves the others where they are. False
+/// where the free chunk behind it is not large enough; then no chunk is changed.
+fn resize_beside(block: &mut [u8], i: usize, n: u16) -> bool
+    requires heap { IsHeap block.old }
+    requires known { i < entries block.old }
+    requires offset { IsOffset (entry block.old i) }
+    requires some { 0 < n }
+    ensures { MatchBool result (ResizesChunk block.old block.new i n) (GivesBack block.old block.new) }
+{
+    let at = entry(block, i) as usize;
+    let len = get16(block, at - 2) - 2;
+    let hole = Hole::left_by(block, i);
+    match hole.widen(block, cost(n as usize)) {
+        Some(wide) => {
+            let rest = wide.fill(block, i, len as usize, n);
+            rest.give_back(block);
+            true
+        }
+        None => {
+            hole.fill(block, i, len as usize, len);
+            false
+        }
     }
 }
 
-/// Gives a chunk another length where it stands, and moves those behind it.
+/// Gives a chunk of a packed heap another length where it stands, and moves those behind it.
 fn resize_in_place(block: &mut [u8], i: usize, n: u16)
     requires packed { IsPacked block.old }
     requires known { i < entries block.old }
     requires offset { IsOffset (entry block.old i) }
     requires some { 0 < n }
     requires room { cost n ≤ total_free block.old + cost (chunk_length block.old i) }
-    ensures edit { EditsChunk block.old block.new i (entry block.old i - 2 + cost n) }
-    ensures resized { HasResized block.old block.new i n }
+    ensures heap { IsHeap block.new }
+    ensures chunks { chunks block.new ≡ entry_resized (chunks block.old) i n }
+    ensures handle { handle_word block.new ≡ handle_word block.old }
 {
     let chunk = Extent::of(block, i);
     let at = chunks_end(block);

@@ -1,12 +1,12 @@
 //! Holes: bytes that neither a chunk nor a free chunk has, while chunks come and go.
-ghost use Rattle.std.specs.Prelude.{◌≡◌, ◌≢◌, ℕ, ◌+◌, ◌-◌, ◌*◌, ◌%◌, ◌<◌, ◌≤◌, ◌⊎◌, length, slice_set, IfSome, IsTrue, None, Some, ◌↔◌};
+ghost use Rattle.std.specs.Prelude.{◌≡◌, ◌≢◌, ℕ, ◌+◌, ◌-◌, ◌*◌, ◌%◌, ◌<◌, ◌≤◌, ◌⊎◌, length, slice_set, IfSome, MatchOption, IsTrue, None, Some, ◌↔◌};
 ghost use Rattle.lmem_raw.specs.Bytes.{part};
 ghost use Rattle.geos_model.specs.Bytes.{word};
 ghost use Rattle.geos_model.specs.Chunks.{cost, resized};
 ghost use Rattle.geos_model.specs.Block.{chunks, entries, entry, handle_word, table_end, total_free};
 ghost use Rattle.geos_model.specs.Heap.{IsHeap, IsOffset};
 ghost use Rattle.lmem_heap.specs.Packed.{chunk_end, chunk_length};
-ghost use Rattle.lmem_heap.specs.Holes.{FitsBehind, GivesBack, IsBeside, IsOpen, Widens};
+ghost use Rattle.lmem_heap.specs.Holes.{FitsBehind, GivesBack, IsBeside, IsOpen, MakesRoom, Widens};
 
 use crate::chunks::cost;
 use crate::header::{FIRST_FREE, TOTAL_FREE, entry, put_entry};
@@ -105,6 +105,27 @@ impl Hole {
         }
     }
 
+    /// Makes the hole this large, with bytes of the free chunk behind it where it is smaller.
+    /// None where they are not enough; then nothing is changed.
+    pub(crate) fn widen(self, block: &mut [u8], size: usize) -> Option<Hole>
+        requires hole { IsBeside block.old self.link self.at self.end }
+        requires fours { (self.end % 4 ≡ 0) × (size % 4 ≡ 0) }
+        ensures at { IfSome result (λ hole. hole.at ≡ self.at) }
+        ensures room { MatchOption result (block.new ≡ block.old) (λ hole. MakesRoom block.old block.new self.end size hole.link hole.at hole.end) }
+    {
+        let has = self.end - self.at;
+        if has >= size {
+            return Some(self);
+        }
+        if get16(block, self.link) as usize != self.end {
+            return None;
+        }
+        if (get16(block, self.end) as usize) < size - has {
+            return None;
+        }
+        Some(self.take(block, size - has))
+    }
+
     /// Takes so many bytes from the front of the free chunk behind the hole.
     pub(crate) fn take(self, block: &mut [u8], size: usize) -> Hole
         requires hole { IsBeside block.old self.link self.at self.end }
@@ -149,10 +170,12 @@ impl Hole {
     /// Makes the hole's bytes free: one free chunk with those that touch it.
     pub(crate) fn give_back(self, block: &mut [u8])
         requires hole { IsBeside block.old self.link self.at self.end }
-        requires some { self.at < self.end }
         requires fours { self.end % 4 ≡ 0 }
         ensures { GivesBack block.old block.new }
     {
+        if self.at == self.end {
+            return;
+        }
         let hole = self.merge_behind(block);
         if hole.touches_before(block) {
             hole.merge_before(block);

@@ -14,7 +14,6 @@ use crate::chunks::resize_chunk;
 use crate::error::{DeleteError, InsertError, ReallocError, RoomError};
 use crate::look::{find, place_of_entry};
 use crate::room::{room_for, used_with};
-use crate::tail::pack;
 use crate::words::{clear, move_bytes};
 
 /// Gives a chunk `n` bytes: its first ones that fit, and zeros behind them. Other chunks may
@@ -80,7 +79,6 @@ pub fn delete(block: &mut [u8], c: u16, at: u16, n: u16) -> Result<(), DeleteErr
         return Err(DeleteError::Range);
     }
     close_bytes(block, i, at, n);
-    pack(block);
     resize_chunk(block, i, (len - n) as u16);
     Ok(())
 }
@@ -100,7 +98,6 @@ fn resize(block: &mut [u8], i: usize, n: usize) -> Result<(), RoomError>
 {
     let used = used_with(block, i, n);
     room_for(used, block.len())?;
-    pack(block);
     resize_chunk(block, i, n as u16);
     Ok(())
 }

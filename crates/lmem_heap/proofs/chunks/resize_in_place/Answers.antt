@@ -1,10 +1,13 @@
-use Rattle.std.proofs.Common.{◌≡◌, ◌+◌, ◌-◌, replicate, ap, subst, ℕ, arith}
+use Rattle.std.proofs.Common.{◌≡◌, ◌+◌, ◌-◌, ◌∙◌, sym, [], Some, unwrap_or, set, replicate, ap, subst, ℕ, arith}
+use Rattle.geos_model.proofs.Headers.{head-word}
+use Rattle.geos_model.specs.Block.{chunks}
+use Rattle.lmem_heap.proofs.Edits.{resized-packed, resized-chunks, chunk-bytes}
 use Rattle.lmem_raw.specs.Bytes.{with_part}
-use Rattle.geos_model.specs.Chunks.{cost}
+use Rattle.geos_model.specs.Chunks.{cost, resized}
 use Rattle.geos_model.proofs.Costs.{cost-fours, cost-least}
 use Rattle.lmem_heap.specs.Moves.{MovesRun}
 use Rattle.lmem_heap.specs.Packed.{SetsTail}
-use Rattle.lmem_heap.proofs.PackedHeaps.{bounds}
+use Rattle.lmem_heap.proofs.PackedHeaps.{bounds, packed-heap}
 use Rattle.lmem_heap.proofs.Making.{resized-in-place}
 use Rattle.lmem_heap.proofs.chunks.resize_in_place.Goals as goal
 
@@ -24,18 +27,33 @@ set_tail-requires-clause-fours c =
     let len = ap cost k.len in let r = c.requires.room in
     omega (arith, f, g, len, r, k.wide, k.high, bs.room, bs.fours, c.chunks_end-at.ensures, c.cost.ensures, c.clear.auto.block, c.put16.auto.block, c.move_run.auto.block)
 
-pub returns-clause-edit : goal.returns-clause-edit
-returns-clause-edit c =
-    let M : ℕ → Type 0 = λ x. MovesRun c.args.block.now c.move_run.new.block c.of-chunk.result.end c.chunks_end-at.result (c.of-chunk.result.begin + x) in
+pub returns-clause-heap : goal.returns-clause-heap
+returns-clause-heap c =
+    let b = c.args.block.now in
+    let M : ℕ → Type 0 = λ x. MovesRun b c.move_run.new.block c.of-chunk.result.end c.chunks_end-at.result (c.of-chunk.result.begin + x) in
     let W : ℕ → Type 0 = λ x. c.clear.new.block ≡ with_part c.put16.new.block (c.of-chunk.result.begin + 2 + c.of-chunk.result.len) (replicate x 0) in
     let T : ℕ → Type 0 = λ x. SetsTail c.clear.new.block c.set_tail.new.block (c.of-chunk.result.begin + x + (c.chunks_end-at.result - c.of-chunk.result.end)) in
-    (resized-in-place c.args.block.now c.move_run.new.block c.put16.new.block c.clear.new.block c.set_tail.new.block c.args.i c.chunks_end-at.result c.args.n c.of-chunk.result c.requires.packed c.requires.known c.of-chunk.ensures c.chunks_end-at.ensures c.requires.some c.requires.room
-    (subst M c.cost.ensures c.move_run.ensures) c.put16.ensures (subst W c.saturating_sub-more.ensures c.clear.ensures) (subst T c.cost.ensures c.set_tail.ensures)).0
+    let r = resized-in-place b c.move_run.new.block c.put16.new.block c.clear.new.block c.set_tail.new.block c.args.i c.chunks_end-at.result c.args.n c.of-chunk.result c.requires.packed c.requires.known c.of-chunk.ensures c.chunks_end-at.ensures c.requires.some c.requires.room
+    (subst M c.cost.ensures c.move_run.ensures) c.put16.ensures (subst W c.saturating_sub-more.ensures c.clear.ensures) (subst T c.cost.ensures c.set_tail.ensures) in
+    packed-heap c.set_tail.new.block (resized-packed b c.set_tail.new.block c.args.i c.args.n c.requires.packed c.requires.known c.requires.offset c.requires.some c.requires.room r.0 r.1)
 
-pub returns-clause-resized : goal.returns-clause-resized
-returns-clause-resized c =
-    let M : ℕ → Type 0 = λ x. MovesRun c.args.block.now c.move_run.new.block c.of-chunk.result.end c.chunks_end-at.result (c.of-chunk.result.begin + x) in
+pub returns-clause-chunks : goal.returns-clause-chunks
+returns-clause-chunks c =
+    let b = c.args.block.now in
+    let M : ℕ → Type 0 = λ x. MovesRun b c.move_run.new.block c.of-chunk.result.end c.chunks_end-at.result (c.of-chunk.result.begin + x) in
     let W : ℕ → Type 0 = λ x. c.clear.new.block ≡ with_part c.put16.new.block (c.of-chunk.result.begin + 2 + c.of-chunk.result.len) (replicate x 0) in
     let T : ℕ → Type 0 = λ x. SetsTail c.clear.new.block c.set_tail.new.block (c.of-chunk.result.begin + x + (c.chunks_end-at.result - c.of-chunk.result.end)) in
-    (resized-in-place c.args.block.now c.move_run.new.block c.put16.new.block c.clear.new.block c.set_tail.new.block c.args.i c.chunks_end-at.result c.args.n c.of-chunk.result c.requires.packed c.requires.known c.of-chunk.ensures c.chunks_end-at.ensures c.requires.some c.requires.room
-    (subst M c.cost.ensures c.move_run.ensures) c.put16.ensures (subst W c.saturating_sub-more.ensures c.clear.ensures) (subst T c.cost.ensures c.set_tail.ensures)).1
+    let r = resized-in-place b c.move_run.new.block c.put16.new.block c.clear.new.block c.set_tail.new.block c.args.i c.chunks_end-at.result c.args.n c.of-chunk.result c.requires.packed c.requires.known c.of-chunk.ensures c.chunks_end-at.ensures c.requires.some c.requires.room
+    (subst M c.cost.ensures c.move_run.ensures) c.put16.ensures (subst W c.saturating_sub-more.ensures c.clear.ensures) (subst T c.cost.ensures c.set_tail.ensures) in
+    resized-chunks b c.set_tail.new.block c.args.i c.args.n c.requires.packed c.requires.known c.requires.offset c.requires.some c.requires.room r.0 r.1
+    ∙ ap (λ x. set (chunks b) c.args.i (Some (resized (unwrap_or x []) c.args.n))) (sym (chunk-bytes b c.args.i c.requires.known c.requires.offset))
+
+pub returns-clause-handle : goal.returns-clause-handle
+returns-clause-handle c =
+    let b = c.args.block.now in
+    let M : ℕ → Type 0 = λ x. MovesRun b c.move_run.new.block c.of-chunk.result.end c.chunks_end-at.result (c.of-chunk.result.begin + x) in
+    let W : ℕ → Type 0 = λ x. c.clear.new.block ≡ with_part c.put16.new.block (c.of-chunk.result.begin + 2 + c.of-chunk.result.len) (replicate x 0) in
+    let T : ℕ → Type 0 = λ x. SetsTail c.clear.new.block c.set_tail.new.block (c.of-chunk.result.begin + x + (c.chunks_end-at.result - c.of-chunk.result.end)) in
+    let r = resized-in-place b c.move_run.new.block c.put16.new.block c.clear.new.block c.set_tail.new.block c.args.i c.chunks_end-at.result c.args.n c.of-chunk.result c.requires.packed c.requires.known c.of-chunk.ensures c.chunks_end-at.ensures c.requires.some c.requires.room
+    (subst M c.cost.ensures c.move_run.ensures) c.put16.ensures (subst W c.saturating_sub-more.ensures c.clear.ensures) (subst T c.cost.ensures c.set_tail.ensures) in
+    head-word b c.set_tail.new.block 12 0 r.0.head (omega arith)

@@ -8,7 +8,6 @@ use Rattle.geos_model.proofs.Sums.{count-chunks}
 use Rattle.geos_model.proofs.Lowest.{item-bytes, item-set, in-use-set, set-bytes, set-twice}
 use Rattle.geos_model.proofs.Nexts.{some-chunk}
 use Rattle.geos_model.proofs.Resizes.{closed-without}
-use Rattle.lmem_heap.proofs.PackedHeaps.{packed-heap}
 use Rattle.lmem_heap.proofs.Shifts.{entry-length}
 use Rattle.lmem_heap.proofs.resize.delete.Goals as goal
 
@@ -24,10 +23,10 @@ close_bytes-requires-clause-within c =
     let l = entry-length b i _ f.1 p.place p.within in omega (arith, l, c.if-at-n.false)
 
 pub resize_chunk-requires-clause-known : goal.resize_chunk-requires-clause-known
-resize_chunk-requires-clause-known c = (in-use-set c.args.block.now c.pack.new.block c.in_ok-i.i _ (c.pack.ensures.chunks ∙ c.close_bytes.ensures.chunks) c.in_ok-i.ensures.found.1).0
+resize_chunk-requires-clause-known c = (in-use-set c.args.block.now c.close_bytes.new.block c.in_ok-i.i _ c.close_bytes.ensures.chunks c.in_ok-i.ensures.found.1).0
 
 pub resize_chunk-requires-clause-used : goal.resize_chunk-requires-clause-used
-resize_chunk-requires-clause-used c = (in-use-set c.args.block.now c.pack.new.block c.in_ok-i.i _ (c.pack.ensures.chunks ∙ c.close_bytes.ensures.chunks) c.in_ok-i.ensures.found.1).1
+resize_chunk-requires-clause-used c = (in-use-set c.args.block.now c.close_bytes.new.block c.in_ok-i.i _ c.close_bytes.ensures.chunks c.in_ok-i.ensures.found.1).1
 
 pub resize_chunk-requires-clause-room : goal.resize_chunk-requires-clause-room
 resize_chunk-requires-clause-room c =
@@ -35,20 +34,17 @@ resize_chunk-requires-clause-room c =
     let at = c.args.at in let n = c.args.n in let bytes = entry_bytes (chunks b) i in let len = c.place_of_entry-len.result.1 in
     let l : length bytes ≡ len = entry-length b i _ f.1 p.place p.within in
     let moved = with_part bytes at (part bytes (at + n) (length bytes - (at + n))) in
-    let here : cost_of (get_or (chunks c.pack.new.block) i None) ≡ cost len = ap (λ xs. cost_of (get_or xs i None)) (c.pack.ensures.chunks ∙ c.close_bytes.ensures.chunks)
+    let here : cost_of (get_or (chunks c.close_bytes.new.block) i None) ≡ cost len = ap (λ xs. cost_of (get_or xs i None)) c.close_bytes.ensures.chunks
     ∙ ap cost_of (get_or-set_same (chunks b) i (Some moved) None (omega (arith, count))) ∙ ap cost (length-with_part bytes at (part bytes (at + n) (length bytes - (at + n))) ∙ l) in
     omega (arith, here, cost-mono (len - n) len (omega arith))
-
-pub returns-clause-heap : goal.returns-clause-heap
-returns-clause-heap c = packed-heap c.resize_chunk.new.block c.resize_chunk.ensures.packed
 
 pub returns-clause-ok : goal.returns-clause-ok
 returns-clause-ok c =
     let b = c.args.block.now in let f = c.in_ok-i.ensures.found in let i = c.in_ok-i.i in let p = c.place_of_entry-len.ensures in let count = count-chunks b in let known = f.1 in
-    let at = c.args.at in let n = c.args.n in let cs = chunks b in let bytes = entry_bytes cs i in let len = c.place_of_entry-len.result.1 in let d = c.pack.new.block in
+    let at = c.args.at in let n = c.args.n in let cs = chunks b in let bytes = entry_bytes cs i in let len = c.place_of_entry-len.result.1 in let d = c.close_bytes.new.block in
     let l : length bytes ≡ len = entry-length b i _ f.1 p.place p.within in let e = ap length (item-bytes b c.args.c i f.0 f.1) in
     let moved = with_part bytes at (part bytes (at + n) (length bytes - (at + n))) in
-    let before : chunks d ≡ set cs i (Some moved) = c.pack.ensures.chunks ∙ c.close_bytes.ensures.chunks in
+    let before : chunks d ≡ set cs i (Some moved) = c.close_bytes.ensures.chunks in
     let now : entry_bytes (chunks d) i ≡ moved = ap (λ xs. entry_bytes xs i) before ∙ set-bytes cs i moved (omega (arith, count)) in
     let same : resized moved (len - n) ≡ without_part bytes at n = ap (λ m. resized moved (m - n)) (sym l) ∙ closed-without bytes at n (omega (arith, l, c.if-at-n.false)) in (
       some-chunk b i c.args.c f.1 f.2 f.0,

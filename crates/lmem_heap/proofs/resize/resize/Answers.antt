@@ -4,8 +4,7 @@ use Rattle.geos_model.specs.Chunks.{cost, cost_of, used_bytes}
 use Rattle.geos_model.specs.Block.{chunks}
 use Rattle.geos_model.proofs.Costs.{cost-over}
 use Rattle.geos_model.proofs.Sums.{count-chunks}
-use Rattle.geos_model.proofs.Lowest.{block-used, used-set, in-use-same}
-use Rattle.lmem_heap.proofs.PackedHeaps.{packed-heap}
+use Rattle.geos_model.proofs.Lowest.{block-used, used-set}
 use Rattle.lmem_heap.proofs.resize.resize.Goals as goal
 
 pub overflow_cast-n : goal.overflow_cast-n
@@ -16,20 +15,10 @@ overflow_cast-n c =
     let u = c.used_with-used.ensures.value (replicate n 0) long in
     omega (arith, s, t, u, m, cost-over n, c.in_ok-room_for.ensures.0, c.requires.heap.0.most)
 
-pub resize_chunk-requires-clause-known : goal.resize_chunk-requires-clause-known
-resize_chunk-requires-clause-known c = (in-use-same c.args.block.now c.pack.new.block c.args.i c.pack.ensures.chunks c.requires.known c.requires.used).0
-
-pub resize_chunk-requires-clause-used : goal.resize_chunk-requires-clause-used
-resize_chunk-requires-clause-used c = (in-use-same c.args.block.now c.pack.new.block c.args.i c.pack.ensures.chunks c.requires.known c.requires.used).1
-
 pub resize_chunk-requires-clause-room : goal.resize_chunk-requires-clause-room
 resize_chunk-requires-clause-room c =
-    let b = c.args.block.now in let d = c.pack.new.block in let n = c.args.n in let cs = chunks b in let known = c.requires.known in let count = count-chunks b in
+    let b = c.args.block.now in let n = c.args.n in let cs = chunks b in let known = c.requires.known in let count = count-chunks b in
     let long = length-replicate {A = ℕ} n 0 in let m = ap cost long in
     let s = used-set cs c.args.i (Some (replicate n 0)) (omega (arith, count)) in
-    let u = c.used_with-used.ensures.value (replicate n 0) long in let v = block-used d (packed-heap d c.pack.ensures.packed) in
-    let e = ap used_bytes c.pack.ensures.chunks in let f = ap (λ xs. cost_of (get_or xs c.args.i None)) c.pack.ensures.chunks in
-    omega (arith, s, u, v, e, f, m, c.in_ok-room_for.ensures.0, c.pack.auto.block)
-
-pub returns-clause-heap : goal.returns-clause-heap
-returns-clause-heap c = packed-heap c.resize_chunk.new.block c.resize_chunk.ensures.packed
+    let u = c.used_with-used.ensures.value (replicate n 0) long in let v = block-used b c.requires.heap in
+    omega (arith, s, u, v, m, c.in_ok-room_for.ensures.0)
