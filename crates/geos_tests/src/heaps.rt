@@ -76,6 +76,85 @@ fn makes_a_fresh_block(rt: HostRuntime) -> Result<(), Fail> {
     Ok(())
 }
 
+/// A block of 64 bytes with two chunks of 10 bytes, the first of which is freed. The second one's
+/// bytes are 1 to 10.
+fn with_a_free_chunk(rt: &impl Abort) -> [u8; 64]
+    ensures { IsHeap result }
+{
+    let mut block = [0; 64];
+    init(&mut block, 1);
+    assert_eq!(rt; alloc(&mut block, 10), Ok(16));
+    assert_eq!(rt; alloc(&mut block, 10), Ok(18));
+    count_into(rt, &mut block, 18);
+    assert!(rt; check(&block));
+    assert_eq!(rt; free(&mut block, 16), Ok(()));
+    block
+}
+
+/// The word at an even offset, and the one behind it.
+fn two_words(block: &[u8; 64], at: usize) -> [u8; 4]
+    requires { at ≤ 60 }
+{
+    [block[at], block[at + 1], block[at + 2], block[at + 3]]
+}
+
+const COUNTED: ([u8; 16], usize) = ([1, 2, 3, 4, 5, 6, 7, 8, 9, 10, 0, 0, 0, 0, 0, 0], 10);
+
+#[test]
+fn leaves_free_chunks_where_they_arise(rt: HostRuntime) -> Result<(), Fail> {
+    let block = with_a_free_chunk(&rt);
+    let words = [1, 16, 0, 0, 64, 2, 20, 32, 0, 34];
+    for (i, word) in words.iter().enumerate() {
+        assert_eq!(rt; block[2 * i], *word);
+        assert_eq!(rt; block[2 * i + 1], 0);
+    }
+    assert_eq!(rt; two_words(&block, 20), [12, 0, 44, 0]);
+    assert_eq!(rt; two_words(&block, 44), [20, 0, 0, 0]);
+    assert!(rt; check(&block));
+    Ok(())
+}
+
+#[test]
+fn takes_the_front_of_a_free_chunk(rt: HostRuntime) -> Result<(), Fail> {
+    let mut block = with_a_free_chunk(&rt);
+    assert_eq!(rt; alloc(&mut block, 4), Ok(16));
+    assert_eq!(rt; place(&block, 16), Ok((22, 4)));
+    assert_eq!(rt; place(&block, 18), Ok((34, 10)));
+    assert_eq!(rt; total_free(&block), 24);
+    assert_eq!(rt; bytes_of(&rt, &block, 18), COUNTED);
+    Ok(())
+}
+
+#[test]
+fn compacts_where_no_free_chunk_is_large_enough(rt: HostRuntime) -> Result<(), Fail> {
+    let mut block = with_a_free_chunk(&rt);
+    assert_eq!(rt; alloc(&mut block, 20), Ok(16));
+    assert_eq!(rt; total_free(&block), 8);
+    assert_eq!(rt; bytes_of(&rt, &block, 18), COUNTED);
+    Ok(())
+}
+
+#[test]
+fn merges_free_chunks(rt: HostRuntime) -> Result<(), Fail> {
+    let mut block = with_a_free_chunk(&rt);
+    assert_eq!(rt; free(&mut block, 18), Ok(()));
+    assert_eq!(rt; two_words(&block, 20), [44, 0, 0, 0]);
+    assert_eq!(rt; total_free(&block), 44);
+    assert!(rt; check(&block));
+    Ok(())
+}
+
+#[test]
+fn contracts_to_one_free_chunk(rt: HostRuntime) -> Result<(), Fail> {
+    let mut block = with_a_free_chunk(&rt);
+    contract(&mut block);
+    assert_eq!(rt; two_words(&block, 16), [0, 0, 22, 0]);
+    assert_eq!(rt; two_words(&block, 32), [32, 0, 0, 0]);
+    assert_eq!(rt; total_free(&block), 32);
+    assert_eq!(rt; bytes_of(&rt, &block, 18), COUNTED);
+    Ok(())
+}
+
 #[test]
 fn needs_a_larger_block_for_a_third_chunk(rt: HostRuntime) -> Result<(), Fail> {
     let mut small = [0xaa; 64];

@@ -56,7 +56,7 @@ left-hole b c i heap h t is =
     let here : entry c i ≡ 0 = ap (λ x. entry x i) is ∙ word-same b (16 + 2 * i) 0 (omega arith) (omega arith) in
     let each : (j : ℕ) → j ≢ i → entry c j ≡ entry b j = (λ j ne. other-entry b c i j 0 is ne) in
     let far : (lo hi : ℕ) → table_end b ≤ lo → IsShifted b c 0 0 lo hi = (λ lo hi g j k q u v. let same : j ≡ k = omega arith in
-        ap (λ x. get_or c x 0) same ∙ ap (λ x. get_or x k 0) is ∙ byte-other b (16 + 2 * i) 0 k (inr (omega arith))) in
+    ap (λ x. get_or c x 0) same ∙ ap (λ x. get_or x k 0) is ∙ byte-other b (16 + 2 * i) 0 k (inr (omega arith))) in
     let apart : (j : ℕ) → (entry b j ≡ e → ⊥) → j ≢ i = (λ j no same. no (ap (λ x. entry b x) same)) in
     let pre : Tiles c (table_end b) (word b 12) r.pre (e - 2) r.g = tiles-kept b c (table_end b) (word b 12) r.pre (e - 2) r.g r.before (far (table_end b) (e - 2) (omega arith)) (omega (arith, n)) (λ j l a z. each j (apart j (λ q. absurd (omega arith)))) in
     let post : Tiles c (e - 2 + cost r.n) r.g r.post (length b) 0 = tiles-kept b c (e - 2 + cost r.n) r.g r.post (length b) 0 r.behind (far (e - 2 + cost r.n) (length b) (omega arith)) (omega (arith, n)) (λ j l a z. each j (apart j (λ q. absurd (omega arith)))) in
@@ -66,7 +66,7 @@ left-hole b c i heap h t is =
     let E : ℕ → Type 0 = λ x. Tiles c x r.g r.post (length b) 0 in let L : ℕ → Type 0 = λ x. Tiles c (chunk_end b i) r.g r.post x 0 in
     let start_fours : table_end b % 4 ≡ 0 = (let pairs = heap.0.pairs in omega (arith, pairs)) in
     let split : (j : ℕ) → j < entries b → IsOffset (entry b j) → j ≢ i → HasChunk j r.pre ⊎ HasChunk j r.post = (λ j l u ne. let H : List Piece → Type 0 = λ ps. HasChunk j ps in
-        elim (has-split j r.pre (Used i r.n ∷ r.post) (subst H r.is (fill.all j l u))) [ inl x ↦ inl x | inr x ↦ elim x [ inl z ↦ absurd (ne z) | inr y ↦ inr y ] ]) in
+    elim (has-split j r.pre (Used i r.n ∷ r.post) (subst H r.is (fill.all j l u))) [ inl x ↦ inl x | inr x ↦ elim x [ inl z ↦ absurd (ne z) | inr y ↦ inr y ] ]) in
     record {
       is = record {
         header = same-header b c heap.0 long head;
@@ -143,8 +143,8 @@ filled b c link at end i n bytes o some fits h none long keep back here says con
     let mine : Tiles c at o.next (Used i n ∷ []) (at + cost n) o.next = (some, omega (arith, m), here, says, (refl, refl)) in
     let told_c : IsOffset (entry c i) = ((λ z. absurd (omega (arith, z, here))), (λ z. absurd (omega (arith, z, here)))) in
     let chunk : chunk_at c (entry c i) ≡ Some bytes = (let back_2 : entry c i - 2 ≡ at = omega (arith, here) in
-        let size : word c (entry c i - 2) - 2 ≡ n = ap (λ x. word c x - 2) back_2 ∙ omega (arith, says) in
-        chunk-told c (entry c i) told_c ∙ ap (λ x. Some (part c (entry c i) x)) size ∙ ap (λ x. Some (part c x n)) here ∙ ap (λ x. Some x) content) in
+    let size : word c (entry c i - 2) - 2 ≡ n = ap (λ x. word c x - 2) back_2 ∙ omega (arith, says) in
+    chunk-told c (entry c i) told_c ∙ ap (λ x. Some (part c (entry c i) x)) size ∙ ap (λ x. Some (part c x n)) here ∙ ap (λ x. Some x) content) in
     record {
       is = record {
         header = same-header b c o.header long head;

@@ -51,8 +51,7 @@ took-whole b c link at end s is same all_keep back says total =
     let U : ℕ → Type 0 = λ x. Tiles c (end + word b end) x f.rest (length b) 0 in
     let V : ℕ → Type 0 = λ x. Tiles c (end + word b end) (word c link) f.rest x 0 in
     let place : end + m ≡ end + word b end = omega (arith, size) in
-    let tiles : Tiles c (end + word b end) (word c link) f.rest (length c) 0 = subst V (sym same) (subst U (sym says) (subst T place rest)) in
-    (
+    let tiles : Tiles c (end + word b end) (word c link) f.rest (length c) 0 = subst V (sym same) (subst U (sym says) (subst T place rest)) in (
       record {
         beside = reopened b c link at end (end + word b end) f.rest s (relinks b c link at end o same keep (λ far. apart)) tiles (omega arith)
             (λ i h t. back-entries b c link at end i f.rest o keep n (λ x. let H : List Piece → Type 0 = λ ps. HasChunk i ps in subst H f.is x) h t)

@@ -19,4 +19,5 @@ pub mod Filling
 pub mod Taking
 pub mod Unplaced
 pub mod Refits
+pub mod Moving
 pub mod Enlarging

@@ -64,6 +64,9 @@ pub offset-same : (b d : List ℕ) (i : ℕ) → IsHeap b → chunks d ≡ chunk
 offset-same b d i heap same h t =
     let u = in-use-same b d i same h t.0 in let y = says b i heap h t in let some = y.some in (
       u.0,
-      (u.1, (λ e. let nothing : entry_bytes (chunks d) i ≡ [] = ap (λ x. unwrap_or x []) (chunks-at d i u.0 ∙ chunk-nothing d (entry d i) e) in
-          let long = sym (ap (λ xs. length (entry_bytes xs i)) same) ∙ ap length nothing in let l = placed-length b i heap h t in absurd (omega (arith, long, l, some)))),
+      (
+        u.1,
+        (λ e. let nothing : entry_bytes (chunks d) i ≡ [] = ap (λ x. unwrap_or x []) (chunks-at d i u.0 ∙ chunk-nothing d (entry d i) e) in
+            let long = sym (ap (λ xs. length (entry_bytes xs i)) same) ∙ ap length nothing in let l = placed-length b i heap h t in absurd (omega (arith, long, l, some))),
+      ),
     )

@@ -159,6 +159,9 @@ pub(crate) fn resize_chunk(block: &mut [u8], i: usize, n: u16)
     if resize_beside(block, i, n) {
         return;
     }
+    if move_away(block, i, n) {
+        return;
+    }
     pack(block);
     resize_in_place(block, i, n);
 }
@@ -185,6 +188,27 @@ fn resize_beside(block: &mut [u8], i: usize, n: u16) -> bool
             hole.fill(block, i, len as usize, len);
             false
         }
+    }
+}
+
+/// Gives a chunk another length in front of the first free chunk that is large enough, and leaves
+/// the others where they are. False where none is; then nothing is changed.
+fn move_away(block: &mut [u8], i: usize, n: u16) -> bool
+    requires heap { IsHeap block.old }
+    requires known { i < entries block.old }
+    requires offset { IsOffset (entry block.old i) }
+    requires some { 0 < n }
+    ensures { MatchBool result (ResizesChunk block.old block.new i n) (block.new ≡ block.old) }
+{
+    let size = cost(n as usize);
+    match Hole::first_fit(block, size) {
+        Some(hole) => {
+            let hole = hole.take(block, size);
+            let left = hole.move_in(block, i, n);
+            left.give_back(block);
+            true
+        }
+        None => false,
     }
 }
 

@@ -10,7 +10,7 @@ ghost use Rattle.lmem_heap.specs.Holes.{FitsBehind, GivesBack, IsBeside, IsOpen,
 
 use crate::chunks::cost;
 use crate::header::{FIRST_FREE, TOTAL_FREE, entry, put_entry};
-use crate::words::{clear, get16, put16};
+use crate::words::{clear, get16, move_bytes, put16};
 
 /// The bytes of a hole, and the link of the free list before it: the offset of the word that
 /// names the next free chunk, which is the header's or that of the last free chunk before the
@@ -103,6 +103,29 @@ impl Hole {
             at: self.at + cost(n as usize),
             end: self.end,
         }
+    }
+
+    /// Moves the chunk of an entry to where the hole is, and gives it n bytes, which fill the
+    /// hole: its first ones that fit, and zeros behind them. The hole that it leaves.
+    pub(crate) fn move_in(self, block: &mut [u8], i: usize, n: u16) -> Hole
+        requires hole { IsBeside block.old self.link self.at self.end }
+        requires some { 0 < n }
+        requires room { self.at + cost n ≡ self.end }
+        requires known { i < entries block.old }
+        requires offset { IsOffset (entry block.old i) }
+        ensures hole { IsBeside block.new result.link result.at result.end }
+        ensures fours { result.end % 4 ≡ 0 }
+        ensures chunks { chunks block.new ≡ slice_set (chunks block.old) i (Some (resized (part block.old (entry block.old i) (chunk_length block.old i)) n)) }
+        ensures handle { handle_word block.new ≡ handle_word block.old }
+    {
+        let from = entry(block, i) as usize;
+        let len = get16(block, from - 2) as usize - 2;
+        let keep = len.min(n as usize);
+        put_entry(block, i, (self.at + 2) as u16);
+        put16(block, self.at, n + 2);
+        move_bytes(block, from, self.at + 2, keep);
+        clear(block, self.at + 2 + keep, n as usize - keep);
+        Hole::at(block, from - 2, from - 2 + cost(len))
     }
 
     /// Makes the hole this large, with bytes of the free chunk behind it where it is smaller.

@@ -1,6 +1,6 @@
-use Rattle.std.proofs.Common.{◌≡◌, ℕ, List, [], Option, Some, None, unwrap_or, set, get_or, replicate, refl, ap, sym, ◌∙◌, arith}
+use Rattle.std.proofs.Common.{◌≡◌, ℕ, List, [], Option, Some, None, length, unwrap_or, set, get_or, replicate, refl, ap, sym, ◌∙◌, arith}
 use Rattle.geos_model.specs.Chunks.{cost_of, resized}
-use Rattle.geos_model.specs.Block.{chunks, entry}
+use Rattle.geos_model.specs.Block.{chunks, entry, handle_word}
 use Rattle.geos_model.specs.Heap.{IsOffset}
 use Rattle.geos_model.proofs.Entries.{chunks-at, chunk-nothing}
 use Rattle.geos_model.proofs.Resizes.{resized-none, resized-nothing}
@@ -38,29 +38,48 @@ returns-then-n-eq0-clause-chunks c =
 
 pub resize_in_place-requires-clause-known : goal.resize_in_place-requires-clause-known
 resize_in_place-requires-clause-known c =
-    let b = c.args.block.now in let i = c.args.i in let d = c.pack.new.block in let g = c.if-resize_beside.ensures in let same : chunks d ≡ chunks b = c.pack.ensures.chunks ∙ g.chunks in
+    let b = c.args.block.now in let i = c.args.i in let d = c.pack.new.block in let g = c.if-resize_beside.ensures in let same : chunks d ≡ chunks b = c.pack.ensures.chunks ∙ ap chunks c.if-move_away.ensures ∙ g.chunks in
     let t : IsOffset (entry b i) = (c.requires.used, λ e. c.if-entry.false (c.entry.ensures ∙ e)) in let o = offset-same b d i c.requires.heap same c.requires.known t in
     o.0
 
 pub resize_in_place-requires-clause-offset : goal.resize_in_place-requires-clause-offset
 resize_in_place-requires-clause-offset c =
-    let b = c.args.block.now in let i = c.args.i in let d = c.pack.new.block in let g = c.if-resize_beside.ensures in let same : chunks d ≡ chunks b = c.pack.ensures.chunks ∙ g.chunks in
+    let b = c.args.block.now in let i = c.args.i in let d = c.pack.new.block in let g = c.if-resize_beside.ensures in let same : chunks d ≡ chunks b = c.pack.ensures.chunks ∙ ap chunks c.if-move_away.ensures ∙ g.chunks in
     let t : IsOffset (entry b i) = (c.requires.used, λ e. c.if-entry.false (c.entry.ensures ∙ e)) in let o = offset-same b d i c.requires.heap same c.requires.known t in
     o.1
 
 pub resize_in_place-requires-clause-room : goal.resize_in_place-requires-clause-room
 resize_in_place-requires-clause-room c =
-    let b = c.args.block.now in let i = c.args.i in let d = c.pack.new.block in let g = c.if-resize_beside.ensures in let same : chunks d ≡ chunks b = c.pack.ensures.chunks ∙ g.chunks in
+    let b = c.args.block.now in let i = c.args.i in let d = c.pack.new.block in let g = c.if-resize_beside.ensures in let same : chunks d ≡ chunks b = c.pack.ensures.chunks ∙ ap chunks c.if-move_away.ensures ∙ g.chunks in
     let t : IsOffset (entry b i) = (c.requires.used, λ e. c.if-entry.false (c.entry.ensures ∙ e)) in let o = offset-same b d i c.requires.heap same c.requires.known t in
     let room = chunk-cost d i c.pack.ensures.packed o.0 o.1 in let e = ap (λ xs. cost_of (get_or xs i None)) same in
-    let total = packed-room b d c.requires.heap c.pack.ensures.packed same (c.pack.auto.block ∙ c.resize_beside.auto.block) in
+    let total = packed-room b d c.requires.heap c.pack.ensures.packed same (c.pack.auto.block ∙ ap length c.if-move_away.ensures ∙ c.resize_beside.auto.block) in
     omega (arith, room, e, total, c.requires.room)
 
 pub returns-clause-chunks : goal.returns-clause-chunks
 returns-clause-chunks c =
-    let b = c.args.block.now in let i = c.args.i in let d = c.pack.new.block in let g = c.if-resize_beside.ensures in let same : chunks d ≡ chunks b = c.pack.ensures.chunks ∙ g.chunks in
+    let b = c.args.block.now in let i = c.args.i in let d = c.pack.new.block in let g = c.if-resize_beside.ensures in let same : chunks d ≡ chunks b = c.pack.ensures.chunks ∙ ap chunks c.if-move_away.ensures ∙ g.chunks in
     let t : IsOffset (entry b i) = (c.requires.used, λ e. c.if-entry.false (c.entry.ensures ∙ e)) in let o = offset-same b d i c.requires.heap same c.requires.known t in
     c.resize_in_place.ensures.chunks ∙ ap (λ xs. set xs i (Some (resized (unwrap_or (get_or xs i None) []) c.args.n))) same
 
 pub returns-clause-handle : goal.returns-clause-handle
-returns-clause-handle c = c.resize_in_place.ensures.handle ∙ c.pack.ensures.handle ∙ c.if-resize_beside.ensures.handle
+returns-clause-handle c = c.resize_in_place.ensures.handle ∙ c.pack.ensures.handle ∙ ap handle_word c.if-move_away.ensures ∙ c.if-resize_beside.ensures.handle
+
+pub move_away-requires-clause-known : goal.move_away-requires-clause-known
+move_away-requires-clause-known c =
+    let b = c.args.block.now in let i = c.args.i in let d = c.resize_beside.new.block in let g = c.if-resize_beside.ensures in
+    let t : IsOffset (entry b i) = (c.requires.used, λ e. c.if-entry.false (c.entry.ensures ∙ e)) in let o = offset-same b d i c.requires.heap g.chunks c.requires.known t in
+    o.0
+
+pub move_away-requires-clause-offset : goal.move_away-requires-clause-offset
+move_away-requires-clause-offset c =
+    let b = c.args.block.now in let i = c.args.i in let d = c.resize_beside.new.block in let g = c.if-resize_beside.ensures in
+    let t : IsOffset (entry b i) = (c.requires.used, λ e. c.if-entry.false (c.entry.ensures ∙ e)) in let o = offset-same b d i c.requires.heap g.chunks c.requires.known t in
+    o.1
+
+pub returns-then-move_away-clause-chunks : goal.returns-then-move_away-clause-chunks
+returns-then-move_away-clause-chunks c =
+    let i = c.args.i in let g = c.if-resize_beside.ensures in c.if-move_away.ensures.chunks ∙ ap (λ xs. set xs i (Some (resized (unwrap_or (get_or xs i None) []) c.args.n))) g.chunks
+
+pub returns-then-move_away-clause-handle : goal.returns-then-move_away-clause-handle
+returns-then-move_away-clause-handle c = c.if-move_away.ensures.handle ∙ c.if-resize_beside.ensures.handle

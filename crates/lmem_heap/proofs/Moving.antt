@@ -1,0 +1,227 @@
+-- A chunk that moves into a hole, and the hole that it leaves.
+use Rattle.std.proofs.Common.{◌≡◌, ◌≢◌, ℕ, zero, suc, ◌+◌, ◌-◌, ◌*◌, ◌%◌, ◌<◌, ◌≤◌, ◌⊎◌, List, [], ◌∷◌, ◌++◌, Some, None, length, get_or, set, replicate, drop, refl, ap, sym, ◌∙◌, subst, inl, inr, arith, length-take, length-drop}
+use Rattle.std.proofs.lemmas.Bool.{cases_eq, cases_lt}
+use Rattle.std.proofs.lemmas.List.{same_lists, get_or-take, get_or-drop, get_or_default, get_or_past, length-replicate}
+use Rattle.lmem_raw.specs.Bytes.{part, with_part}
+use Rattle.lmem_raw.proofs.Parts.{length-with_part}
+use Rattle.geos_model.specs.Bytes.{word, with_word, IsShifted}
+use Rattle.geos_model.specs.Chunks.{cost, resized}
+use Rattle.geos_model.specs.Block.{entry, entries, table_end, first_free, total_free, chunk_at, chunks}
+use Rattle.geos_model.specs.Heap.{Piece, Used, Free, Tiles, HasChunk, IsOffset, AreUsed, IsHeader, IsHeap, free_bytes}
+use Rattle.geos_model.proofs.Words.{word-bytes, word-part_other, get_or-with_part_before, get_or-with_part_behind, get_or-with_part_within}
+use Rattle.geos_model.proofs.Costs.{cost-four, cost-least, cost-fours}
+use Rattle.geos_model.proofs.Pieces.{LiesWithin, lies, tiles-le, tiles-join, has-left, has-right, has-split, free_bytes-append}
+use Rattle.geos_model.proofs.Moves.{tiles-kept}
+use Rattle.geos_model.proofs.Resizes.{length-resized, get_or-resized}
+use Rattle.geos_model.proofs.Tables.{chunks-set}
+use Rattle.geos_model.proofs.Headers.{SameHead, head-word, same-header}
+use Rattle.geos_model.proofs.Entries.{chunk-told}
+use Rattle.geos_model.proofs.Found.{Found, find}
+use Rattle.lmem_heap.specs.Holes.{IsFirstLink, IsNextLink, IsLink, IsOpen, IsBeside}
+use Rattle.lmem_heap.specs.Packed.{chunk_end, chunk_length}
+use Rattle.lmem_heap.proofs.FreeLists.{link-tiles, link-place, open-place, tiles-fours}
+use Rattle.lmem_heap.proofs.Relinking.{Apart, Clear, KeepsBack, other, clear, put, long, kept-chunk}
+
+-- the chunk of an entry stands before the hole or behind it
+pub data Side (b : List ℕ) (link at end i : ℕ) (o : IsOpen b link at end) : Type 0 where
+  Before : Found b (table_end b) (first_free b) (o.before ++ o.ahead) at o.next i → Side b link at end i o
+  Behind : Found b end o.next o.behind (length b) 0 i → Side b link at end i o
+
+-- the pieces before a hole
+front : (b : List ℕ) (link at end : ℕ) → (o : IsOpen b link at end) → Tiles b (table_end b) (first_free b) (o.before ++ o.ahead) at o.next
+front b link at end o = tiles-join b (table_end b) (first_free b) o.before o.ahead o.upto (word b link) at o.next (link-tiles b link o.upto o.before o.linked) o.tiles_ahead
+
+pub side : (b : List ℕ) (link at end i : ℕ) → (o : IsOpen b link at end) → i < entries b → IsOffset (entry b i) → Side b link at end i o
+side b link at end i o h t = elim (o.all i h t) [
+  | inl x ↦ Before (find b (table_end b) (first_free b) (o.before ++ o.ahead) at o.next i (front b link at end o) (has-left i o.before o.ahead x))
+  | inr x ↦ elim x [
+    | inl y ↦ Before (find b (table_end b) (first_free b) (o.before ++ o.ahead) at o.next i (front b link at end o) (has-right i o.before o.ahead y))
+    | inr y ↦ Behind (find b end o.next o.behind (length b) 0 i o.tiles_behind y)
+  ]
+]
+
+-- where that chunk lies
+pub record Aside (b : List ℕ) (at end i : ℕ) : Type 0 where
+  pub some : 0 < chunk_length b i
+  pub size : word b (entry b i - 2) ≡ chunk_length b i + 2
+  pub low : table_end b + 2 ≤ entry b i
+  pub out : (chunk_end b i ≤ at) ⊎ (end + 2 ≤ entry b i)
+  pub high : chunk_end b i ≤ length b
+
+pub aside : (b : List ℕ) (link at end i : ℕ) → (o : IsOpen b link at end) → i < entries b → IsOffset (entry b i) → Aside b at end i
+aside b link at end i o h t =
+    let p = open-place b link at end o in let high = p.high in let low = p.low in let order = o.order in
+    elim (side b link at end i o h t) [
+      | Before r ↦ (let some = r.some in let size = r.size in let from = r.low in let n : r.n ≡ chunk_length b i = omega (arith, size) in let c = ap cost n in
+          let le = tiles-le b (entry b i - 2 + cost r.n) r.g r.post at o.next r.behind in
+          record { some = omega (arith, some, n); size = omega (arith, size, n); low = from; out = inl (omega (arith, le, c)); high = omega (arith, le, c, high, order) })
+      | Behind r ↦ (let some = r.some in let size = r.size in let from = r.low in let n : r.n ≡ chunk_length b i = omega (arith, size) in let c = ap cost n in
+          let le = tiles-le b (entry b i - 2 + cost r.n) r.g r.post (length b) 0 r.behind in
+          record { some = omega (arith, some, n); size = omega (arith, size, n); low = omega (arith, from, low, order); out = inr from; high = omega (arith, le, c) })
+    ]
+
+-- what a chunk that moved into the hole leaves
+pub record Redirects (b c : List ℕ) (i : ℕ) (bytes : List ℕ) : Type 0 where
+  pub is : IsOpen c 12 (entry b i - 2) (chunk_end b i)
+  pub chunks : chunks c ≡ set (chunks b) i (Some bytes)
+  pub handle : word c 0 ≡ word b 0
+
+pub redirects : (b c : List ℕ) (link at end i n : ℕ) (bytes : List ℕ) → (o : IsOpen b link at end) → i < entries b → IsOffset (entry b i) → 0 < n → at + cost n ≡ end → length c ≡ length b →
+    ((k : ℕ) → k < at → Apart k (16 + 2 * i) → get_or c k 0 ≡ get_or b k 0) → KeepsBack b c end → entry c i ≡ at + 2 → word c at ≡ n + 2 → part c (at + 2) n ≡ bytes → Redirects b c i bytes
+redirects b c link at end i n bytes o h t some whole long keep back here says content =
+    let p = open-place b link at end o in let low = p.low in let table = p.table in let out = p.link_out in let link_high = p.link_high in let high = p.high in let most = p.most in let link_low = p.link_low in
+    let e = entry b i in let four = cost-four n some in let order = o.order in let some_b = o.header.some in
+    let k = link-place b link o.upto o.before o.linked in let within = k.within in let start = k.start in
+    let head : SameHead b c 12 = (λ q l. keep q (omega arith) (inl (omega arith))) in
+    let m : entries c ≡ entries b = head-word b c 12 10 head (omega arith) in
+    let each : (j : ℕ) → j < entries b → j ≢ i → entry c j ≡ entry b j = (λ j l ne. elim (cases_lt j i) [
+      | inl a ↦ word-bytes b c (16 + 2 * j) (16 + 2 * j) (keep (16 + 2 * j) (omega arith) (inl (omega arith))) (keep (16 + 2 * j + 1) (omega arith) (inl (omega arith)))
+      | inr a ↦ word-bytes b c (16 + 2 * j) (16 + 2 * j) (keep (16 + 2 * j) (omega arith) (inr (omega arith))) (keep (16 + 2 * j + 1) (omega arith) (inr (omega arith)))
+    ]) in
+    let apart : (j : ℕ) → (entry b j ≡ e → ⊥) → j ≢ i = (λ j no same. no (ap (λ x. entry b x) same)) in
+    let far : (lo hi : ℕ) → table_end b ≤ lo → hi ≤ at → IsShifted b c 0 0 lo hi = (λ lo hi g l j q e' u v. let same : j ≡ q = omega arith in ap (λ x. get_or c x 0) same ∙ keep q (omega arith) (inr (omega arith))) in
+    let rear : (lo hi : ℕ) → end ≤ lo → IsShifted b c 0 0 lo hi = (λ lo hi g j q e' u v. let same : j ≡ q = omega arith in ap (λ x. get_or c x 0) same ∙ back q (omega arith)) in
+    let start_is : table_end b ≡ table_end c = ap (λ x. 16 + 2 * x) (sym m) in
+    let first : first_free b ≡ word c 12 = sym (word-bytes b c 12 12 (keep 12 (omega arith) (inl (omega arith))) (keep 13 (omega arith) (inl (omega arith)))) in
+    let total : total_free c ≡ total_free b = word-bytes b c 14 14 (keep 14 (omega arith) (inl (omega arith))) (keep 15 (omega arith) (inl (omega arith))) in
+    let told_c : IsOffset (entry c i) = ((λ z. absurd (omega (arith, z, here))), (λ z. absurd (omega (arith, z, here)))) in
+    let chunk : chunk_at c (entry c i) ≡ Some bytes = (let back_2 : entry c i - 2 ≡ at = omega (arith, here) in
+    let size : word c (entry c i - 2) - 2 ≡ n = ap (λ x. word c x - 2) back_2 ∙ omega (arith, says) in
+    chunk-told c (entry c i) told_c ∙ ap (λ x. Some (part c (entry c i) x)) size ∙ ap (λ x. Some (part c x n)) here ∙ ap (λ x. Some x) content) in
+    let spelled = chunks-set b c i (Some bytes) m h chunk (λ j l ne. kept-chunk b c link at end end j o long (far (table_end b) (link - 2) (omega arith) (omega arith)) (far o.upto at start (omega arith)) (rear end (length b) (omega arith))
+    (λ x. lies b end o.next o.behind (length b) 0 j o.tiles_behind x) l (each j l ne)) in
+    let kept : (j : ℕ) → j < entries c → IsOffset (entry c j) → j ≢ i → HasChunk j (o.before ++ o.ahead) ⊎ HasChunk j o.behind = (λ j l u ne. let lb : j < entries b = omega (arith, m) in let d = each j lb ne in
+    elim (o.all j lb ((λ z. u.0 (d ∙ z)), (λ z. u.1 (d ∙ z)))) [ inl x ↦ inl (has-left j o.before o.ahead x) | inr x ↦ elim x [ inl y ↦ inl (has-right j o.before o.ahead y) | inr y ↦ inr y ] ]) in
+    let start_fours : table_end b % 4 ≡ 0 = (let pairs = o.header.pairs in omega (arith, pairs)) in
+    let mine_room : at + cost n ≡ end = whole in
+    let sum = o.total in let app = free_bytes-append o.before o.ahead in
+    let P = o.before ++ o.ahead in let whole_front = front b link at end o in
+    let handle = head-word b c 12 0 head (omega arith) in
+    elim (side b link at end i o h t) [
+      | Before r ↦ (let low_e = r.low in let some_e = r.some in let size_e = r.size in let wide = cost-four r.n some_e in
+          let n_is : r.n ≡ chunk_length b i = omega (arith, size_e) in let end_is : e - 2 + cost r.n ≡ chunk_end b i = ap (λ x. e - 2 + cost x) n_is in
+          let le = tiles-le b (e - 2 + cost r.n) r.g r.post at o.next r.behind in
+          let pre : Tiles c (table_end b) (first_free b) r.pre (e - 2) r.g = tiles-kept b c (table_end b) (first_free b) r.pre (e - 2) r.g r.before (far (table_end b) (e - 2) (omega arith) (omega arith)) (omega (arith, m)) (λ j l a z. each j l (apart j (λ q. absurd (omega arith)))) in
+          let post : Tiles c (e - 2 + cost r.n) r.g r.post at o.next = tiles-kept b c (e - 2 + cost r.n) r.g r.post at o.next r.behind (far (e - 2 + cost r.n) at (omega arith) (omega arith)) (omega (arith, m)) (λ j l a z. each j l (apart j (λ q. absurd (omega arith)))) in
+          let behind : Tiles c end o.next o.behind (length b) 0 = tiles-kept b c end o.next o.behind (length b) 0 o.tiles_behind (rear end (length b) (omega arith)) (omega (arith, m)) (λ j l a z. each j l (apart j (λ q. absurd (omega arith)))) in
+          let E : ℕ → Type 0 = λ x. Tiles c x o.next o.behind (length b) 0 in
+          let mine : Tiles c at o.next (Used i n ∷ o.behind) (length b) 0 = (some, omega (arith, m), here, says, subst E (sym whole) behind) in
+          let rest = tiles-join c (e - 2 + cost r.n) r.g r.post (Used i n ∷ o.behind) at o.next (length b) 0 post mine in
+          let F : ℕ → Type 0 = λ x. Tiles c (table_end b) x r.pre (e - 2) r.g in
+          let X : ℕ → Type 0 = λ x. Tiles c x r.g (r.post ++ (Used i n ∷ o.behind)) (length b) 0 in let L : ℕ → Type 0 = λ x. Tiles c (chunk_end b i) r.g (r.post ++ (Used i n ∷ o.behind)) x 0 in
+          record {
+            is = record {
+              header = same-header b c o.header long head;
+              before = [];
+              upto = table_end b;
+              ahead = r.pre;
+              next = r.g;
+              behind = r.post ++ (Used i n ∷ o.behind);
+              linked = inl (record { is = refl; none = refl; start = start_is });
+              tiles_ahead = subst F first pre;
+              tiles_behind = subst L (sym long) (subst X end_is rest);
+              order = omega (arith, end_is);
+              fours = tiles-fours b (table_end b) (first_free b) r.pre (e - 2) r.g r.before start_fours;
+              all = (λ j l u. inr (elim (cases_eq j i) [
+                | inl q ↦ inr (has-right j r.post (Used i n ∷ o.behind) (inl q))
+                | inr ne ↦ elim (kept j l u ne) [
+                  | inl x ↦ (let H : List Piece → Type 0 = λ ps. HasChunk j ps in elim (has-split j r.pre (Used i r.n ∷ r.post) (subst H r.is x)) [
+                    | inl y ↦ inl y
+                    | inr y ↦ elim y [ inl q ↦ absurd (ne q) | inr z ↦ inr (has-left j r.post (Used i n ∷ o.behind) z) ]
+                  ])
+                  | inr x ↦ inr (has-right j r.post (Used i n ∷ o.behind) (inr x))
+                ]
+              ]));
+              total = (let g = ap free_bytes r.is ∙ free_bytes-append r.pre (Used i r.n ∷ r.post) in let g2 = free_bytes-append r.post (Used i n ∷ o.behind) in omega (arith, sum, app, g, g2, total));
+            };
+            chunks = spelled;
+            handle = handle;
+          })
+      | Behind r ↦ (let low_e = r.low in let some_e = r.some in let size_e = r.size in let wide = cost-four r.n some_e in
+          let n_is : r.n ≡ chunk_length b i = omega (arith, size_e) in let end_is : e - 2 + cost r.n ≡ chunk_end b i = ap (λ x. e - 2 + cost x) n_is in
+          let le = tiles-le b (e - 2 + cost r.n) r.g r.post (length b) 0 r.behind in
+          let pre : Tiles c end o.next r.pre (e - 2) r.g = tiles-kept b c end o.next r.pre (e - 2) r.g r.before (rear end (e - 2) (omega arith)) (omega (arith, m)) (λ j l a z. each j l (apart j (λ q. absurd (omega arith)))) in
+          let post : Tiles c (e - 2 + cost r.n) r.g r.post (length b) 0 = tiles-kept b c (e - 2 + cost r.n) r.g r.post (length b) 0 r.behind (rear (e - 2 + cost r.n) (length b) (omega arith)) (omega (arith, m)) (λ j l a z. each j l (apart j (λ q. absurd (omega arith)))) in
+          let pieces : Tiles c (table_end b) (first_free b) P at o.next = tiles-kept b c (table_end b) (first_free b) P at o.next whole_front (far (table_end b) at (omega arith) (omega arith)) (omega (arith, m)) (λ j l a z. each j l (apart j (λ q. absurd (omega arith)))) in
+          let E : ℕ → Type 0 = λ x. Tiles c x o.next r.pre (e - 2) r.g in
+          let mine : Tiles c at o.next (Used i n ∷ r.pre) (e - 2) r.g = (some, omega (arith, m), here, says, subst E (sym whole) pre) in
+          let ahead = tiles-join c (table_end b) (first_free b) P (Used i n ∷ r.pre) at o.next (e - 2) r.g pieces mine in
+          let F : ℕ → Type 0 = λ x. Tiles c (table_end b) x (P ++ (Used i n ∷ r.pre)) (e - 2) r.g in
+          let X : ℕ → Type 0 = λ x. Tiles c x r.g r.post (length b) 0 in let L : ℕ → Type 0 = λ x. Tiles c (chunk_end b i) r.g r.post x 0 in
+          record {
+            is = record {
+              header = same-header b c o.header long head;
+              before = [];
+              upto = table_end b;
+              ahead = P ++ (Used i n ∷ r.pre);
+              next = r.g;
+              behind = r.post;
+              linked = inl (record { is = refl; none = refl; start = start_is });
+              tiles_ahead = subst F first ahead;
+              tiles_behind = subst L (sym long) (subst X end_is post);
+              order = omega (arith, end_is);
+              fours = tiles-fours c (table_end b) (first_free b) (P ++ (Used i n ∷ r.pre)) (e - 2) r.g ahead start_fours;
+              all = (λ j l u. inr (elim (cases_eq j i) [
+                | inl q ↦ inl (has-right j P (Used i n ∷ r.pre) (inl q))
+                | inr ne ↦ elim (kept j l u ne) [
+                  | inl x ↦ inl (has-left j P (Used i n ∷ r.pre) x)
+                  | inr x ↦ (let H : List Piece → Type 0 = λ ps. HasChunk j ps in elim (has-split j r.pre (Used i r.n ∷ r.post) (subst H r.is x)) [
+                    | inl y ↦ inl (has-right j P (Used i n ∷ r.pre) (inr y))
+                    | inr y ↦ elim y [ inl q ↦ absurd (ne q) | inr z ↦ inr z ]
+                  ])
+                ]
+              ]));
+              total = (let g = ap free_bytes r.is ∙ free_bytes-append r.pre (Used i r.n ∷ r.post) in let g2 = free_bytes-append P (Used i n ∷ r.pre) in omega (arith, sum, app, g, g2, total));
+            };
+            chunks = spelled;
+            handle = handle;
+          })
+    ]
+
+zero-at : (n k : ℕ) → get_or (replicate {A = ℕ} n 0) k 0 ≡ 0
+zero-at zero k = refl
+zero-at (suc n) zero = refl
+zero-at (suc n) (suc k) = zero-at n k
+
+-- the writes that move a chunk into a hole: its entry, the size word, the bytes that it keeps, and zeros
+pub moved-in-hole : (b d1 d2 d3 c : List ℕ) (link at end i keep n : ℕ) → (o : IsOpen b link at end) → i < entries b → IsOffset (entry b i) → 0 < n → at + cost n ≡ end → keep ≤ n → keep ≤ chunk_length b i → (n ≤ keep) ⊎ (chunk_length b i ≤ keep) →
+    d1 ≡ with_word b (16 + 2 * i) (at + 2) → d2 ≡ with_word d1 at (n + 2) → d3 ≡ with_part d2 (at + 2) (part d2 (entry b i) keep) → c ≡ with_part d3 (at + 2 + keep) (replicate (n - keep) 0) →
+    Redirects b c i (resized (part b (entry b i) (chunk_length b i)) n)
+moved-in-hole b d1 d2 d3 c link at end i keep n o h t some whole keep_n keep_len exact e1 e2 e3 e4 =
+    let p = open-place b link at end o in let high = p.high in let most = p.most in let low = p.low in let table = p.table in let wide = cost-least n some in
+    let a = aside b link at end i o h t in let len = chunk_length b i in let e = entry b i in let low_e = a.low in let high_e = a.high in let some_e = a.some in let wide_e = cost-least len some_e in
+    let zs : List ℕ = replicate (n - keep) 0 in let nz = length-replicate {A = ℕ} (n - keep) 0 in let moved = part d2 e keep in
+    let n1 = long b d1 (16 + 2 * i) (at + 2) e1 in let n2 = long d1 d2 at (n + 2) e2 in let n3 : length d3 ≡ length d2 = ap length e3 ∙ length-with_part d2 (at + 2) moved in let n4 : length c ≡ length d3 = ap length e4 ∙ length-with_part d3 (at + 2 + keep) zs in
+    let nm : length moved ≡ keep = omega (arith, length-take keep (drop e d2), length-drop e d2, n1, n2) in
+    let byte4 : (k : ℕ) → (k < at + 2 + keep) ⊎ (at + 2 + n ≤ k) → get_or c k 0 ≡ get_or d3 k 0 = (λ k out. ap (λ x. get_or x k 0) e4 ∙ elim out [
+      | inl l ↦ get_or-with_part_before d3 (at + 2 + keep) zs k l
+      | inr g ↦ get_or-with_part_behind d3 (at + 2 + keep) zs k (omega (arith, nz))
+    ]) in
+    let byte3 : (k : ℕ) → (k < at + 2) ⊎ (at + 2 + keep ≤ k) → get_or d3 k 0 ≡ get_or d2 k 0 = (λ k out. ap (λ x. get_or x k 0) e3 ∙ elim out [
+      | inl l ↦ get_or-with_part_before d2 (at + 2) moved k l
+      | inr g ↦ get_or-with_part_behind d2 (at + 2) moved k (omega (arith, nm))
+    ]) in
+    let byte2 : (k : ℕ) → Apart k at → Apart k (16 + 2 * i) → get_or d2 k 0 ≡ get_or b k 0 = (λ k u v. other d1 d2 at (n + 2) k e2 u ∙ other b d1 (16 + 2 * i) (at + 2) k e1 v) in
+    let back : KeepsBack b c end = (λ k l. byte4 k (inr (omega arith)) ∙ byte3 k (inr (omega arith)) ∙ byte2 k (inr (omega arith)) (inr (omega arith))) in
+    let keeps : (k : ℕ) → k < at → Apart k (16 + 2 * i) → get_or c k 0 ≡ get_or b k 0 = (λ k l u. byte4 k (inl (omega arith)) ∙ byte3 k (inl (omega arith)) ∙ byte2 k (inl l) u) in
+    let words : (j : ℕ) → j + 2 ≤ at + 2 → word c j ≡ word d2 j = (λ j l. word-bytes d2 c j j (byte4 j (inl (omega arith)) ∙ byte3 j (inl (omega arith))) (byte4 (j + 1) (inl (omega arith)) ∙ byte3 (j + 1) (inl (omega arith)))) in
+    let here : entry c i ≡ at + 2 = words (16 + 2 * i) (omega arith) ∙ clear d1 d2 at (n + 2) (16 + 2 * i) e2 (inl (omega arith)) ∙ put b d1 (16 + 2 * i) (at + 2) e1 (omega arith) (omega arith) in
+    let says : word c at ≡ n + 2 = words at (omega arith) ∙ put d1 d2 at (n + 2) e2 (omega arith) (omega (arith, n1)) in
+    let old = part b e len in
+    let no : length old ≡ len = omega (arith, length-take len (drop e b), length-drop e b) in
+    let nc : length (part c (at + 2) n) ≡ n = omega (arith, length-take n (drop (at + 2) c), length-drop (at + 2) c, n1, n2, n3, n4) in
+    let nr = length-resized old n in
+    let from : (q : ℕ) → q < keep → Apart (e + q) at = (λ q l. elim a.out [ inl z ↦ inl (omega (arith, z)) | inr z ↦ inr (omega (arith, z)) ]) in
+    let content : part c (at + 2) n ≡ resized old n = same_lists (part c (at + 2) n) (resized old n) (nc ∙ sym nr) (λ q x l.
+    let small : q < n = omega arith in
+    let left : get_or (part c (at + 2) n) q 0 ≡ get_or c (at + 2 + q) 0 = get_or-take n (drop (at + 2) c) q 0 small ∙ get_or-drop (at + 2) c q 0 in
+    let right : get_or (resized old n) q 0 ≡ get_or old q 0 = get_or-resized old n q small in
+    get_or_default (part c (at + 2) n) q x 0 l ∙ left ∙ (elim (cases_lt q keep) [
+      | inl stays ↦ byte4 (at + 2 + q) (inl (omega arith)) ∙ ap (λ x. get_or x (at + 2 + q) 0) e3 ∙ get_or-with_part_within d2 (at + 2) moved (at + 2 + q) q refl (omega (arith, nm)) (omega (arith, n1, n2))
+          ∙ get_or-take keep (drop e d2) q 0 stays ∙ get_or-drop e d2 q 0 ∙ byte2 (e + q) (from q stays) (inr (omega arith))
+          ∙ sym (right ∙ get_or-take len (drop e b) q 0 (omega arith) ∙ get_or-drop e b q 0)
+      | inr new ↦ ap (λ x. get_or x (at + 2 + q) 0) e4 ∙ get_or-with_part_within d3 (at + 2 + keep) zs (at + 2 + q) (q - keep) (omega arith) (omega (arith, nz)) (omega (arith, n1, n2, n3)) ∙ zero-at (n - keep) (q - keep)
+          ∙ sym (right ∙ get_or_past old q 0 (elim exact [ inl z ↦ absurd (omega (arith, z)) | inr z ↦ omega (arith, no, z) ]))
+    ])
+    ∙ sym (get_or_default (resized old n) q x 0 (omega (arith, nr)))) in
+    redirects b c link at end i n (resized old n) o h t some whole (n4 ∙ n3 ∙ n2 ∙ n1) keeps back here says content
