@@ -9,7 +9,7 @@ use Rattle.geos_model.specs.Heap.{Piece, Used, Tiles, HasChunk, AreUsed, IsOffse
 use Rattle.geos_model.proofs.Costs.{cost-least, cost-four, cost-fours}
 use Rattle.geos_model.proofs.Pieces.{lies, tiles-le, tiles-join, has-split, has-left, has-right}
 use Rattle.geos_model.proofs.Found.{find}
-use Rattle.geos_model.proofs.Entries.{chunk-none, chunk-told, chunks-at}
+use Rattle.geos_model.proofs.Entries.{chunk-told, chunks-at}
 use Rattle.geos_model.proofs.Moves.{tiles-kept, tiles-shifted, chunk-shifted}
 use Rattle.geos_model.proofs.Tables.{chunks-set, chunk-cases}
 use Rattle.geos_model.proofs.Headers.{head-word, same-header}
@@ -104,32 +104,6 @@ edited b c i to p h t s low' fits k =
             ]
           ]));
     }
-
-pub removed-packed : (b c : List ℕ) (i : ℕ) → IsPacked b → i < entries b → IsOffset (entry b i) → EditsChunk b c i (entry b i - 2) → entry c i ≡ 0 → IsPacked c
-removed-packed b c i p h t k gone =
-    let s = split b i p h t in let low = s.low in let high = s.high in let some = s.some in let room = s.room in let wide = cost-least (chunk_length b i) some in let fours = cost-fours (chunk_length b i) in
-    let d = edited b c i (entry b i - 2) p h t s (omega arith) (omega arith) k in
-    let n = d.count in let total = k.total in let long = k.long in let four = p.fours in
-    record {
-      header = d.header;
-      pre = s.pre ++ s.post;
-      at = entry b i - 2 + (chunks_end b - chunk_end b i);
-      used = used-both s.pre s.post s.pre_used s.post_used;
-      tiles = tiles-join c (table_end c) 0 s.pre s.post (entry b i - 2) 0 (entry b i - 2 + (chunks_end b - chunk_end b i)) 0 d.before d.behind;
-      room = total;
-      fours = omega arith;
-      all = (λ j l told. elim (cases_eq j i) [
-        | inl is ↦ absurd (told.0 (ap (λ x. entry c x) is ∙ gone))
-        | inr ne ↦ elim (d.has j (omega (arith, n)) ne told) [ inl x ↦ has-left j s.pre s.post x | inr x ↦ has-right j s.pre s.post x ]
-      ]);
-      ends = k.ends;
-    }
-
-pub removed-chunks : (b c : List ℕ) (i : ℕ) → IsPacked b → i < entries b → IsOffset (entry b i) → EditsChunk b c i (entry b i - 2) → entry c i ≡ 0 → chunks c ≡ set (chunks b) i None
-removed-chunks b c i p h t k gone =
-    let s = split b i p h t in let low = s.low in let high = s.high in let room = s.room in let wide = cost-least (chunk_length b i) s.some in
-    let d = edited b c i (entry b i - 2) p h t s (omega arith) (omega arith) k in
-    chunks-set b c i None d.count h (chunk-none c (entry c i) gone) d.others
 
 pub resized-packed : (b c : List ℕ) (i n : ℕ) → IsPacked b → i < entries b → IsOffset (entry b i) → 0 < n → cost n ≤ total_free b + cost (chunk_length b i) → EditsChunk b c i (entry b i - 2 + cost n) → HasResized b c i n → IsPacked c
 resized-packed b c i n p h t some_n fits k here =

@@ -1,11 +1,11 @@
 -- An entry that is written where no chunk stands: 0 for 0xFFFF, or 0xFFFF for 0.
-use Rattle.std.proofs.Common.{◌≡◌, ◌≢◌, ℕ, ◌+◌, ◌*◌, ◌<◌, ◌≤◌, List, Option, Some, None, length, set, get_or, replicate, refl, ap, sym, ◌∙◌, subst, inl, inr, arith}
+use Rattle.std.proofs.Common.{◌≡◌, ◌≢◌, ℕ, ◌+◌, ◌*◌, ◌<◌, ◌≤◌, List, Option, Some, length, set, get_or, replicate, refl, ap, sym, ◌∙◌, subst, inl, inr, arith}
 use Rattle.std.proofs.lemmas.Bool.{cases_eq, cases_lt}
 use Rattle.geos_model.specs.Bytes.{word, with_word, IsShifted}
 use Rattle.geos_model.specs.Block.{entry, entries, table_end, chunk_at, chunks, first_free, total_free, handle_word}
 use Rattle.geos_model.specs.Heap.{Tiles, IsOffset}
 use Rattle.geos_model.proofs.Words.{word-same, word-other, length-with_word, byte-other}
-use Rattle.geos_model.proofs.Entries.{chunk-none, chunk-nothing}
+use Rattle.geos_model.proofs.Entries.{chunk-nothing}
 use Rattle.geos_model.proofs.Pieces.{lies, tiles-le}
 use Rattle.geos_model.proofs.Moves.{tiles-kept, chunk-shifted}
 use Rattle.geos_model.proofs.Tables.{chunks-set, chunk-cases}
@@ -70,10 +70,6 @@ entered b i e chunk p h silent small silent' is =
       here = here;
       total = total;
     }
-
--- a chunk of no byte goes
-pub cleared : (b c : List ℕ) (i : ℕ) → IsPacked b → i < entries b → entry b i ≡ 65535 → c ≡ with_word b (16 + 2 * i) 0 → Entered b c i 0 None
-cleared b c i p h is made = let P : List ℕ → Type 0 = λ x. Entered b x i 0 None in subst P (sym made) (entered b i 0 None p h (λ t. t.1 is) (omega arith) (λ t. t.0 refl) (λ x. chunk-none x 0 refl))
 
 -- a chunk of no byte comes
 pub emptied : (b c : List ℕ) (i : ℕ) → IsPacked b → i < entries b → entry b i ≡ 0 → c ≡ with_word b (16 + 2 * i) 65535 → Entered b c i 65535 (Some (replicate 0 0))

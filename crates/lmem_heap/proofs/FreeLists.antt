@@ -1,16 +1,13 @@
 -- The free list of a heap with a hole: how it is walked.
-use Rattle.std.proofs.Common.{◌≡◌, ◌≢◌, ℕ, ◌+◌, ◌-◌, ◌*◌, ◌%◌, ◌<◌, ◌≤◌, ◌⊎◌, List, [], ◌∷◌, ◌++◌, length, refl, ap, sym, ◌∙◌, subst, inl, inr, arith}
-use Rattle.std.proofs.lemmas.Bool.{cases_eq, cases_lt}
-use Rattle.geos_model.specs.Bytes.{word, IsShifted}
+use Rattle.std.proofs.Common.{◌≡◌, ◌≢◌, ℕ, ◌+◌, ◌-◌, ◌%◌, ◌<◌, ◌≤◌, ◌⊎◌, List, [], ◌∷◌, ◌++◌, length, refl, ap, sym, ◌∙◌, subst, inl, inr, arith}
+use Rattle.geos_model.specs.Bytes.{word}
 use Rattle.geos_model.specs.Chunks.{cost}
-use Rattle.geos_model.specs.Block.{entry, entries, table_end, first_free, total_free, chunk_at, chunks}
-use Rattle.geos_model.specs.Heap.{Piece, Used, Free, Tiles, HasChunk, IsOffset, AreUsed, IsHeader, IsHeap, IsTiledBy, free_bytes}
-use Rattle.geos_model.proofs.Costs.{cost-four, cost-least, cost-fours}
+use Rattle.geos_model.specs.Block.{entry, table_end, first_free, total_free}
+use Rattle.geos_model.specs.Heap.{Piece, Used, Free, Tiles, HasChunk, AreUsed, IsHeap, free_bytes}
+use Rattle.geos_model.proofs.Costs.{cost-fours}
 use Rattle.geos_model.proofs.Pieces.{LiesWithin, lies, tiles-le, tiles-join, has-split, has-left, has-right, free_bytes-append}
-use Rattle.geos_model.proofs.Moves.{tiles-kept, chunk-shifted}
-use Rattle.geos_model.proofs.Tables.{chunks-same, chunk-cases}
-use Rattle.geos_model.proofs.FreePieces.{used-any, used-free, nothing-left}
-use Rattle.lmem_heap.specs.Holes.{IsFirstLink, IsNextLink, IsLink, IsOpen, IsBeside, FitsBehind}
+use Rattle.geos_model.proofs.FreePieces.{nothing-left}
+use Rattle.lmem_heap.specs.Holes.{IsLink, IsOpen, IsBeside, FitsBehind}
 
 -- the first free piece is the end's next one, or not before the end
 pub first-behind : (b : List ℕ) (at f : ℕ) (ps : List Piece) (end : ℕ) → Tiles b at f ps end 0 → (f ≡ 0) ⊎ (at ≤ f)

@@ -1,17 +1,16 @@
 -- Free chunks that are taken, and bytes that are given back.
 use Rattle.std.proofs.Common.{◌≡◌, ◌≢◌, ℕ, ◌+◌, ◌-◌, ◌*◌, ◌%◌, ◌<◌, ◌≤◌, ◌⊎◌, List, [], ◌∷◌, ◌++◌, length, get_or, refl, ap, sym, ◌∙◌, subst, inl, inr, arith}
-use Rattle.std.proofs.lemmas.Bool.{cases_eq, cases_lt}
-use Rattle.geos_model.specs.Bytes.{word, with_word, IsShifted}
-use Rattle.geos_model.specs.Block.{entry, entries, table_end, first_free, total_free, chunk_at, chunks}
-use Rattle.geos_model.specs.Heap.{Piece, Used, Free, Tiles, HasChunk, IsOffset, AreUsed, IsHeader, IsHeap, free_bytes}
+use Rattle.geos_model.specs.Bytes.{word, IsShifted}
+use Rattle.geos_model.specs.Block.{entry, entries, table_end, first_free, total_free}
+use Rattle.geos_model.specs.Heap.{Piece, Free, Tiles, HasChunk, IsOffset, free_bytes}
 use Rattle.geos_model.proofs.Words.{word-bytes}
-use Rattle.geos_model.proofs.Pieces.{LiesWithin, lies, tiles-le, has-left, has-right, has-split, free_bytes-append}
+use Rattle.geos_model.proofs.Pieces.{LiesWithin, lies, tiles-le, has-left, has-split, free_bytes-append}
 use Rattle.geos_model.proofs.Moves.{tiles-kept}
 use Rattle.geos_model.proofs.Tables.{chunks-same}
 use Rattle.geos_model.proofs.Headers.{SameHead, head-word, same-header}
 use Rattle.geos_model.proofs.FreePieces.{nothing-left}
-use Rattle.lmem_heap.specs.Holes.{IsFirstLink, IsNextLink, IsLink, IsOpen, IsBeside, Widens, GivesBack}
-use Rattle.lmem_heap.proofs.FreeLists.{first-behind, used-next, link-place, open-place, open-heap, tiles-fours}
+use Rattle.lmem_heap.specs.Holes.{IsOpen, IsBeside, Widens, GivesBack}
+use Rattle.lmem_heap.proofs.FreeLists.{first-behind, used-next, link-place, open-place, open-heap}
 use Rattle.lmem_heap.proofs.Relinking.{Apart, KeepsFront, KeepsBack, reopened, relinks, kept-entry, kept-chunk, front-kept, mid-kept, FreeBehind, free-behind}
 
 front-head : (b c : List ℕ) (link at end : ℕ) → IsOpen b link at end → KeepsFront b c link at → SameHead b c 12

@@ -39,18 +39,6 @@ edit-made b d d1 c i to h low ahead wide high m long same t =
       ends = t.ends;
     }
 
--- where only the entry is written, and as 0
-pub taken-out : (b d d1 c : List ℕ) (i : ℕ) → i < entries b → table_end b + 2 ≤ entry b i → table_end b ≤ length b → entry b i ≤ chunk_end b i → chunk_end b i ≤ chunks_end b →
-    MovesRun b d (chunk_end b i) (chunks_end b) (entry b i - 2) → d1 ≡ with_word d (16 + 2 * i) 0 → SetsTail d1 c (entry b i - 2 + (chunks_end b - chunk_end b i)) →
-    EditsChunk b c i (entry b i - 2) × (entry c i ≡ 0)
-taken-out b d d1 c i h low fits wide high m is t =
-    let long = ap length is ∙ length-with_word d (16 + 2 * i) 0 in let long_d = m.long in (
-      edit-made b d d1 c i (entry b i - 2) h low (omega arith) wide high m long
-          (λ k out far. ap (λ x. get_or x k 0) is ∙ byte-other d (16 + 2 * i) 0 k (elim out [ inl l ↦ inl l | inr g ↦ inr (omega arith) ])) t,
-      word-bytes d1 c (16 + 2 * i) (16 + 2 * i) (t.same (16 + 2 * i) (omega arith) (inr (omega arith))) (t.same (16 + 2 * i + 1) (omega arith) (inr (omega arith)))
-          ∙ ap (λ x. word x (16 + 2 * i)) is ∙ word-same d (16 + 2 * i) 0 (omega arith) (omega (arith, long_d)),
-    )
-
 -- a chunk gets its size word and zeros behind its old bytes
 pub resized_at-is : (d d1 d2 : List ℕ) (begin len n : ℕ) → d1 ≡ with_word d begin (n + 2) → d2 ≡ with_part d1 (begin + 2 + len) (replicate (n - len) 0) → d2 ≡ with_part (with_word d begin (n + 2)) (begin + 2 + len) (replicate (n - len) 0)
 resized_at-is d d1 d2 begin len n e1 e2 = e2 ∙ ap (λ x. with_part x (begin + 2 + len) (replicate (n - len) 0)) e1
@@ -158,20 +146,6 @@ grow-made b d d1 d2 d3 c n end at n_is end_is at_is low fits most m e1 e2 e3 t =
       total = ap (λ x. x + 4 + total_free c) (sym at_is) ∙ t.total;
       ends = (let E : ℕ → Type 0 = λ x. EndsFree c (x + 4) in subst E at_is t.ends);
     }
-
--- as the code names what it moves
-pub took-out : (b d d1 c : List ℕ) (i at : ℕ) (x : Extent) → IsPacked b → i < entries b → IsExtent b i x → at ≡ chunks_end b →
-    MovesRun b d x.end at x.begin → d1 ≡ with_word d (16 + 2 * i) 0 → SetsTail d1 c (x.begin + (at - x.end)) → EditsChunk b c i (entry b i - 2) × (entry c i ≡ 0)
-took-out b d d1 c i at x p h k at_is m is t =
-    let bs = bounds b p in let low = k.low in let high = k.high in let wide = k.wide in let e = k.entry in let end_is = k.end in let room = bs.room in
-    let begin_is : x.begin ≡ entry b i - 2 = omega arith in
-    let MovesBehind : ℕ → Type 0 = λ y. MovesRun b d y at x.begin in
-    let MovesUntil : ℕ → Type 0 = λ y. MovesRun b d (chunk_end b i) y x.begin in
-    let MovesOnto : ℕ → Type 0 = λ y. MovesRun b d (chunk_end b i) (chunks_end b) y in
-    let TailBehind : ℕ → Type 0 = λ y. SetsTail d1 c (x.begin + (at - y)) in
-    let TailUntil : ℕ → Type 0 = λ y. SetsTail d1 c (x.begin + (y - chunk_end b i)) in
-    let TailFrom : ℕ → Type 0 = λ y. SetsTail d1 c (y + (chunks_end b - chunk_end b i)) in
-    taken-out b d d1 c i h (omega arith) (omega (arith, room, high)) (omega arith) (omega arith) (subst MovesOnto begin_is (subst MovesUntil at_is (subst MovesBehind end_is m))) is (subst TailFrom begin_is (subst TailUntil at_is (subst TailBehind end_is t)))
 
 pub resized-in-place : (b d d1 d2 c : List ℕ) (i at n : ℕ) (x : Extent) → IsPacked b → i < entries b → IsExtent b i x → at ≡ chunks_end b → 0 < n → cost n ≤ total_free b + cost (chunk_length b i) →
     MovesRun b d x.end at (x.begin + cost n) → d1 ≡ with_word d x.begin (n + 2) → d2 ≡ with_part d1 (x.begin + 2 + x.len) (replicate (n - x.len) 0) → SetsTail d2 c (x.begin + cost n + (at - x.end)) →

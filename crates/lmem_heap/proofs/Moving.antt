@@ -1,5 +1,5 @@
 -- A chunk that moves into a hole, and the hole that it leaves.
-use Rattle.std.proofs.Common.{◌≡◌, ◌≢◌, ℕ, zero, suc, ◌+◌, ◌-◌, ◌*◌, ◌%◌, ◌<◌, ◌≤◌, ◌⊎◌, List, [], ◌∷◌, ◌++◌, Some, None, length, get_or, set, replicate, drop, refl, ap, sym, ◌∙◌, subst, inl, inr, arith, length-take, length-drop}
+use Rattle.std.proofs.Common.{◌≡◌, ◌≢◌, ℕ, zero, suc, ◌+◌, ◌-◌, ◌*◌, ◌%◌, ◌<◌, ◌≤◌, ◌⊎◌, List, [], ◌∷◌, ◌++◌, Some, length, get_or, set, replicate, drop, refl, ap, sym, ◌∙◌, subst, inl, inr, arith, length-take, length-drop}
 use Rattle.std.proofs.lemmas.Bool.{cases_eq, cases_lt}
 use Rattle.std.proofs.lemmas.List.{same_lists, get_or-take, get_or-drop, get_or_default, get_or_past, length-replicate}
 use Rattle.lmem_raw.specs.Bytes.{part, with_part}
@@ -7,20 +7,20 @@ use Rattle.lmem_raw.proofs.Parts.{length-with_part}
 use Rattle.geos_model.specs.Bytes.{word, with_word, IsShifted}
 use Rattle.geos_model.specs.Chunks.{cost, resized}
 use Rattle.geos_model.specs.Block.{entry, entries, table_end, first_free, total_free, chunk_at, chunks}
-use Rattle.geos_model.specs.Heap.{Piece, Used, Free, Tiles, HasChunk, IsOffset, AreUsed, IsHeader, IsHeap, free_bytes}
-use Rattle.geos_model.proofs.Words.{word-bytes, word-part_other, get_or-with_part_before, get_or-with_part_behind, get_or-with_part_within}
-use Rattle.geos_model.proofs.Costs.{cost-four, cost-least, cost-fours}
-use Rattle.geos_model.proofs.Pieces.{LiesWithin, lies, tiles-le, tiles-join, has-left, has-right, has-split, free_bytes-append}
+use Rattle.geos_model.specs.Heap.{Piece, Used, Tiles, HasChunk, IsOffset, free_bytes}
+use Rattle.geos_model.proofs.Words.{word-bytes, get_or-with_part_before, get_or-with_part_behind, get_or-with_part_within}
+use Rattle.geos_model.proofs.Costs.{cost-four, cost-least}
+use Rattle.geos_model.proofs.Pieces.{lies, tiles-le, tiles-join, has-left, has-right, has-split, free_bytes-append}
 use Rattle.geos_model.proofs.Moves.{tiles-kept}
 use Rattle.geos_model.proofs.Resizes.{length-resized, get_or-resized}
 use Rattle.geos_model.proofs.Tables.{chunks-set}
 use Rattle.geos_model.proofs.Headers.{SameHead, head-word, same-header}
 use Rattle.geos_model.proofs.Entries.{chunk-told}
 use Rattle.geos_model.proofs.Found.{Found, find}
-use Rattle.lmem_heap.specs.Holes.{IsFirstLink, IsNextLink, IsLink, IsOpen, IsBeside}
+use Rattle.lmem_heap.specs.Holes.{IsOpen}
 use Rattle.lmem_heap.specs.Packed.{chunk_end, chunk_length}
 use Rattle.lmem_heap.proofs.FreeLists.{link-tiles, link-place, open-place, tiles-fours}
-use Rattle.lmem_heap.proofs.Relinking.{Apart, Clear, KeepsBack, other, clear, put, long, kept-chunk}
+use Rattle.lmem_heap.proofs.Relinking.{Apart, KeepsBack, other, clear, put, long, kept-chunk}
 
 -- the chunk of an entry stands before the hole or behind it
 pub data Side (b : List ℕ) (link at end i : ℕ) (o : IsOpen b link at end) : Type 0 where

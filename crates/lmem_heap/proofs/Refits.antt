@@ -1,9 +1,9 @@
 -- Chunks that are taken out of a list of chunks, and come back.
-use Rattle.std.proofs.Common.{◌≡◌, ◌≢◌, ℕ, zero, suc, ◌+◌, ◌-◌, ◌<◌, ◌≤◌, List, [], ◌∷◌, Option, Some, None, length, get_or, set, unwrap_or, refl, ap, sym, ◌∙◌, inl, inr, arith, length-set, get_or-set_same}
+use Rattle.std.proofs.Common.{◌≡◌, ℕ, zero, suc, ◌+◌, ◌-◌, ◌<◌, ◌≤◌, List, [], ◌∷◌, Some, None, length, get_or, set, unwrap_or, refl, ap, sym, ◌∙◌, inl, inr, arith, length-set, get_or-set_same}
 use Rattle.std.proofs.lemmas.Bool.{cases_eq}
 use Rattle.std.proofs.lemmas.Grind.{same_number_lists}
 use Rattle.lmem_raw.specs.Bytes.{part}
-use Rattle.geos_model.specs.Bytes.{word, IsShifted}
+use Rattle.geos_model.specs.Bytes.{word}
 use Rattle.geos_model.specs.Chunks.{resized, entry_bytes}
 use Rattle.geos_model.specs.Block.{entry, entries, chunks}
 use Rattle.geos_model.specs.Heap.{IsHeap, IsOffset}

@@ -1,12 +1,12 @@
 -- From the writes of the code to what they do to a hole.
-use Rattle.std.proofs.Common.{◌≡◌, ◌≢◌, ℕ, zero, suc, ◌+◌, ◌-◌, ◌*◌, ◌%◌, ◌<◌, ◌≤◌, ◌⊎◌, List, length, get_or, replicate, drop, refl, ap, sym, ◌∙◌, subst, inl, inr, arith, length-take, length-drop}
-use Rattle.std.proofs.lemmas.Bool.{cases_eq, cases_lt}
+use Rattle.std.proofs.Common.{◌≡◌, ◌≢◌, ℕ, zero, suc, ◌+◌, ◌-◌, ◌*◌, ◌%◌, ◌<◌, ◌≤◌, ◌⊎◌, List, length, get_or, replicate, drop, refl, ap, sym, ◌∙◌, inl, inr, arith, length-take, length-drop}
+use Rattle.std.proofs.lemmas.Bool.{cases_lt}
 use Rattle.std.proofs.lemmas.List.{same_lists, get_or-take, get_or-drop, get_or_default, get_or_past, length-replicate}
 use Rattle.lmem_raw.specs.Bytes.{part, with_part}
 use Rattle.lmem_raw.proofs.Parts.{length-with_part}
-use Rattle.geos_model.specs.Bytes.{word, with_word, IsShifted}
+use Rattle.geos_model.specs.Bytes.{word, with_word}
 use Rattle.geos_model.specs.Chunks.{cost, resized}
-use Rattle.geos_model.specs.Block.{entry, entries, table_end, first_free, total_free}
+use Rattle.geos_model.specs.Block.{entry, entries, table_end, total_free}
 use Rattle.geos_model.specs.Heap.{free_bytes}
 use Rattle.geos_model.proofs.Words.{word-part_other, get_or-with_part_before, get_or-with_part_behind, get_or-with_part_within}
 use Rattle.geos_model.proofs.Pieces.{tiles-le}
@@ -14,10 +14,9 @@ use Rattle.geos_model.proofs.Costs.{cost-least}
 use Rattle.geos_model.proofs.Resizes.{length-resized, get_or-resized}
 use Rattle.lmem_heap.specs.Holes.{IsOpen, IsBeside, Widens, GivesBack}
 use Rattle.lmem_heap.proofs.FreeLists.{OpenPlace, open-place}
-use Rattle.lmem_heap.proofs.Relinking.{Apart, Clear, KeepsFront, KeepsBack, other, clear, put, long, FreeBehind, free-behind}
+use Rattle.lmem_heap.proofs.Relinking.{Apart, KeepsFront, KeepsBack, other, clear, put, long, free-behind}
 use Rattle.lmem_heap.proofs.Giving.{took-whole, took-front, linked-in, merged-before}
 use Rattle.lmem_heap.proofs.Filling.{Filled, filled}
-use Rattle.lmem_heap.proofs.Making.{resized_at-is}
 
 -- where a link lies beside the header's total
 link-apart : (b : List ℕ) (link at end : ℕ) → OpenPlace b link at end → (link + 2 ≤ 14) ⊎ (16 ≤ link)

@@ -2,7 +2,7 @@
 use Rattle.std.proofs.Common.{◌≡◌, ◌≢◌, ℕ, ◌+◌, ◌*◌, ◌<◌, ◌≤◌, List, Option, Some, None, length, set, get_or, replicate, refl, ap, sym, ◌∙◌, subst, inl, inr, arith}
 use Rattle.std.proofs.lemmas.Bool.{cases_eq, cases_lt}
 use Rattle.geos_model.specs.Bytes.{word, with_word, IsShifted}
-use Rattle.geos_model.specs.Block.{entry, entries, table_end, chunk_at, chunks, first_free, total_free, handle_word}
+use Rattle.geos_model.specs.Block.{entry, entries, table_end, chunk_at, chunks, first_free, handle_word}
 use Rattle.geos_model.specs.Heap.{Tiles, IsOffset, IsHeap}
 use Rattle.geos_model.proofs.Words.{word-same, word-other, length-with_word, byte-other}
 use Rattle.geos_model.proofs.Entries.{chunk-none, chunk-nothing, told}

@@ -1,4 +1,4 @@
-use Rattle.std.proofs.Common.{ap, ◌∙◌, arith}
+use Rattle.std.proofs.Common.{ap, arith}
 use Rattle.geos_model.specs.Chunks.{used_bytes}
 use Rattle.geos_model.specs.Block.{chunks}
 use Rattle.geos_model.proofs.Lowest.{block-used, used-with_new}

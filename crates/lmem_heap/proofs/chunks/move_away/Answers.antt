@@ -1,4 +1,4 @@
-use Rattle.std.proofs.Common.{◌≡◌, ℕ, ◌<◌, List, Some, set, get_or, ap, sym, ◌∙◌, arith}
+use Rattle.std.proofs.Common.{◌<◌, Some, set, ap, sym, ◌∙◌, arith}
 use Rattle.geos_model.specs.Chunks.{entry_bytes, resized}
 use Rattle.geos_model.specs.Block.{chunks, entries, entry}
 use Rattle.geos_model.specs.Heap.{IsOffset}

@@ -1,9 +1,8 @@
-use Rattle.std.proofs.Common.{◌≡◌, ◌≢◌, ℕ, ◌+◌, ◌-◌, ◌%◌, ◌<◌, ◌≤◌, List, length, replicate, set, Some, refl, ap, sym, ◌∙◌, subst, inl, inr, arith}
-use Rattle.lmem_raw.specs.Bytes.{part}
+use Rattle.std.proofs.Common.{◌≡◌, ℕ, replicate, set, Some, ap, sym, ◌∙◌, subst, arith}
 use Rattle.geos_model.specs.Block.{chunks}
 use Rattle.geos_model.proofs.Costs.{cost-four, cost-fours}
 use Rattle.geos_model.proofs.Resizes.{resized-nothing}
-use Rattle.lmem_heap.specs.Holes.{IsOpen, PlacesChunk}
+use Rattle.lmem_heap.specs.Holes.{IsOpen}
 use Rattle.lmem_heap.proofs.FreeLists.{open-heap, open-place}
 use Rattle.lmem_heap.proofs.Unplaced.{nothing-comes}
 use Rattle.lmem_heap.proofs.chunks.place_chunk.Goals as goal

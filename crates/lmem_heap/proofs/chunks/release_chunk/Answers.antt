@@ -1,5 +1,5 @@
-use Rattle.std.proofs.Common.{◌≡◌, ◌≢◌, ℕ, ◌+◌, ◌-◌, ◌%◌, ◌<◌, ◌≤◌, List, length, replicate, set, Some, refl, ap, sym, ◌∙◌, subst, inl, inr, arith}
-use Rattle.lmem_heap.proofs.Unplaced.{nothing-goes, nothing-comes}
+use Rattle.std.proofs.Common.{sym, ◌∙◌}
+use Rattle.lmem_heap.proofs.Unplaced.{nothing-goes}
 use Rattle.lmem_heap.proofs.chunks.release_chunk.Goals as goal
 
 pub returns-then-entry-clause-heap : goal.returns-then-entry-clause-heap

@@ -1,6 +1,6 @@
-use Rattle.std.proofs.Common.{ℕ, None, Some, get_or, replicate, ap, arith}
+use Rattle.std.proofs.Common.{ℕ, None, Some, replicate, ap, arith}
 use Rattle.std.proofs.lemmas.List.{length-replicate}
-use Rattle.geos_model.specs.Chunks.{cost, cost_of, used_bytes}
+use Rattle.geos_model.specs.Chunks.{cost}
 use Rattle.geos_model.specs.Block.{chunks}
 use Rattle.geos_model.proofs.Costs.{cost-over}
 use Rattle.geos_model.proofs.Sums.{count-chunks}

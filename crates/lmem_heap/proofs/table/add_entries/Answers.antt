@@ -1,10 +1,7 @@
-use Rattle.std.proofs.Common.{◌≡◌, ◌≤◌, ℕ, List, [], ◌∷◌, ◌++◌, None, length, ap, sym, ◌∙◌, arith, ◌+◌}
-use Rattle.geos_model.specs.Chunks.{used_bytes}
-use Rattle.geos_model.specs.Block.{entry, entries, chunks, total_free}
-use Rattle.geos_model.specs.Heap.{IsHeap}
+use Rattle.std.proofs.Common.{[], ◌∷◌, ◌++◌, None, ap, sym, ◌∙◌, arith}
+use Rattle.geos_model.specs.Block.{entry}
 use Rattle.geos_model.proofs.Headers.{head-word}
-use Rattle.geos_model.proofs.Lowest.{block-used, entries-same}
-use Rattle.lmem_heap.specs.Packed.{IsPacked}
+use Rattle.geos_model.proofs.Lowest.{entries-same}
 use Rattle.lmem_heap.proofs.Additions.{grown-packed, grown-chunks}
 use Rattle.lmem_heap.proofs.PackedHeaps.{packed-heap, packed-room}
 use Rattle.lmem_heap.proofs.table.add_entries.Goals as goal

@@ -1,5 +1,4 @@
-use Rattle.std.proofs.Common.{◌≡◌, ◌≢◌, ℕ, ◌+◌, ◌-◌, ◌%◌, ◌<◌, ◌≤◌, List, length, refl, ap, sym, ◌∙◌, subst, inl, inr, arith}
-use Rattle.geos_model.specs.Bytes.{word}
+use Rattle.std.proofs.Common.{ℕ, ◌+◌, sym, ◌∙◌, subst, inl, inr, arith}
 use Rattle.lmem_heap.specs.Holes.{IsOpen}
 use Rattle.lmem_heap.proofs.FreeLists.{open-next, open-beside, open-place}
 use Rattle.lmem_heap.proofs.holes.Hole.at.Goals as goal

@@ -1,8 +1,8 @@
-use Rattle.std.proofs.Common.{◌≡◌, ◌≢◌, ℕ, ◌+◌, ◌-◌, ◌%◌, ◌<◌, ◌≤◌, List, length, replicate, set, Some, refl, ap, sym, ◌∙◌, subst, inl, inr, arith}
+use Rattle.std.proofs.Common.{◌≡◌, ℕ, ◌+◌, replicate, sym, subst, arith}
 use Rattle.lmem_raw.specs.Bytes.{with_part}
 use Rattle.lmem_heap.specs.Holes.{IsBeside}
 use Rattle.geos_model.proofs.Costs.{cost-least}
-use Rattle.lmem_heap.proofs.FreeLists.{heap-open, heap-next, open-fits, open-next, open-beside, open-place}
+use Rattle.lmem_heap.proofs.FreeLists.{open-place}
 use Rattle.lmem_heap.proofs.Taking.{hole-filled}
 use Rattle.lmem_heap.proofs.holes.Hole.fill.Goals as goal
 

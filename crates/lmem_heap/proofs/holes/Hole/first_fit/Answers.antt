@@ -1,7 +1,7 @@
-use Rattle.std.proofs.Common.{◌≡◌, ◌≢◌, ℕ, ◌+◌, ◌-◌, ◌%◌, ◌<◌, ◌≤◌, List, length, replicate, set, Some, refl, ap, sym, ◌∙◌, subst, inl, inr, arith}
+use Rattle.std.proofs.Common.{ℕ, ◌+◌, ◌≤◌, length, ap, sym, ◌∙◌, subst, arith}
 use Rattle.geos_model.specs.Bytes.{word}
 use Rattle.lmem_heap.specs.Holes.{IsOpen, FitsBehind}
-use Rattle.lmem_heap.proofs.FreeLists.{heap-open, heap-next, open-fits, open-next, open-beside, open-place}
+use Rattle.lmem_heap.proofs.FreeLists.{heap-open, heap-next, open-fits}
 use Rattle.lmem_heap.proofs.holes.Hole.first_fit.Goals as goal
 
 pub loop-next-init : goal.loop-next-init

@@ -1,4 +1,4 @@
-use Rattle.std.proofs.Common.{ℕ, ap, refl, subst, sym}
+use Rattle.std.proofs.Common.{ℕ, refl, subst, sym}
 use Rattle.lmem_heap.specs.Holes.{IsOpen}
 use Rattle.lmem_heap.proofs.FreeLists.{open-heap}
 use Rattle.lmem_heap.proofs.holes.Hole.give_back.Goals as goal

@@ -1,8 +1,8 @@
-use Rattle.std.proofs.Common.{◌≡◌, ◌≢◌, ℕ, ◌+◌, ◌-◌, ◌%◌, ◌<◌, ◌≤◌, List, length, replicate, set, Some, refl, ap, sym, ◌∙◌, subst, inl, inr, arith}
+use Rattle.std.proofs.Common.{◌≡◌, ℕ, ◌+◌, ◌-◌, length, refl, ap, sym, ◌∙◌, subst, arith}
 use Rattle.geos_model.specs.Bytes.{word}
 use Rattle.geos_model.specs.Chunks.{cost}
 use Rattle.geos_model.specs.Block.{entry, table_end}
-use Rattle.geos_model.proofs.Costs.{cost-least, cost-four, cost-fours}
+use Rattle.geos_model.proofs.Costs.{cost-least, cost-fours}
 use Rattle.geos_model.proofs.Entries.{told}
 use Rattle.geos_model.proofs.Words.{part-shifted}
 use Rattle.lmem_heap.specs.Holes.{IsOpen}

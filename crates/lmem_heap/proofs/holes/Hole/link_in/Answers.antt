@@ -1,5 +1,5 @@
-use Rattle.std.proofs.Common.{◌≡◌, ◌≢◌, ℕ, ◌+◌, ◌-◌, ◌%◌, ◌<◌, ◌≤◌, List, length, refl, ap, sym, ◌∙◌, subst, inl, inr, arith}
-use Rattle.lmem_heap.proofs.FreeLists.{open-next, open-beside, open-place}
+use Rattle.std.proofs.Common.{refl, arith}
+use Rattle.lmem_heap.proofs.FreeLists.{open-place}
 use Rattle.lmem_heap.proofs.Taking.{hole-linked}
 use Rattle.lmem_heap.proofs.holes.Hole.link_in.Goals as goal
 

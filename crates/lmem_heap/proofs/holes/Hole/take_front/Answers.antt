@@ -1,5 +1,5 @@
-use Rattle.std.proofs.Common.{◌≡◌, ◌≢◌, ℕ, ◌+◌, ◌-◌, ◌%◌, ◌<◌, ◌≤◌, List, length, replicate, set, Some, refl, ap, sym, ◌∙◌, subst, inl, inr, arith}
-use Rattle.lmem_heap.proofs.FreeLists.{heap-open, heap-next, open-fits, open-next, open-beside, open-place}
+use Rattle.std.proofs.Common.{arith}
+use Rattle.lmem_heap.proofs.FreeLists.{open-place}
 use Rattle.lmem_heap.proofs.Taking.{free-fits, front-taken}
 use Rattle.lmem_heap.proofs.holes.Hole.take_front.Goals as goal
 

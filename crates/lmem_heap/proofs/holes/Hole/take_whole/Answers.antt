@@ -1,7 +1,6 @@
-use Rattle.std.proofs.Common.{◌≡◌, ◌≢◌, ℕ, ◌+◌, ◌-◌, ◌%◌, ◌<◌, ◌≤◌, List, length, refl, ap, sym, ◌∙◌, subst, inl, inr, arith}
-use Rattle.geos_model.specs.Bytes.{word}
+use Rattle.std.proofs.Common.{ℕ, ◌+◌, ap, sym, ◌∙◌, subst, arith}
 use Rattle.lmem_heap.specs.Holes.{Widens}
-use Rattle.lmem_heap.proofs.FreeLists.{open-next, open-beside, open-place}
+use Rattle.lmem_heap.proofs.FreeLists.{open-place}
 use Rattle.lmem_heap.proofs.Taking.{free-fits, whole-taken}
 use Rattle.lmem_heap.proofs.holes.Hole.take_whole.Goals as goal
 

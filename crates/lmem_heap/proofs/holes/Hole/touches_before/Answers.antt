@@ -1,5 +1,5 @@
-use Rattle.std.proofs.Common.{◌≡◌, ◌≢◌, ℕ, ◌+◌, ◌-◌, ◌%◌, ◌<◌, ◌≤◌, List, length, refl, ap, sym, ◌∙◌, subst, inl, inr, arith}
-use Rattle.lmem_heap.proofs.FreeLists.{open-next, open-beside, open-place}
+use Rattle.std.proofs.Common.{arith}
+use Rattle.lmem_heap.proofs.FreeLists.{open-place}
 use Rattle.lmem_heap.proofs.holes.Hole.touches_before.Goals as goal
 
 pub get16-requires : goal.get16-requires

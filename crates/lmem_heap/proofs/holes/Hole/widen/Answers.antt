@@ -1,4 +1,4 @@
-use Rattle.std.proofs.Common.{◌+◌, sym, ◌∙◌, arith}
+use Rattle.std.proofs.Common.{sym, ◌∙◌, arith}
 use Rattle.lmem_heap.proofs.FreeLists.{open-place}
 use Rattle.lmem_heap.proofs.Taking.{free-fits}
 use Rattle.lmem_heap.proofs.holes.Hole.widen.Goals as goal
