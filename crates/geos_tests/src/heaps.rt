@@ -76,8 +76,8 @@ fn makes_a_fresh_block(rt: HostRuntime) -> Result<(), Fail> {
     Ok(())
 }
 
-/// A block of 64 bytes with two chunks of 10 bytes, the first of which is freed. The second one's
-/// bytes are 1 to 10.
+/// A block of 64 bytes with two chunks of 10 bytes, the first of which is freed. The second
+/// one's bytes are 1 to 10.
 fn with_a_free_chunk(rt: &impl Abort) -> [u8; 64]
     ensures { IsHeap result }
 {

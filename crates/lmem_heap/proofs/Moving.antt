@@ -183,7 +183,8 @@ zero-at zero k = refl
 zero-at (suc n) zero = refl
 zero-at (suc n) (suc k) = zero-at n k
 
--- the writes that move a chunk into a hole: its entry, the size word, the bytes that it keeps, and zeros
+-- the writes that move a chunk into a hole: its entry, the size word, the bytes that it keeps,
+-- and zeros
 pub moved-in-hole : (b d1 d2 d3 c : List ℕ) (link at end i keep n : ℕ) → (o : IsOpen b link at end) → i < entries b → IsOffset (entry b i) → 0 < n → at + cost n ≡ end → keep ≤ n → keep ≤ chunk_length b i → (n ≤ keep) ⊎ (chunk_length b i ≤ keep) →
     d1 ≡ with_word b (16 + 2 * i) (at + 2) → d2 ≡ with_word d1 at (n + 2) → d3 ≡ with_part d2 (at + 2) (part d2 (entry b i) keep) → c ≡ with_part d3 (at + 2 + keep) (replicate (n - keep) 0) →
     Redirects b c i (resized (part b (entry b i) (chunk_length b i)) n)

@@ -191,8 +191,8 @@ fn resize_beside(block: &mut [u8], i: usize, n: u16) -> bool
     }
 }
 
-/// Gives a chunk another length in front of the first free chunk that is large enough, and leaves
-/// the others where they are. False where none is; then nothing is changed.
+/// Gives a chunk another length in front of the first free chunk that is large enough, and
+/// leaves the others where they are. False where none is; then nothing is changed.
 fn move_away(block: &mut [u8], i: usize, n: u16) -> bool
     requires heap { IsHeap block.old }
     requires known { i < entries block.old }
