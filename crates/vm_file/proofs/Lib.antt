@@ -1,0 +1,2 @@
+pub mod Touches
+pub mod Moments

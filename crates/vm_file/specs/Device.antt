@@ -1,0 +1,37 @@
+-- What the calls of a device may leave.
+use Rattle.std.specs.Prelude.{◌≡◌, ◌⊎◌, ℕ, ◌+◌, ◌-◌, ◌^◌, ◌<◌, min, List, length, take, drop, Result, OnOk, OnErr}
+
+-- the new image is the old one outside the n bytes from an offset on
+pub record Touched (at n : ℕ) (old new : List ℕ) : Type 0 where
+  pub long : length new ≡ length old
+  pub before : take at new ≡ take at old
+  pub behind : drop (at + n) new ≡ drop (at + n) old
+
+-- an image that was possible, with any bytes in that range
+abbrev pub AfterWrite : ℕ → ℕ → (List ℕ → Type 0) → List ℕ → Type 0
+AfterWrite at n images c = (d : List ℕ) × images d × Touched at n d c
+
+-- no other image is possible
+abbrev pub Only : List ℕ → (List ℕ → Type 0) → Type 0
+Only image images = (c : List ℕ) → images c → c ≡ image
+
+-- from the old state on to the new one a stop leaves an image of these, besides what it may have left up to the old one
+abbrev pub Passes : {D : Type 0} → (D → D → List ℕ → Type 0) → D → D → (List ℕ → Type 0) → Type 0
+Passes {D} left old new images = (s : D) (c : List ℕ) → left s new c → left s old c ⊎ images c
+
+-- one more, up to the greatest number
+abbrev pub one_more : ℕ → ℕ
+one_more n = min (n + 1) (2 ^ 64 - 1)
+
+-- a failing call counts once, and no other call counts
+pub record Counts {T E : Type 0} (before now : ℕ) (result : Result T E) : Type 0 where
+  pub ok : OnOk result (now ≡ before)
+  pub err : OnErr result (now ≡ one_more before)
+
+-- a count of failures rose: at the greatest number it stays, and counts as risen
+abbrev pub Rose : ℕ → ℕ → Type 0
+Rose before now = (before < now) ⊎ (now ≡ 2 ^ 64 - 1)
+
+-- two counts of failures together, up to the greatest number
+abbrev pub all_failures : ℕ → ℕ → ℕ
+all_failures inner own = min (inner + own) (2 ^ 64 - 1)

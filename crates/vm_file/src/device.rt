@@ -1,0 +1,87 @@
+//! What a file stands on: bytes that last.
+ghost use Rattle.std.specs.Prelude.{◌≡◌, ◌+◌, ◌≤◌, ℕ, List, length, OnOk};
+ghost use Rattle.lmem_raw.specs.Bytes.{part, with_part};
+ghost use Rattle.vm_file.specs.Device.{AfterWrite, Counts, Only, Passes, Touched, one_more};
+
+use thiserror::Error;
+
+/// The device failed.
+#[derive(Clone, Copy, Debug, Drop, PartialEq, Eq, Error)]
+#[error("disk")]
+pub struct Disk;
+
+/// Bytes of a fixed length that last. A stop, as of the machine, may lose what was written since the last `sync`, in part
+/// or whole: what it leaves is an image, a list of bytes.
+///
+/// The clauses on images hold of a device that is honest: one that returns what was last written to it. The others hold
+/// of every device. No device keeps a record of its calls: its clauses only say which images a stop can't leave.
+pub trait Device {
+    /// The bytes that reads give now.
+    ghost image: { Self → List ℕ };
+
+    /// It returns what was last written to it.
+    ghost honest: { Self → Type 0 };
+
+    /// How often it has failed.
+    ghost failed: { Self → ℕ };
+
+    /// A stop now may leave this image.
+    ghost may_leave: { Self → List ℕ → Type 0 };
+
+    /// A stop at some moment from the first state to the second may have left this image.
+    ghost may_have_left: { Self → Self → List ℕ → Type 0 };
+
+    /// The length in bytes.
+    fn len(&self) -> u64
+        ensures { result ≡ length (image self.now) };
+
+    /// How often a call has failed; at the greatest number it stays.
+    fn failures(&self) -> u64
+        ensures { result ≡ failed self.now };
+
+    /// Reads the bytes from an offset on. `Disk` where the device fails, as it does past its length; what `into` holds then
+    /// is not said.
+    fn read_at(&mut self, at: u64, into: &mut [u8]) -> Result<(), Disk>
+        ensures within { OnOk result (at + length into.old ≤ length (image self.old)) }
+        ensures bytes { honest self.old → OnOk result (into.new ≡ part (image self.old) at (length into.old)) }
+        ensures image { image self.new ≡ image self.old }
+        ensures honest { honest self.old → honest self.new }
+        ensures stop { honest self.old → (c : List ℕ) → may_leave self.new c → may_leave self.old c }
+        ensures time { honest self.old → Passes may_have_left self.old self.new (may_leave self.old) }
+        ensures cause { Counts (failed self.old) (failed self.new) result };
+
+    /// Writes bytes from an offset on. `Disk` where the device fails, as it does past its length: then any bytes may stand
+    /// in that range, and the others stay. They last once a `sync` has succeeded; a stop before that may leave any bytes
+    /// in the range.
+    fn write_at(&mut self, at: u64, bytes: &[u8]) -> Result<(), Disk>
+        ensures len { length (image self.new) ≡ length (image self.old) }
+        ensures within { OnOk result (at + length bytes.now ≤ length (image self.old)) }
+        ensures written { honest self.old → OnOk result (image self.new ≡ with_part (image self.old) at bytes.now) }
+        ensures torn { honest self.old → Touched at (length bytes.now) (image self.old) (image self.new) }
+        ensures honest { honest self.old → honest self.new }
+        ensures stop { honest self.old → (c : List ℕ) → may_leave self.new c → AfterWrite at (length bytes.now) (may_leave self.old) c }
+        ensures time { honest self.old → Passes may_have_left self.old self.new (AfterWrite at (length bytes.now) (may_leave self.old)) }
+        ensures cause { Counts (failed self.old) (failed self.new) result };
+
+    /// Makes last what was written: after it a stop leaves what reads give. `Disk` where the device fails.
+    fn sync(&mut self) -> Result<(), Disk>
+        ensures durable { honest self.old → OnOk result (Only (image self.new) (may_leave self.new)) }
+        ensures image { image self.new ≡ image self.old }
+        ensures honest { honest self.old → honest self.new }
+        ensures stop { honest self.old → (c : List ℕ) → may_leave self.new c → may_leave self.old c }
+        ensures time { honest self.old → Passes may_have_left self.old self.new (may_leave self.old) }
+        ensures cause { Counts (failed self.old) (failed self.new) result };
+
+    /// What reads give is one of the images that a stop may leave.
+    ghost reads_now: { (d : Self) → may_leave d (image d) };
+
+    /// In no time a stop may leave what it may leave now.
+    ghost at_once: { (d : Self) (c : List ℕ) → may_have_left d d c → may_leave d c };
+}
+
+/// One failure more; at the greatest number the count stays.
+pub(crate) fn count_failure(failures: &mut u64)
+    ensures { failures.new ≡ one_more failures.old }
+{
+    *failures = failures.saturating_add(1);
+}

@@ -1,0 +1,16 @@
+//! VM files: blocks with lasting handles, kept on a device of which a stop may lose what was written last.
+//!
+//! A file has two areas, and a selector that names one of them; an area holds two directories with their blocks, the
+//! current one and the saved one. docs/FILES.md has the layout and says what a stop leaves. (GEOS SDK Concepts Book,
+//! chapter Virtual Memory.)
+#![tactic(auto)]
+
+mod device;
+mod disk_file;
+mod faulty;
+mod memory;
+
+pub use device::{Device, Disk};
+pub use disk_file::FileDevice;
+pub use faulty::FaultDevice;
+pub use memory::MemoryDevice;
