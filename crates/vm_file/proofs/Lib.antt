@@ -1,2 +1,4 @@
 pub mod Touches
 pub mod Moments
+pub mod HeapTests
+pub mod FileExamples

@@ -6,11 +6,13 @@
 #![tactic(auto)]
 
 mod device;
+mod directory;
 mod disk_file;
 mod faulty;
 mod memory;
 
 pub use device::{Device, Disk};
+pub use directory::{Directory, Entry, MOST_BLOCKS};
 pub use disk_file::FileDevice;
 pub use faulty::FaultDevice;
 pub use memory::MemoryDevice;

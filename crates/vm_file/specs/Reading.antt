@@ -1,0 +1,118 @@
+-- What a file spells, with the offset of the first field that is cut or breaks its rule.
+use Rattle.std.specs.Prelude.{ℕ, zero, suc, ◌+◌, ◌*◌, ◌%◌, Bool, true, false, ◌&&◌, ◌||◌, not, nat_lt, nat_le, nat_eq, ◌==◌, if◌then◌else◌, List, [], ◌∷◌, length, take, drop, map, sum_by, Result, Ok, Err, slice_index}
+use Rattle.std.specs.List.{prefix_len}
+use Rattle.std.specs.Cmp.Lexicographic.{pointwise}
+use Rattle.lmem_raw.specs.Bytes.{part}
+use Rattle.geos_model.specs.Bytes.{word}
+use Rattle.geos_model.specs.Block.{handle_word}
+use Rattle.vm_file.specs.declared.directory.Entry.{Entry}
+use Rattle.vm_file.specs.Heaps.{is_heap, is_block_size}
+use Rattle.vm_file.specs.Directories.{most_blocks, is_entry, may_be_map_block, may_be_map_group, may_be_map_item, entries_length}
+use Rattle.vm_file.specs.Contents.{Block, Contents, Pair, entry_of, contents_length}
+
+-- reading goes on with what was read, and stops at the first fault
+infixl 10 ◌>>=◌
+abbrev pub ◌>>=◌ : {A B : Type 0} → Result A ℕ → (A → Result B ℕ) → Result B ℕ
+(Ok x) >>= f = f x
+(Err at) >>= f = Err at
+
+-- what was read, or a fault at the offset where it breaks its rule
+abbrev pub wanted : {A : Type 0} → ℕ → (A → Bool) → Result A ℕ → Result A ℕ
+wanted at rule (Ok x) = if rule x then Ok x else Err at
+wanted at rule (Err e) = Err e
+
+-- the word at k of the bytes that stand at an offset; where it is cut, the fault is there
+abbrev pub word_at : ℕ → List ℕ → ℕ → Result ℕ ℕ
+word_at at bytes k = if nat_lt (k + 1) (length bytes) then Ok (word bytes k) else Err (at + k)
+
+-- handle, user ID and length of a block, behind one with this handle
+unfoldable pub head_at : ℕ → ℕ → List ℕ → Result Entry ℕ
+head_at last at bytes = do
+  h ← wanted at (λ h. nat_lt last h && nat_le h most_blocks) (word_at at bytes 0)
+  uid ← word_at at bytes 2
+  len ← wanted (at + 4) is_block_size (word_at at bytes 4)
+  Ok (record { h = h; uid = uid; len = len })
+
+-- the bytes of a block, one field: a heap whose handle word is its handle
+unfoldable pub bytes_at : Entry → ℕ → List ℕ → Result (List ℕ) ℕ
+bytes_at e at bytes =
+    let block = take e.len bytes in
+    if nat_le e.len (length bytes) && is_heap block && (handle_word block == e.h) then Ok block else Err at
+
+-- so many blocks, behind one with this handle
+unfoldable pub blocks_at : ℕ → ℕ → ℕ → List ℕ → Result (List Block) ℕ
+blocks_at zero last at bytes = Ok []
+blocks_at (suc n) last at bytes = do
+  e ← head_at last at bytes
+  block ← bytes_at e (at + 6) (drop 6 bytes)
+  others ← blocks_at n e.h (at + 6 + e.len) (drop (6 + e.len) bytes)
+  Ok (record { h = e.h; uid = e.uid; bytes = block } ∷ others)
+
+-- map block, the map item's group, map item
+unfoldable pub maps_at : List Entry → ℕ → List ℕ → Result (ℕ × (ℕ × ℕ)) ℕ
+maps_at entries at bytes = do
+  h ← wanted at (may_be_map_block entries) (word_at at bytes 0)
+  g ← wanted (at + 2) (may_be_map_group entries) (word_at at bytes 2)
+  item ← wanted (at + 4) (may_be_map_item g) (word_at at bytes 4)
+  Ok (h, (g, item))
+
+-- a directory with its blocks
+unfoldable pub contents_at : ℕ → List ℕ → Result Contents ℕ
+contents_at at bytes = do
+  n ← wanted at (λ n. nat_le n most_blocks) (word_at at bytes 0)
+  blocks ← blocks_at n 0 (at + 2) (drop 2 bytes)
+  maps ← maps_at (map entry_of blocks) (at + 2 + entries_length (map entry_of blocks)) (drop (2 + entries_length (map entry_of blocks)) bytes)
+  Ok (record { blocks = blocks; map_block = maps.0; map_item = maps.1 })
+
+-- the current directory, then the saved one
+unfoldable pub pair_at : ℕ → List ℕ → Result Pair ℕ
+pair_at at bytes = do
+  cur ← contents_at at bytes
+  saved ← contents_at (at + contents_length cur) (drop (contents_length cur) bytes)
+  Ok (record { cur = cur; saved = saved })
+
+-- `GVM1`
+abbrev pub magic : List ℕ
+magic = 0x47 ∷ 0x56 ∷ 0x4d ∷ 0x31 ∷ []
+
+-- a legal area size
+abbrev pub is_area : ℕ → Bool
+is_area n = nat_le 512 n && nat_le n 16777216 && (n % 512 == 0)
+
+-- `GVM1`, the version 1, 0, the area size, and zeros to 511
+unfoldable pub header_at : List ℕ → Result ℕ ℕ
+header_at image =
+    let zeros = prefix_len (λ b. b == 0) (part image 12 500) in do
+      magic ← wanted 0 (pointwise nat_eq magic) (Ok (take 4 image))
+      version ← wanted 4 (λ n. n == 1) (word_at 0 image 4)
+      unused ← wanted 6 (λ n. n == 0) (word_at 0 image 6)
+      low ← word_at 0 image 8
+      area ← wanted 8 is_area (if nat_lt 11 (length image) then Ok (low + 65536 * word image 10) else Err 8)
+      rest ← wanted (12 + zeros) (λ n. n == 500) (Ok zeros)
+      Ok area
+
+-- the selector names the second area: it is odd
+abbrev pub is_second : ℕ → Bool
+is_second selector = selector % 2 == 1
+
+-- where an area begins
+abbrev pub base_of : ℕ → Bool → ℕ
+base_of area second = if second then 1024 + area else 1024
+
+-- the bytes of an area, as many as the image has
+abbrev pub area_of : List ℕ → ℕ → Bool → List ℕ
+area_of image area second = part image (base_of area second) area
+
+-- what a file holds: the area size, whether the second area is selected, and the pair in the one that is
+pub record File : Type 0 where
+  pub area : ℕ
+  pub second : Bool
+  pub pair : Pair
+
+-- the file that an image spells
+unfoldable pub file_at : List ℕ → Result File ℕ
+file_at image = do
+  area ← header_at image
+  selector ← if nat_lt 512 (length image) then Ok (slice_index image 512) else Err 512
+  pair ← pair_at (base_of area (is_second selector)) (area_of image area (is_second selector))
+  Ok (record { area = area; second = is_second selector; pair = pair })

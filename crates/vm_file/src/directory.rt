@@ -1,0 +1,27 @@
+//! What a file lists.
+use arrayvec::ArrayVec;
+
+/// The greatest handle, and the greatest number of blocks.
+pub const MOST_BLOCKS: usize = 1024;
+
+/// A block of a file, as its directory lists it.
+#[derive(Clone, Copy, Debug, Default, PartialEq, Eq)]
+pub struct Entry {
+    /// The block's handle, from 1 to 1,024.
+    pub h: u16,
+    /// Its user ID; that of a group is 65,280.
+    pub uid: u16,
+    /// Its length in bytes, a legal block size.
+    pub len: u16,
+}
+
+/// The blocks of a file in ascending order of their handles, and what is mapped. (GEOS SDK Concepts Book, chapter Virtual
+/// Memory.)
+#[derive(Drop)]
+pub struct Directory {
+    pub entries: ArrayVec<Entry, MOST_BLOCKS>,
+    /// The map block: 0, or the handle of a block that is no group.
+    pub map_block: u16,
+    /// The map item: a group, or 0 for none, and the chunk handle of the item in it.
+    pub map_item: (u16, u16),
+}
