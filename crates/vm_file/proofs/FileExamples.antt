@@ -4,7 +4,7 @@ use Rattle.geos_model.specs.Bytes.{word, word_bytes}
 use Rattle.geos_model.specs.Chunks.{cost}
 use Rattle.vm_file.specs.Heaps.{is_heap}
 use Rattle.vm_file.specs.Contents.{Block, Contents, Pair, pair_spelling, pair_length}
-use Rattle.vm_file.specs.Reading.{head_at, bytes_at, blocks_at, maps_at, contents_at, pair_at, header_at, file_at, File}
+use Rattle.vm_file.specs.Reading.{head_at, bytes_at, block_at, maps_at, contents_at, pair_at, header_at, file_at, File}
 use Rattle.vm_file.specs.Spelling.{new_file}
 
 -- no block, nothing mapped
@@ -29,23 +29,23 @@ fresh_header : take 16 fresh ≡ 0x47 ∷ 0x56 ∷ 0x4d ∷ 0x31 ∷ 1 ∷ 0 ∷
 fresh_header = refl
 
 fresh_opens : file_at fresh ≡ Ok (record { area = 512; second = false; pair = empty_pair })
-unfolding is_heap word cost head_at bytes_at blocks_at maps_at contents_at pair_at header_at file_at
+unfolding is_heap word cost head_at bytes_at block_at maps_at contents_at pair_at header_at file_at
 fresh_opens = refl
 
 -- a version 2, an area of 513 bytes, a byte in the header that is not 0
 damaged_headers : (file_at (set fresh 4 2) ≡ Err 4) × (file_at (with_word fresh 8 1 2) ≡ Err 8) × (file_at (set fresh 100 1) ≡ Err 100)
-unfolding is_heap word cost head_at bytes_at blocks_at maps_at contents_at pair_at header_at file_at
+unfolding is_heap word cost head_at bytes_at block_at maps_at contents_at pair_at header_at file_at
 damaged_headers = (refl, refl, refl)
 
 -- cut in the header, before the selector, before the first area, in it, and in its last word
 cut_files : (file_at (take 300 fresh) ≡ Err 300) × (file_at (take 512 fresh) ≡ Err 512) × (file_at (take 600 fresh) ≡ Err 1024)
     × (file_at (take 1030 fresh) ≡ Err 1030) × (file_at (take 1039 fresh) ≡ Err 1038)
-unfolding is_heap word cost head_at bytes_at blocks_at maps_at contents_at pair_at header_at file_at
+unfolding is_heap word cost head_at bytes_at block_at maps_at contents_at pair_at header_at file_at
 cut_files = (refl, refl, refl, refl, refl)
 
 -- an even selector names the first area
 other_selector : file_at (set fresh 512 6) ≡ Ok (record { area = 512; second = false; pair = empty_pair })
-unfolding is_heap word cost head_at bytes_at blocks_at maps_at contents_at pair_at header_at file_at
+unfolding is_heap word cost head_at bytes_at block_at maps_at contents_at pair_at header_at file_at
 other_selector = refl
 
 -- a block of 64 bytes with handle 1, user ID 5 and a chunk of two bytes, which is the map block
@@ -63,19 +63,19 @@ one_block_long : pair_length one_block ≡ 86
 one_block_long = refl
 
 updated_opens : file_at updated ≡ Ok (record { area = 512; second = true; pair = one_block })
-unfolding is_heap word cost head_at bytes_at blocks_at maps_at contents_at pair_at header_at file_at
+unfolding is_heap word cost head_at bytes_at block_at maps_at contents_at pair_at header_at file_at
 updated_opens = refl
 
 -- too many blocks, handle 0, length 72, a flag in the block's header
 damaged_entries : (file_at (with_word updated 1536 1 4) ≡ Err 1536) × (file_at (with_word updated 1538 0 0) ≡ Err 1538)
     × (file_at (with_word updated 1542 72 0) ≡ Err 1542) × (file_at (set updated 1548 1) ≡ Err 1544)
-unfolding is_heap word cost head_at bytes_at blocks_at maps_at contents_at pair_at header_at file_at
+unfolding is_heap word cost head_at bytes_at block_at maps_at contents_at pair_at header_at file_at
 damaged_entries = (refl, refl, refl, refl)
 
 -- a second block that is not there, a map block that is a group, a map block that is not there, a map item without a group
 damaged_maps : (file_at (with_word updated 1536 2 0) ≡ Err 1608) × (file_at (with_word updated 1540 0 255) ≡ Err 1608)
     × (file_at (with_word updated 1608 2 0) ≡ Err 1608) × (file_at (with_word updated 1612 3 0) ≡ Err 1612)
-unfolding is_heap word cost head_at bytes_at blocks_at maps_at contents_at pair_at header_at file_at
+unfolding is_heap word cost head_at bytes_at block_at maps_at contents_at pair_at header_at file_at
 damaged_maps = (refl, refl, refl, refl)
 
 -- four blocks twice are too long for an area of 512 bytes, four and none are not

@@ -25,10 +25,10 @@ pub and-true : (a b : Bool) → a ≡ true → b ≡ true → (a && b) ≡ true
 and-true true b p q = q
 and-true false b p q = absurd (false≢true p)
 
-le-leb : (a b : ℕ) → a ≤ b → leb a b ≡ true
+pub le-leb : (a b : ℕ) → a ≤ b → leb a b ≡ true
 le-leb a b h = grind (arith, nat_tests)
 
-lt-ltb : (a b : ℕ) → a < b → ltb a b ≡ true
+pub lt-ltb : (a b : ℕ) → a < b → ltb a b ≡ true
 lt-ltb a b h = grind (arith, nat_tests)
 
 not-eqb : (a b : ℕ) → not (eqb a b) ≡ true → a ≢ b

@@ -1,5 +1,5 @@
 -- Which directories there are, and what they take in an area.
-use Rattle.std.specs.Prelude.{ℕ, ◌+◌, Bool, true, ◌&&◌, ◌||◌, not, nat_lt, nat_le, ◌==◌, List, [], ◌∷◌, sum_by}
+use Rattle.std.specs.Prelude.{ℕ, ◌+◌, Bool, true, ◌&&◌, ◌||◌, not, nat_lt, nat_le, ◌==◌, List, [], ◌∷◌}
 use Rattle.std.specs.List.{list_any}
 use Rattle.vm_file.specs.declared.directory.Entry.{Entry}
 use Rattle.vm_file.specs.declared.directory.Directory.{Directory}
@@ -52,7 +52,8 @@ is_directory d =
 
 -- what entries take in an area: six bytes each, and the blocks
 abbrev pub entries_length : List Entry → ℕ
-entries_length entries = sum_by (λ e. 6 + e.len) entries
+entries_length [] = 0
+entries_length (e ∷ entries) = (6 + e.len) + entries_length entries
 
 -- what a directory takes in an area
 abbrev pub directory_length : Directory → ℕ

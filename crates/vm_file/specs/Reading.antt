@@ -39,14 +39,20 @@ bytes_at e at bytes =
     let block = take e.len bytes in
     if nat_le e.len (length bytes) && is_heap block && (handle_word block == e.h) then Ok block else Err at
 
--- so many blocks, behind one with this handle
-unfoldable pub blocks_at : ℕ → ℕ → ℕ → List ℕ → Result (List Block) ℕ
-blocks_at zero last at bytes = Ok []
-blocks_at (suc n) last at bytes = do
+-- a block, behind one with this handle
+unfoldable pub block_at : ℕ → ℕ → List ℕ → Result Block ℕ
+block_at last at bytes = do
   e ← head_at last at bytes
   block ← bytes_at e (at + 6) (drop 6 bytes)
-  others ← blocks_at n e.h (at + 6 + e.len) (drop (6 + e.len) bytes)
-  Ok (record { h = e.h; uid = e.uid; bytes = block } ∷ others)
+  Ok (record { h = e.h; uid = e.uid; bytes = block })
+
+-- so many blocks, behind one with this handle
+abbrev pub blocks_at : ℕ → ℕ → ℕ → List ℕ → Result (List Block) ℕ
+blocks_at zero last at bytes = Ok []
+blocks_at (suc n) last at bytes = do
+  b ← block_at last at bytes
+  others ← blocks_at n b.h (at + (6 + length b.bytes)) (drop (6 + length b.bytes) bytes)
+  Ok (b ∷ others)
 
 -- map block, the map item's group, map item
 unfoldable pub maps_at : List Entry → ℕ → List ℕ → Result (ℕ × (ℕ × ℕ)) ℕ
@@ -56,10 +62,14 @@ maps_at entries at bytes = do
   item ← wanted (at + 4) (may_be_map_item g) (word_at at bytes 4)
   Ok (h, (g, item))
 
+-- the number of blocks of a directory
+abbrev pub count_at : ℕ → List ℕ → Result ℕ ℕ
+count_at at bytes = wanted at (λ n. nat_le n most_blocks) (word_at at bytes 0)
+
 -- a directory with its blocks
 unfoldable pub contents_at : ℕ → List ℕ → Result Contents ℕ
 contents_at at bytes = do
-  n ← wanted at (λ n. nat_le n most_blocks) (word_at at bytes 0)
+  n ← count_at at bytes
   blocks ← blocks_at n 0 (at + 2) (drop 2 bytes)
   maps ← maps_at (map entry_of blocks) (at + 2 + entries_length (map entry_of blocks)) (drop (2 + entries_length (map entry_of blocks)) bytes)
   Ok (record { blocks = blocks; map_block = maps.0; map_item = maps.1 })
@@ -103,6 +113,10 @@ base_of area second = if second then 1024 + area else 1024
 abbrev pub area_of : List ℕ → ℕ → Bool → List ℕ
 area_of image area second = part image (base_of area second) area
 
+-- the selector
+abbrev pub selector_at : List ℕ → Result ℕ ℕ
+selector_at image = if nat_lt 512 (length image) then Ok (slice_index image 512) else Err 512
+
 -- what a file holds: the area size, whether the second area is selected, and the pair in the one that is
 pub record File : Type 0 where
   pub area : ℕ
@@ -112,7 +126,11 @@ pub record File : Type 0 where
 -- the file that an image spells
 unfoldable pub file_at : List ℕ → Result File ℕ
 file_at image = do
-  area ← header_at image
-  selector ← if nat_lt 512 (length image) then Ok (slice_index image 512) else Err 512
+  area ← header_at (take 512 image)
+  selector ← selector_at image
   pair ← pair_at (base_of area (is_second selector)) (area_of image area (is_second selector))
   Ok (record { area = area; second = is_second selector; pair = pair })
+
+-- the pair that `open` finds in an image
+abbrev pub found : List ℕ → Result Pair ℕ
+found image = file_at image >>= λ file. Ok file.pair
