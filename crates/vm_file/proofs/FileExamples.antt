@@ -3,16 +3,9 @@ use Rattle.std.proofs.Common.{◌≡◌, ℕ, ◌+◌, ◌*◌, ◌++◌, List, 
 use Rattle.geos_model.specs.Bytes.{word, word_bytes}
 use Rattle.geos_model.specs.Chunks.{cost}
 use Rattle.vm_file.specs.Heaps.{is_heap}
-use Rattle.vm_file.specs.Contents.{Block, Contents, Pair, pair_spelling, pair_length}
+use Rattle.vm_file.specs.Contents.{Pair, pair_spelling, pair_length}
 use Rattle.vm_file.specs.Reading.{head_at, bytes_at, block_at, maps_at, contents_at, pair_at, header_at, file_at, File}
-use Rattle.vm_file.specs.Spelling.{new_file}
-
--- no block, nothing mapped
-abbrev empty : Contents
-empty = record { blocks = []; map_block = 0; map_item = (0, 0) }
-
-abbrev empty_pair : Pair
-empty_pair = record { cur = empty; saved = empty }
+use Rattle.vm_file.specs.Spelling.{new_file, empty_contents, empty_pair}
 
 -- a new file of area 512
 abbrev fresh : List ℕ
@@ -53,7 +46,7 @@ abbrev block : List ℕ
 block = (1 ∷ 0 ∷ 16 ∷ 0 ∷ 0 ∷ 0 ∷ 0 ∷ 0 ∷ 64 ∷ 0 ∷ 2 ∷ 0 ∷ 24 ∷ 0 ∷ 40 ∷ 0 ∷ 22 ∷ 0 ∷ 0 ∷ 0 ∷ 4 ∷ 0 ∷ 77 ∷ 0 ∷ 40 ∷ 0 ∷ 0 ∷ 0 ∷ []) ++ replicate 36 0
 
 abbrev one_block : Pair
-one_block = record { cur = record { blocks = record { h = 1; uid = 5; bytes = block } ∷ []; map_block = 1; map_item = (0, 0) }; saved = empty }
+one_block = record { cur = record { blocks = record { h = 1; uid = 5; bytes = block } ∷ []; map_block = 1; map_item = (0, 0) }; saved = empty_contents }
 
 -- the file that holds it, in the second area
 abbrev updated : List ℕ

@@ -4,3 +4,11 @@ pub mod HeapTests
 pub mod FileExamples
 pub mod ReadLaws
 pub mod SpellLaws
+pub mod Lengths
+pub mod ReadSteps
+pub mod EntrySteps
+pub mod OpenSteps
+pub mod StateLaws
+pub mod StopLaws
+pub mod BlockLaws
+pub mod NewFiles

@@ -11,7 +11,7 @@ use Rattle.geos_model.specs.Bytes.{word, word_bytes}
 use Rattle.geos_model.specs.Block.{handle_word}
 use Rattle.vm_file.specs.declared.directory.Entry.{Entry}
 use Rattle.vm_file.specs.Heaps.{is_heap, is_block_size}
-use Rattle.vm_file.specs.Directories.{is_entry, are_entries, is_directory, entries_length, directory_length, may_be_map_block, may_be_map_group, may_be_map_item, most_blocks}
+use Rattle.vm_file.specs.Directories.{AreMaps, is_entry, are_entries, is_directory, entries_length, directory_length, may_be_map_block, may_be_map_group, may_be_map_item, most_blocks}
 use Rattle.vm_file.specs.Contents.{Block, Contents, Pair, entry_of, listed, is_filled, is_contents, contents_length, pair_length, block_spelling, contents_spelling, pair_spelling, blocks_in, contents_in, pair_in}
 use Rattle.vm_file.specs.Reading.{◌>>=◌, wanted, word_at, head_at, bytes_at, block_at, blocks_at, count_at, maps_at, contents_at, pair_at}
 use Rattle.vm_file.proofs.HeapTests.{both, and-true}
@@ -56,6 +56,14 @@ head_ok last at bytes e is =
     let six = word_ok at bytes 4 len size.0 in
     let P : Entry → Type 0 = λ x. is_entry last x ≡ true in
     (subst P same (and-true _ _ rule size.1), omega (arith, six.0)))))
+
+-- the size of an entry's block
+pub entry_size : (last : ℕ) (e : Entry) → is_entry last e ≡ true → (64 ≤ e.len) × (e.len ≤ 65520)
+entry_size last e h =
+    let a = both (ltb last e.h && leb e.h 1024) (is_block_size e.len) h in
+    let b = both (leb 64 e.len && leb e.len 65520) (eqb (e.len % 16) 0) a.1 in
+    let c = both (leb 64 e.len) (leb e.len 65520) b.0 in
+    (leb-le 64 e.len c.0, leb-le e.len 65520 c.1)
 
 -- the bytes of a block that was read
 pub bytes_ok : (e : Entry) (at : ℕ) (bytes block : List ℕ) → bytes_at e at bytes ≡ Ok block →
@@ -119,6 +127,29 @@ blocks_ok (suc n) last at bytes bs is =
       long = omega (arith, sum, one.long, more.long, length-drop (6 + length b.bytes) bytes);
       there = first;
     })))
+
+-- maps that were read, in six bytes
+pub maps_ok : (es : List Entry) (at : ℕ) (bytes : List ℕ) (m : ℕ × (ℕ × ℕ)) → maps_at es at bytes ≡ Ok m → (6 ≤ length bytes) × AreMaps es m.0 m.1.0 m.1.1
+unfolding maps_at
+maps_ok es at bytes m is =
+    after (wanted at (may_be_map_block es) (word_at at bytes 0)) _ m is (λ h h_is m2.
+    after (wanted (at + 2) (may_be_map_group es) (word_at at bytes 2)) _ m m2 (λ g g_is m3.
+    after (wanted (at + 4) (may_be_map_item g) (word_at at bytes 4)) _ m m3 (λ item i_is m4.
+    let w1 = wanted_ok at (may_be_map_block es) (word_at at bytes 0) h h_is in
+    let w2 = wanted_ok (at + 2) (may_be_map_group es) (word_at at bytes 2) g g_is in
+    let w3 = wanted_ok (at + 4) (may_be_map_item g) (word_at at bytes 4) item i_is in
+    let last = word_ok at bytes 4 item w3.0 in
+    let made : ℕ × (ℕ × ℕ) = (h, (g, item)) in
+    let same : made ≡ m = ok_is made m m4 in
+    let P : ℕ × (ℕ × ℕ) → Type 0 = λ x. AreMaps es x.0 x.1.0 x.1.1 in
+    (omega (arith, last.0), subst P same (w1.1, w2.1, w3.1)))))
+
+-- the count of a directory that was read, in two bytes
+pub count_ok : (at : ℕ) (bytes : List ℕ) (n : ℕ) → count_at at bytes ≡ Ok n → (2 ≤ length bytes) × (n ≤ 1024)
+count_ok at bytes n is =
+    let w = wanted_ok at (λ m. leb m 1024) (word_at at bytes 0) n is in
+    let k = word_ok at bytes 0 n w.0 in
+    (omega (arith, k.0), leb-le n 1024 w.1)
 
 -- a directory that was read
 pub record ReadContents (bytes : List ℕ) (c : Contents) : Type 0 where

@@ -67,7 +67,7 @@ block_again last at b rest legal filled =
     let long : length b.bytes ≤ length (b.bytes ++ rest) = omega (arith, length-append b.bytes rest) in
     let P : List ℕ → Type 0 = λ x. is_heap x && eqb (handle_word x) b.h ≡ true in
     let body : leb (length b.bytes) (length (b.bytes ++ rest)) && is_heap (take (length b.bytes) (b.bytes ++ rest)) && eqb (handle_word (take (length b.bytes) (b.bytes ++ rest))) b.h ≡ true =
-      and-true _ _ (and-true _ _ (le-leb _ _ long) (ap is_heap front ∙ f.0)) (ap (λ x. eqb (handle_word x) b.h) front ∙ f.1) in
+    and-true _ _ (and-true _ _ (le-leb _ _ long) (ap is_heap front ∙ f.0)) (ap (λ x. eqb (handle_word x) b.h) front ∙ f.1) in
     ap (block_at last at) spelled
     ∙ goes _ e _ _ (head_again last at e (b.bytes ++ rest) legal)
     (goes _ b.bytes _ _ (ap (λ t. cond t (Ok (take (length b.bytes) (b.bytes ++ rest))) (Err (at + 6))) body ∙ ap (λ x. let y : Result (List ℕ) ℕ = Ok x in y) front) refl)
@@ -129,9 +129,9 @@ contents_again c at rest legal =
     let past : drop (2 + entries_length es) bytes ≡ tail = (let two : 2 + entries_length es ≡ suc (suc (entries_length es)) = omega arith in ap (λ m. drop m bytes) two ∙ drop_at (flat_map block_spelling c.blocks) tail (entries_length es) (length-blocks c.blocks)) in
     let k = six c.map_block c.map_item.0 c.map_item.1 rest in
     let maps : maps_at es to tail ≡ Ok (c.map_block, (c.map_item.0, c.map_item.1)) =
-      goes _ c.map_block _ _ (wanted_is to (may_be_map_block es) _ c.map_block (word_is to tail 0 c.map_block (omega (arith, k)) (first c.map_block c.map_item.0 c.map_item.1 rest)) l4.1)
-      (goes _ c.map_item.0 _ _ (wanted_is (to + 2) (may_be_map_group es) _ c.map_item.0 (word_is to tail 2 c.map_item.0 (omega (arith, k)) (second c.map_block c.map_item.0 c.map_item.1 rest)) l3.1)
-      (goes _ c.map_item.1 _ _ (wanted_is (to + 4) (may_be_map_item c.map_item.0) _ c.map_item.1 (word_is to tail 4 c.map_item.1 (omega (arith, k)) (third c.map_block c.map_item.0 c.map_item.1 rest)) l2.1) refl)) in
+    goes _ c.map_block _ _ (wanted_is to (may_be_map_block es) _ c.map_block (word_is to tail 0 c.map_block (omega (arith, k)) (first c.map_block c.map_item.0 c.map_item.1 rest)) l4.1)
+    (goes _ c.map_item.0 _ _ (wanted_is (to + 2) (may_be_map_group es) _ c.map_item.0 (word_is to tail 2 c.map_item.0 (omega (arith, k)) (second c.map_block c.map_item.0 c.map_item.1 rest)) l3.1)
+    (goes _ c.map_item.1 _ _ (wanted_is (to + 4) (may_be_map_item c.map_item.0) _ c.map_item.1 (word_is to tail 4 c.map_item.1 (omega (arith, k)) (third c.map_block c.map_item.0 c.map_item.1 rest)) l2.1) refl)) in
     ap (contents_at at) spelled
     ∙ goes _ (length c.blocks) _ _ (wanted_is at (λ m. leb m 1024) _ (length c.blocks) (word_is at bytes 0 (length c.blocks) (omega arith) w) (le-leb _ _ n))
     (goes _ c.blocks _ _ (blocks_again c.blocks (length c.blocks) 0 (at + 2) tail refl l4.0 l1.1)
@@ -140,9 +140,14 @@ contents_again c at rest legal =
 length-contents : (c : Contents) → length (contents_spelling c) ≡ contents_length c
 length-contents c =
     let blocks = flat_map block_spelling c.blocks in
-    omega (arith, length-append (word_bytes (length c.blocks) ++ blocks ++ word_bytes c.map_block ++ word_bytes c.map_item.0) (word_bytes c.map_item.1),
+    omega (
+      arith,
+      length-append (word_bytes (length c.blocks) ++ blocks ++ word_bytes c.map_block ++ word_bytes c.map_item.0) (word_bytes c.map_item.1),
       length-append (word_bytes (length c.blocks) ++ blocks ++ word_bytes c.map_block) (word_bytes c.map_item.0),
-      length-append (word_bytes (length c.blocks) ++ blocks) (word_bytes c.map_block), length-append (word_bytes (length c.blocks)) blocks, length-blocks c.blocks)
+      length-append (word_bytes (length c.blocks) ++ blocks) (word_bytes c.map_block),
+      length-append (word_bytes (length c.blocks)) blocks,
+      length-blocks c.blocks,
+    )
 
 -- a pair is as long as is said
 pub length-pair : (p : Pair) → length (pair_spelling p) ≡ pair_length p

@@ -1,5 +1,5 @@
 -- Which directories there are, and what they take in an area.
-use Rattle.std.specs.Prelude.{ℕ, ◌+◌, Bool, true, ◌&&◌, ◌||◌, not, nat_lt, nat_le, ◌==◌, List, [], ◌∷◌}
+use Rattle.std.specs.Prelude.{◌≡◌, ℕ, ◌+◌, Bool, true, ◌&&◌, ◌||◌, not, nat_lt, nat_le, ◌==◌, List, [], ◌∷◌}
 use Rattle.std.specs.List.{list_any}
 use Rattle.vm_file.specs.declared.directory.Entry.{Entry}
 use Rattle.vm_file.specs.declared.directory.Directory.{Directory}
@@ -41,6 +41,10 @@ may_be_map_group entries g = (g == 0) || has_group entries g
 -- it may be the map item: 0 where there is no group
 abbrev pub may_be_map_item : ℕ → ℕ → Bool
 may_be_map_item g item = not (g == 0) || (item == 0)
+
+-- they may be the map block, and the group and chunk of the map item
+abbrev pub AreMaps : List Entry → ℕ → ℕ → ℕ → Type 0
+AreMaps entries h g item = (may_be_map_block entries h ≡ true) × (may_be_map_group entries g ≡ true) × (may_be_map_item g item ≡ true)
 
 -- a legal directory
 abbrev pub is_directory : Directory → Bool

@@ -43,7 +43,8 @@ are_tiles block at free [] = (at == length block) && (free == 0)
 are_tiles block at free (Used i n ∷ rest) =
     nat_lt 0 n && nat_lt i (entries block) && (entry block i == at + 2) && (word block at == n + 2) && are_tiles block (at + cost n) free rest
 are_tiles block at free (Free s ∷ rest) =
-    nat_lt 0 s && (s % 4 == 0) && (free == at) && (word block at == s) && not (word block (at + 2) == at + s) && are_tiles block (at + s) (word block (at + 2)) rest
+    nat_lt 0 s && (s % 4 == 0) && (free == at) && (word block at == s)
+    && not (word block (at + 2) == at + s) && are_tiles block (at + s) (word block (at + 2)) rest
 
 -- the chunk of an entry is among the pieces
 abbrev pub has_chunk : ℕ → List Piece → Bool
@@ -60,4 +61,5 @@ have_chunks (suc n) block pieces = ((entry block n == 0) || (entry block n == 65
 unfoldable pub is_heap : List ℕ → Bool
 is_heap block =
     let pieces = pieces_from (length block) block (table_end block) in
-    is_header block && are_tiles block (table_end block) (first_free block) pieces && have_chunks (entries block) block pieces && (total_free block == free_bytes pieces)
+    is_header block && are_tiles block (table_end block) (first_free block) pieces
+    && have_chunks (entries block) block pieces && (total_free block == free_bytes pieces)

@@ -7,3 +7,6 @@ pub mod Directories
 pub mod Contents
 pub mod Reading
 pub mod Spelling
+pub mod Outcomes
+pub mod Opening
+pub mod State

@@ -1,7 +1,6 @@
 -- What a file spells, with the offset of the first field that is cut or breaks its rule.
 use Rattle.std.specs.Prelude.{ℕ, zero, suc, ◌+◌, ◌*◌, ◌%◌, Bool, true, false, ◌&&◌, ◌||◌, not, nat_lt, nat_le, nat_eq, ◌==◌, if◌then◌else◌, List, [], ◌∷◌, length, take, drop, map, sum_by, Result, Ok, Err, slice_index}
-use Rattle.std.specs.List.{prefix_len}
-use Rattle.std.specs.Cmp.Lexicographic.{pointwise}
+use Rattle.std.specs.List.{position_or_len, starts_with}
 use Rattle.lmem_raw.specs.Bytes.{part}
 use Rattle.geos_model.specs.Bytes.{word}
 use Rattle.geos_model.specs.Block.{handle_word}
@@ -89,17 +88,23 @@ magic = 0x47 ∷ 0x56 ∷ 0x4d ∷ 0x31 ∷ []
 abbrev pub is_area : ℕ → Bool
 is_area n = nat_le 512 n && nat_le n 16777216 && (n % 512 == 0)
 
--- `GVM1`, the version 1, 0, the area size, and zeros to 511
+-- the area size: 32 bits
+abbrev pub area_size_at : List ℕ → Result ℕ ℕ
+area_size_at bytes = wanted 8 is_area (if nat_lt 11 (length bytes) then Ok (word bytes 8 + 65536 * word bytes 10) else Err 8)
+
+-- the zeros from 12 to 511: how many there are before the first byte that is another or cut
+abbrev pub zeros_at : List ℕ → ℕ
+zeros_at bytes = position_or_len (λ b. not (b == 0)) (part bytes 12 500)
+
+-- the first 512 bytes: `GVM1`, the version 1, 0, the area size, and zeros
 unfoldable pub header_at : List ℕ → Result ℕ ℕ
-header_at image =
-    let zeros = prefix_len (λ b. b == 0) (part image 12 500) in do
-      magic ← wanted 0 (pointwise nat_eq magic) (Ok (take 4 image))
-      version ← wanted 4 (λ n. n == 1) (word_at 0 image 4)
-      unused ← wanted 6 (λ n. n == 0) (word_at 0 image 6)
-      low ← word_at 0 image 8
-      area ← wanted 8 is_area (if nat_lt 11 (length image) then Ok (low + 65536 * word image 10) else Err 8)
-      rest ← wanted (12 + zeros) (λ n. n == 500) (Ok zeros)
-      Ok area
+header_at bytes = do
+  front ← wanted 0 (λ b. starts_with nat_eq b magic) (Ok bytes)
+  version ← wanted 4 (λ n. n == 1) (word_at 0 bytes 4)
+  unused ← wanted 6 (λ n. n == 0) (word_at 0 bytes 6)
+  area ← area_size_at bytes
+  zeros ← wanted (12 + zeros_at bytes) (λ n. n == 500) (Ok (zeros_at bytes))
+  Ok area
 
 -- the selector names the second area: it is odd
 abbrev pub is_second : ℕ → Bool

@@ -10,16 +10,17 @@ use thiserror::Error;
 #[error("disk")]
 pub struct Disk;
 
-/// Bytes of a fixed length that last. A stop, as of the machine, may lose what was written since the last `sync`, in part
-/// or whole: what it leaves is an image, a list of bytes.
+/// Bytes of a fixed length that last. A stop, as of the machine, may lose what was written
+/// since the last `sync`, in part or whole: what it leaves is an image, a list of bytes.
 ///
-/// The clauses on images hold of a device that is honest: one that returns what was last written to it. The others hold
-/// of every device. No device keeps a record of its calls: its clauses only say which images a stop can't leave.
+/// The clauses on images hold of a device that is honest: one that returns what was last
+/// written to it. The others hold of every device. No device keeps a record of its calls: its
+/// clauses only say which images a stop can't leave.
 pub trait Device {
     /// The bytes that reads give now.
     ghost image: { Self → List ℕ };
 
-    /// It returns what was last written to it.
+    /// It returns what was last written to it, all its life.
     ghost honest: { Self → Type 0 };
 
     /// How often it has failed.
@@ -39,35 +40,39 @@ pub trait Device {
     fn failures(&self) -> u64
         ensures { result ≡ failed self.now };
 
-    /// Reads the bytes from an offset on. `Disk` where the device fails, as it does past its length; what `into` holds then
-    /// is not said.
+    /// Reads the bytes from an offset on. `Disk` where the device fails, as it does past its
+    /// length; what `into` holds then is not said.
     fn read_at(&mut self, at: u64, into: &mut [u8]) -> Result<(), Disk>
         ensures within { OnOk result (at + length into.old ≤ length (image self.old)) }
         ensures bytes { honest self.old → OnOk result (into.new ≡ part (image self.old) at (length into.old)) }
         ensures image { image self.new ≡ image self.old }
         ensures honest { honest self.old → honest self.new }
+        ensures was_honest { honest self.new → honest self.old }
         ensures stop { honest self.old → (c : List ℕ) → may_leave self.new c → may_leave self.old c }
         ensures time { honest self.old → Passes may_have_left self.old self.new (may_leave self.old) }
         ensures cause { Counts (failed self.old) (failed self.new) result };
 
-    /// Writes bytes from an offset on. `Disk` where the device fails, as it does past its length: then any bytes may stand
-    /// in that range, and the others stay. They last once a `sync` has succeeded; a stop before that may leave any bytes
-    /// in the range.
+    /// Writes bytes from an offset on. `Disk` where the device fails, as it does past its
+    /// length: then any bytes may stand in that range, and the others stay. They last once a
+    /// `sync` has succeeded; a stop before that may leave any bytes in the range.
     fn write_at(&mut self, at: u64, bytes: &[u8]) -> Result<(), Disk>
         ensures len { length (image self.new) ≡ length (image self.old) }
         ensures within { OnOk result (at + length bytes.now ≤ length (image self.old)) }
         ensures written { honest self.old → OnOk result (image self.new ≡ with_part (image self.old) at bytes.now) }
         ensures torn { honest self.old → Touched at (length bytes.now) (image self.old) (image self.new) }
         ensures honest { honest self.old → honest self.new }
+        ensures was_honest { honest self.new → honest self.old }
         ensures stop { honest self.old → (c : List ℕ) → may_leave self.new c → AfterWrite at (length bytes.now) (may_leave self.old) c }
         ensures time { honest self.old → Passes may_have_left self.old self.new (AfterWrite at (length bytes.now) (may_leave self.old)) }
         ensures cause { Counts (failed self.old) (failed self.new) result };
 
-    /// Makes last what was written: after it a stop leaves what reads give. `Disk` where the device fails.
+    /// Makes last what was written: after it a stop leaves what reads give. `Disk` where the
+    /// device fails.
     fn sync(&mut self) -> Result<(), Disk>
         ensures durable { honest self.old → OnOk result (Only (image self.new) (may_leave self.new)) }
         ensures image { image self.new ≡ image self.old }
         ensures honest { honest self.old → honest self.new }
+        ensures was_honest { honest self.new → honest self.old }
         ensures stop { honest self.old → (c : List ℕ) → may_leave self.new c → may_leave self.old c }
         ensures time { honest self.old → Passes may_have_left self.old self.new (may_leave self.old) }
         ensures cause { Counts (failed self.old) (failed self.new) result };

@@ -1,4 +1,6 @@
 //! What a file lists.
+ghost use Rattle.std.specs.Prelude.{◌≡◌, ◌==◌, find};
+
 use arrayvec::ArrayVec;
 
 /// The greatest handle, and the greatest number of blocks.
@@ -15,8 +17,8 @@ pub struct Entry {
     pub len: u16,
 }
 
-/// The blocks of a file in ascending order of their handles, and what is mapped. (GEOS SDK Concepts Book, chapter Virtual
-/// Memory.)
+/// The blocks of a file in ascending order of their handles, and what is mapped. (GEOS SDK
+/// Concepts Book, chapter Virtual Memory.)
 #[derive(Drop)]
 pub struct Directory {
     pub entries: ArrayVec<Entry, MOST_BLOCKS>,
@@ -24,4 +26,27 @@ pub struct Directory {
     pub map_block: u16,
     /// The map item: a group, or 0 for none, and the chunk handle of the item in it.
     pub map_item: (u16, u16),
+}
+
+impl Directory {
+    ghost use Rattle.vm_file.specs.Contents.{listed};
+    ghost use Rattle.vm_file.specs.Spelling.{empty_contents};
+
+    /// No block, and nothing mapped.
+    pub fn new() -> Directory
+        ensures { result ≡ listed empty_contents }
+    {
+        Directory {
+            entries: ArrayVec::new(),
+            map_block: 0,
+            map_item: (0, 0),
+        }
+    }
+
+    /// The entry of the block with a handle, where there is one.
+    pub fn entry(&self, h: u16) -> Option<Entry>
+        ensures { result ≡ find (λ e. e.h == h) self.now.entries.items }
+    {
+        self.entries.iter().copied().find(|e| e.h == h)
+    }
 }

@@ -9,8 +9,9 @@ use std::io;
 use std::os::unix::fs::FileExt;
 use std::rt::Files;
 
-/// A device on a file of the system: positioned reads and writes, and `sync_data`. No clause can say what such a file
-/// gives, so the clauses on images say nothing of it; tests show them.
+/// A device on a file of the system: positioned reads and writes, and `sync_data`. No clause
+/// can say what such a file gives, so the clauses on images say nothing of it; tests show
+/// them.
 #[derive(Drop)]
 pub struct FileDevice {
     file: File,
@@ -21,8 +22,8 @@ pub struct FileDevice {
 impl FileDevice {
     ghost use Rattle.vm_file.specs.DiskFile.{len_of, failures_of};
 
-    /// Makes a file of so many zero bytes. `Disk` where the system refuses, as it does where the path exists already: that
-    /// file is not touched.
+    /// Makes a file of so many zero bytes. `Disk` where the system refuses, as it does where
+    /// the path exists already: that file is not touched.
     pub fn create<R: Files<File = File>>(
         rt: &R,
         _alloc: Global,
@@ -43,7 +44,8 @@ impl FileDevice {
         })
     }
 
-    /// Opens a file that is there. `Disk` where the system refuses, as for a path that is missing or a folder.
+    /// Opens a file that is there. `Disk` where the system refuses, as for a path that is
+    /// missing or a folder.
     pub fn open<R: Files<File = File>>(
         rt: &R,
         _alloc: Global,

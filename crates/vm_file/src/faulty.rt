@@ -4,8 +4,9 @@ ghost use Rattle.vm_file.specs.Device.{all_failures, one_more};
 
 use crate::device::{Device, Disk, count_failure};
 
-/// A device that passes its calls on to another one and lets one of them fail, or that one and all later ones. A failing
-/// read gives nothing, a failing write writes the first half of its bytes, rounded down, and a failing `sync` does nothing.
+/// A device that passes its calls on to another one and lets one of them fail, or that one and
+/// all later ones. A failing read gives nothing, a failing write writes the first half of its
+/// bytes, rounded down, and a failing `sync` does nothing.
 #[derive(Drop)]
 pub struct FaultDevice<D: Device + Drop> {
     inner: D,
@@ -18,8 +19,8 @@ pub struct FaultDevice<D: Device + Drop> {
 impl<D: Device + Drop> FaultDevice<D> {
     ghost use Rattle.vm_file.specs.Faulty.{calls_of, inner_of, own_of};
 
-    /// The call of this number fails, counted from 1 over reads, writes and syncs; with `rest` each later one does too. 0
-    /// lets none fail.
+    /// The call of this number fails, counted from 1 over reads, writes and syncs; with `rest`
+    /// each later one does too. 0 lets none fail.
     pub fn new(inner: D, call: u64, rest: bool) -> FaultDevice<D>
         ensures inner { inner_of result ≡ inner }
         ensures calls { calls_of result ≡ 0 }

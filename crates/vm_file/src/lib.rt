@@ -1,18 +1,30 @@
-//! VM files: blocks with lasting handles, kept on a device of which a stop may lose what was written last.
+//! VM files: blocks with lasting handles, kept on a device of which a stop may lose what was
+//! written last.
 //!
-//! A file has two areas, and a selector that names one of them; an area holds two directories with their blocks, the
-//! current one and the saved one. docs/FILES.md has the layout and says what a stop leaves. (GEOS SDK Concepts Book,
-//! chapter Virtual Memory.)
+//! A file has two areas, and a selector that names one of them; an area holds two directories
+//! with their blocks, the current one and the saved one. docs/FILES.md has the layout and says
+//! what a stop leaves. (GEOS SDK Concepts Book, chapter Virtual Memory.)
 #![tactic(auto)]
 
+mod create;
 mod device;
 mod directory;
 mod disk_file;
+mod error;
 mod faulty;
+mod fields;
+mod file;
 mod memory;
+mod opened;
+mod reader;
 
 pub use device::{Device, Disk};
 pub use directory::{Directory, Entry, MOST_BLOCKS};
 pub use disk_file::FileDevice;
+pub use error::{CreateError, OpenError};
 pub use faulty::FaultDevice;
+pub use file::VmFile;
 pub use memory::MemoryDevice;
+
+#[cfg(test)]
+mod tests;

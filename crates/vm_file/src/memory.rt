@@ -5,7 +5,8 @@ ghost use Rattle.lmem_raw.specs.Bytes.{with_part};
 use crate::device::{Device, Disk, count_failure};
 use std::alloc::{AllocError, Global};
 
-/// A device in memory. It is honest, each write lasts at once, and it fails only past its length.
+/// A device in memory. It is honest, each write lasts at once, and it fails only past its
+/// length.
 #[derive(Drop)]
 pub struct MemoryDevice {
     bytes: Vec<u8>,

@@ -1,0 +1,96 @@
+-- Files that are open: what `open` finds, and where blocks stand.
+use Rattle.std.proofs.Common.{◌≡◌, ℕ, zero, suc, ◌+◌, ◌-◌, ◌<◌, ◌≤◌, ◌⊎◌, Bool, true, false, ◌&&◌, not, cond, List, [], ◌∷◌, length, take, drop, map, get_or, Option, Some, None, Result, Ok, Err, refl, ap, sym, ◌∙◌, subst, inl, inr, arith, get_or-set_same}
+use Rattle.std.specs.Prelude.{IsOkAnd, IsSomeAnd, MatchBool}
+use Rattle.std.specs.List.{find, list_all}
+use Rattle.std.proofs.Math.Dec.{eqb, ltb}
+use Rattle.std.proofs.lemmas.Bool.{cases_lt, eq-eqb, eqb-true, false≢true}
+use Rattle.std.proofs.lemmas.List.{take-take, drop-drop, drop_more, get_or-take}
+use borrow.Author.Tests.{ltb-true}
+use Rattle.lmem_raw.specs.Bytes.{part}
+use Rattle.geos_model.specs.Block.{handle_word}
+use Rattle.vm_file.specs.declared.directory.Entry.{Entry}
+use Rattle.vm_file.specs.declared.directory.Directory.{Directory}
+use Rattle.vm_file.specs.declared.opened.Opened.{Opened}
+use Rattle.vm_file.specs.Heaps.{is_heap}
+use Rattle.vm_file.specs.Contents.{Block, Contents, Pair, entry_of, listed, is_filled, contents_in, pair_in, blocks_in}
+use Rattle.vm_file.specs.Device.{Touched, Only, Passes}
+use Rattle.vm_file.specs.Directories.{directory_length, entries_length}
+use Rattle.vm_file.specs.Outcomes.{ReadsOnly}
+use Rattle.vm_file.specs.Opening.{IsOpened, listed_file}
+use Rattle.vm_file.specs.Reading.{◌>>=◌, header_at, selector_at, pair_at, file_at, found, File, is_second, base_of, area_of}
+use Rattle.vm_file.specs.State.{FileState, Holds, IsSound, Leaves, Finds, IsOther, pair_of, file_of, bytes_of_block, place_in, HasBlock}
+use Rattle.vm_file.proofs.HeapTests.{both, lt-ltb}
+use Rattle.vm_file.proofs.Lengths.{stretch, drop-stretch, take-stretch}
+use Rattle.vm_file.proofs.ReadLaws.{after, cond_ok, ok_is, pair_ok}
+use Rattle.vm_file.proofs.SpellLaws.{goes}
+use Rattle.vm_file.proofs.Touches.{touched_not}
+
+-- the parts of a file that was read
+pub record FileParts (image : List ℕ) (f : File) : Type 0 where
+  pub header : header_at (take 512 image) ≡ Ok f.area
+  pub long : 512 < length image
+  pub selector : is_second (get_or image 512 0) ≡ f.second
+  pub pair : pair_at (base_of f.area f.second) (area_of image f.area f.second) ≡ Ok f.pair
+
+pub file_parts : (image : List ℕ) (f : File) → file_at image ≡ Ok f → FileParts image f
+unfolding file_at
+file_parts image f is =
+    after (header_at (take 512 image)) _ f is (λ area a_is rest.
+    after (selector_at image) _ f rest (λ s s_is rest2.
+    after (pair_at (base_of area (is_second s)) (area_of image area (is_second s))) _ f rest2 (λ p p_is rest3.
+    let made : File = record { area = area; second = is_second s; pair = p } in
+    let same : made ≡ f = ok_is made f rest3 in
+    let sel = cond_ok (ltb 512 (length image)) 512 (get_or image 512 0) s s_is in
+    let P : File → Type 0 = λ x. FileParts image x in
+    subst P same (record { header = a_is; long = ltb-true _ _ sel.0; selector = ap is_second sel.1; pair = p_is }))))
+
+-- and from its parts it is read
+pub file_from : (image : List ℕ) (f : File) → FileParts image f → file_at image ≡ Ok f
+unfolding file_at
+file_from image f parts =
+    let sel : selector_at image ≡ Ok (get_or image 512 0) = ap (λ t. cond t (Ok (get_or image 512 0)) (Err 512)) (lt-ltb _ _ parts.long) in
+    goes _ f.area _ _ parts.header (goes _ (get_or image 512 0) _ _ sel
+    (ap (λ b. pair_at (base_of f.area b) (area_of image f.area b) >>= λ p. Ok (let x : File = record { area = f.area; second = b; pair = p } in x)) parts.selector
+    ∙ goes _ f.pair _ _ parts.pair refl))
+
+-- what was read is the pair that is cut from the area
+pub opened_is : (image : List ℕ) (o : Opened) → IsOkAnd (file_at image) (λ y. listed_file y ≡ o) →
+    file_at image ≡ Ok (let f : File = record { area = o.area; second = o.second; pair = pair_in o.current o.saved (area_of image o.area o.second) } in f)
+opened_is image o read = by (file_at image) refl read
+  where
+    by : (r : Result File ℕ) → file_at image ≡ r → IsOkAnd r (λ y. listed_file y ≡ o) → file_at image ≡ Ok (let f : File = record { area = o.area; second = o.second; pair = pair_in o.current o.saved (area_of image o.area o.second) } in f)
+    by (Err f) is h = absurd h
+    by (Ok f) is h =
+        let parts = file_parts image f is in
+        let legal = pair_ok (base_of f.area f.second) (area_of image f.area f.second) f.pair parts.pair in
+        is ∙ ap (λ p. let x : File = record { area = f.area; second = f.second; pair = p } in let r : Result File ℕ = Ok x in r) (sym legal.there)
+        ∙ ap (λ (y : Opened). let x : File = record { area = y.area; second = y.second; pair = pair_in y.current y.saved (area_of image y.area y.second) } in let r : Result File ℕ = Ok x in r) h
+
+module _ {D : Type 0} (image : D → List ℕ) (honest : D → Type 0) (may_leave : D → List ℕ → Type 0) (left : D → D → List ℕ → Type 0) where
+  -- a file that was opened
+  abbrev pub opened : D → Opened → FileState D
+  opened d o = record { device = d; area = o.area; second = o.second; sure = true; current = o.current; saved = o.saved }
+
+  pub opens : (old new : D) (o : Opened) → image new ≡ image old → IsOkAnd (file_at (image old)) (λ y. listed_file y ≡ o) → file_at (image old) ≡ Ok (file_of image (opened new o))
+  opens old new o same read =
+      opened_is (image old) o read ∙ ap (λ xs. let x : File = record { area = o.area; second = o.second; pair = pair_in o.current o.saved (area_of xs o.area o.second) } in let r : Result File ℕ = Ok x in r) (sym same)
+
+  pub opens_sound : (old new : D) (o : Opened) → ReadsOnly image honest may_leave left old new → (honest old → IsOkAnd (file_at (image old)) (λ y. listed_file y ≡ o)) → IsOpened o (length (image old)) →
+      (honest old → Only (image new) (may_leave new)) → IsSound image honest may_leave (opened new o)
+  opens_sound old new o reads read legal durable = record {
+    area = legal.area;
+    current = legal.current;
+    saved = legal.saved;
+    fits = legal.fits;
+    within = (let n = ap length reads.same in omega (arith, legal.within, n));
+    holds = (λ h.
+        let was = reads.was h in
+        let is = ap file_at reads.same ∙ opens old new o reads.same (read was) in
+        let parts = file_parts (image new) (file_of image (opened new o)) is in
+        record {
+          long = parts.long;
+          header = parts.header;
+          pair = parts.pair;
+          leaves = (parts.selector, (λ c l. subst (Touched (base_of o.area (not o.second)) o.area (image new)) (sym (durable was c l)) (touched_not _ _ (image new))));
+        });
+  }

@@ -1,0 +1,43 @@
+use Rattle.std.proofs.Common.{◌≡◌, ◌+◌, ◌∙◌, ℕ, List, length, ap, sym, subst, inl, inr, arith}
+use Rattle.std.specs.Prelude.{OnOk, OnErr}
+use Rattle.std.proofs.lemmas.Result.{on_ok_weaker}
+use Rattle.lmem_raw.specs.Bytes.{part}
+use Rattle.geos_model.specs.Block.{handle_word}
+use Rattle.geos_model.specs.Heap.{IsHeap}
+use Rattle.vm_file.specs.Device.{Passes, Rose}
+use Rattle.vm_file.specs.Directories.{directory_length}
+use Rattle.vm_file.specs.Reading.{base_of}
+use Rattle.vm_file.specs.State.{FileState, Finds, HasBlock, bytes_of_block, pair_of, place_in}
+use Rattle.vm_file.proofs.BlockLaws.{current_there, current_heap}
+use Rattle.vm_file.proofs.StopLaws.{finds}
+use Rattle.vm_file.proofs.file.VmFile.block.Goals as goal
+
+pub returns-clause-bytes : goal.returns-clause-bytes
+returns-clause-bytes g c =
+    let d = g.D.Device in let n = length c.args.into.now in
+    let H : FileState g.row.D.Denot → Type 0 = λ f. HasBlock f.current c.args.h n in
+    let G : FileState g.row.D.Denot → Type 0 = λ f. d.honest f.device → OnOk c.read_block.result (c.read_block.new.into ≡ bytes_of_block (pair_of d.image f).cur.blocks c.args.h) in
+    let there = current_there d.image d.honest d.may_leave _ c.self.invariant c.args.h n _ (subst H (sym c.self.view_is) c.requires) (omega (arith, c.base_of-base.ensures.exact, c.from.ensures, c.place_in.ensures.exact, ap (λ es. place_in es c.args.h) c.deref.ensures.0)) in
+    subst G c.self.view_is (λ h. on_ok_weaker c.read_block.result (λ e. e ∙ there) (c.read_block.ensures.bytes h))
+
+pub returns-clause-cause : goal.returns-clause-cause
+returns-clause-cause g c =
+    let d = g.D.Device in let n = length c.args.into.now in
+    let H : FileState g.row.D.Denot → Type 0 = λ f. HasBlock f.current c.args.h n in
+    let G : FileState g.row.D.Denot → Type 0 = λ f. d.honest f.device → OnErr c.read_block.result (Rose (d.failed f.device) (d.failed c.read_block.new.device)) in
+    let has = subst H (sym c.self.view_is) c.requires in
+    let there = current_there d.image d.honest d.may_leave _ c.self.invariant c.args.h n _ has (omega (arith, c.base_of-base.ensures.exact, c.from.ensures, c.place_in.ensures.exact, ap (λ es. place_in es c.args.h) c.deref.ensures.0)) in
+    let P : List ℕ → Type 0 = λ x. IsHeap x in
+    subst G c.self.view_is (λ h. let heap = current_heap d.image d.honest d.may_leave _ c.self.invariant c.args.h n h has in c.read_block.ensures.cause h (subst P (sym there) heap.0) (ap handle_word there ∙ heap.1))
+
+pub returns-clause-any_moment : goal.returns-clause-any_moment
+returns-clause-any_moment g c =
+    let d = g.D.Device in
+    let G : FileState g.row.D.Denot → Type 0 = λ f. d.honest f.device → Passes d.may_have_left f.device c.read_block.new.device (Finds d.image f) in
+    subst G c.self.view_is (λ h s x l. elim (c.read_block.ensures.reads.time h s x l) [ inl past ↦ inl past | inr now ↦ inr (finds d.image d.may_leave _ (c.self.invariant.holds h) x now) ])
+
+pub returns-clause-stop : goal.returns-clause-stop
+returns-clause-stop g c =
+    let d = g.D.Device in
+    let G : FileState g.row.D.Denot → Type 0 = λ f. d.honest f.device → (x : List ℕ) → d.may_leave c.read_block.new.device x → Finds d.image f x in
+    subst G c.self.view_is (λ h x l. finds d.image d.may_leave _ (c.self.invariant.holds h) x (c.read_block.ensures.reads.stop h x l))

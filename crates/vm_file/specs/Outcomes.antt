@@ -1,0 +1,50 @@
+-- How calls that read a device end.
+use Rattle.std.specs.Prelude.{◌≡◌, ◌⊎◌, ℕ, List, Result, Ok, Err, IsOkAnd, MatchResult}
+use Rattle.arrayvec.specs.ArrayVec.{ArrayVec}
+use Rattle.vm_file.specs.declared.error.OpenError.{OpenError}
+use Rattle.vm_file.specs.declared.error.OpenError.TheVariants.{BadFile, Disk, Memory}
+use Rattle.vm_file.specs.Device.{Passes, Rose}
+
+-- a device on which nothing was written: reads give the same, and a stop leaves nothing else
+pub record ReadsOnly {D : Type 0} (image : D → List ℕ) (honest : D → Type 0) (may_leave : D → List ℕ → Type 0)
+    (left : D → D → List ℕ → Type 0) (old new : D) : Type 0 where
+  pub same : image new ≡ image old
+  pub stays : honest old → honest new
+  pub was : honest new → honest old
+  pub stop : honest old → (c : List ℕ) → may_leave new c → may_leave old c
+  pub time : honest old → Passes left old new (may_leave old)
+
+-- what was read, seen so, is what the call gave; its fault is the fault, and want of memory and of the device tell nothing
+abbrev pub Tells : {X Y : Type 0} → (Y → X) → Result X OpenError → Result Y ℕ → Type 0
+Tells view (Ok x) read = IsOkAnd read (λ y. view y ≡ x)
+Tells view (Err (BadFile at)) read = read ≡ Err at
+Tells view (Err Disk) read = Unit {0}
+Tells view (Err Memory) read = Unit {0}
+
+-- `Disk` comes only where a failure was counted, and else none was
+abbrev pub Causes : {X : Type 0} → ℕ → ℕ → Result X OpenError → Type 0
+Causes before now (Ok x) = now ≡ before
+Causes before now (Err (BadFile at)) = now ≡ before
+Causes before now (Err Disk) = Rose before now
+Causes before now (Err Memory) = now ≡ before
+
+-- the same for a call that has no other refusal
+abbrev pub CausesDisk : {X E : Type 0} → ℕ → ℕ → Result X E → Type 0
+CausesDisk before now result = MatchResult result (λ x. now ≡ before) (λ e. Rose before now)
+
+-- with the list that a vector holds in place of the vector
+abbrev pub items_of : {X E : Type 0} → Result (ArrayVec X) E → Result (List X) E
+items_of (Ok v) = Ok v.items
+items_of (Err e) = Err e
+
+-- why a file was not opened: the fault of what was read; want of memory and of the device tell nothing
+abbrev pub IsRefused : {Y : Type 0} → OpenError → Result Y ℕ → Type 0
+IsRefused (BadFile at) read = read ≡ Err at
+IsRefused Disk read = Unit {0}
+IsRefused Memory read = Unit {0}
+
+-- the error is `Disk` only where a failure was counted, and else none was
+abbrev pub IsCaused : ℕ → ℕ → OpenError → Type 0
+IsCaused before now (BadFile at) = now ≡ before
+IsCaused before now Disk = Rose before now
+IsCaused before now Memory = now ≡ before

@@ -1,0 +1,72 @@
+-- What contracts see of a file that is open.
+use Rattle.std.specs.Prelude.{◌≡◌, ◌⊎◌, ℕ, ◌+◌, ◌≤◌, ◌<◌, Bool, true, not, ◌==◌, List, [], ◌∷◌, length, take, find, Ok, slice_index, if◌then◌else◌, MatchBool, IsSomeAnd}
+use Rattle.vm_file.specs.declared.directory.Entry.{Entry}
+use Rattle.vm_file.specs.declared.directory.Directory.{Directory}
+use Rattle.vm_file.specs.Contents.{Block, Contents, Pair, pair_in}
+use Rattle.vm_file.specs.Device.{Touched}
+use Rattle.vm_file.specs.Directories.{is_directory, directory_length}
+use Rattle.vm_file.specs.Reading.{File, header_at, pair_at, is_area, is_second, base_of, area_of, found}
+
+-- the device; the area size; whether the second area is read; whether it is sure what the device holds; and the current and the saved directory
+pub record FileState (D : Type 0) : Type 0 where
+  pub device : D
+  pub area : ℕ
+  pub second : Bool
+  pub sure : Bool
+  pub current : Directory
+  pub saved : Directory
+
+-- the pair that the area holds which is read
+abbrev pub pair_of : {D : Type 0} → (D → List ℕ) → FileState D → Pair
+pair_of image f = pair_in f.current f.saved (area_of (image f.device) f.area f.second)
+
+-- the file that the device holds
+abbrev pub file_of : {D : Type 0} → (D → List ℕ) → FileState D → File
+file_of image f = record { area = f.area; second = f.second; pair = pair_of image f }
+
+-- the other area holds this pair
+abbrev pub IsOther : {D : Type 0} → (D → List ℕ) → FileState D → Pair → Type 0
+IsOther image f q = pair_at (base_of f.area (not f.second)) (area_of (image f.device) f.area (not f.second)) ≡ Ok q
+
+-- `open` finds in an image what the file keeps: its pair or, where that is not sure, its pair or that of the other area
+abbrev pub Finds : {D : Type 0} → (D → List ℕ) → FileState D → List ℕ → Type 0
+Finds image f c = MatchBool f.sure
+    (found c ≡ Ok (pair_of image f))
+    ((found c ≡ Ok (pair_of image f)) ⊎ ((q : Pair) × IsOther image f q × (found c ≡ Ok q)))
+
+-- what a stop may leave: where it is sure what the device holds, any bytes in the other area alone; else any selector alone, and the other area holds a pair too
+abbrev pub Leaves : {D : Type 0} → (D → List ℕ) → (D → List ℕ → Type 0) → FileState D → Type 0
+Leaves image may_leave f = MatchBool f.sure
+    ((is_second (slice_index (image f.device) 512) ≡ f.second)
+    × ((c : List ℕ) → may_leave f.device c → Touched (base_of f.area (not f.second)) f.area (image f.device) c))
+    (((q : Pair) × IsOther image f q) × ((c : List ℕ) → may_leave f.device c → Touched 512 1 (image f.device) c))
+
+-- an honest device holds the header and the pair, and what a stop may leave holds them too
+pub record Holds {D : Type 0} (image : D → List ℕ) (may_leave : D → List ℕ → Type 0) (f : FileState D) : Type 0 where
+  pub long : 512 < length (image f.device)
+  pub header : header_at (take 512 (image f.device)) ≡ Ok f.area
+  pub pair : pair_at (base_of f.area f.second) (area_of (image f.device) f.area f.second) ≡ Ok (pair_of image f)
+  pub leaves : Leaves image may_leave f
+
+-- a legal area size and legal directories, which lie within the area and the device; and what an honest device holds
+pub record IsSound {D : Type 0} (image : D → List ℕ) (honest : D → Type 0) (may_leave : D → List ℕ → Type 0) (f : FileState D) : Type 0 where
+  pub area : is_area f.area ≡ true
+  pub current : is_directory f.current ≡ true
+  pub saved : is_directory f.saved ≡ true
+  pub fits : directory_length f.current + directory_length f.saved ≤ f.area
+  pub within : base_of f.area f.second + (directory_length f.current + directory_length f.saved) ≤ length (image f.device)
+  pub holds : honest f.device → Holds image may_leave f
+
+-- a directory lists a block with this handle, of so many bytes
+abbrev pub HasBlock : Directory → ℕ → ℕ → Type 0
+HasBlock d h len = IsSomeAnd (find (λ e. e.h == h) d.entries.items) (λ e. e.len ≡ len)
+
+-- the bytes of the block with a handle
+abbrev pub bytes_of_block : List Block → ℕ → List ℕ
+bytes_of_block [] h = []
+bytes_of_block (b ∷ blocks) h = if b.h == h then b.bytes else bytes_of_block blocks h
+
+-- where the bytes of the block with a handle stand, counted from the first entry
+abbrev pub place_in : List Entry → ℕ → ℕ
+place_in [] h = 0
+place_in (e ∷ entries) h = if e.h == h then 6 else (6 + e.len) + place_in entries h

@@ -1,0 +1,42 @@
+//! What a new file begins with.
+ghost use Rattle.std.specs.Prelude.{◌≡◌, ◌+◌, ◌*◌, ◌≤◌, ◌<◌, ◌^◌, ℕ, true, length, OnOk};
+ghost use Rattle.lmem_raw.specs.Bytes.{with_part};
+ghost use Rattle.vm_file.specs.Device.{Only};
+ghost use Rattle.vm_file.specs.Outcomes.{CausesDisk};
+ghost use Rattle.vm_file.specs.Spelling.{new_file};
+
+use crate::device::{Device, Disk};
+
+/// The first 1,040 bytes of a new file: header, selector, and two empty directories in the
+/// first area.
+fn new_file(area: u32) -> [u8; 1040]
+    ensures { result ≡ new_file area }
+{
+    let mut bytes = [0; 1040];
+    bytes[0] = b'G';
+    bytes[1] = b'V';
+    bytes[2] = b'M';
+    bytes[3] = b'1';
+    bytes[4] = 1;
+    bytes[8] = (area % 256) as u8;
+    bytes[9] = (area / 256 % 256) as u8;
+    bytes[10] = (area / 65536 % 256) as u8;
+    bytes[11] = (area / 16_777_216) as u8;
+    bytes
+}
+
+/// Writes what a new file begins with, and makes it last.
+pub(crate) fn write_new<D: Device>(device: &mut D, area: u32) -> Result<(), Disk>
+    ensures bytes { D.honest device.old → OnOk result (D.image device.new ≡ with_part (D.image device.old) 0 (new_file area)) }
+    ensures len { length (D.image device.new) ≡ length (D.image device.old) }
+    ensures honest { D.honest device.old → D.honest device.new }
+    ensures was_honest { D.honest device.new → D.honest device.old }
+    ensures durable { D.honest device.old → OnOk result (Only (D.image device.new) (D.may_leave device.new)) }
+    ensures cause { CausesDisk (D.failed device.old) (D.failed device.new) result }
+{
+    let bytes = new_file(area);
+    match device.write_at(0, &bytes) {
+        Ok(()) => device.sync(),
+        Err(Disk) => Err(Disk),
+    }
+}
