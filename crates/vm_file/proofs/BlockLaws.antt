@@ -1,22 +1,21 @@
 -- Where the bytes of a block stand.
-use Rattle.std.proofs.Common.{◌≡◌, ℕ, zero, suc, ◌+◌, ◌-◌, ◌*◌, ◌<◌, ◌≤◌, Bool, true, false, ◌&&◌, not, cond, List, [], ◌∷◌, length, take, drop, map, Option, Some, None, Result, Ok, Err, refl, ap, sym, ◌∙◌, subst, arith}
+use Rattle.std.proofs.Common.{◌≡◌, ℕ, ◌+◌, ◌-◌, ◌≤◌, Bool, true, false, ◌&&◌, cond, List, [], ◌∷◌, take, drop, Some, refl, ap, sym, ◌∙◌, subst, arith}
 use Rattle.std.specs.Prelude.{IsSomeAnd}
 use Rattle.std.specs.List.{find, list_all}
 use Rattle.std.proofs.Math.Dec.{eqb}
-use Rattle.std.proofs.lemmas.Bool.{eqb-true, false≢true}
+use Rattle.std.proofs.lemmas.Bool.{eqb-true}
 use Rattle.std.proofs.lemmas.List.{drop-drop}
 use Rattle.lmem_raw.specs.Bytes.{part}
 use Rattle.geos_model.specs.Block.{handle_word}
 use Rattle.geos_model.specs.Heap.{IsHeap}
 use Rattle.vm_file.specs.declared.directory.Entry.{Entry}
-use Rattle.vm_file.specs.declared.directory.Directory.{Directory}
 use Rattle.vm_file.specs.Heaps.{is_heap}
-use Rattle.vm_file.specs.Contents.{Block, Contents, Pair, is_filled, is_contents, listed, blocks_in, contents_in}
+use Rattle.vm_file.specs.Contents.{Block, is_filled, listed, blocks_in}
 use Rattle.vm_file.specs.Directories.{is_directory, directory_length, entries_length}
-use Rattle.vm_file.specs.Reading.{pair_at, base_of, area_of}
-use Rattle.vm_file.specs.State.{FileState, Holds, IsSound, pair_of, HasBlock, bytes_of_block, place_in}
+use Rattle.vm_file.specs.Reading.{base_of, area_of}
+use Rattle.vm_file.specs.State.{FileState, IsSound, pair_of, HasBlock, bytes_of_block, place_in}
 use Rattle.vm_file.proofs.HeapTests.{both, heap-sound}
-use Rattle.vm_file.proofs.Lengths.{stretch, drop-stretch, take-stretch}
+use Rattle.vm_file.proofs.Lengths.{drop-stretch, take-stretch}
 use Rattle.vm_file.proofs.ReadLaws.{pair_ok}
 
 -- the block that is found is the one whose bytes stand there

@@ -1,15 +1,14 @@
 -- Blocks read one after the other, and a directory.
-use Rattle.std.proofs.Common.{◌≡◌, ℕ, zero, suc, ◌+◌, ◌-◌, ◌<◌, ◌≤◌, inl, inr, List, [], ◌∷◌, ◌++◌, length, take, drop, map, Result, Ok, Err, refl, ap, sym, ◌∙◌, subst, arith, length-take, length-drop, append_assoc}
+use Rattle.std.proofs.Common.{◌≡◌, ℕ, suc, ◌+◌, ◌-◌, ◌<◌, ◌≤◌, inl, inr, List, [], ◌∷◌, ◌++◌, length, drop, map, Result, Ok, Err, refl, ap, sym, ◌∙◌, subst, arith}
 use Rattle.std.specs.Prelude.{IsOkAnd}
-use Rattle.std.proofs.lemmas.List.{append-nil, drop-drop}
+use Rattle.std.proofs.lemmas.List.{append-nil}
 use Rattle.vm_file.specs.declared.directory.Entry.{Entry}
 use Rattle.vm_file.specs.declared.directory.Directory.{Directory}
 use Rattle.vm_file.specs.declared.error.OpenError.{OpenError}
 use Rattle.vm_file.specs.declared.error.OpenError.TheVariants.{BadFile, Disk, Memory}
 use Rattle.vm_file.specs.Directories.{entries_length}
 use Rattle.vm_file.specs.Contents.{Block, Contents, entry_of, listed}
-use Rattle.vm_file.specs.Outcomes.{Tells, Causes, CausesDisk, ReadsOnly}
-use Rattle.vm_file.specs.Device.{Passes, Rose}
+use Rattle.vm_file.specs.Outcomes.{Tells, Causes, ReadsOnly}
 use Rattle.vm_file.specs.Reading.{◌>>=◌, block_at, blocks_at, count_at, maps_at, contents_at}
 use Rattle.vm_file.proofs.Lengths.{stretch, drop-stretch}
 use Rattle.vm_file.proofs.SpellLaws.{goes}

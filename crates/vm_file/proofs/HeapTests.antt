@@ -1,5 +1,5 @@
 -- The test that computes says which bytes are a heap.
-use Rattle.std.proofs.Common.{◌≡◌, ◌≢◌, ℕ, zero, suc, ◌+◌, ◌-◌, ◌*◌, ◌%◌, ◌<◌, ◌≤◌, ◌⊎◌, Bool, true, false, ◌&&◌, ◌||◌, not, cond, List, [], ◌∷◌, length, Option, Some, None, refl, ap, sym, ◌∙◌, subst, inl, inr, arith}
+use Rattle.std.proofs.Common.{◌≡◌, ◌≢◌, ℕ, zero, suc, ◌+◌, ◌-◌, ◌<◌, ◌≤◌, ◌⊎◌, Bool, true, false, ◌&&◌, ◌||◌, not, cond, List, [], ◌∷◌, length, Option, Some, None, refl, ap, sym, ◌∙◌, subst, inl, inr, arith}
 use Rattle.std.proofs.lemmas.Bool.{cases_eq, eq-eqb, eqb-true, eqb-false, ne_eqb, false≢true}
 use Rattle.std.proofs.Math.Dec.{eqb, ltb, leb}
 use borrow.Author.Tests.{ltb-true}
@@ -9,7 +9,7 @@ use Rattle.geos_model.proofs.Pieces.{lies, tiles-le}
 use Rattle.geos_model.specs.Block.{entry, entries, table_end, first_free, total_free}
 use Rattle.geos_model.specs.Bytes.{word}
 use Rattle.geos_model.specs.Chunks.{cost}
-use Rattle.geos_model.specs.Heap.{Piece, Used, Free, Tiles, HasChunk, free_bytes, IsOffset, IsHeader, IsTiledBy, IsHeap}
+use Rattle.geos_model.specs.Heap.{Piece, Used, Free, Tiles, HasChunk, free_bytes, IsOffset, IsHeader, IsHeap}
 use Rattle.vm_file.specs.Heaps.{is_header, entry_with, piece_at, piece_size, pieces_from, are_tiles, has_chunk, have_chunks, is_heap}
 
 -- parts of a test that holds

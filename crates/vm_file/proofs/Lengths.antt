@@ -1,11 +1,9 @@
 -- What entries take, one after the other; and parts of parts.
-use Rattle.std.proofs.Common.{◌≡◌, ◌≢◌, ℕ, zero, suc, ◌+◌, ◌-◌, ◌*◌, ◌<◌, ◌≤◌, ◌⊎◌, inl, inr, min, true, false, ◌&&◌, cond, List, [], ◌∷◌, ◌++◌, length, take, drop, get_or, refl, ap, sym, ◌∙◌, subst, arith, length-take, length-drop, append_assoc}
-use Rattle.std.proofs.Math.Dec.{ltb, leb}
+use Rattle.std.proofs.Common.{◌≡◌, ℕ, zero, suc, ◌+◌, ◌-◌, ◌<◌, ◌≤◌, inl, inr, min, true, List, [], ◌∷◌, ◌++◌, length, take, drop, get_or, refl, ap, sym, ◌∙◌, arith, length-take, length-drop}
 use Rattle.std.proofs.lemmas.Bool.{cases_lt}
 use Rattle.std.proofs.lemmas.List.{drop-drop, drop-take, take-take, take_all, drop_all, take_more}
 use Rattle.lmem_raw.specs.Bytes.{part}
 use Rattle.vm_file.specs.declared.directory.Entry.{Entry}
-use Rattle.vm_file.specs.Heaps.{is_block_size}
 use Rattle.vm_file.specs.Directories.{is_entry, are_entries, entries_length}
 use Rattle.vm_file.proofs.HeapTests.{both, and-true}
 

@@ -1,5 +1,5 @@
 -- How a run of device calls goes on.
-use Rattle.std.proofs.Common.{◌⊎◌, inl, inr, ⊎_elim, ℕ, List}
+use Rattle.std.proofs.Common.{inl, inr, ⊎_elim, ℕ, List}
 use Rattle.vm_file.specs.Device.{Passes}
 
 module _ {D : Type 0} (left : D → D → List ℕ → Type 0) where

@@ -1,15 +1,14 @@
 -- A new file is read as two empty directories.
-use Rattle.std.proofs.Common.{◌≡◌, ℕ, zero, suc, ◌+◌, ◌-◌, ◌*◌, ◌/◌, ◌%◌, ◌<◌, ◌≤◌, Bool, true, false, ◌&&◌, not, List, [], ◌∷◌, ◌++◌, length, take, drop, get_or, replicate, Result, Ok, Err, refl, ap, sym, ◌∙◌, subst, arith, append_assoc}
-use Rattle.std.proofs.Math.Dec.{leb, eqb}
-use Rattle.std.proofs.lemmas.List.{take_at}
+use Rattle.std.proofs.Common.{◌≡◌, ℕ, zero, suc, ◌+◌, ◌-◌, ◌*◌, ◌/◌, ◌%◌, ◌≤◌, true, false, List, [], ◌∷◌, ◌++◌, length, take, drop, get_or, Result, Ok, refl, ap, sym, ◌∙◌, subst, arith}
+use Rattle.std.proofs.Math.Dec.{eqb}
 use Rattle.lmem_raw.specs.Bytes.{part, with_part}
 use Rattle.lmem_raw.proofs.Parts.{with_part-split, length-with_part}
 use Rattle.geos_model.specs.Bytes.{word}
-use Rattle.vm_file.specs.Contents.{Contents, Pair, listed, is_contents, pair_spelling}
+use Rattle.vm_file.specs.Contents.{listed, pair_spelling}
 use Rattle.vm_file.specs.Device.{Only, Touched}
-use Rattle.vm_file.specs.Reading.{◌>>=◌, wanted, header_at, area_size_at, pair_at, file_at, is_area, File}
+use Rattle.vm_file.specs.Reading.{header_at, pair_at, file_at, is_area, File}
 use Rattle.vm_file.specs.Spelling.{header_spelling, new_file, empty_contents, empty_pair}
-use Rattle.vm_file.specs.State.{FileState, IsSound, Holds, file_of}
+use Rattle.vm_file.specs.State.{FileState, IsSound}
 use Rattle.vm_file.proofs.HeapTests.{both}
 use Rattle.vm_file.proofs.ReadLaws.{leb-le}
 use Rattle.vm_file.proofs.SpellLaws.{goes, wanted_is, pair_again}

@@ -1,18 +1,16 @@
 -- Reading that did not fail: what was read, and where it stands.
-use Rattle.std.proofs.Common.{◌≡◌, ◌≢◌, ℕ, zero, suc, ◌+◌, ◌-◌, ◌*◌, ◌/◌, ◌%◌, ◌<◌, ◌≤◌, Bool, true, false, ◌&&◌, cond, List, [], ◌∷◌, ◌++◌, length, take, drop, map, get_or, Result, Ok, Err, refl, ap, sym, ◌∙◌, subst, arith, length-take, length-drop, length-append, append_assoc}
-use Rattle.std.specs.List.{list_all, flat_map}
+use Rattle.std.proofs.Common.{◌≡◌, ℕ, zero, suc, ◌+◌, ◌%◌, ◌<◌, ◌≤◌, Bool, true, false, ◌&&◌, cond, List, [], ◌∷◌, length, take, drop, map, Result, Ok, Err, refl, ap, sym, ◌∙◌, subst, arith, length-take, length-drop}
+use Rattle.std.specs.List.{list_all}
 use Rattle.std.proofs.Math.Dec.{leb, ltb, eqb}
-use Rattle.std.proofs.lemmas.List.{drop-drop, take-take, take-append-le, drop-append-le, take_all, drop_all, take-append-drop}
-use Rattle.std.proofs.lemmas.Bool.{eq-eqb, eqb-true, false≢true}
 use Rattle.std.proofs.lemmas.Bool.Decides.{nat_tests}
 use borrow.Author.Tests.{ltb-true}
 use Rattle.lmem_raw.specs.Bytes.{part}
-use Rattle.geos_model.specs.Bytes.{word, word_bytes}
+use Rattle.geos_model.specs.Bytes.{word}
 use Rattle.geos_model.specs.Block.{handle_word}
 use Rattle.vm_file.specs.declared.directory.Entry.{Entry}
 use Rattle.vm_file.specs.Heaps.{is_heap, is_block_size}
-use Rattle.vm_file.specs.Directories.{AreMaps, is_entry, are_entries, is_directory, entries_length, directory_length, may_be_map_block, may_be_map_group, may_be_map_item, most_blocks}
-use Rattle.vm_file.specs.Contents.{Block, Contents, Pair, entry_of, listed, is_filled, is_contents, contents_length, pair_length, block_spelling, contents_spelling, pair_spelling, blocks_in, contents_in, pair_in}
+use Rattle.vm_file.specs.Directories.{AreMaps, is_entry, are_entries, entries_length, may_be_map_block, may_be_map_group, may_be_map_item}
+use Rattle.vm_file.specs.Contents.{Block, Contents, Pair, entry_of, listed, is_filled, is_contents, contents_length, pair_length, blocks_in, contents_in, pair_in}
 use Rattle.vm_file.specs.Reading.{◌>>=◌, wanted, word_at, head_at, bytes_at, block_at, blocks_at, count_at, maps_at, contents_at, pair_at}
 use Rattle.vm_file.proofs.HeapTests.{both, and-true}
 

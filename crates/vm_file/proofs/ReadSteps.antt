@@ -1,23 +1,20 @@
 -- The steps of reading, one field at a time.
-use Rattle.std.proofs.Common.{◌≡◌, ◌≢◌, ℕ, zero, suc, ◌+◌, ◌-◌, ◌*◌, ◌<◌, ◌≤◌, ◌⊎◌, inl, inr, min, Bool, true, false, ◌&&◌, not, cond, List, [], ◌∷◌, ◌++◌, length, take, drop, map, get_or, Result, Ok, Err, refl, ap, sym, ◌∙◌, subst, arith, length-take, length-drop, append_assoc}
+use Rattle.std.proofs.Common.{◌≡◌, ◌≢◌, ℕ, zero, suc, ◌+◌, ◌*◌, ◌<◌, ◌≤◌, inl, inr, Bool, true, false, ◌&&◌, not, cond, List, [], ◌∷◌, ◌++◌, length, take, drop, get_or, Result, Ok, Err, refl, ap, sym, ◌∙◌, subst, arith, length-take, append_assoc}
 use Rattle.std.specs.Prelude.{IsOkAnd}
 use Rattle.std.specs.List.{position_or_len}
 use Rattle.std.proofs.Math.Dec.{leb, ltb, eqb}
-use Rattle.std.proofs.lemmas.Bool.{cases_lt, eq-eqb, eqb-true, false≢true, le-leb}
+use Rattle.std.proofs.lemmas.Bool.{cases_lt, eq-eqb, eqb-true, le-leb}
 use Rattle.std.proofs.lemmas.Bool.Decides.{nat_tests}
-use Rattle.std.proofs.lemmas.List.{take-take, take_all, drop_all, get_or-take}
-use borrow.Author.Tests.{ltb-true}
+use Rattle.std.proofs.lemmas.List.{get_or-take}
 use Rattle.geos_model.specs.Bytes.{word}
 use Rattle.geos_model.specs.Block.{handle_word}
 use Rattle.geos_model.specs.Heap.{IsHeap}
 use Rattle.vm_file.specs.declared.directory.Entry.{Entry}
-use Rattle.vm_file.specs.Heaps.{is_heap, is_block_size}
-use Rattle.vm_file.specs.Directories.{is_entry, entries_length, may_be_map_block, may_be_map_group, may_be_map_item}
-use Rattle.vm_file.specs.Contents.{Block, Contents, entry_of, listed}
-use Rattle.vm_file.specs.Reading.{◌>>=◌, wanted, word_at, head_at, bytes_at, block_at, blocks_at, count_at, maps_at, contents_at}
+use Rattle.vm_file.specs.Heaps.{is_heap}
+use Rattle.vm_file.specs.Contents.{Block, entry_of}
+use Rattle.vm_file.specs.Reading.{◌>>=◌, word_at, head_at, bytes_at, block_at, blocks_at, count_at, maps_at}
 use Rattle.vm_file.proofs.HeapTests.{both, and-true, heap-sound, heap-complete, lt-ltb}
 use Rattle.vm_file.proofs.SpellLaws.{goes}
-use Rattle.vm_file.proofs.ReadLaws.{ok_is, bytes_ok}
 
 -- the first byte that is not zero
 pub first_other : (xs : List ℕ) (i : ℕ) → i ≤ length xs → ((k : ℕ) → k < i → get_or xs k 0 ≡ 0) → (i < length xs → get_or xs i 0 ≢ 0) → position_or_len (λ b. not (eqb b 0)) xs ≡ i

@@ -1,18 +1,16 @@
 -- What is spelled is read again, whatever follows it.
-use Rattle.std.proofs.Common.{◌≡◌, ◌≢◌, ℕ, zero, suc, ◌+◌, ◌-◌, ◌*◌, ◌/◌, ◌%◌, ◌<◌, ◌≤◌, Bool, true, false, ◌&&◌, cond, List, [], ◌∷◌, ◌++◌, length, take, drop, map, get_or, Result, Ok, Err, refl, ap, sym, ◌∙◌, subst, arith, length-take, length-drop, length-append, append_assoc}
+use Rattle.std.proofs.Common.{◌≡◌, ℕ, zero, suc, ◌+◌, ◌*◌, ◌/◌, ◌%◌, ◌<◌, ◌≤◌, Bool, true, ◌&&◌, cond, List, [], ◌∷◌, ◌++◌, length, take, drop, map, Result, Ok, Err, refl, ap, ◌∙◌, arith, length-append, append_assoc}
 use Rattle.std.specs.List.{list_all, flat_map}
 use Rattle.std.proofs.Math.Dec.{leb, ltb, eqb}
-use Rattle.std.proofs.lemmas.List.{drop-drop, take-append-le, drop-append-le, take_all, drop_all, drop_at, take_at}
-use Rattle.std.proofs.lemmas.Bool.{eq-eqb, eqb-true, false≢true}
-use Rattle.std.proofs.lemmas.Bool.Decides.{nat_tests}
+use Rattle.std.proofs.lemmas.List.{drop_at, take_at}
 use borrow.Author.Tests.{ltb-true}
 use Rattle.geos_model.specs.Bytes.{word, word_bytes}
 use Rattle.geos_model.specs.Block.{handle_word}
 use Rattle.vm_file.specs.declared.directory.Entry.{Entry}
 use Rattle.vm_file.specs.Heaps.{is_heap, is_block_size}
-use Rattle.vm_file.specs.Directories.{is_entry, are_entries, is_directory, entries_length, directory_length, may_be_map_block, may_be_map_group, may_be_map_item, most_blocks}
-use Rattle.vm_file.specs.Contents.{Block, Contents, Pair, entry_of, listed, is_filled, is_contents, contents_length, pair_length, block_spelling, contents_spelling, pair_spelling}
-use Rattle.vm_file.specs.Reading.{◌>>=◌, wanted, word_at, head_at, bytes_at, block_at, blocks_at, count_at, maps_at, contents_at, pair_at}
+use Rattle.vm_file.specs.Directories.{is_entry, are_entries, entries_length, may_be_map_block, may_be_map_group, may_be_map_item}
+use Rattle.vm_file.specs.Contents.{Block, Contents, Pair, entry_of, is_filled, is_contents, contents_length, pair_length, block_spelling, contents_spelling, pair_spelling}
+use Rattle.vm_file.specs.Reading.{◌>>=◌, wanted, word_at, head_at, bytes_at, block_at, blocks_at, maps_at, contents_at, pair_at}
 use Rattle.vm_file.proofs.HeapTests.{both, and-true, le-leb, lt-ltb}
 use Rattle.vm_file.proofs.ReadLaws.{leb-le}
 

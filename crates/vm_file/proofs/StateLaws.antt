@@ -1,26 +1,16 @@
 -- Files that are open: what `open` finds, and where blocks stand.
-use Rattle.std.proofs.Common.{◌≡◌, ℕ, zero, suc, ◌+◌, ◌-◌, ◌<◌, ◌≤◌, ◌⊎◌, Bool, true, false, ◌&&◌, not, cond, List, [], ◌∷◌, length, take, drop, map, get_or, Option, Some, None, Result, Ok, Err, refl, ap, sym, ◌∙◌, subst, inl, inr, arith, get_or-set_same}
-use Rattle.std.specs.Prelude.{IsOkAnd, IsSomeAnd, MatchBool}
-use Rattle.std.specs.List.{find, list_all}
-use Rattle.std.proofs.Math.Dec.{eqb, ltb}
-use Rattle.std.proofs.lemmas.Bool.{cases_lt, eq-eqb, eqb-true, false≢true}
-use Rattle.std.proofs.lemmas.List.{take-take, drop-drop, drop_more, get_or-take}
+use Rattle.std.proofs.Common.{◌≡◌, ℕ, ◌<◌, true, not, cond, List, length, take, get_or, Result, Ok, Err, refl, ap, sym, ◌∙◌, subst, arith}
+use Rattle.std.specs.Prelude.{IsOkAnd}
+use Rattle.std.proofs.Math.Dec.{ltb}
 use borrow.Author.Tests.{ltb-true}
-use Rattle.lmem_raw.specs.Bytes.{part}
-use Rattle.geos_model.specs.Block.{handle_word}
-use Rattle.vm_file.specs.declared.directory.Entry.{Entry}
-use Rattle.vm_file.specs.declared.directory.Directory.{Directory}
 use Rattle.vm_file.specs.declared.opened.Opened.{Opened}
-use Rattle.vm_file.specs.Heaps.{is_heap}
-use Rattle.vm_file.specs.Contents.{Block, Contents, Pair, entry_of, listed, is_filled, contents_in, pair_in, blocks_in}
-use Rattle.vm_file.specs.Device.{Touched, Only, Passes}
-use Rattle.vm_file.specs.Directories.{directory_length, entries_length}
+use Rattle.vm_file.specs.Contents.{pair_in}
+use Rattle.vm_file.specs.Device.{Touched, Only}
 use Rattle.vm_file.specs.Outcomes.{ReadsOnly}
 use Rattle.vm_file.specs.Opening.{IsOpened, listed_file}
-use Rattle.vm_file.specs.Reading.{◌>>=◌, header_at, selector_at, pair_at, file_at, found, File, is_second, base_of, area_of}
-use Rattle.vm_file.specs.State.{FileState, Holds, IsSound, Leaves, Finds, IsOther, pair_of, file_of, bytes_of_block, place_in, HasBlock}
-use Rattle.vm_file.proofs.HeapTests.{both, lt-ltb}
-use Rattle.vm_file.proofs.Lengths.{stretch, drop-stretch, take-stretch}
+use Rattle.vm_file.specs.Reading.{◌>>=◌, header_at, selector_at, pair_at, file_at, File, is_second, base_of, area_of}
+use Rattle.vm_file.specs.State.{FileState, IsSound, file_of}
+use Rattle.vm_file.proofs.HeapTests.{lt-ltb}
 use Rattle.vm_file.proofs.ReadLaws.{after, cond_ok, ok_is, pair_ok}
 use Rattle.vm_file.proofs.SpellLaws.{goes}
 use Rattle.vm_file.proofs.Touches.{touched_not}

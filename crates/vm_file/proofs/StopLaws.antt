@@ -1,13 +1,12 @@
 -- What `open` finds in an image that a stop may leave.
-use Rattle.std.proofs.Common.{◌≡◌, ℕ, zero, suc, ◌+◌, ◌-◌, ◌<◌, ◌≤◌, ◌⊎◌, Bool, true, false, not, List, [], ◌∷◌, length, take, drop, get_or, Result, Ok, Err, refl, ap, sym, ◌∙◌, subst, inl, inr, arith}
+use Rattle.std.proofs.Common.{◌≡◌, ℕ, zero, suc, ◌+◌, ◌-◌, ◌<◌, ◌≤◌, ◌⊎◌, Bool, true, false, not, List, [], ◌∷◌, length, take, drop, get_or, Ok, refl, ap, sym, ◌∙◌, subst, inl, inr, arith}
 use Rattle.std.specs.Prelude.{MatchBool}
-use Rattle.std.proofs.lemmas.Bool.{cases_lt}
 use Rattle.std.proofs.lemmas.List.{take-take, drop-drop, get_or-take}
 use Rattle.lmem_raw.specs.Bytes.{part}
 use Rattle.vm_file.specs.Contents.{Pair}
 use Rattle.vm_file.specs.Device.{Touched}
-use Rattle.vm_file.specs.Reading.{◌>>=◌, header_at, pair_at, file_at, found, File, is_second, base_of, area_of, is_area}
-use Rattle.vm_file.specs.State.{FileState, Holds, Finds, IsOther, Leaves, pair_of}
+use Rattle.vm_file.specs.Reading.{header_at, pair_at, found, File, is_second, base_of, area_of}
+use Rattle.vm_file.specs.State.{FileState, Holds, Finds, IsOther, pair_of}
 use Rattle.vm_file.proofs.SpellLaws.{goes}
 use Rattle.vm_file.proofs.StateLaws.{FileParts, file_from}
 

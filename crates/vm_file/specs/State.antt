@@ -2,7 +2,7 @@
 use Rattle.std.specs.Prelude.{◌≡◌, ◌⊎◌, ℕ, ◌+◌, ◌≤◌, ◌<◌, Bool, true, not, ◌==◌, List, [], ◌∷◌, length, take, find, Ok, slice_index, if◌then◌else◌, MatchBool, IsSomeAnd}
 use Rattle.vm_file.specs.declared.directory.Entry.{Entry}
 use Rattle.vm_file.specs.declared.directory.Directory.{Directory}
-use Rattle.vm_file.specs.Contents.{Block, Contents, Pair, pair_in}
+use Rattle.vm_file.specs.Contents.{Block, Pair, pair_in}
 use Rattle.vm_file.specs.Device.{Touched}
 use Rattle.vm_file.specs.Directories.{is_directory, directory_length}
 use Rattle.vm_file.specs.Reading.{File, header_at, pair_at, is_area, is_second, base_of, area_of, found}

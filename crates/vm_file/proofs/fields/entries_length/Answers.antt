@@ -1,4 +1,4 @@
-use Rattle.std.proofs.Common.{◌+◌, ap, sym, ◌∙◌, arith}
+use Rattle.std.proofs.Common.{arith}
 use Rattle.vm_file.specs.declared.directory.Entry.{Entry}
 use Rattle.vm_file.proofs.Lengths.{entries_length-more}
 use Rattle.vm_file.proofs.fields.entries_length.Goals as goal

@@ -1,4 +1,4 @@
-use Rattle.std.proofs.Common.{◌≡◌, ◌+◌, ◌*◌, ◌≤◌, take, length}
+use Rattle.std.proofs.Common.{◌≡◌, ◌*◌, ◌≤◌, take}
 use Rattle.vm_file.specs.Directories.{entries_length}
 use Rattle.vm_file.proofs.fields.entries_length.Given as goal
 

@@ -1,4 +1,4 @@
-use Rattle.std.proofs.Common.{◌≡◌, ◌∙◌, ℕ, List, Result, Ok, min, length, take, refl, ap, sym, subst}
+use Rattle.std.proofs.Common.{◌≡◌, ◌∙◌, ℕ, List, Result, min, length, take, refl, ap, sym, subst}
 use Rattle.std.specs.Prelude.{IsOkAnd}
 use Rattle.vm_file.specs.Reading.{header_at}
 use Rattle.vm_file.proofs.Lengths.{stretch}

@@ -1,4 +1,4 @@
-use Rattle.std.proofs.Common.{◌≡◌, ◌≤◌, ◌<◌, ◌∙◌, ℕ, ◌+◌, List, Result, Ok, Err, Bool, length, min, take, refl, ap, sym, subst, arith}
+use Rattle.std.proofs.Common.{◌≡◌, ◌≤◌, ◌∙◌, ℕ, ◌+◌, List, Result, Err, length, min, take, ap, sym, subst, arith}
 use Rattle.std.specs.Prelude.{IsOkAnd}
 use Rattle.vm_file.specs.declared.directory.Directory.{Directory}
 use Rattle.vm_file.specs.declared.error.OpenError.{OpenError}
@@ -8,7 +8,7 @@ use Rattle.vm_file.specs.Opening.{listed_pair}
 use Rattle.vm_file.specs.Outcomes.{Tells}
 use Rattle.vm_file.specs.Reading.{header_at, selector_at, pair_at, base_of, area_of, is_second}
 use Rattle.vm_file.proofs.Lengths.{stretch}
-use Rattle.vm_file.proofs.EntrySteps.{reads_then, ok_only}
+use Rattle.vm_file.proofs.EntrySteps.{ok_only}
 use Rattle.vm_file.proofs.OpenSteps.{file_stop_header, file_stop_selector, file_stop_pair, file_read, area-stretch, area-past}
 use Rattle.vm_file.proofs.opened.read_parts.Goals as goal
 

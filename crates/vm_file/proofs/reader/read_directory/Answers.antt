@@ -1,4 +1,4 @@
-use Rattle.std.proofs.Common.{◌≡◌, ◌≤◌, ◌∙◌, ℕ, ◌+◌, List, Result, Ok, Err, true, take, drop, map, refl, ap, sym, subst, arith}
+use Rattle.std.proofs.Common.{◌≡◌, ◌≤◌, ◌∙◌, ℕ, ◌+◌, List, Result, Ok, Err, drop, map, refl, ap, sym, subst, arith}
 use Rattle.std.specs.Prelude.{IsOkAnd}
 use Rattle.vm_file.specs.declared.directory.Entry.{Entry}
 use Rattle.vm_file.specs.declared.error.OpenError.{OpenError}
@@ -8,7 +8,7 @@ use Rattle.vm_file.specs.Outcomes.{Tells}
 use Rattle.vm_file.specs.Reading.{count_at, blocks_at, maps_at}
 use Rattle.vm_file.proofs.HeapTests.{and-true}
 use Rattle.vm_file.proofs.Lengths.{stretch, drop-stretch}
-use Rattle.vm_file.proofs.EntrySteps.{contents_stop, contents_stop_any, contents_stop_blocks, contents_stop_maps_any, contents_read, ok_only}
+use Rattle.vm_file.proofs.EntrySteps.{contents_stop_any, contents_stop_blocks, contents_stop_maps_any, contents_read, ok_only}
 use Rattle.vm_file.proofs.reader.read_directory.Goals as goal
 
 pub returns-in-Err-clause-exact : goal.returns-in-Err-clause-exact

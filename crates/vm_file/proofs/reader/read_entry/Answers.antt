@@ -1,4 +1,4 @@
-use Rattle.std.proofs.Common.{◌≡◌, ◌<◌, ◌≤◌, ◌+◌, ◌-◌, ◌∙◌, true, List, ℕ, length, take, drop, Ok, Err, Result, ap, sym, subst, arith, length-take, length-drop, refl}
+use Rattle.std.proofs.Common.{◌≡◌, ◌≤◌, ◌+◌, ◌∙◌, List, ℕ, length, take, drop, Result, ap, sym, subst, arith, length-take, length-drop}
 use Rattle.std.proofs.lemmas.Bool.{false≢true}
 use Rattle.geos_model.specs.Block.{handle_word}
 use Rattle.geos_model.specs.Heap.{IsHeap}

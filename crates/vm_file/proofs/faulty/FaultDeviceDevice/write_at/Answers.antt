@@ -1,4 +1,4 @@
-use Rattle.std.proofs.Common.{◌⊎◌, inl, inr, ⊎_elim, ℕ, ◌+◌, ◌≤◌, ◌/◌, List, length, take, arith, length-take}
+use Rattle.std.proofs.Common.{inl, inr, ⊎_elim, ℕ, ◌≤◌, ◌/◌, List, length, take, arith, length-take}
 use Rattle.vm_file.proofs.Touches.{touched_more, after_more}
 use Rattle.vm_file.proofs.faulty.FaultDeviceDevice.write_at.Goals as goal
 

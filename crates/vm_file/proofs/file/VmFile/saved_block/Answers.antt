@@ -1,12 +1,9 @@
-use Rattle.std.proofs.Common.{◌≡◌, ◌+◌, ◌∙◌, ℕ, List, length, ap, sym, subst, inl, inr, arith}
+use Rattle.std.proofs.Common.{◌≡◌, ◌∙◌, ℕ, List, length, ap, sym, subst, inl, inr, arith}
 use Rattle.std.specs.Prelude.{OnOk, OnErr}
 use Rattle.std.proofs.lemmas.Result.{on_ok_weaker}
-use Rattle.lmem_raw.specs.Bytes.{part}
 use Rattle.geos_model.specs.Block.{handle_word}
 use Rattle.geos_model.specs.Heap.{IsHeap}
 use Rattle.vm_file.specs.Device.{Passes, Rose}
-use Rattle.vm_file.specs.Directories.{directory_length}
-use Rattle.vm_file.specs.Reading.{base_of}
 use Rattle.vm_file.specs.State.{FileState, Finds, HasBlock, bytes_of_block, pair_of, place_in}
 use Rattle.vm_file.proofs.BlockLaws.{saved_there, saved_heap}
 use Rattle.vm_file.proofs.StopLaws.{finds}

@@ -1,4 +1,4 @@
-use Rattle.std.proofs.Common.{◌≡◌, ℕ, ◌+◌, List, ◌++◌, length, take, drop, sym, subst, ap, ◌∙◌, refl, arith, inr}
+use Rattle.std.proofs.Common.{◌≡◌, ℕ, List, ◌++◌, length, take, drop, sym, subst, ap, ◌∙◌, refl, inr}
 use Rattle.std.proofs.lemmas.List.{take_at}
 use Rattle.vm_file.specs.Device.{Touched}
 use Rattle.lmem_raw.specs.Bytes.{with_part}
