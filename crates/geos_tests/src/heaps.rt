@@ -41,23 +41,30 @@ fn copy(from: &[u8], to: &mut [u8]) {
     }
 }
 
-/// Whether the first 64 bytes are a heap.
-fn begins_with_a_heap(block: &[u8]) -> bool
-    requires { 64 ≤ length block.now }
-    ensures { IsTrue result ↔ IsHeap (take 64 block.now) }
+/// Whether a block's first bytes are a heap.
+fn begins_with_a_heap(block: &[u8], size: usize) -> bool
+    requires { size ≤ length block.now }
+    ensures { IsTrue result ↔ IsHeap (take size block.now) }
 {
-    check(&block[..64])
+    check(&block[..size])
+}
+
+/// Makes the heap in a block's first bytes one of the whole block.
+pub fn grow(rt: &impl Abort, block: &mut [u8], old_size: usize)
+    ensures { IsHeap block.new }
+{
+    let size = block.len();
+    assert!(rt; old_size <= size && size >= 64 && size <= 65_520 && size % 16 == 0);
+    assert!(rt; begins_with_a_heap(block, old_size));
+    enlarged(block, old_size as u16);
 }
 
 /// Puts a heap of 64 bytes into a longer block.
 fn put_into(rt: &impl Abort, small: &[u8], block: &mut [u8])
     ensures { IsHeap block.new }
 {
-    let size = block.len();
-    assert!(rt; small.len() == 64 && size >= 64 && size <= 65_520 && size % 16 == 0);
     copy(small, block);
-    assert!(rt; begins_with_a_heap(block));
-    enlarged(block, 64);
+    grow(rt, block, 64);
 }
 
 #[test]

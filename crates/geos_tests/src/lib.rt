@@ -13,6 +13,10 @@ mod kernel;
 #[cfg(test)]
 mod lists;
 #[cfg(test)]
+mod packed;
+#[cfg(test)]
+mod random_heaps;
+#[cfg(test)]
 mod regions;
 #[cfg(test)]
 mod words;
