@@ -34,7 +34,7 @@ Finds image f c = MatchBool f.sure
     (found c ≡ Ok (pair_of image f))
     ((found c ≡ Ok (pair_of image f)) ⊎ ((q : Pair) × IsOther image f q × (found c ≡ Ok q)))
 
--- what a stop may leave: where it is sure what the device holds, any bytes in the other area alone; else any selector alone, and the other area holds a pair too
+-- what a stop may leave: where it is sure what the device holds, any bytes in the other area alone; else any selector alone, the other area holding a pair too
 abbrev pub Leaves : {D : Type 0} → (D → List ℕ) → (D → List ℕ → Type 0) → FileState D → Type 0
 Leaves image may_leave f = MatchBool f.sure
     ((is_second (slice_index (image f.device) 512) ≡ f.second)
