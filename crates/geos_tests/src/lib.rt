@@ -19,4 +19,6 @@ mod random_heaps;
 #[cfg(test)]
 mod regions;
 #[cfg(test)]
+mod vm_files;
+#[cfg(test)]
 mod words;

@@ -25,6 +25,3 @@ pub use error::{CreateError, OpenError};
 pub use faulty::FaultDevice;
 pub use file::VmFile;
 pub use memory::MemoryDevice;
-
-#[cfg(test)]
-mod tests;

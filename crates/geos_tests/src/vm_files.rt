@@ -1,8 +1,10 @@
-use super::*;
+//! VM files, and the devices that they stand on.
+
 use std::alloc::Global;
 use std::fs;
 use std::process::Abort;
 use std::test::Fail;
+use vm_file::{Device, Disk, Entry, FaultDevice, FileDevice, MemoryDevice, OpenError, VmFile};
 
 /// The first 16 bytes of a file of area 512.
 const HEADER: [u8; 16] = [b'G', b'V', b'M', b'1', 1, 0, 0, 0, 0, 2, 0, 0, 0, 0, 0, 0];
