@@ -4,7 +4,7 @@ ghost use Rattle.std.specs.Prelude.{◌≡◌, ◌<◌, ◌≤◌, ◌+◌, ◌�
 ghost use Rattle.std.specs.List.{list_all};
 ghost use Rattle.geos_image.specs.Parts.{Parts, Point, start_of};
 ghost use Rattle.geos_image.specs.Legal.{is_image, are_routines, is_point};
-ghost use Rattle.geos_image.specs.Fields.{FieldsFit, TargetFits};
+ghost use Rattle.geos_image.specs.Fields.{FieldsFit, TargetFits, CalleeFits};
 
 use crate::instr::Instr;
 use crate::legal::{MOST_INSTRS, MOST_ROUTINES, is_point, is_routine, total_count};
@@ -127,6 +127,7 @@ impl Image {
         ensures there { IfSome (slice_get self.now.points pc) (λ point. result.now ≡ point.0) }
         ensures fields { FieldsFit result.now.opcode result.now }
         ensures target { TargetFits (length self.now.points) result.now }
+        ensures callee { CalleeFits (length self.now.routines) result.now }
     {
         &self.points[pc as usize].0
     }

@@ -34,6 +34,8 @@ pub enum Opcode {
     Setkw,
     /// `LOOP ka L`: if ka is above 0, takes 1 from it and goes to L.
     Loop,
+    /// `CALL n`: calls the routine n.
+    Call,
     /// `RET`: returns; the outermost return ends the run.
     Ret,
     /// `OUT wa L`: puts out wa; refused with 10 where 1,024 words are out.
@@ -123,6 +125,7 @@ impl Opcode {
             Opcode::Setk => 0x0c,
             Opcode::Setkw => 0x0d,
             Opcode::Loop => 0x0e,
+            Opcode::Call => 0x0f,
             Opcode::Ret => 0x10,
             Opcode::Out => 0x11,
         }
@@ -147,6 +150,7 @@ impl Opcode {
             0x0c => Some(Opcode::Setk),
             0x0d => Some(Opcode::Setkw),
             0x0e => Some(Opcode::Loop),
+            0x0f => Some(Opcode::Call),
             0x10 => Some(Opcode::Ret),
             0x11 => Some(Opcode::Out),
             _ => None,
@@ -157,7 +161,7 @@ impl Opcode {
     pub fn operands(self) -> Operands
         ensures { result ≡ operands_of self }
     {
-        use Operand::{Counter, Label, Number, Shift, Unused, Word};
+        use Operand::{Counter, Label, Number, Routine, Shift, Unused, Word};
         match self {
             Opcode::Ldi => fields(Word, Unused, Unused, Unused, Number, Unused),
             Opcode::Mov => fields(Word, Word, Unused, Unused, Unused, Unused),
@@ -173,6 +177,7 @@ impl Opcode {
             Opcode::Setk => fields(Counter, Unused, Unused, Unused, Number, Unused),
             Opcode::Setkw => fields(Counter, Word, Unused, Unused, Unused, Unused),
             Opcode::Loop => fields(Counter, Unused, Unused, Unused, Unused, Label),
+            Opcode::Call => fields(Unused, Unused, Unused, Unused, Routine, Unused),
             Opcode::Ret => fields(Unused, Unused, Unused, Unused, Unused, Unused),
             Opcode::Out => refusable_fields(Word, Unused, Unused, Unused, Unused),
         }
