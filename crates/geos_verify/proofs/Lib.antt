@@ -1,2 +1,4 @@
 pub mod Four
+pub mod Noted
+pub mod Passed
 pub mod Places

@@ -43,20 +43,20 @@ one_routine routines q r pc before after e f h k =
 module _ (image : Parts) (r start : ℕ) (routine : Routine) (there : slice_get image.routines r ≡ Some routine) (start_is : start ≡ start_of image.routines r) where
   -- nothing is refused before the routine, nor in it before a limit
   pub accepted-before : (limit : ℕ) → limit ≤ start + routine.count → AcceptedBelow image start
-      → RefusesNone image routine start limit → AcceptedBelow image limit
+      → RefusesNone image r routine start limit → AcceptedBelow image limit
   accepted-before limit within earlier here q pc other point lt has =
       elim (cases_lt pc start) [
         | inl below ↦ earlier q pc other point below has
         | inr above ↦ at_this above
       ]
     where
-      at_this : start ≤ pc → refusal image other (start_of image.routines q) pc point ≡ None
+      at_this : start ≤ pc → refusal image q other (start_of image.routines q) pc point ≡ None
       at_this above =
           let in_this : has_place (start_of image.routines r) routine.count pc ≡ true = rw (← start_is) (place_true start routine.count pc above (omega arith)) in
           let same = one_routine image.routines q r pc other routine has.there there has.within in_this in
           let same_routine = some_routine other routine (sym has.there ∙ ap (slice_get image.routines) same ∙ there) in
           let same_start : start_of image.routines q ≡ start = ap (start_of image.routines) same ∙ sym start_is in
-          rw (same_routine, same_start) (here pc point above lt has.read)
+          rw (same_routine, same_start, same) (here pc point above lt has.read)
 
 -- what there is at an index below the length
 pub item_at : {A : Type 0} (xs : List A) (k : ℕ) → k < length xs → (x : A) × (slice_get xs k ≡ Some x)
@@ -71,19 +71,19 @@ if_some P (Some y) x e h = let same : y ≡ x = cc in subst P same h
 -- a refusal in a routine before which nothing is refused is the first one
 pub is_first : (image : Parts) (r start : ℕ) (routine : Routine) (reject : Reject) → slice_get image.routines r ≡ Some routine → start ≡ start_of image.routines r → AcceptedBelow image start
     → start + routine.count ≤ length image.points → (start ≤ reject.pc) × (reject.pc < start + routine.count)
-    → Refuses image routine start reject → RefusesNone image routine start reject.pc → FirstRefusal image reject
+    → Refuses image r routine start reject → RefusesNone image r routine start reject.pc → FirstRefusal image reject
 is_first image r start routine reject there start_is earlier end within refuses first =
     let read = item_at image.points reject.pc (omega (arith, within.1)) in made read.0 read.1
   where
     made : (point : Point) → slice_get image.points reject.pc ≡ Some point → FirstRefusal image reject
     made point read =
-        let P : ℕ → Type 0 = λ n. refusal image routine n reject.pc point ≡ Some reject.rule in
+        let P : ℕ → Type 0 = λ n. refusal image r routine n reject.pc point ≡ Some reject.rule in
         record {
           r = r;
           routine = routine;
           point = point;
           has = record { there = there; within = rw (← start_is) (place_true start routine.count reject.pc within.0 within.1); read = read };
-          refuses = subst P start_is (if_some (λ x. refusal image routine start reject.pc x ≡ Some reject.rule) (slice_get image.points reject.pc) point read refuses);
+          refuses = subst P start_is (if_some (λ x. refusal image r routine start reject.pc x ≡ Some reject.rule) (slice_get image.points reject.pc) point read refuses);
           before = accepted-before image r start routine there start_is reject.pc (omega (arith, within.1)) earlier first;
         }
 

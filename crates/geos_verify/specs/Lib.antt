@@ -1,4 +1,5 @@
 pub mod Lists
+pub mod Touched
 pub mod Potentials
 pub mod Rows
 pub mod RuleText

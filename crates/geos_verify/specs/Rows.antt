@@ -2,7 +2,7 @@
 use Rattle.std.specs.Prelude.{◌≡◌, ℕ, ◌+◌, ◌*◌, ◌/◌, ◌^◌, min, Bool, true, false, ◌&&◌, ◌||◌, not, nat_le, ◌==◌, if◌then◌else◌, List, Option, Some, None, slice_index, slice_index_or, slice_set, slice_get}
 use Rattle.std.specs.List.{list_all}
 use Rattle.geos_image.specs.declared.opcode.Opcode.{Opcode}
-use Rattle.geos_image.specs.declared.opcode.Opcode.TheVariants.{Ldi, Mov, Add, Sub, And, Shr, Muli, Chk, Jmp, Ret}
+use Rattle.geos_image.specs.declared.opcode.Opcode.TheVariants.{Ldi, Mov, Add, Sub, And, Shr, Muli, Chk, Jmp, Call, Ret}
 use Rattle.geos_image.specs.declared.opcode.Operand.{Operand}
 use Rattle.geos_image.specs.declared.opcode.Operand.TheVariants.{Label}
 use Rattle.geos_image.specs.declared.instr.Instr.{Instr}
@@ -56,17 +56,23 @@ or_any n = min n 65535
 
 -- After an instruction
 
--- the row where control goes on to the next instruction
-abbrev pub row_along : Instr → Opcode → Row → Row
-row_along i Ldi row = with_bound i.a i.imm row
-row_along i Add row = with_bound i.a (or_any (bound row i.b + bound row i.c)) row
-row_along i Mov row = with_bound i.a (bound row i.b) row
-row_along i Sub row = with_bound i.a 65535 row
-row_along i And row = with_bound i.a (min (bound row i.b) i.imm) row
-row_along i Shr row = with_bound i.a (bound row i.b / 2 ^ i.imm) row
-row_along i Muli row = with_bound i.a (or_any (bound row i.b * i.imm)) row
-row_along i Chk row = with_bound i.a (min (bound row i.a) i.imm) row
-row_along i _ row = row
+-- the exit row of a routine
+abbrev pub exit_row : Parts → ℕ → Row → Row
+exit_row image r row = elim (slice_get image.routines r) [ None ↦ row | Some routine ↦ routine.exit ]
+
+-- the row where control goes on to the next instruction; after a call it is the exit row of the
+-- routine that was called
+abbrev pub row_along : Parts → Instr → Opcode → Row → Row
+row_along image i Ldi row = with_bound i.a i.imm row
+row_along image i Add row = with_bound i.a (or_any (bound row i.b + bound row i.c)) row
+row_along image i Mov row = with_bound i.a (bound row i.b) row
+row_along image i Sub row = with_bound i.a 65535 row
+row_along image i And row = with_bound i.a (min (bound row i.b) i.imm) row
+row_along image i Shr row = with_bound i.a (bound row i.b / 2 ^ i.imm) row
+row_along image i Muli row = with_bound i.a (or_any (bound row i.b * i.imm)) row
+row_along image i Chk row = with_bound i.a (min (bound row i.a) i.imm) row
+row_along image i Call row = exit_row image i.imm row
+row_along image i _ row = row
 
 -- the row where control goes to the target; a refusal leaves its number in w7
 abbrev pub row_branching : Opcode → Row → Row
@@ -76,7 +82,7 @@ row_branching opcode row = if (operands_of opcode).refusable then with_bound 7 1
 abbrev pub after : Parts → ℕ → Row → Bool → Row
 after image pc row branch = elim (slice_get image.points pc) [
   | None ↦ row
-  | Some point ↦ if branch then row_branching point.0.opcode row else row_along point.0 point.0.opcode row
+  | Some point ↦ if branch then row_branching point.0.opcode row else row_along image point.0 point.0.opcode row
 ]
 
 -- Fits

@@ -1,13 +1,14 @@
 -- How the rules are printed.
 use Rattle.std.specs.Prelude.{ℕ, List, ◌++◌, codes, decimal}
 use Rattle.geos_verify.specs.declared.rule.Rule.{Rule}
-use Rattle.geos_verify.specs.declared.rule.Rule.TheVariants.{LeavesRoutine, NamesEmptySlot, EntryMisfit, ExitMisfit, EdgeMisfit, EdgeUnpaid, OverBudget}
+use Rattle.geos_verify.specs.declared.rule.Rule.TheVariants.{LeavesRoutine, NamesEmptySlot, EntryMisfit, CallMisfit, ExitMisfit, EdgeMisfit, EdgeUnpaid, OverBudget}
 
 -- the number of a rule
 abbrev pub rule_number : Rule → ℕ
 rule_number LeavesRoutine = 1
 rule_number NamesEmptySlot = 2
 rule_number EntryMisfit = 3
+rule_number CallMisfit = 10
 rule_number ExitMisfit = 11
 rule_number EdgeMisfit = 12
 rule_number EdgeUnpaid = 13

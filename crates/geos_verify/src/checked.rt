@@ -5,9 +5,11 @@ ghost use Rattle.geos_image.specs.declared.routine.Routine.{Routine};
 ghost use Rattle.geos_image.specs.Parts.{Point, start_of};
 ghost use Rattle.geos_image.specs.Legal.{is_image};
 ghost use Rattle.geos_verify.specs.Rules.{RefusesNone, Refuses, Accepted, IsChecked, FirstRefusal};
+ghost use Rattle.geos_verify.specs.Touched.{NotesBelow};
 
 use crate::refusal::refusal;
 use crate::rule::Reject;
+use crate::touched::{Touched, touched_in};
 use geos_image::{Image, Routine};
 use std::marker::Model;
 
@@ -38,17 +40,26 @@ impl Checked {
     }
 }
 
-/// The first refusal in a routine that begins at `start`.
-fn refusal_in(image: &Image, routine: &Routine, start: u16) -> Option<Reject>
+/// The first refusal in routine r, which begins at `start`. The table says which counters the
+/// routines below r touch.
+fn refusal_in(
+    image: &Image,
+    r: u16,
+    routine: &Routine,
+    start: u16,
+    touched: &Touched,
+) -> Option<Reject>
+    requires routine { r < length image.now.routines }
+    requires table { NotesBelow image.now touched.now r }
     requires end { start + routine.now.count ≤ length image.now.points }
     requires short { length image.now.points ≤ 4096 }
-    ensures none { IfNone result (RefusesNone image.now routine.now start (start + routine.now.count)) }
+    ensures none { IfNone result (RefusesNone image.now r routine.now start (start + routine.now.count)) }
     ensures within { IfSome result (λ reject. (start ≤ reject.pc) × (reject.pc < start + routine.now.count)) }
-    ensures some { IfSome result (Refuses image.now routine.now start) }
-    ensures first { IfSome result (λ reject. RefusesNone image.now routine.now start reject.pc) }
+    ensures some { IfSome result (Refuses image.now r routine.now start) }
+    ensures first { IfSome result (λ reject. RefusesNone image.now r routine.now start reject.pc) }
 {
     for pc in start..start + routine.count {
-        if let Some(rule) = refusal(image, routine, u32::from(start), pc) {
+        if let Some(rule) = refusal(image, r, routine, u32::from(start), touched, pc) {
             return Some(Reject { pc, rule });
         }
     }
@@ -61,8 +72,10 @@ fn first_refusal(image: &Image) -> Option<Reject>
     ensures none { IfNone result (Accepted image.now) }
     ensures some { IfSome result (FirstRefusal image.now) }
 {
+    let mut touched = [[false; 4]; 32];
     for r in 0..image.count() {
-        if let Some(reject) = refusal_in(image, image.routine(r), image.start(r)) {
+        touched[usize::from(r)] = touched_in(image, r, &touched);
+        if let Some(reject) = refusal_in(image, r, image.routine(r), image.start(r), &touched) {
             return Some(reject);
         }
     }

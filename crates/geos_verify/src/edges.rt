@@ -2,7 +2,7 @@
 
 ghost use Rattle.std.specs.Prelude.{◌≡◌, ◌<◌, length};
 ghost use Rattle.geos_verify.specs.Rows.{falls_through, branches, with_bound, row_along, row_branching, after, HasEdge};
-ghost use Rattle.geos_image.specs.Fields.{FieldsFit};
+ghost use Rattle.geos_image.specs.Fields.{FieldsFit, CalleeFits};
 
 use geos_image::{Image, Instr, Opcode, Operand, Row};
 
@@ -35,10 +35,12 @@ fn with_bound(row: &Row, a: u8, n: u16) -> Row
     next
 }
 
-/// The row where control goes on to the next instruction.
-pub(crate) fn row_along(i: &Instr, row: &Row) -> Row
-    requires { FieldsFit i.now.opcode i.now }
-    ensures { result ≡ row_along i.now i.now.opcode row.now }
+/// The row where control goes on to the next instruction; after a call it is the exit row of the
+/// routine that was called.
+pub(crate) fn row_along(image: &Image, i: &Instr, row: &Row) -> Row
+    requires fields { FieldsFit i.now.opcode i.now }
+    requires callee { CalleeFits (length image.now.routines) i.now }
+    ensures { result ≡ row_along image.now i.now i.now.opcode row.now }
 {
     match i.opcode {
         Opcode::Ldi => with_bound(row, i.a, i.imm),
@@ -52,6 +54,7 @@ pub(crate) fn row_along(i: &Instr, row: &Row) -> Row
         Opcode::Shr => with_bound(row, i.a, row.bounds[i.b as usize] >> i.imm),
         Opcode::Muli => with_bound(row, i.a, row.bounds[i.b as usize].saturating_mul(i.imm)),
         Opcode::Chk => with_bound(row, i.a, row.bounds[i.a as usize].min(i.imm)),
+        Opcode::Call => image.routine(i.imm).exit,
         _ => *row,
     }
 }
@@ -79,6 +82,6 @@ pub fn after(image: &Image, pc: u16, row: &Row, branch: bool) -> Row
     if branch {
         row_branching(i.opcode, row)
     } else {
-        row_along(i, row)
+        row_along(image, i, row)
     }
 }

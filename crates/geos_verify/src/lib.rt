@@ -9,6 +9,7 @@ mod fits;
 mod potentials;
 mod refusal;
 mod rule;
+mod touched;
 
 pub use checked::{Checked, check};
 pub use edges::after;

@@ -1,11 +1,13 @@
 //! Whether a potential pays for an edge.
 
-ghost use Rattle.std.specs.Prelude.{◌≡◌, ◌<◌, ◌*◌, ◌^◌, nat_le};
+ghost use Rattle.std.specs.Prelude.{◌≡◌, ◌<◌, ◌*◌, ◌^◌, ◌||◌, ◌==◌, not, true, length, nat_le};
 ghost use Rattle.geos_image.specs.Fields.{FieldsFit};
 ghost use Rattle.geos_verify.specs.Lists.{all2};
-ghost use Rattle.geos_verify.specs.Potentials.{pays, pays_setting, pays_taking, pays_along, pays_branching, is_within};
+ghost use Rattle.geos_verify.specs.Potentials.{pays, pays_setting, pays_taking, pays_calling, pays_along, pays_branching, is_within};
+ghost use Rattle.geos_verify.specs.Touched.{calls, NotesBelow};
 
-use geos_image::{Instr, Opcode, Potential, Row};
+use crate::touched::{Touched, touched_by};
+use geos_image::{Image, Instr, Opcode, Potential, Row};
 
 fn coefficients_pay(p: &[u32; 4], q: &[u32; 4]) -> bool
     ensures { result ≡ all2 nat_le q.now p.now }
@@ -56,16 +58,52 @@ fn pays_taking(k: u8, p: &Potential, q: &Potential) -> bool
         && coefficients_pay(&p.coefficients, &q.coefficients)
 }
 
-/// Whether the potential p at an instruction pays for the edge to the next one, where the
-/// potential is q.
-pub(crate) fn pays_along(i: &Instr, row: &Row, p: &Potential, q: &Potential) -> bool
-    requires { FieldsFit i.now.opcode i.now }
-    ensures { result ≡ pays_along i.now i.now.opcode row.now p.now q.now }
+/// Whether no coefficient is left on a counter that is touched.
+fn are_spent(touched: &[bool; 4], q: &Potential) -> bool
+    ensures { result ≡ all2 (λ is_touched k. not is_touched || k == 0) touched.now q.now.coefficients }
+{
+    let [k0, k1, k2, k3] = q.coefficients;
+    (!touched[0] | (k0 == 0))
+        & (!touched[1] | (k1 == 0))
+        & (!touched[2] | (k2 == 0))
+        & (!touched[3] | (k3 == 0))
+}
+
+/// Whether the constant also pays for all that a called routine may take, with no coefficient
+/// left on a counter that the routine touches.
+fn pays_calling(budget: u32, touched: &[bool; 4], p: &Potential, q: &Potential) -> bool
+    ensures { result ≡ pays_calling budget touched.now p.now q.now }
+{
+    u64::from(q.constant) + 1 + u64::from(budget) <= u64::from(p.constant)
+        && coefficients_pay(&p.coefficients, &q.coefficients)
+        && are_spent(touched, q)
+}
+
+/// Whether the potential p at an instruction of routine r pays for the edge to the next one,
+/// where the potential is q. The table says which counters the routines below r touch.
+pub(crate) fn pays_along(
+    image: &Image,
+    r: u16,
+    touched: &Touched,
+    i: &Instr,
+    row: &Row,
+    p: &Potential,
+    q: &Potential,
+) -> bool
+    requires fields { FieldsFit i.now.opcode i.now }
+    requires callee { calls i.now.opcode ≡ true → i.now.imm < r }
+    requires routine { r < length image.now.routines }
+    requires table { NotesBelow image.now touched.now r }
+    ensures { result ≡ pays_along image.now i.now i.now.opcode row.now p.now q.now }
 {
     match i.opcode {
         Opcode::Setk => pays_setting(i.a, i.imm, p, q),
         Opcode::Setkw => pays_setting(i.a, row.bounds[i.b as usize], p, q),
         Opcode::Loop => pays_setting(i.a, 0, p, q),
+        Opcode::Call => {
+            let callee = image.routine(i.imm);
+            pays_calling(callee.budget, &touched_by(image, r, touched, i.imm), p, q)
+        }
         _ => pays(p, q),
     }
 }

@@ -2,14 +2,16 @@
 
 ghost use Rattle.std.specs.Prelude.{◌≡◌, ◌<◌, ◌≤◌, ◌+◌, ◌||◌, ◌&&◌, length, true, false, slice_get, Some, IfSome};
 ghost use Rattle.geos_image.specs.Parts.{start_of, Point};
-ghost use Rattle.geos_image.specs.Fields.{FieldsFit, TargetFits};
+ghost use Rattle.geos_image.specs.Fields.{FieldsFit, TargetFits, CalleeFits};
 ghost use Rattle.geos_verify.specs.Rows.{falls_through, branches};
-ghost use Rattle.geos_verify.specs.Rules.{has_place, returns, leaves_routine, entry_misfits, exit_misfits, misfits_at, edge_misfits, unpaid_along, unpaid_branching, edge_unpaid, over_budget, refusal};
+ghost use Rattle.geos_verify.specs.Rules.{has_place, returns, leaves_routine, entry_misfits, call_misfits, exit_misfits, misfits_at, edge_misfits, unpaid_along, unpaid_branching, edge_unpaid, over_budget, refusal};
+ghost use Rattle.geos_verify.specs.Touched.{calls, NotesBelow};
 
 use crate::edges::{branches, falls_through, row_along, row_branching};
 use crate::fits::{fits, is_plain, names_empty_slot};
 use crate::potentials::{is_within, pays_along, pays_branching};
 use crate::rule::Rule;
+use crate::touched::{Touched, calls};
 use geos_image::{Image, Instr, Opcode, Potential, Routine, Row};
 
 fn has_place(start: u32, routine: &Routine, pc: u32) -> bool
@@ -48,6 +50,17 @@ fn entry_misfits(start: u32, routine: &Routine, pc: u32, row: &Row) -> bool
             || routine.public && !(is_plain(&routine.entry) && is_plain(&routine.exit)))
 }
 
+/// Whether the instruction calls a routine that is not below its own, which is r, or one whose
+/// entry row the row does not fit.
+#[tactic(auto, unfolding(crate::specs::Rules::call_misfits))]
+fn call_misfits(image: &Image, r: u16, i: &Instr, row: &Row) -> bool
+    requires { CalleeFits (length image.now.routines) i.now }
+    ensures value { result ≡ call_misfits image.now r i.now row.now }
+    ensures lower { result ≡ false → calls i.now.opcode ≡ true → i.now.imm < r }
+{
+    calls(i.opcode) && (r <= i.imm || !fits(row, &image.routine(i.imm).entry))
+}
+
 #[tactic(auto, unfolding(crate::specs::Rules::exit_misfits))]
 fn exit_misfits(routine: &Routine, i: &Instr, row: &Row) -> bool
     ensures { result ≡ exit_misfits routine.now i.now row.now }
@@ -67,23 +80,43 @@ fn misfits_at(image: &Image, to: u16, row: &Row) -> bool
 #[tactic(auto, unfolding(crate::specs::Rules::edge_misfits))]
 fn edge_misfits(image: &Image, pc: u16, i: &Instr, row: &Row) -> bool
     requires fields { FieldsFit i.now.opcode i.now }
+    requires callee { CalleeFits (length image.now.routines) i.now }
     requires pc { pc < 4096 }
     requires along { falls_through i.now.opcode ≡ true → pc + 1 < length image.now.points }
     requires branch { branches i.now.opcode ≡ true → i.now.target < length image.now.points }
     ensures { result ≡ edge_misfits image.now pc i.now row.now }
 {
-    falls_through(i.opcode) && misfits_at(image, pc + 1, &row_along(i, row))
+    falls_through(i.opcode) && misfits_at(image, pc + 1, &row_along(image, i, row))
         || branches(i.opcode) && misfits_at(image, i.target, &row_branching(i.opcode, row))
 }
 
 #[tactic(auto, unfolding(crate::specs::Rules::unpaid_along))]
-fn unpaid_along(image: &Image, pc: u16, i: &Instr, row: &Row, potential: &Potential) -> bool
+fn unpaid_along(
+    image: &Image,
+    r: u16,
+    touched: &Touched,
+    pc: u16,
+    i: &Instr,
+    row: &Row,
+    potential: &Potential,
+) -> bool
     requires fields { FieldsFit i.now.opcode i.now }
+    requires callee { calls i.now.opcode ≡ true → i.now.imm < r }
+    requires routine { r < length image.now.routines }
+    requires table { NotesBelow image.now touched.now r }
     requires next { pc + 1 < length image.now.points }
     requires pc { pc < 4096 }
     ensures { result ≡ unpaid_along image.now pc i.now row.now potential.now }
 {
-    !pays_along(i, row, potential, image.potential(pc + 1))
+    !pays_along(
+        image,
+        r,
+        touched,
+        i,
+        row,
+        potential,
+        image.potential(pc + 1),
+    )
 }
 
 #[tactic(auto, unfolding(crate::specs::Rules::unpaid_branching))]
@@ -97,14 +130,25 @@ fn unpaid_branching(image: &Image, i: &Instr, potential: &Potential) -> bool
 
 /// Whether the potential does not pay for an edge or for the return.
 #[tactic(auto, unfolding(crate::specs::Rules::edge_unpaid))]
-fn edge_unpaid(image: &Image, pc: u16, i: &Instr, row: &Row, potential: &Potential) -> bool
+fn edge_unpaid(
+    image: &Image,
+    r: u16,
+    touched: &Touched,
+    pc: u16,
+    i: &Instr,
+    row: &Row,
+    potential: &Potential,
+) -> bool
     requires fields { FieldsFit i.now.opcode i.now }
+    requires callee { calls i.now.opcode ≡ true → i.now.imm < r }
+    requires routine { r < length image.now.routines }
+    requires table { NotesBelow image.now touched.now r }
     requires pc { pc < 4096 }
     requires along { falls_through i.now.opcode ≡ true → pc + 1 < length image.now.points }
     requires branch { branches i.now.opcode ≡ true → i.now.target < length image.now.points }
     ensures { result ≡ edge_unpaid image.now pc i.now row.now potential.now }
 {
-    falls_through(i.opcode) && unpaid_along(image, pc, i, row, potential)
+    falls_through(i.opcode) && unpaid_along(image, r, touched, pc, i, row, potential)
         || branches(i.opcode) && unpaid_branching(image, i, potential)
         || returns(i.opcode) && potential.constant == 0
 }
@@ -116,12 +160,22 @@ fn over_budget(start: u32, routine: &Routine, pc: u32, potential: &Potential) ->
     pc == start && !is_within(routine.budget, potential)
 }
 
-/// The lowest rule that refuses the point at `pc` of a routine that begins at `start`.
-pub(crate) fn refusal(image: &Image, routine: &Routine, start: u32, pc: u16) -> Option<Rule>
+/// The lowest rule that refuses the point at `pc` of routine r, which begins at `start`. The
+/// table says which counters the routines below r touch.
+pub(crate) fn refusal(
+    image: &Image,
+    r: u16,
+    routine: &Routine,
+    start: u32,
+    touched: &Touched,
+    pc: u16,
+) -> Option<Rule>
+    requires routine { r < length image.now.routines }
+    requires table { NotesBelow image.now touched.now r }
     requires there { pc < length image.now.points }
     requires end { start + routine.now.count ≤ length image.now.points }
     requires short { length image.now.points ≤ 4096 }
-    ensures { IfSome (slice_get image.now.points pc) (λ point. result ≡ refusal image.now routine.now start pc point) }
+    ensures { IfSome (slice_get image.now.points pc) (λ point. result ≡ refusal image.now r routine.now start pc point) }
 {
     let i = image.instr(pc);
     let row = image.row(pc);
@@ -133,11 +187,13 @@ pub(crate) fn refusal(image: &Image, routine: &Routine, start: u32, pc: u16) -> 
         Some(Rule::NamesEmptySlot)
     } else if entry_misfits(start, routine, at, row) {
         Some(Rule::EntryMisfit)
+    } else if call_misfits(image, r, i, row) {
+        Some(Rule::CallMisfit)
     } else if exit_misfits(routine, i, row) {
         Some(Rule::ExitMisfit)
     } else if edge_misfits(image, pc, i, row) {
         Some(Rule::EdgeMisfit)
-    } else if edge_unpaid(image, pc, i, row, potential) {
+    } else if edge_unpaid(image, r, touched, pc, i, row, potential) {
         Some(Rule::EdgeUnpaid)
     } else if over_budget(start, routine, at, potential) {
         Some(Rule::OverBudget)

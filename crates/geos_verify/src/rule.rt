@@ -14,6 +14,8 @@ pub enum Rule {
     /// The entry row does not fit the first row, or a public routine's entry or exit row has a
     /// slot held or a pointer that is not stale.
     EntryMisfit = 3,
+    /// A routine calls one that is not below it, or one whose entry row the row does not fit.
+    CallMisfit = 10,
     /// A return where the row does not fit the exit row.
     ExitMisfit = 11,
     /// The row after an edge does not fit the row there.

@@ -1,0 +1,94 @@
+//! Which counters routines touch, by a table that is filled from the lowest routine up.
+
+ghost use Rattle.std.specs.Prelude.{◌≡◌, ◌<◌, length, slice_index_or, []};
+ghost use Rattle.std.specs.List.{list_any};
+ghost use Rattle.geos_verify.specs.Touched.{counts, calls, points_of, touches_here, touched_by, noted, noted_by, NotesBelow};
+
+use geos_image::{Image, Instr, Opcode, Potential, Row};
+
+/// For each routine, which of the counters k0 to k3 it touches.
+pub(crate) type Touched = [[bool; 4]; 32];
+
+/// Whether the instruction calls a routine.
+pub(crate) fn calls(opcode: Opcode) -> bool
+    ensures { result ≡ calls opcode }
+{
+    match opcode {
+        Opcode::Call => true,
+        _ => false,
+    }
+}
+
+/// Whether the instruction sets a counter, or takes from it.
+fn counts(opcode: Opcode) -> bool
+    ensures { result ≡ counts opcode }
+{
+    match opcode {
+        Opcode::Setk | Opcode::Setkw | Opcode::Loop => true,
+        _ => false,
+    }
+}
+
+/// What the table says of a routine and counter k; it has no routine past the last.
+fn noted(table: &Touched, r: u16, k: u8) -> bool
+    requires { k < 4 }
+    ensures { result ≡ noted table.now k r }
+{
+    match table.get(usize::from(r)) {
+        Some(touched) => touched[usize::from(k)],
+        None => false,
+    }
+}
+
+/// Which counters a routine touches that is below r, as the table says it.
+pub(crate) fn touched_by(image: &Image, r: u16, table: &Touched, callee: u16) -> [bool; 4]
+    requires below { callee < r }
+    requires table { NotesBelow image.now table.now r }
+    ensures { result ≡ touched_by image.now callee }
+{
+    [
+        noted(table, callee, 0),
+        noted(table, callee, 1),
+        noted(table, callee, 2),
+        noted(table, callee, 3),
+    ]
+}
+
+/// Whether the instruction names counter k, or calls a routine that the table says touches it.
+fn touches_here(table: &Touched, k: u8, i: &Instr) -> bool
+    requires { k < 4 }
+    ensures { result ≡ touches_here (noted table.now k) k i.now }
+{
+    counts(i.opcode) && i.a == k || calls(i.opcode) && noted(table, i.imm, k)
+}
+
+/// Whether one of these instructions does.
+fn touches(table: &Touched, k: u8, points: &[(Instr, Row, Potential)]) -> bool
+    requires { k < 4 }
+    ensures { result ≡ list_any (λ point. touches_here (noted table.now k) k point.0) points.now }
+{
+    points.iter().any(|point| touches_here(table, k, &point.0))
+}
+
+/// The points of a routine.
+fn points_of(image: &Image, r: u16) -> &[(Instr, Row, Potential)]
+    requires { r < length image.now.routines }
+    ensures { result.now ≡ points_of image.now r }
+{
+    let start = usize::from(image.start(r));
+    &image.points()[start..][..usize::from(image.routine(r).count)]
+}
+
+/// Which counters a routine touches, where the table says it of those that it calls.
+pub(crate) fn touched_in(image: &Image, r: u16, table: &Touched) -> [bool; 4]
+    requires { r < length image.now.routines }
+    ensures { result ≡ noted_by image.now table.now r }
+{
+    let points = points_of(image, r);
+    [
+        touches(table, 0, points),
+        touches(table, 1, points),
+        touches(table, 2, points),
+        touches(table, 3, points),
+    ]
+}
