@@ -1,30 +1,22 @@
 -- What the rules, where none refuses, say of the points that control comes to.
-use Rattle.std.proofs.Common.{◌≡◌, ℕ, zero, suc, ◌+◌, ◌<◌, ◌≤◌, Bool, true, false, not, Some, None, List, [], ◌∷◌, ◌++◌, slice_get, refl, sym, ap, ◌∙◌, subst, arith}
+use Rattle.std.proofs.Common.{◌≡◌, ℕ, zero, suc, ◌+◌, ◌<◌, ◌≤◌, Bool, true, false, not, Some, List, [], ◌∷◌, ◌++◌, length, slice_get, refl, sym, ap, ◌∙◌, subst, arith}
 use Rattle.std.specs.Prelude.{nat_lt, ◌==◌, ◌&&◌}
 use Rattle.std.proofs.lemmas.Bool.{eqb-false, and_parts, or_parts, not-false, ltb-true, eq-eqb}
 use Rattle.geos_image.specs.declared.opcode.Opcode.{Opcode}
+use Rattle.geos_image.specs.declared.opcode.Opcode.TheVariants.{Call}
 use Rattle.geos_image.specs.declared.row.Row.{Row}
 use Rattle.geos_image.specs.declared.potential.Potential.{Potential}
 use Rattle.geos_image.specs.declared.routine.Routine.{Routine}
 use Rattle.geos_image.specs.Parts.{Point, Parts, start_of}
 use Rattle.geos_image.specs.Legal.{is_name, is_named, is_row, is_routine, are_routines, is_image}
-use Rattle.geos_image.proofs.Instrs.{image_parts}
-use Rattle.geos_model.specs.Refusals.{first_refusal}
+use Rattle.geos_image.proofs.Instrs.{image_parts, instr_fits}
 use Rattle.geos_verify.specs.Rows.{falls_through, branches, at_point, row_along, row_branching, fits, is_plain}
 use Rattle.geos_verify.specs.Potentials.{pays_along, pays_branching, is_within}
-use Rattle.geos_verify.specs.Rules.{has_place, returns, leaves_routine, entry_misfits, exit_misfits, misfits_at, edge_misfits, unpaid_along, unpaid_branching, edge_unpaid, over_budget, tests, HasPoint, Accepted}
+use Rattle.geos_verify.specs.Rules.{has_place, returns, leaves_routine, entry_misfits, exit_misfits, misfits_at, edge_misfits, unpaid_along, unpaid_branching, edge_unpaid, over_budget, at_routine, call_misfits, HasPoint, Accepted}
+use Rattle.geos_verify.specs.Touched.{calls}
 use Rattle.geos_image.proofs.Starts.{start_of-end}
+use Rattle.geos_verify.proofs.Passed.{NoneRefuses, none-refuses}
 use Rattle.geos_verify.proofs.Places.{place_bounds, place_true, item_at}
-
--- every test is false
-abbrev pub Passed : {R : Type 0} → List (Bool × R) → Type 0
-Passed [] = Unit {0}
-Passed (test ∷ tests) = (test.0 ≡ false) × Passed tests
-
-pub passed : {R : Type 0} (tests : List (Bool × R)) → first_refusal tests ≡ None → Passed tests
-passed [] e = tt
-passed ((true, rule) ∷ tests) e = absurd cc
-passed ((false, rule) ∷ tests) e = (refl, passed tests e)
 
 -- where control goes: a point of the routine, whose row the given one fits, and whose
 -- potential is paid for
@@ -70,30 +62,33 @@ point_at image r routine to legal there within =
 at_point-is : (image : Parts) (to : ℕ) (point : Point) (test : Point → Bool) → slice_get image.points to ≡ Some point → at_point image to test ≡ test point
 at_point-is image to point test e = rw (e, at_point) refl
 
+at_routine-is : (image : Parts) (r : ℕ) (routine : Routine) (test : Routine → Bool) → slice_get image.routines r ≡ Some routine → at_routine image r test ≡ test routine
+at_routine-is image r routine test e = rw (e, at_routine) refl
+
 module _ (image : Parts) (legal : is_image image ≡ true) (accepted : Accepted image) (r pc : ℕ) (routine : Routine) (point : Point) (has : HasPoint image r routine pc point) where
-  all_pass : Passed (tests image routine (start_of image.routines r) pc point)
-  all_pass = passed (tests image routine (start_of image.routines r) pc point) (accepted r pc routine point has)
+  all_pass : NoneRefuses image r routine (start_of image.routines r) pc point
+  all_pass = none-refuses image r routine (start_of image.routines r) pc point (accepted r pc routine point has)
 
   -- the edge to the next instruction
-  pub leads-along : (opcode : Opcode) → point.0.opcode ≡ opcode → falls_through opcode ≡ true → Leads image r routine (pc + 1) (row_along point.0 opcode point.1) (pays_along point.0 opcode point.1 point.2)
+  pub leads-along : (opcode : Opcode) → point.0.opcode ≡ opcode → falls_through opcode ≡ true → Leads image r routine (pc + 1) (row_along image point.0 opcode point.1) (pays_along image point.0 opcode point.1 point.2)
   unfolding leaves_routine edge_misfits misfits_at edge_unpaid unpaid_along
   leads-along opcode is falls =
       let i = point.0 in
       let falls_here : falls_through i.opcode ≡ true = ap falls_through is ∙ falls in
-      let stays = or_parts (falls_through i.opcode && not (has_place (start_of image.routines r) routine.count (pc + 1))) _ all_pass.0 in
+      let stays = or_parts (falls_through i.opcode && not (has_place (start_of image.routines r) routine.count (pc + 1))) _ all_pass.stays in
       let within = not-false _ (and-false (falls_through i.opcode) _ stays.0 falls_here) in
       let next = point_at image r routine (pc + 1) legal has.there within in
-      let fit = or_parts (falls_through i.opcode && not (at_point image (pc + 1) (λ q. fits (row_along i i.opcode point.1) q.1))) _ all_pass.1.1.1.1.0 in
+      let fit = or_parts (falls_through i.opcode && not (at_point image (pc + 1) (λ q. fits (row_along image i i.opcode point.1) q.1))) _ all_pass.edge in
       let fit_here = not-false _ (and-false (falls_through i.opcode) _ fit.0 falls_here) in
-      let pay = or_parts _ (returns i.opcode && point.2.constant == 0) all_pass.1.1.1.1.1.0 in
-      let pay_along = or_parts (falls_through i.opcode && not (at_point image (pc + 1) (λ q. pays_along i i.opcode point.1 point.2 q.2))) _ pay.0 in
+      let pay = or_parts _ (returns i.opcode && point.2.constant == 0) all_pass.paid in
+      let pay_along = or_parts (falls_through i.opcode && not (at_point image (pc + 1) (λ q. pays_along image i i.opcode point.1 point.2 q.2))) _ pay.0 in
       let pay_here = not-false _ (and-false (falls_through i.opcode) _ pay_along.0 falls_here) in
-      let P : Opcode → Type 0 = λ o. Leads image r routine (pc + 1) (row_along i o point.1) (pays_along i o point.1 point.2) in
+      let P : Opcode → Type 0 = λ o. Leads image r routine (pc + 1) (row_along image i o point.1) (pays_along image i o point.1 point.2) in
       subst P is (record {
         point = next.0;
         has = next.1;
-        fits = sym (at_point-is image (pc + 1) next.0 (λ q. fits (row_along i i.opcode point.1) q.1) next.1.read) ∙ fit_here;
-        pays = sym (at_point-is image (pc + 1) next.0 (λ q. pays_along i i.opcode point.1 point.2 q.2) next.1.read) ∙ pay_here;
+        fits = sym (at_point-is image (pc + 1) next.0 (λ q. fits (row_along image i i.opcode point.1) q.1) next.1.read) ∙ fit_here;
+        pays = sym (at_point-is image (pc + 1) next.0 (λ q. pays_along image i i.opcode point.1 point.2 q.2) next.1.read) ∙ pay_here;
       })
 
   -- the edge to the target
@@ -102,12 +97,12 @@ module _ (image : Parts) (legal : is_image image ≡ true) (accepted : Accepted 
   leads-branching opcode is branch =
       let i = point.0 in
       let branch_here : branches i.opcode ≡ true = ap branches is ∙ branch in
-      let stays = or_parts _ (branches i.opcode && not (has_place (start_of image.routines r) routine.count i.target)) all_pass.0 in
+      let stays = or_parts _ (branches i.opcode && not (has_place (start_of image.routines r) routine.count i.target)) all_pass.stays in
       let within = not-false _ (and-false (branches i.opcode) _ stays.1 branch_here) in
       let next = point_at image r routine i.target legal has.there within in
-      let fit = or_parts _ (branches i.opcode && not (at_point image i.target (λ q. fits (row_branching i.opcode point.1) q.1))) all_pass.1.1.1.1.0 in
+      let fit = or_parts _ (branches i.opcode && not (at_point image i.target (λ q. fits (row_branching i.opcode point.1) q.1))) all_pass.edge in
       let fit_here = not-false _ (and-false (branches i.opcode) _ fit.1 branch_here) in
-      let pay = or_parts _ (returns i.opcode && point.2.constant == 0) all_pass.1.1.1.1.1.0 in
+      let pay = or_parts _ (returns i.opcode && point.2.constant == 0) all_pass.paid in
       let pay_branch = or_parts _ (branches i.opcode && not (at_point image i.target (λ q. pays_branching i i.opcode point.2 q.2))) pay.0 in
       let pay_here = not-false _ (and-false (branches i.opcode) _ pay_branch.1 branch_here) in
       let P : Opcode → Type 0 = λ o. Leads image r routine i.target (row_branching o point.1) (pays_branching i o point.2) in
@@ -118,12 +113,26 @@ module _ (image : Parts) (legal : is_image image ≡ true) (accepted : Accepted 
         pays = sym (at_point-is image i.target next.0 (λ q. pays_branching i i.opcode point.2 q.2) next.1.read) ∙ pay_here;
       })
 
+  -- a routine that is called is there, and lower, and the row fits its entry row
+  pub may_call : calls point.0.opcode ≡ true → (callee : Routine) × (slice_get image.routines point.0.imm ≡ Some callee) × (point.0.imm < r) × (fits point.1 callee.entry ≡ true)
+  unfolding call_misfits
+  may_call is =
+      let i = point.0 in
+      let misfits = or_parts (not (nat_lt i.imm r)) _ (and-false (calls i.opcode) _ all_pass.call is) in
+      let here = not-false _ misfits.1 in
+      let found = item_at image.routines i.imm (called-there i.opcode refl is) in
+      (found.0, found.1, ltb-true i.imm r (not-false _ misfits.0), sym (at_routine-is image i.imm found.0 (λ callee. fits point.1 callee.entry) found.1) ∙ here)
+    where
+      called-there : (opcode : Opcode) → point.0.opcode ≡ opcode → calls opcode ≡ true → point.0.imm < length image.routines
+      called-there Call same is = (instr_fits image pc point legal has.read).2 (rw same refl)
+      called-there _ same is = absurd cc
+
   -- a return is as the exit row says, and is paid for
   pub may_return : returns point.0.opcode ≡ true → (fits point.1 routine.exit ≡ true) × (1 ≤ point.2.constant)
   unfolding exit_misfits edge_unpaid
   may_return is =
-      let fit = not-false _ (and-false (returns point.0.opcode) _ all_pass.1.1.1.0 is) in
-      let pay = or_parts _ (returns point.0.opcode && point.2.constant == 0) all_pass.1.1.1.1.1.0 in
+      let fit = not-false _ (and-false (returns point.0.opcode) _ all_pass.exit is) in
+      let pay = or_parts _ (returns point.0.opcode && point.2.constant == 0) all_pass.paid in
       let some = eqb-false point.2.constant 0 (and-false (returns point.0.opcode) _ pay.1 is) in
       (fit, omega (arith, some))
 
@@ -132,8 +141,8 @@ module _ (image : Parts) (legal : is_image image ≡ true) (accepted : Accepted 
   unfolding entry_misfits over_budget
   may_begin is =
       let here : (pc == start_of image.routines r) ≡ true = eq-eqb pc (start_of image.routines r) is in
-      let entry = or_parts (not (fits routine.entry point.1)) _ (and-false (pc == start_of image.routines r) _ all_pass.1.1.0 here) in
-      (not-false _ entry.0, not-false _ (and-false (pc == start_of image.routines r) _ all_pass.1.1.1.1.1.1.0 here), λ public. (and_parts (is_plain routine.entry) (is_plain routine.exit) (not-false _ (and-false routine.public _ entry.1 public))).0)
+      let entry = or_parts (not (fits routine.entry point.1)) _ (and-false (pc == start_of image.routines r) _ all_pass.entry here) in
+      (not-false _ entry.0, not-false _ (and-false (pc == start_of image.routines r) _ all_pass.budget here), λ public. (and_parts (is_plain routine.entry) (is_plain routine.exit) (not-false _ (and-false routine.public _ entry.1 public))).0)
 
 -- a routine has an instruction where it begins
 pub begins-within : (image : Parts) → is_image image ≡ true → (r : ℕ) (routine : Routine) → slice_get image.routines r ≡ Some routine → has_place (start_of image.routines r) routine.count (start_of image.routines r) ≡ true

@@ -1,16 +1,17 @@
 -- What is noted in a table of touched counters, where calls go to lower routines.
-use Rattle.std.proofs.Common.{◌≡◌, ◌<◌, ◌≤◌, ◌+◌, ℕ, zero, suc, Bool, true, false, List, [], ◌∷◌, Option, Some, None, length, slice_get, take, drop, set, refl, sym, ◌∙◌, arith, inl, inr, ◌⊎◌}
+use Rattle.std.proofs.Common.{◌≡◌, ◌<◌, ◌≤◌, ◌+◌, ◌-◌, ℕ, zero, suc, Bool, true, false, List, [], ◌∷◌, Option, Some, None, length, slice_get, take, drop, set, refl, sym, ap, ◌∙◌, arith, inl, inr, ◌⊎◌}
 use Rattle.std.specs.Prelude.{◌&&◌, ◌||◌, not, nat_lt, slice_index_or}
 use Rattle.std.specs.List.{list_any}
 use Rattle.std.proofs.lemmas.List.{get_or-set_other, get_or-set_same}
-use Rattle.std.proofs.lemmas.Bool.{or_parts, not-false, ltb-true, cases_lt}
+use Rattle.std.proofs.lemmas.Bool.{or_parts, not-false, ltb-true, cases_lt, eq-eqb}
+use Rattle.std.proofs.lemmas.Option.{slice_get_within}
 use Rattle.geos_image.specs.declared.instr.Instr.{Instr}
 use Rattle.geos_image.specs.declared.routine.Routine.{Routine}
 use Rattle.geos_image.specs.Parts.{Point, Parts, start_of}
 use Rattle.geos_image.proofs.Starts.{start_of-next, start_of-le}
-use Rattle.geos_verify.specs.Rules.{HasPoint, AcceptedBelow, tests, call_misfits}
-use Rattle.geos_verify.specs.Touched.{calls, points_of, touches_here, touches_within, touches, touched_by, noted, NotesBelow, touches_by, noted_by}
-use Rattle.geos_verify.proofs.Passed.{passed}
+use Rattle.geos_verify.specs.Rules.{HasPoint, AcceptedBelow, call_misfits}
+use Rattle.geos_verify.specs.Touched.{calls, points_of, touches_here, touches_within, touches, touched_by, counts, noted, NotesBelow, touches_by, noted_by}
+use Rattle.geos_verify.proofs.Passed.{none-refuses}
 use Rattle.geos_verify.proofs.Places.{place_true, place_bounds}
 
 -- tests that agree on each element find alike
@@ -101,8 +102,8 @@ unfolding call_misfits
 calls-go_down image r limit accepted ends c pc routine point lt has is =
     let place = place_bounds (start_of image.routines c) routine.count pc has.within in
     let end = ends c routine lt has.there in
-    let pass = passed (tests image c routine (start_of image.routines c) pc point) (accepted c pc routine point (omega (arith, place.1, end)) has) in
-    let misfit = and-false (calls point.0.opcode) (not (nat_lt point.0.imm c) || _) pass.1.1.1.0 is in
+    let pass = none-refuses image c routine (start_of image.routines c) pc point (accepted c pc routine point (omega (arith, place.1, end)) has) in
+    let misfit = and-false (calls point.0.opcode) (not (nat_lt point.0.imm c) || _) pass.call is in
     ltb-true point.0.imm c (not-false (nat_lt point.0.imm c) (or_parts (not (nat_lt point.0.imm c)) _ misfit).0)
 
 -- a table that says what the routines below r touch says it of r too, once r's own is noted by it
@@ -149,3 +150,45 @@ notes-next image table r touched accepted notes within is c k lt few = by_order 
     by_order : (c < r) ⊎ (r ≤ c) → noted (set table r touched) k c ≡ touches image k c
     by_order (inl below) = notes-kept image table r touched notes c k below few
     by_order (inr above) = let here : c ≡ r = omega (arith, lt, above) in rw here at_r
+
+slice_get-take_within : {A : Type 0} (xs : List A) (n j : ℕ) → j < n → slice_get (take n xs) j ≡ slice_get xs j
+slice_get-take_within xs zero j lt = absurd (omega arith)
+slice_get-take_within [] (suc n) j lt = refl
+slice_get-take_within (y ∷ xs) (suc n) zero lt = refl
+slice_get-take_within (y ∷ xs) (suc n) (suc j) lt = slice_get-take_within xs n j (omega arith)
+
+-- a point that a routine has is among its points
+has-points_of : (image : Parts) (r pc : ℕ) (routine : Routine) (point : Point) → HasPoint image r routine pc point → slice_get (points_of image r) (pc - start_of image.routines r) ≡ Some point
+has-points_of image r pc routine point has =
+    let start = start_of image.routines r in
+    let place = place_bounds start routine.count pc has.within in
+    let at : start + (pc - start) ≡ pc = omega (arith, place.0) in
+    rw (has.there, points_of)
+    (slice_get-take_within (drop start image.points) routine.count (pc - start) (omega (arith, place.0, place.1)) ∙ slice_get-drop image.points start (pc - start) ∙ ap (slice_get image.points) at ∙ has.read)
+
+or-true : (b : Bool) → (b || true) ≡ true
+or-true true = refl
+or-true false = refl
+
+list_any-found : {A : Type 0} (test : A → Bool) (xs : List A) (j : ℕ) (x : A) → slice_get xs j ≡ Some x → test x ≡ true → list_any test xs ≡ true
+list_any-found test [] j x e h = absurd cc
+list_any-found test (y ∷ xs) zero x e h = let same : y ≡ x = cc in rw (same, h) refl
+list_any-found test (y ∷ xs) (suc j) x e h = rw (list_any-found test xs j x e h) (or-true (test y))
+
+-- a routine touches the counters that it names
+pub touches-own : (image : Parts) (r pc : ℕ) (routine : Routine) (point : Point) → HasPoint image r routine pc point → counts point.0.opcode ≡ true → touches image point.0.a r ≡ true
+touches-own image r pc routine point has is = by_depth (length image.routines) (slice_get_within image.routines r routine has.there)
+  where
+    by_depth : (n : ℕ) → r < n → touches_within n image point.0.a r ≡ true
+    by_depth zero lt = absurd (omega arith)
+    by_depth (suc n) lt =
+        list_any-found (λ point2. touches_here (touches_within n image point.0.a) point.0.a point2.0) (points_of image r) (pc - start_of image.routines r) point (has-points_of image r pc routine point has)
+        (rw (is, eq-eqb point.0.a point.0.a refl) refl)
+
+-- and those that a routine touches that it calls
+pub touches-called : (image : Parts) → CallsGoDown image (length image.routines) → (r pc : ℕ) (routine : Routine) (point : Point) → HasPoint image r routine pc point → calls point.0.opcode ≡ true
+    → (k : ℕ) → touches image k point.0.imm ≡ true → touches image k r ≡ true
+touches-called image down r pc routine point has is k touched =
+    let within = slice_get_within image.routines r routine has.there in
+    touches-step image (length image.routines) down k r within within
+    ∙ list_any-found (λ point. touches_here (touches image k) k point.0) (points_of image r) (pc - start_of image.routines r) point (has-points_of image r pc routine point has) (rw (is, touched) (or-true _))

@@ -1,6 +1,9 @@
--- Where no test refuses, each one is false.
-use Rattle.std.proofs.Common.{◌≡◌, Bool, true, false, None, List, [], ◌∷◌, refl}
+-- Where no rule refuses a point, each one's test is false.
+use Rattle.std.proofs.Common.{◌≡◌, ℕ, Bool, true, false, None, List, [], ◌∷◌, refl}
 use Rattle.geos_model.specs.Refusals.{first_refusal}
+use Rattle.geos_image.specs.declared.routine.Routine.{Routine}
+use Rattle.geos_image.specs.Parts.{Point, Parts}
+use Rattle.geos_verify.specs.Rules.{leaves_routine, names_empty_slot, entry_misfits, call_misfits, exit_misfits, edge_misfits, edge_unpaid, over_budget, tests, refusal}
 
 -- every test is false
 abbrev pub Passed : {R : Type 0} → List (Bool × R) → Type 0
@@ -11,3 +14,26 @@ pub passed : {R : Type 0} (tests : List (Bool × R)) → first_refusal tests ≡
 passed [] e = tt
 passed ((true, rule) ∷ tests) e = absurd cc
 passed ((false, rule) ∷ tests) e = (refl, passed tests e)
+
+-- no rule refuses the point at a pc of routine r, which begins at start
+pub record NoneRefuses (image : Parts) (r : ℕ) (routine : Routine) (start pc : ℕ) (point : Point) : Type 0 where
+  pub stays : leaves_routine routine start pc point.0 ≡ false
+  pub entry : entry_misfits routine start pc point.1 ≡ false
+  pub call : call_misfits image r point.0 point.1 ≡ false
+  pub exit : exit_misfits routine point.0 point.1 ≡ false
+  pub edge : edge_misfits image pc point.0 point.1 ≡ false
+  pub paid : edge_unpaid image pc point.0 point.1 point.2 ≡ false
+  pub budget : over_budget routine start pc point.2 ≡ false
+
+pub none-refuses : (image : Parts) (r : ℕ) (routine : Routine) (start pc : ℕ) (point : Point) → refusal image r routine start pc point ≡ None → NoneRefuses image r routine start pc point
+none-refuses image r routine start pc point e =
+    let p = passed (tests image r routine start pc point) e in
+    record {
+      stays = p.0;
+      entry = p.1.1.0;
+      call = p.1.1.1.0;
+      exit = p.1.1.1.1.0;
+      edge = p.1.1.1.1.1.0;
+      paid = p.1.1.1.1.1.1.0;
+      budget = p.1.1.1.1.1.1.1.0;
+    }
