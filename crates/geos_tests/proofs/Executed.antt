@@ -1,11 +1,11 @@
 -- What each instruction on words and counters does, on values that a wrong definition would
 -- show itself at.
 use Rattle.std.proofs.Common.{◌≡◌, refl, ℕ, List, [], ◌∷◌, ◌++◌, replicate}
-use Rattle.geos_image.specs.declared.opcode.Opcode.TheVariants.{Ldi, Mov, Add, Sub, And, Shr, Muli, Chk, Jmp, Beq, Blt, Setk, Setkw, Loop, Ret, Out}
+use Rattle.geos_image.specs.declared.opcode.Opcode.TheVariants.{Ldi, Mov, Add, Sub, And, Shr, Muli, Chk, Jmp, Beq, Blt, Setk, Setkw, Loop, Call, Ret, Out}
 use Rattle.geos_image.specs.declared.instr.Instr.{Instr}
 use Rattle.geos_image.specs.Open.{open_row}
 use Rattle.geos_image.specs.Parts.{Parts}
-use Rattle.geos_semantics.specs.Model.{State, Outcome, Fault, Next, Done, step}
+use Rattle.geos_semantics.specs.Model.{Frame, State, Outcome, Fault, Next, Done, step}
 use Rattle.geos_machine.specs.Machine.{empty_slots, stale_pointers}
 use Rattle.geos_machine.proofs.Going.{quiet}
 use Rattle.geos_tests.proofs.Images.{potential, routine, instr}
@@ -62,9 +62,17 @@ full registers = state registers (counters 5) 0 (replicate 1024 8)
 abbrev pub almost_full : State
 almost_full = state (words 500) (counters 5) 0 (replicate 1023 8)
 
--- a routine that was called from pc 17 of routine 3
-abbrev pub called : State
-called = record before { stack = record { routine = 3; pc = 17 } ∷ [] }
+-- before each example, within so many calls, each from pc 16 of routine 3
+abbrev pub within : ℕ → State
+within calls = record before { stack = replicate calls (record { routine = 3; pc = 17 }) }
+
+-- behind the instruction
+abbrev pub behind : Frame
+behind = record { routine = 0; pc = 1 }
+
+-- the state with one call more, of the routine by itself
+abbrev pub called : State → State
+called s = record s { stack = behind ∷ s.stack }
 
 pub record Executed : Type 0 where
   pub ldi : stepped (instr Ldi 2 0 0 7 0) ≡ with_w2 7
@@ -90,9 +98,13 @@ pub record Executed : Type 0 where
   pub setkw : stepped (instr Setkw 1 3 0 0 0) ≡ with_k1 40961 1
   pub loop_above : stepped (instr Loop 1 0 0 0 7) ≡ with_k1 4 7
   pub loop_at_0 : stepped (instr Loop 0 0 0 0 7) ≡ at 1
+  -- control begins at the callee's first instruction, and is to return behind the CALL
+  pub call : stepped (instr Call 0 0 0 0 0) ≡ Next (called before)
+  pub call_32nd : step (alone (instr Call 0 0 0 0 0)) quiet (within 31) ≡ Next (called (within 31))
+  pub call_33rd : step (alone (instr Call 0 0 0 0 0)) quiet (within 32) ≡ Fault
   -- the outermost return
   pub ret : stepped (instr Ret 0 0 0 0 0) ≡ Done before
-  pub ret_to_caller : step (alone (instr Ret 0 0 0 0 0)) quiet called ≡ Next (record before { routine = 3; pc = 17 })
+  pub ret_to_caller : step (alone (instr Ret 0 0 0 0 0)) quiet (within 1) ≡ Next (record before { routine = 3; pc = 17 })
   pub out : stepped (instr Out 6 0 0 0 7) ≡ Next (state (words 500) (counters 5) 1 (8 ∷ 21845 ∷ []))
   pub out_1024th : step (alone (instr Out 6 0 0 0 7)) quiet almost_full ≡ Next (state (words 500) (counters 5) 1 (replicate 1023 8 ++ 21845 ∷ []))
   -- w7 tells why, and nothing is put out
@@ -125,6 +137,9 @@ examples = record {
   setkw = refl;
   loop_above = refl;
   loop_at_0 = refl;
+  call = refl;
+  call_32nd = refl;
+  call_33rd = refl;
   ret = refl;
   ret_to_caller = refl;
   out = refl;

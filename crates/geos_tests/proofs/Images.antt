@@ -1,7 +1,7 @@
 -- The images of the worked examples, by the definitions.
-use Rattle.std.proofs.Common.{ℕ, true, List, [], ◌∷◌, replicate}
+use Rattle.std.proofs.Common.{ℕ, true, false, List, [], ◌∷◌, replicate}
 use Rattle.geos_image.specs.declared.opcode.Opcode.{Opcode}
-use Rattle.geos_image.specs.declared.opcode.Opcode.TheVariants.{Ldi, Add, Setk, Loop, Ret, Out}
+use Rattle.geos_image.specs.declared.opcode.Opcode.TheVariants.{Ldi, Add, Setk, Loop, Call, Ret, Out}
 use Rattle.geos_image.specs.declared.instr.Instr.{Instr}
 use Rattle.geos_image.specs.declared.potential.Potential.{Potential}
 use Rattle.geos_image.specs.declared.routine.Routine.{Routine}
@@ -45,3 +45,56 @@ outputs budget constant k0 = record {
       ∷ (instr Ret 0 0 0 0 0, open_row, potential 1 0)
       ∷ [];
 }
+
+-- `two`, which is private: `LDI w0 2`, `RET`; and `main`: `CALL two`, `OUT w0 e`, `e: RET`, with
+-- budgets
+abbrev pub two_and_main : ℕ → ℕ → Parts
+two_and_main of_two of_main = record {
+  routines = record (routine (116 ∷ replicate 15 0) 2 of_two) { public = false } ∷ routine (109 ∷ replicate 15 0) 3 of_main ∷ [];
+  points =
+      (instr Ldi 0 0 0 2 0, open_row, potential 2 0)
+      ∷ (instr Ret 0 0 0 0 0, open_row, potential 1 0)
+      ∷ (instr Call 0 0 0 0 0, open_row, potential 5 0)
+      ∷ (instr Out 0 0 0 0 4, open_row, potential 2 0)
+      ∷ (instr Ret 0 0 0 0 0, open_row, potential 1 0)
+      ∷ [];
+}
+
+-- the same in the other order: `main` calls the routine behind it
+abbrev pub main_and_two : Parts
+main_and_two = record {
+  routines = routine (109 ∷ replicate 15 0) 3 5 ∷ record (routine (116 ∷ replicate 15 0) 2 2) { public = false } ∷ [];
+  points =
+      (instr Call 0 0 0 1 0, open_row, potential 5 0)
+      ∷ (instr Out 0 0 0 0 2, open_row, potential 2 0)
+      ∷ (instr Ret 0 0 0 0 0, open_row, potential 1 0)
+      ∷ (instr Ldi 0 0 0 2 0, open_row, potential 2 0)
+      ∷ (instr Ret 0 0 0 0 0, open_row, potential 1 0)
+      ∷ [];
+}
+
+-- `counts`: `SETK k0 0`, `RET`; `between`: `CALL counts`, `RET`; and a loop that calls `between`
+-- in each turn: `SETK k 3`, `a: CALL between`, `LOOP k a`, `RET`; with its counter, and the
+-- potential of a constant and the counter's coefficient
+abbrev pub loop_of_calls : ℕ → (ℕ → ℕ → Potential) → Parts
+loop_of_calls k counting = record {
+  routines = routine (99 ∷ replicate 15 0) 2 2 ∷ routine (98 ∷ replicate 15 0) 2 4 ∷ routine (109 ∷ replicate 15 0) 4 26 ∷ [];
+  points =
+      (instr Setk 0 0 0 0 0, open_row, potential 2 0)
+      ∷ (instr Ret 0 0 0 0 0, open_row, potential 1 0)
+      ∷ (instr Call 0 0 0 0 0, open_row, potential 4 0)
+      ∷ (instr Ret 0 0 0 0 0, open_row, potential 1 0)
+      ∷ (instr Setk k 0 0 3 0, open_row, potential 26 0)
+      ∷ (instr Call 0 0 0 1 0, open_row, counting 7 6)
+      ∷ (instr Loop k 0 0 0 5, open_row, counting 2 6)
+      ∷ (instr Ret 0 0 0 0 0, open_row, potential 1 0)
+      ∷ [];
+}
+
+-- the loop by k0, which `counts` sets
+abbrev pub loop_by_k0 : Parts
+loop_by_k0 = loop_of_calls 0 potential
+
+-- the loop by k1, which no routine below touches
+abbrev pub loop_by_k1 : Parts
+loop_by_k1 = loop_of_calls 1 (λ constant k1. record { constant = constant; coefficients = 0 ∷ k1 ∷ 0 ∷ 0 ∷ [] })

@@ -1,24 +1,26 @@
 -- What the rules say of the worked examples, at each pc.
-use Rattle.std.proofs.Common.{◌≡◌, refl, ℕ, ◌+◌, List, [], ◌∷◌, Option, Some, None}
+use Rattle.std.proofs.Common.{◌≡◌, refl, ℕ, ◌+◌, List, [], ◌∷◌, ◌++◌, take, drop, Option, Some, None}
 use Rattle.geos_image.specs.declared.routine.Routine.{Routine}
 use Rattle.geos_image.specs.Parts.{Point, Parts}
 use Rattle.geos_verify.specs.declared.rule.Rule.{Rule}
-use Rattle.geos_verify.specs.declared.rule.Rule.TheVariants.{EdgeUnpaid, OverBudget}
-use Rattle.geos_verify.specs.Rules.{refusal, leaves_routine, names_empty_slot, entry_misfits, exit_misfits, misfits_at, edge_misfits, unpaid_along, unpaid_branching, edge_unpaid, over_budget}
-use Rattle.geos_tests.proofs.Images.{add, outputs}
+use Rattle.geos_verify.specs.declared.rule.Rule.TheVariants.{CallMisfit, EdgeUnpaid, OverBudget}
+use Rattle.geos_verify.specs.Rules.{refusal, leaves_routine, names_empty_slot, entry_misfits, call_misfits, exit_misfits, misfits_at, edge_misfits, unpaid_along, unpaid_branching, edge_unpaid, over_budget}
+use Rattle.geos_tests.proofs.Images.{add, outputs, two_and_main, main_and_two, loop_by_k0, loop_by_k1}
 
--- the refusals of a list of points from a pc on, in a routine that begins at 0
-abbrev pub judged_from : Parts → Routine → ℕ → List Point → List (Option Rule)
-judged_from image r pc [] = []
-judged_from image r pc (point ∷ points) = refusal image r 0 pc point ∷ judged_from image r (pc + 1) points
+-- the refusals of a list of points from a pc on, in routine r that begins at start
+abbrev pub judged_from : Parts → ℕ → Routine → ℕ → ℕ → List Point → List (Option Rule)
+judged_from image r routine start pc [] = []
+judged_from image r routine start pc (point ∷ points) = refusal image r routine start pc point ∷ judged_from image r routine start (pc + 1) points
 
-abbrev pub judged_first : Parts → List Routine → List (Option Rule)
-judged_first image [] = []
-judged_first image (r ∷ routines) = judged_from image r 0 image.points
+-- the refusals in the routines from r on, the first of which begins at start
+abbrev pub judged_routines : Parts → ℕ → ℕ → List Routine → List (Option Rule)
+judged_routines image r start [] = []
+judged_routines image r start (routine ∷ routines) =
+    judged_from image r routine start start (take routine.count (drop start image.points)) ++ judged_routines image (r + 1) (start + routine.count) routines
 
--- the refusal at each pc of an image of one routine
+-- the refusal at each pc
 abbrev pub judged : Parts → List (Option Rule)
-judged image = judged_first image image.routines
+judged image = judged_routines image 0 0 image.routines
 
 -- what the rules say of each pc
 pub record Judged : Type 0 where
@@ -31,7 +33,28 @@ pub record Judged : Type 0 where
   pub outputs_unpaid_loop : judged (outputs 2052 1 2) ≡ None ∷ None ∷ Some EdgeUnpaid ∷ None ∷ []
   -- with no coefficient, nothing pays for the way back
   pub outputs_no_coefficient : judged (outputs 2052 2 0) ≡ None ∷ None ∷ Some EdgeUnpaid ∷ None ∷ []
+  pub call_accepted : judged (two_and_main 2 5) ≡ None ∷ None ∷ None ∷ None ∷ None ∷ []
+  pub call_over_budget : judged (two_and_main 2 4) ≡ None ∷ None ∷ Some OverBudget ∷ None ∷ None ∷ []
+  -- the CALL would have to pay 3 for `two`
+  pub call_unpaid : judged (two_and_main 3 5) ≡ None ∷ None ∷ Some EdgeUnpaid ∷ None ∷ None ∷ []
+  pub call_of_higher : judged main_and_two ≡ Some CallMisfit ∷ None ∷ None ∷ None ∷ None ∷ []
+  -- a counter that is set two calls down pays for nothing behind the CALL
+  pub call_in_its_loop : judged loop_by_k0 ≡ None ∷ None ∷ None ∷ None ∷ None ∷ Some EdgeUnpaid ∷ None ∷ None ∷ []
+  pub call_in_a_loop : judged loop_by_k1 ≡ None ∷ None ∷ None ∷ None ∷ None ∷ None ∷ None ∷ None ∷ []
 
 pub examples : Judged
-unfolding leaves_routine names_empty_slot entry_misfits exit_misfits misfits_at edge_misfits unpaid_along unpaid_branching edge_unpaid over_budget
-examples = record { add_accepted = refl; add_over_budget = refl; outputs_accepted = refl; outputs_over_budget = refl; outputs_unpaid_loop = refl; outputs_no_coefficient = refl }
+unfolding leaves_routine names_empty_slot entry_misfits call_misfits exit_misfits misfits_at edge_misfits unpaid_along unpaid_branching edge_unpaid over_budget
+examples = record {
+  add_accepted = refl;
+  add_over_budget = refl;
+  outputs_accepted = refl;
+  outputs_over_budget = refl;
+  outputs_unpaid_loop = refl;
+  outputs_no_coefficient = refl;
+  call_accepted = refl;
+  call_over_budget = refl;
+  call_unpaid = refl;
+  call_of_higher = refl;
+  call_in_its_loop = refl;
+  call_in_a_loop = refl;
+}

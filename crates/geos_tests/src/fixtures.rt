@@ -1,7 +1,10 @@
-//! Images written out by hand.
+//! Images written out by hand, and what becomes of them.
 
 use geos_image::{Image, Instr, Opcode, Potential, Routine, Row};
+use geos_machine::{Machine, Outcome, admits};
+use geos_verify::{Checked, Reject, check};
 use std::alloc::{AllocError, Global};
+use std::test::Fail;
 
 /// An instruction with no operands.
 pub const BLANK: Instr = Instr {
@@ -43,19 +46,43 @@ pub fn potential(constant: u32, k0: u32) -> Potential {
     }
 }
 
-/// One routine with open rows at each of its instructions.
+/// Routines, and the code of them all, with an open row at each instruction.
 pub fn image(
     alloc: Global,
-    routine: Routine,
+    routines: &[Routine],
     code: &[(Instr, Potential)],
 ) -> Result<Option<Image>, AllocError> {
-    let mut routines = Vec::new(alloc);
-    routines.push(routine)?;
+    let mut all = Vec::new(alloc);
+    for routine in routines {
+        all.push(*routine)?;
+    }
     let mut points = Vec::new(alloc);
     for (instr, potential) in code {
         points.push((*instr, Row::open(), *potential))?;
     }
-    Ok(Image::new(routines, points))
+    Ok(Image::new(all, points))
+}
+
+/// An image that the verifier accepts.
+pub fn checked(image: Option<Image>) -> Result<Checked, Fail> {
+    let image = image.ok_or("the image is legal")?;
+    Ok(check(image).ok().ok_or("the image is accepted")?)
+}
+
+/// Where the verifier refuses an image.
+pub fn refused(image: Option<Image>) -> Result<Reject, Fail> {
+    let image = image.ok_or("the image is legal")?;
+    let (_image, reject) = check(image).err().ok_or("the image is refused")?;
+    Ok(reject)
+}
+
+/// Runs a routine on these words, if it may be called with them.
+pub fn run(checked: &Checked, routine: u16, words: &[u16; 8]) -> Option<Outcome> {
+    if admits(checked, routine, words) {
+        Some(Machine::new().run(checked, routine, words))
+    } else {
+        None
+    }
 }
 
 /// `LDI w0 2`, `LDI w1 3`, `ADD w0 w0 w1`, `OUT w0 x`, `x: RET`.
@@ -92,7 +119,7 @@ pub fn add(alloc: Global, budget: u32) -> Result<Option<Image>, AllocError> {
         ),
         (BLANK, potential(1, 0)),
     ];
-    image(alloc, routine(b"add", 5, budget), &code)
+    image(alloc, &[routine(b"add", 5, budget)], &code)
 }
 
 /// `SETK k0 n`, `a: OUT w0 x`, `LOOP k0 a`, `x: RET`, with these potentials.
@@ -123,7 +150,7 @@ pub fn outputs(
         (back, potentials[2]),
         (BLANK, potentials[3]),
     ];
-    image(alloc, routine(b"outputs", 4, budget), &code)
+    image(alloc, &[routine(b"outputs", 4, budget)], &code)
 }
 
 /// How many instructions each routine of `longest` has: half of what an image has room for.

@@ -1,10 +1,8 @@
 //! Images of word instructions, from their bytes to what they put out.
 
-use crate::fixtures::{add, longest, outputs, potential};
-use geos_image::{Image, read, write};
-use geos_machine::{Machine, Outcome, admits};
-use geos_verify::{Checked, Reject, Rule, check};
-use std::alloc::Global;
+use crate::fixtures::{add, checked, longest, outputs, potential, refused, run};
+use geos_image::{read, write};
+use geos_verify::Rule;
 use std::test::Fail;
 
 /// The image of the routine `add`: 448 bytes.
@@ -38,25 +36,6 @@ const ADD: [u8; 448] = [
     0x00, 0x00, 0xff, 0x00, 0x00, 0x00, 0xff, 0x00, 0x00, 0x00, 0x00, 0x00, 0x01, 0x00, 0x00, 0x00,
     0x00, 0x00, 0x00, 0x00, 0x00, 0x00, 0x00, 0x00, 0x00, 0x00, 0x00, 0x00, 0x00, 0x00, 0x00, 0x00,
 ];
-
-fn checked(image: Option<Image>) -> Result<Checked, Fail> {
-    let image = image.ok_or("the image is legal")?;
-    Ok(check(image).ok().ok_or("the image is accepted")?)
-}
-
-fn refused(image: Option<Image>) -> Result<Reject, Fail> {
-    let image = image.ok_or("the image is legal")?;
-    let (_image, reject) = check(image).err().ok_or("the image is refused")?;
-    Ok(reject)
-}
-
-fn run(checked: &Checked, routine: u16, words: &[u16; 8]) -> Option<Outcome> {
-    if admits(checked, routine, words) {
-        Some(Machine::new().run(checked, routine, words))
-    } else {
-        None
-    }
-}
 
 #[test]
 fn bytes_and_image(rt: HostRuntime) -> Result<(), Fail> {
