@@ -1,0 +1,75 @@
+-- What a commit keeps, and what a stop during it leaves.
+use Rattle.std.specs.Prelude.{◌≡◌, ◌⊎◌, ℕ, ◌+◌, true, List, length, map, Option, Some, None, Ok, unwrap_or, All, MatchOption, IfSome}
+use Rattle.std.specs.Borrow.{Bor}
+use Rattle.lmem_raw.specs.Bytes.{part}
+use Rattle.geos_model.specs.Block.{handle_word}
+use Rattle.geos_model.specs.Heap.{IsHeap}
+use Rattle.vm_file.specs.declared.commit.How.{How}
+use Rattle.vm_file.specs.declared.commit.How.TheVariants.{Update, Save, Revert}
+use Rattle.vm_file.specs.declared.directory.Entry.{Entry}
+use Rattle.vm_file.specs.declared.directory.Directory.{Directory}
+use Rattle.vm_file.specs.Contents.{Block, Contents, Pair}
+use Rattle.vm_file.specs.Directories.{is_directory, directory_length}
+use Rattle.vm_file.specs.Reading.{found}
+use Rattle.vm_file.specs.State.{HasBlock, bytes_of_block, place_in}
+
+-- a source shows the bytes that are resident under a handle, or that none are
+abbrev pub Shows : Option (Bor (List ℕ)) → Option (List ℕ) → Type 0
+Shows (Some shown) (Some bytes) = shown.now ≡ bytes
+Shows None None = Unit {0}
+Shows shown resident = ⊥
+
+-- the block of an entry: its bytes where they are resident, else those of the block that the file keeps
+abbrev pub block_from : (ℕ → Option (List ℕ)) → List Block → Entry → Block
+block_from resident kept e = record { h = e.h; uid = e.uid; bytes = unwrap_or (resident e.h) (bytes_of_block kept e.h) }
+
+-- a directory with the bytes of its blocks
+abbrev pub contents_from : (ℕ → Option (List ℕ)) → List Block → Directory → Contents
+contents_from resident kept d = record { blocks = map (block_from resident kept) d.entries.items; map_block = d.map_block; map_item = d.map_item }
+
+-- the block of an entry is there: resident as a heap of its length under its handle, or in the directory that the file keeps at that length
+abbrev pub IsThere : (ℕ → Option (List ℕ)) → Directory → Entry → Type 0
+IsThere resident kept e = MatchOption (resident e.h)
+    (HasBlock kept e.h e.len)
+    (λ bytes. IsHeap bytes × (handle_word bytes ≡ e.h) × (length bytes ≡ e.len))
+
+-- a directory that may be committed: a legal one, and its blocks are there
+pub record MayCommit (resident : ℕ → Option (List ℕ)) (kept cur : Directory) : Type 0 where
+  pub legal : is_directory cur ≡ true
+  pub there : All (IsThere resident kept) cur.entries.items
+
+-- what is current after a commit: what was given or, where it reverts, what was saved
+abbrev pub current_after : {X : Type 0} → How → X → X → X
+current_after Update cur saved = cur
+current_after Save cur saved = cur
+current_after Revert cur saved = saved
+
+-- what is saved after a commit: what was, or, where it saves, what was given
+abbrev pub saved_after : {X : Type 0} → How → X → X → X
+saved_after Update cur saved = saved
+saved_after Save cur saved = cur
+saved_after Revert cur saved = saved
+
+-- the pair that is kept after a commit of these contents
+abbrev pub pair_after : How → Contents → Pair → Pair
+pair_after how cur before = record { cur = current_after how cur before.saved; saved = saved_after how cur before.saved }
+
+-- what that pair takes in an area
+abbrev pub length_after : How → Directory → Directory → ℕ
+length_after how cur saved = directory_length (current_after how cur saved) + directory_length (saved_after how cur saved)
+
+-- `open` finds the one pair or the other
+abbrev pub FindsOneOf : Pair → Pair → List ℕ → Type 0
+FindsOneOf before after c = (found c ≡ Ok before) ⊎ (found c ≡ Ok after)
+
+-- the block of an entry: its bytes where they are resident, else those that stand where the file keeps it, behind an offset of an image
+abbrev pub block_read : (ℕ → Option (List ℕ)) → List ℕ → ℕ → List Entry → Entry → Block
+block_read resident image at kept e = record { h = e.h; uid = e.uid; bytes = unwrap_or (resident e.h) (part image (at + place_in kept e.h) e.len) }
+
+-- a directory with the bytes of its blocks
+abbrev pub contents_read : (ℕ → Option (List ℕ)) → List ℕ → ℕ → List Entry → Directory → Contents
+contents_read resident image at kept d = record { blocks = map (block_read resident image at kept) d.entries.items; map_block = d.map_block; map_item = d.map_item }
+
+-- a block that is resident has the length of its entry
+abbrev pub HasLength : (ℕ → Option (List ℕ)) → Entry → Type 0
+HasLength resident e = IfSome (resident e.h) (λ bytes. length bytes ≡ e.len)
