@@ -12,3 +12,5 @@ pub mod StateLaws
 pub mod StopLaws
 pub mod BlockLaws
 pub mod NewFiles
+pub mod Putting
+pub mod Blocks

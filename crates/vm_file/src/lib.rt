@@ -18,6 +18,7 @@ mod file;
 mod memory;
 mod opened;
 mod reader;
+mod spell;
 
 pub use commit::{How, Source};
 pub use device::{Device, Disk};
