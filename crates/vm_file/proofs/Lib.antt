@@ -14,3 +14,6 @@ pub mod BlockLaws
 pub mod NewFiles
 pub mod Putting
 pub mod Blocks
+pub mod Sources
+pub mod CommitLaws
+pub mod Kept

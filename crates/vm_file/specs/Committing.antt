@@ -8,10 +8,12 @@ use Rattle.vm_file.specs.declared.commit.How.{How}
 use Rattle.vm_file.specs.declared.commit.How.TheVariants.{Update, Save, Revert}
 use Rattle.vm_file.specs.declared.directory.Entry.{Entry}
 use Rattle.vm_file.specs.declared.directory.Directory.{Directory}
-use Rattle.vm_file.specs.Contents.{Block, Contents, Pair}
+use Rattle.vm_file.specs.Contents.{Block, Contents, Pair, listed, is_contents, pair_spelling}
 use Rattle.vm_file.specs.Directories.{is_directory, directory_length}
 use Rattle.vm_file.specs.Reading.{found}
-use Rattle.vm_file.specs.State.{HasBlock, bytes_of_block, place_in}
+use Rattle.vm_file.specs.declared.error.CommitError.{CommitError}
+use Rattle.vm_file.specs.declared.error.CommitError.TheVariants.{Unsure, TooBig, Memory, Disk}
+use Rattle.vm_file.specs.State.{FileState, Finds, HasBlock, bytes_of_block, place_in}
 
 -- a source shows the bytes that are resident under a handle, or that none are
 abbrev pub Shows : Option (Bor (List ℕ)) → Option (List ℕ) → Type 0
@@ -58,6 +60,17 @@ pair_after how cur before = record { cur = current_after how cur before.saved; s
 abbrev pub length_after : How → Directory → Directory → ℕ
 length_after how cur saved = directory_length (current_after how cur saved) + directory_length (saved_after how cur saved)
 
+-- a file of which a commit was refused: where the device failed it may be unsure, and else nothing happened
+abbrev pub IsAfter : {D : Type 0} → CommitError → FileState D → FileState D → Type 0
+IsAfter Unsure old new = new ≡ old
+IsAfter TooBig old new = new ≡ old
+IsAfter Memory old new = new ≡ old
+IsAfter Disk old new = new ≡ record old { device = new.device; sure = new.sure }
+
+-- `open` finds what the file keeps, or this pair
+abbrev pub FindsOr : {D : Type 0} → (D → List ℕ) → FileState D → Pair → List ℕ → Type 0
+FindsOr image f after c = Finds image f c ⊎ (found c ≡ Ok after)
+
 -- `open` finds the one pair or the other
 abbrev pub FindsOneOf : Pair → Pair → List ℕ → Type 0
 FindsOneOf before after c = (found c ≡ Ok before) ⊎ (found c ≡ Ok after)
@@ -73,3 +86,11 @@ contents_read resident image at kept d = record { blocks = map (block_read resid
 -- a block that is resident has the length of its entry
 abbrev pub HasLength : (ℕ → Option (List ℕ)) → Entry → Type 0
 HasLength resident e = IfSome (resident e.h) (λ bytes. length bytes ≡ e.len)
+
+-- the bytes spell this pair, a legal one, whose directories are these
+pub record Spells (cur saved : Directory) (pair : Pair) (bytes : List ℕ) : Type 0 where
+  pub spelled : bytes ≡ pair_spelling pair
+  pub cur_legal : is_contents pair.cur ≡ true
+  pub saved_legal : is_contents pair.saved ≡ true
+  pub cur_listed : listed pair.cur ≡ cur
+  pub saved_listed : listed pair.saved ≡ saved

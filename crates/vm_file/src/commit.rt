@@ -1,6 +1,10 @@
-//! What a commit is given.
-ghost use Rattle.std.specs.Prelude.{◌≡◌, ℕ, List, Option};
-ghost use Rattle.vm_file.specs.Committing.{Shows};
+//! What a commit is given, and what it keeps.
+ghost use Rattle.std.specs.Prelude.{◌≡◌, ◌<◌, ◌^◌, ℕ, List, Option};
+ghost use Rattle.vm_file.specs.Committing.{Shows, current_after, length_after, saved_after};
+ghost use Rattle.vm_file.specs.Reading.{is_second};
+
+use crate::directory::Directory;
+use crate::fields::directory_length;
 
 /// Which pair of directories a commit keeps.
 #[derive(Clone, Copy, Debug, Drop, PartialEq, Eq)]
@@ -33,4 +37,38 @@ impl Source for Nothing {
     fn resident(&self, _h: u16) -> Option<&[u8]> {
         None
     }
+}
+
+/// The bytes that the pair takes which a commit keeps.
+pub(crate) fn length_after(how: How, cur: &Directory, saved: &Directory) -> u32
+    ensures exact { result ≡ length_after how cur.now saved.now }
+    ensures small { result < 2 ^ 29 }
+{
+    match how {
+        How::Update => directory_length(cur) + directory_length(saved),
+        How::Save => 2 * directory_length(cur),
+        How::Revert => 2 * directory_length(saved),
+    }
+}
+
+/// Turns a current and a saved directory into those that a commit keeps.
+pub(crate) fn keep(current: &mut Directory, saved: &mut Directory, how: How, cur: &Directory)
+    ensures current { current.new ≡ current_after how cur.now saved.old }
+    ensures saved { saved.new ≡ saved_after how cur.now saved.old }
+{
+    match how {
+        How::Update => current.copy_from(cur),
+        How::Save => {
+            current.copy_from(cur);
+            saved.copy_from(cur);
+        }
+        How::Revert => current.copy_from(saved),
+    }
+}
+
+/// The selector of an area.
+pub(crate) fn selector_of(second: bool) -> u8
+    ensures { is_second result ≡ second }
+{
+    if second { 1 } else { 0 }
 }

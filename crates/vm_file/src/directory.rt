@@ -49,4 +49,14 @@ impl Directory {
     {
         self.entries.iter().copied().find(|e| e.h == h)
     }
+
+    /// Becomes the same as another one.
+    pub(crate) fn copy_from(&mut self, other: &Directory)
+        ensures { self.new ≡ other.now }
+    {
+        self.entries.clear();
+        let _ = self.entries.try_extend_from_slice(&other.entries);
+        self.map_block = other.map_block;
+        self.map_item = other.map_item;
+    }
 }

@@ -157,7 +157,15 @@ pub(crate) fn spell_directory<D: Device, S: Source>(
         → OnErr result (Rose (D.failed device.old) (D.failed device.new)) }
 {
     put_word(into, at, directory.entries.len() as u16);
-    match spell_blocks(device, from, &kept.entries, &directory.entries, source, into, at + 2) {
+    match spell_blocks(
+        device,
+        from,
+        &kept.entries,
+        &directory.entries,
+        source,
+        into,
+        at + 2,
+    ) {
         Ok(()) => {}
         Err(Disk) => return Err(Disk),
     }

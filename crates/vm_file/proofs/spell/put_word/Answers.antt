@@ -1,4 +1,4 @@
-use Rattle.std.proofs.Common.{◌+◌, List, sym, subst, refl, arith}
+use Rattle.std.proofs.Common.{◌+◌, List, sym, subst, refl}
 use Rattle.vm_file.specs.Spelling.{Puts}
 use Rattle.geos_model.specs.Bytes.{word_bytes}
 use Rattle.vm_file.proofs.Putting.{puts_part}
