@@ -5,17 +5,13 @@ use Rattle.std.proofs.lemmas.List.{take_at}
 use Rattle.vm_file.specs.declared.commit.How.{How}
 use Rattle.vm_file.specs.declared.commit.How.TheVariants.{Update, Save, Revert}
 use Rattle.vm_file.specs.declared.directory.Directory.{Directory}
-use Rattle.vm_file.specs.Committing.{FindsOneOf, FindsOr, MayCommit, Spells, contents_from, current_after, pair_after, saved_after}
+use Rattle.vm_file.specs.Committing.{FindsOneOf, FindsOr, MayCommit, Spells, contents_from, current_after, kept_after, pair_after, saved_after}
 use Rattle.vm_file.specs.Contents.{Contents, Pair, is_contents, listed, pair_in, pair_spelling}
 use Rattle.vm_file.specs.Reading.{area_of, base_of, found, pair_at}
 use Rattle.vm_file.specs.State.{FileState, Finds, IsOther, IsSound, pair_of}
 use Rattle.vm_file.proofs.CommitLaws.{pair_whole}
 use Rattle.vm_file.proofs.ReadLaws.{pair_ok}
 use Rattle.vm_file.proofs.Sources.{from_legal, from_listed, saved_listed}
-
--- the pair that is kept after a commit
-abbrev pub kept : {D : Type 0} → (D → List ℕ) → (ℕ → Option (List ℕ)) → Directory → How → FileState D → Pair
-kept image resident cur how f = pair_after how (contents_from resident (pair_of image f).cur.blocks cur) (pair_of image f)
 
 spells_after : (how : How) (a : Contents) (p : Pair) (cur saved : Directory) (bytes : List ℕ) → is_contents a ≡ true → is_contents p.saved ≡ true → listed a ≡ cur → listed p.saved ≡ saved →
     bytes ≡ pair_spelling (pair_after how a p) → Spells (current_after how cur saved) (saved_after how cur saved) (pair_after how a p) bytes
@@ -24,8 +20,8 @@ spells_after Save a p cur saved bytes one two l1 l2 is = record { spelled = is; 
 spells_after Revert a p cur saved bytes one two l1 l2 is = record { spelled = is; cur_legal = two; saved_legal = two; cur_listed = l2; saved_listed = l2 }
 
 module _ {D : Type 0} (image : D → List ℕ) (honest : D → Type 0) (may_leave : D → List ℕ → Type 0) (f : FileState D) (sound : IsSound image honest may_leave f) where
-  pub kept_spells : (resident : ℕ → Option (List ℕ)) (cur : Directory) → MayCommit resident f.current cur → (how : How) → honest f.device → (bytes : List ℕ) → bytes ≡ pair_spelling (kept image resident cur how f) →
-      Spells (current_after how cur f.saved) (saved_after how cur f.saved) (kept image resident cur how f) bytes
+  pub kept_spells : (resident : ℕ → Option (List ℕ)) (cur : Directory) → MayCommit resident f.current cur → (how : How) → honest f.device → (bytes : List ℕ) → bytes ≡ pair_spelling (kept_after image resident how cur f) →
+      Spells (current_after how cur f.saved) (saved_after how cur f.saved) (kept_after image resident how cur f) bytes
   kept_spells resident cur may how good bytes is =
       spells_after how (contents_from resident (pair_of image f).cur.blocks cur) (pair_of image f) cur f.saved bytes (from_legal image honest may_leave f sound resident cur may good)
       (pair_ok (base_of f.area f.second) (area_of (image f.device) f.area f.second) (pair_of image f) (sound.holds good).pair).saved

@@ -13,7 +13,7 @@ use Rattle.vm_file.specs.Directories.{is_directory, directory_length}
 use Rattle.vm_file.specs.Reading.{found}
 use Rattle.vm_file.specs.declared.error.CommitError.{CommitError}
 use Rattle.vm_file.specs.declared.error.CommitError.TheVariants.{Unsure, TooBig, Memory, Disk}
-use Rattle.vm_file.specs.State.{FileState, Finds, HasBlock, bytes_of_block, place_in}
+use Rattle.vm_file.specs.State.{FileState, Finds, HasBlock, bytes_of_block, pair_of, place_in}
 
 -- a source shows the bytes that are resident under a handle, or that none are
 abbrev pub Shows : Option (Bor (List ℕ)) → Option (List ℕ) → Type 0
@@ -55,6 +55,10 @@ saved_after Revert cur saved = saved
 -- the pair that is kept after a commit of these contents
 abbrev pub pair_after : How → Contents → Pair → Pair
 pair_after how cur before = record { cur = current_after how cur before.saved; saved = saved_after how cur before.saved }
+
+-- the pair that a file keeps after a commit of this directory, where these blocks are resident
+abbrev pub kept_after : {D : Type 0} → (D → List ℕ) → (ℕ → Option (List ℕ)) → How → Directory → FileState D → Pair
+kept_after image resident how cur f = pair_after how (contents_from resident (pair_of image f).cur.blocks cur) (pair_of image f)
 
 -- what that pair takes in an area
 abbrev pub length_after : How → Directory → Directory → ℕ

@@ -43,7 +43,7 @@ impl<D: Device + Drop> Model for VmFile<D> {
 
 impl<D: Device + Drop> VmFile<D> {
     ghost use Rattle.lmem_raw.specs.Bytes.{with_part};
-    ghost use Rattle.vm_file.specs.Committing.{FindsOneOf, FindsOr, IsAfter, MayCommit, Spells, contents_from, current_after, length_after, pair_after, saved_after};
+    ghost use Rattle.vm_file.specs.Committing.{FindsOneOf, FindsOr, IsAfter, MayCommit, Spells, contents_from, current_after, kept_after, length_after, saved_after};
     ghost use Rattle.vm_file.specs.Contents.{contents_spelling, listed, pair_in, pair_spelling};
     ghost use Rattle.vm_file.specs.Directories.{directory_length, is_directory};
     ghost use Rattle.vm_file.specs.Spelling.{Puts, empty_contents, empty_pair, new_file};
@@ -157,6 +157,7 @@ impl<D: Device + Drop> VmFile<D> {
         // `open` finds what it would have found.
         ensures reads { ReadsOnly D.image D.honest D.may_leave D.may_have_left self.old.device self.new.device }
         ensures any_moment { D.honest self.old.device → Passes D.may_have_left self.old.device self.new.device (Finds D.image self.old) }
+        ensures stopped { D.honest self.old.device → (c : List ℕ) → D.may_have_left self.old.device self.new.device c → Finds D.image self.old c }
         ensures stop { D.honest self.old.device → (c : List ℕ) → D.may_leave self.new.device c → Finds D.image self.old c }
     {
         let base = base_of(self.area, self.second);
@@ -178,6 +179,7 @@ impl<D: Device + Drop> VmFile<D> {
         // `open` finds what it would have found.
         ensures reads { ReadsOnly D.image D.honest D.may_leave D.may_have_left self.old.device self.new.device }
         ensures any_moment { D.honest self.old.device → Passes D.may_have_left self.old.device self.new.device (Finds D.image self.old) }
+        ensures stopped { D.honest self.old.device → (c : List ℕ) → D.may_have_left self.old.device self.new.device c → Finds D.image self.old c }
         ensures stop { D.honest self.old.device → (c : List ℕ) → D.may_leave self.new.device c → Finds D.image self.old c }
     {
         let base = base_of(self.area, self.second);
@@ -219,14 +221,16 @@ impl<D: Device + Drop> VmFile<D> {
         }) }
         ensures refused { IfErr result (λ e. IsAfter e self.old self.new) }
         ensures pair { D.honest self.old.device → MatchResult result
-            (λ _. pair_of D.image self.new ≡ pair_after how (contents_from (S.resident_bytes source.now) (pair_of D.image self.old).cur.blocks cur.now) (pair_of D.image self.old))
+            (λ _. pair_of D.image self.new ≡ kept_after D.image (S.resident_bytes source.now) how cur.now self.old)
             (λ _. pair_of D.image self.new ≡ pair_of D.image self.old) }
         // Where it turned unsure, the other area holds the new pair.
         ensures other { D.honest self.old.device → self.old.sure ≡ true → self.new.sure ≡ false
-            → IsOther D.image self.new (pair_after how (contents_from (S.resident_bytes source.now) (pair_of D.image self.old).cur.blocks cur.now) (pair_of D.image self.old)) }
+            → IsOther D.image self.new (kept_after D.image (S.resident_bytes source.now) how cur.now self.old) }
         // What `open` finds after a stop at any moment of the call, and after one behind it.
         ensures any_moment { D.honest self.old.device → Passes D.may_have_left self.old.device self.new.device (FindsOr D.image self.old
-            (pair_after how (contents_from (S.resident_bytes source.now) (pair_of D.image self.old).cur.blocks cur.now) (pair_of D.image self.old))) }
+            (kept_after D.image (S.resident_bytes source.now) how cur.now self.old)) }
+        ensures stopped { D.honest self.old.device → (c : List ℕ) → D.may_have_left self.old.device self.new.device c
+            → FindsOr D.image self.old (kept_after D.image (S.resident_bytes source.now) how cur.now self.old) c }
         ensures stop { D.honest self.old.device → (c : List ℕ) → D.may_leave self.new.device c → Finds D.image self.new c }
         ensures honest { D.honest self.old.device → D.honest self.new.device }
         ensures was_honest { D.honest self.new.device → D.honest self.old.device }
@@ -315,7 +319,7 @@ impl<D: Device + Drop> VmFile<D> {
         requires room { length into.old ≡ length_after how cur.now self.old.saved }
         ensures long { length into.new ≡ length into.old }
         ensures spelled { D.honest self.old.device → OnOk result (into.new
-            ≡ pair_spelling (pair_after how (contents_from (S.resident_bytes source.now) (pair_of D.image self.old).cur.blocks cur.now) (pair_of D.image self.old))) }
+            ≡ pair_spelling (kept_after D.image (S.resident_bytes source.now) how cur.now self.old)) }
         ensures same { self.new ≡ record self.old { device = self.new.device } }
         ensures pair { pair_of D.image self.new ≡ pair_of D.image self.old }
         ensures ok { OnOk result (D.failed self.new.device ≡ D.failed self.old.device) }
