@@ -1,10 +1,11 @@
 //! What a commit is given, and what it keeps.
-ghost use Rattle.std.specs.Prelude.{◌≡◌, ◌<◌, ◌^◌, ℕ, List, Option};
-ghost use Rattle.vm_file.specs.Committing.{Shows, current_after, length_after, saved_after};
+ghost use Rattle.std.specs.Prelude.{◌≡◌, ◌<◌, ◌^◌, ◌↔◌, ℕ, List, Option, All, IsTrue};
+ghost use Rattle.vm_file.specs.Committing.{IsThere, Shows, current_after, length_after, saved_after};
 ghost use Rattle.vm_file.specs.Reading.{is_second};
 
-use crate::directory::Directory;
+use crate::directory::{Directory, Entry};
 use crate::fields::directory_length;
+use crate::reader::is_heap_of;
 
 /// Which pair of directories a commit keeps.
 #[derive(Clone, Copy, Debug, Drop, PartialEq, Eq)]
@@ -71,4 +72,29 @@ pub(crate) fn selector_of(second: bool) -> u8
     ensures { is_second result ≡ second }
 {
     if second { 1 } else { 0 }
+}
+
+/// Whether the block of an entry is there to be committed.
+fn is_there<S: Source>(source: &S, kept: &Directory, e: Entry) -> bool
+    ensures { IsTrue result ↔ IsThere (S.resident_bytes source.now) kept.now e }
+{
+    match source.resident(e.h) {
+        Some(bytes) => is_heap_of(bytes, e.h) && bytes.len() == e.len as usize,
+        None => match kept.entry(e.h) {
+            Some(entry) => entry.len == e.len,
+            None => false,
+        },
+    }
+}
+
+/// Whether the blocks of these entries are there to be committed.
+pub(crate) fn are_there<S: Source>(source: &S, kept: &Directory, entries: &[Entry]) -> bool
+    ensures { IsTrue result ↔ All (IsThere (S.resident_bytes source.now) kept.now) entries.now }
+{
+    for e in entries {
+        if !is_there(source, kept, *e) {
+            return false;
+        }
+    }
+    true
 }

@@ -1,12 +1,12 @@
 //! Files that are open.
-ghost use Rattle.std.specs.Prelude.{◌≡◌, ◌+◌, ◌*◌, ◌≤◌, ◌<◌, ◌↔◌, ℕ, List, Ok, Err, true, false, not, MatchResult, IfOk, IfErr, OnOk, OnErr, length};
+ghost use Rattle.std.specs.Prelude.{◌≡◌, ◌+◌, ◌*◌, ◌≤◌, ◌<◌, ◌↔◌, ℕ, List, Ok, Err, true, false, not, MatchResult, IfOk, IfErr, OnOk, OnErr, IsTrue, length};
 ghost use Rattle.geos_model.specs.Block.{handle_word};
 ghost use Rattle.geos_model.specs.Heap.{IsHeap};
 ghost use Rattle.vm_file.specs.Device.{Only, Passes, Rose};
 ghost use Rattle.vm_file.specs.Outcomes.{CausesDisk, IsCaused, IsRefused, ReadsOnly};
 ghost use Rattle.vm_file.specs.Reading.{file_at};
 
-use crate::commit::{How, Nothing, Source, keep, length_after, selector_of};
+use crate::commit::{How, Nothing, Source, are_there, keep, length_after, selector_of};
 use crate::create::write_new;
 use crate::device::{Device, Disk, write_durably};
 use crate::directory::Directory;
@@ -130,14 +130,16 @@ impl<D: Device + Drop> VmFile<D> {
 
     /// The current directory.
     pub fn current(&self) -> &Directory
-        ensures { result.now ≡ self.now.current }
+        ensures same { result.now ≡ self.now.current }
+        ensures legal { is_directory result.now ≡ true }
     {
         &self.current
     }
 
     /// The saved directory.
     pub fn saved(&self) -> &Directory
-        ensures { result.now ≡ self.now.saved }
+        ensures same { result.now ≡ self.now.saved }
+        ensures legal { is_directory result.now ≡ true }
     {
         &self.saved
     }
@@ -186,6 +188,15 @@ impl<D: Device + Drop> VmFile<D> {
         let first = u64::from(directory_length(&self.current));
         let at = base + first + 2 + u64::from(place_in(&self.saved.entries, h));
         read_block(&mut self.device, at, h, into)
+    }
+
+    /// Whether this directory may be committed with these blocks: it is legal, and each of its
+    /// blocks is in memory as a heap of its length under its handle or, where none is in
+    /// memory, in the current directory at that length.
+    pub fn may_commit<S: Source>(&self, cur: &Directory, source: &S) -> bool
+        ensures { IsTrue result ↔ MayCommit (S.resident_bytes source.now) self.now.current cur.now }
+    {
+        cur.is_legal() && are_there(source, &self.current, &cur.entries)
     }
 
     /// Keeps one of the pairs that `How` names. `source` has blocks that are in memory: a block
