@@ -15,7 +15,7 @@ use Rattle.vm_file.specs.declared.error.CommitError.{CommitError}
 use Rattle.vm_file.specs.declared.error.CommitError.TheVariants.{Unsure, TooBig, Memory, Disk}
 use Rattle.vm_file.specs.State.{FileState, Finds, HasBlock, bytes_of_block, pair_of, place_in}
 
--- a source shows the bytes that are resident under a handle, or that none are
+-- a source shows the bytes that are resident under a handle, or that none are there
 abbrev pub Shows : Option (Bor (List ℕ)) → Option (List ℕ) → Type 0
 Shows (Some shown) (Some bytes) = shown.now ≡ bytes
 Shows None None = Unit {0}
@@ -79,13 +79,14 @@ FindsOr image f after c = Finds image f c ⊎ (found c ≡ Ok after)
 abbrev pub FindsOneOf : Pair → Pair → List ℕ → Type 0
 FindsOneOf before after c = (found c ≡ Ok before) ⊎ (found c ≡ Ok after)
 
--- the block of an entry: its bytes where they are resident, else those that stand where the file keeps it, behind an offset of an image
+-- the same block: where it is not resident, the bytes that stand in an image where these entries, which begin at an offset, have it
 abbrev pub block_read : (ℕ → Option (List ℕ)) → List ℕ → ℕ → List Entry → Entry → Block
 block_read resident image at kept e = record { h = e.h; uid = e.uid; bytes = unwrap_or (resident e.h) (part image (at + place_in kept e.h) e.len) }
 
--- a directory with the bytes of its blocks
+-- a directory with the bytes of these blocks
 abbrev pub contents_read : (ℕ → Option (List ℕ)) → List ℕ → ℕ → List Entry → Directory → Contents
-contents_read resident image at kept d = record { blocks = map (block_read resident image at kept) d.entries.items; map_block = d.map_block; map_item = d.map_item }
+contents_read resident image at kept d =
+    record { blocks = map (block_read resident image at kept) d.entries.items; map_block = d.map_block; map_item = d.map_item }
 
 -- a block that is resident has the length of its entry
 abbrev pub HasLength : (ℕ → Option (List ℕ)) → Entry → Type 0

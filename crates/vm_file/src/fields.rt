@@ -1,7 +1,8 @@
 //! The fields of a file, in bytes that were read.
 ghost use Rattle.std.specs.Prelude.{◌≡◌, ◌+◌, ◌<◌, ◌≤◌, ◌^◌, ◌%◌, true, IfOk, length, not, ◌==◌};
 ghost use Rattle.std.specs.List.{position_or_len};
-ghost use Rattle.vm_file.specs.Directories.{are_entries, has_block, has_group, is_entry, may_be_map_block, may_be_map_group, may_be_map_item, entries_length, directory_length, is_directory};
+ghost use Rattle.vm_file.specs.Directories.{are_entries, directory_length, entries_length, has_block, has_group, is_directory, is_entry};
+ghost use Rattle.vm_file.specs.Directories.{may_be_map_block, may_be_map_group, may_be_map_item};
 ghost use Rattle.vm_file.specs.Heaps.{is_block_size};
 ghost use Rattle.vm_file.specs.State.{place_in};
 ghost use Rattle.vm_file.specs.Reading.{area_size_at, count_at, head_at, header_at, is_area, maps_at, word_at, zeros_at};

@@ -43,7 +43,8 @@ impl<D: Device + Drop> Model for VmFile<D> {
 
 impl<D: Device + Drop> VmFile<D> {
     ghost use Rattle.lmem_raw.specs.Bytes.{with_part};
-    ghost use Rattle.vm_file.specs.Committing.{FindsOneOf, FindsOr, IsAfter, MayCommit, Spells, contents_from, current_after, kept_after, length_after, saved_after};
+    ghost use Rattle.vm_file.specs.Committing.{FindsOneOf, FindsOr, IsAfter, MayCommit, Spells};
+    ghost use Rattle.vm_file.specs.Committing.{contents_from, current_after, kept_after, length_after, saved_after};
     ghost use Rattle.vm_file.specs.Contents.{contents_spelling, listed, pair_in, pair_spelling};
     ghost use Rattle.vm_file.specs.Directories.{directory_length, is_directory};
     ghost use Rattle.vm_file.specs.Spelling.{Puts, empty_contents, empty_pair, new_file};
