@@ -12,6 +12,7 @@ use Rattle.vm_file.specs.State.{FileState, Finds, IsOther, IsSound, pair_of}
 use Rattle.vm_file.proofs.CommitLaws.{pair_whole}
 use Rattle.vm_file.proofs.ReadLaws.{pair_ok}
 use Rattle.vm_file.proofs.Sources.{from_legal, from_listed, saved_listed}
+use Rattle.vm_file.proofs.StopLaws.{finds}
 
 spells_after : (how : How) (a : Contents) (p : Pair) (cur saved : Directory) (bytes : List ℕ) → is_contents a ≡ true → is_contents p.saved ≡ true → listed a ≡ cur → listed p.saved ≡ saved →
     bytes ≡ pair_spelling (pair_after how a p) → Spells (current_after how cur saved) (saved_after how cur saved) (pair_after how a p) bytes
@@ -19,13 +20,23 @@ spells_after Update a p cur saved bytes one two l1 l2 is = record { spelled = is
 spells_after Save a p cur saved bytes one two l1 l2 is = record { spelled = is; cur_legal = one; saved_legal = one; cur_listed = l1; saved_listed = l1 }
 spells_after Revert a p cur saved bytes one two l1 l2 is = record { spelled = is; cur_legal = two; saved_legal = two; cur_listed = l2; saved_listed = l2 }
 
-module _ {D : Type 0} (image : D → List ℕ) (honest : D → Type 0) (may_leave : D → List ℕ → Type 0) (f : FileState D) (sound : IsSound image honest may_leave f) where
-  pub kept_spells : (resident : ℕ → Option (List ℕ)) (cur : Directory) → MayCommit resident f.current cur → (how : How) → honest f.device → (bytes : List ℕ) → bytes ≡ pair_spelling (kept_after image resident how cur f) →
-      Spells (current_after how cur f.saved) (saved_after how cur f.saved) (kept_after image resident how cur f) bytes
-  kept_spells resident cur may how good bytes is =
-      spells_after how (contents_from resident (pair_of image f).cur.blocks cur) (pair_of image f) cur f.saved bytes (from_legal image honest may_leave f sound resident cur may good)
+module _ {D : Type 0} (image : D → List ℕ) (honest : D → Type 0) (may_leave : D → List ℕ → Type 0) (f old : FileState D) (same : f ≡ old) (sound : IsSound image honest may_leave f) where
+  -- what a stop before a call leaves
+  pub finds_before : honest old.device → (c : List ℕ) → may_leave old.device c → Finds image old c
+  finds_before = (let G : FileState D → Type 0 = λ g. honest g.device → (c : List ℕ) → may_leave g.device c → Finds image g c in subst G same (λ h c l. finds image may_leave f (sound.holds h) c l))
+
+  -- the bytes of the pair that is kept
+  pub kept_spells : (resident : ℕ → Option (List ℕ)) (cur : Directory) → MayCommit resident old.current cur → (how : How) → honest old.device → (bytes : List ℕ) → bytes ≡ pair_spelling (kept_after image resident how cur old) →
+      Spells (current_after how cur old.saved) (saved_after how cur old.saved) (kept_after image resident how cur old) bytes
+  kept_spells resident cur may how =
+      let M : FileState D → Type 0 = λ g. MayCommit resident g.current cur in
+      let K : FileState D → Type 0 = λ g. honest g.device → (bytes : List ℕ) → bytes ≡ pair_spelling (kept_after image resident how cur g) →
+      Spells (current_after how cur g.saved) (saved_after how cur g.saved) (kept_after image resident how cur g) bytes in
+      let legal = subst M (sym same) may in
+      subst K same (λ good bytes is.
+      spells_after how (contents_from resident (pair_of image f).cur.blocks cur) (pair_of image f) cur f.saved bytes (from_legal image honest may_leave f sound resident cur legal good)
       (pair_ok (base_of f.area f.second) (area_of (image f.device) f.area f.second) (pair_of image f) (sound.holds good).pair).saved
-      (from_listed image honest may_leave f sound resident cur may good) (saved_listed image honest may_leave f sound) is
+      (from_listed image honest may_leave f sound resident cur legal good) (saved_listed image honest may_leave f sound) is)
 
 -- cut from its bytes, where the saved directory is the same
 pub cut_is : (how : How) (cur saved mid : Directory) (q : Pair) (bytes : List ℕ) → mid ≡ saved → Spells (current_after how cur saved) (saved_after how cur saved) q bytes →
