@@ -12,3 +12,8 @@ pub mod StateLaws
 pub mod StopLaws
 pub mod BlockLaws
 pub mod NewFiles
+pub mod Putting
+pub mod Blocks
+pub mod Sources
+pub mod CommitLaws
+pub mod Kept

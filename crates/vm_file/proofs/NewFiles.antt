@@ -15,7 +15,7 @@ use Rattle.vm_file.proofs.SpellLaws.{goes, wanted_is, pair_again}
 use Rattle.vm_file.proofs.StateLaws.{FileParts, file_from}
 use Rattle.vm_file.proofs.Touches.{touched_not}
 
-take-append-ge : (xs ys : List ℕ) (n k : ℕ) → n ≡ length xs + k → take n (xs ++ ys) ≡ xs ++ take k ys
+pub take-append-ge : (xs ys : List ℕ) (n k : ℕ) → n ≡ length xs + k → take n (xs ++ ys) ≡ xs ++ take k ys
 take-append-ge [] ys n k e = ap (λ m. take m ys) (e ∙ omega arith)
 take-append-ge (x ∷ xs) ys zero k e = absurd (omega arith)
 take-append-ge (x ∷ xs) ys (suc n) k e = ap (λ l. x ∷ l) (take-append-ge xs ys n k (omega arith))

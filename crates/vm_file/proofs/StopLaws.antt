@@ -34,7 +34,7 @@ areas_apart area true = (omega arith, inr (omega arith))
 areas_apart area false = (omega arith, inl (omega arith))
 
 -- a write behind the first 513 bytes leaves header and selector
-header_kept : (c d : List ℕ) (at n : ℕ) → 513 ≤ at → Touched at n d c → (take 512 c ≡ take 512 d) × (get_or c 512 0 ≡ get_or d 512 0)
+pub header_kept : (c d : List ℕ) (at n : ℕ) → 513 ≤ at → Touched at n d c → (take 512 c ≡ take 512 d) × (get_or c 512 0 ≡ get_or d 512 0)
 header_kept c d at n far t = (
   sym (take-take 512 at c (omega arith)) ∙ ap (take 512) t.before ∙ take-take 512 at d (omega arith),
   sym (get_or-take at c 512 0 (omega arith)) ∙ ap (λ l. get_or l 512 0) t.before ∙ get_or-take at d 512 0 (omega arith),

@@ -10,3 +10,4 @@ pub mod Spelling
 pub mod Outcomes
 pub mod Opening
 pub mod State
+pub mod Committing

@@ -1,9 +1,9 @@
 -- How calls that read a device end.
-use Rattle.std.specs.Prelude.{◌≡◌, ℕ, List, Result, Ok, Err, IsOkAnd, MatchResult}
+use Rattle.std.specs.Prelude.{◌≡◌, ℕ, List, length, Result, Ok, Err, IsOkAnd, MatchResult}
 use Rattle.arrayvec.specs.ArrayVec.{ArrayVec}
 use Rattle.vm_file.specs.declared.error.OpenError.{OpenError}
 use Rattle.vm_file.specs.declared.error.OpenError.TheVariants.{BadFile, Disk, Memory}
-use Rattle.vm_file.specs.Device.{Passes, Rose}
+use Rattle.vm_file.specs.Device.{AfterWrite, Passes, Rose, Touched}
 
 -- a device on which nothing was written: reads give the same, and a stop leaves nothing else
 pub record ReadsOnly {D : Type 0} (image : D → List ℕ) (honest : D → Type 0) (may_leave : D → List ℕ → Type 0)
@@ -48,3 +48,13 @@ abbrev pub IsCaused : ℕ → ℕ → OpenError → Type 0
 IsCaused before now (BadFile at) = now ≡ before
 IsCaused before now Disk = Rose before now
 IsCaused before now Memory = now ≡ before
+
+-- a device on which nothing was written but so many bytes from an offset on, which a stop may leave in part
+pub record WritesOnly {D : Type 0} (image : D → List ℕ) (honest : D → Type 0) (may_leave : D → List ℕ → Type 0)
+    (left : D → D → List ℕ → Type 0) (at n : ℕ) (old new : D) : Type 0 where
+  pub long : length (image new) ≡ length (image old)
+  pub stays : honest old → honest new
+  pub was : honest new → honest old
+  pub torn : honest old → Touched at n (image old) (image new)
+  pub stop : honest old → (c : List ℕ) → may_leave new c → AfterWrite at n (may_leave old) c
+  pub time : honest old → Passes left old new (AfterWrite at n (may_leave old))

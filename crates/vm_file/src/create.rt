@@ -5,7 +5,7 @@ ghost use Rattle.vm_file.specs.Device.{Only};
 ghost use Rattle.vm_file.specs.Outcomes.{CausesDisk};
 ghost use Rattle.vm_file.specs.Spelling.{new_file};
 
-use crate::device::{Device, Disk};
+use crate::device::{Device, Disk, write_durably};
 
 /// The first 1,040 bytes of a new file: header, selector, and two empty directories in the
 /// first area.
@@ -35,8 +35,5 @@ pub(crate) fn write_new<D: Device>(device: &mut D, area: u32) -> Result<(), Disk
     ensures cause { CausesDisk (D.failed device.old) (D.failed device.new) result }
 {
     let bytes = new_file(area);
-    match device.write_at(0, &bytes) {
-        Ok(()) => device.sync(),
-        Err(Disk) => Err(Disk),
-    }
+    write_durably(device, 0, &bytes)
 }

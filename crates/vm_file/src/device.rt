@@ -2,6 +2,7 @@
 ghost use Rattle.std.specs.Prelude.{◌≡◌, ◌+◌, ◌≤◌, ℕ, List, length, OnOk};
 ghost use Rattle.lmem_raw.specs.Bytes.{part, with_part};
 ghost use Rattle.vm_file.specs.Device.{AfterWrite, Counts, Only, Passes, Touched, one_more};
+ghost use Rattle.vm_file.specs.Outcomes.{CausesDisk, WritesOnly};
 
 use thiserror::Error;
 
@@ -89,4 +90,18 @@ pub(crate) fn count_failure(failures: &mut u64)
     ensures { failures.new ≡ one_more failures.old }
 {
     *failures = failures.saturating_add(1);
+}
+
+/// Writes bytes from an offset on, and makes them last.
+pub(crate) fn write_durably<D: Device>(device: &mut D, at: u64, bytes: &[u8]) -> Result<(), Disk>
+    ensures within { OnOk result (at + length bytes.now ≤ length (D.image device.old)) }
+    ensures written { D.honest device.old → OnOk result (D.image device.new ≡ with_part (D.image device.old) at bytes.now) }
+    ensures durable { D.honest device.old → OnOk result (Only (D.image device.new) (D.may_leave device.new)) }
+    ensures writes { WritesOnly D.image D.honest D.may_leave D.may_have_left at (length bytes.now) device.old device.new }
+    ensures cause { CausesDisk (D.failed device.old) (D.failed device.new) result }
+{
+    match device.write_at(at, bytes) {
+        Ok(()) => device.sync(),
+        Err(Disk) => Err(Disk),
+    }
 }

@@ -1,6 +1,7 @@
 //! What a file lists.
 ghost use Rattle.std.specs.Prelude.{◌≡◌, ◌==◌, find};
 
+use crate::fields::is_directory;
 use arrayvec::ArrayVec;
 
 /// The greatest handle, and the greatest number of blocks.
@@ -30,6 +31,7 @@ pub struct Directory {
 
 impl Directory {
     ghost use Rattle.vm_file.specs.Contents.{listed};
+    ghost use Rattle.vm_file.specs.Directories.{is_directory};
     ghost use Rattle.vm_file.specs.Spelling.{empty_contents};
 
     /// No block, and nothing mapped.
@@ -48,5 +50,24 @@ impl Directory {
         ensures { result ≡ find (λ e. e.h == h) self.now.entries.items }
     {
         self.entries.iter().copied().find(|e| e.h == h)
+    }
+
+    /// Whether handles ascend to 1,024, lengths are legal block sizes, the map block is 0 or a
+    /// block that is no group, the map item's group is 0 or a group, and the item is 0 where
+    /// there is no group.
+    pub fn is_legal(&self) -> bool
+        ensures { result ≡ is_directory self.now }
+    {
+        is_directory(self)
+    }
+
+    /// Becomes the same as another one.
+    pub fn copy_from(&mut self, other: &Directory)
+        ensures { self.new ≡ other.now }
+    {
+        self.entries.clear();
+        let _ = self.entries.try_extend_from_slice(&other.entries);
+        self.map_block = other.map_block;
+        self.map_item = other.map_item;
     }
 }

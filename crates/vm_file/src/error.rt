@@ -26,3 +26,21 @@ pub enum OpenError {
     #[error("memory")]
     Memory,
 }
+
+/// Why a commit was not made. After the first three the file is as it was; after `Disk` it is
+/// sure of the pair that it kept, or unsure.
+#[derive(Clone, Copy, Debug, Drop, PartialEq, Eq, Error)]
+pub enum CommitError {
+    /// The file is unsure: an earlier commit failed when it wrote the selector.
+    #[error("unsure")]
+    Unsure,
+    /// The pair is longer than the area.
+    #[error("too big")]
+    TooBig,
+    /// An allocation was refused.
+    #[error("memory")]
+    Memory,
+    /// The device failed.
+    #[error("disk")]
+    Disk,
+}

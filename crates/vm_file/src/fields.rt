@@ -1,7 +1,8 @@
 //! The fields of a file, in bytes that were read.
 ghost use Rattle.std.specs.Prelude.{◌≡◌, ◌+◌, ◌<◌, ◌≤◌, ◌^◌, ◌%◌, true, IfOk, length, not, ◌==◌};
 ghost use Rattle.std.specs.List.{position_or_len};
-ghost use Rattle.vm_file.specs.Directories.{has_block, has_group, is_entry, may_be_map_block, may_be_map_group, may_be_map_item, entries_length, directory_length};
+ghost use Rattle.vm_file.specs.Directories.{are_entries, directory_length, entries_length, has_block, has_group, is_directory, is_entry};
+ghost use Rattle.vm_file.specs.Directories.{may_be_map_block, may_be_map_group, may_be_map_item};
 ghost use Rattle.vm_file.specs.Heaps.{is_block_size};
 ghost use Rattle.vm_file.specs.State.{place_in};
 ghost use Rattle.vm_file.specs.Reading.{area_size_at, count_at, head_at, header_at, is_area, maps_at, word_at, zeros_at};
@@ -75,6 +76,32 @@ fn has_group(entries: &[Entry], h: u16) -> bool
     ensures { result ≡ has_group entries.now h }
 {
     entries.iter().any(|e| e.h == h && e.uid == GROUP_UID)
+}
+
+/// Whether handles ascend to 1,024 and lengths are legal block sizes.
+fn are_entries(entries: &[Entry]) -> bool
+    ensures { result ≡ are_entries 0 entries.now }
+{
+    let mut last = 0;
+    for e in entries {
+        if !(last < e.h && e.h <= 1024 && is_block_size(e.len)) {
+            return false;
+        }
+        last = e.h;
+    }
+    true
+}
+
+/// Whether it is a legal directory.
+pub(crate) fn is_directory(directory: &Directory) -> bool
+    ensures { result ≡ is_directory directory.now }
+{
+    let entries = directory.entries.as_slice();
+    let (group, item) = directory.map_item;
+    are_entries(entries)
+        && (directory.map_block == 0 || has_block(entries, directory.map_block))
+        && (group == 0 || has_group(entries, group))
+        && (group != 0 || item == 0)
 }
 
 /// The map block, and the group and chunk of the map item, behind these entries.

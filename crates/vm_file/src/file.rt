@@ -1,18 +1,20 @@
 //! Files that are open.
-ghost use Rattle.std.specs.Prelude.{◌≡◌, ◌+◌, ◌*◌, ◌≤◌, ℕ, List, Ok, true, false, MatchResult, IfOk, OnOk, OnErr, length};
+ghost use Rattle.std.specs.Prelude.{◌≡◌, ◌+◌, ◌*◌, ◌≤◌, ◌<◌, ◌↔◌, ℕ, List, Ok, Err, true, false, not, MatchResult, IfOk, IfErr, OnOk, OnErr, IsTrue, length};
 ghost use Rattle.geos_model.specs.Block.{handle_word};
 ghost use Rattle.geos_model.specs.Heap.{IsHeap};
 ghost use Rattle.vm_file.specs.Device.{Only, Passes, Rose};
-ghost use Rattle.vm_file.specs.Outcomes.{IsCaused, IsRefused, ReadsOnly};
+ghost use Rattle.vm_file.specs.Outcomes.{CausesDisk, IsCaused, IsRefused, ReadsOnly};
 ghost use Rattle.vm_file.specs.Reading.{file_at};
 
+use crate::commit::{How, Nothing, Source, are_there, keep, length_after, selector_of};
 use crate::create::write_new;
-use crate::device::{Device, Disk};
+use crate::device::{Device, Disk, write_durably};
 use crate::directory::Directory;
-use crate::error::{CreateError, OpenError};
+use crate::error::{CommitError, CreateError, OpenError};
 use crate::fields::{directory_length, place_in};
 use crate::opened::{Opened, base_of, read_file};
 use crate::reader::read_block;
+use crate::spell::{put_again, spell_directory};
 use std::alloc::Global;
 use std::marker::Model;
 
@@ -41,10 +43,13 @@ impl<D: Device + Drop> Model for VmFile<D> {
 
 impl<D: Device + Drop> VmFile<D> {
     ghost use Rattle.lmem_raw.specs.Bytes.{with_part};
-    ghost use Rattle.vm_file.specs.Contents.{listed};
-    ghost use Rattle.vm_file.specs.Spelling.{empty_contents, empty_pair, new_file};
+    ghost use Rattle.vm_file.specs.Committing.{FindsOneOf, FindsOr, IsAfter, MayCommit, Spells};
+    ghost use Rattle.vm_file.specs.Committing.{contents_from, current_after, kept_after, length_after, saved_after};
+    ghost use Rattle.vm_file.specs.Contents.{contents_spelling, listed, pair_in, pair_spelling};
+    ghost use Rattle.vm_file.specs.Directories.{directory_length, is_directory};
+    ghost use Rattle.vm_file.specs.Spelling.{Puts, empty_contents, empty_pair, new_file};
     ghost use Rattle.vm_file.specs.Reading.{is_area};
-    ghost use Rattle.vm_file.specs.State.{FileState, Finds, HasBlock, bytes_of_block, file_of, pair_of};
+    ghost use Rattle.vm_file.specs.State.{FileState, Finds, HasBlock, IsOther, bytes_of_block, file_of, pair_of};
 
     /// Makes a file on a device: writes the header, the selector and two empty directories,
     /// and ends with a `sync`. `area` is a legal area size, and the device has room for two
@@ -126,14 +131,16 @@ impl<D: Device + Drop> VmFile<D> {
 
     /// The current directory.
     pub fn current(&self) -> &Directory
-        ensures { result.now ≡ self.now.current }
+        ensures same { result.now ≡ self.now.current }
+        ensures legal { is_directory result.now ≡ true }
     {
         &self.current
     }
 
     /// The saved directory.
     pub fn saved(&self) -> &Directory
-        ensures { result.now ≡ self.now.saved }
+        ensures same { result.now ≡ self.now.saved }
+        ensures legal { is_directory result.now ≡ true }
     {
         &self.saved
     }
@@ -153,6 +160,7 @@ impl<D: Device + Drop> VmFile<D> {
         // `open` finds what it would have found.
         ensures reads { ReadsOnly D.image D.honest D.may_leave D.may_have_left self.old.device self.new.device }
         ensures any_moment { D.honest self.old.device → Passes D.may_have_left self.old.device self.new.device (Finds D.image self.old) }
+        ensures stopped { D.honest self.old.device → (c : List ℕ) → D.may_have_left self.old.device self.new.device c → Finds D.image self.old c }
         ensures stop { D.honest self.old.device → (c : List ℕ) → D.may_leave self.new.device c → Finds D.image self.old c }
     {
         let base = base_of(self.area, self.second);
@@ -174,12 +182,232 @@ impl<D: Device + Drop> VmFile<D> {
         // `open` finds what it would have found.
         ensures reads { ReadsOnly D.image D.honest D.may_leave D.may_have_left self.old.device self.new.device }
         ensures any_moment { D.honest self.old.device → Passes D.may_have_left self.old.device self.new.device (Finds D.image self.old) }
+        ensures stopped { D.honest self.old.device → (c : List ℕ) → D.may_have_left self.old.device self.new.device c → Finds D.image self.old c }
         ensures stop { D.honest self.old.device → (c : List ℕ) → D.may_leave self.new.device c → Finds D.image self.old c }
     {
         let base = base_of(self.area, self.second);
         let first = u64::from(directory_length(&self.current));
         let at = base + first + 2 + u64::from(place_in(&self.saved.entries, h));
         read_block(&mut self.device, at, h, into)
+    }
+
+    /// Whether this directory may be committed with these blocks: it is legal, and each of its
+    /// blocks is in memory as a heap of its length under its handle or, where none is in
+    /// memory, in the current directory at that length.
+    pub fn may_commit<S: Source>(&self, cur: &Directory, source: &S) -> bool
+        ensures { IsTrue result ↔ MayCommit (S.resident_bytes source.now) self.now.current cur.now }
+    {
+        cur.is_legal() && are_there(source, &self.current, &cur.entries)
+    }
+
+    /// Keeps one of the pairs that `How` names. `source` has blocks that are in memory: a block
+    /// of `cur` is taken from there where it is resident there, else it is the one that the
+    /// current directory has at that handle.
+    ///
+    /// The memory for the pair is taken first, and given back at the end. What the pair needs
+    /// from the device is read. Then there are four device calls: the area that is not selected
+    /// is written, the pair's bytes and no more, and made to last; so is the selector. A stop
+    /// at any moment leaves a file in which `open` finds the pair from before or the new one.
+    ///
+    /// `Unsure` where the file is unsure, `TooBig` where it is sure and the pair is longer than
+    /// the area, `Memory` where an allocation is refused: nothing has happened. `Disk` where
+    /// the device fails, or gives bytes that are no heap with their entry's handle. The file is
+    /// then sure of the pair from before or, where one of the last two calls failed, unsure:
+    /// `open` finds the one or the other, and the file goes on with the pair from before.
+    pub fn commit<S: Source>(
+        &mut self,
+        how: How,
+        cur: &Directory,
+        source: &S,
+    ) -> Result<(), CommitError>
+        requires { MayCommit (S.resident_bytes source.now) self.old.current cur.now }
+        ensures unsure { (result ≡ Err CommitError.Unsure) ↔ (self.old.sure ≡ false) }
+        ensures too_big { (result ≡ Err CommitError.TooBig) ↔ (self.old.sure ≡ true) × (self.old.area < length_after how cur.now self.old.saved) }
+        ensures done { OnOk result (self.new ≡ record {
+          device = self.new.device;
+          area = self.old.area;
+          second = not self.old.second;
+          sure = true;
+          current = current_after how cur.now self.old.saved;
+          saved = saved_after how cur.now self.old.saved;
+        }) }
+        ensures refused { IfErr result (λ e. IsAfter e self.old self.new) }
+        ensures pair { D.honest self.old.device → MatchResult result
+            (λ _. pair_of D.image self.new ≡ kept_after D.image (S.resident_bytes source.now) how cur.now self.old)
+            (λ _. pair_of D.image self.new ≡ pair_of D.image self.old) }
+        // Where it turned unsure, the other area holds the new pair.
+        ensures other { D.honest self.old.device → self.old.sure ≡ true → self.new.sure ≡ false
+            → IsOther D.image self.new (kept_after D.image (S.resident_bytes source.now) how cur.now self.old) }
+        // What `open` finds after a stop at any moment of the call, and after one behind it.
+        ensures any_moment { D.honest self.old.device → Passes D.may_have_left self.old.device self.new.device (FindsOr D.image self.old
+            (kept_after D.image (S.resident_bytes source.now) how cur.now self.old)) }
+        ensures stopped { D.honest self.old.device → (c : List ℕ) → D.may_have_left self.old.device self.new.device c
+            → FindsOr D.image self.old (kept_after D.image (S.resident_bytes source.now) how cur.now self.old) c }
+        ensures stop { D.honest self.old.device → (c : List ℕ) → D.may_leave self.new.device c → Finds D.image self.new c }
+        ensures honest { D.honest self.old.device → D.honest self.new.device }
+        ensures was_honest { D.honest self.new.device → D.honest self.old.device }
+        ensures ok { OnOk result (D.failed self.new.device ≡ D.failed self.old.device) }
+        ensures cause { D.honest self.old.device → result ≡ Err CommitError.Disk → Rose (D.failed self.old.device) (D.failed self.new.device) }
+    {
+        if !self.sure {
+            return Err(CommitError::Unsure);
+        }
+        let length = length_after(how, cur, &self.saved);
+        if self.area < length {
+            return Err(CommitError::TooBig);
+        }
+        let mut bytes = match Vec::from_elem(self.alloc, 0u8, length as usize) {
+            Ok(bytes) => bytes,
+            Err(_) => return Err(CommitError::Memory),
+        };
+        match self.spell(how, cur, source, &mut bytes) {
+            Ok(()) => {}
+            Err(Disk) => return Err(CommitError::Disk),
+        }
+        match self.select(how, cur, &bytes) {
+            Ok(()) => Ok(()),
+            Err(Disk) => Err(CommitError::Disk),
+        }
+    }
+
+    /// Writes a directory behind the first `at` bytes: its blocks are those of the source where
+    /// they are resident there, else those of the current directory.
+    fn spell_current<S: Source>(
+        &mut self,
+        cur: &Directory,
+        source: &S,
+        into: &mut [u8],
+        at: usize,
+    ) -> Result<(), Disk>
+        requires may { MayCommit (S.resident_bytes source.now) self.old.current cur.now }
+        requires room { at + directory_length cur.now ≤ length into.old }
+        ensures long { length into.new ≡ length into.old }
+        ensures put { D.honest self.old.device → OnOk result (Puts at (at + directory_length cur.now)
+            (contents_spelling (contents_from (S.resident_bytes source.now) (pair_of D.image self.old).cur.blocks cur.now)) into.old into.new) }
+        ensures same { self.new ≡ record self.old { device = self.new.device } }
+        ensures pair { pair_of D.image self.new ≡ pair_of D.image self.old }
+        ensures ok { OnOk result (D.failed self.new.device ≡ D.failed self.old.device) }
+        ensures cause { D.honest self.old.device → OnErr result (Rose (D.failed self.old.device) (D.failed self.new.device)) }
+        ensures reads { ReadsOnly D.image D.honest D.may_leave D.may_have_left self.old.device self.new.device }
+    {
+        let from = base_of(self.area, self.second) + 2;
+        spell_directory(&mut self.device, from, &self.current, cur, source, into, at)
+    }
+
+    /// Writes the saved directory with its blocks behind the first `at` bytes.
+    fn spell_saved(&mut self, into: &mut [u8], at: usize) -> Result<(), Disk>
+        requires room { at + directory_length self.old.saved ≤ length into.old }
+        ensures long { length into.new ≡ length into.old }
+        ensures put { D.honest self.old.device → OnOk result (Puts at (at + directory_length self.old.saved)
+            (contents_spelling (pair_of D.image self.old).saved) into.old into.new) }
+        ensures same { self.new ≡ record self.old { device = self.new.device } }
+        ensures pair { pair_of D.image self.new ≡ pair_of D.image self.old }
+        ensures ok { OnOk result (D.failed self.new.device ≡ D.failed self.old.device) }
+        ensures cause { D.honest self.old.device → OnErr result (Rose (D.failed self.old.device) (D.failed self.new.device)) }
+        ensures reads { ReadsOnly D.image D.honest D.may_leave D.may_have_left self.old.device self.new.device }
+    {
+        let first = u64::from(directory_length(&self.current));
+        let from = base_of(self.area, self.second) + first + 2;
+        spell_directory(
+            &mut self.device,
+            from,
+            &self.saved,
+            &self.saved,
+            &Nothing,
+            into,
+            at,
+        )
+    }
+
+    /// Fills a buffer with the bytes of the pair that a commit keeps.
+    fn spell<S: Source>(
+        &mut self,
+        how: How,
+        cur: &Directory,
+        source: &S,
+        into: &mut [u8],
+    ) -> Result<(), Disk>
+        requires may { MayCommit (S.resident_bytes source.now) self.old.current cur.now }
+        requires room { length into.old ≡ length_after how cur.now self.old.saved }
+        ensures long { length into.new ≡ length into.old }
+        ensures spelled { D.honest self.old.device → OnOk result (into.new
+            ≡ pair_spelling (kept_after D.image (S.resident_bytes source.now) how cur.now self.old)) }
+        ensures same { self.new ≡ record self.old { device = self.new.device } }
+        ensures pair { pair_of D.image self.new ≡ pair_of D.image self.old }
+        ensures ok { OnOk result (D.failed self.new.device ≡ D.failed self.old.device) }
+        ensures cause { D.honest self.old.device → OnErr result (Rose (D.failed self.old.device) (D.failed self.new.device)) }
+        ensures reads { ReadsOnly D.image D.honest D.may_leave D.may_have_left self.old.device self.new.device }
+    {
+        match how {
+            How::Update => match self.spell_current(cur, source, into, 0) {
+                Ok(()) => self.spell_saved(into, directory_length(cur) as usize),
+                Err(Disk) => Err(Disk),
+            },
+            How::Save => match self.spell_current(cur, source, into, 0) {
+                Ok(()) => {
+                    put_again(into, directory_length(cur) as usize);
+                    Ok(())
+                }
+                Err(Disk) => Err(Disk),
+            },
+            How::Revert => {
+                let n = directory_length(&self.saved) as usize;
+                match self.spell_saved(into, 0) {
+                    Ok(()) => {
+                        put_again(into, n);
+                        Ok(())
+                    }
+                    Err(Disk) => Err(Disk),
+                }
+            }
+        }
+    }
+
+    /// Writes the area that is not selected, and then the selector: two device calls each.
+    fn select(&mut self, how: How, cur: &Directory, bytes: &[u8]) -> Result<(), Disk>
+        requires sure { self.old.sure ≡ true }
+        requires legal { is_directory cur.now ≡ true }
+        requires fits { (length bytes.now ≡ length_after how cur.now self.old.saved) × (length bytes.now ≤ self.old.area) }
+        requires spelled { D.honest self.old.device → Spells (current_after how cur.now self.old.saved) (saved_after how cur.now self.old.saved)
+            (pair_in (current_after how cur.now self.old.saved) (saved_after how cur.now self.old.saved) bytes.now) bytes.now }
+        ensures done { OnOk result (self.new ≡ record {
+          device = self.new.device;
+          area = self.old.area;
+          second = not self.old.second;
+          sure = true;
+          current = current_after how cur.now self.old.saved;
+          saved = saved_after how cur.now self.old.saved;
+        }) }
+        ensures kept { OnErr result (self.new ≡ record self.old { device = self.new.device; sure = self.new.sure }) }
+        ensures pair { D.honest self.old.device → MatchResult result
+            (λ _. pair_of D.image self.new ≡ pair_in (current_after how cur.now self.old.saved) (saved_after how cur.now self.old.saved) bytes.now)
+            (λ _. pair_of D.image self.new ≡ pair_of D.image self.old) }
+        ensures other { D.honest self.old.device → self.new.sure ≡ false
+            → IsOther D.image self.new (pair_in (current_after how cur.now self.old.saved) (saved_after how cur.now self.old.saved) bytes.now) }
+        ensures any_moment { D.honest self.old.device → Passes D.may_have_left self.old.device self.new.device
+            (FindsOneOf (pair_of D.image self.old) (pair_in (current_after how cur.now self.old.saved) (saved_after how cur.now self.old.saved) bytes.now)) }
+        ensures stop { D.honest self.old.device → (c : List ℕ) → D.may_leave self.new.device c → Finds D.image self.new c }
+        ensures honest { D.honest self.old.device → D.honest self.new.device }
+        ensures was_honest { D.honest self.new.device → D.honest self.old.device }
+        ensures cause { CausesDisk (D.failed self.old.device) (D.failed self.new.device) result }
+    {
+        let base = base_of(self.area, !self.second);
+        match write_durably(&mut self.device, base, bytes) {
+            Ok(()) => {}
+            Err(Disk) => return Err(Disk),
+        }
+        let selector = [selector_of(!self.second)];
+        match write_durably(&mut self.device, 512, &selector) {
+            Ok(()) => {
+                self.second = !self.second;
+                keep(&mut self.current, &mut self.saved, how, cur);
+                Ok(())
+            }
+            Err(Disk) => {
+                self.sure = false;
+                Err(Disk)
+            }
+        }
     }
 
     /// The device. Nothing is written.

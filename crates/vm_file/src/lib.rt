@@ -6,6 +6,7 @@
 //! what a stop leaves. (GEOS SDK Concepts Book, chapter Virtual Memory.)
 #![tactic(auto)]
 
+mod commit;
 mod create;
 mod device;
 mod directory;
@@ -17,11 +18,13 @@ mod file;
 mod memory;
 mod opened;
 mod reader;
+mod spell;
 
+pub use commit::{How, Source};
 pub use device::{Device, Disk};
 pub use directory::{Directory, Entry, MOST_BLOCKS};
 pub use disk_file::FileDevice;
-pub use error::{CreateError, OpenError};
+pub use error::{CommitError, CreateError, OpenError};
 pub use faulty::FaultDevice;
 pub use file::VmFile;
 pub use memory::MemoryDevice;

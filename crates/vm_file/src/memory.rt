@@ -43,7 +43,7 @@ impl MemoryDevice {
     }
 }
 
-fn write_part(bytes: &mut [u8], at: usize, from: &[u8])
+pub(crate) fn write_part(bytes: &mut [u8], at: usize, from: &[u8])
     requires { at + length from.now ≤ length bytes.old }
     ensures { bytes.new ≡ with_part bytes.old at from.now }
 {

@@ -12,5 +12,5 @@ found d e o entry n same is some len =
 
 pub block-requires : goal.block-requires
 block-requires g c =
-    found c.in-Ok.file.current c.current-2.result.now c.entry-2.result c.in-Some.entry (length c.deref_mut.result.now) c.current-2.ensures c.entry-2.ensures c.in-Some.is
+    found c.in-Ok.file.current c.current-2.result.now c.entry-2.result c.in-Some.entry (length c.deref_mut.result.now) c.current-2.ensures.same c.entry-2.ensures c.in-Some.is
     (omega (arith, c.in_ok-bytes-in-Some.ensures.len, ap length c.deref_mut.ensures.value, c.in_ok-bytes-in-Some.bytes.ok))

@@ -6,6 +6,7 @@ use Rattle.geos_model.specs.Heap.{IsHeap}
 use Rattle.vm_file.specs.Device.{Passes, Rose}
 use Rattle.vm_file.specs.State.{FileState, Finds, HasBlock, bytes_of_block, pair_of, place_in}
 use Rattle.vm_file.proofs.BlockLaws.{saved_there, saved_heap}
+use Rattle.vm_file.proofs.Moments.{at_any_moment}
 use Rattle.vm_file.proofs.StopLaws.{finds}
 use Rattle.vm_file.proofs.file.VmFile.saved_block.Goals as goal
 
@@ -38,3 +39,10 @@ returns-clause-stop g c =
     let d = g.D.Device in
     let G : FileState g.row.D.Denot → Type 0 = λ f. d.honest f.device → (x : List ℕ) → d.may_leave c.read_block.new.device x → Finds d.image f x in
     subst G c.self.view_is (λ h x l. finds d.image d.may_leave _ (c.self.invariant.holds h) x (c.read_block.ensures.reads.stop h x l))
+
+pub returns-clause-stopped : goal.returns-clause-stopped
+returns-clause-stopped g c =
+    let d = g.D.Device in
+    let G : FileState g.row.D.Denot → Type 0 = λ f. d.honest f.device → (x : List ℕ) → d.may_leave f.device x → Finds d.image f x in
+    let found_old = subst G c.self.view_is (λ h x l. finds d.image d.may_leave _ (c.self.invariant.holds h) x l) in
+    λ h. at_any_moment d.may_have_left c.args.self.now.device c.read_block.new.device _ (returns-clause-any_moment g c h) (λ x l. found_old h x (g.met.D.Device.at_once c.args.self.now.device x l))

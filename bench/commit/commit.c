@@ -1,0 +1,47 @@
+// Writes the same bytes to a file as a commit does, and makes them last: an area, and then the selector; and reads a file whole.
+#define _GNU_SOURCE
+#include <fcntl.h>
+#include <stdio.h>
+#include <stdlib.h>
+#include <time.h>
+#include <unistd.h>
+
+static double now(void) {
+    struct timespec t;
+    clock_gettime(CLOCK_MONOTONIC, &t);
+    return 1e9 * t.tv_sec + t.tv_nsec;
+}
+
+static void measure(long count, long size, long area, int rounds) {
+    long bytes = 8 + count * (6 + size) + 8;
+    unsigned char *from = calloc(bytes, 1);
+    int file = open("commit.raw", O_RDWR | O_CREAT | O_TRUNC, 0600);
+    if (!from || file < 0 || ftruncate(file, 1024 + 2 * area)) exit(1);
+    unsigned char selector = 0;
+    double start = now();
+    for (int i = 0; i < rounds; i++) {
+        selector = !selector;
+        if (pwrite(file, from, bytes, 1024 + selector * area) != bytes || fdatasync(file)) exit(1);
+        if (pwrite(file, &selector, 1, 512) != 1 || fdatasync(file)) exit(1);
+    }
+    double written = now() - start;
+    // once before it is timed, so that the buffer is there
+    double read = 0;
+    for (int i = 0; i < 2; i++) {
+        start = now();
+        if (pread(file, from, bytes, 1024 + selector * area) != bytes) exit(1);
+        read = now() - start;
+    }
+    printf("%ld %ld %.0f %.0f\n", count, size, written / rounds, read);
+    close(file);
+    unlink("commit.raw");
+    free(from);
+}
+
+int main(void) {
+    measure(1, 4096, 4608, 200);
+    measure(16, 4096, 66048, 200);
+    measure(256, 4096, 1050624, 50);
+    measure(256, 65520, 16777216, 5);
+    return 0;
+}

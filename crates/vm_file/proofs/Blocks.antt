@@ -1,0 +1,78 @@
+-- A block of which the bytes are taken from a source, or read.
+use Rattle.std.proofs.Common.{◌≡◌, ℕ, zero, suc, ◌+◌, ◌<◌, ◌≤◌, true, List, [], ◌∷◌, ◌++◌, length, take, map, get_or, Option, Some, None, refl, ap, sym, ◌∙◌, subst, arith, append_assoc}
+use Rattle.std.specs.Prelude.{IfSome, unwrap_or}
+use Rattle.std.specs.Borrow.{Bor}
+use Rattle.std.specs.List.{flat_map, list_all}
+use Rattle.std.proofs.lemmas.Bool.{eqb-true}
+use Rattle.std.proofs.lemmas.List.{append-nil}
+use Rattle.geos_model.specs.Bytes.{word_bytes}
+use Rattle.geos_model.specs.Block.{handle_word}
+use Rattle.geos_model.specs.Heap.{IsHeap}
+use Rattle.vm_file.specs.declared.directory.Entry.{Entry}
+use Rattle.vm_file.specs.Committing.{Shows}
+use Rattle.vm_file.specs.Contents.{Block, block_spelling, is_filled}
+use Rattle.vm_file.specs.Directories.{entries_length}
+use Rattle.vm_file.specs.Spelling.{Puts}
+use Rattle.vm_file.proofs.HeapTests.{both, heap-sound}
+use Rattle.vm_file.proofs.Lengths.{entries_length-more}
+use Rattle.vm_file.proofs.Putting.{puts_then}
+
+-- what a source shows is what is resident
+pub shown_some : (shown : Bor (List ℕ)) (o : Option (List ℕ)) → Shows (Some shown) o → o ≡ Some shown.now
+shown_some shown (Some bytes) is = ap Some (sym is)
+shown_some shown None is = absurd is
+
+pub shown_none : (o : Option (List ℕ)) → Shows None o → o ≡ None
+shown_none (Some bytes) is = absurd is
+shown_none None is = refl
+
+pub some_length : (e : Entry) (o : Option (List ℕ)) (ws : List ℕ) → o ≡ Some ws → IfSome o (λ bytes. length bytes ≡ e.len) → length ws ≡ e.len
+some_length e o ws is long = (let P : Option (List ℕ) → Type 0 = λ x. IfSome x (λ bytes. length bytes ≡ e.len) in subst P is long)
+
+-- an entry and, behind it, as many bytes as it says are a block
+pub block_puts : (e : Entry) (at : ℕ) (bytes ws old mid new : List ℕ) → bytes ≡ ws → length ws ≡ e.len → Puts at (at + 6) (word_bytes e.h ++ word_bytes e.uid ++ word_bytes e.len) old mid →
+    Puts (at + 6) (at + (6 + e.len)) ws mid new → Puts at (at + (6 + e.len)) (block_spelling (let b : Block = record { h = e.h; uid = e.uid; bytes = bytes } in b)) old new
+block_puts e at bytes ws old mid new is long head body =
+    let P : List ℕ → Type 0 = λ xs. Puts at (at + (6 + e.len)) (block_spelling (let b : Block = record { h = e.h; uid = e.uid; bytes = xs } in b)) old new in
+    let H : ℕ → Type 0 = λ n. Puts at (at + 6) (word_bytes e.h ++ word_bytes e.uid ++ word_bytes n) old mid in
+    subst P (sym is) (puts_then at (at + 6) (at + (6 + e.len)) (word_bytes e.h ++ word_bytes e.uid ++ word_bytes (length ws)) ws old mid new (subst H (sym long) head) body)
+
+-- a block that is not resident is filled where its bytes are a heap under its handle
+pub filled_stored : (h uid : ℕ) (o : Option (List ℕ)) (stored : List ℕ) → o ≡ None → is_filled (let b : Block = record { h = h; uid = uid; bytes = unwrap_or o stored } in b) ≡ true →
+    IsHeap stored × (handle_word stored ≡ h)
+filled_stored h uid o stored none filled =
+    let P : Option (List ℕ) → Type 0 = λ x. is_filled (let b : Block = record { h = h; uid = uid; bytes = unwrap_or x stored } in b) ≡ true in
+    let f = both _ _ (subst P none filled) in
+    (heap-sound stored f.0, eqb-true _ _ f.1)
+
+-- entries, and a part of them
+pub entries_length-take : (n : ℕ) (es : List Entry) → entries_length (take n es) ≤ entries_length es
+entries_length-take zero es = omega arith
+entries_length-take (suc n) [] = omega arith
+entries_length-take (suc n) (e ∷ es) = omega (arith, entries_length-take n es)
+
+pub entry_fits : (es : List Entry) (i : ℕ) (d : Entry) → i < length es → entries_length (take i es) + (6 + (get_or es i d).len) ≤ entries_length es
+entry_fits es i d h = omega (arith, entries_length-more es i d h, entries_length-take (i + 1) es)
+
+module _ (f : Entry → Block) where
+  -- one more block behind those that are written
+  spelled_more : (es : List Entry) (i : ℕ) (d : Entry) → i < length es → flat_map block_spelling (map f (take (suc i) es)) ≡ flat_map block_spelling (map f (take i es)) ++ block_spelling (f (get_or es i d))
+  spelled_more [] i d h = absurd (omega arith)
+  spelled_more (e ∷ es) zero d h = append-nil (block_spelling (f e))
+  spelled_more (e ∷ es) (suc i) d h =
+      ap (λ xs. block_spelling (f e) ++ xs) (spelled_more es i d (omega arith))
+      ∙ sym (append_assoc (block_spelling (f e)) (flat_map block_spelling (map f (take i es))) (block_spelling (f (get_or es i d))))
+
+  pub blocks_put : (es : List Entry) (i : ℕ) (d : Entry) (n m k : ℕ) (old mid new : List ℕ) → i < length es → Puts n m (flat_map block_spelling (map f (take i es))) old mid →
+      Puts m k (block_spelling (f (get_or es i d))) mid new → Puts n k (flat_map block_spelling (map f (take (i + 1) es))) old new
+  blocks_put es i d n m k old mid new h so_far one =
+      let next : i + 1 ≡ suc i = omega arith in
+      let P : List ℕ → Type 0 = λ xs. Puts n k xs old new in
+      subst P (sym (ap (λ j. flat_map block_spelling (map f (take j es))) next ∙ spelled_more es i d h))
+      (puts_then n m k (flat_map block_spelling (map f (take i es))) (block_spelling (f (get_or es i d))) old mid new so_far one)
+
+  -- each of the blocks is filled
+  pub filled_at : (es : List Entry) (i : ℕ) (d : Entry) → i < length es → list_all is_filled (map f es) ≡ true → is_filled (f (get_or es i d)) ≡ true
+  filled_at [] i d h all = absurd (omega arith)
+  filled_at (e ∷ es) zero d h all = (both (is_filled (f e)) (list_all is_filled (map f es)) all).0
+  filled_at (e ∷ es) (suc i) d h all = filled_at es i d (omega arith) (both (is_filled (f e)) (list_all is_filled (map f es)) all).1

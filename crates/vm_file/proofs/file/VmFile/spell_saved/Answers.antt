@@ -1,0 +1,34 @@
+use Rattle.std.proofs.Common.{◌≡◌, ℕ, ◌+◌, true, sym, subst, arith}
+use Rattle.std.specs.Prelude.{OnOk, OnErr}
+use Rattle.std.specs.List.{list_all}
+use Rattle.vm_file.specs.Contents.{Contents, contents_spelling, is_filled, listed}
+use Rattle.vm_file.specs.Device.{Rose}
+use Rattle.vm_file.specs.Directories.{is_directory, directory_length}
+use Rattle.vm_file.specs.Spelling.{Puts}
+use Rattle.vm_file.specs.Reading.{area_of, base_of}
+use Rattle.vm_file.specs.State.{FileState, pair_of}
+use Rattle.vm_file.proofs.HeapTests.{both}
+use Rattle.vm_file.proofs.ReadLaws.{pair_ok}
+use Rattle.vm_file.proofs.Sources.{saved_contents}
+use Rattle.vm_file.proofs.file.VmFile.spell_saved.Goals as goal
+
+pub returns-clause-put : goal.returns-clause-put
+returns-clause-put g c =
+    let d = g.D.Device in
+    let P : ℕ → Contents → Type 0 = λ n x. OnOk c.spell_directory.result (Puts c.args.at (c.args.at + n) (contents_spelling x) c.args.into.now c.spell_directory.new.into) in
+    let G : FileState g.row.D.Denot → Type 0 = λ f. d.honest f.device → P (directory_length f.saved) (pair_of d.image f).saved in
+    let same = saved_contents d.image d.honest d.may_leave _ c.self.invariant (c.base_of.result + c.from-first.result + 2) (omega (arith, c.base_of.ensures.exact, c.from-first.ensures, c.directory_length.ensures.exact)) in
+    subst G c.self.view_is (λ h. subst (P _) same (c.spell_directory.ensures.put h))
+
+pub returns-clause-cause : goal.returns-clause-cause
+returns-clause-cause g c =
+    let d = g.D.Device in
+    let F : Contents → Type 0 = λ x. list_all is_filled x.blocks ≡ true in
+    let G : FileState g.row.D.Denot → Type 0 = λ f. d.honest f.device → OnErr c.spell_directory.result (Rose (d.failed f.device) (d.failed c.spell_directory.new.device)) in
+    let same = saved_contents d.image d.honest d.may_leave _ c.self.invariant (c.base_of.result + c.from-first.result + 2) (omega (arith, c.base_of.ensures.exact, c.from-first.ensures, c.directory_length.ensures.exact)) in
+    let i = c.self.inside in
+    let f : FileState g.row.D.Denot = record { device = i.device; area = i.area; second = i.second; sure = i.sure; current = i.current; saved = i.saved } in
+    let p = pair_of d.image f in
+    subst G c.self.view_is (λ h.
+    let legal = (pair_ok (base_of f.area f.second) (area_of (d.image f.device) f.area f.second) p (c.self.invariant.holds h).pair).saved in
+    c.spell_directory.ensures.cause h (subst F (sym same) (both (is_directory (listed p.saved)) (list_all is_filled p.saved.blocks) legal).1))

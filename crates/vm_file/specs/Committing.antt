@@ -1,0 +1,101 @@
+-- What a commit keeps, and what a stop during it leaves.
+use Rattle.std.specs.Prelude.{◌≡◌, ◌⊎◌, ℕ, ◌+◌, true, List, length, map, Option, Some, None, Ok, unwrap_or, All, MatchOption, IfSome}
+use Rattle.std.specs.Borrow.{Bor}
+use Rattle.lmem_raw.specs.Bytes.{part}
+use Rattle.geos_model.specs.Block.{handle_word}
+use Rattle.geos_model.specs.Heap.{IsHeap}
+use Rattle.vm_file.specs.declared.commit.How.{How}
+use Rattle.vm_file.specs.declared.commit.How.TheVariants.{Update, Save, Revert}
+use Rattle.vm_file.specs.declared.directory.Entry.{Entry}
+use Rattle.vm_file.specs.declared.directory.Directory.{Directory}
+use Rattle.vm_file.specs.Contents.{Block, Contents, Pair, listed, is_contents, pair_spelling}
+use Rattle.vm_file.specs.Directories.{is_directory, directory_length}
+use Rattle.vm_file.specs.Reading.{found}
+use Rattle.vm_file.specs.declared.error.CommitError.{CommitError}
+use Rattle.vm_file.specs.declared.error.CommitError.TheVariants.{Unsure, TooBig, Memory, Disk}
+use Rattle.vm_file.specs.State.{FileState, Finds, HasBlock, bytes_of_block, pair_of, place_in}
+
+-- a source shows the bytes that are resident under a handle, or that none are there
+abbrev pub Shows : Option (Bor (List ℕ)) → Option (List ℕ) → Type 0
+Shows (Some shown) (Some bytes) = shown.now ≡ bytes
+Shows None None = Unit {0}
+Shows shown resident = ⊥
+
+-- the block of an entry: its bytes where they are resident, else those of the block that the file keeps
+abbrev pub block_from : (ℕ → Option (List ℕ)) → List Block → Entry → Block
+block_from resident kept e = record { h = e.h; uid = e.uid; bytes = unwrap_or (resident e.h) (bytes_of_block kept e.h) }
+
+-- a directory with the bytes of its blocks
+abbrev pub contents_from : (ℕ → Option (List ℕ)) → List Block → Directory → Contents
+contents_from resident kept d = record { blocks = map (block_from resident kept) d.entries.items; map_block = d.map_block; map_item = d.map_item }
+
+-- the block of an entry is there: resident as a heap of its length under its handle, or in the directory that the file keeps at that length
+abbrev pub IsThere : (ℕ → Option (List ℕ)) → Directory → Entry → Type 0
+IsThere resident kept e = MatchOption (resident e.h)
+    (HasBlock kept e.h e.len)
+    (λ bytes. IsHeap bytes × (handle_word bytes ≡ e.h) × (length bytes ≡ e.len))
+
+-- a directory that may be committed: a legal one, and its blocks are there
+pub record MayCommit (resident : ℕ → Option (List ℕ)) (kept cur : Directory) : Type 0 where
+  pub legal : is_directory cur ≡ true
+  pub there : All (IsThere resident kept) cur.entries.items
+
+-- what is current after a commit: what was given or, where it reverts, what was saved
+abbrev pub current_after : {X : Type 0} → How → X → X → X
+current_after Update cur saved = cur
+current_after Save cur saved = cur
+current_after Revert cur saved = saved
+
+-- what is saved after a commit: what was, or, where it saves, what was given
+abbrev pub saved_after : {X : Type 0} → How → X → X → X
+saved_after Update cur saved = saved
+saved_after Save cur saved = cur
+saved_after Revert cur saved = saved
+
+-- the pair that is kept after a commit of these contents
+abbrev pub pair_after : How → Contents → Pair → Pair
+pair_after how cur before = record { cur = current_after how cur before.saved; saved = saved_after how cur before.saved }
+
+-- the pair that a file keeps after a commit of this directory, where these blocks are resident
+abbrev pub kept_after : {D : Type 0} → (D → List ℕ) → (ℕ → Option (List ℕ)) → How → Directory → FileState D → Pair
+kept_after image resident how cur f = pair_after how (contents_from resident (pair_of image f).cur.blocks cur) (pair_of image f)
+
+-- what that pair takes in an area
+abbrev pub length_after : How → Directory → Directory → ℕ
+length_after how cur saved = directory_length (current_after how cur saved) + directory_length (saved_after how cur saved)
+
+-- a file of which a commit was refused: where the device failed it may be unsure, and else nothing happened
+abbrev pub IsAfter : {D : Type 0} → CommitError → FileState D → FileState D → Type 0
+IsAfter Unsure old new = new ≡ old
+IsAfter TooBig old new = new ≡ old
+IsAfter Memory old new = new ≡ old
+IsAfter Disk old new = new ≡ record old { device = new.device; sure = new.sure }
+
+-- `open` finds what the file keeps, or this pair
+abbrev pub FindsOr : {D : Type 0} → (D → List ℕ) → FileState D → Pair → List ℕ → Type 0
+FindsOr image f after c = Finds image f c ⊎ (found c ≡ Ok after)
+
+-- `open` finds the one pair or the other
+abbrev pub FindsOneOf : Pair → Pair → List ℕ → Type 0
+FindsOneOf before after c = (found c ≡ Ok before) ⊎ (found c ≡ Ok after)
+
+-- the same block: where it is not resident, the bytes that stand in an image where these entries, which begin at an offset, have it
+abbrev pub block_read : (ℕ → Option (List ℕ)) → List ℕ → ℕ → List Entry → Entry → Block
+block_read resident image at kept e = record { h = e.h; uid = e.uid; bytes = unwrap_or (resident e.h) (part image (at + place_in kept e.h) e.len) }
+
+-- a directory with the bytes of these blocks
+abbrev pub contents_read : (ℕ → Option (List ℕ)) → List ℕ → ℕ → List Entry → Directory → Contents
+contents_read resident image at kept d =
+    record { blocks = map (block_read resident image at kept) d.entries.items; map_block = d.map_block; map_item = d.map_item }
+
+-- a block that is resident has the length of its entry
+abbrev pub HasLength : (ℕ → Option (List ℕ)) → Entry → Type 0
+HasLength resident e = IfSome (resident e.h) (λ bytes. length bytes ≡ e.len)
+
+-- the bytes spell this pair, a legal one, whose directories are these
+pub record Spells (cur saved : Directory) (pair : Pair) (bytes : List ℕ) : Type 0 where
+  pub spelled : bytes ≡ pair_spelling pair
+  pub cur_legal : is_contents pair.cur ≡ true
+  pub saved_legal : is_contents pair.saved ≡ true
+  pub cur_listed : listed pair.cur ≡ cur
+  pub saved_listed : listed pair.saved ≡ saved
