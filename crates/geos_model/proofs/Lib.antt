@@ -18,6 +18,10 @@ pub mod Lowest
 pub mod Fits
 pub mod Examples
 pub mod CallExamples
+pub mod ArrayExamples
+pub mod Joined
+pub mod ArraySpells
+pub mod ArrayReads
 pub mod Laws
 pub mod LegalBytes
 pub mod LegalChunks
