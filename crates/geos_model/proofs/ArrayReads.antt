@@ -1,7 +1,7 @@
 -- The array that bytes spell.
 use Rattle.std.proofs.Common.{◌≡◌, ◌≢◌, ℕ, zero, suc, ◌+◌, ◌-◌, ◌*◌, ◌<◌, ◌≤◌, true, false, List, [], ◌∷◌, ◌++◌, Some, None, length, take, drop, get_or, refl, ap, sym, ◌∙◌, subst, inl, inr, arith, length-append, length-take, length-drop}
 use Rattle.std.specs.Prelude.{nat_le, ◌==◌, ◌&&◌, if◌then◌else◌}
-use Rattle.std.proofs.lemmas.Bool.{cases_eq, cases_Bool, and_parts, eq-eqb, ne_eqb, eqb-true, leb-true}
+use Rattle.std.proofs.lemmas.Bool.{cases_eq, cases_Bool, and_parts, and_from, and_left, eq-eqb, ne_eqb, eqb-true, le-leb, leb-true}
 use Rattle.std.proofs.lemmas.List.{take-append-drop, drop-drop, drop_all, take_all}
 use Rattle.lmem_raw.specs.Bytes.{part}
 use Rattle.geos_model.specs.Bytes.{word}
@@ -183,3 +183,37 @@ reads bytes a small is = elim (cases_Bool (is_array bytes)) [
           | inl e ↦ (let q = eq-eqb (size_word bytes) 0 e in rw q (reads-varying bytes small third fourth e (rw q at both.1)))
           | inr ne ↦ (let q = ne_eqb (size_word bytes) 0 ne in rw q (reads-equal bytes small least third fourth ne (rw q at both.1)))
         ]
+
+-- bytes with a header, whose elements fill them, are an array
+inner-varying : (bytes : List ℕ) → has_header bytes ≡ true → size_word bytes ≡ 0 → is_array bytes ≡ are_varying bytes
+inner-varying bytes h e = ap (λ t. t && (if size_word bytes == 0 then are_varying bytes else are_equal bytes)) h ∙ (let q = eq-eqb (size_word bytes) 0 e in rw q refl)
+
+inner-equal : (bytes : List ℕ) → has_header bytes ≡ true → size_word bytes ≢ 0 → is_array bytes ≡ are_equal bytes
+inner-equal bytes h ne = ap (λ t. t && (if size_word bytes == 0 then are_varying bytes else are_equal bytes)) h ∙ (let q = ne_eqb (size_word bytes) 0 ne in rw q refl)
+
+arr-some : (bytes : List ℕ) → is_array bytes ≡ true → arr bytes ≡ Some (array_in bytes)
+unfolding arr
+arr-some bytes h = rw h refl
+
+arr-none : (bytes : List ℕ) → is_array bytes ≡ false → arr bytes ≡ None
+unfolding arr
+arr-none bytes h = rw h refl
+
+pub headed : (bytes : List ℕ) → 8 ≤ length bytes → word bytes 4 ≡ 0 → word bytes 6 ≡ 8 → has_header bytes ≡ true
+headed bytes least third fourth =
+    and_from (nat_le 8 (length bytes) && (word bytes 4 == 0)) (word bytes 6 == 8) (and_from (nat_le 8 (length bytes)) (word bytes 4 == 0) (le-leb 8 (length bytes) least) (eq-eqb (word bytes 4) 0 third)) (eq-eqb (word bytes 6) 8 fourth)
+
+pub not-headed : (bytes : List ℕ) → has_header bytes ≡ false → arr bytes ≡ None
+not-headed bytes h = arr-none bytes (and_left (has_header bytes) (if size_word bytes == 0 then are_varying bytes else are_equal bytes) h)
+
+pub varying-array : (bytes : List ℕ) → has_header bytes ≡ true → size_word bytes ≡ 0 → are_varying bytes ≡ true → arr bytes ≡ Some (array_in bytes)
+varying-array bytes h e t = arr-some bytes (inner-varying bytes h e ∙ t)
+
+pub varying-none : (bytes : List ℕ) → has_header bytes ≡ true → size_word bytes ≡ 0 → are_varying bytes ≡ false → arr bytes ≡ None
+varying-none bytes h e t = arr-none bytes (inner-varying bytes h e ∙ t)
+
+pub equal-array : (bytes : List ℕ) → has_header bytes ≡ true → size_word bytes ≢ 0 → are_equal bytes ≡ true → arr bytes ≡ Some (array_in bytes)
+equal-array bytes h ne t = arr-some bytes (inner-equal bytes h ne ∙ t)
+
+pub equal-none : (bytes : List ℕ) → has_header bytes ≡ true → size_word bytes ≢ 0 → are_equal bytes ≡ false → arr bytes ≡ None
+equal-none bytes h ne t = arr-none bytes (inner-equal bytes h ne ∙ t)

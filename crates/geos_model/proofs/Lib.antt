@@ -22,6 +22,7 @@ pub mod ArrayExamples
 pub mod Joined
 pub mod ArraySpells
 pub mod ArrayReads
+pub mod ArrayPlaces
 pub mod Laws
 pub mod LegalBytes
 pub mod LegalChunks

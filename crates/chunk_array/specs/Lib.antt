@@ -1,0 +1,4 @@
+pub mod Shapes
+pub mod Found
+pub mod ArrayErrors
+pub mod ElementErrors
