@@ -1,2 +1,5 @@
 pub mod Offsets
 pub mod Shaped
+pub mod Rewritten
+pub mod Headers
+pub mod Refusing

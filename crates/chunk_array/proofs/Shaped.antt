@@ -1,12 +1,18 @@
 -- What the shape of an array tells of it.
 use Rattle.std.proofs.Common.{◌≡◌, ◌≢◌, ℕ, ◌+◌, ◌*◌, ◌<◌, ◌≤◌, List, Some, length, get_or, ap, sym, ◌∙◌, subst, arith}
+use Rattle.lmem_raw.specs.Bytes.{part}
 use Rattle.geos_model.specs.Bytes.{word}
+use Rattle.geos_model.specs.Block.{chunks}
+use Rattle.geos_model.specs.Chunks.{chunk_of}
+use Rattle.geos_model.proofs.Resizes.{length-part}
 use Rattle.geos_model.specs.Arrays.{Array, arr, element_at}
 use Rattle.geos_model.proofs.ArraySpells.{first-varying}
 use Rattle.geos_model.proofs.ArrayReads.{Reads, reads}
 use Rattle.geos_model.proofs.ArrayPlaces.{same-array, element-bounds}
 use Rattle.chunk_array.specs.declared.shape.Shape.{Shape}
+use Rattle.chunk_array.specs.declared.look.Found.{Found}
 use Rattle.chunk_array.specs.Shapes.{HasShape}
+use Rattle.chunk_array.specs.Found.{IsFound}
 
 -- the array of such a shape
 pub record Shaped (bytes : List ℕ) (shape : Shape) (a : Array) : Type 0 where
@@ -37,3 +43,21 @@ start-end bytes shape a i s e = sym s.reads.end ∙ ap (element_at a) (s.count �
 -- the table of offsets lies in the bytes
 pub table-fits : (bytes : List ℕ) (shape : Shape) (a : Array) → Shaped bytes shape a → shape.element_size ≡ 0 → 8 + 2 * shape.count ≤ length bytes
 table-fits bytes shape a s none = let f = first-varying a (s.size ∙ none) in let fits = s.reads.spells.fits in let count = s.count in omega (arith, f, fits, count)
+
+-- an array that was found
+pub record Holds (b : List ℕ) (c : ℕ) (found : Found) (a : Array) : Type 0 where
+  pub shaped : Shaped (part b found.at found.len) found.shape a
+  pub is : arr (part b found.at found.len) ≡ Some a
+  pub there : chunk_of (chunks b) c ≡ Some (part b found.at found.len)
+  pub long : length (part b found.at found.len) ≡ found.len
+
+pub holds : (b : List ℕ) (c : ℕ) (found : Found) → (f : IsFound b c found) → Holds b c found f.shape.array
+holds b c found f =
+    let bytes = part b found.at found.len in let h = f.shape in
+    record { shaped = shaped bytes found.shape h.array f.small h h.is; is = h.is; there = f.bytes; long = length-part b found.at found.len f.within }
+
+-- an array has its header's bytes at least
+pub least : (b : List ℕ) (at len : ℕ) (shape : Shape) → ((k : ℕ) → get_or (part b at len) k 0 < 256) → at + len ≤ length b → HasShape (part b at len) shape → 8 ≤ len
+least b at len shape small within h =
+    let bytes = part b at len in let s = shaped bytes shape h.array small h h.is in
+    let long = length-part b at len within in let l = element-bounds bytes h.array 0 s.reads in omega (arith, l.0, l.1, long)

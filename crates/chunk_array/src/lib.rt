@@ -11,12 +11,12 @@
 //! no array where one of them is wrong.
 #![tactic(auto)]
 
-
+mod make;
 mod error;
 mod look;
 mod shape;
 mod words;
 
-
+pub use make::{clear, create};
 pub use error::{ArrayError, ElementError};
-pub use look::count;
+pub use look::{count, element};

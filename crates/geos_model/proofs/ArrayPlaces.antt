@@ -1,9 +1,11 @@
 -- Where the elements of an array stand.
 use Rattle.std.proofs.Common.{◌≡◌, ℕ, suc, ◌+◌, ◌<◌, ◌≤◌, List, [], ◌∷◌, ◌++◌, Some, length, take, drop, get_or, ap, sym, refl, ◌∙◌, arith, length-append, length-drop}
-use Rattle.std.proofs.lemmas.List.{take-append-drop, drop-drop, take_at, take_more}
+use Rattle.std.proofs.lemmas.List.{take-append-drop, drop-drop, drop_more, take_at, take_more}
 use Rattle.lmem_raw.specs.Bytes.{part}
-use Rattle.geos_model.specs.Arrays.{Array, arr, first_at, element_at, element}
-use Rattle.geos_model.proofs.Joined.{join, join-append, drop-join}
+use Rattle.std.specs.Prelude.{flat_map}
+use Rattle.geos_model.specs.Bytes.{word_bytes}
+use Rattle.geos_model.specs.Arrays.{Array, arr, first_at, element_at, element, head_words, spelled}
+use Rattle.geos_model.proofs.Joined.{join, length-word_bytes, join-append, drop-join}
 use Rattle.geos_model.proofs.ArraySpells.{Spells, element-at, length-head}
 use Rattle.geos_model.proofs.ArrayReads.{Reads}
 
@@ -42,3 +44,14 @@ pub drop-elements : (bytes : List ℕ) (a : Array) (i : ℕ) → Reads bytes a �
 drop-elements bytes a i r =
     let n = length (join (take i a.elements)) in
     ap (λ m. drop m bytes) (element-at a i) ∙ sym (drop-drop n (first_at a) bytes) ∙ ap (drop n) r.spells.rest ∙ drop-join a.elements i n refl
+
+-- the bytes of an element
+pub part-element : (bytes : List ℕ) (a : Array) (i : ℕ) → Reads bytes a → i < length a.elements → part bytes (element_at a i) (length (element a i)) ≡ element a i
+part-element bytes a i r h =
+    let rest = drop (i + 1) a.elements in
+    ap (take (length (element a i))) (drop-elements bytes a i r ∙ ap join (drop_more a.elements i [] h)) ∙ take_at (element a i) (join rest) (length (element a i)) refl
+
+-- what an array takes
+pub length-spelled : (a : Array) → length (spelled a) ≡ first_at a + length (join a.elements)
+unfolding spelled
+length-spelled a = let n = length-head a in let w = length-word_bytes (head_words a) in let e = length-append (flat_map word_bytes (head_words a)) (join a.elements) in omega (arith, n, w, e)

@@ -23,6 +23,8 @@ pub mod Joined
 pub mod ArraySpells
 pub mod ArrayReads
 pub mod ArrayPlaces
+pub mod ChunkItems
+pub mod ArrayTests
 pub mod Laws
 pub mod LegalBytes
 pub mod LegalChunks
