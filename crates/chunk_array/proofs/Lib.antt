@@ -3,3 +3,4 @@ pub mod Shaped
 pub mod Rewritten
 pub mod Headers
 pub mod Refusing
+pub mod Tables

@@ -1,4 +1,5 @@
 pub mod Shapes
+pub mod Tables
 pub mod Found
 pub mod Elements
 pub mod ArrayErrors

@@ -15,6 +15,7 @@ mod make;
 mod error;
 mod look;
 mod shape;
+mod table;
 mod words;
 
 pub use make::{clear, create};
