@@ -4,3 +4,4 @@ pub mod Rewritten
 pub mod Headers
 pub mod Refusing
 pub mod Tables
+pub mod Inserting

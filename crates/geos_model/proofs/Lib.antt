@@ -20,6 +20,7 @@ pub mod Examples
 pub mod CallExamples
 pub mod ArrayExamples
 pub mod Joined
+pub mod JoinedEdits
 pub mod ArraySpells
 pub mod ArrayReads
 pub mod ArrayPlaces
