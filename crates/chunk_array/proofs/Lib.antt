@@ -5,3 +5,5 @@ pub mod Headers
 pub mod Refusing
 pub mod Tables
 pub mod Inserting
+pub mod Roomy
+pub mod Growing

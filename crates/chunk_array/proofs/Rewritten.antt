@@ -1,12 +1,14 @@
 -- A chunk's bytes that are written over.
-use Rattle.std.proofs.Common.{◌≡◌, ℕ, zero, ◌+◌, ◌-◌, ◌<◌, ◌≤◌, List, [], ◌++◌, Some, length, take, drop, get_or, refl, ap, sym, ◌∙◌, subst, arith, length-take, length-drop}
+use Rattle.std.proofs.Common.{◌≡◌, ℕ, zero, ◌+◌, ◌-◌, ◌<◌, ◌≤◌, List, [], ◌++◌, Option, Some, None, length, take, drop, get_or, refl, ap, sym, ◌∙◌, subst, arith, length-take, length-drop}
 use Rattle.std.proofs.lemmas.List.{get_or-take, get_or-drop, get_or_past}
 use Rattle.std.proofs.lemmas.Bool.{cases_lt}
 use Rattle.std.proofs.Common.{inl, inr}
 use Rattle.lmem_raw.specs.Bytes.{part, with_part}
 use Rattle.lmem_raw.proofs.Parts.{with_whole}
 use Rattle.geos_model.specs.Block.{Place, chunks, handle_word, place_of, bytes_at, IsPlaced}
-use Rattle.geos_model.specs.Chunks.{with_bytes}
+use Rattle.std.specs.Option.{option_map}
+use Rattle.geos_model.specs.Chunks.{with_bytes, chunk_of}
+use Rattle.geos_model.proofs.Places.{chunk-place}
 use Rattle.geos_model.specs.Heap.{IsHeap}
 use Rattle.geos_model.specs.Writes.{ChangesChunk}
 use Rattle.geos_model.proofs.Parts.{put_over}
@@ -39,3 +41,11 @@ part-small b at len small k = elim (cases_lt k len) [
   | inl h ↦ (let e = get_or-take len (drop at b) k 0 h ∙ get_or-drop at b k 0 in let s = small (at + k) in omega (arith, e, s))
   | inr h ↦ (let e = get_or_past (part b at len) k 0 (omega (arith, length-take len (drop at b))) in omega (arith, e))
 ]
+
+-- a chunk of a heap is no longer than its block
+pub chunk-small : (b : List ℕ) (c : ℕ) (bytes : List ℕ) → IsHeap b → chunk_of (chunks b) c ≡ Some bytes → length bytes ≤ 65520
+chunk-small b c bytes heap h = placed (place_of b c) (sym (chunk-place b c) ∙ h)
+  where
+    placed : (p : Option Place) → option_map (bytes_at b) p ≡ Some bytes → length bytes ≤ 65520
+    placed None e = absurd (cc)
+    placed (Some p) e = let same : part b p.at p.len ≡ bytes = cc in let l = ap length same in let most = heap.0.most in omega (arith, l, most, length-take p.len (drop p.at b), length-drop p.at b)

@@ -4,3 +4,6 @@ pub mod Found
 pub mod Elements
 pub mod ArrayErrors
 pub mod ElementErrors
+pub mod Insertions
+pub mod AppendErrors
+pub mod GrowthErrors

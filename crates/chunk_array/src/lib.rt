@@ -12,12 +12,15 @@
 #![tactic(auto)]
 
 mod make;
+mod change;
 mod error;
+mod grow;
 mod look;
 mod shape;
 mod table;
 mod words;
 
 pub use make::{clear, create};
-pub use error::{ArrayError, ElementError};
+pub use error::{AppendError, ArrayError, ElementError, GrowthError};
+pub use grow::{append, insert};
 pub use look::{count, element};

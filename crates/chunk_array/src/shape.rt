@@ -27,6 +27,7 @@ pub(crate) struct Shape {
 
 impl Shape {
     ghost use Rattle.chunk_array.specs.Shapes.{HasShape};
+    ghost use Rattle.chunk_array.specs.Insertions.{room_of};
 
     /// The shape of the array that bytes spell, or none where they spell none.
     pub(crate) fn of(bytes: &[u8]) -> Option<Shape>
@@ -49,6 +50,18 @@ impl Shape {
             })
         } else {
             None
+        }
+    }
+
+    /// What a new element of n bytes takes, with its offset where sizes vary.
+    pub(crate) fn room(self, n: u16) -> usize
+        ensures value { result ≡ room_of self.element_size n }
+        ensures small { result ≤ 65537 }
+    {
+        if self.element_size == 0 {
+            n as usize + 2
+        } else {
+            self.element_size as usize
         }
     }
 

@@ -1,10 +1,11 @@
 -- The chunks of handles, as items of the list of chunks.
-use Rattle.std.proofs.Common.{◌≡◌, ℕ, ◌+◌, ◌*◌, ◌%◌, ◌<◌, ◌≤◌, true, false, List, [], ◌∷◌, ◌++◌, Option, Some, None, length, get_or, set, replicate, unwrap_or, refl, ap, sym, ◌∙◌, inl, inr, arith, get_or-set_same, length-append}
+use Rattle.std.proofs.Common.{◌≡◌, ℕ, ◌+◌, ◌*◌, ◌%◌, ◌<◌, ◌≤◌, true, false, List, [], ◌∷◌, ◌++◌, Option, Some, None, length, get_or, set, replicate, unwrap_or, refl, ap, sym, ◌∙◌, inl, inr, arith, get_or-set_same, length-append, length-set}
 use Rattle.std.specs.Prelude.{nat_le, ◌==◌, ◌&&◌, if◌then◌else◌}
 use Rattle.std.proofs.lemmas.Bool.{cases_Bool, cases_eq, cases_lt, and_parts, and_from, eq-eqb, eqb-true, le-leb, leb-true}
 use Rattle.std.proofs.lemmas.List.{get_or_past, length-replicate}
-use Rattle.geos_model.specs.Chunks.{chunk_of, bytes_of, entry_of, handle_of, with_bytes, with_entry, with_new, new_handle, lowest_entry, need, sixteens}
-use Rattle.geos_model.proofs.Lowest.{lowest-within, entry-full, entry-room, set-twice, used-length}
+use Rattle.geos_model.specs.Chunks.{chunk_of, bytes_of, entry_of, handle_of, with_bytes, with_entry, with_new, new_handle, lowest_entry, need, sixteens, cost, cost_of}
+use Rattle.geos_model.proofs.Lowest.{lowest-within, entry-full, entry-room, set-twice, used-length, used-set}
+use Rattle.geos_model.proofs.Costs.{cost-over}
 
 -- a handle that has a chunk
 pub record IsKnown (cs : List (Option (List ℕ))) (c : ℕ) (bytes : List ℕ) : Type 0 where
@@ -62,3 +63,11 @@ need-new cs n bytes long =
     let i = lowest_entry cs in let e : entry_of (handle_of i) ≡ i = omega arith in
     need-length (with_new cs n) (new_handle cs) (replicate n 0) bytes (replicate n 0) (chunk-new cs n) (long ∙ sym (length-replicate {A = ℕ} n 0))
     ∙ ap (λ k. need (set (with_new cs n) k (Some (replicate n 0)))) e ∙ ap need (set-twice (with_entry cs) i (Some (replicate n 0)) (Some (replicate n 0)))
+
+-- a chunk is no longer than what is needed for it
+pub need-least : (cs : List (Option (List ℕ))) (c : ℕ) (old bytes : List ℕ) → chunk_of cs c ≡ Some old → length bytes ≤ need (with_bytes cs c bytes)
+need-least cs c old bytes h =
+    let i = entry_of c in let within = (chunk-known cs c old h).within in let now = set cs i (Some bytes) in
+    let u = used-set now i None (let l = length-set cs i (Some bytes) in omega (arith, l, within)) in
+    let e : cost_of (get_or now i None) ≡ cost (length bytes) = ap cost_of (get_or-set_same cs i (Some bytes) None within) in
+    let l = cost-over (length bytes) in omega (arith, u, e, l)
