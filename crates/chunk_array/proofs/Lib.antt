@@ -7,3 +7,7 @@ pub mod Tables
 pub mod Inserting
 pub mod Roomy
 pub mod Growing
+pub mod Removing
+pub mod Parted
+pub mod Parting
+pub mod Refitting

@@ -6,7 +6,7 @@ use Rattle.lmem_raw.specs.Bytes.{part, with_part}
 use Rattle.lmem_raw.proofs.Parts.{length-with_part}
 use Rattle.geos_model.specs.Bytes.{word, with_word, IsShifted}
 use Rattle.geos_model.proofs.Words.{word-same, word-other, word-bytes, word-shifted, word-part_other, byte-other, length-with_word, get_or-with_part_before, get_or-with_part_behind, get_or-with_part_within}
-use Rattle.chunk_array.specs.Tables.{offset, ShiftsOffsets, OpensTable}
+use Rattle.chunk_array.specs.Tables.{offset, ShiftsOffsets, OpensTable, ClosesTable}
 
 -- nothing is shifted yet
 pub shifts-none : (b : List ℕ) (from less more : ℕ) → ShiftsOffsets b b from from less more
@@ -85,5 +85,49 @@ opens b b1 b2 b3 b4 count i at n order table room small made1 s2 made3 s4 =
           let e1 = high-moves b b1 b2 b3 i at (at + 2) j (omega arith) (omega arith) made1 s2 made3 l in
           omega (arith, e4, e1));
       middle = (λ j k e g r. behind j (omega arith) ∙ up1 j k e (omega arith) r);
+      rest = (λ j k e g r. let same : j ≡ k = omega arith in behind j (omega arith) ∙ high1 j (omega arith) ∙ ap (λ q. get_or b q 0) same);
+    }
+
+-- bytes that moved down
+moved-down : (b : List ℕ) (from to n : ℕ) → from + n ≤ length b → to + n ≤ length b → (j k : ℕ) → j ≡ to + k → k < n → get_or (with_part b to (part b from n)) j 0 ≡ get_or b (from + k) 0
+moved-down b from to n fits room j k e h = moved-up b from to n fits room j k e h
+
+-- the offsets before an index stay where bytes behind it move down by 2, and those behind it
+-- move with them
+pub low-kept : (b b1 : List ℕ) (i m j : ℕ) → b1 ≡ with_part b (8 + 2 * i) (part b (8 + 2 * i + 2) m) → j < i → offset b1 j ≡ offset b j
+low-kept b b1 i m j made h = ap (λ x. offset x j) made ∙ word-part_other b (8 + 2 * i) (part b (8 + 2 * i + 2) m) (8 + 2 * j) (inl (omega arith))
+
+down : (b b1 : List ℕ) (i at : ℕ) → 8 + 2 * i + 2 ≤ at → at ≤ length b → b1 ≡ with_part b (8 + 2 * i) (part b (8 + 2 * i + 2) (at - (8 + 2 * i + 2))) → IsShifted b b1 2 0 (8 + 2 * i + 2) at
+down b b1 i at order room made j k e g r =
+    let here = 8 + 2 * i in let m = at - (here + 2) in
+    ap (λ x. get_or x j 0) made ∙ moved-down b (here + 2) here m (omega arith) (omega arith) j (k - (here + 2)) (omega arith) (omega arith) ∙ ap (λ q. get_or b q 0) (let q : here + 2 + (k - (here + 2)) ≡ k = omega arith in q)
+
+pub high-lowers : (b b1 b2 : List ℕ) (i at j : ℕ) → 8 + 2 * (j + 2) ≤ at → at ≤ length b → b1 ≡ with_part b (8 + 2 * i) (part b (8 + 2 * i + 2) (at - (8 + 2 * i + 2)))
+    → ShiftsOffsets b1 b2 0 i 2 0 → i ≤ j → offset b2 j ≡ offset b (j + 1)
+high-lowers b b1 b2 i at j within room made1 s2 h =
+    shifts-ahead b1 b2 0 i 2 0 j s2 (omega arith)
+    ∙ word-shifted b b1 2 0 (8 + 2 * i + 2) at (8 + 2 * j) (8 + 2 * (j + 1)) (down b b1 i at (omega arith) room made1) (omega arith) (omega arith) (omega arith)
+
+-- the table is closed in three steps
+pub closes : (b b1 b2 b3 : List ℕ) (count i at n last : ℕ) → i < count → last ≡ count - 1 → 8 + 2 * count ≤ at → at ≤ length b →
+    b1 ≡ with_part b (8 + 2 * i) (part b (8 + 2 * i + 2) (at - (8 + 2 * i + 2))) → ShiftsOffsets b1 b2 0 i 2 0 → ShiftsOffsets b2 b3 i last (n + 2) 0 → ClosesTable b b3 count i at n
+closes b b1 b2 b3 count i at n last order last_is table room made1 s2 s3 =
+    let here = 8 + 2 * i in let m = at - (here + 2) in let ws = part b (here + 2) m in
+    let lw : length ws ≡ m = omega (arith, length-take m (drop (here + 2) b), length-drop (here + 2) b) in
+    let l1 : length b1 ≡ length b = ap length made1 ∙ length-with_part b here ws in
+    let l2 = s2.long in let l3 = s3.long in
+    let low1 : (k : ℕ) → k < here → get_or b1 k 0 ≡ get_or b k 0 = (λ k h. ap (λ x. get_or x k 0) made1 ∙ get_or-with_part_before b here ws k h) in
+    let high1 : (k : ℕ) → at - 2 ≤ k → get_or b1 k 0 ≡ get_or b k 0 = (λ k h. ap (λ x. get_or x k 0) made1 ∙ get_or-with_part_behind b here ws k (omega arith)) in
+    let behind : (k : ℕ) → 8 + 2 * last ≤ k → get_or b3 k 0 ≡ get_or b1 k 0 = (λ k h. s3.rest k (inr h) ∙ s2.rest k (inr (omega arith))) in
+    record {
+      long = l3 ∙ l2 ∙ l1;
+      head = (λ k h. s3.rest k (inl (omega arith)) ∙ s2.rest k (inl (omega arith)) ∙ low1 k (omega arith));
+      before = (λ j h.
+          let e3 = shifts-before b2 b3 i last (n + 2) 0 j s3 h in let e2 = s2.moved j (omega arith) h in let e1 = low-kept b b1 i m j made1 h in
+          omega (arith, e3, e2, e1));
+      behind = (λ j l h.
+          let e3 = s3.moved j l (omega arith) in let e1 = high-lowers b b1 b2 i at j (omega arith) room made1 s2 l in
+          omega (arith, e3, e1));
+      middle = (λ j k e g r. behind j (omega arith) ∙ down b b1 i at (omega arith) room made1 j k e (omega arith) r);
       rest = (λ j k e g r. let same : j ≡ k = omega arith in behind j (omega arith) ∙ high1 j (omega arith) ∙ ap (λ q. get_or b q 0) same);
     }

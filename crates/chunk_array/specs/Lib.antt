@@ -7,3 +7,5 @@ pub mod ElementErrors
 pub mod Insertions
 pub mod AppendErrors
 pub mod GrowthErrors
+pub mod Removals
+pub mod Refits

@@ -23,3 +23,13 @@ pub record OpensTable (old new : List ℕ) (count i at n : ℕ) : Type 0 where
   pub behind : (j : ℕ) → i ≤ j → j < count → offset new (j + 1) ≡ offset old j + (n + 2)
   pub middle : IsShifted old new 0 2 (8 + 2 * count) at
   pub rest : IsShifted old new 0 0 (at + 2) (length old)
+
+-- offset i is taken out, with the n bytes of its element that begin at `at`. What the elements
+-- before it have stands 2 lower, and what is behind them stays
+pub record ClosesTable (old new : List ℕ) (count i at n : ℕ) : Type 0 where
+  pub long : length new ≡ length old
+  pub head : (k : ℕ) → k < 8 → slice_index new k ≡ slice_index old k
+  pub before : (j : ℕ) → j < i → offset new j + 2 ≡ offset old j
+  pub behind : (j : ℕ) → i ≤ j → j + 1 < count → offset new j + (n + 2) ≡ offset old (j + 1)
+  pub middle : IsShifted old new 2 0 (8 + 2 * count) at
+  pub rest : IsShifted old new 0 0 at (length old)

@@ -17,6 +17,7 @@ mod error;
 mod grow;
 mod look;
 mod shape;
+mod shrink;
 mod table;
 mod words;
 
@@ -24,3 +25,4 @@ pub use make::{clear, create};
 pub use error::{AppendError, ArrayError, ElementError, GrowthError};
 pub use grow::{append, insert};
 pub use look::{count, element};
+pub use shrink::remove;

@@ -1,6 +1,6 @@
 -- Where the elements of an array stand.
 use Rattle.std.proofs.Common.{◌≡◌, ℕ, suc, ◌+◌, ◌<◌, ◌≤◌, List, [], ◌∷◌, ◌++◌, Some, length, take, drop, get_or, ap, sym, refl, ◌∙◌, arith, length-append, length-drop}
-use Rattle.std.proofs.lemmas.List.{take-append-drop, drop-drop, drop_more, take_at, take_more}
+use Rattle.std.proofs.lemmas.List.{take-append-drop, drop-drop, drop_more, take_at, take_more, take-take}
 use Rattle.lmem_raw.specs.Bytes.{part}
 use Rattle.std.specs.Prelude.{flat_map}
 use Rattle.geos_model.specs.Bytes.{word_bytes}
@@ -55,3 +55,9 @@ part-element bytes a i r h =
 pub length-spelled : (a : Array) → length (spelled a) ≡ first_at a + length (join a.elements)
 unfolding spelled
 length-spelled a = let n = length-head a in let w = length-word_bytes (head_words a) in let e = length-append (flat_map word_bytes (head_words a)) (join a.elements) in omega (arith, n, w, e)
+
+-- elements stand in their order
+pub element-order : (a : Array) (i j : ℕ) → i ≤ j → element_at a i ≤ element_at a j
+element-order a i j h =
+    let x = element-at a i in let y = element-at a j in let l = join-le (take j a.elements) i in
+    let same = ap (λ xs. length (join xs)) (take-take i j a.elements h) in omega (arith, x, y, l, same)

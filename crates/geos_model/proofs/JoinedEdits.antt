@@ -1,10 +1,11 @@
 -- Lists joined end to end, with one more, without one, and with another in its place.
 use Rattle.std.proofs.Common.{◌≡◌, ℕ, zero, suc, ◌+◌, ◌-◌, ◌<◌, ◌≤◌, List, [], ◌∷◌, ◌++◌, length, take, drop, get_or, set, replicate, refl, ap, sym, ◌∙◌, arith, length-append, length-take, length-drop}
 use Rattle.std.specs.Prelude.{insert, remove}
-use Rattle.std.proofs.lemmas.List.{take-append-le, take-take, drop_more, drop_at, take_at, drop-append-le, drop-drop, drop-take, drop-replicate, length-take-le, length-replicate, set_split, take-append-drop}
+use Rattle.std.proofs.lemmas.List.{take-append-le, take-take, drop_more, drop_at, take_at, drop-append-le, drop-drop, drop-take, drop-replicate, length-take-le, append-nil, append_assoc, take_all, length-replicate, set_split, take-append-drop}
 use Rattle.lmem_raw.specs.Bytes.{part}
-use Rattle.geos_model.specs.Chunks.{with_zeros, without_part}
+use Rattle.geos_model.specs.Chunks.{resized, with_zeros, without_part, with_resized_part}
 use Rattle.geos_model.proofs.Joined.{join, join-append}
+use Rattle.geos_model.proofs.Resizes.{length-resized}
 
 -- with a list put in
 pub join-insert : (xs : List (List ℕ)) (i : ℕ) (z : List ℕ) → join (insert xs i z) ≡ join (take i xs) ++ (z ++ join (drop i xs))
@@ -78,3 +79,46 @@ without-front bs from at n h fits =
 
 pub without-drop : (bs : List ℕ) (at n : ℕ) → at ≤ length bs → drop at (without_part bs at n) ≡ drop (at + n) bs
 without-drop bs at n fits = drop_at (take at bs) (drop (at + n) bs) at (length-take-le at bs fits)
+
+-- what is behind an offset before the part that goes
+pub without-split : (bs : List ℕ) (from at n : ℕ) → from ≤ at → at ≤ length bs → drop from (without_part bs at n) ≡ part bs from (at - from) ++ drop (at + n) bs
+without-split bs from at n h fits =
+    let zs : List ℕ = drop (at + n) bs in let whole : from + (at - from) ≡ at = omega arith in
+    drop-append-le from (take at bs) zs (omega (arith, length-take at bs)) ∙ ap (λ m. drop from (take m bs) ++ zs) (sym whole) ∙ ap (λ xs. xs ++ zs) (drop-take from (at - from) bs)
+
+pub length-without : (bs : List ℕ) (at n : ℕ) → at + n ≤ length bs → length (without_part bs at n) ≡ length bs - n
+length-without bs at n h = omega (arith, length-append (take at bs) (drop (at + n) bs), length-take at bs, length-drop (at + n) bs)
+
+-- the first bytes in two parts
+take-two : (bs : List ℕ) (m n : ℕ) → take (m + n) bs ≡ take m bs ++ part bs m n
+take-two bs m n = sym (take-append-drop m (take (m + n) bs)) ∙ ap (λ xs. xs ++ drop m (take (m + n) bs)) (take-take m (m + n) bs (omega arith)) ∙ ap (λ xs. take m bs ++ xs) (drop-take m n bs)
+
+-- a part that gets n bytes grows by zeros behind it, or loses its last ones
+pub resized-grows : (bs : List ℕ) (at has n : ℕ) → at + has ≤ length bs → has ≤ n → with_zeros bs (at + has) (n - has) ≡ with_resized_part bs at has n
+resized-grows bs at has n fits h =
+    let p = part bs at has in let zs : List ℕ = replicate (n - has) 0 in
+    let long : length p ≡ has = omega (arith, length-take has (drop at bs), length-drop at bs) in
+    let same : resized p n ≡ p ++ zs = ap (λ xs. xs ++ replicate (n - length p) 0) (take_all n p (omega arith)) ∙ ap (λ m. p ++ replicate (n - m) 0) long in
+    ap (λ xs. xs ++ (zs ++ drop (at + has) bs)) (take-two bs at has) ∙ append_assoc (take at bs) p (zs ++ drop (at + has) bs)
+    ∙ ap (λ xs. take at bs ++ xs) (sym (append_assoc p zs (drop (at + has) bs))) ∙ ap (λ xs. take at bs ++ (xs ++ drop (at + has) bs)) (sym same)
+
+pub resized-shrinks : (bs : List ℕ) (at has n : ℕ) → at + has ≤ length bs → n ≤ has → without_part bs (at + n) (has - n) ≡ with_resized_part bs at has n
+resized-shrinks bs at has n fits h =
+    let p = part bs at has in let end : at + n + (has - n) ≡ at + has = omega arith in
+    let long : length p ≡ has = omega (arith, length-take has (drop at bs), length-drop at bs) in
+    let none : n - length p ≡ 0 = omega arith in
+    let same : resized p n ≡ part bs at n = ap (λ m. take n p ++ replicate m 0) none ∙ append-nil (take n p) ∙ take-take n has (drop at bs) h in
+    ap (λ m. take (at + n) bs ++ drop m bs) end ∙ ap (λ xs. xs ++ drop (at + has) bs) (take-two bs at n) ∙ append_assoc (take at bs) (part bs at n) (drop (at + has) bs)
+    ∙ ap (λ xs. take at bs ++ (xs ++ drop (at + has) bs)) (sym same)
+
+pub length-resized_part : (bs : List ℕ) (at has n : ℕ) → at + has ≤ length bs → length (with_resized_part bs at has n) + has ≡ length bs + n
+length-resized_part bs at has n fits =
+    let r = resized (part bs at has) n in
+    omega (arith, length-append (take at bs) (r ++ drop (at + has) bs), length-append r (drop (at + has) bs), length-resized (part bs at has) n, length-take at bs, length-drop (at + has) bs)
+
+-- what is behind an offset before that part
+pub resized-split : (bs : List ℕ) (from at has n : ℕ) → from ≤ at → at + has ≤ length bs
+    → drop from (with_resized_part bs at has n) ≡ part bs from (at - from) ++ (resized (part bs at has) n ++ drop (at + has) bs)
+resized-split bs from at has n h fits =
+    let zs : List ℕ = resized (part bs at has) n ++ drop (at + has) bs in let whole : from + (at - from) ≡ at = omega arith in
+    drop-append-le from (take at bs) zs (omega (arith, length-take at bs)) ∙ ap (λ m. drop from (take m bs) ++ zs) (sym whole) ∙ ap (λ xs. xs ++ zs) (drop-take from (at - from) bs)
