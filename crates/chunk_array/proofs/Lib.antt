@@ -11,3 +11,4 @@ pub mod Removing
 pub mod Parted
 pub mod Parting
 pub mod Refitting
+pub mod Resizing

@@ -1,7 +1,7 @@
 -- Arrays in which an element gets another size.
 use Rattle.std.proofs.Common.{◌≡◌, ℕ, suc, ◌+◌, ◌-◌, ◌*◌, ◌<◌, ◌≤◌, List, [], ◌∷◌, ◌++◌, length, take, drop, get_or, set, refl, ap, sym, ◌∙◌, inl, inr, arith, length-set, length-append, length-take, length-drop}
 use Rattle.std.proofs.lemmas.Bool.{cases_lt}
-use Rattle.std.proofs.lemmas.List.{get_or-take, get_or_append_left, take-set-le}
+use Rattle.std.proofs.lemmas.List.{get_or-take, get_or_append_left, take-set-le, take_all}
 use Rattle.lmem_raw.specs.Bytes.{part}
 use Rattle.geos_model.specs.Bytes.{word}
 use Rattle.geos_model.specs.Chunks.{resized, with_resized_part}
@@ -12,7 +12,7 @@ use Rattle.geos_model.proofs.Joined.{join}
 use Rattle.geos_model.proofs.JoinedEdits.{join-set, join-set_behind, length-resized_part, resized-split}
 use Rattle.geos_model.proofs.ArraySpells.{Spells, spells, first-varying, element-at}
 use Rattle.geos_model.proofs.ArrayReads.{Reads, reads}
-use Rattle.geos_model.proofs.ArrayPlaces.{element-bounds, element-ends, element-order, drop-elements, part-element}
+use Rattle.geos_model.proofs.ArrayPlaces.{element-bounds, element-ends, element-order, drop-elements, part-element, length-spelled}
 use Rattle.chunk_array.specs.declared.shape.Shape.{Shape}
 use Rattle.chunk_array.specs.Refits.{HasRefit, with_refit}
 use Rattle.chunk_array.specs.Tables.{offset, ShiftsOffsets}
@@ -103,3 +103,13 @@ refitted before old bytes a shape i has n h o small =
           ∙ ap (λ xs. join (take i a.elements) ++ (z ++ xs)) (ap (λ m. drop m before) last ∙ drop-elements before a (suc i) r)
           ∙ sym (join-set a.elements i z index);
     })
+
+-- what the array takes then
+pub length-refit : (before : List ℕ) (a : Array) (i n : ℕ) → Reads before a → a.element_size ≡ 0 → i < length a.elements → length (spelled (with_refit a i n)) + length (element a i) ≡ length before + n
+length-refit before a i n r none h =
+    let xs = a.elements in let z = resized (element a i) n in let b = with_refit a i n in let m = length xs in
+    let s = length-spelled b in let l = length-set xs i z in let f = first-varying a none in let g = first-varying b none in let lz = length-resized (element a i) n in
+    let e = join-set_behind xs i m z h h in
+    let all : length (join (take m (set xs i z))) ≡ length (join (set xs i z)) = ap (λ ys. length (join ys)) (take_all m (set xs i z) (omega (arith, l))) in
+    let end = r.end in let at = element-at a m in
+    omega (arith, s, l, f, g, lz, e, all, end, at)

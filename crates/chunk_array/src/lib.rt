@@ -11,18 +11,20 @@
 //! no array where one of them is wrong.
 #![tactic(auto)]
 
-mod make;
 mod change;
 mod error;
 mod grow;
 mod look;
+mod make;
+mod resize;
 mod shape;
 mod shrink;
 mod table;
 mod words;
 
-pub use make::{clear, create};
 pub use error::{AppendError, ArrayError, ElementError, GrowthError};
 pub use grow::{append, insert};
 pub use look::{count, element};
+pub use make::{clear, create};
+pub use resize::resize_element;
 pub use shrink::remove;

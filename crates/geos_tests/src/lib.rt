@@ -5,6 +5,8 @@
 #[cfg(test)]
 mod blocks;
 #[cfg(test)]
+mod chunk_arrays;
+#[cfg(test)]
 mod fixtures;
 #[cfg(test)]
 mod heaps;
