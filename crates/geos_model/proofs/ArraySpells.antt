@@ -24,7 +24,7 @@ first-varying a e = rw (eq-eqb a.element_size 0 e) refl
 pub first-fixed : (a : Array) → a.element_size ≢ 0 → first_at a ≡ 8
 first-fixed a ne = rw (ne_eqb a.element_size 0 ne) refl
 
-table-varying : (a : Array) → a.element_size ≡ 0 → table a ≡ offsets (first_at a) a.elements
+pub table-varying : (a : Array) → a.element_size ≡ 0 → table a ≡ offsets (first_at a) a.elements
 table-varying a e = rw (eq-eqb a.element_size 0 e) refl
 
 table-fixed : (a : Array) → a.element_size ≢ 0 → table a ≡ []
@@ -34,11 +34,11 @@ table-fixed a ne = rw (ne_eqb a.element_size 0 ne) refl
 pub element-at : (a : Array) (i : ℕ) → element_at a i ≡ first_at a + length (join (take i a.elements))
 element-at a i = ap (λ n. first_at a + n) (length-join (take i a.elements))
 
-length-offsets : (at : ℕ) (xs : List (List ℕ)) → length (offsets at xs) ≡ length xs
+pub length-offsets : (at : ℕ) (xs : List (List ℕ)) → length (offsets at xs) ≡ length xs
 length-offsets at [] = refl
 length-offsets at (x ∷ xs) = ap suc (length-offsets (at + length x) xs)
 
-get_or-offsets : (at : ℕ) (xs : List (List ℕ)) (j : ℕ) → j < length xs → get_or (offsets at xs) j 0 ≡ at + length (join (take j xs))
+pub get_or-offsets : (at : ℕ) (xs : List (List ℕ)) (j : ℕ) → j < length xs → get_or (offsets at xs) j 0 ≡ at + length (join (take j xs))
 get_or-offsets at [] j h = absurd (omega arith)
 get_or-offsets at (x ∷ xs) zero h = omega arith
 get_or-offsets at (x ∷ xs) (suc j) h = get_or-offsets (at + length x) xs j (omega arith) ∙ (let e = length-append x (join (take j xs)) in omega (arith, e))

@@ -24,6 +24,7 @@ pub mod JoinedEdits
 pub mod ArraySpells
 pub mod ArrayReads
 pub mod ArrayPlaces
+pub mod ArrayRound
 pub mod ChunkItems
 pub mod ArrayTests
 pub mod Laws
