@@ -1,12 +1,12 @@
 -- Where the elements of an array stand.
-use Rattle.std.proofs.Common.{◌≡◌, ℕ, suc, ◌+◌, ◌<◌, ◌≤◌, List, [], ◌∷◌, ◌++◌, Some, length, take, drop, get_or, ap, sym, refl, ◌∙◌, arith, length-append, length-drop}
+use Rattle.std.proofs.Common.{◌≡◌, ℕ, ◌+◌, ◌<◌, ◌≤◌, List, [], ◌∷◌, ◌++◌, Some, length, take, drop, get_or, ap, sym, refl, ◌∙◌, arith, length-append, length-drop}
 use Rattle.std.proofs.lemmas.List.{take-append-drop, drop-drop, drop_more, take_at, take_more, take-take}
 use Rattle.lmem_raw.specs.Bytes.{part}
 use Rattle.std.specs.Prelude.{flat_map}
 use Rattle.geos_model.specs.Bytes.{word_bytes}
 use Rattle.geos_model.specs.Arrays.{Array, arr, first_at, element_at, element, head_words, spelled}
 use Rattle.geos_model.proofs.Joined.{join, length-word_bytes, join-append, drop-join}
-use Rattle.geos_model.proofs.ArraySpells.{Spells, element-at, length-head}
+use Rattle.geos_model.proofs.ArraySpells.{element-at, length-head}
 use Rattle.geos_model.proofs.ArrayReads.{Reads}
 
 -- bytes spell one array

@@ -1,6 +1,6 @@
 -- Reading the bytes that an array spells gives the array back.
-use Rattle.std.proofs.Common.{◌≡◌, ◌≢◌, ℕ, zero, suc, ◌+◌, ◌-◌, ◌*◌, ◌<◌, ◌≤◌, true, List, [], ◌∷◌, ◌++◌, Some, length, take, drop, get_or, refl, ap, sym, ◌∙◌, inl, inr, arith, length-append, length-drop}
-use Rattle.std.specs.Prelude.{nat_le, ◌==◌, ◌&&◌, flat_map, All}
+use Rattle.std.proofs.Common.{◌≡◌, ◌≢◌, ℕ, suc, ◌+◌, ◌-◌, ◌*◌, ◌<◌, ◌≤◌, true, List, [], ◌∷◌, ◌++◌, Some, length, take, drop, get_or, refl, ap, sym, ◌∙◌, inl, inr, arith, length-append, length-drop}
+use Rattle.std.specs.Prelude.{nat_le, ◌==◌, flat_map, All}
 use Rattle.std.proofs.lemmas.Bool.{cases_eq, and_from, eq-eqb, ne_eqb, le-leb}
 use Rattle.std.proofs.lemmas.List.{take_at, drop_at, drop-drop, append-nil, get_or-append-add}
 use Rattle.std.proofs.lemmas.Grind.{same_number_lists}
@@ -8,8 +8,8 @@ use Rattle.lmem_raw.specs.Bytes.{part}
 use Rattle.geos_model.specs.Bytes.{word, word_bytes}
 use Rattle.geos_model.specs.Arrays.{Array, arr, are_offsets, are_varying, are_equal, never_fall, parts_at, parts_from, equal_parts, words_from, offsets, count_word, size_word, elements_in, head_words, table, first_at, spelled}
 use Rattle.geos_model.proofs.Joined.{join, length-word_bytes, word-word_bytes}
-use Rattle.geos_model.proofs.ArraySpells.{spells, first-varying, first-fixed, length-head, length-offsets, get_or-offsets, table-varying}
-use Rattle.geos_model.proofs.ArrayReads.{reads, array_in, headed, varying-array, equal-array, length-words_from, get_or-words_from}
+use Rattle.geos_model.proofs.ArraySpells.{spells, first-varying, first-fixed, length-head, length-offsets, table-varying}
+use Rattle.geos_model.proofs.ArrayReads.{reads, headed, varying-array, equal-array, length-words_from, get_or-words_from}
 
 -- elements of one size
 all-size : (k : ℕ) (xs : List (List ℕ)) → All (λ x. length x ≡ k) xs → length (join xs) ≡ length xs * k
@@ -86,7 +86,7 @@ array-spelled a equal =
           let holds : are_equal b ≡ true = eq-eqb (length b) (8 + count_word b * size_word b) (same ∙ ap (λ x. 8 + x * k) (sym count) ∙ ap (λ x. 8 + count_word b * x) (sym size)) in
           let ne : size_word b ≢ 0 = (λ e. some (sym size ∙ e)) in
           let elements : elements_in b ≡ a.elements = (let q = ne_eqb (size_word b) 0 ne in
-              rw q (ap (λ x. equal_parts x (count_word b) (drop 8 b)) size ∙ ap (λ x. equal_parts k x (drop 8 b)) count ∙ ap (equal_parts k (length a.elements)) (ap (λ x. drop x b) (sym first) ∙ rest) ∙ equal-back k a.elements (equal some))) in
+          rw q (ap (λ x. equal_parts x (count_word b) (drop 8 b)) size ∙ ap (λ x. equal_parts k x (drop 8 b)) count ∙ ap (equal_parts k (length a.elements)) (ap (λ x. drop x b) (sym first) ∙ rest) ∙ equal-back k a.elements (equal some))) in
           equal-array b h ne holds ∙ ap (λ x. Some (record { element_size = x; elements = elements_in b })) size ∙ ap (λ x. Some (record { element_size = k; elements = x })) elements)
     ]
 

@@ -1,6 +1,6 @@
 -- Which refusals of the calls on arrays come.
-use Rattle.std.proofs.Common.{◌≡◌, ◌≢◌, ℕ, ◌<◌, ◌≤◌, Bool, true, false, List, [], ◌∷◌, ◌++◌, Option, Some, None, length, unwrap_or, refl, ap, sym, ◌∙◌, arith}
-use Rattle.std.specs.Prelude.{is_none, nat_le, nat_lt, ◌==◌, not}
+use Rattle.std.proofs.Common.{◌≡◌, ◌≢◌, ℕ, ◌<◌, ◌≤◌, Bool, false, List, [], ◌∷◌, ◌++◌, Option, Some, None, length, unwrap_or, ap, sym, ◌∙◌, arith}
+use Rattle.std.specs.Prelude.{is_none, nat_lt, not}
 use Rattle.std.proofs.lemmas.Bool.{eq-eqb, ne_eqb, le-leb, lt-leb, lt-ltb, le-ltb}
 use Rattle.geos_model.specs.declared.refusal.Refusal.{Refusal}
 use Rattle.geos_model.specs.declared.refusal.Refusal.TheVariants.{BadChunk, BadArray, BadElement}

@@ -1,7 +1,7 @@
 -- The chunks of handles, as items of the list of chunks.
-use Rattle.std.proofs.Common.{◌≡◌, ℕ, ◌+◌, ◌*◌, ◌%◌, ◌<◌, ◌≤◌, true, false, List, [], ◌∷◌, ◌++◌, Option, Some, None, length, get_or, set, replicate, unwrap_or, refl, ap, sym, ◌∙◌, inl, inr, arith, get_or-set_same, length-append, length-set}
-use Rattle.std.specs.Prelude.{nat_le, ◌==◌, ◌&&◌, if◌then◌else◌}
-use Rattle.std.proofs.lemmas.Bool.{cases_Bool, cases_eq, cases_lt, and_parts, and_from, eq-eqb, eqb-true, le-leb, leb-true}
+use Rattle.std.proofs.Common.{◌≡◌, ℕ, ◌+◌, ◌*◌, ◌%◌, ◌<◌, ◌≤◌, true, List, [], ◌∷◌, Option, Some, None, length, get_or, set, replicate, unwrap_or, ap, sym, ◌∙◌, inl, inr, arith, get_or-set_same, length-append, length-set}
+use Rattle.std.specs.Prelude.{nat_le, ◌==◌, ◌&&◌}
+use Rattle.std.proofs.lemmas.Bool.{cases_Bool, cases_eq, cases_lt, and_from, eq-eqb, le-leb}
 use Rattle.std.proofs.lemmas.List.{get_or_past, length-replicate}
 use Rattle.geos_model.specs.Chunks.{chunk_of, bytes_of, entry_of, handle_of, with_bytes, with_entry, with_new, new_handle, lowest_entry, need, sixteens, cost, cost_of}
 use Rattle.geos_model.proofs.Lowest.{lowest-within, entry-full, entry-room, set-twice, used-length, used-set}

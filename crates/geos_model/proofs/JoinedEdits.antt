@@ -1,7 +1,7 @@
 -- Lists joined end to end, with one more, without one, and with another in its place.
-use Rattle.std.proofs.Common.{◌≡◌, ℕ, zero, suc, ◌+◌, ◌-◌, ◌<◌, ◌≤◌, List, [], ◌∷◌, ◌++◌, length, take, drop, get_or, set, replicate, refl, ap, sym, ◌∙◌, arith, length-append, length-take, length-drop}
+use Rattle.std.proofs.Common.{◌≡◌, ℕ, zero, suc, ◌+◌, ◌-◌, ◌<◌, ◌≤◌, List, [], ◌∷◌, ◌++◌, length, take, drop, get_or, set, replicate, ap, sym, ◌∙◌, arith, length-append, length-take, length-drop}
 use Rattle.std.specs.Prelude.{insert, remove}
-use Rattle.std.proofs.lemmas.List.{take-append-le, take-take, drop_more, drop_at, take_at, drop-append-le, drop-drop, drop-take, drop-replicate, length-take-le, append-nil, append_assoc, take_all, length-replicate, set_split, take-append-drop}
+use Rattle.std.proofs.lemmas.List.{take-append-le, take-take, drop_at, take_at, drop-append-le, drop-drop, drop-take, drop-replicate, length-take-le, append-nil, append_assoc, take_all, length-replicate, set_split, take-append-drop}
 use Rattle.lmem_raw.specs.Bytes.{part}
 use Rattle.geos_model.specs.Chunks.{resized, with_zeros, without_part, with_resized_part}
 use Rattle.geos_model.proofs.Joined.{join, join-append}
