@@ -4,7 +4,7 @@ use Rattle.lmem_raw.specs.Bytes.{part}
 use Rattle.geos_model.specs.Block.{chunks}
 use Rattle.geos_model.specs.Chunks.{chunk_of, bytes_of, need, with_bytes, with_inserted, with_zeros}
 use Rattle.geos_model.specs.Heap.{IsHeap}
-use Rattle.geos_model.specs.Arrays.{Array, element_at, spelled, with_element}
+use Rattle.geos_model.specs.Arrays.{element_at, spelled, with_element}
 use Rattle.geos_model.specs.ArrayEdits.{array_of, with_array}
 use Rattle.geos_model.proofs.Resizes.{length-with_zeros}
 use Rattle.geos_model.proofs.ChunkItems.{known-bytes, chunk-written, need-length, need-least}

@@ -1,9 +1,9 @@
 -- Headers of arrays with no element.
-use Rattle.std.proofs.Common.{◌≡◌, ℕ, ◌+◌, ◌*◌, ◌<◌, ◌≤◌, List, [], ◌∷◌, length, drop, get_or, ap, sym, ◌∙◌, inl, inr, arith}
+use Rattle.std.proofs.Common.{◌≡◌, ℕ, ◌<◌, List, length, get_or, ◌∙◌, inl, inr, arith}
 use Rattle.std.proofs.lemmas.Bool.{cases_eq}
 use Rattle.std.proofs.lemmas.List.{drop_all}
-use Rattle.geos_model.specs.Bytes.{word, with_word}
-use Rattle.geos_model.specs.Arrays.{Array, empty, first_at, spelled}
+use Rattle.geos_model.specs.Bytes.{with_word}
+use Rattle.geos_model.specs.Arrays.{empty, first_at, spelled}
 use Rattle.geos_model.proofs.Words.{word-same, word-other, length-with_word}
 use Rattle.geos_model.proofs.ArraySpells.{spells, first-varying, first-fixed}
 use Rattle.geos_model.proofs.ArrayPlaces.{length-spelled}

@@ -1,6 +1,5 @@
 -- Arrays with one element more.
-use Rattle.std.proofs.Common.{◌≡◌, ◌≢◌, ℕ, suc, ◌+◌, ◌-◌, ◌*◌, ◌<◌, ◌≤◌, List, [], ◌∷◌, ◌++◌, length, take, drop, get_or, replicate, refl, ap, sym, ◌∙◌, inl, inr, arith, length-append, length-take, length-drop}
-use Rattle.std.specs.Prelude.{insert}
+use Rattle.std.proofs.Common.{◌≡◌, ◌≢◌, ℕ, suc, ◌+◌, ◌-◌, ◌*◌, ◌<◌, ◌≤◌, List, ◌++◌, length, take, drop, get_or, replicate, refl, ap, sym, ◌∙◌, inl, inr, arith, length-append, length-take, length-drop}
 use Rattle.std.proofs.lemmas.Bool.{cases_lt, cases_eq, eq-eqb, ne_eqb}
 use Rattle.std.proofs.lemmas.List.{get_or-take, get_or-drop, get_or_append_left, get_or-append_right, length-replicate, take-append-drop, drop-drop}
 use Rattle.std.proofs.lemmas.List.Edits.{length-insert}
@@ -13,9 +12,9 @@ use Rattle.geos_model.proofs.Words.{word-same, word-other, word-bytes, byte-othe
 use Rattle.geos_model.proofs.Resizes.{length-with_zeros, length-part}
 use Rattle.geos_model.proofs.Joined.{join, take-join}
 use Rattle.geos_model.proofs.JoinedEdits.{join-insert, take-insert, join-insert_behind, zeros-front, zeros-drop, zeros-behind}
-use Rattle.geos_model.proofs.ArraySpells.{Spells, spells, first-varying, first-fixed, element-at}
+use Rattle.geos_model.proofs.ArraySpells.{spells, first-varying, first-fixed, element-at}
 use Rattle.geos_model.proofs.ArrayReads.{Reads}
-use Rattle.geos_model.proofs.ArrayPlaces.{element-bounds, drop-elements, length-spelled, join-le}
+use Rattle.geos_model.proofs.ArrayPlaces.{element-bounds, drop-elements, length-spelled}
 use Rattle.chunk_array.specs.Tables.{offset, OpensTable}
 
 pub new-varying : (a : Array) (n : ℕ) → a.element_size ≡ 0 → new_length a n ≡ n

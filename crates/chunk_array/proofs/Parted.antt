@@ -1,11 +1,11 @@
 -- Bytes out of which an element goes.
-use Rattle.std.proofs.Common.{◌≡◌, ◌≢◌, ℕ, suc, ◌+◌, ◌-◌, ◌*◌, ◌<◌, ◌≤◌, List, length, take, drop, get_or, refl, ap, sym, ◌∙◌, subst, inl, inr, arith, length-take, length-drop}
+use Rattle.std.proofs.Common.{◌≡◌, ◌≢◌, ℕ, ◌+◌, ◌-◌, ◌*◌, ◌<◌, ◌≤◌, List, length, take, drop, get_or, ap, sym, ◌∙◌, subst, inl, inr, arith, length-take}
 use Rattle.std.proofs.lemmas.Bool.{cases_eq, cases_lt}
 use Rattle.std.proofs.lemmas.List.{get_or-take, get_or-drop, get_or_append_left, get_or-append_right}
-use Rattle.geos_model.specs.Bytes.{word, with_word}
+use Rattle.geos_model.specs.Bytes.{with_word}
 use Rattle.geos_model.specs.Chunks.{without_part}
-use Rattle.geos_model.specs.Arrays.{Array, first_at, element_at, element, spelled, without_element}
-use Rattle.geos_model.proofs.ArraySpells.{first-varying, first-fixed}
+use Rattle.geos_model.specs.Arrays.{Array, element_at, element}
+use Rattle.geos_model.proofs.ArraySpells.{first-varying}
 use Rattle.geos_model.proofs.ArrayReads.{Reads, reads}
 use Rattle.geos_model.proofs.ArrayPlaces.{element-bounds, element-ends, element-order}
 use Rattle.geos_model.proofs.Words.{length-with_word}

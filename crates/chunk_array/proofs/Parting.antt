@@ -1,5 +1,5 @@
 -- An array that was found, of which an element is to go.
-use Rattle.std.proofs.Common.{◌≡◌, ℕ, ◌+◌, ◌<◌, ◌≤◌, List, Some, length, arith}
+use Rattle.std.proofs.Common.{◌≡◌, ℕ, ◌+◌, List}
 use Rattle.lmem_raw.specs.Bytes.{part}
 use Rattle.geos_model.specs.Heap.{IsHeap}
 use Rattle.geos_model.specs.Arrays.{element_at}

@@ -1,5 +1,5 @@
 -- Arrays in which an element gets another size.
-use Rattle.std.proofs.Common.{◌≡◌, ℕ, suc, ◌+◌, ◌-◌, ◌*◌, ◌<◌, ◌≤◌, List, [], ◌∷◌, ◌++◌, length, take, drop, get_or, set, refl, ap, sym, ◌∙◌, inl, inr, arith, length-set, length-append, length-take, length-drop}
+use Rattle.std.proofs.Common.{◌≡◌, ℕ, suc, ◌+◌, ◌*◌, ◌<◌, ◌≤◌, List, ◌++◌, length, take, drop, get_or, set, refl, ap, sym, ◌∙◌, inl, inr, arith, length-set, length-take}
 use Rattle.std.proofs.lemmas.Bool.{cases_lt}
 use Rattle.std.proofs.lemmas.List.{get_or-take, get_or_append_left, take-set-le, take_all}
 use Rattle.lmem_raw.specs.Bytes.{part}
@@ -10,7 +10,7 @@ use Rattle.geos_model.proofs.Words.{word-bytes}
 use Rattle.geos_model.proofs.Resizes.{length-resized}
 use Rattle.geos_model.proofs.Joined.{join}
 use Rattle.geos_model.proofs.JoinedEdits.{join-set, join-set_behind, length-resized_part, resized-split}
-use Rattle.geos_model.proofs.ArraySpells.{Spells, spells, first-varying, element-at}
+use Rattle.geos_model.proofs.ArraySpells.{spells, first-varying, element-at}
 use Rattle.geos_model.proofs.ArrayReads.{Reads, reads}
 use Rattle.geos_model.proofs.ArrayPlaces.{element-bounds, element-ends, element-order, drop-elements, part-element, length-spelled}
 use Rattle.chunk_array.specs.declared.shape.Shape.{Shape}

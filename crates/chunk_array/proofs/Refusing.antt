@@ -1,5 +1,5 @@
 -- Refusals of a heap that cannot come.
-use Rattle.std.proofs.Common.{◌≡◌, ℕ, ◌+◌, ◌<◌, ◌≤◌, List, Option, Some, None, length, ap, sym, ◌∙◌, arith}
+use Rattle.std.proofs.Common.{◌≡◌, ℕ, ◌+◌, ◌≤◌, List, Option, Some, None, length, ap, sym, ◌∙◌, arith}
 use Rattle.geos_model.specs.Chunks.{chunk_of, bytes_of}
 use Rattle.geos_model.proofs.ChunkItems.{known-bytes}
 use Rattle.lmem_heap.specs.declared.error.DeleteError.{DeleteError}

@@ -1,7 +1,6 @@
 -- Arrays with one element less.
-use Rattle.std.proofs.Common.{◌≡◌, ◌≢◌, ℕ, suc, ◌+◌, ◌-◌, ◌*◌, ◌<◌, ◌≤◌, List, [], ◌∷◌, ◌++◌, length, take, drop, get_or, refl, ap, sym, ◌∙◌, inl, inr, arith, length-append, length-take, length-drop}
-use Rattle.std.specs.Prelude.{remove}
-use Rattle.std.proofs.lemmas.Bool.{cases_lt, cases_eq}
+use Rattle.std.proofs.Common.{◌≡◌, ◌≢◌, ℕ, suc, ◌+◌, ◌-◌, ◌*◌, ◌<◌, ◌≤◌, List, ◌++◌, length, take, drop, get_or, refl, ap, sym, ◌∙◌, inl, inr, arith, length-take, length-drop}
+use Rattle.std.proofs.lemmas.Bool.{cases_lt}
 use Rattle.std.proofs.lemmas.List.{get_or-take, get_or-drop, get_or_append_left}
 use Rattle.std.proofs.lemmas.List.Edits.{length-remove}
 use Rattle.std.proofs.lemmas.Grind.{same_number_lists}
@@ -12,7 +11,7 @@ use Rattle.geos_model.specs.Arrays.{Array, first_at, element_at, element, withou
 use Rattle.geos_model.proofs.Words.{word-same, word-other, word-bytes, byte-other, length-with_word, part-shifted}
 use Rattle.geos_model.proofs.Joined.{join}
 use Rattle.geos_model.proofs.JoinedEdits.{join-remove, take-remove, join-remove_behind, without-split, length-without}
-use Rattle.geos_model.proofs.ArraySpells.{Spells, spells, first-varying, first-fixed, element-at}
+use Rattle.geos_model.proofs.ArraySpells.{spells, first-varying, first-fixed, element-at}
 use Rattle.geos_model.proofs.ArrayReads.{Reads}
 use Rattle.geos_model.proofs.ArrayPlaces.{element-bounds, element-ends, drop-elements}
 use Rattle.chunk_array.specs.Tables.{offset, ClosesTable}

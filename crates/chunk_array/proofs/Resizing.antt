@@ -1,12 +1,12 @@
 -- An array that was found, of which an element gets another size.
-use Rattle.std.proofs.Common.{◌≡◌, ℕ, ◌+◌, ◌-◌, ◌<◌, ◌≤◌, List, Some, None, length, refl, ap, sym, ◌∙◌, arith}
+use Rattle.std.proofs.Common.{◌≡◌, ℕ, ◌+◌, ◌-◌, ◌<◌, ◌≤◌, List, Some, None, length, ap, sym, ◌∙◌, arith}
 use Rattle.lmem_raw.specs.Bytes.{part}
 use Rattle.geos_model.specs.Block.{chunks}
 use Rattle.geos_model.specs.Chunks.{chunk_of, bytes_of, need, with_bytes, with_resized_part}
 use Rattle.geos_model.specs.Heap.{IsHeap}
 use Rattle.geos_model.specs.Refusals.{first_refusal}
 use Rattle.geos_model.specs.Arrays.{element_at, element, spelled}
-use Rattle.geos_model.specs.ArrayEdits.{array_of, resize_element, with_array}
+use Rattle.geos_model.specs.ArrayEdits.{resize_element, with_array}
 use Rattle.geos_model.proofs.JoinedEdits.{length-resized_part}
 use Rattle.geos_model.proofs.ChunkItems.{known-bytes, chunk-written, need-length}
 use Rattle.geos_model.proofs.ArrayTests.{array-of, resize-passes}

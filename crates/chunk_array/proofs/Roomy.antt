@@ -1,11 +1,11 @@
 -- Bytes with the room for an element.
-use Rattle.std.proofs.Common.{◌≡◌, ◌≢◌, ℕ, suc, ◌+◌, ◌-◌, ◌*◌, ◌<◌, ◌≤◌, List, length, get_or, replicate, refl, ap, sym, ◌∙◌, subst, inl, inr, arith}
+use Rattle.std.proofs.Common.{◌≡◌, ◌≢◌, ℕ, ◌+◌, ◌*◌, ◌<◌, ◌≤◌, List, length, get_or, replicate, refl, ap, sym, ◌∙◌, subst, inl, inr, arith}
 use Rattle.std.proofs.lemmas.Bool.{cases_eq, eq-eqb, ne_eqb}
 use Rattle.std.proofs.lemmas.List.Edits.{length-insert}
 use Rattle.std.proofs.Math.Nat.{mul-le-mul_left}
-use Rattle.geos_model.specs.Bytes.{word, with_word}
+use Rattle.geos_model.specs.Bytes.{with_word}
 use Rattle.geos_model.specs.Chunks.{with_zeros}
-use Rattle.geos_model.specs.Arrays.{Array, first_at, element_at, new_length, with_element, spelled}
+use Rattle.geos_model.specs.Arrays.{Array, element_at, new_length, with_element, spelled}
 use Rattle.geos_model.proofs.Resizes.{length-with_zeros}
 use Rattle.geos_model.proofs.ArraySpells.{first-varying, first-fixed}
 use Rattle.geos_model.proofs.ArrayReads.{Reads, reads}

@@ -1,10 +1,10 @@
 -- Tables of offsets that are shifted and opened.
 use Rattle.std.proofs.Common.{◌≡◌, ℕ, ◌+◌, ◌-◌, ◌*◌, ◌<◌, ◌≤◌, ◌⊎◌, List, length, drop, get_or, refl, ap, sym, ◌∙◌, inl, inr, arith, length-take, length-drop}
-use Rattle.std.proofs.lemmas.Bool.{cases_lt, cases_eq}
+use Rattle.std.proofs.lemmas.Bool.{cases_eq}
 use Rattle.std.proofs.lemmas.List.{get_or-take, get_or-drop}
 use Rattle.lmem_raw.specs.Bytes.{part, with_part}
 use Rattle.lmem_raw.proofs.Parts.{length-with_part}
-use Rattle.geos_model.specs.Bytes.{word, with_word, IsShifted}
+use Rattle.geos_model.specs.Bytes.{with_word, IsShifted}
 use Rattle.geos_model.proofs.Words.{word-same, word-other, word-bytes, word-shifted, word-part_other, byte-other, length-with_word, get_or-with_part_before, get_or-with_part_behind, get_or-with_part_within}
 use Rattle.chunk_array.specs.Tables.{offset, ShiftsOffsets, OpensTable, ClosesTable}
 

@@ -1,5 +1,5 @@
 -- When calls on arrays refuse.
-use Rattle.std.specs.Prelude.{◌≡◌, Bool, List, Option, Some}
+use Rattle.std.specs.Prelude.{◌≡◌, Bool, List, Some}
 use Rattle.geos_model.specs.declared.refusal.Refusal.{Refusal}
 use Rattle.geos_model.specs.declared.refusal.Refusal.TheVariants as refusals
 use Rattle.geos_model.specs.Refusals.{first_refusal}

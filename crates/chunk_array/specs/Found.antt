@@ -1,5 +1,5 @@
 -- Arrays that calls find.
-use Rattle.std.specs.Prelude.{◌≡◌, ℕ, ◌+◌, ◌<◌, ◌≤◌, List, length, slice_index, Option, Some}
+use Rattle.std.specs.Prelude.{◌≡◌, ℕ, ◌+◌, ◌<◌, ◌≤◌, List, length, slice_index, Some}
 use Rattle.lmem_raw.specs.Bytes.{part}
 use Rattle.geos_model.specs.Block.{chunks, IsPlaced}
 use Rattle.geos_model.specs.Chunks.{chunk_of}

@@ -1,5 +1,5 @@
 -- Bytes into which an element is to be put.
-use Rattle.std.specs.Prelude.{◌≡◌, ℕ, ◌+◌, ◌<◌, ◌≤◌, ◌==◌, if◌then◌else◌, List, length, slice_index, Option, Some}
+use Rattle.std.specs.Prelude.{◌≡◌, ℕ, ◌+◌, ◌<◌, ◌≤◌, ◌==◌, if◌then◌else◌, List, length, slice_index, Some}
 use Rattle.geos_model.specs.Chunks.{with_zeros}
 use Rattle.geos_model.specs.Arrays.{Array, arr, element_at}
 use Rattle.chunk_array.specs.declared.shape.Shape.{Shape}

@@ -1,5 +1,5 @@
 -- Bytes out of which an element is to go.
-use Rattle.std.specs.Prelude.{◌≡◌, ℕ, ◌+◌, ◌-◌, ◌<◌, ◌≤◌, List, length, slice_index, Option, Some}
+use Rattle.std.specs.Prelude.{◌≡◌, ℕ, ◌+◌, ◌-◌, ◌<◌, ◌≤◌, List, length, slice_index, Some}
 use Rattle.geos_model.specs.Block.{chunks}
 use Rattle.geos_model.specs.Chunks.{with_bytes, without_part}
 use Rattle.geos_model.specs.Arrays.{Array, arr, element_at, spelled, without_element}

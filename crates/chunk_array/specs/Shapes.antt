@@ -1,5 +1,5 @@
 -- What is read of an array's bytes.
-use Rattle.std.specs.Prelude.{◌≡◌, ℕ, List, length, Option, Some}
+use Rattle.std.specs.Prelude.{◌≡◌, ℕ, List, length, Some}
 use Rattle.geos_model.specs.Arrays.{Array, arr}
 use Rattle.chunk_array.specs.declared.shape.Shape.{Shape}
 

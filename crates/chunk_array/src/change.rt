@@ -46,7 +46,14 @@ fn spell_inserted(bytes: &mut [u8], shape: Shape, i: usize, at: usize, n: usize)
 
 /// Spells an array without an element, in front of whose end the bytes that it took, with its
 /// offset where sizes vary, are left: they are to be deleted.
-pub(crate) fn take_element(block: &mut [u8], c: u16, shape: Shape, i: usize, start: usize, end: usize)
+pub(crate) fn take_element(
+    block: &mut [u8],
+    c: u16,
+    shape: Shape,
+    i: usize,
+    start: usize,
+    end: usize,
+)
     requires heap { IsHeap block.old }
     requires part { IsSomeAnd (chunk_of (chunks block.old) c) (λ bytes. IsParted bytes shape i start end) }
     ensures heap { IsHeap block.new }
@@ -59,7 +66,13 @@ pub(crate) fn take_element(block: &mut [u8], c: u16, shape: Shape, i: usize, sta
         Err(_) => unreachable!(),
     };
     let begin = begin as usize;
-    spell_removed(&mut block[begin..begin + len as usize], shape, i, start, end);
+    spell_removed(
+        &mut block[begin..begin + len as usize],
+        shape,
+        i,
+        start,
+        end,
+    );
 }
 
 /// Spells an array without an element, but for the bytes that it took.

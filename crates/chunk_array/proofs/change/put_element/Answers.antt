@@ -2,10 +2,9 @@ use Rattle.std.proofs.Common.{◌≡◌, ℕ, ◌+◌, ◌-◌, List, Some, leng
 use Rattle.lmem_raw.specs.Bytes.{part}
 use Rattle.geos_model.specs.Chunks.{with_bytes}
 use Rattle.geos_model.specs.Block.{chunks}
-use Rattle.geos_model.specs.Arrays.{Array, spelled, with_element}
 use Rattle.geos_model.proofs.Resizes.{length-part}
-use Rattle.chunk_array.specs.Insertions.{HasRoom, IsRoomy}
-use Rattle.chunk_array.proofs.Rewritten.{Rewrites, rewritten}
+use Rattle.chunk_array.specs.Insertions.{HasRoom}
+use Rattle.chunk_array.proofs.Rewritten.{rewritten}
 use Rattle.chunk_array.proofs.change.put_element.Goals as goal
 
 pub returns-clause-heap : goal.returns-clause-heap

@@ -1,4 +1,4 @@
-use Rattle.std.proofs.Common.{◌≡◌, ℕ, ◌+◌, ◌*◌, ◌<◌, ◌≤◌, length, get_or, ap, sym, ◌∙◌, arith}
+use Rattle.std.proofs.Common.{arith}
 use Rattle.chunk_array.proofs.Refitting.{refit, refitted}
 use Rattle.chunk_array.proofs.change.spell_refitted.Goals as goal
 

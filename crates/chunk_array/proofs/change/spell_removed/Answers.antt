@@ -1,4 +1,4 @@
-use Rattle.std.proofs.Common.{◌≡◌, ℕ, ◌+◌, ◌-◌, ◌*◌, ◌<◌, ◌≤◌, List, length, get_or, refl, ap, sym, ◌∙◌, subst, arith}
+use Rattle.std.proofs.Common.{ℕ, ◌-◌, ◌<◌, length, get_or, refl, ap, ◌∙◌, arith}
 use Rattle.geos_model.specs.Bytes.{with_word}
 use Rattle.chunk_array.proofs.Parted.{parts, closable, spells-varying, spells-fixed}
 use Rattle.chunk_array.proofs.change.spell_removed.Goals as goal

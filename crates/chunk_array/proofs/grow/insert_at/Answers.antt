@@ -1,14 +1,13 @@
-use Rattle.std.proofs.Common.{◌≡◌, ℕ, ◌+◌, ◌<◌, ◌≤◌, List, Option, Some, length, ap, sym, ◌∙◌, subst, arith}
+use Rattle.std.proofs.Common.{ℕ, length, ap, sym, ◌∙◌, subst, arith}
 use Rattle.lmem_raw.specs.Bytes.{part}
 use Rattle.geos_model.specs.Block.{chunks}
-use Rattle.geos_model.specs.Chunks.{need, with_inserted, with_zeros, with_bytes, bytes_of}
-use Rattle.geos_model.specs.Arrays.{element_at, spelled, with_element}
+use Rattle.geos_model.specs.Chunks.{need, with_inserted, with_zeros, bytes_of}
+use Rattle.geos_model.specs.Arrays.{spelled, with_element}
 use Rattle.geos_model.specs.ArrayEdits.{array_of, with_array}
 use Rattle.geos_model.proofs.ChunkItems.{written-twice}
 use Rattle.lmem_heap.specs.Refusals.{IsRoomError}
 use Rattle.lmem_heap.specs.InsertErrors.{IsInsertError}
-use Rattle.lmem_heap.specs.declared.error.RoomError.{RoomError}
-use Rattle.chunk_array.specs.Insertions.{room_of, IsRoomy}
+use Rattle.chunk_array.specs.Insertions.{room_of}
 use Rattle.chunk_array.proofs.Growing.{grown, grown-need, grown-big, roomy}
 use Rattle.chunk_array.proofs.grow.insert_at.Goals as goal
 

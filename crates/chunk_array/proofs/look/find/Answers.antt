@@ -1,4 +1,4 @@
-use Rattle.std.proofs.Common.{◌≡◌, ℕ, ◌+◌, ◌-◌, ◌<◌, ◌≤◌, get_or, ap, arith, subst}
+use Rattle.std.proofs.Common.{◌≡◌, ℕ, ◌+◌, ◌-◌, arith, subst}
 use Rattle.lmem_raw.specs.Bytes.{part}
 use Rattle.chunk_array.specs.Shapes.{HasShape}
 use Rattle.chunk_array.proofs.Rewritten.{part-small}

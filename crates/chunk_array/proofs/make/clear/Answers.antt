@@ -1,8 +1,7 @@
-use Rattle.std.proofs.Common.{◌≡◌, ℕ, ◌+◌, ◌-◌, ◌<◌, ◌≤◌, List, [], Some, length, take, drop, ap, sym, ◌∙◌, arith, length-append, length-take, length-drop}
-use Rattle.std.specs.Prelude.{IsSomeAnd}
+use Rattle.std.proofs.Common.{◌≡◌, ℕ, ◌+◌, ◌-◌, ◌≤◌, List, [], Some, length, take, drop, ap, sym, ◌∙◌, arith, length-append, length-take, length-drop}
 use Rattle.lmem_raw.specs.Bytes.{part}
 use Rattle.geos_model.specs.Block.{chunks}
-use Rattle.geos_model.specs.Chunks.{chunk_of, bytes_of, with_bytes, without_part}
+use Rattle.geos_model.specs.Chunks.{chunk_of, bytes_of, without_part}
 use Rattle.geos_model.specs.Arrays.{Array, empty, spelled}
 use Rattle.geos_model.specs.ArrayEdits.{with_array}
 use Rattle.geos_model.proofs.ChunkItems.{known-bytes, chunk-written, written-twice}

@@ -4,7 +4,7 @@ use Rattle.geos_model.specs.Chunks.{with_bytes}
 use Rattle.geos_model.specs.Block.{chunks}
 use Rattle.geos_model.proofs.Resizes.{length-part}
 use Rattle.chunk_array.proofs.Headers.{length-empty}
-use Rattle.chunk_array.proofs.Rewritten.{Rewrites, rewritten}
+use Rattle.chunk_array.proofs.Rewritten.{rewritten}
 use Rattle.chunk_array.proofs.make.put_empty.Goals as goal
 
 pub returns-clause-heap : goal.returns-clause-heap

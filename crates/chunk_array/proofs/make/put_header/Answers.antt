@@ -1,6 +1,5 @@
-use Rattle.std.proofs.Common.{◌≡◌, ◌<◌, List, ap, sym, ◌∙◌, subst, arith, get_or, ℕ}
+use Rattle.std.proofs.Common.{◌≡◌, ◌<◌, List, ap, ◌∙◌, subst, arith, get_or, ℕ}
 use Rattle.geos_model.specs.Bytes.{with_word}
-use Rattle.geos_model.specs.Arrays.{empty, spelled}
 use Rattle.chunk_array.proofs.Headers.{with_header, header-spells}
 use Rattle.chunk_array.proofs.make.put_header.Goals as goal
 

@@ -1,12 +1,12 @@
-use Rattle.std.proofs.Common.{◌≡◌, ℕ, ◌+◌, ◌-◌, ◌<◌, ◌≤◌, List, Some, length, ap, sym, ◌∙◌, subst, arith}
+use Rattle.std.proofs.Common.{ℕ, ◌-◌, length, ap, sym, ◌∙◌, subst, arith}
 use Rattle.lmem_raw.specs.Bytes.{part}
 use Rattle.geos_model.specs.Block.{chunks}
-use Rattle.geos_model.specs.Chunks.{bytes_of, need, with_bytes, with_resized_part}
+use Rattle.geos_model.specs.Chunks.{bytes_of, with_resized_part}
 use Rattle.geos_model.specs.Arrays.{spelled}
 use Rattle.geos_model.specs.ArrayEdits.{with_array}
 use Rattle.geos_model.proofs.ChunkItems.{written-twice}
 use Rattle.lmem_heap.specs.Refusals.{IsRoomError}
-use Rattle.chunk_array.specs.Refits.{IsRefitted, with_refit}
+use Rattle.chunk_array.specs.Refits.{with_refit}
 use Rattle.chunk_array.proofs.Resizing.{order, passes, same, changed-need, refits}
 use Rattle.chunk_array.proofs.resize.resize_element.Goals as goal
 

@@ -1,5 +1,5 @@
-use Rattle.std.proofs.Common.{◌≡◌, ℕ, ◌+◌, ◌*◌, ◌<◌, ◌≤◌, length, ap, sym, ◌∙◌, arith}
-use Rattle.chunk_array.proofs.Offsets.{other-first, table-past, right-first, fall-seen, rise-seen, all-seen}
+use Rattle.std.proofs.Common.{sym, ◌∙◌, arith}
+use Rattle.chunk_array.proofs.Offsets.{other-first, table-past, rise-seen}
 use Rattle.chunk_array.proofs.shape.are_offsets.Goals as goal
 use Rattle.chunk_array.proofs.shape.are_offsets.Goals.{then-first-bytes-via-then-first-bytes, then-first-bytes-via-else-first-bytes+then-get16-first}
 

@@ -1,4 +1,4 @@
-use Rattle.std.proofs.Common.{◌≡◌, ◌+◌, ◌-◌, ◌*◌, ◌≤◌, length}
+use Rattle.std.proofs.Common.{◌≡◌, ◌+◌, ◌-◌, ◌*◌, length}
 use Rattle.geos_model.specs.Arrays.{are_offsets, never_fall, words_from}
 use Rattle.chunk_array.proofs.shape.are_offsets.Given as goal
 

@@ -1,13 +1,11 @@
-use Rattle.std.proofs.Common.{◌≡◌, ℕ, ◌+◌, ◌-◌, ◌<◌, ◌≤◌, List, [], Some, length, ap, sym, ◌∙◌, subst, arith}
+use Rattle.std.proofs.Common.{◌≡◌, ◌-◌, Some, ap, sym, ◌∙◌, arith}
 use Rattle.lmem_raw.specs.Bytes.{part}
 use Rattle.geos_model.specs.Block.{chunks}
-use Rattle.geos_model.specs.Chunks.{chunk_of, bytes_of, with_bytes, without_part}
-use Rattle.geos_model.specs.Arrays.{Array, element_at, spelled, without_element}
+use Rattle.geos_model.specs.Chunks.{chunk_of, with_bytes, without_part}
+use Rattle.geos_model.specs.Arrays.{spelled, without_element}
 use Rattle.geos_model.specs.ArrayEdits.{with_array}
 use Rattle.geos_model.proofs.ChunkItems.{known-bytes, chunk-written, written-twice}
 use Rattle.geos_model.proofs.ArrayTests.{array-of, element-passes}
-use Rattle.chunk_array.specs.Removals.{HasPart, IsParted}
-use Rattle.chunk_array.proofs.Shaped.{holds}
 use Rattle.chunk_array.proofs.Parting.{parted}
 use Rattle.chunk_array.proofs.Parted.{parts}
 use Rattle.chunk_array.proofs.Refusing.{can-delete}

@@ -1,5 +1,4 @@
-use Rattle.std.proofs.Common.{◌≡◌, ℕ, ◌+◌, ◌-◌, ◌*◌, ◌<◌, ◌≤◌, refl, ap, sym, ◌∙◌, arith}
-use Rattle.chunk_array.specs.Tables.{offset}
+use Rattle.std.proofs.Common.{◌+◌, ◌-◌, ◌*◌, refl, arith}
 use Rattle.chunk_array.proofs.Tables.{closes, low-kept, high-lowers}
 use Rattle.chunk_array.proofs.table.close_table.Goals as goal
 

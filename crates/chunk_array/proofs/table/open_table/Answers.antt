@@ -1,4 +1,4 @@
-use Rattle.std.proofs.Common.{◌≡◌, ℕ, ◌+◌, ◌-◌, ◌*◌, ◌<◌, ◌≤◌, ap, sym, ◌∙◌, arith}
+use Rattle.std.proofs.Common.{◌≡◌, ◌+◌, ◌-◌, ◌*◌, ap, arith}
 use Rattle.chunk_array.specs.Tables.{offset}
 use Rattle.chunk_array.proofs.Tables.{opens, low-stays, high-moves}
 use Rattle.chunk_array.proofs.table.open_table.Goals as goal

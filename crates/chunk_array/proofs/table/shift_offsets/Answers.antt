@@ -1,5 +1,4 @@
-use Rattle.std.proofs.Common.{◌≡◌, ℕ, ◌+◌, ◌-◌, ◌*◌, ◌<◌, ◌≤◌, length, ap, sym, ◌∙◌, arith}
-use Rattle.chunk_array.specs.Tables.{offset}
+use Rattle.std.proofs.Common.{◌+◌, ◌-◌, arith}
 use Rattle.chunk_array.proofs.Tables.{shifts-none, shifts-ahead, shifts-more}
 use Rattle.chunk_array.proofs.table.shift_offsets.Goals as goal
 

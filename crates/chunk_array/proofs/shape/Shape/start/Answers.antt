@@ -1,6 +1,6 @@
-use Rattle.std.proofs.Common.{◌≡◌, ℕ, ◌+◌, ◌*◌, ◌<◌, ◌≤◌, length, get_or, ap, sym, ◌∙◌, arith}
+use Rattle.std.proofs.Common.{◌∙◌, arith}
 use Rattle.geos_model.proofs.ArrayPlaces.{element-bounds}
-use Rattle.chunk_array.proofs.Shaped.{Shaped, shaped, start-fixed, start-varying, start-end, table-fits}
+use Rattle.chunk_array.proofs.Shaped.{shaped, start-fixed, start-varying, start-end, table-fits}
 use Rattle.chunk_array.proofs.shape.Shape.start.Goals as goal
 
 pub returns-then-self-ne0-clause-start : goal.returns-then-self-ne0-clause-start
