@@ -22,7 +22,8 @@ pub record IsParted (bytes : List ℕ) (shape : Shape) (i start end : ℕ) : Typ
   pub array : Array
   pub has : HasPart bytes array shape i start end
 
--- without the bytes that an element took, with its offset, the bytes spell the array without it
+-- without the bytes that an element took, with its offset, the bytes spell the array without
+-- it
 pub record SpellsWithout (bytes : List ℕ) (a : Array) (shape : Shape) (i start end : ℕ) : Type 0 where
   pub rest : (room : ℕ) → room ≡ room_of shape.element_size (end - start) → without_part bytes (end - room) room ≡ spelled (without_element a i)
 

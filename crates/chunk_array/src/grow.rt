@@ -16,12 +16,13 @@ use crate::error::{AppendError, ArrayError, GrowthError};
 use crate::look::{Found, find};
 use lmem_heap::{InsertError, RoomError};
 
-/// Puts an element of `n` zero bytes behind the others; `n` is not used where elements have one
-/// size. Other chunks may move.
+/// Puts an element of `n` zero bytes behind the others; `n` is not used where elements have
+/// one size. Other chunks may move.
 ///
 /// `BadChunk` exactly where no chunk has this handle; else `BadArray` where its bytes are no
 /// array; else `Room` where the block has no room: `NeedMore` names the size that the block
-/// needs, where it is larger than the block is, and `TooBig` comes where no block is that large.
+/// needs, where it is larger than the block is, and `TooBig` comes where no block is that
+/// large.
 pub fn append(block: &mut [u8], c: u16, n: u16) -> Result<(), AppendError>
     requires { IsHeap block.old }
     ensures heap { IsHeap block.new }
@@ -42,8 +43,8 @@ pub fn append(block: &mut [u8], c: u16, n: u16) -> Result<(), AppendError>
     }
 }
 
-/// Puts an element of `n` zero bytes at an index, which may be the count; `n` is not used where
-/// elements have one size. Other chunks may move.
+/// Puts an element of `n` zero bytes at an index, which may be the count; `n` is not used
+/// where elements have one size. Other chunks may move.
 ///
 /// `BadChunk` exactly where no chunk has this handle; else `BadArray` where its bytes are no
 /// array; else `BadElement` where `i` is above the count; else `Room` where the block has no
@@ -81,7 +82,8 @@ fn insert_at(block: &mut [u8], c: u16, found: Found, i: usize, n: u16) -> Result
     ensures handle { handle_word block.new ≡ handle_word block.old }
     ensures ok { let old = chunks block.old in OnOk result (chunks block.new ≡ with_array old c (with_element (array_of old c) i n)) }
     ensures fits { let old = chunks block.old in OnOk result (need (with_array old c (with_element (array_of old c) i n)) ≤ length block.old) }
-    ensures refused { let old = chunks block.old in IfErr result (λ e. IsRoomError e (need (with_array old c (with_element (array_of old c) i n))) (length block.old)) }
+    ensures refused { let old = chunks block.old in
+        IfErr result (λ e. IsRoomError e (need (with_array old c (with_element (array_of old c) i n))) (length block.old)) }
     ensures err { OnErr result (block.new ≡ block.old) }
 {
     let at = found.start(block, i);

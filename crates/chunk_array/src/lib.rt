@@ -7,8 +7,8 @@
 //! Book, chapter Local Memory.)
 //!
 //! Each call reads the array's shape first. Where elements have one size that takes a fixed
-//! time; where sizes vary it is one pass over the table of offsets, since the chunk's bytes are
-//! no array where one of them is wrong.
+//! time; where sizes vary it is one pass over the table of offsets, since the chunk's bytes
+//! are no array where one of them is wrong.
 #![tactic(auto)]
 
 mod change;

@@ -1,5 +1,5 @@
 //! Calls that look at an array.
-ghost use Rattle.std.specs.Prelude.{◌≡◌, ℕ, ◌+◌, ◌≤◌, length, IfErr, IfOk, MatchResult};
+ghost use Rattle.std.specs.Prelude.{◌≡◌, ℕ, ◌+◌, ◌≤◌, length, IfErr, IfOk, MatchResult, OnOk};
 ghost use Rattle.lmem_raw.specs.Bytes.{part};
 ghost use Rattle.geos_model.specs.Refusals.{first_refusal};
 ghost use Rattle.geos_model.specs.Block.{chunks, IsPlaced};
@@ -93,7 +93,7 @@ pub fn count(block: &[u8], c: u16) -> Result<u16, ArrayError>
 /// array; else `BadElement` where `i` is not below the count.
 pub fn element(block: &[u8], c: u16, i: u16) -> Result<(u16, u16), ElementError>
     requires { IsHeap block.now }
-    ensures ok { IfOk result (λ p. first_refusal (no_element (chunks block.now) c i) ≡ None) }
+    ensures ok { OnOk result (first_refusal (no_element (chunks block.now) c i) ≡ None) }
     ensures place { IfOk result (λ p. HasElement block.now c i p.0 p.1) }
     ensures within { IfOk result (λ p. p.0 + p.1 ≤ length block.now) }
     ensures refused { IfErr result (λ e. IsElementError e (no_element (chunks block.now) c i)) }

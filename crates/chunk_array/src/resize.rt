@@ -61,7 +61,8 @@ fn resize_part(block: &mut [u8], c: u16, at: usize, has: usize, n: u16) -> Resul
     ensures handle { handle_word block.new ≡ handle_word block.old }
     ensures ok { let old = chunks block.old in OnOk result (chunks block.new ≡ with_bytes old c (with_resized_part (bytes_of old c) at has n)) }
     ensures fits { let old = chunks block.old in OnOk result (need (with_bytes old c (with_resized_part (bytes_of old c) at has n)) ≤ length block.old) }
-    ensures refused { let old = chunks block.old in IfErr result (λ e. IsRoomError e (need (with_bytes old c (with_resized_part (bytes_of old c) at has n))) (length block.old)) }
+    ensures refused { let old = chunks block.old in
+        IfErr result (λ e. IsRoomError e (need (with_bytes old c (with_resized_part (bytes_of old c) at has n))) (length block.old)) }
     ensures err { OnErr result (block.new ≡ block.old) }
 {
     let n = n as usize;

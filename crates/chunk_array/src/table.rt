@@ -38,9 +38,9 @@ pub(crate) fn open_table(bytes: &mut [u8], count: usize, i: usize, at: usize, n:
     shift_offsets(bytes, i + 1, count + 1, 0, n + 2);
 }
 
-/// Takes an offset out of the table, with the n bytes of its element, which begins at `at`. The
-/// elements before it move down by 2, and those behind it stay: n + 2 bytes in front of them
-/// are not used then.
+/// Takes an offset out of the table, with the n bytes of its element, which begins at `at`.
+/// The elements before it move down by 2, and those behind it stay: n + 2 bytes in front of
+/// them are not used then.
 pub(crate) fn close_table(bytes: &mut [u8], count: usize, i: usize, at: usize, n: usize)
     requires order { i < count }
     requires table { 8 + 2 * count ≤ at }

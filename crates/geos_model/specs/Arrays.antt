@@ -115,7 +115,8 @@ spelled a = flat_map word_bytes (head_words a) ++ flat_map (λ e. e) a.elements
 abbrev pub empty : ℕ → Array
 empty k = record { element_size = k; elements = [] }
 
--- what a new element takes: the bytes that are asked for where sizes vary, else what each takes
+-- what a new element takes: the bytes that are asked for where sizes vary, else what each one
+-- takes
 abbrev pub new_length : Array → ℕ → ℕ
 new_length a n = if a.element_size == 0 then n else a.element_size
 

@@ -114,7 +114,10 @@ fn keeps_elements_of_one_size(rt: HostRuntime) -> Result<(), Fail> {
     assert_eq!(rt; size(&block, 16), Ok(16));
     assert_eq!(rt; part(&rt, &block, 1), (12, 4));
     count_into(&rt, &mut block, 1);
-    assert_eq!(rt; resize_element(&mut block, 16, 1, 4), Err(GrowthError::BadArray));
+    assert_eq!(rt;
+        resize_element(&mut block, 16, 1, 4),
+        Err(GrowthError::BadArray)
+    );
     assert_eq!(rt; insert(&mut block, 16, 3, 4), Err(GrowthError::BadElement));
     assert_eq!(rt; insert(&mut block, 16, 1, 0), Ok(()));
     assert_eq!(rt; remove(&mut block, 16, 0), Ok(()));
@@ -152,13 +155,34 @@ fn count_in(rt: &impl Abort, bytes: &[u8]) -> Result<u16, ArrayError> {
 fn tells_what_is_no_array(rt: HostRuntime) -> Result<(), Fail> {
     let none = Err(ArrayError::BadArray);
     // two elements of varying sizes, then each way in which such bytes are no array
-    assert_eq!(rt; count_in(&rt, &[2, 0, 0, 0, 0, 0, 8, 0, 12, 0, 13, 0, 7]), Ok(2));
-    assert_eq!(rt; count_in(&rt, &[3, 0, 0, 0, 0, 0, 8, 0, 12, 0, 13, 0, 7]), none);
-    assert_eq!(rt; count_in(&rt, &[2, 0, 0, 0, 1, 0, 8, 0, 12, 0, 13, 0, 7]), none);
-    assert_eq!(rt; count_in(&rt, &[2, 0, 0, 0, 0, 0, 9, 0, 12, 0, 13, 0, 7]), none);
-    assert_eq!(rt; count_in(&rt, &[2, 0, 0, 0, 0, 0, 8, 0, 13, 0, 13, 0, 7]), none);
-    assert_eq!(rt; count_in(&rt, &[2, 0, 0, 0, 0, 0, 8, 0, 12, 0, 11, 0, 7]), none);
-    assert_eq!(rt; count_in(&rt, &[2, 0, 0, 0, 0, 0, 8, 0, 12, 0, 14, 0, 7]), none);
+    assert_eq!(rt;
+        count_in(&rt, &[2, 0, 0, 0, 0, 0, 8, 0, 12, 0, 13, 0, 7]),
+        Ok(2)
+    );
+    assert_eq!(rt;
+        count_in(&rt, &[3, 0, 0, 0, 0, 0, 8, 0, 12, 0, 13, 0, 7]),
+        none
+    );
+    assert_eq!(rt;
+        count_in(&rt, &[2, 0, 0, 0, 1, 0, 8, 0, 12, 0, 13, 0, 7]),
+        none
+    );
+    assert_eq!(rt;
+        count_in(&rt, &[2, 0, 0, 0, 0, 0, 9, 0, 12, 0, 13, 0, 7]),
+        none
+    );
+    assert_eq!(rt;
+        count_in(&rt, &[2, 0, 0, 0, 0, 0, 8, 0, 13, 0, 13, 0, 7]),
+        none
+    );
+    assert_eq!(rt;
+        count_in(&rt, &[2, 0, 0, 0, 0, 0, 8, 0, 12, 0, 11, 0, 7]),
+        none
+    );
+    assert_eq!(rt;
+        count_in(&rt, &[2, 0, 0, 0, 0, 0, 8, 0, 12, 0, 14, 0, 7]),
+        none
+    );
     assert_eq!(rt; count_in(&rt, &[2, 0, 0, 0, 0, 0, 8, 0, 12, 0]), none);
     // no element, and a byte too many
     assert_eq!(rt; count_in(&rt, &[0, 0, 0, 0, 0, 0, 8, 0]), Ok(0));
@@ -197,9 +221,18 @@ fn leaves_every_byte_where_room_is_wanting(rt: HostRuntime) -> Result<(), Fail> 
     assert_eq!(rt; append(&mut block, 16, 5), Err(AppendError::Room(more)));
     assert_eq!(rt; append(&mut block, 16, 65_535), Err(AppendError::Room(big)));
     assert_eq!(rt; insert(&mut block, 16, 0, 5), Err(GrowthError::Room(more)));
-    assert_eq!(rt; insert(&mut block, 16, 0, 65_533), Err(GrowthError::Room(big)));
-    assert_eq!(rt; resize_element(&mut block, 16, 0, 27), Err(GrowthError::Room(more)));
-    assert_eq!(rt; resize_element(&mut block, 16, 0, 65_535), Err(GrowthError::Room(big)));
+    assert_eq!(rt;
+        insert(&mut block, 16, 0, 65_533),
+        Err(GrowthError::Room(big))
+    );
+    assert_eq!(rt;
+        resize_element(&mut block, 16, 0, 27),
+        Err(GrowthError::Room(more))
+    );
+    assert_eq!(rt;
+        resize_element(&mut block, 16, 0, 65_535),
+        Err(GrowthError::Room(big))
+    );
     assert_eq!(rt; create(&mut block, 0), Err(more));
     assert!(rt; are_same(&block, &before));
     Ok(())
@@ -211,7 +244,10 @@ fn has_no_room_for_the_largest_elements(rt: HostRuntime) -> Result<(), Fail> {
     init(&mut block, 1);
     assert_eq!(rt; create(&mut block, 65_535), Ok(16));
     assert_eq!(rt; count(&block, 16), Ok(0));
-    assert_eq!(rt; append(&mut block, 16, 0), Err(AppendError::Room(RoomError::TooBig)));
+    assert_eq!(rt;
+        append(&mut block, 16, 0),
+        Err(AppendError::Room(RoomError::TooBig))
+    );
     assert!(rt; begins_with(&rt, &block, &[0, 0, 255, 255, 0, 0, 8, 0]));
     Ok(())
 }
