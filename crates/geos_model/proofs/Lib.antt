@@ -18,6 +18,15 @@ pub mod Lowest
 pub mod Fits
 pub mod Examples
 pub mod CallExamples
+pub mod ArrayExamples
+pub mod Joined
+pub mod JoinedEdits
+pub mod ArraySpells
+pub mod ArrayReads
+pub mod ArrayPlaces
+pub mod ArrayRound
+pub mod ChunkItems
+pub mod ArrayTests
 pub mod Laws
 pub mod LegalBytes
 pub mod LegalChunks

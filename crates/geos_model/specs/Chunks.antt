@@ -83,6 +83,10 @@ with_zeros bytes at n = take at bytes ++ (replicate n 0 ++ drop at bytes)
 abbrev pub without_part : List ℕ → ℕ → ℕ → List ℕ
 without_part bytes at n = take at bytes ++ drop (at + n) bytes
 
+-- with n bytes in the place of the part at an offset: its first ones that fit, and zeros
+abbrev pub with_resized_part : List ℕ → ℕ → ℕ → ℕ → List ℕ
+with_resized_part bytes at has n = take at bytes ++ (resized (take has (drop at bytes)) n ++ drop (at + has) bytes)
+
 -- what `realloc` does: the chunk of a handle gets n bytes
 abbrev pub with_resized : List (Option (List ℕ)) → ℕ → ℕ → List (Option (List ℕ))
 with_resized chunks c n = with_bytes chunks c (resized (bytes_of chunks c) n)

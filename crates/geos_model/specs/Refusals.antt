@@ -1,7 +1,7 @@
 -- The refusals of calls, in order, and their numbers.
 use Rattle.std.specs.Prelude.{ℕ, Bool, List, [], ◌∷◌, Option, Some, None, if◌then◌else◌}
 use Rattle.geos_model.specs.declared.refusal.Refusal.{Refusal}
-use Rattle.geos_model.specs.declared.refusal.Refusal.TheVariants.{BadHandle, BadChunk, Short, NoRoom, NoHandle, TooBig, Locked, Full, Range}
+use Rattle.geos_model.specs.declared.refusal.Refusal.TheVariants.{BadHandle, BadChunk, Short, NoRoom, NoHandle, TooBig, Locked, BadArray, BadElement, Full, Range}
 
 -- the number that a routine sees
 abbrev pub refusal_number : Refusal → ℕ
@@ -12,6 +12,8 @@ refusal_number NoRoom = 4
 refusal_number NoHandle = 5
 refusal_number TooBig = 6
 refusal_number Locked = 7
+refusal_number BadArray = 8
+refusal_number BadElement = 9
 refusal_number Full = 10
 refusal_number Range = 14
 

@@ -30,6 +30,12 @@ pub enum Refusal {
     /// The count of locks can't rise, or the block is locked and can't be freed.
     #[error("the block is locked")]
     Locked,
+    /// The chunk's bytes are no array, or its elements have one size and can't get another.
+    #[error("the chunk is no such array")]
+    BadArray,
+    /// The array has no element of this index.
+    #[error("no element has this index")]
+    BadElement,
     /// 1,024 words are put out.
     #[error("no more words can be put out")]
     Full,
@@ -53,6 +59,8 @@ impl Refusal {
             Refusal::NoHandle => 5,
             Refusal::TooBig => 6,
             Refusal::Locked => 7,
+            Refusal::BadArray => 8,
+            Refusal::BadElement => 9,
             Refusal::Full => 10,
             Refusal::Range => 14,
         }

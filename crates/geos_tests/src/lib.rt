@@ -7,6 +7,8 @@ mod blocks;
 #[cfg(test)]
 mod calls;
 #[cfg(test)]
+mod chunk_arrays;
+#[cfg(test)]
 mod fixtures;
 #[cfg(test)]
 mod heaps;

@@ -1,0 +1,58 @@
+-- What an array needs with one element more.
+use Rattle.std.proofs.Common.{◌≡◌, ℕ, ◌+◌, ◌<◌, ◌≤◌, List, Some, length, refl, ap, sym, ◌∙◌, arith}
+use Rattle.lmem_raw.specs.Bytes.{part}
+use Rattle.geos_model.specs.Block.{chunks}
+use Rattle.geos_model.specs.Chunks.{chunk_of, bytes_of, need, with_bytes, with_inserted, with_zeros}
+use Rattle.geos_model.specs.Heap.{IsHeap}
+use Rattle.geos_model.specs.Arrays.{element_at, spelled, with_element}
+use Rattle.geos_model.specs.ArrayEdits.{array_of, with_array}
+use Rattle.geos_model.proofs.Resizes.{length-with_zeros}
+use Rattle.geos_model.proofs.ChunkItems.{known-bytes, chunk-written, need-length, need-least}
+use Rattle.geos_model.proofs.ArrayTests.{array-of}
+use Rattle.geos_model.proofs.ArrayPlaces.{element-bounds}
+use Rattle.chunk_array.specs.declared.look.Found.{Found}
+use Rattle.chunk_array.specs.Found.{IsFound}
+use Rattle.chunk_array.specs.Insertions.{room_of, HasRoom}
+use Rattle.chunk_array.proofs.Rewritten.{chunk-small}
+use Rattle.chunk_array.proofs.Roomy.{length-room}
+use Rattle.chunk_array.proofs.Shaped.{Holds, holds}
+
+module _ (b : List ℕ) (c : ℕ) (found : Found) (f : IsFound b c found) (i at n : ℕ) (known : i ≤ found.shape.count) (is : at ≡ element_at f.shape.array i) where
+  abbrev pub bytes : List ℕ
+  bytes = part b found.at found.len
+
+  abbrev pub room : ℕ
+  room = room_of found.shape.element_size n
+
+  h : Holds b c found f.shape.array
+  h = holds b c found f
+
+  -- the array after the call
+  pub grown : with_array (chunks b) c (with_element (array_of (chunks b) c) i n) ≡ with_array (chunks b) c (with_element f.shape.array i n)
+  grown = ap (λ x. with_array (chunks b) c (with_element x i n)) (array-of (chunks b) c bytes f.shape.array h.there h.is)
+
+  long : length (spelled (with_element f.shape.array i n)) ≡ length bytes + room
+  long = length-room bytes f.shape.array found.shape i n h.shaped.reads h.shaped.count h.shaped.size known
+
+  within : at ≤ length bytes
+  within = let l = element-bounds bytes f.shape.array i h.shaped.reads in omega (arith, is, l.1)
+
+  -- needs what the bytes with room need
+  pub grown-need : need (with_inserted (chunks b) c at room) ≡ need (with_array (chunks b) c (with_element (array_of (chunks b) c) i n))
+  grown-need =
+      ap (λ x. need (with_bytes (chunks b) c (with_zeros x at room))) (known-bytes (chunks b) c bytes h.there)
+      ∙ need-length (chunks b) c bytes (with_zeros bytes at room) (spelled (with_element f.shape.array i n)) h.there (length-with_zeros bytes at room within ∙ sym long)
+      ∙ sym (ap need grown)
+
+  -- and at least the room
+  pub grown-big : 65535 < room → 65520 < need (with_array (chunks b) c (with_element (array_of (chunks b) c) i n))
+  grown-big big = let e = ap need grown in let l = need-least (chunks b) c bytes (spelled (with_element f.shape.array i n)) h.there in let m = long in omega (arith, e, l, m, big)
+
+  -- the bytes with room, after they are made
+  pub roomy : (d : List ℕ) → IsHeap d → chunks d ≡ with_inserted (chunks b) c at room
+      → (chunk_of (chunks d) c ≡ Some (with_zeros bytes at room)) × HasRoom (with_zeros bytes at room) bytes f.shape.array found.shape i at n
+  roomy d heap made =
+      let there = ap (λ xs. chunk_of xs c) made ∙ chunk-written (chunks b) c bytes (with_zeros (bytes_of (chunks b) c) at room) h.there ∙ ap (λ x. Some (with_zeros x at room)) (known-bytes (chunks b) c bytes h.there) in (
+        there,
+        record { is = h.is; small = f.small; count = h.shaped.count; size = h.shaped.size; known = known; place = is; made = refl; few = chunk-small d c (with_zeros bytes at room) heap there },
+      )

@@ -1,0 +1,14 @@
+pub mod Offsets
+pub mod Shaped
+pub mod Rewritten
+pub mod Headers
+pub mod Refusing
+pub mod Tables
+pub mod Inserting
+pub mod Roomy
+pub mod Growing
+pub mod Removing
+pub mod Parted
+pub mod Parting
+pub mod Refitting
+pub mod Resizing

@@ -1,0 +1,102 @@
+-- Bytes with the room for an element.
+use Rattle.std.proofs.Common.{◌≡◌, ◌≢◌, ℕ, ◌+◌, ◌*◌, ◌<◌, ◌≤◌, List, length, get_or, replicate, refl, ap, sym, ◌∙◌, subst, inl, inr, arith}
+use Rattle.std.proofs.lemmas.Bool.{cases_eq, eq-eqb, ne_eqb}
+use Rattle.std.proofs.lemmas.List.Edits.{length-insert}
+use Rattle.std.proofs.Math.Nat.{mul-le-mul_left}
+use Rattle.geos_model.specs.Bytes.{with_word}
+use Rattle.geos_model.specs.Chunks.{with_zeros}
+use Rattle.geos_model.specs.Arrays.{Array, element_at, new_length, with_element, spelled}
+use Rattle.geos_model.proofs.Resizes.{length-with_zeros}
+use Rattle.geos_model.proofs.ArraySpells.{first-varying, first-fixed}
+use Rattle.geos_model.proofs.ArrayReads.{Reads, reads}
+use Rattle.geos_model.proofs.ArrayPlaces.{element-bounds}
+use Rattle.chunk_array.specs.declared.shape.Shape.{Shape}
+use Rattle.chunk_array.specs.Insertions.{room_of, HasRoom}
+use Rattle.chunk_array.specs.Tables.{offset, OpensTable}
+use Rattle.chunk_array.proofs.Inserting.{new-varying, new-fixed, first-le, zeros-word, length-inserted, inserted-varying, inserted-fixed}
+
+pub room-varying : (size n : ℕ) → size ≡ 0 → room_of size n ≡ n + 2
+room-varying size n e = rw (eq-eqb size 0 e) refl
+
+pub room-fixed : (size n : ℕ) → size ≢ 0 → room_of size n ≡ size
+room-fixed size n ne = rw (ne_eqb size 0 ne) refl
+
+-- a number is at most its product with one that is not 0
+mul-some : (n k : ℕ) → k ≢ 0 → n ≤ n * k
+mul-some n k some = let h : 1 ≤ k = omega arith in let m = mul-le-mul_left n h in omega (arith, m)
+
+-- an array has few elements: each takes a byte, or two for its offset
+pub few-elements : (bytes : List ℕ) (a : Array) → Reads bytes a → length a.elements ≤ length bytes
+few-elements bytes a r = elim (cases_eq a.element_size 0) [
+  | inl none ↦ (let f = first-varying a none in let s = r.spells in let fits = s.fits in omega (arith, f, fits))
+  | inr some ↦ (let e = r.equal some (length a.elements) (omega arith) in let end = r.end in let m = mul-some (length a.elements) a.element_size some in omega (arith, e, end, m))
+]
+
+-- what they say of the array that they came from
+pub record Room (bytes before : List ℕ) (a : Array) (shape : Shape) (i at n : ℕ) : Type 0 where
+  pub reads : Reads before a
+  pub within : at ≤ length before
+  pub least : 8 ≤ at
+  pub long : length bytes ≡ length before + room_of shape.element_size n
+  pub count : shape.count + 1 < 65536
+
+pub room : (bytes before : List ℕ) (a : Array) (shape : Shape) (i at n : ℕ) → HasRoom bytes before a shape i at n → Room bytes before a shape i at n
+room bytes before a shape i at n h =
+    let r = reads before a h.small h.is in let b = element-bounds before a i r in let place = h.place in
+    let w : at ≤ length before = omega (arith, place, b.1) in
+    let long = ap length h.made ∙ length-with_zeros before at (room_of shape.element_size n) w in
+    let few = few-elements before a r in let most = h.few in let count = h.count in
+    record { reads = r; within = w; least = omega (arith, place, b.0); long = long; count = omega (arith, few, most, long, count) }
+
+-- where sizes vary the table can be opened
+pub record Openable (bytes : List ℕ) (count at n : ℕ) : Type 0 where
+  pub table : 8 + 2 * count ≤ at
+  pub room : at + (n + 2) ≤ length bytes
+  pub small : length bytes ≤ 65535
+  pub offsets : (j : ℕ) → j < count → offset bytes j + (n + 2) ≤ 65535
+
+pub openable : (bytes before : List ℕ) (a : Array) (shape : Shape) (i at n : ℕ) → HasRoom bytes before a shape i at n → shape.element_size ≡ 0 → Openable bytes shape.count at n
+openable bytes before a shape i at n h none =
+    let m = room bytes before a shape i at n h in let none_a : a.element_size ≡ 0 = h.size ∙ none in
+    let first = first-varying a none_a in let le = first-le a i in let place = h.place in let count = h.count in
+    let more = room-varying shape.element_size n none in let long = m.long in let within = m.within in let few = h.few in
+    record {
+      table = omega (arith, first, le, place, count);
+      room = omega (arith, long, more, within);
+      small = omega (arith, few);
+      offsets = (λ j l.
+          let e : offset bytes j ≡ offset before j = ap (λ x. offset x j) h.made ∙ zeros-word before at (room_of shape.element_size n) (8 + 2 * j) (omega (arith, first, le, place, count)) within in
+          let o = m.reads.spells.offsets none_a j (omega (arith, count)) in let b = element-bounds before a j m.reads in
+          omega (arith, e, o, b.1, long, more, few));
+    }
+
+-- and the new array is spelled
+pub spelled-varying : (bytes new done before : List ℕ) (a : Array) (shape : Shape) (i at n w : ℕ) → HasRoom bytes before a shape i at n → shape.element_size ≡ 0
+    → OpensTable bytes new shape.count i at n → w ≡ shape.count + 1 → done ≡ with_word new 0 w → ((k : ℕ) → get_or done k 0 < 256) → done ≡ spelled (with_element a i n)
+spelled-varying bytes new done before a shape i at n w h none o counts made small =
+    let m = room bytes before a shape i at n h in let count = h.count in let few = m.count in let known = h.known in
+    let T : ℕ → Type 0 = λ x. OpensTable bytes new x i at n in let U : ℕ → Type 0 = λ x. OpensTable bytes new (length a.elements) i x n in
+    inserted-varying before bytes new done a i n m.reads (h.size ∙ none) (omega (arith, known, count))
+    (h.made ∙ ap (λ x. with_zeros before x (room_of shape.element_size n)) h.place ∙ ap (with_zeros before (element_at a i)) (room-varying shape.element_size n none))
+    (subst U h.place (subst T (sym count) o)) (made ∙ ap (with_word new 0) (counts ∙ ap (λ x. x + 1) (sym count))) (omega (arith, count, few)) small
+
+pub spelled-fixed : (bytes done before : List ℕ) (a : Array) (shape : Shape) (i at n w : ℕ) → HasRoom bytes before a shape i at n → shape.element_size ≢ 0
+    → w ≡ shape.count + 1 → done ≡ with_word bytes 0 w → ((k : ℕ) → get_or done k 0 < 256) → done ≡ spelled (with_element a i n)
+spelled-fixed bytes done before a shape i at n w h some counts made small =
+    let m = room bytes before a shape i at n h in let count = h.count in let few = m.count in let known = h.known in let size = h.size in
+    inserted-fixed before bytes done a i n m.reads (λ e. some (sym size ∙ e)) (omega (arith, known, count))
+    (h.made ∙ ap (λ x. with_zeros before x (room_of shape.element_size n)) h.place ∙ ap (with_zeros before (element_at a i)) (room-fixed shape.element_size n some ∙ sym size))
+    (made ∙ ap (with_word bytes 0) (counts ∙ ap (λ x. x + 1) (sym count))) (omega (arith, count, few)) small
+
+-- the new array takes the room
+pub length-room : (before : List ℕ) (a : Array) (shape : Shape) (i n : ℕ) → Reads before a → length a.elements ≡ shape.count → a.element_size ≡ shape.element_size → i ≤ shape.count
+    → length (spelled (with_element a i n)) ≡ length before + room_of shape.element_size n
+length-room before a shape i n r count size known =
+    let fits : i ≤ length a.elements = omega (arith, count, known) in
+    let e = length-inserted before a i n r fits in let b = with_element a i n in let more = length-insert a.elements i (replicate (new_length a n) 0) fits in
+    elim (cases_eq shape.element_size 0) [
+      | inl none ↦ (let f = first-varying a (size ∙ none) in let g = first-varying b (size ∙ none) in let new = new-varying a n (size ∙ none) in let q = room-varying shape.element_size n none in
+          omega (arith, e, f, g, new, q, more))
+      | inr some ↦ (let ne : a.element_size ≢ 0 = (λ z. some (sym size ∙ z)) in let f = first-fixed a ne in let g = first-fixed b ne in let new = new-fixed a n ne in let q = room-fixed shape.element_size n some in
+          omega (arith, e, f, g, new, q, size))
+    ]

@@ -1,0 +1,48 @@
+use Rattle.std.proofs.Common.{ℕ, length, ap, sym, ◌∙◌, subst, arith}
+use Rattle.lmem_raw.specs.Bytes.{part}
+use Rattle.geos_model.specs.Block.{chunks}
+use Rattle.geos_model.specs.Chunks.{need, with_inserted, with_zeros, bytes_of}
+use Rattle.geos_model.specs.Arrays.{spelled, with_element}
+use Rattle.geos_model.specs.ArrayEdits.{array_of, with_array}
+use Rattle.geos_model.proofs.ChunkItems.{written-twice}
+use Rattle.lmem_heap.specs.Refusals.{IsRoomError}
+use Rattle.lmem_heap.specs.InsertErrors.{IsInsertError}
+use Rattle.chunk_array.specs.Insertions.{room_of}
+use Rattle.chunk_array.proofs.Growing.{grown, grown-need, grown-big, roomy}
+use Rattle.chunk_array.proofs.grow.insert_at.Goals as goal
+
+pub returns-then-room-gt65535-clause-refused : goal.returns-then-room-gt65535-clause-refused
+returns-then-room-gt65535-clause-refused c =
+    let b = c.args.block.now in let found = c.args.found in let f = c.requires.found in
+    grown-big b c.args.c found f c.args.i c.start-at.result c.args.n c.requires.known (c.start-at.ensures.start f.shape.array f.shape.is) (let v = c.room-room.ensures.value in let t = c.if-room-gt65535.true in omega (arith, v, t))
+
+pub returns-in-Err-Room-clause-refused : goal.returns-in-Err-Room-clause-refused
+returns-in-Err-Room-clause-refused c =
+    let b = c.args.block.now in let found = c.args.found in let f = c.requires.found in let at = c.start-at.result in
+    let first = subst (λ e. IsInsertError e (chunks b) (length b) c.args.c at c.room-room.result) c.in-Err-Room.field-0-is c.in-Err-Room.ensures.refused in
+    let same = ap (λ m. need (with_inserted (chunks b) c.args.c at m)) c.room-room.ensures.value ∙ grown-need b c.args.c found f c.args.i at c.args.n c.requires.known (c.start-at.ensures.start f.shape.array f.shape.is) in
+    let N : ℕ → Type 0 = λ x. IsRoomError c.in-Err-Room.room x (length b) in
+    subst (λ x. IsRoomError x (need (with_array (chunks b) c.args.c (with_element (array_of (chunks b) c.args.c) c.args.i c.args.n))) (length b)) (sym c.in-Err-Room.room-is) (subst N same first.2)
+
+pub put_element-requires-clause-room : goal.put_element-requires-clause-room
+put_element-requires-clause-room c =
+    let b = c.args.block.now in let found = c.args.found in let f = c.requires.found in let at = c.start-at.result in
+    let made = c.in-Ok.ensures.ok.2 ∙ ap (with_inserted (chunks b) c.args.c at) c.room-room.ensures.value in
+    let r = roomy b c.args.c found f c.args.i at c.args.n c.requires.known (c.start-at.ensures.start f.shape.array f.shape.is) c.insert.new.block c.in-Ok.ensures.heap made in
+    rw r.0 (record { before = part b found.at found.len; array = f.shape.array; has = r.1 })
+
+pub returns-clause-ok : goal.returns-clause-ok
+returns-clause-ok c =
+    let b = c.args.block.now in let found = c.args.found in let f = c.requires.found in let at = c.start-at.result in let room = room_of found.shape.element_size c.args.n in
+    let is = c.start-at.ensures.start f.shape.array f.shape.is in
+    let made = c.in-Ok.ensures.ok.2 ∙ ap (with_inserted (chunks b) c.args.c at) c.room-room.ensures.value in
+    let r = roomy b c.args.c found f c.args.i at c.args.n c.requires.known is c.insert.new.block c.in-Ok.ensures.heap made in
+    let bytes = part b found.at found.len in let a = f.shape.array in
+    c.put_element.ensures.chunks (with_zeros bytes at room) bytes a r.0 r.1 ∙ ap (λ xs. with_array xs c.args.c (with_element a c.args.i c.args.n)) made
+    ∙ written-twice (chunks b) c.args.c (with_zeros (bytes_of (chunks b) c.args.c) at room) (spelled (with_element a c.args.i c.args.n)) ∙ sym (grown b c.args.c found f c.args.i at c.args.n c.requires.known is)
+
+pub returns-clause-fits : goal.returns-clause-fits
+returns-clause-fits c =
+    let b = c.args.block.now in let found = c.args.found in let f = c.requires.found in let at = c.start-at.result in
+    let same = ap (λ m. need (with_inserted (chunks b) c.args.c at m)) c.room-room.ensures.value ∙ grown-need b c.args.c found f c.args.i at c.args.n c.requires.known (c.start-at.ensures.start f.shape.array f.shape.is) in
+    let fits = c.in-Ok.ensures.fits in omega (arith, same, fits)

@@ -1,0 +1,12 @@
+-- When calls on arrays refuse.
+use Rattle.std.specs.Prelude.{◌≡◌, Bool, List, Some}
+use Rattle.geos_model.specs.declared.refusal.Refusal.{Refusal}
+use Rattle.geos_model.specs.declared.refusal.Refusal.TheVariants as refusals
+use Rattle.geos_model.specs.Refusals.{first_refusal}
+use Rattle.chunk_array.specs.declared.error.ArrayError.{ArrayError}
+use Rattle.chunk_array.specs.declared.error.ArrayError.TheVariants.{BadChunk, BadArray}
+
+-- of these tests the first that holds is the error's
+abbrev pub IsArrayError : ArrayError → List (Bool × Refusal) → Type 0
+IsArrayError BadChunk tests = first_refusal tests ≡ Some refusals.BadChunk
+IsArrayError BadArray tests = first_refusal tests ≡ Some refusals.BadArray

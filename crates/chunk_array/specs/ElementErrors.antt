@@ -1,0 +1,13 @@
+-- When calls on elements refuse.
+use Rattle.std.specs.Prelude.{◌≡◌, Bool, List, Some}
+use Rattle.geos_model.specs.declared.refusal.Refusal.{Refusal}
+use Rattle.geos_model.specs.declared.refusal.Refusal.TheVariants as refusals
+use Rattle.geos_model.specs.Refusals.{first_refusal}
+use Rattle.chunk_array.specs.declared.error.ElementError.{ElementError}
+use Rattle.chunk_array.specs.declared.error.ElementError.TheVariants.{BadChunk, BadArray, BadElement}
+
+-- of these tests the first that holds is the error's
+abbrev pub IsElementError : ElementError → List (Bool × Refusal) → Type 0
+IsElementError BadChunk tests = first_refusal tests ≡ Some refusals.BadChunk
+IsElementError BadArray tests = first_refusal tests ≡ Some refusals.BadArray
+IsElementError BadElement tests = first_refusal tests ≡ Some refusals.BadElement

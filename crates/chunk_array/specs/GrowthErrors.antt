@@ -1,0 +1,16 @@
+-- When calls that may need more room refuse.
+use Rattle.std.specs.Prelude.{◌≡◌, ℕ, Bool, List, Some, None}
+use Rattle.geos_model.specs.declared.refusal.Refusal.{Refusal}
+use Rattle.geos_model.specs.declared.refusal.Refusal.TheVariants as refusals
+use Rattle.geos_model.specs.Refusals.{first_refusal}
+use Rattle.lmem_heap.specs.Refusals.{IsRoomError}
+use Rattle.chunk_array.specs.declared.error.GrowthError.{GrowthError}
+use Rattle.chunk_array.specs.declared.error.GrowthError.TheVariants.{BadChunk, BadArray, BadElement, Room}
+
+-- of these tests the first that holds is the error's; or none holds, and a block of this size
+-- has no room where so much is needed
+abbrev pub IsGrowthError : GrowthError → List (Bool × Refusal) → ℕ → ℕ → Type 0
+IsGrowthError BadChunk tests needed size = first_refusal tests ≡ Some refusals.BadChunk
+IsGrowthError BadArray tests needed size = first_refusal tests ≡ Some refusals.BadArray
+IsGrowthError BadElement tests needed size = first_refusal tests ≡ Some refusals.BadElement
+IsGrowthError (Room room) tests needed size = (first_refusal tests ≡ None) × IsRoomError room needed size

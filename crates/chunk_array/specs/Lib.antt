@@ -1,0 +1,11 @@
+pub mod Shapes
+pub mod Tables
+pub mod Found
+pub mod Elements
+pub mod ArrayErrors
+pub mod ElementErrors
+pub mod Insertions
+pub mod AppendErrors
+pub mod GrowthErrors
+pub mod Removals
+pub mod Refits

@@ -1,0 +1,114 @@
+//! Changes of an array's bytes where they stand.
+ghost use Rattle.std.specs.Prelude.{◌≡◌, ℕ, ◌≤◌, List, length, Option, Some};
+ghost use Rattle.geos_model.specs.Arrays.{Array, spelled, with_element};
+ghost use Rattle.geos_model.specs.ArrayEdits.{with_array};
+ghost use Rattle.geos_model.specs.Block.{chunks, handle_word};
+ghost use Rattle.geos_model.specs.Chunks.{chunk_of};
+ghost use Rattle.geos_model.specs.Heap.{IsHeap};
+ghost use Rattle.std.specs.Prelude.{IsSomeAnd};
+ghost use Rattle.chunk_array.specs.Insertions.{HasRoom, IsRoomy};
+ghost use Rattle.chunk_array.specs.Refits.{HasRefit, IsRefitted, with_refit};
+ghost use Rattle.chunk_array.specs.Removals.{Excludes, HasPart, IsParted, SpellsWithout};
+
+use crate::shape::{COUNT, Shape};
+use crate::table::{close_table, open_table, shift_offsets};
+use crate::words::put16;
+use lmem_heap::place;
+
+/// Spells an array with a new element of zeros in a chunk that has the room for it where it is
+/// to begin.
+pub(crate) fn put_element(block: &mut [u8], c: u16, shape: Shape, i: usize, at: usize, n: usize)
+    requires heap { IsHeap block.old }
+    requires room { IsSomeAnd (chunk_of (chunks block.old) c) (λ bytes. IsRoomy bytes shape i at n) }
+    ensures heap { IsHeap block.new }
+    ensures handle { handle_word block.new ≡ handle_word block.old }
+    ensures chunks { (bytes before : List ℕ) (a : Array) → chunk_of (chunks block.old) c ≡ Some bytes → HasRoom bytes before a shape i at n
+        → chunks block.new ≡ with_array (chunks block.old) c (with_element a i n) }
+{
+    let (begin, len) = match place(block, c) {
+        Ok(place) => place,
+        Err(_) => unreachable!(),
+    };
+    let begin = begin as usize;
+    spell_inserted(&mut block[begin..begin + len as usize], shape, i, at, n);
+}
+
+/// Spells an array with a new element of zeros.
+fn spell_inserted(bytes: &mut [u8], shape: Shape, i: usize, at: usize, n: usize)
+    requires { IsRoomy bytes.old shape i at n }
+    ensures { (before : List ℕ) (a : Array) → HasRoom bytes.old before a shape i at n → bytes.new ≡ spelled (with_element a i n) }
+{
+    if shape.element_size == 0 {
+        open_table(bytes, shape.count as usize, i, at, n);
+    }
+    put16(bytes, COUNT, shape.count + 1);
+}
+
+/// Spells an array without an element, in front of whose end the bytes that it took, with its
+/// offset where sizes vary, are left: they are to be deleted.
+pub(crate) fn take_element(
+    block: &mut [u8],
+    c: u16,
+    shape: Shape,
+    i: usize,
+    start: usize,
+    end: usize,
+)
+    requires heap { IsHeap block.old }
+    requires part { IsSomeAnd (chunk_of (chunks block.old) c) (λ bytes. IsParted bytes shape i start end) }
+    ensures heap { IsHeap block.new }
+    ensures handle { handle_word block.new ≡ handle_word block.old }
+    ensures chunks { (bytes : List ℕ) (a : Array) → chunk_of (chunks block.old) c ≡ Some bytes → HasPart bytes a shape i start end
+        → Excludes block.old block.new c bytes a shape i start end }
+{
+    let (begin, len) = match place(block, c) {
+        Ok(place) => place,
+        Err(_) => unreachable!(),
+    };
+    let begin = begin as usize;
+    spell_removed(
+        &mut block[begin..begin + len as usize],
+        shape,
+        i,
+        start,
+        end,
+    );
+}
+
+/// Spells an array without an element, but for the bytes that it took.
+fn spell_removed(bytes: &mut [u8], shape: Shape, i: usize, start: usize, end: usize)
+    requires { IsParted bytes.old shape i start end }
+    ensures { (a : Array) → HasPart bytes.old a shape i start end → SpellsWithout bytes.new a shape i start end }
+{
+    if shape.element_size == 0 {
+        close_table(bytes, shape.count as usize, i, start, end - start);
+    }
+    put16(bytes, COUNT, shape.count - 1);
+}
+
+/// Makes the offsets right behind an element that had `has` bytes and has n now.
+pub(crate) fn put_offsets(block: &mut [u8], c: u16, shape: Shape, i: usize, has: usize, n: usize)
+    requires heap { IsHeap block.old }
+    requires refit { IsSomeAnd (chunk_of (chunks block.old) c) (λ bytes. IsRefitted bytes shape i has n) }
+    requires small { (has ≤ 65535) × (n ≤ 65535) }
+    ensures heap { IsHeap block.new }
+    ensures handle { handle_word block.new ≡ handle_word block.old }
+    ensures chunks { (bytes before : List ℕ) (a : Array) → chunk_of (chunks block.old) c ≡ Some bytes → HasRefit bytes before a shape i has n
+        → chunks block.new ≡ with_array (chunks block.old) c (with_refit a i n) }
+{
+    let (begin, len) = match place(block, c) {
+        Ok(place) => place,
+        Err(_) => unreachable!(),
+    };
+    let begin = begin as usize;
+    spell_refitted(&mut block[begin..begin + len as usize], shape, i, has, n);
+}
+
+/// Spells an array in which an element had `has` bytes and has n now.
+fn spell_refitted(bytes: &mut [u8], shape: Shape, i: usize, has: usize, n: usize)
+    requires refit { IsRefitted bytes.old shape i has n }
+    requires small { (has ≤ 65535) × (n ≤ 65535) }
+    ensures { (before : List ℕ) (a : Array) → HasRefit bytes.old before a shape i has n → bytes.new ≡ spelled (with_refit a i n) }
+{
+    shift_offsets(bytes, i + 1, shape.count as usize, has, n);
+}

@@ -1,0 +1,101 @@
+//! Elements that come.
+ghost use Rattle.std.specs.Prelude.{◌≡◌, ◌≤◌, length, IfErr, OnErr, OnOk};
+ghost use Rattle.geos_model.specs.Arrays.{with_element};
+ghost use Rattle.geos_model.specs.ArrayEdits.{append_element, array_of, insert_element, with_array};
+ghost use Rattle.geos_model.specs.Block.{chunks, handle_word};
+ghost use Rattle.geos_model.specs.Chunks.{need};
+ghost use Rattle.geos_model.specs.Heap.{IsHeap};
+ghost use Rattle.geos_model.specs.Refusals.{first_refusal};
+ghost use Rattle.lmem_heap.specs.Refusals.{IsRoomError};
+ghost use Rattle.chunk_array.specs.Found.{IsFound};
+ghost use Rattle.chunk_array.specs.AppendErrors.{IsAppendError};
+ghost use Rattle.chunk_array.specs.GrowthErrors.{IsGrowthError};
+
+use crate::change::put_element;
+use crate::error::{AppendError, ArrayError, GrowthError};
+use crate::look::{Found, find};
+use lmem_heap::{InsertError, RoomError};
+
+/// Puts an element of `n` zero bytes behind the others; `n` is not used where elements have
+/// one size. Other chunks may move.
+///
+/// `BadChunk` exactly where no chunk has this handle; else `BadArray` where its bytes are no
+/// array; else `Room` where the block has no room: `NeedMore` names the size that the block
+/// needs, where it is larger than the block is, and `TooBig` comes where no block is that
+/// large.
+pub fn append(block: &mut [u8], c: u16, n: u16) -> Result<(), AppendError>
+    requires { IsHeap block.old }
+    ensures heap { IsHeap block.new }
+    ensures handle { handle_word block.new ≡ handle_word block.old }
+    ensures ok { let e = append_element c n (chunks block.old) in OnOk result ((first_refusal e.refusals ≡ None) × (chunks block.new ≡ e.chunks)) }
+    ensures fits { OnOk result (need (append_element c n (chunks block.old)).chunks ≤ length block.old) }
+    ensures refused { let e = append_element c n (chunks block.old) in IfErr result (λ why. IsAppendError why e.refusals (need e.chunks) (length block.old)) }
+    ensures err { OnErr result (block.new ≡ block.old) }
+{
+    let found = match find(block, c) {
+        Ok(found) => found,
+        Err(ArrayError::BadChunk) => return Err(AppendError::BadChunk),
+        Err(ArrayError::BadArray) => return Err(AppendError::BadArray),
+    };
+    match insert_at(block, c, found, found.shape.count as usize, n) {
+        Ok(()) => Ok(()),
+        Err(room) => Err(AppendError::Room(room)),
+    }
+}
+
+/// Puts an element of `n` zero bytes at an index, which may be the count; `n` is not used
+/// where elements have one size. Other chunks may move.
+///
+/// `BadChunk` exactly where no chunk has this handle; else `BadArray` where its bytes are no
+/// array; else `BadElement` where `i` is above the count; else `Room` where the block has no
+/// room: see `append`.
+pub fn insert(block: &mut [u8], c: u16, i: u16, n: u16) -> Result<(), GrowthError>
+    requires { IsHeap block.old }
+    ensures heap { IsHeap block.new }
+    ensures handle { handle_word block.new ≡ handle_word block.old }
+    ensures ok { let e = insert_element c i n (chunks block.old) in OnOk result ((first_refusal e.refusals ≡ None) × (chunks block.new ≡ e.chunks)) }
+    ensures fits { OnOk result (need (insert_element c i n (chunks block.old)).chunks ≤ length block.old) }
+    ensures refused { let e = insert_element c i n (chunks block.old) in IfErr result (λ why. IsGrowthError why e.refusals (need e.chunks) (length block.old)) }
+    ensures err { OnErr result (block.new ≡ block.old) }
+{
+    let found = match find(block, c) {
+        Ok(found) => found,
+        Err(ArrayError::BadChunk) => return Err(GrowthError::BadChunk),
+        Err(ArrayError::BadArray) => return Err(GrowthError::BadArray),
+    };
+    if i > found.shape.count {
+        return Err(GrowthError::BadElement);
+    }
+    match insert_at(block, c, found, i as usize, n) {
+        Ok(()) => Ok(()),
+        Err(room) => Err(GrowthError::Room(room)),
+    }
+}
+
+/// Puts an element of n zero bytes at an index. All room is made first, by one `insert` of
+/// bytes where the element is to begin.
+fn insert_at(block: &mut [u8], c: u16, found: Found, i: usize, n: u16) -> Result<(), RoomError>
+    requires heap { IsHeap block.old }
+    requires found { IsFound block.old c found }
+    requires known { i ≤ found.shape.count }
+    ensures heap { IsHeap block.new }
+    ensures handle { handle_word block.new ≡ handle_word block.old }
+    ensures ok { let old = chunks block.old in OnOk result (chunks block.new ≡ with_array old c (with_element (array_of old c) i n)) }
+    ensures fits { let old = chunks block.old in OnOk result (need (with_array old c (with_element (array_of old c) i n)) ≤ length block.old) }
+    ensures refused { let old = chunks block.old in
+        IfErr result (λ e. IsRoomError e (need (with_array old c (with_element (array_of old c) i n))) (length block.old)) }
+    ensures err { OnErr result (block.new ≡ block.old) }
+{
+    let at = found.start(block, i);
+    let room = found.shape.room(n);
+    if room > 65535 {
+        return Err(RoomError::TooBig);
+    }
+    match lmem_heap::insert(block, c, at as u16, room as u16) {
+        Ok(()) => {}
+        Err(InsertError::Room(room)) => return Err(room),
+        Err(_) => unreachable!(),
+    }
+    put_element(block, c, found.shape, i, at, n as usize);
+    Ok(())
+}

@@ -1,0 +1,30 @@
+//! Arrays in the chunks of a heap: lists of elements of one size, or of varying sizes.
+//!
+//! An array has a header of four words. Elements of one size follow side by side; elements of
+//! varying sizes stand behind a table of the offsets where they begin. docs/ARRAYS.md has a
+//! picture. Every call works in the block alone, takes no memory, and leaves the block a heap
+//! with its handle; a call that is refused leaves every byte as it was. (GEOS SDK Concepts
+//! Book, chapter Local Memory.)
+//!
+//! Each call reads the array's shape first. Where elements have one size that takes a fixed
+//! time; where sizes vary it is one pass over the table of offsets, since the chunk's bytes
+//! are no array where one of them is wrong.
+#![tactic(auto)]
+
+mod change;
+mod error;
+mod grow;
+mod look;
+mod make;
+mod resize;
+mod shape;
+mod shrink;
+mod table;
+mod words;
+
+pub use error::{AppendError, ArrayError, ElementError, GrowthError};
+pub use grow::{append, insert};
+pub use look::{count, element};
+pub use make::{clear, create};
+pub use resize::resize_element;
+pub use shrink::remove;

@@ -1,0 +1,108 @@
+//! Calls that look at an array.
+ghost use Rattle.std.specs.Prelude.{◌≡◌, ℕ, ◌+◌, ◌≤◌, length, IfErr, IfOk, MatchResult, OnOk};
+ghost use Rattle.lmem_raw.specs.Bytes.{part};
+ghost use Rattle.geos_model.specs.Refusals.{first_refusal};
+ghost use Rattle.geos_model.specs.Block.{chunks, IsPlaced};
+ghost use Rattle.geos_model.specs.Heap.{IsHeap};
+ghost use Rattle.geos_model.specs.ArrayEdits.{count_elements, no_array, no_element};
+ghost use Rattle.chunk_array.specs.Found.{HasIndex, IsFound};
+ghost use Rattle.chunk_array.specs.Shapes.{HasShape};
+ghost use Rattle.chunk_array.specs.Elements.{HasElement};
+ghost use Rattle.chunk_array.specs.ArrayErrors.{IsArrayError};
+ghost use Rattle.chunk_array.specs.ElementErrors.{IsElementError};
+
+use crate::error::{ArrayError, ElementError};
+use crate::shape::Shape;
+use lmem_heap::place;
+
+/// An array in a chunk: where the chunk's bytes stand, how many there are, and what they say.
+#[derive(Clone, Copy)]
+pub(crate) struct Found {
+    pub(crate) at: u16,
+    pub(crate) len: u16,
+    pub(crate) shape: Shape,
+}
+
+impl Found {
+    ghost use Rattle.geos_model.specs.Arrays.{Array, arr, element_at};
+
+    /// Where an element begins, from the chunk's first byte on; at the count, where the last
+    /// one ends.
+    pub(crate) fn start(self, block: &[u8], i: usize) -> usize
+        requires within { self.at + self.len ≤ length block.now }
+        requires shape { HasShape (part block.now self.at self.len) self.shape }
+        requires known { i ≤ self.shape.count }
+        ensures start { (a : Array) → arr (part block.now self.at self.len) ≡ Some a → result ≡ element_at a i }
+        ensures within { (8 ≤ result) × (result ≤ self.len) }
+    {
+        let begin = self.at as usize;
+        self.shape
+            .start(&block[begin..begin + self.len as usize], i)
+    }
+}
+
+/// The array of a chunk's handle.
+pub(crate) fn find(block: &[u8], c: u16) -> Result<Found, ArrayError>
+    requires { IsHeap block.now }
+    ensures { MatchResult result (λ found. IsFound block.now c found) (λ e. IsArrayError e (no_array (chunks block.now) c)) }
+{
+    let (at, len) = match place(block, c) {
+        Ok(place) => place,
+        Err(_) => return Err(ArrayError::BadChunk),
+    };
+    let begin = at as usize;
+    match Shape::of(&block[begin..begin + len as usize]) {
+        Some(shape) => Ok(Found { at, len, shape }),
+        None => Err(ArrayError::BadArray),
+    }
+}
+
+/// The array of a chunk's handle, which has an element of this index.
+pub(crate) fn find_element(block: &[u8], c: u16, i: u16) -> Result<Found, ElementError>
+    requires { IsHeap block.now }
+    ensures { MatchResult result (λ found. HasIndex block.now c i found) (λ e. IsElementError e (no_element (chunks block.now) c i)) }
+{
+    let found = match find(block, c) {
+        Ok(found) => found,
+        Err(ArrayError::BadChunk) => return Err(ElementError::BadChunk),
+        Err(ArrayError::BadArray) => return Err(ElementError::BadArray),
+    };
+    if i >= found.shape.count {
+        return Err(ElementError::BadElement);
+    }
+    Ok(found)
+}
+
+/// The count of an array's elements.
+///
+/// `BadChunk` exactly where no chunk has this handle; else `BadArray` where its bytes are no
+/// array.
+pub fn count(block: &[u8], c: u16) -> Result<u16, ArrayError>
+    requires { IsHeap block.now }
+    ensures ok { let e = count_elements c (chunks block.now) in IfOk result (λ n. (first_refusal e.refusals ≡ None) × (n ≡ e.answer)) }
+    ensures refused { IfErr result (λ e. IsArrayError e (count_elements c (chunks block.now)).refusals) }
+{
+    let found = find(block, c)?;
+    Ok(found.shape.count)
+}
+
+/// Where an element stands: the offset of its first byte in the block, and how many bytes it
+/// has. Bytes may be written there: see `lmem_heap::writes_stay_in_their_chunk`.
+///
+/// `BadChunk` exactly where no chunk has this handle; else `BadArray` where its bytes are no
+/// array; else `BadElement` where `i` is not below the count.
+pub fn element(block: &[u8], c: u16, i: u16) -> Result<(u16, u16), ElementError>
+    requires { IsHeap block.now }
+    ensures ok { OnOk result (first_refusal (no_element (chunks block.now) c i) ≡ None) }
+    ensures place { IfOk result (λ p. HasElement block.now c i p.0 p.1) }
+    ensures within { IfOk result (λ p. p.0 + p.1 ≤ length block.now) }
+    ensures refused { IfErr result (λ e. IsElementError e (no_element (chunks block.now) c i)) }
+{
+    let found = match find_element(block, c, i) {
+        Ok(found) => found,
+        Err(e) => return Err(e),
+    };
+    let start = found.start(block, i as usize);
+    let end = found.start(block, i as usize + 1);
+    Ok((found.at + start as u16, (end - start) as u16))
+}

@@ -1,0 +1,80 @@
+//! Elements that get another size.
+ghost use Rattle.std.specs.Prelude.{◌≡◌, ◌+◌, ◌≤◌, length, IfErr, IsSome, OnErr, OnOk};
+ghost use Rattle.geos_model.specs.ArrayEdits.{resize_element};
+ghost use Rattle.geos_model.specs.Block.{chunks, handle_word};
+ghost use Rattle.geos_model.specs.Chunks.{bytes_of, chunk_of, need, with_bytes, with_resized_part};
+ghost use Rattle.geos_model.specs.Heap.{IsHeap};
+ghost use Rattle.geos_model.specs.Refusals.{first_refusal};
+ghost use Rattle.lmem_heap.specs.Refusals.{IsRoomError};
+ghost use Rattle.chunk_array.specs.GrowthErrors.{IsGrowthError};
+
+use crate::change::put_offsets;
+use crate::error::{ArrayError, GrowthError};
+use crate::look::find;
+use lmem_heap::{InsertError, RoomError, delete};
+
+/// Gives an element of an array whose sizes vary `n` bytes: its first ones that fit, and zeros
+/// behind them. Other chunks may move.
+///
+/// `BadChunk` exactly where no chunk has this handle; else `BadArray` where its bytes are no
+/// array, or elements have one size; else `BadElement` where `i` is not below the count; else
+/// `Room` where the block has no room: see `append`.
+pub fn resize_element(block: &mut [u8], c: u16, i: u16, n: u16) -> Result<(), GrowthError>
+    requires { IsHeap block.old }
+    ensures heap { IsHeap block.new }
+    ensures handle { handle_word block.new ≡ handle_word block.old }
+    ensures ok { let e = resize_element c i n (chunks block.old) in OnOk result ((first_refusal e.refusals ≡ None) × (chunks block.new ≡ e.chunks)) }
+    ensures fits { OnOk result (need (resize_element c i n (chunks block.old)).chunks ≤ length block.old) }
+    ensures refused { let e = resize_element c i n (chunks block.old) in IfErr result (λ why. IsGrowthError why e.refusals (need e.chunks) (length block.old)) }
+    ensures err { OnErr result (block.new ≡ block.old) }
+{
+    let found = match find(block, c) {
+        Ok(found) => found,
+        Err(ArrayError::BadChunk) => return Err(GrowthError::BadChunk),
+        Err(ArrayError::BadArray) => return Err(GrowthError::BadArray),
+    };
+    if found.shape.element_size != 0 {
+        return Err(GrowthError::BadArray);
+    }
+    if i >= found.shape.count {
+        return Err(GrowthError::BadElement);
+    }
+    let i = i as usize;
+    let start = found.start(block, i);
+    let has = found.start(block, i + 1) - start;
+    match resize_part(block, c, start, has, n) {
+        Ok(()) => {}
+        Err(room) => return Err(GrowthError::Room(room)),
+    }
+    put_offsets(block, c, found.shape, i, has, n as usize);
+    Ok(())
+}
+
+/// Gives n bytes to the part of a chunk at an offset that has `has`: its first ones that fit,
+/// and zeros behind them. All room is made first.
+fn resize_part(block: &mut [u8], c: u16, at: usize, has: usize, n: u16) -> Result<(), RoomError>
+    requires heap { IsHeap block.old }
+    requires chunk { IsSome (chunk_of (chunks block.old) c) }
+    requires within { at + has ≤ length (bytes_of (chunks block.old) c) }
+    requires small { length (bytes_of (chunks block.old) c) ≤ 65520 }
+    ensures heap { IsHeap block.new }
+    ensures handle { handle_word block.new ≡ handle_word block.old }
+    ensures ok { let old = chunks block.old in OnOk result (chunks block.new ≡ with_bytes old c (with_resized_part (bytes_of old c) at has n)) }
+    ensures fits { let old = chunks block.old in OnOk result (need (with_bytes old c (with_resized_part (bytes_of old c) at has n)) ≤ length block.old) }
+    ensures refused { let old = chunks block.old in
+        IfErr result (λ e. IsRoomError e (need (with_bytes old c (with_resized_part (bytes_of old c) at has n))) (length block.old)) }
+    ensures err { OnErr result (block.new ≡ block.old) }
+{
+    let n = n as usize;
+    if n > has {
+        match lmem_heap::insert(block, c, (at + has) as u16, (n - has) as u16) {
+            Ok(()) => return Ok(()),
+            Err(InsertError::Room(room)) => return Err(room),
+            Err(_) => unreachable!(),
+        }
+    }
+    match delete(block, c, (at + n) as u16, (has - n) as u16) {
+        Ok(()) => Ok(()),
+        Err(_) => unreachable!(),
+    }
+}

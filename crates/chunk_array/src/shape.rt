@@ -1,0 +1,109 @@
+//! What the bytes of a chunk say of the array that they spell.
+ghost use Rattle.std.specs.Prelude.{◌≡◌, ◌≢◌, ℕ, ◌+◌, ◌-◌, ◌*◌, ◌<◌, ◌≤◌, length, MatchOption};
+ghost use Rattle.geos_model.specs.Arrays.{Array, arr, are_offsets, element_at, words_from};
+
+use crate::words::get16;
+
+// the offsets of the header's words
+/// How many elements there are.
+pub(crate) const COUNT: usize = 0;
+/// The size of each, 0 where sizes vary.
+pub(crate) const ELEMENT_SIZE: usize = 2;
+/// 0.
+pub(crate) const ZERO: usize = 4;
+/// The header's length, 8.
+pub(crate) const HEADER_SIZE: usize = 6;
+
+/// Where the header ends.
+pub(crate) const HEADER: usize = 8;
+
+/// How many elements an array has, and of which size.
+#[derive(Clone, Copy)]
+pub(crate) struct Shape {
+    pub(crate) count: u16,
+    /// 0 where sizes vary.
+    pub(crate) element_size: u16,
+}
+
+impl Shape {
+    ghost use Rattle.chunk_array.specs.Shapes.{HasShape};
+    ghost use Rattle.chunk_array.specs.Insertions.{room_of};
+
+    /// The shape of the array that bytes spell, or none where they spell none.
+    pub(crate) fn of(bytes: &[u8]) -> Option<Shape>
+        ensures { MatchOption result (arr bytes.now ≡ None) (λ shape. HasShape bytes.now shape) }
+    {
+        if bytes.len() < HEADER || get16(bytes, ZERO) != 0 || get16(bytes, HEADER_SIZE) != 8 {
+            return None;
+        }
+        let count = get16(bytes, COUNT);
+        let element_size = get16(bytes, ELEMENT_SIZE);
+        let fits = if element_size == 0 {
+            are_offsets(bytes, count as usize)
+        } else {
+            bytes.len() == HEADER + count as usize * element_size as usize
+        };
+        if fits {
+            Some(Shape {
+                count,
+                element_size,
+            })
+        } else {
+            None
+        }
+    }
+
+    /// What a new element of n bytes takes, with its offset where sizes vary.
+    pub(crate) fn room(self, n: u16) -> usize
+        ensures value { result ≡ room_of self.element_size n }
+        ensures small { result ≤ 65537 }
+    {
+        if self.element_size == 0 {
+            n as usize + 2
+        } else {
+            self.element_size as usize
+        }
+    }
+
+    /// Where an element begins, from the chunk's first byte on; at the count, where the last
+    /// one ends.
+    pub(crate) fn start(self, bytes: &[u8], i: usize) -> usize
+        requires shape { HasShape bytes.now self }
+        requires known { i ≤ self.count }
+        ensures start { (a : Array) → arr bytes.now ≡ Some a → result ≡ element_at a i }
+        ensures within { (8 ≤ result) × (result ≤ length bytes.now) }
+    {
+        if self.element_size != 0 {
+            return HEADER + i * self.element_size as usize;
+        }
+        if i < self.count as usize {
+            get16(bytes, HEADER + 2 * i) as usize
+        } else {
+            bytes.len()
+        }
+    }
+}
+
+/// Whether the words behind the header are offsets of so many elements, that fill the bytes.
+fn are_offsets(bytes: &[u8], count: usize) -> bool
+    requires header { 8 ≤ length bytes.now }
+    requires small { count < 65536 }
+    ensures { result ≡ are_offsets (words_from bytes.now 8 count) (8 + 2 * count) (length bytes.now) }
+{
+    let first = HEADER + 2 * count;
+    if count == 0 {
+        return first == bytes.len();
+    }
+    if first > bytes.len() || get16(bytes, HEADER) as usize != first {
+        return false;
+    }
+    let mut last = first;
+    for i in 1..count {
+        let at = get16(bytes, HEADER + 2 * i) as usize;
+        if at < last {
+            return false;
+        }
+        last = at;
+    }
+    last <= bytes.len()
+}

@@ -1,0 +1,39 @@
+//! Elements that go.
+ghost use Rattle.std.specs.Prelude.{◌≡◌, IfErr, OnErr, OnOk};
+ghost use Rattle.geos_model.specs.ArrayEdits.{remove_element};
+ghost use Rattle.geos_model.specs.Block.{chunks, handle_word};
+ghost use Rattle.geos_model.specs.Heap.{IsHeap};
+ghost use Rattle.geos_model.specs.Refusals.{first_refusal};
+ghost use Rattle.chunk_array.specs.ElementErrors.{IsElementError};
+
+use crate::change::take_element;
+use crate::error::ElementError;
+use crate::look::find_element;
+use lmem_heap::delete;
+
+/// Takes an element out of an array. Other chunks may move.
+///
+/// `BadChunk` exactly where no chunk has this handle; else `BadArray` where its bytes are no
+/// array; else `BadElement` where `i` is not below the count.
+pub fn remove(block: &mut [u8], c: u16, i: u16) -> Result<(), ElementError>
+    requires { IsHeap block.old }
+    ensures heap { IsHeap block.new }
+    ensures handle { handle_word block.new ≡ handle_word block.old }
+    ensures ok { let e = remove_element c i (chunks block.old) in OnOk result ((first_refusal e.refusals ≡ None) × (chunks block.new ≡ e.chunks)) }
+    ensures refused { IfErr result (λ why. IsElementError why (remove_element c i (chunks block.old)).refusals) }
+    ensures err { OnErr result (block.new ≡ block.old) }
+{
+    let found = match find_element(block, c, i) {
+        Ok(found) => found,
+        Err(e) => return Err(e),
+    };
+    let i = i as usize;
+    let start = found.start(block, i);
+    let end = found.start(block, i + 1);
+    let room = found.shape.room((end - start) as u16);
+    take_element(block, c, found.shape, i, start, end);
+    match delete(block, c, (end - room) as u16, room as u16) {
+        Ok(()) => Ok(()),
+        Err(_) => unreachable!(),
+    }
+}
