@@ -1,44 +1,18 @@
 -- Instructions: what is read is spelled there, and what is spelled there is read.
-use Rattle.std.proofs.Common.{◌≡◌, ℕ, ◌+◌, ◌^◌, ◌<◌, ◌≤◌, true, List, [], ◌∷◌, ◌++◌, Some, Ok, refl, sym, subst, ◌∙◌, arith}
-use Rattle.std.specs.Prelude.{◌==◌}
-use Rattle.std.proofs.lemmas.Bool.{eqb-true}
-use Rattle.geos_image.specs.declared.opcode.Opcode.{Opcode}
-use Rattle.geos_image.specs.declared.opcode.Opcode.TheVariants.{Ldi, Mov, Add, Sub, And, Shr, Muli, Chk, Jmp, Beq, Blt, Setk, Setkw, Loop, Call, Ret, Out}
+use Rattle.std.proofs.Common.{◌≡◌, ℕ, ◌+◌, ◌^◌, ◌<◌, ◌≤◌, true, List, [], ◌∷◌, ◌++◌, Ok, refl, sym, subst, ◌∙◌, arith}
 use Rattle.geos_image.specs.declared.opcode.Operand.{Operand}
 use Rattle.geos_image.specs.declared.opcode.Operand.TheVariants.{Unused, Word, Counter, Slot, Pointer, Number, Shift, Routine, Label}
 use Rattle.geos_image.specs.declared.opcode.Operands.{Operands}
 use Rattle.geos_image.specs.declared.instr.Instr.{Instr}
-use Rattle.geos_image.specs.Opcodes.{code_of, opcodes, opcode_of, operands_of, limit}
+use Rattle.geos_image.specs.Opcodes.{code_of, opcode_of, operands_of, limit}
 use Rattle.geos_image.specs.Legal.{is_instr}
 use Rattle.geos_image.specs.Spelling.{word, instr}
 use Rattle.geos_image.specs.Reading.{or_fault, byte_at, byte_below, word_below, instr_at}
-use Rattle.geos_image.proofs.Steps.{ok_is, after, or_fault_ok, find_passes}
+use Rattle.geos_image.proofs.Steps.{ok_is, after, or_fault_ok}
+use Rattle.geos_image.proofs.Codes.{code_found, opcode_again}
 use Rattle.geos_image.proofs.Places.{plus, IsBytes, Takes, Takes-then, Left}
 use Rattle.geos_image.proofs.NumberLaws.{byte_found, byte_below_found, word_below_found, unused_found, byte_again, byte_below_again, word_below_again}
 use Rattle.geos_image.proofs.Instrs.{is_below}
-
--- an opcode that a byte spells is spelled by that byte
-code_found : (code : ℕ) (opcode : Opcode) → opcode_of code ≡ Some opcode → code_of opcode ≡ code
-code_found code opcode h = eqb-true _ _ (find_passes (λ o. code_of o == code) opcodes opcode h)
-
-opcode_again : (opcode : Opcode) → opcode_of (code_of opcode) ≡ Some opcode
-opcode_again Ldi = refl
-opcode_again Mov = refl
-opcode_again Add = refl
-opcode_again Sub = refl
-opcode_again And = refl
-opcode_again Shr = refl
-opcode_again Muli = refl
-opcode_again Chk = refl
-opcode_again Jmp = refl
-opcode_again Beq = refl
-opcode_again Blt = refl
-opcode_again Setk = refl
-opcode_again Setkw = refl
-opcode_again Loop = refl
-opcode_again Call = refl
-opcode_again Ret = refl
-opcode_again Out = refl
 
 -- each operand is a word
 limit_fits : (routines instrs : ℕ) (operand : Operand) → routines ≤ 2 ^ 16 → instrs ≤ 2 ^ 16 → limit routines instrs operand ≤ 2 ^ 16

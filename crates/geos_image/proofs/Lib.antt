@@ -2,6 +2,7 @@ pub mod Items
 pub mod Pushes
 pub mod Instrs
 pub mod Steps
+pub mod Codes
 pub mod Places
 pub mod NumberLaws
 pub mod InstrLaws

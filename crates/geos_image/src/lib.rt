@@ -9,6 +9,7 @@ mod image;
 mod instr;
 mod legal;
 mod opcode;
+mod operands;
 mod potential;
 mod reader;
 mod routine;

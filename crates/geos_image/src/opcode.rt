@@ -1,7 +1,7 @@
-//! The opcodes, and what each field of their instructions holds.
+//! The opcodes and their codes, and what a field of an instruction can hold.
 
 ghost use Rattle.std.specs.Prelude.{◌≡◌};
-ghost use Rattle.geos_image.specs.Opcodes.{code_of, opcode_of, fields, refusable_fields, operands_of, limit};
+ghost use Rattle.geos_image.specs.Opcodes.{code_of, opcode_of, limit};
 
 /// What an instruction does. The byte that spells it is its `code`, and not its discriminant.
 #[derive(Clone, Copy, Debug, PartialEq, Eq)]
@@ -40,6 +40,67 @@ pub enum Opcode {
     Ret,
     /// `OUT wa L`: puts out wa; refused with 10 where 1,024 words are out.
     Out,
+    /// `MNEW sa wb L`: makes a block, locked into sa; wb is its handle; refused with 5, 4.
+    Mnew,
+    /// `MLOCK sa wb L`: locks the block wb into sa; refused with 1, 7.
+    Mlock,
+    /// `MUNLOCK sa`: unlocks the block of sa, which is empty then.
+    Munlock,
+    /// `MFREE wa L`: frees the block wa; refused with 1, 7.
+    Mfree,
+    /// `SNE sa sb L`: to L if sa and sb hold one block.
+    Sne,
+    /// `LALLOC sa wb wc L`: wb = a new chunk of wc zero bytes; refused with 6, 4; moves
+    /// chunks.
+    Lalloc,
+    /// `LFREE sa wb L`: frees the chunk wb; refused with 2; moves chunks.
+    Lfree,
+    /// `LREALLOC sa wb wc L`: gives the chunk wb wc bytes; refused with 2, 6, 4; moves chunks.
+    Lrealloc,
+    /// `LINS sa wb wc wd L`: inserts wd zero bytes at wc of the chunk wb; refused with 2, 14,
+    /// 6, 4; moves chunks.
+    Lins,
+    /// `LDEL sa wb wc wd L`: deletes wd bytes at wc of the chunk wb; refused with 2, 14; moves
+    /// chunks.
+    Ldel,
+    /// `LSIZE sa wb wc L`: wb = the length of the chunk wc; refused with 2.
+    Lsize,
+    /// `DEREF sa pb wc n L`: pb leads to the chunk wc; refused with 2, and with 3 where it has
+    /// fewer than n bytes.
+    Deref,
+    /// `LCONTRACT sa`: moves the chunks of sa together.
+    Lcontract,
+    /// `LDB wa pb n`: wa = the byte at n of pb.
+    Ldb,
+    /// `LDW wa pb n`: wa = the word at n of pb.
+    Ldw,
+    /// `STB wa pb n`: the byte at n of pb = wa's low byte.
+    Stb,
+    /// `STW wa pb n`: the word at n of pb = wa.
+    Stw,
+    /// `LDXB wa pb wc`: wa = the byte at wc of pb, where the verifier bounds wc.
+    Ldxb,
+    /// `LDXW wa pb wc`: wa = the word at wc of pb, where the verifier bounds wc.
+    Ldxw,
+    /// `STXB wa pb wc`: the byte at wc of pb = wa's low byte, where the verifier bounds wc.
+    Stxb,
+    /// `STXW wa pb wc`: the word at wc of pb = wa, where the verifier bounds wc.
+    Stxw,
+    /// `LDCB wa pb wc L`: wa = the byte at wc of pb; refused with 14 where it has none there.
+    Ldcb,
+    /// `LDCW wa pb wc L`: wa = the word at wc of pb; refused with 14 where it has none there.
+    Ldcw,
+    /// `STCB wa pb wc L`: the byte at wc of pb = wa's low byte; refused with 14 where it has
+    /// none there.
+    Stcb,
+    /// `STCW wa pb wc L`: the word at wc of pb = wa; refused with 14 where it has none there.
+    Stcw,
+    /// `MOVP pa pb`: pa = pb.
+    Movp,
+    /// `COPY pa pb n`: copies the first n bytes of pb, as they were before, to pa.
+    Copy,
+    /// `PLEN wa pb`: wa = the length of pb in bytes.
+    Plen,
 }
 
 /// What a field of an instruction holds.
@@ -79,32 +140,6 @@ pub struct Operands {
     pub refusable: bool,
 }
 
-/// The operands of an instruction that is never refused: the fields a, b, c and d, then imm
-/// and target.
-fn fields(a: Operand, b: Operand, c: Operand, d: Operand, imm: Operand, target: Operand) -> Operands
-    ensures { result ≡ fields a b c d imm target }
-{
-    Operands {
-        a,
-        b,
-        c,
-        d,
-        imm,
-        target,
-        refusable: false,
-    }
-}
-
-/// The operands of one that can be refused: its target is a label.
-fn refusable_fields(a: Operand, b: Operand, c: Operand, d: Operand, imm: Operand) -> Operands
-    ensures { result ≡ refusable_fields a b c d imm }
-{
-    Operands {
-        refusable: true,
-        ..fields(a, b, c, d, imm, Operand::Label)
-    }
-}
-
 impl Opcode {
     /// The byte that spells the opcode.
     pub fn code(self) -> u8
@@ -128,10 +163,39 @@ impl Opcode {
             Opcode::Call => 0x0f,
             Opcode::Ret => 0x10,
             Opcode::Out => 0x11,
+            Opcode::Mnew => 0x12,
+            Opcode::Mlock => 0x13,
+            Opcode::Munlock => 0x14,
+            Opcode::Mfree => 0x15,
+            Opcode::Sne => 0x16,
+            Opcode::Lalloc => 0x17,
+            Opcode::Lfree => 0x18,
+            Opcode::Lrealloc => 0x19,
+            Opcode::Lins => 0x1a,
+            Opcode::Ldel => 0x1b,
+            Opcode::Lsize => 0x1c,
+            Opcode::Deref => 0x1d,
+            Opcode::Lcontract => 0x1e,
+            Opcode::Ldb => 0x1f,
+            Opcode::Ldw => 0x20,
+            Opcode::Stb => 0x21,
+            Opcode::Stw => 0x22,
+            Opcode::Ldxb => 0x23,
+            Opcode::Ldxw => 0x24,
+            Opcode::Stxb => 0x25,
+            Opcode::Stxw => 0x26,
+            Opcode::Ldcb => 0x27,
+            Opcode::Ldcw => 0x28,
+            Opcode::Stcb => 0x29,
+            Opcode::Stcw => 0x2a,
+            Opcode::Movp => 0x2b,
+            Opcode::Copy => 0x2c,
+            Opcode::Plen => 0x2d,
         }
     }
 
     /// The opcode that the byte spells, if one does.
+    #[tactic(auto, using(crate::proofs::Codes::no_opcode))]
     pub fn from_code(code: u8) -> Option<Opcode>
         ensures { result ≡ opcode_of code }
     {
@@ -153,33 +217,35 @@ impl Opcode {
             0x0f => Some(Opcode::Call),
             0x10 => Some(Opcode::Ret),
             0x11 => Some(Opcode::Out),
-            _ => None,
-        }
-    }
-
-    /// The table of operands.
-    pub fn operands(self) -> Operands
-        ensures { result ≡ operands_of self }
-    {
-        use Operand::{Counter, Label, Number, Routine, Shift, Unused, Word};
-        match self {
-            Opcode::Ldi => fields(Word, Unused, Unused, Unused, Number, Unused),
-            Opcode::Mov => fields(Word, Word, Unused, Unused, Unused, Unused),
-            Opcode::Add => fields(Word, Word, Word, Unused, Unused, Unused),
-            Opcode::Sub => fields(Word, Word, Word, Unused, Unused, Unused),
-            Opcode::And => fields(Word, Word, Unused, Unused, Number, Unused),
-            Opcode::Shr => fields(Word, Word, Unused, Unused, Shift, Unused),
-            Opcode::Muli => fields(Word, Word, Unused, Unused, Number, Unused),
-            Opcode::Chk => fields(Word, Unused, Unused, Unused, Number, Label),
-            Opcode::Jmp => fields(Unused, Unused, Unused, Unused, Unused, Label),
-            Opcode::Beq => fields(Word, Word, Unused, Unused, Unused, Label),
-            Opcode::Blt => fields(Word, Word, Unused, Unused, Unused, Label),
-            Opcode::Setk => fields(Counter, Unused, Unused, Unused, Number, Unused),
-            Opcode::Setkw => fields(Counter, Word, Unused, Unused, Unused, Unused),
-            Opcode::Loop => fields(Counter, Unused, Unused, Unused, Unused, Label),
-            Opcode::Call => fields(Unused, Unused, Unused, Unused, Routine, Unused),
-            Opcode::Ret => fields(Unused, Unused, Unused, Unused, Unused, Unused),
-            Opcode::Out => refusable_fields(Word, Unused, Unused, Unused, Unused),
+            0x12 => Some(Opcode::Mnew),
+            0x13 => Some(Opcode::Mlock),
+            0x14 => Some(Opcode::Munlock),
+            0x15 => Some(Opcode::Mfree),
+            0x16 => Some(Opcode::Sne),
+            0x17 => Some(Opcode::Lalloc),
+            0x18 => Some(Opcode::Lfree),
+            0x19 => Some(Opcode::Lrealloc),
+            0x1a => Some(Opcode::Lins),
+            0x1b => Some(Opcode::Ldel),
+            0x1c => Some(Opcode::Lsize),
+            0x1d => Some(Opcode::Deref),
+            0x1e => Some(Opcode::Lcontract),
+            0x1f => Some(Opcode::Ldb),
+            0x20 => Some(Opcode::Ldw),
+            0x21 => Some(Opcode::Stb),
+            0x22 => Some(Opcode::Stw),
+            0x23 => Some(Opcode::Ldxb),
+            0x24 => Some(Opcode::Ldxw),
+            0x25 => Some(Opcode::Stxb),
+            0x26 => Some(Opcode::Stxw),
+            0x27 => Some(Opcode::Ldcb),
+            0x28 => Some(Opcode::Ldcw),
+            0x29 => Some(Opcode::Stcb),
+            0x2a => Some(Opcode::Stcw),
+            0x2b => Some(Opcode::Movp),
+            0x2c => Some(Opcode::Copy),
+            0x2d => Some(Opcode::Plen),
+            0x00 | 0x2e..=0xff => None,
         }
     }
 }
