@@ -3,7 +3,7 @@ use Rattle.std.proofs.Common.{◌≡◌, ℕ, Bool, true, false, None, List, [],
 use Rattle.geos_model.specs.Refusals.{first_refusal}
 use Rattle.geos_image.specs.declared.routine.Routine.{Routine}
 use Rattle.geos_image.specs.Parts.{Point, Parts}
-use Rattle.geos_verify.specs.Rules.{leaves_routine, names_empty_slot, entry_misfits, call_misfits, exit_misfits, edge_misfits, edge_unpaid, over_budget, tests, refusal}
+use Rattle.geos_verify.specs.Rules.{leaves_routine, names_empty_slot, entry_misfits, stale_pointer, passes_end, changes_unmarked, locks_into_held, wrong_slot, call_misfits, exit_misfits, edge_misfits, edge_unpaid, over_budget, tests, refusal}
 
 -- every test is false
 abbrev pub Passed : {R : Type 0} → List (Bool × R) → Type 0
@@ -19,6 +19,11 @@ passed ((false, rule) ∷ tests) e = (refl, passed tests e)
 pub record NoneRefuses (image : Parts) (r : ℕ) (routine : Routine) (start pc : ℕ) (point : Point) : Type 0 where
   pub stays : leaves_routine routine start pc point.0 ≡ false
   pub entry : entry_misfits routine start pc point.1 ≡ false
+  pub fresh : stale_pointer point.0 point.1 ≡ false
+  pub within : passes_end point.0 point.1 ≡ false
+  pub marked : changes_unmarked point.0 point.1 ≡ false
+  pub unheld : locks_into_held point.0 point.1 ≡ false
+  pub held : wrong_slot point.0 point.1 ≡ false
   pub call : call_misfits image r point.0 point.1 ≡ false
   pub exit : exit_misfits routine point.0 point.1 ≡ false
   pub edge : edge_misfits image pc point.0 point.1 ≡ false
@@ -28,12 +33,19 @@ pub record NoneRefuses (image : Parts) (r : ℕ) (routine : Routine) (start pc :
 pub none-refuses : (image : Parts) (r : ℕ) (routine : Routine) (start pc : ℕ) (point : Point) → refusal image r routine start pc point ≡ None → NoneRefuses image r routine start pc point
 none-refuses image r routine start pc point e =
     let p = passed (tests image r routine start pc point) e in
+    let q = p.1.1.1 in
+    let t = q.1.1.1.1.1 in
     record {
       stays = p.0;
       entry = p.1.1.0;
-      call = p.1.1.1.0;
-      exit = p.1.1.1.1.0;
-      edge = p.1.1.1.1.1.0;
-      paid = p.1.1.1.1.1.1.0;
-      budget = p.1.1.1.1.1.1.1.0;
+      fresh = q.0;
+      within = q.1.0;
+      marked = q.1.1.0;
+      unheld = q.1.1.1.0;
+      held = q.1.1.1.1.0;
+      call = t.0;
+      exit = t.1.0;
+      edge = t.1.1.0;
+      paid = t.1.1.1.0;
+      budget = t.1.1.1.1.0;
     }

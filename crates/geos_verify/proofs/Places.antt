@@ -1,5 +1,5 @@
 -- Where the routines of an image lie: one behind the other, so that each pc is in one of them.
-use Rattle.std.proofs.Common.{◌≡◌, ◌<◌, ◌≤◌, ◌+◌, ℕ, zero, suc, true, List, [], ◌∷◌, Option, Some, None, length, slice_get, refl, sym, ap, subst, ◌∙◌, arith, inl, inr}
+use Rattle.std.proofs.Common.{◌≡◌, ◌<◌, ◌≤◌, ◌+◌, ℕ, zero, suc, true, List, [], ◌∷◌, Option, Some, None, length, slice_get, refl, sym, ap, subst, ◌∙◌, arith, inl, inr, ◌⊎◌}
 use Rattle.std.specs.Prelude.{nat_lt, nat_le, IfSome}
 use Rattle.std.proofs.lemmas.Bool.{and_parts, ltb-true, leb-true, lt-ltb, le-leb, cases_lt}
 use Rattle.geos_image.specs.declared.routine.Routine.{Routine}
@@ -94,3 +94,15 @@ all_accepted image r start past start_is earlier q pc routine point has =
     let all = start_of-all image.routines r past in
     let place = place_bounds (start_of image.routines q) routine.count pc has.within in
     earlier q pc routine point (omega (arith, end, all, place.1)) has
+
+-- where nothing is refused up to a pc, and nothing at it, nothing is refused up to the next one
+pub refuses_none-next : (image : Parts) (r start pc : ℕ) (routine : Routine) → RefusesNone image r routine start pc
+    → IfSome (slice_get image.points pc) (λ point. None ≡ refusal image r routine start pc point) → RefusesNone image r routine start (pc + 1)
+refuses_none-next image r start pc routine before here q point above below read = by_order (cases_lt q pc)
+  where
+    by_order : (q < pc) ⊎ (pc ≤ q) → refusal image r routine start q point ≡ None
+    by_order (inl lt) = before q point above lt read
+    by_order (inr ge) =
+        let same : q ≡ pc = omega (arith, ge, below) in
+        let there : slice_get image.points pc ≡ Some point = rw same at read in
+        rw same (sym (if_some (λ x. None ≡ refusal image r routine start pc x) (slice_get image.points pc) point there here))

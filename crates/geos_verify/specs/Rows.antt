@@ -1,8 +1,8 @@
 -- What is known after an instruction, and whether an entry state fits another.
-use Rattle.std.specs.Prelude.{◌≡◌, ℕ, ◌+◌, ◌*◌, ◌/◌, ◌^◌, min, Bool, true, false, ◌&&◌, ◌||◌, not, nat_le, ◌==◌, if◌then◌else◌, List, Option, Some, None, slice_index, slice_index_or, slice_set, slice_get}
+use Rattle.std.specs.Prelude.{◌≡◌, ℕ, ◌+◌, ◌*◌, ◌/◌, ◌^◌, min, Bool, true, false, ◌&&◌, ◌||◌, not, nat_le, ◌==◌, if◌then◌else◌, List, map, Option, Some, None, slice_index, slice_index_or, slice_set, slice_get}
 use Rattle.std.specs.List.{list_all}
 use Rattle.geos_image.specs.declared.opcode.Opcode.{Opcode}
-use Rattle.geos_image.specs.declared.opcode.Opcode.TheVariants.{Ldi, Mov, Add, Sub, And, Shr, Muli, Chk, Jmp, Call, Ret}
+use Rattle.geos_image.specs.declared.opcode.Opcode.TheVariants.{Ldi, Mov, Add, Sub, And, Shr, Muli, Chk, Jmp, Call, Ret, Mnew, Lalloc, Lsize, Ldb, Ldw, Ldxb, Ldxw, Ldcb, Ldcw, Plen}
 use Rattle.geos_image.specs.declared.opcode.Operand.{Operand}
 use Rattle.geos_image.specs.declared.opcode.Operand.TheVariants.{Label}
 use Rattle.geos_image.specs.declared.instr.Instr.{Instr}
@@ -12,7 +12,16 @@ use Rattle.geos_image.specs.declared.row.SlotState.{SlotState}
 use Rattle.geos_image.specs.declared.row.SlotState.TheVariants.{Empty, Mem, Vm, VmMarked, Db, DbMarked}
 use Rattle.geos_image.specs.Opcodes.{operands_of}
 use Rattle.geos_image.specs.Parts.{Point, Parts}
+use Rattle.geos_verify.specs.declared.uses.Kind.{Kind}
+use Rattle.geos_verify.specs.declared.uses.Kind.TheVariants.{MemBlock, VmBlock, DbGroup}
+use Rattle.geos_verify.specs.declared.uses.SlotUse.{SlotUse}
+use Rattle.geos_verify.specs.declared.uses.SlotUse.TheVariants.{LocksNew, Locks, Unlocks, Compares, Moves}
+use Rattle.geos_verify.specs.declared.uses.PointerUse.{PointerUse}
+use Rattle.geos_verify.specs.declared.uses.PointerUse.TheVariants.{Sets, Duplicates}
+use Rattle.geos_verify.specs.declared.uses.Uses.{Uses}
 use Rattle.geos_verify.specs.Lists.{all2}
+use Rattle.geos_verify.specs.Pairs.{without_slot, with_pair, with_pairs, are_apart}
+use Rattle.geos_verify.specs.Uses.{uses_of, same_kind}
 
 -- Edges
 
@@ -54,7 +63,131 @@ with_bound a n row = record row { bounds = slice_set row.bounds a n }
 abbrev pub or_any : ℕ → ℕ
 or_any n = min n 65535
 
+-- the row with the bound of the word that is the instruction's result, where it goes on to the
+-- next instruction
+abbrev pub bounded : Instr → Opcode → Row → Row
+bounded i Ldi row = with_bound i.a i.imm row
+bounded i Add row = with_bound i.a (or_any (bound row i.b + bound row i.c)) row
+bounded i Mov row = with_bound i.a (bound row i.b) row
+bounded i Sub row = with_bound i.a 65535 row
+bounded i And row = with_bound i.a (min (bound row i.b) i.imm) row
+bounded i Shr row = with_bound i.a (bound row i.b / 2 ^ i.imm) row
+bounded i Muli row = with_bound i.a (or_any (bound row i.b * i.imm)) row
+bounded i Chk row = with_bound i.a (min (bound row i.a) i.imm) row
+bounded i Mnew row = with_bound i.b 65535 row
+bounded i Lalloc row = with_bound i.b 65535 row
+bounded i Lsize row = with_bound i.b 65535 row
+bounded i Ldb row = with_bound i.a 255 row
+bounded i Ldw row = with_bound i.a 65535 row
+bounded i Ldxb row = with_bound i.a 255 row
+bounded i Ldxw row = with_bound i.a 65535 row
+bounded i Ldcb row = with_bound i.a 255 row
+bounded i Ldcw row = with_bound i.a 65535 row
+bounded i Plen row = with_bound i.a 65535 row
+bounded i _ row = row
+
+-- Slots
+
+-- what the row says of a slot
+abbrev pub slot_state : Row → ℕ → SlotState
+slot_state row a = slice_index_or row.slots a Empty
+
+-- the kind of block that a slot holds, if it holds one
+abbrev pub kind_in : SlotState → Option Kind
+kind_in Empty = None
+kind_in Mem = Some MemBlock
+kind_in Vm = Some VmBlock
+kind_in VmMarked = Some VmBlock
+kind_in Db = Some DbGroup
+kind_in DbMarked = Some DbGroup
+
+-- one kind, or nothing in both places
+abbrev pub alike : Option Kind → Option Kind → Bool
+alike None None = true
+alike (Some kind) (Some other) = same_kind kind other
+alike _ _ = false
+
+-- two slots hold blocks of one kind, or both nothing
+abbrev pub are_alike : SlotState → SlotState → Bool
+are_alike state other = alike (kind_in state) (kind_in other)
+
+-- the slot holds a block of the kind
+abbrev pub holds_kind : Kind → SlotState → Bool
+holds_kind kind state = alike (kind_in state) (Some kind)
+
+-- a slot that holds a block which was just made: such a block of the VM file is marked
+abbrev pub new_state : Kind → SlotState
+new_state MemBlock = Mem
+new_state VmBlock = VmMarked
+new_state DbGroup = DbMarked
+
+-- a slot that holds a block which was just locked
+abbrev pub locked_state : Kind → SlotState
+locked_state MemBlock = Mem
+locked_state VmBlock = Vm
+locked_state DbGroup = Db
+
+-- the slots after an instruction
+abbrev pub slots_after : Instr → SlotUse → List SlotState → List SlotState
+slots_after i (LocksNew kind) slots = slice_set slots i.a (new_state kind)
+slots_after i (Locks kind) slots = slice_set slots i.a (locked_state kind)
+slots_after i (Unlocks kind) slots = slice_set slots i.a Empty
+slots_after i _ slots = slots
+
+-- Pairs
+
+-- the pairs after an instruction: a new block is none that another slot holds; of a block that
+-- is locked, and of an empty slot, nothing is known; slots that were compared differ
+abbrev pub pairs_after : Instr → SlotUse → Row → List Bool
+pairs_after i (LocksNew kind) row = with_pairs i.a (λ b. holds_kind kind (slot_state row b)) row.pairs
+pairs_after i (Locks kind) row = without_slot i.a row.pairs
+pairs_after i (Unlocks kind) row = without_slot i.a row.pairs
+pairs_after i Compares row = with_pair i.a i.b row.pairs
+pairs_after i _ row = row.pairs
+
+-- Pointers
+
+-- what the row says of a pointer
+abbrev pub pointer_at : Row → ℕ → Option Pointer
+pointer_at row p = slice_index_or row.pointers p None
+
+-- slot b may hold the block that slot a holds: they hold blocks of one kind, and are not known
+-- to differ
+abbrev pub may_be_same : Row → ℕ → ℕ → Bool
+may_be_same row a b = are_alike (slot_state row b) (slot_state row a) && not (are_apart a b row.pairs)
+
+-- nothing is known of the pointer where it leads into a slot that passes the test
+abbrev pub stale_where : (ℕ → Bool) → Option Pointer → Option Pointer
+stale_where test None = None
+stale_where test (Some p) = if test p.slot then None else Some p
+
+-- the pointers that an instruction does not make stale: one that changes chunks moves those of
+-- each slot that may hold the block; an unlock lets those of its slot go
+abbrev pub pointers_kept : Instr → SlotUse → Row → List (Option Pointer)
+pointers_kept i Moves row = map (stale_where (may_be_same row i.a)) row.pointers
+pointers_kept i (Unlocks kind) row = map (stale_where (λ b. b == i.a)) row.pointers
+pointers_kept i _ row = row.pointers
+
+-- pointers with the one that an instruction sets
+abbrev pub with_pointer : Instr → PointerUse → List (Option Pointer) → List (Option Pointer)
+with_pointer i Sets pointers = slice_set pointers i.b (Some (record { slot = i.a; least = i.imm }))
+with_pointer i Duplicates pointers = slice_set pointers i.a (slice_index_or pointers i.b None)
+with_pointer i _ pointers = pointers
+
 -- After an instruction
+
+-- the row with what an instruction has done to slots, pairs and pointers
+abbrev pub used : Instr → Uses → Row → Row
+used i uses row = record row {
+  slots = slots_after i uses.slot row.slots;
+  pointers = with_pointer i uses.pointer (pointers_kept i uses.slot row);
+  pairs = pairs_after i uses.slot row;
+}
+
+-- the row where an instruction was refused: w7 has the refusal's number, and what the call may
+-- have moved is stale
+abbrev pub refused : Instr → SlotUse → Row → Row
+refused i slot row = record row { bounds = slice_set row.bounds 7 15; pointers = pointers_kept i slot row }
 
 -- the exit row of a routine
 abbrev pub exit_row : Parts → ℕ → Row → Row
@@ -63,26 +196,18 @@ exit_row image r row = elim (slice_get image.routines r) [ None ↦ row | Some r
 -- the row where control goes on to the next instruction; after a call it is the exit row of the
 -- routine that was called
 abbrev pub row_along : Parts → Instr → Opcode → Row → Row
-row_along image i Ldi row = with_bound i.a i.imm row
-row_along image i Add row = with_bound i.a (or_any (bound row i.b + bound row i.c)) row
-row_along image i Mov row = with_bound i.a (bound row i.b) row
-row_along image i Sub row = with_bound i.a 65535 row
-row_along image i And row = with_bound i.a (min (bound row i.b) i.imm) row
-row_along image i Shr row = with_bound i.a (bound row i.b / 2 ^ i.imm) row
-row_along image i Muli row = with_bound i.a (or_any (bound row i.b * i.imm)) row
-row_along image i Chk row = with_bound i.a (min (bound row i.a) i.imm) row
 row_along image i Call row = exit_row image i.imm row
-row_along image i _ row = row
+row_along image i opcode row = used i (uses_of opcode) (bounded i opcode row)
 
--- the row where control goes to the target; a refusal leaves its number in w7
-abbrev pub row_branching : Opcode → Row → Row
-row_branching opcode row = if (operands_of opcode).refusable then with_bound 7 15 row else row
+-- the row where control goes to the target
+abbrev pub row_branching : Instr → Opcode → Row → Row
+row_branching i opcode row = if (operands_of opcode).refusable then refused i (uses_of opcode).slot row else row
 
 -- the row at the end of an edge of the instruction at pc
 abbrev pub after : Parts → ℕ → Row → Bool → Row
 after image pc row branch = elim (slice_get image.points pc) [
   | None ↦ row
-  | Some point ↦ if branch then row_branching point.0.opcode row else row_along image point.0 point.0.opcode row
+  | Some point ↦ if branch then row_branching point.0 point.0.opcode row else row_along image point.0 point.0.opcode row
 ]
 
 -- Fits

@@ -11,9 +11,19 @@ use Rattle.geos_image.specs.declared.routine.Routine.{Routine}
 use Rattle.geos_image.specs.Parts.{Point, Parts, start_of}
 use Rattle.geos_image.specs.Legal.{is_image}
 use Rattle.geos_verify.specs.declared.rule.Rule.{Rule}
-use Rattle.geos_verify.specs.declared.rule.Rule.TheVariants.{LeavesRoutine, NamesEmptySlot, EntryMisfit, CallMisfit, ExitMisfit, EdgeMisfit, EdgeUnpaid, OverBudget}
+use Rattle.geos_verify.specs.declared.rule.Rule.TheVariants.{LeavesRoutine, NamesEmptySlot, EntryMisfit, StalePointer, PassesEnd, ChangesUnmarked, LocksIntoHeld, WrongSlot, CallMisfit, ExitMisfit, EdgeMisfit, EdgeUnpaid, OverBudget}
 use Rattle.geos_verify.specs.declared.rule.Reject.{Reject}
-use Rattle.geos_verify.specs.Rows.{falls_through, branches, at_point, row_along, row_branching, fits, is_plain, leads_nowhere}
+use Rattle.geos_image.specs.declared.row.SlotState.{SlotState}
+use Rattle.geos_image.specs.declared.row.SlotState.TheVariants.{Empty, Vm, Db}
+use Rattle.geos_verify.specs.declared.uses.Width.{Width}
+use Rattle.geos_verify.specs.declared.uses.Offset.{Offset}
+use Rattle.geos_verify.specs.declared.uses.Offset.TheVariants.{Fixed, Indexed, Tested}
+use Rattle.geos_verify.specs.declared.uses.SlotUse.{SlotUse}
+use Rattle.geos_verify.specs.declared.uses.SlotUse.TheVariants.{LocksNew, Locks, Unlocks, Compares, Moves, LooksAt}
+use Rattle.geos_verify.specs.declared.uses.PointerUse.{PointerUse}
+use Rattle.geos_verify.specs.declared.uses.PointerUse.TheVariants.{Loads, Stores, Copies, Duplicates, Measures}
+use Rattle.geos_verify.specs.Uses.{uses_of, bytes_in}
+use Rattle.geos_verify.specs.Rows.{falls_through, branches, at_point, bound, slot_state, pointer_at, are_alike, holds_kind, row_along, row_branching, fits, is_empty, is_stale, is_plain, leads_nowhere}
 use Rattle.geos_verify.specs.Touched.{calls}
 use Rattle.geos_verify.specs.Potentials.{pays_along, pays_branching, is_within}
 
@@ -46,6 +56,88 @@ entry_misfits routine start pc row =
     pc == start
     && (not (fits routine.entry row) || (routine.public && not (is_plain routine.entry && is_plain routine.exit)))
 
+-- the row knows nothing of a pointer that is read, written, copied or measured
+abbrev pub uses_stale : Instr → PointerUse → Row → Bool
+uses_stale i (Loads width offset) row = is_stale (pointer_at row i.b)
+uses_stale i (Stores width offset) row = is_stale (pointer_at row i.b)
+uses_stale i Copies row = is_stale (pointer_at row i.a) || is_stale (pointer_at row i.b)
+uses_stale i Duplicates row = is_stale (pointer_at row i.b)
+uses_stale i Measures row = is_stale (pointer_at row i.b)
+uses_stale i _ row = false
+
+-- the same, as a rule
+unfoldable pub stale_pointer : Instr → Row → Bool
+stale_pointer i row = uses_stale i (uses_of i.opcode).pointer row
+
+-- how many bytes must stand behind a pointer, for a read or a write; nothing is asked where the
+-- offset is tested when it runs
+abbrev pub reach : Instr → Width → Offset → Row → ℕ
+reach i width Fixed row = i.imm + bytes_in width
+reach i width Indexed row = bound row i.c + bytes_in width
+reach i width Tested row = 0
+
+-- how many bytes the row says that there are behind a pointer, at least
+abbrev pub least_at : Row → ℕ → ℕ
+least_at row p = elim (pointer_at row p) [ None ↦ 0 | Some q ↦ q.least ]
+
+-- a read or a write may reach past those bytes
+abbrev pub reaches_past : Instr → PointerUse → Row → Bool
+reaches_past i (Loads width offset) row = nat_lt (least_at row i.b) (reach i width offset row)
+reaches_past i (Stores width offset) row = nat_lt (least_at row i.b) (reach i width offset row)
+reaches_past i Copies row = nat_lt (least_at row i.a) i.imm || nat_lt (least_at row i.b) i.imm
+reaches_past i _ row = false
+
+-- the same, as a rule
+unfoldable pub passes_end : Instr → Row → Bool
+passes_end i row = reaches_past i (uses_of i.opcode).pointer row
+
+-- the slot holds a block of the VM file that is not known to be marked
+abbrev pub is_unmarked : SlotState → Bool
+is_unmarked Vm = true
+is_unmarked Db = true
+is_unmarked _ = false
+
+-- what the row says of the slot that a pointer leads into
+abbrev pub pointed_state : Row → ℕ → SlotState
+pointed_state row p = elim (pointer_at row p) [ None ↦ Empty | Some q ↦ slot_state row q.slot ]
+
+-- a block is written that is not known to be marked, though it must be
+abbrev pub writes_unmarked : Instr → PointerUse → Row → Bool
+writes_unmarked i (Stores width offset) row = is_unmarked (pointed_state row i.b)
+writes_unmarked i Copies row = is_unmarked (pointed_state row i.a)
+writes_unmarked i _ row = false
+
+-- or its chunks are changed
+abbrev pub moves_unmarked : Instr → SlotUse → Row → Bool
+moves_unmarked i Moves row = is_unmarked (slot_state row i.a)
+moves_unmarked i _ row = false
+
+-- the same, as a rule
+unfoldable pub changes_unmarked : Instr → Row → Bool
+changes_unmarked i row = writes_unmarked i (uses_of i.opcode).pointer row || moves_unmarked i (uses_of i.opcode).slot row
+
+-- a block is locked into a slot that is held
+abbrev pub locks_held : Instr → SlotUse → Row → Bool
+locks_held i (LocksNew kind) row = not (is_empty (slot_state row i.a))
+locks_held i (Locks kind) row = not (is_empty (slot_state row i.a))
+locks_held i _ row = false
+
+-- the same, as a rule
+unfoldable pub locks_into_held : Instr → Row → Bool
+locks_into_held i row = locks_held i (uses_of i.opcode).slot row
+
+-- a slot that must be held is empty or of another kind; two that are compared must be of one
+abbrev pub misuses_slot : Instr → SlotUse → Row → Bool
+misuses_slot i (Unlocks kind) row = not (holds_kind kind (slot_state row i.a))
+misuses_slot i Compares row = is_empty (slot_state row i.a) || not (are_alike (slot_state row i.a) (slot_state row i.b))
+misuses_slot i Moves row = is_empty (slot_state row i.a)
+misuses_slot i LooksAt row = is_empty (slot_state row i.a)
+misuses_slot i _ row = false
+
+-- the same, as a rule
+unfoldable pub wrong_slot : Instr → Row → Bool
+wrong_slot i row = misuses_slot i (uses_of i.opcode).slot row
+
 -- what holds of a routine; of no routine, nothing is asked
 abbrev pub at_routine : Parts → ℕ → (Routine → Bool) → Bool
 at_routine image r test = elim (slice_get image.routines r) [ None ↦ true | Some routine ↦ test routine ]
@@ -66,7 +158,7 @@ misfits_at image to row = not (at_point image to (λ next. fits row next.1))
 unfoldable pub edge_misfits : Parts → ℕ → Instr → Row → Bool
 edge_misfits image pc i row =
     (falls_through i.opcode && misfits_at image (pc + 1) (row_along image i i.opcode row))
-    || (branches i.opcode && misfits_at image i.target (row_branching i.opcode row))
+    || (branches i.opcode && misfits_at image i.target (row_branching i i.opcode row))
 
 -- the potential does not pay for the edge to the next instruction
 unfoldable pub unpaid_along : Parts → ℕ → Instr → Row → Potential → Bool
@@ -96,6 +188,11 @@ tests image r routine start pc point =
     (leaves_routine routine start pc i, LeavesRoutine)
     ∷ (names_empty_slot row, NamesEmptySlot)
     ∷ (entry_misfits routine start pc row, EntryMisfit)
+    ∷ (stale_pointer i row, StalePointer)
+    ∷ (passes_end i row, PassesEnd)
+    ∷ (changes_unmarked i row, ChangesUnmarked)
+    ∷ (locks_into_held i row, LocksIntoHeld)
+    ∷ (wrong_slot i row, WrongSlot)
     ∷ (call_misfits image r i row, CallMisfit)
     ∷ (exit_misfits routine i row, ExitMisfit)
     ∷ (edge_misfits image pc i row, EdgeMisfit)

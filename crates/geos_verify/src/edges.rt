@@ -1,9 +1,15 @@
 //! Where control goes after an instruction, and what is known there.
 
 ghost use Rattle.std.specs.Prelude.{◌≡◌, ◌<◌, length};
-ghost use Rattle.geos_verify.specs.Rows.{falls_through, branches, with_bound, row_along, row_branching, after, HasEdge};
 ghost use Rattle.geos_image.specs.Fields.{FieldsFit, CalleeFits};
+ghost use Rattle.geos_verify.specs.Uses.{uses_of, UsesFit};
+ghost use Rattle.geos_verify.specs.Rows.{falls_through, branches, pairs_after, used, row_along, row_branching, after, HasEdge};
 
+use crate::bounds::{bound_result, set_bound};
+use crate::pairs::{with_new, with_pair, without_slot};
+use crate::pointers::{drop_pointers, set_pointer};
+use crate::slots::set_slots;
+use crate::uses::{SlotUse, Uses, uses_at};
 use geos_image::{Image, Instr, Opcode, Operand, Row};
 
 /// Whether control may go on to the next instruction.
@@ -26,47 +32,56 @@ pub(crate) fn branches(opcode: Opcode) -> bool
     }
 }
 
-fn with_bound(row: &Row, a: u8, n: u16) -> Row
-    requires { a < 8 }
-    ensures { result ≡ with_bound a n row.now }
+/// Sets the pairs to what they are after an instruction.
+fn set_pairs(i: &Instr, slot: SlotUse, row: &mut Row)
+    ensures { row.new ≡ record row.old { pairs = pairs_after i.now slot row.old } }
 {
-    let mut next = *row;
-    next.bounds[a as usize] = n;
-    next
-}
-
-/// The row where control goes on to the next instruction; after a call it is the exit row of the
-/// routine that was called.
-pub(crate) fn row_along(image: &Image, i: &Instr, row: &Row) -> Row
-    requires fields { FieldsFit i.now.opcode i.now }
-    requires callee { CalleeFits (length image.now.routines) i.now }
-    ensures { result ≡ row_along image.now i.now i.now.opcode row.now }
-{
-    match i.opcode {
-        Opcode::Ldi => with_bound(row, i.a, i.imm),
-        Opcode::Add => {
-            let sum = row.bounds[i.b as usize].saturating_add(row.bounds[i.c as usize]);
-            with_bound(row, i.a, sum)
-        }
-        Opcode::Mov => with_bound(row, i.a, row.bounds[i.b as usize]),
-        Opcode::Sub => with_bound(row, i.a, u16::MAX),
-        Opcode::And => with_bound(row, i.a, row.bounds[i.b as usize].min(i.imm)),
-        Opcode::Shr => with_bound(row, i.a, row.bounds[i.b as usize] >> i.imm),
-        Opcode::Muli => with_bound(row, i.a, row.bounds[i.b as usize].saturating_mul(i.imm)),
-        Opcode::Chk => with_bound(row, i.a, row.bounds[i.a as usize].min(i.imm)),
-        Opcode::Call => image.routine(i.imm).exit,
-        _ => *row,
+    match slot {
+        SlotUse::LocksNew(kind) => row.pairs = with_new(i.a, kind, &row.slots, &row.pairs),
+        SlotUse::Locks(_) | SlotUse::Unlocks(_) => row.pairs = without_slot(i.a, &row.pairs),
+        SlotUse::Compares => row.pairs = with_pair(i.a, i.b, &row.pairs),
+        _ => (),
     }
 }
 
-/// The row where control goes to the target; a refusal leaves its number in w7.
-pub(crate) fn row_branching(opcode: Opcode, row: &Row) -> Row
-    ensures { result ≡ row_branching opcode row.now }
+/// Does to slots, pairs and pointers of a row what an instruction does to them.
+fn apply_uses(i: &Instr, uses: Uses, row: &mut Row)
+    requires { UsesFit uses i.now }
+    ensures { row.new ≡ used i.now uses row.old }
 {
-    if opcode.operands().refusable {
-        with_bound(row, 7, 15)
-    } else {
-        *row
+    drop_pointers(i, uses.slot, row);
+    set_pointer(i, uses.pointer, row);
+    set_pairs(i, uses.slot, row);
+    set_slots(i, uses.slot, row);
+}
+
+/// Makes the row what is known where control goes on to the next instruction; after a call it
+/// is the exit row of the routine that was called.
+pub(crate) fn go_along(image: &Image, i: &Instr, uses: Uses, row: &mut Row)
+    requires fields { FieldsFit i.now.opcode i.now }
+    requires callee { CalleeFits (length image.now.routines) i.now }
+    requires uses { uses ≡ uses_of i.now.opcode }
+    requires fit { UsesFit uses i.now }
+    ensures { row.new ≡ row_along image.now i.now i.now.opcode row.old }
+{
+    match i.opcode {
+        Opcode::Call => *row = image.routine(i.imm).exit,
+        _ => {
+            bound_result(i, row);
+            apply_uses(i, uses, row);
+        }
+    }
+}
+
+/// Makes the row what is known where control goes to the target; a refusal leaves its number
+/// in w7.
+pub(crate) fn go_to_target(i: &Instr, uses: Uses, row: &mut Row)
+    requires { uses ≡ uses_of i.now.opcode }
+    ensures { row.new ≡ row_branching i.now i.now.opcode row.old }
+{
+    if i.opcode.operands().refusable {
+        drop_pointers(i, uses.slot, row);
+        set_bound(row, 7, 15);
     }
 }
 
@@ -79,9 +94,12 @@ pub fn after(image: &Image, pc: u16, row: &Row, branch: bool) -> Row
     ensures { result ≡ after image.now pc row.now branch }
 {
     let i = image.instr(pc);
+    let uses = uses_at(i);
+    let mut next = *row;
     if branch {
-        row_branching(i.opcode, row)
+        go_to_target(i, uses, &mut next);
     } else {
-        row_along(image, i, row)
+        go_along(image, i, uses, &mut next);
     }
+    next
 }

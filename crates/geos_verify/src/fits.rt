@@ -27,15 +27,11 @@ pub fn within_bounds(words: &[u16; 8], bounds: &[u16; 8]) -> bool
 fn slot_fits(r: SlotState, s: SlotState) -> bool
     ensures { result ≡ slot_fits r s }
 {
-    match (r, s) {
-        (SlotState::Empty, SlotState::Empty) => true,
-        (SlotState::Mem, SlotState::Mem) => true,
-        (SlotState::Vm | SlotState::VmMarked, SlotState::Vm) => true,
-        (SlotState::VmMarked, SlotState::VmMarked) => true,
-        (SlotState::Db | SlotState::DbMarked, SlotState::Db) => true,
-        (SlotState::DbMarked, SlotState::DbMarked) => true,
-        _ => false,
-    }
+    r == s
+        || match (r, s) {
+            (SlotState::VmMarked, SlotState::Vm) | (SlotState::DbMarked, SlotState::Db) => true,
+            _ => false,
+        }
 }
 
 fn slots_fit(r: &[SlotState; 4], s: &[SlotState; 4]) -> bool
@@ -83,7 +79,8 @@ pub(crate) fn fits(r: &Row, s: &Row) -> bool
         && pairs_fit(&r.pairs, &s.pairs)
 }
 
-fn is_empty(slot: SlotState) -> bool
+/// Whether nothing is held.
+pub(crate) fn is_empty(slot: SlotState) -> bool
     ensures { result ≡ is_empty slot }
 {
     match slot {
@@ -92,7 +89,8 @@ fn is_empty(slot: SlotState) -> bool
     }
 }
 
-fn is_stale(pointer: &Option<Pointer>) -> bool
+/// Whether nothing is known of the pointer.
+pub(crate) fn is_stale(pointer: &Option<Pointer>) -> bool
     ensures { result ≡ is_stale pointer.now }
 {
     pointer.is_none()

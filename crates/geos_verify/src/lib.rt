@@ -3,15 +3,22 @@
 //! docs/VERIFIER.md says the rules and what they promise.
 #![tactic(auto)]
 
+mod bounds;
 mod checked;
 mod edges;
 mod fits;
+mod misuse;
+mod pairs;
+mod pointers;
 mod potentials;
 mod refusal;
 mod rule;
+mod slots;
 mod touched;
+mod uses;
 
 pub use checked::{Checked, check};
 pub use edges::after;
 pub use fits::within_bounds;
 pub use rule::{Reject, Rule};
+pub use uses::{Kind, Offset, PointerUse, SlotUse, Uses, Width, uses_of};

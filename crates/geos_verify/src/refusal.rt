@@ -3,15 +3,18 @@
 ghost use Rattle.std.specs.Prelude.{◌≡◌, ◌<◌, ◌≤◌, ◌+◌, ◌||◌, ◌&&◌, length, true, false, slice_get, Some, IfSome};
 ghost use Rattle.geos_image.specs.Parts.{start_of, Point};
 ghost use Rattle.geos_image.specs.Fields.{FieldsFit, TargetFits, CalleeFits};
-ghost use Rattle.geos_verify.specs.Rows.{falls_through, branches};
+ghost use Rattle.geos_verify.specs.Rows.{falls_through, branches, row_along, row_branching};
 ghost use Rattle.geos_verify.specs.Rules.{has_place, returns, leaves_routine, entry_misfits, call_misfits, exit_misfits, misfits_at, edge_misfits, unpaid_along, unpaid_branching, edge_unpaid, over_budget, refusal};
 ghost use Rattle.geos_verify.specs.Touched.{calls, NotesBelow};
+ghost use Rattle.geos_verify.specs.Uses.{uses_of, UsesFit};
 
-use crate::edges::{branches, falls_through, row_along, row_branching};
+use crate::edges::{branches, falls_through, go_along, go_to_target};
 use crate::fits::{fits, is_plain, names_empty_slot};
+use crate::misuse::{changes_unmarked, locks_into_held, passes_end, stale_pointer, wrong_slot};
 use crate::potentials::{is_within, pays_along, pays_branching};
 use crate::rule::Rule;
 use crate::touched::{Touched, calls};
+use crate::uses::{Uses, uses_at};
 use geos_image::{Image, Instr, Opcode, Potential, Routine, Row};
 
 fn has_place(start: u32, routine: &Routine, pc: u32) -> bool
@@ -76,9 +79,37 @@ fn misfits_at(image: &Image, to: u16, row: &Row) -> bool
     !fits(row, image.row(to))
 }
 
+/// Whether the row where control goes on does not fit the row there.
+fn misfits_along(image: &Image, pc: u16, i: &Instr, uses: Uses, row: &Row) -> bool
+    requires uses { uses ≡ uses_of i.now.opcode }
+    requires fit { UsesFit uses i.now }
+    requires fields { FieldsFit i.now.opcode i.now }
+    requires callee { CalleeFits (length image.now.routines) i.now }
+    requires next { pc + 1 < length image.now.points }
+    requires pc { pc < 4096 }
+    ensures { result ≡ misfits_at image.now (pc + 1) (row_along image.now i.now i.now.opcode row.now) }
+{
+    let mut next = *row;
+    go_along(image, i, uses, &mut next);
+    misfits_at(image, pc + 1, &next)
+}
+
+/// Whether the row where control goes to the target does not fit the row there.
+fn misfits_branching(image: &Image, i: &Instr, uses: Uses, row: &Row) -> bool
+    requires uses { uses ≡ uses_of i.now.opcode }
+    requires target { i.now.target < length image.now.points }
+    ensures { result ≡ misfits_at image.now i.now.target (row_branching i.now i.now.opcode row.now) }
+{
+    let mut next = *row;
+    go_to_target(i, uses, &mut next);
+    misfits_at(image, i.target, &next)
+}
+
 /// Whether the row after an edge does not fit the row there.
 #[tactic(auto, unfolding(crate::specs::Rules::edge_misfits))]
-fn edge_misfits(image: &Image, pc: u16, i: &Instr, row: &Row) -> bool
+fn edge_misfits(image: &Image, pc: u16, i: &Instr, uses: Uses, row: &Row) -> bool
+    requires uses { uses ≡ uses_of i.now.opcode }
+    requires fit { UsesFit uses i.now }
     requires fields { FieldsFit i.now.opcode i.now }
     requires callee { CalleeFits (length image.now.routines) i.now }
     requires pc { pc < 4096 }
@@ -86,8 +117,8 @@ fn edge_misfits(image: &Image, pc: u16, i: &Instr, row: &Row) -> bool
     requires branch { branches i.now.opcode ≡ true → i.now.target < length image.now.points }
     ensures { result ≡ edge_misfits image.now pc i.now row.now }
 {
-    falls_through(i.opcode) && misfits_at(image, pc + 1, &row_along(image, i, row))
-        || branches(i.opcode) && misfits_at(image, i.target, &row_branching(i.opcode, row))
+    falls_through(i.opcode) && misfits_along(image, pc, i, uses, row)
+        || branches(i.opcode) && misfits_branching(image, i, uses, row)
 }
 
 #[tactic(auto, unfolding(crate::specs::Rules::unpaid_along))]
@@ -180,6 +211,7 @@ pub(crate) fn refusal(
     let i = image.instr(pc);
     let row = image.row(pc);
     let potential = image.potential(pc);
+    let uses = uses_at(i);
     let at = u32::from(pc);
     if leaves_routine(start, routine, at, i) {
         Some(Rule::LeavesRoutine)
@@ -187,11 +219,21 @@ pub(crate) fn refusal(
         Some(Rule::NamesEmptySlot)
     } else if entry_misfits(start, routine, at, row) {
         Some(Rule::EntryMisfit)
+    } else if stale_pointer(i, uses.pointer, row) {
+        Some(Rule::StalePointer)
+    } else if passes_end(i, uses.pointer, row) {
+        Some(Rule::PassesEnd)
+    } else if changes_unmarked(i, uses, row) {
+        Some(Rule::ChangesUnmarked)
+    } else if locks_into_held(i, uses.slot, row) {
+        Some(Rule::LocksIntoHeld)
+    } else if wrong_slot(i, uses.slot, row) {
+        Some(Rule::WrongSlot)
     } else if call_misfits(image, r, i, row) {
         Some(Rule::CallMisfit)
     } else if exit_misfits(routine, i, row) {
         Some(Rule::ExitMisfit)
-    } else if edge_misfits(image, pc, i, row) {
+    } else if edge_misfits(image, pc, i, uses, row) {
         Some(Rule::EdgeMisfit)
     } else if edge_unpaid(image, r, touched, pc, i, row, potential) {
         Some(Rule::EdgeUnpaid)

@@ -14,6 +14,17 @@ pub enum Rule {
     /// The entry row does not fit the first row, or a public routine's entry or exit row has a
     /// slot held or a pointer that is not stale.
     EntryMisfit = 3,
+    /// A pointer is read, written, copied or measured of which the row knows nothing: it may be
+    /// stale.
+    StalePointer = 4,
+    /// A read or a write may reach past the bytes that the row says are there.
+    PassesEnd = 5,
+    /// A block of the VM file is changed that is not known to be marked.
+    ChangesUnmarked = 6,
+    /// A block is locked into a slot that is held.
+    LocksIntoHeld = 7,
+    /// A slot that must be held is empty or of another kind.
+    WrongSlot = 8,
     /// A routine calls one that is not below it, or one whose entry row the row does not fit.
     CallMisfit = 10,
     /// A return where the row does not fit the exit row.

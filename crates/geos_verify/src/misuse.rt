@@ -1,0 +1,154 @@
+//! The rules on what an instruction does with slots and pointers.
+
+ghost use Rattle.std.specs.Prelude.{◌≡◌, ◌<◌};
+ghost use Rattle.geos_verify.specs.Uses.{uses_of, bytes_in, OffsetFits, PointerFits};
+ghost use Rattle.geos_verify.specs.Rules.{reach, least_at, pointed_state, is_unmarked, writes_unmarked, moves_unmarked, stale_pointer, passes_end, changes_unmarked, locks_into_held, wrong_slot};
+
+use crate::fits::{is_empty, is_stale};
+use crate::pointers::pointer_at;
+use crate::slots::{are_alike, holds_kind, slot_state};
+use crate::uses::{Offset, PointerUse, SlotUse, Uses, Width};
+use geos_image::{Instr, Row, SlotState};
+
+/// Whether the row knows nothing of a pointer that the instruction uses.
+#[tactic(auto, unfolding(crate::specs::Rules::stale_pointer))]
+pub(crate) fn stale_pointer(i: &Instr, pointer: PointerUse, row: &Row) -> bool
+    requires uses { pointer ≡ (uses_of i.now.opcode).pointer }
+    requires fit { PointerFits pointer i.now }
+    ensures { result ≡ stale_pointer i.now row.now }
+{
+    match pointer {
+        PointerUse::Loads(_, _)
+        | PointerUse::Stores(_, _)
+        | PointerUse::Duplicates
+        | PointerUse::Measures => is_stale(&pointer_at(row, i.b)),
+        PointerUse::Copies => is_stale(&pointer_at(row, i.a)) || is_stale(&pointer_at(row, i.b)),
+        _ => false,
+    }
+}
+
+fn bytes_in(width: Width) -> u32
+    ensures { result ≡ bytes_in width }
+{
+    match width {
+        Width::Byte => 1,
+        Width::Word => 2,
+    }
+}
+
+/// How many bytes must stand behind the pointer of a read or a write.
+fn reach(i: &Instr, width: Width, offset: Offset, row: &Row) -> u32
+    requires { OffsetFits offset i.now }
+    ensures { result ≡ reach i.now width offset row.now }
+{
+    match offset {
+        Offset::Fixed => u32::from(i.imm) + bytes_in(width),
+        Offset::Indexed => u32::from(row.bounds[i.c as usize]) + bytes_in(width),
+        Offset::Tested => 0,
+    }
+}
+
+/// How many bytes the row says that there are behind a pointer, at least.
+fn least_at(row: &Row, p: u8) -> u16
+    requires { p < 4 }
+    ensures { result ≡ least_at row.now p }
+{
+    match pointer_at(row, p) {
+        Some(pointer) => pointer.least,
+        None => 0,
+    }
+}
+
+/// Whether a read or a write may reach past the bytes that the row says are there.
+#[tactic(auto, unfolding(crate::specs::Rules::passes_end))]
+pub(crate) fn passes_end(i: &Instr, pointer: PointerUse, row: &Row) -> bool
+    requires uses { pointer ≡ (uses_of i.now.opcode).pointer }
+    requires fit { PointerFits pointer i.now }
+    ensures { result ≡ passes_end i.now row.now }
+{
+    match pointer {
+        PointerUse::Loads(width, offset) | PointerUse::Stores(width, offset) => {
+            u32::from(least_at(row, i.b)) < reach(i, width, offset, row)
+        }
+        PointerUse::Copies => least_at(row, i.a) < i.imm || least_at(row, i.b) < i.imm,
+        _ => false,
+    }
+}
+
+/// Whether the slot holds a block of the VM file that is not known to be marked.
+fn is_unmarked(state: SlotState) -> bool
+    ensures { result ≡ is_unmarked state }
+{
+    match state {
+        SlotState::Vm | SlotState::Db => true,
+        _ => false,
+    }
+}
+
+/// What the row says of the slot that a pointer leads into.
+fn pointed_state(row: &Row, p: u8) -> SlotState
+    requires { p < 4 }
+    ensures { result ≡ pointed_state row.now p }
+{
+    match pointer_at(row, p) {
+        Some(pointer) => slot_state(row, pointer.slot),
+        None => SlotState::Empty,
+    }
+}
+
+fn writes_unmarked(i: &Instr, pointer: PointerUse, row: &Row) -> bool
+    requires { PointerFits pointer i.now }
+    ensures { result ≡ writes_unmarked i.now pointer row.now }
+{
+    match pointer {
+        PointerUse::Stores(_, _) => is_unmarked(pointed_state(row, i.b)),
+        PointerUse::Copies => is_unmarked(pointed_state(row, i.a)),
+        _ => false,
+    }
+}
+
+fn moves_unmarked(i: &Instr, slot: SlotUse, row: &Row) -> bool
+    ensures { result ≡ moves_unmarked i.now slot row.now }
+{
+    match slot {
+        SlotUse::Moves => is_unmarked(slot_state(row, i.a)),
+        _ => false,
+    }
+}
+
+/// Whether a block of the VM file is changed that is not known to be marked.
+#[tactic(auto, unfolding(crate::specs::Rules::changes_unmarked))]
+pub(crate) fn changes_unmarked(i: &Instr, uses: Uses, row: &Row) -> bool
+    requires uses { uses ≡ uses_of i.now.opcode }
+    requires fit { PointerFits uses.pointer i.now }
+    ensures { result ≡ changes_unmarked i.now row.now }
+{
+    writes_unmarked(i, uses.pointer, row) || moves_unmarked(i, uses.slot, row)
+}
+
+/// Whether a block is locked into a slot that is held.
+#[tactic(auto, unfolding(crate::specs::Rules::locks_into_held))]
+pub(crate) fn locks_into_held(i: &Instr, slot: SlotUse, row: &Row) -> bool
+    requires { slot ≡ (uses_of i.now.opcode).slot }
+    ensures { result ≡ locks_into_held i.now row.now }
+{
+    match slot {
+        SlotUse::LocksNew(_) | SlotUse::Locks(_) => !is_empty(slot_state(row, i.a)),
+        _ => false,
+    }
+}
+
+/// Whether a slot that must be held is empty or of another kind.
+#[tactic(auto, unfolding(crate::specs::Rules::wrong_slot))]
+pub(crate) fn wrong_slot(i: &Instr, slot: SlotUse, row: &Row) -> bool
+    requires { slot ≡ (uses_of i.now.opcode).slot }
+    ensures { result ≡ wrong_slot i.now row.now }
+{
+    let state = slot_state(row, i.a);
+    match slot {
+        SlotUse::Unlocks(kind) => !holds_kind(kind, state),
+        SlotUse::Compares => is_empty(state) || !are_alike(state, slot_state(row, i.b)),
+        SlotUse::Moves | SlotUse::LooksAt => is_empty(state),
+        _ => false,
+    }
+}

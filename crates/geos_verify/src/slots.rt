@@ -1,0 +1,100 @@
+//! What a row says of slots, and what an instruction changes of it.
+
+ghost use Rattle.std.specs.Prelude.{◌≡◌};
+ghost use Rattle.geos_verify.specs.Uses.{same_kind, SlotFits};
+ghost use Rattle.geos_verify.specs.Rows.{slot_state, kind_in, alike, are_alike, holds_kind, new_state, locked_state, slots_after};
+
+use crate::uses::{Kind, SlotUse};
+use geos_image::{Instr, Row, SlotState};
+
+/// What the row says of a slot; one that there is not is empty.
+pub(crate) fn slot_state(row: &Row, a: u8) -> SlotState
+    ensures { result ≡ slot_state row.now a }
+{
+    match row.slots.get(usize::from(a)) {
+        Some(state) => *state,
+        None => SlotState::Empty,
+    }
+}
+
+fn same_kind(kind: Kind, other: Kind) -> bool
+    ensures { result ≡ same_kind kind other }
+{
+    match (kind, other) {
+        (Kind::MemBlock, Kind::MemBlock) => true,
+        (Kind::VmBlock, Kind::VmBlock) => true,
+        (Kind::DbGroup, Kind::DbGroup) => true,
+        _ => false,
+    }
+}
+
+/// The kind of block that a slot holds, if it holds one.
+fn kind_in(state: SlotState) -> Option<Kind>
+    ensures { result ≡ kind_in state }
+{
+    match state {
+        SlotState::Empty => None,
+        SlotState::Mem => Some(Kind::MemBlock),
+        SlotState::Vm | SlotState::VmMarked => Some(Kind::VmBlock),
+        SlotState::Db | SlotState::DbMarked => Some(Kind::DbGroup),
+    }
+}
+
+fn alike(kind: Option<Kind>, other: Option<Kind>) -> bool
+    ensures { result ≡ alike kind other }
+{
+    match (kind, other) {
+        (None, None) => true,
+        (Some(kind), Some(other)) => same_kind(kind, other),
+        _ => false,
+    }
+}
+
+/// Whether two slots hold blocks of one kind, or both nothing.
+pub(crate) fn are_alike(state: SlotState, other: SlotState) -> bool
+    ensures { result ≡ are_alike state other }
+{
+    alike(kind_in(state), kind_in(other))
+}
+
+/// Whether the slot holds a block of the kind.
+pub(crate) fn holds_kind(kind: Kind, state: SlotState) -> bool
+    ensures { result ≡ holds_kind kind state }
+{
+    alike(kind_in(state), Some(kind))
+}
+
+/// A slot that holds a block which was just made.
+fn new_state(kind: Kind) -> SlotState
+    ensures { result ≡ new_state kind }
+{
+    match kind {
+        Kind::MemBlock => SlotState::Mem,
+        Kind::VmBlock => SlotState::VmMarked,
+        Kind::DbGroup => SlotState::DbMarked,
+    }
+}
+
+/// A slot that holds a block which was just locked.
+fn locked_state(kind: Kind) -> SlotState
+    ensures { result ≡ locked_state kind }
+{
+    match kind {
+        Kind::MemBlock => SlotState::Mem,
+        Kind::VmBlock => SlotState::Vm,
+        Kind::DbGroup => SlotState::Db,
+    }
+}
+
+/// Sets the slots to what they are after an instruction.
+pub(crate) fn set_slots(i: &Instr, slot: SlotUse, row: &mut Row)
+    requires { SlotFits slot i.now }
+    ensures { row.new ≡ record row.old { slots = slots_after i.now slot row.old.slots } }
+{
+    match slot {
+        SlotUse::LocksNew(kind) => row.slots[i.a as usize] = new_state(kind),
+        SlotUse::Locks(kind) => row.slots[i.a as usize] = locked_state(kind),
+        SlotUse::Unlocks(_) => row.slots[i.a as usize] = SlotState::Empty,
+        _ => (),
+    }
+}
