@@ -3,7 +3,7 @@ use Rattle.std.proofs.Common.{◌≡◌, ℕ, zero, suc, ◌+◌, ◌*◌, ◌�
 use Rattle.geos_image.specs.Parts.{Point, Parts}
 use Rattle.geos_verify.specs.Touched.{touches}
 use Rattle.geos_semantics.specs.Lists.{dot}
-use Rattle.geos_semantics.specs.Model.{Frame}
+use Rattle.geos_semantics.specs.State.{Frame}
 use Rattle.geos_semantics.specs.Theorem.{value, value_at, kept, Chain}
 
 -- a counter on which nothing is counted may be anything

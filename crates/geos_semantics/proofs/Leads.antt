@@ -66,8 +66,8 @@ at_routine-is : (image : Parts) (r : ℕ) (routine : Routine) (test : Routine �
 at_routine-is image r routine test e = rw (e, at_routine) refl
 
 module _ (image : Parts) (legal : is_image image ≡ true) (accepted : Accepted image) (r pc : ℕ) (routine : Routine) (point : Point) (has : HasPoint image r routine pc point) where
-  all_pass : NoneRefuses image r routine (start_of image.routines r) pc point
-  all_pass = none-refuses image r routine (start_of image.routines r) pc point (accepted r pc routine point has)
+  pub rules_pass : NoneRefuses image r routine (start_of image.routines r) pc point
+  rules_pass = none-refuses image r routine (start_of image.routines r) pc point (accepted r pc routine point has)
 
   -- the edge to the next instruction
   pub leads-along : (opcode : Opcode) → point.0.opcode ≡ opcode → falls_through opcode ≡ true → Leads image r routine (pc + 1) (row_along image point.0 opcode point.1) (pays_along image point.0 opcode point.1 point.2)
@@ -75,12 +75,12 @@ module _ (image : Parts) (legal : is_image image ≡ true) (accepted : Accepted 
   leads-along opcode is falls =
       let i = point.0 in
       let falls_here : falls_through i.opcode ≡ true = ap falls_through is ∙ falls in
-      let stays = or_parts (falls_through i.opcode && not (has_place (start_of image.routines r) routine.count (pc + 1))) _ all_pass.stays in
+      let stays = or_parts (falls_through i.opcode && not (has_place (start_of image.routines r) routine.count (pc + 1))) _ rules_pass.stays in
       let within = not-false _ (and-false (falls_through i.opcode) _ stays.0 falls_here) in
       let next = point_at image r routine (pc + 1) legal has.there within in
-      let fit = or_parts (falls_through i.opcode && not (at_point image (pc + 1) (λ q. fits (row_along image i i.opcode point.1) q.1))) _ all_pass.edge in
+      let fit = or_parts (falls_through i.opcode && not (at_point image (pc + 1) (λ q. fits (row_along image i i.opcode point.1) q.1))) _ rules_pass.edge in
       let fit_here = not-false _ (and-false (falls_through i.opcode) _ fit.0 falls_here) in
-      let pay = or_parts _ (returns i.opcode && point.2.constant == 0) all_pass.paid in
+      let pay = or_parts _ (returns i.opcode && point.2.constant == 0) rules_pass.paid in
       let pay_along = or_parts (falls_through i.opcode && not (at_point image (pc + 1) (λ q. pays_along image i i.opcode point.1 point.2 q.2))) _ pay.0 in
       let pay_here = not-false _ (and-false (falls_through i.opcode) _ pay_along.0 falls_here) in
       let P : Opcode → Type 0 = λ o. Leads image r routine (pc + 1) (row_along image i o point.1) (pays_along image i o point.1 point.2) in
@@ -92,24 +92,24 @@ module _ (image : Parts) (legal : is_image image ≡ true) (accepted : Accepted 
       })
 
   -- the edge to the target
-  pub leads-branching : (opcode : Opcode) → point.0.opcode ≡ opcode → branches opcode ≡ true → Leads image r routine point.0.target (row_branching opcode point.1) (pays_branching point.0 opcode point.2)
+  pub leads-branching : (opcode : Opcode) → point.0.opcode ≡ opcode → branches opcode ≡ true → Leads image r routine point.0.target (row_branching point.0 opcode point.1) (pays_branching point.0 opcode point.2)
   unfolding leaves_routine edge_misfits misfits_at edge_unpaid unpaid_branching
   leads-branching opcode is branch =
       let i = point.0 in
       let branch_here : branches i.opcode ≡ true = ap branches is ∙ branch in
-      let stays = or_parts _ (branches i.opcode && not (has_place (start_of image.routines r) routine.count i.target)) all_pass.stays in
+      let stays = or_parts _ (branches i.opcode && not (has_place (start_of image.routines r) routine.count i.target)) rules_pass.stays in
       let within = not-false _ (and-false (branches i.opcode) _ stays.1 branch_here) in
       let next = point_at image r routine i.target legal has.there within in
-      let fit = or_parts _ (branches i.opcode && not (at_point image i.target (λ q. fits (row_branching i.opcode point.1) q.1))) all_pass.edge in
+      let fit = or_parts _ (branches i.opcode && not (at_point image i.target (λ q. fits (row_branching i i.opcode point.1) q.1))) rules_pass.edge in
       let fit_here = not-false _ (and-false (branches i.opcode) _ fit.1 branch_here) in
-      let pay = or_parts _ (returns i.opcode && point.2.constant == 0) all_pass.paid in
+      let pay = or_parts _ (returns i.opcode && point.2.constant == 0) rules_pass.paid in
       let pay_branch = or_parts _ (branches i.opcode && not (at_point image i.target (λ q. pays_branching i i.opcode point.2 q.2))) pay.0 in
       let pay_here = not-false _ (and-false (branches i.opcode) _ pay_branch.1 branch_here) in
-      let P : Opcode → Type 0 = λ o. Leads image r routine i.target (row_branching o point.1) (pays_branching i o point.2) in
+      let P : Opcode → Type 0 = λ o. Leads image r routine i.target (row_branching i o point.1) (pays_branching i o point.2) in
       subst P is (record {
         point = next.0;
         has = next.1;
-        fits = sym (at_point-is image i.target next.0 (λ q. fits (row_branching i.opcode point.1) q.1) next.1.read) ∙ fit_here;
+        fits = sym (at_point-is image i.target next.0 (λ q. fits (row_branching i i.opcode point.1) q.1) next.1.read) ∙ fit_here;
         pays = sym (at_point-is image i.target next.0 (λ q. pays_branching i i.opcode point.2 q.2) next.1.read) ∙ pay_here;
       })
 
@@ -118,7 +118,7 @@ module _ (image : Parts) (legal : is_image image ≡ true) (accepted : Accepted 
   unfolding call_misfits
   may_call is =
       let i = point.0 in
-      let misfits = or_parts (not (nat_lt i.imm r)) _ (and-false (calls i.opcode) _ all_pass.call is) in
+      let misfits = or_parts (not (nat_lt i.imm r)) _ (and-false (calls i.opcode) _ rules_pass.call is) in
       let here = not-false _ misfits.1 in
       let found = item_at image.routines i.imm (called-there i.opcode refl is) in
       (found.0, found.1, ltb-true i.imm r (not-false _ misfits.0), sym (at_routine-is image i.imm found.0 (λ callee. fits point.1 callee.entry) found.1) ∙ here)
@@ -131,18 +131,18 @@ module _ (image : Parts) (legal : is_image image ≡ true) (accepted : Accepted 
   pub may_return : returns point.0.opcode ≡ true → (fits point.1 routine.exit ≡ true) × (1 ≤ point.2.constant)
   unfolding exit_misfits edge_unpaid
   may_return is =
-      let fit = not-false _ (and-false (returns point.0.opcode) _ all_pass.exit is) in
-      let pay = or_parts _ (returns point.0.opcode && point.2.constant == 0) all_pass.paid in
+      let fit = not-false _ (and-false (returns point.0.opcode) _ rules_pass.exit is) in
+      let pay = or_parts _ (returns point.0.opcode && point.2.constant == 0) rules_pass.paid in
       let some = eqb-false point.2.constant 0 (and-false (returns point.0.opcode) _ pay.1 is) in
       (fit, omega (arith, some))
 
   -- where a routine begins, its entry row fits the row, and its budget pays
-  pub may_begin : pc ≡ start_of image.routines r → (fits routine.entry point.1 ≡ true) × (is_within routine.budget point.2 ≡ true) × (routine.public ≡ true → is_plain routine.entry ≡ true)
+  pub may_begin : pc ≡ start_of image.routines r → (fits routine.entry point.1 ≡ true) × (is_within routine.budget point.2 ≡ true) × (routine.public ≡ true → (is_plain routine.entry ≡ true) × (is_plain routine.exit ≡ true))
   unfolding entry_misfits over_budget
   may_begin is =
       let here : (pc == start_of image.routines r) ≡ true = eq-eqb pc (start_of image.routines r) is in
-      let entry = or_parts (not (fits routine.entry point.1)) _ (and-false (pc == start_of image.routines r) _ all_pass.entry here) in
-      (not-false _ entry.0, not-false _ (and-false (pc == start_of image.routines r) _ all_pass.budget here), λ public. (and_parts (is_plain routine.entry) (is_plain routine.exit) (not-false _ (and-false routine.public _ entry.1 public))).0)
+      let entry = or_parts (not (fits routine.entry point.1)) _ (and-false (pc == start_of image.routines r) _ rules_pass.entry here) in
+      (not-false _ entry.0, not-false _ (and-false (pc == start_of image.routines r) _ rules_pass.budget here), λ public. and_parts (is_plain routine.entry) (is_plain routine.exit) (not-false _ (and-false routine.public _ entry.1 public)))
 
 -- a routine has an instruction where it begins
 pub begins-within : (image : Parts) → is_image image ≡ true → (r : ℕ) (routine : Routine) → slice_get image.routines r ≡ Some routine → has_place (start_of image.routines r) routine.count (start_of image.routines r) ≡ true

@@ -1,6 +1,16 @@
 pub mod Lists
+pub mod Memories
 pub mod Rows
 pub mod Leads
 pub mod Chains
+pub mod Kept
+pub mod Locking
+pub mod NoFaults
+pub mod Apart
+pub mod Fine
+pub mod FineLocks
+pub mod Paid
+pub mod Bounds
 pub mod Steps
+pub mod Ends
 pub mod Runs

@@ -11,22 +11,24 @@ use Rattle.geos_image.specs.declared.row.SlotState.{SlotState}
 use Rattle.geos_image.specs.declared.row.SlotState.TheVariants.{Empty, Mem, Vm, VmMarked, Db, DbMarked}
 use Rattle.geos_verify.specs.Lists.{all2}
 use Rattle.geos_verify.specs.Rows.{bound, with_bound, or_any, slot_fits, pointer_fits, pair_fits, fits}
-use Rattle.geos_semantics.specs.Model.{Held, SlotReference, State, word, with_word}
-use Rattle.geos_semantics.specs.Meets.{SlotMeets, PointerMeets, PairMeets, slot_pairs, Meets}
+use Rattle.geos_model.specs.Memory.{Memory}
+use Rattle.geos_verify.specs.Pairs.{slot_pairs}
+use Rattle.geos_semantics.specs.State.{Held, SlotReference, State, word, with_word}
+use Rattle.geos_semantics.specs.Meets.{SlotMeets, PointerMeets, PairMeets, Meets}
 use Rattle.geos_semantics.proofs.Lists.{each2-set, each2-get, each2-from_test, each2-trans, each2-trans_back}
 
-slot-meets : (h : Option Held) (x y : SlotState) → SlotMeets h x → slot_fits x y ≡ true → SlotMeets h y
-slot-meets h Empty Empty m e = m
-slot-meets h Mem Mem m e = m
-slot-meets h Vm Vm m e = m
-slot-meets h VmMarked VmMarked m e = m
-slot-meets None VmMarked Vm m e = m
-slot-meets (Some k) VmMarked Vm m e = m
-slot-meets h Db Db m e = m
-slot-meets h DbMarked DbMarked m e = m
-slot-meets None DbMarked Db m e = m
-slot-meets (Some k) DbMarked Db m e = m
-slot-meets h _ _ m e = absurd cc
+slot-meets : (m : Memory) (h : Option Held) (x y : SlotState) → SlotMeets m h x → slot_fits x y ≡ true → SlotMeets m h y
+slot-meets m h Empty Empty k e = k
+slot-meets m h Mem Mem k e = k
+slot-meets m h Vm Vm k e = k
+slot-meets m h VmMarked VmMarked k e = k
+slot-meets m None VmMarked Vm k e = k
+slot-meets m (Some held) VmMarked Vm k e = k.0
+slot-meets m h Db Db k e = k
+slot-meets m h DbMarked DbMarked k e = k
+slot-meets m None DbMarked Db k e = k
+slot-meets m (Some held) DbMarked Db k e = k.0
+slot-meets m h _ _ k e = absurd cc
 
 pointer-meets : (x : Option SlotReference) (y z : Option Pointer) → PointerMeets x y → pointer_fits y z ≡ true → PointerMeets x z
 pointer-meets x y None m e = tt
@@ -35,7 +37,7 @@ pointer-meets None (Some p) (Some q) m e = absurd m
 pointer-meets (Some r) (Some p) (Some q) m e =
     let parts = and_parts (p.slot == q.slot) (nat_le q.least p.least) e in
     let least = leb-true q.least p.least parts.1 in
-    (m.0 ∙ eqb-true p.slot q.slot parts.0, omega (arith, m.1))
+    (m.0 ∙ eqb-true p.slot q.slot parts.0, omega (arith, m.1, least))
 
 pair-known : (y x : Bool) → pair_fits y x ≡ true → x ≡ true → y ≡ true
 pair-known true x h e = refl
@@ -54,7 +56,7 @@ meets-fits s r q M h =
     let c = and_parts bounds slots b.0 in
     record {
       words = each2-trans (λ n most. n ≤ most) (λ m n. nat_le m n ≡ true) (λ n most. n ≤ most) (λ x y z m e. let k = leb-true y z e in omega arith) s.words r.bounds q.bounds M.words (each2-from_test nat_le r.bounds q.bounds c.0);
-      slots = each2-trans SlotMeets (λ x y. slot_fits x y ≡ true) SlotMeets slot-meets s.slots r.slots q.slots M.slots (each2-from_test slot_fits r.slots q.slots c.1);
+      slots = each2-trans (SlotMeets s.memory) (λ x y. slot_fits x y ≡ true) (SlotMeets s.memory) (slot-meets s.memory) s.slots r.slots q.slots M.slots (each2-from_test slot_fits r.slots q.slots c.1);
       pointers = each2-trans PointerMeets (λ x y. pointer_fits x y ≡ true) PointerMeets pointer-meets s.pointers r.pointers q.pointers M.pointers (each2-from_test pointer_fits r.pointers q.pointers b.1);
       pairs = each2-trans_back (λ y x. pair_fits y x ≡ true) (PairMeets s.slots) (PairMeets s.slots) (λ x y z p m e. m (pair-known y x p e)) q.pairs r.pairs slot_pairs (each2-from_test pair_fits r.pairs q.pairs a.1) M.pairs;
     }

@@ -1,4 +1,6 @@
 pub mod Lists
+pub mod State
+pub mod Faults
 pub mod Model
 pub mod Meets
 pub mod Theorem

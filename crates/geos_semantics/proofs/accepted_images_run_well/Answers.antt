@@ -1,4 +1,4 @@
-use Rattle.geos_semantics.proofs.Steps.{accepted_images_run_well}
+use Rattle.geos_semantics.proofs.Ends.{accepted_images_run_well}
 use Rattle.geos_semantics.proofs.accepted_images_run_well.Goals as goal
 
 pub returns : goal.returns

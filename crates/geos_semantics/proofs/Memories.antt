@@ -1,0 +1,230 @@
+-- What is in memory after blocks were locked, changed, made and freed.
+use Rattle.std.proofs.Common.{◌≡◌, ℕ, zero, suc, ◌%◌, ◌≤◌, ◌≢◌, Bool, true, false, Option, Some, None, List, [], ◌∷◌, length, get_or, set, refl, sym, ap, ◌∙◌, subst, arith, inl, inr, ◌⊎◌}
+use Rattle.std.specs.Prelude.{◌==◌, ◌&&◌, nat_le, cond, IsSome, is_none, option_map, position, sum_by}
+use Rattle.std.proofs.lemmas.Bool.{and_parts, eqb-true, eqb-false, eq-eqb, cases_lt}
+use Rattle.std.proofs.lemmas.List.{get_or-set_same, get_or-set_other, get_or_past, length-set}
+use Rattle.std.proofs.lemmas.List.Quantifiers.{position-Some}
+use Rattle.std.proofs.lemmas.List.Sums.{sum_by-cons}
+use Rattle.geos_model.specs.declared.name.Name.{Name}
+use Rattle.geos_model.specs.declared.name.Owner.{Owner}
+use Rattle.geos_model.specs.declared.name.Owner.TheVariants.{Mem, Vm}
+use Rattle.geos_model.specs.Names.{mem}
+use Rattle.geos_model.specs.Chunks.{cost, cost_of, entry_of, chunk_of, with_bytes}
+use Rattle.geos_model.specs.Memory.{Block, Memory, at_handle, with_entry_at, owned_block, with_owned_block, block_of, with_block, locks_in, chunks_in, locks_of, chunks_at, lowest_handle, locked_block, rechunked_block, with_locks, with_chunks}
+use Rattle.geos_model.specs.Legal.{IsMemory}
+use Rattle.geos_model.proofs.Costs.{cost-over}
+use Rattle.geos_model.proofs.LegalBlocks.{chunks-need}
+use Rattle.geos_semantics.specs.State.{same_owner, same_name}
+
+-- Names
+
+same_owner-true : (o q : Owner) → same_owner o q ≡ true → o ≡ q
+same_owner-true Mem Mem h = refl
+same_owner-true Vm Vm h = refl
+same_owner-true Mem Vm h = absurd cc
+same_owner-true Vm Mem h = absurd cc
+
+same_owner-refl : (o : Owner) → same_owner o o ≡ true
+same_owner-refl Mem = refl
+same_owner-refl Vm = refl
+
+pub same_name-true : (name other : Name) → same_name name other ≡ true → name ≡ other
+same_name-true name other h =
+    let p = and_parts (same_owner name.owner other.owner) (name.h == other.h) h in
+    rw (same_owner-true name.owner other.owner p.0, eqb-true name.h other.h p.1) refl
+
+pub same_name-refl : (name : Name) → same_name name name ≡ true
+same_name-refl name = rw (same_owner-refl name.owner, eq-eqb name.h name.h refl) refl
+
+pub same_name-is : (name other : Name) → name ≡ other → same_name name other ≡ true
+same_name-is name other e = rw e (same_name-refl other)
+
+-- two names are one, or not
+pub names : (name other : Name) → (same_name name other ≡ true) ⊎ (same_name name other ≡ false)
+names name other = go (same_name name other)
+  where
+    go : (b : Bool) → (b ≡ true) ⊎ (b ≡ false)
+    go true = inl refl
+    go false = inr refl
+
+-- Blocks under names
+
+at_handle-other : {X : Type 0} (d : X) (xs : List X) (h k : ℕ) (x : X) → k ≢ h → at_handle d (with_entry_at xs h x) k ≡ at_handle d xs k
+at_handle-other d xs zero k x ne = refl
+at_handle-other d xs (suc h) zero x ne = refl
+at_handle-other d xs (suc h) (suc k) x ne = get_or-set_other xs h k x d (λ e. ne (ap suc e))
+
+at_handle-mapped : {X : Type 0} (f : X → X) (xs : List (Option X)) (h : ℕ) → at_handle None (with_entry_at xs h (option_map f (at_handle None xs h))) h ≡ option_map f (at_handle None xs h)
+at_handle-mapped f xs zero = refl
+at_handle-mapped f xs (suc h) = elim (cases_lt h (length xs)) [
+  | inl l ↦ get_or-set_same xs h (option_map f (get_or xs h None)) None l
+  | inr l ↦ (
+      let past : get_or (set xs h (option_map f (get_or xs h None))) h None ≡ None = get_or_past (set xs h (option_map f (get_or xs h None))) h None (let long = length-set xs h (option_map f (get_or xs h None)) in omega (arith, l, long)) in
+      let none : option_map f (get_or xs h None) ≡ None = rw (get_or_past xs h None l) refl in
+      past ∙ sym none
+      )
+]
+
+owned-other : (m : Memory) (o q : Owner) (h k : ℕ) (b : Option Block) → (same_owner o q && h == k) ≡ false → owned_block (with_owned_block m o h b) q k ≡ owned_block m q k
+owned-other m Mem Mem h k b ne = at_handle-other None m.blocks h k b (λ e. eqb-false h k ne (sym e))
+owned-other m Mem Vm h k b ne = refl
+owned-other m Vm Mem h k b ne = refl
+owned-other m Vm Vm h k b ne = refl
+
+-- a block under another name is as it was
+pub block_of-other : (m : Memory) (name other : Name) (b : Option Block) → same_name name other ≡ false → block_of (with_block m name b) other ≡ block_of m other
+block_of-other m name other b ne = owned-other m name.owner other.owner name.h other.h b ne
+
+owned-mapped : (m : Memory) (f : Block → Block) (o : Owner) (h : ℕ) → owned_block (with_owned_block m o h (option_map f (owned_block m o h))) o h ≡ option_map f (owned_block m o h)
+owned-mapped m f Mem h = at_handle-mapped f m.blocks h
+owned-mapped m f Vm h = refl
+
+-- a block that was changed, where there is one
+pub block_of-mapped : (m : Memory) (f : Block → Block) (name : Name) → block_of (with_block m name (option_map f (block_of m name))) name ≡ option_map f (block_of m name)
+block_of-mapped m f name = owned-mapped m f name.owner name.h
+
+-- what is asked of a changed block, of whatever name
+mapped-at : {X : Type 0} (g : Option Block → X) (m : Memory) (f : Block → Block) (name other : Name) → (g (option_map f (block_of m name)) ≡ g (block_of m name))
+    → g (block_of (with_block m name (option_map f (block_of m name))) other) ≡ g (block_of m other)
+mapped-at g m f name other same = elim (names name other) [
+  | inl is ↦ (let here = same_name-true name other is in subst (λ q. g (block_of (with_block m name (option_map f (block_of m name))) q) ≡ g (block_of m q)) here (ap g (block_of-mapped m f name) ∙ same))
+  | inr ne ↦ ap g (block_of-other m name other (option_map f (block_of m name)) ne)
+]
+
+chunks-locked : (n : ℕ) (b : Option Block) → chunks_in (option_map (locked_block n) b) ≡ chunks_in b
+chunks-locked n None = refl
+chunks-locked n (Some b) = refl
+
+locks-rechunked : (cs : List (Option (List ℕ))) (b : Option Block) → locks_in (option_map (rechunked_block cs) b) ≡ locks_in b
+locks-rechunked cs None = refl
+locks-rechunked cs (Some b) = refl
+
+some-mapped : (f : Block → Block) (b : Option Block) → is_none (option_map f b) ≡ is_none b
+some-mapped f None = refl
+some-mapped f (Some b) = refl
+
+-- Locking leaves the chunks of each block, and changing chunks leaves the locks
+pub chunks_at-locked : (m : Memory) (name other : Name) (n : ℕ) → chunks_at (with_locks m name n) other ≡ chunks_at m other
+chunks_at-locked m name other n = mapped-at chunks_in m (locked_block n) name other (chunks-locked n (block_of m name))
+
+pub locks_of-rechunked : (m : Memory) (name other : Name) (cs : List (Option (List ℕ))) → locks_of (with_chunks m name cs) other ≡ locks_of m other
+locks_of-rechunked m name other cs = mapped-at locks_in m (rechunked_block cs) name other (locks-rechunked cs (block_of m name))
+
+pub there-locked : (m : Memory) (name other : Name) (n : ℕ) → is_none (block_of (with_locks m name n) other) ≡ is_none (block_of m other)
+there-locked m name other n = mapped-at is_none m (locked_block n) name other (some-mapped (locked_block n) (block_of m name))
+
+pub there-rechunked : (m : Memory) (name other : Name) (cs : List (Option (List ℕ))) → is_none (block_of (with_chunks m name cs) other) ≡ is_none (block_of m other)
+there-rechunked m name other cs = mapped-at is_none m (rechunked_block cs) name other (some-mapped (rechunked_block cs) (block_of m name))
+
+pub chunks_at-other : (m : Memory) (name other : Name) (cs : List (Option (List ℕ))) → same_name name other ≡ false → chunks_at (with_chunks m name cs) other ≡ chunks_at m other
+chunks_at-other m name other cs ne = ap chunks_in (block_of-other m name other (option_map (rechunked_block cs) (block_of m name)) ne)
+
+locks-set : (n : ℕ) (b : Option Block) → is_none b ≡ false → locks_in (option_map (locked_block n) b) ≡ n
+locks-set n None h = absurd cc
+locks-set n (Some b) h = refl
+
+chunks-set : (cs : List (Option (List ℕ))) (b : Option Block) → is_none b ≡ false → chunks_in (option_map (rechunked_block cs) b) ≡ cs
+chunks-set cs None h = absurd cc
+chunks-set cs (Some b) h = refl
+
+pub locks_of-same : (m : Memory) (name : Name) (n : ℕ) → is_none (block_of m name) ≡ false → locks_of (with_locks m name n) name ≡ n
+locks_of-same m name n there = ap locks_in (block_of-mapped m (locked_block n) name) ∙ locks-set n (block_of m name) there
+
+pub chunks_at-same : (m : Memory) (name : Name) (cs : List (Option (List ℕ))) → is_none (block_of m name) ≡ false → chunks_at (with_chunks m name cs) name ≡ cs
+chunks_at-same m name cs there = ap chunks_in (block_of-mapped m (rechunked_block cs) name) ∙ chunks-set cs (block_of m name) there
+
+pub locks_of-other : (m : Memory) (name other : Name) (n : ℕ) → same_name name other ≡ false → locks_of (with_locks m name n) other ≡ locks_of m other
+locks_of-other m name other n ne = ap locks_in (block_of-other m name other (option_map (locked_block n) (block_of m name)) ne)
+
+-- The lowest free handle
+
+pub none-is : {X : Type 0} (o : Option X) → is_none o ≡ true → o ≡ None
+none-is None h = refl
+none-is (Some x) h = absurd cc
+
+-- it names no block, and a block that is put there is there
+pub lowest-free : (m : Memory) (h : ℕ) (b : Option Block) → lowest_handle m Mem ≡ Some h → (block_of m (mem h) ≡ None) × (block_of (with_block m (mem h) b) (mem h) ≡ b)
+lowest-free m h b e = go (position is_none m.blocks) refl e
+  where
+    go : (o : Option ℕ) → position is_none m.blocks ≡ o → option_map suc o ≡ Some h → (block_of m (mem h) ≡ None) × (block_of (with_block m (mem h) b) (mem h) ≡ b)
+    go None p e = absurd cc
+    go (Some k) p e =
+        let found = position-Some is_none m.blocks k None p in
+        let is : suc k ≡ h = cc in
+        subst (λ n. (block_of m (mem n) ≡ None) × (block_of (with_block m (mem n) b) (mem n) ≡ b)) is (none-is (get_or m.blocks k None) found.1, get_or-set_same m.blocks k b None found.0)
+
+pub lowest-small : (m : Memory) (h : ℕ) → lowest_handle m Mem ≡ Some h → h ≤ length m.blocks
+lowest-small m h e = go (position is_none m.blocks) refl e
+  where
+    go : (o : Option ℕ) → position is_none m.blocks ≡ o → option_map suc o ≡ Some h → h ≤ length m.blocks
+    go None p e = absurd cc
+    go (Some k) p e = let found = position-Some is_none m.blocks k None p in let is : suc k ≡ h = cc in omega (arith, found.0, is)
+
+-- Chunks
+
+-- a chunk is shorter than its block can be
+cost-in : (cs : List (Option (List ℕ))) (k : ℕ) → cost_of (get_or cs k None) ≤ sum_by cost_of cs
+cost-in [] k = omega arith
+cost-in (c ∷ cs) zero = omega (arith, sum_by-cons cost_of c cs)
+cost-in (c ∷ cs) (suc k) = omega (arith, sum_by-cons cost_of c cs, cost-in cs k)
+
+chunk-is : (b : Bool) (x : Option (List ℕ)) (bytes : List ℕ) → cond b x None ≡ Some bytes → x ≡ Some bytes
+chunk-is true x bytes e = e
+chunk-is false x bytes e = absurd cc
+
+pub chunk-entry-is : (cs : List (Option (List ℕ))) (c : ℕ) (bytes : List ℕ) → chunk_of cs c ≡ Some bytes → get_or cs (entry_of c) None ≡ Some bytes
+chunk-entry-is cs c bytes e = chunk-is (nat_le 16 c && (c % 2 == 0)) (get_or cs (entry_of c) None) bytes e
+
+pub chunk-short : (m : Memory) (name : Name) (c : ℕ) (bytes : List ℕ) → IsMemory m → chunk_of (chunks_at m name) c ≡ Some bytes → length bytes ≤ 65520
+chunk-short m name c bytes legal e =
+    let cs = chunks_at m name in
+    let entry = chunk-entry-is cs c bytes e in
+    let whole = cost-in cs (entry_of c) in
+    let same : cost_of (get_or cs (entry_of c) None) ≡ cost (length bytes) = ap cost_of entry in
+    let fits = chunks-need m name legal in
+    omega (arith, whole, same, cost-over (length bytes), fits)
+
+-- an entry, after another chunk of the same length was put into an entry
+set-found : (cs : List (Option (List ℕ))) (k j : ℕ) (new old bytes : List ℕ) → get_or cs k None ≡ Some old → length new ≡ length old → get_or cs j None ≡ Some bytes
+    → (found : List ℕ) × (get_or (set cs k (Some new)) j None ≡ Some found) × (length found ≡ length bytes)
+set-found [] k j new old bytes e same there = absurd cc
+set-found (c ∷ cs) zero zero new old bytes e same there = (new, refl, same ∙ ap (λ (xs : List ℕ). length xs) (let s : old ≡ bytes = cc in s))
+set-found (c ∷ cs) zero (suc j) new old bytes e same there = (bytes, there, refl)
+set-found (c ∷ cs) (suc k) zero new old bytes e same there = (bytes, there, refl)
+set-found (c ∷ cs) (suc k) (suc j) new old bytes e same there = set-found cs k j new old bytes e same there
+
+chunk-if : (b : Bool) (x y : Option (List ℕ)) (bytes found : List ℕ) → cond b x None ≡ Some bytes → y ≡ Some found → cond b y None ≡ Some found
+chunk-if true x y bytes found e f = f
+chunk-if false x y bytes found e f = absurd cc
+
+-- each chunk is there, and as long as it was, after another of the same length was put in place of one
+pub chunk-kept : (cs : List (Option (List ℕ))) (c d : ℕ) (new old bytes : List ℕ) → chunk_of cs c ≡ Some old → length new ≡ length old → chunk_of cs d ≡ Some bytes
+    → (found : List ℕ) × (chunk_of (with_bytes cs c new) d ≡ Some found) × (length found ≡ length bytes)
+chunk-kept cs c d new old bytes e same there =
+    let f = set-found cs (entry_of c) (entry_of d) new old bytes (chunk-entry-is cs c old e) same (chunk-entry-is cs d bytes there) in
+    (f.0, chunk-if (nat_le 16 d && (d % 2 == 0)) (get_or cs (entry_of d) None) (get_or (set cs (entry_of c) (Some new)) (entry_of d) None) bytes f.0 there f.1, f.2)
+
+-- where one is there, the other is
+pub some-of : {X : Type 0} (o q : Option X) → (is_none o ≡ false → is_none q ≡ false) → IsSome o → IsSome q
+some-of None q k h = absurd cc
+some-of (Some x) None k h = (let none = k refl in absurd cc)
+some-of (Some x) (Some y) k h = refl
+
+-- where one name is not the other, the other is not the one
+pub names-apart : (name other : Name) → same_name name other ≡ false → same_name other name ≡ false
+names-apart name other ne = elim (names other name) [
+  | inl is ↦ (let back = same_name-is name other (sym (same_name-true other name is)) in let both : false ≡ true = sym ne ∙ back in absurd cc)
+  | inr ne2 ↦ ne2
+]
+
+-- a block that is taken away is there no more
+owned-gone : (m : Memory) (o : Owner) (h : ℕ) → owned_block (with_owned_block m o h None) o h ≡ None
+owned-gone m Mem zero = refl
+owned-gone m Mem (suc h) = elim (cases_lt h (length m.blocks)) [
+  | inl l ↦ get_or-set_same m.blocks h None None l
+  | inr l ↦ get_or_past (set m.blocks h None) h None (let long = length-set m.blocks h None in omega (arith, l, long))
+]
+owned-gone m Vm h = refl
+
+pub block_of-gone : (m : Memory) (name : Name) → block_of (with_block m name None) name ≡ None
+block_of-gone m name = owned-gone m name.owner name.h
