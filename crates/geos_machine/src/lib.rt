@@ -3,6 +3,9 @@
 //! docs/MODEL.md says what a run is; docs/INSTRUCTIONS.md, what each instruction does.
 #![tactic(auto)]
 
+mod access;
+mod blocks;
+mod chunks;
 mod head;
 mod machine;
 mod outcome;

@@ -1,0 +1,199 @@
+//! Instructions that go through pointers.
+
+ghost use Rattle.std.specs.Prelude.{◌≡◌, ◌≤◌, ◌+◌, ◌%◌, not, nat_lt};
+ghost use Rattle.geos_machine.specs.Machine.{IsInstr, Ready, Works};
+
+use crate::machine::Machine;
+use crate::step::{Goes, refuse};
+use geos_calls::{Kernel, Span};
+use geos_image::{Instr, Opcode};
+use geos_model::Refusal;
+
+/// The low byte of a word.
+fn low_byte(word: u16) -> u8
+    ensures { result ≡ word % 256 }
+{
+    (word % 256) as u8
+}
+
+/// Reads a byte.
+pub(crate) fn ldb(m: &mut Machine, kernel: &Kernel, i: &Instr, a: usize) -> Goes
+    requires instr { IsInstr Opcode.Ldb i.now a }
+    requires ready { Ready i.now kernel.now m.old }
+    ensures { Works i.now kernel.now m.old kernel.now m.new result }
+{
+    let (span, at) = (m.pointers[i.b as usize], i.imm);
+    m.words[a] = u16::from(kernel.load8(span, at));
+    Goes::Along
+}
+
+/// Reads a word.
+pub(crate) fn ldw(m: &mut Machine, kernel: &Kernel, i: &Instr, a: usize) -> Goes
+    requires instr { IsInstr Opcode.Ldw i.now a }
+    requires ready { Ready i.now kernel.now m.old }
+    ensures { Works i.now kernel.now m.old kernel.now m.new result }
+{
+    let (span, at) = (m.pointers[i.b as usize], i.imm);
+    m.words[a] = kernel.load16(span, at);
+    Goes::Along
+}
+
+/// Writes a byte.
+pub(crate) fn stb(m: &Machine, kernel: &mut Kernel, i: &Instr, a: usize) -> Goes
+    requires instr { IsInstr Opcode.Stb i.now a }
+    requires ready { Ready i.now kernel.old m.now }
+    ensures { Works i.now kernel.old m.now kernel.new m.now result }
+{
+    let (span, at) = (m.pointers[i.b as usize], i.imm);
+    kernel.store8(span, at, low_byte(m.words[a]));
+    Goes::Along
+}
+
+/// Writes a word.
+pub(crate) fn stw(m: &Machine, kernel: &mut Kernel, i: &Instr, a: usize) -> Goes
+    requires instr { IsInstr Opcode.Stw i.now a }
+    requires ready { Ready i.now kernel.old m.now }
+    ensures { Works i.now kernel.old m.now kernel.new m.now result }
+{
+    let (span, at) = (m.pointers[i.b as usize], i.imm);
+    kernel.store16(span, at, m.words[a]);
+    Goes::Along
+}
+
+/// Reads a byte at an index.
+pub(crate) fn ldxb(m: &mut Machine, kernel: &Kernel, i: &Instr, a: usize) -> Goes
+    requires instr { IsInstr Opcode.Ldxb i.now a }
+    requires ready { Ready i.now kernel.now m.old }
+    ensures { Works i.now kernel.now m.old kernel.now m.new result }
+{
+    let (span, at) = (m.pointers[i.b as usize], m.words[i.c as usize]);
+    m.words[a] = u16::from(kernel.load8(span, at));
+    Goes::Along
+}
+
+/// Reads a word at an index.
+pub(crate) fn ldxw(m: &mut Machine, kernel: &Kernel, i: &Instr, a: usize) -> Goes
+    requires instr { IsInstr Opcode.Ldxw i.now a }
+    requires ready { Ready i.now kernel.now m.old }
+    ensures { Works i.now kernel.now m.old kernel.now m.new result }
+{
+    let (span, at) = (m.pointers[i.b as usize], m.words[i.c as usize]);
+    m.words[a] = kernel.load16(span, at);
+    Goes::Along
+}
+
+/// Writes a byte at an index.
+pub(crate) fn stxb(m: &Machine, kernel: &mut Kernel, i: &Instr, a: usize) -> Goes
+    requires instr { IsInstr Opcode.Stxb i.now a }
+    requires ready { Ready i.now kernel.old m.now }
+    ensures { Works i.now kernel.old m.now kernel.new m.now result }
+{
+    let (span, at) = (m.pointers[i.b as usize], m.words[i.c as usize]);
+    kernel.store8(span, at, low_byte(m.words[a]));
+    Goes::Along
+}
+
+/// Writes a word at an index.
+pub(crate) fn stxw(m: &Machine, kernel: &mut Kernel, i: &Instr, a: usize) -> Goes
+    requires instr { IsInstr Opcode.Stxw i.now a }
+    requires ready { Ready i.now kernel.old m.now }
+    ensures { Works i.now kernel.old m.now kernel.new m.now result }
+{
+    let (span, at) = (m.pointers[i.b as usize], m.words[i.c as usize]);
+    kernel.store16(span, at, m.words[a]);
+    Goes::Along
+}
+
+/// Whether a span has so many bytes at an offset.
+fn reaches(span: Span, at: u16, n: u32) -> bool
+    requires { n ≤ 2 }
+    ensures { result ≡ not (nat_lt span.len (at + n)) }
+{
+    u32::from(at) + n <= u32::from(span.len)
+}
+
+/// Reads a byte at an index that is tested.
+pub(crate) fn ldcb(m: &mut Machine, kernel: &Kernel, i: &Instr, a: usize) -> Goes
+    requires instr { IsInstr Opcode.Ldcb i.now a }
+    requires ready { Ready i.now kernel.now m.old }
+    ensures { Works i.now kernel.now m.old kernel.now m.new result }
+{
+    let (span, at) = (m.pointers[i.b as usize], m.words[i.c as usize]);
+    if !reaches(span, at, 1) {
+        return refuse(m, i, Refusal::Range);
+    }
+    m.words[a] = u16::from(kernel.load8(span, at));
+    Goes::Along
+}
+
+/// Reads a word at an index that is tested.
+pub(crate) fn ldcw(m: &mut Machine, kernel: &Kernel, i: &Instr, a: usize) -> Goes
+    requires instr { IsInstr Opcode.Ldcw i.now a }
+    requires ready { Ready i.now kernel.now m.old }
+    ensures { Works i.now kernel.now m.old kernel.now m.new result }
+{
+    let (span, at) = (m.pointers[i.b as usize], m.words[i.c as usize]);
+    if !reaches(span, at, 2) {
+        return refuse(m, i, Refusal::Range);
+    }
+    m.words[a] = kernel.load16(span, at);
+    Goes::Along
+}
+
+/// Writes a byte at an index that is tested.
+pub(crate) fn stcb(m: &mut Machine, kernel: &mut Kernel, i: &Instr, a: usize) -> Goes
+    requires instr { IsInstr Opcode.Stcb i.now a }
+    requires ready { Ready i.now kernel.old m.old }
+    ensures { Works i.now kernel.old m.old kernel.new m.new result }
+{
+    let (span, at) = (m.pointers[i.b as usize], m.words[i.c as usize]);
+    if !reaches(span, at, 1) {
+        return refuse(m, i, Refusal::Range);
+    }
+    kernel.store8(span, at, low_byte(m.words[a]));
+    Goes::Along
+}
+
+/// Writes a word at an index that is tested.
+pub(crate) fn stcw(m: &mut Machine, kernel: &mut Kernel, i: &Instr, a: usize) -> Goes
+    requires instr { IsInstr Opcode.Stcw i.now a }
+    requires ready { Ready i.now kernel.old m.old }
+    ensures { Works i.now kernel.old m.old kernel.new m.new result }
+{
+    let (span, at) = (m.pointers[i.b as usize], m.words[i.c as usize]);
+    if !reaches(span, at, 2) {
+        return refuse(m, i, Refusal::Range);
+    }
+    kernel.store16(span, at, m.words[a]);
+    Goes::Along
+}
+
+/// Sets a pointer to what another one is.
+pub(crate) fn movp(m: &mut Machine, kernel: &Kernel, i: &Instr, a: usize) -> Goes
+    requires instr { IsInstr Opcode.Movp i.now a }
+    requires ready { Ready i.now kernel.now m.old }
+    ensures { Works i.now kernel.now m.old kernel.now m.new result }
+{
+    m.pointers[a] = m.pointers[i.b as usize];
+    Goes::Along
+}
+
+/// Copies bytes from one pointer to another.
+pub(crate) fn copy(m: &Machine, kernel: &mut Kernel, i: &Instr, a: usize) -> Goes
+    requires instr { IsInstr Opcode.Copy i.now a }
+    requires ready { Ready i.now kernel.old m.now }
+    ensures { Works i.now kernel.old m.now kernel.new m.now result }
+{
+    kernel.copy(m.pointers[a], m.pointers[i.b as usize], i.imm);
+    Goes::Along
+}
+
+/// Tells the length of what a pointer leads to.
+pub(crate) fn plen(m: &mut Machine, kernel: &Kernel, i: &Instr, a: usize) -> Goes
+    requires instr { IsInstr Opcode.Plen i.now a }
+    requires ready { Ready i.now kernel.now m.old }
+    ensures { Works i.now kernel.now m.old kernel.now m.new result }
+{
+    m.words[a] = m.pointers[i.b as usize].len;
+    Goes::Along
+}

@@ -1,0 +1,82 @@
+//! Instructions on blocks: which are made, locked, unlocked, freed and compared.
+
+ghost use Rattle.std.specs.Prelude.{◌≡◌};
+ghost use Rattle.geos_semantics.specs.State.{same_name};
+ghost use Rattle.geos_machine.specs.Machine.{IsInstr, Ready, Works};
+
+use crate::machine::Machine;
+use crate::step::{Goes, refuse, to_if};
+use geos_calls::Kernel;
+use geos_image::{Instr, Opcode};
+use geos_model::Name;
+
+/// Makes a block, and locks it into a slot.
+pub(crate) fn mnew(m: &mut Machine, kernel: &mut Kernel, i: &Instr, a: usize) -> Goes
+    requires instr { IsInstr Opcode.Mnew i.now a }
+    requires ready { Ready i.now kernel.old m.old }
+    ensures { Works i.now kernel.old m.old kernel.new m.new result }
+{
+    match kernel.mnew() {
+        Ok(h) => {
+            m.words[i.b as usize] = h;
+            m.slots[a] = Name::mem(h);
+            Goes::Along
+        }
+        Err(refusal) => refuse(m, i, refusal),
+    }
+}
+
+/// Locks a block into a slot.
+pub(crate) fn mlock(m: &mut Machine, kernel: &mut Kernel, i: &Instr, a: usize) -> Goes
+    requires instr { IsInstr Opcode.Mlock i.now a }
+    requires ready { Ready i.now kernel.old m.old }
+    ensures { Works i.now kernel.old m.old kernel.new m.new result }
+{
+    let h = m.words[i.b as usize];
+    match kernel.mlock(h) {
+        Ok(()) => {
+            m.slots[a] = Name::mem(h);
+            Goes::Along
+        }
+        Err(refusal) => refuse(m, i, refusal),
+    }
+}
+
+/// Unlocks the block of a slot, which is empty then.
+pub(crate) fn munlock(m: &Machine, kernel: &mut Kernel, i: &Instr, a: usize) -> Goes
+    requires instr { IsInstr Opcode.Munlock i.now a }
+    requires ready { Ready i.now kernel.old m.now }
+    ensures { Works i.now kernel.old m.now kernel.new m.now result }
+{
+    kernel.munlock(m.slots[a]);
+    Goes::Along
+}
+
+/// Frees a block.
+pub(crate) fn mfree(m: &mut Machine, kernel: &mut Kernel, i: &Instr, a: usize) -> Goes
+    requires instr { IsInstr Opcode.Mfree i.now a }
+    requires ready { Ready i.now kernel.old m.old }
+    ensures { Works i.now kernel.old m.old kernel.new m.new result }
+{
+    match kernel.mfree(m.words[a]) {
+        Ok(()) => Goes::Along,
+        Err(refusal) => refuse(m, i, refusal),
+    }
+}
+
+/// Whether two names are one.
+fn are_same(name: Name, other: Name) -> bool
+    ensures { result ≡ same_name name other }
+{
+    name == other
+}
+
+/// To the target where two slots hold one block.
+pub(crate) fn sne(m: &Machine, kernel: &Kernel, i: &Instr, a: usize) -> Goes
+    requires instr { IsInstr Opcode.Sne i.now a }
+    requires ready { Ready i.now kernel.now m.now }
+    ensures { Works i.now kernel.now m.now kernel.now m.now result }
+{
+    let (name, other) = (m.slots[a], m.slots[i.b as usize]);
+    to_if(are_same(name, other), i)
+}
