@@ -8,4 +8,5 @@ pub mod Parts
 pub mod Prints
 pub mod Registers
 pub mod Searches
+pub mod Sessions
 pub mod Words

@@ -4,6 +4,7 @@ use Rattle.std.specs.Prelude.{Option, Result, Ok, Err, IfErr, decimal}
 use Rattle.std.specs.Io.KnownBytes.{Appends}
 use Rattle.std.proofs.KnownBytes.{Appends-trans}
 use Rattle.std.proofs.lemmas.Grind.{flat_map-append}
+use Rattle.geos_model.specs.Memory.{Memory}
 use Rattle.geos_image.specs.Parts.{Parts}
 use Rattle.geos_machine.specs.declared.outcome.Outcome.{Outcome}
 use Rattle.geos_machine.specs.Runs.{Ran}
@@ -51,19 +52,21 @@ part-line-feed a b c d words k lt p q r =
     subst (AppendsPart a d) (sym whole) (part-between a c d (front ++ digits) (10 ∷ []) behind (Appends-trans a b c front digits p q) r)
 
 -- the writer failed while a call was printed
-pub stopped-at : (image : Parts) (calls : List Call) (k : ℕ) (default : Call) (outcome : Outcome) (a b c : Option (List ℕ)) (text : List ℕ) → k < length calls
-    → Prints image (take k calls) text → Appends a b text → Ran image (get_or calls k default).routine (get_or calls k default).words outcome
-    → AppendsPart b c (printed outcome.output.items) → StoppedCalls image calls a c
-stopped-at image calls k default outcome a b c text lt prints p ran (part, rest, e, some, q) =
+pub stopped-at : (image : Parts) (calls : List Call) (k : ℕ) (default : Call) (outcome : Outcome) (before between after : Memory) (a b c : Option (List ℕ)) (text : List ℕ)
+    → k < length calls → Prints image (take k calls) before between text → Appends a b text
+    → Ran image (get_or calls k default).routine (get_or calls k default).words between after outcome
+    → AppendsPart b c (printed outcome.output.items) → StoppedCalls image calls before after a c
+stopped-at image calls k default outcome before between after a b c text lt prints p ran (part, rest, e, some, q) =
     let split : calls ≡ take k calls ++ (get_or calls k default ∷ drop (suc k) calls) =
     sym (take-append-drop k calls) ∙ ap (λ cs. take k calls ++ cs) (drop-cons calls k default lt) in
-    let stops : PrintsPart image calls (text ++ part) = record {
+    let stops : PrintsPart image calls before after (text ++ part) = record {
       done = take k calls;
       call = get_or calls k default;
       others = drop (suc k) calls;
       in_order = split;
-      before = text;
-      printed_before = prints;
+      between = between;
+      earlier = text;
+      printed_earlier = prints;
       outcome = outcome;
       ran = ran;
       part = part;

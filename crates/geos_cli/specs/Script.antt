@@ -5,6 +5,7 @@ use Rattle.std.specs.Prelude.{Option, Some, None, option_map, option_and_then, i
 use Rattle.std.specs.List.{position_from}
 use Rattle.std.specs.Str.Lines.{lines}
 use Rattle.std.specs.Io.KnownBytes.{Appends}
+use Rattle.geos_model.specs.Memory as model
 use Rattle.geos_image.specs.declared.routine.Routine.{Routine}
 use Rattle.geos_image.specs.Parts.{Parts}
 use Rattle.geos_image.specs.Legal.{text_end}
@@ -73,38 +74,40 @@ calls_of image lines = filter_map (λ line. call_of image (said line)) lines
 abbrev pub printed : List ℕ → List ℕ
 printed words = flat_map (λ word. decimal word ++ 10 ∷ []) words
 
--- what the calls print: the output of a model's run of each, one after another
-abbrev pub Prints : Parts → List Call → List ℕ → Type 0
-Prints image [] text = text ≡ []
-Prints image (call ∷ calls) text =
-    (outcome : Outcome) × (others : List ℕ) × Ran image call.routine call.words outcome × Prints image calls others
-    × (text ≡ printed outcome.output.items ++ others)
+-- what the calls print, from the memory before to the memory after: the output of a model's run
+-- of each, one after another, each in the memory that the one before left
+abbrev pub Prints : Parts → List Call → model.Memory → model.Memory → List ℕ → Type 0
+Prints image [] before after text = (text ≡ []) × (after ≡ before)
+Prints image (call ∷ calls) before after text =
+    (outcome : Outcome) × (between : model.Memory) × (others : List ℕ) × Ran image call.routine call.words before between outcome
+    × Prints image calls between after others × (text ≡ printed outcome.output.items ++ others)
 
 -- what the calls have printed when the writer fails: some calls are done, with all that they
--- print; the next one was run, and a beginning of what it prints is written, not all; the
--- others were not begun
-pub record PrintsPart (image : Parts) (calls : List Call) (text : List ℕ) : Type 0 where
+-- print; the next one was run, in the memory that they left, and to the memory after; a
+-- beginning of what it prints is written, not all; the others were not begun
+pub record PrintsPart (image : Parts) (calls : List Call) (before after : model.Memory) (text : List ℕ) : Type 0 where
   pub done : List Call
   pub call : Call
   pub others : List Call
   pub in_order : calls ≡ done ++ call ∷ others
-  pub before : List ℕ
-  pub printed_before : Prints image done before
+  pub between : model.Memory
+  pub earlier : List ℕ
+  pub printed_earlier : Prints image done before between earlier
   pub outcome : Outcome
-  pub ran : Ran image call.routine call.words outcome
+  pub ran : Ran image call.routine call.words between after outcome
   pub part : List ℕ
   pub rest : List ℕ
   pub begun : printed outcome.output.items ≡ part ++ rest
   pub not_all : 0 < length rest
-  pub written : text ≡ before ++ part
+  pub written : text ≡ earlier ++ part
 
--- the calls were run, and a writer got their text
-abbrev pub RanCalls : Parts → List Call → Option (List ℕ) → Option (List ℕ) → Type 0
-RanCalls image calls old new = (text : List ℕ) × Prints image calls text × Appends old new text
+-- the calls were run, from memory to memory, and a writer got their text
+abbrev pub RanCalls : Parts → List Call → model.Memory → model.Memory → Option (List ℕ) → Option (List ℕ) → Type 0
+RanCalls image calls before after old new = (text : List ℕ) × Prints image calls before after text × Appends old new text
 
 -- the calls were stopped by a writer that failed, which got the text up to there
-abbrev pub StoppedCalls : Parts → List Call → Option (List ℕ) → Option (List ℕ) → Type 0
-StoppedCalls image calls old new = (text : List ℕ) × PrintsPart image calls text × Appends old new text
+abbrev pub StoppedCalls : Parts → List Call → model.Memory → model.Memory → Option (List ℕ) → Option (List ℕ) → Type 0
+StoppedCalls image calls before after old new = (text : List ℕ) × PrintsPart image calls before after text × Appends old new text
 
 -- bytes spell an image that the verifier accepts, and no line of the script is bad
 pub record Loads (bytes : List ℕ) (lines : List (List ℕ)) (image : Parts) : Type 0 where
@@ -125,14 +128,15 @@ IsBadLine image lines (BadScript line) = first_bad image lines ≡ Some line
 IsBadLine image lines Memory = Unit {0}
 IsBadLine image lines _ = ⊥
 
--- a script of these lines runs on the image that the bytes spell, and prints the text
-abbrev pub Runs : List ℕ → List (List ℕ) → List ℕ → Type 0
-Runs bytes lines text = (image : Parts) × Loads bytes lines image × Prints image (calls_of image lines) text
+-- a script of these lines runs on the image that the bytes spell, from memory to memory, and
+-- prints the text
+abbrev pub Runs : List ℕ → List (List ℕ) → model.Memory → model.Memory → List ℕ → Type 0
+Runs bytes lines before after text = (image : Parts) × Loads bytes lines image × Prints image (calls_of image lines) before after text
 
--- a script of these lines runs on the image that the bytes spell, and has printed the text
--- when the writer fails
-abbrev pub Stops : List ℕ → List (List ℕ) → List ℕ → Type 0
-Stops bytes lines text = (image : Parts) × Loads bytes lines image × PrintsPart image (calls_of image lines) text
+-- a script of these lines runs on the image that the bytes spell, and has come to the memory
+-- after and printed the text when the writer fails
+abbrev pub Stops : List ℕ → List (List ℕ) → model.Memory → model.Memory → List ℕ → Type 0
+Stops bytes lines before after text = (image : Parts) × Loads bytes lines image × PrintsPart image (calls_of image lines) before after text
 
 -- when such a script ends with a fault: each of them in the order in which they are looked for
 abbrev pub EndsBy : List ℕ → List (List ℕ) → ScriptFault → Type 0
@@ -149,22 +153,22 @@ EndsBy bytes lines Read = ⊥
 abbrev pub most_bytes : ℕ
 most_bytes = 1048576
 
--- the script runs on the image that the bytes spell, and prints the text
-abbrev pub RunsScript : List ℕ → List ℕ → List ℕ → Type 0
-RunsScript bytes script text = (length script ≤ most_bytes) × Runs bytes (lines script) text
+-- the script runs on the image that the bytes spell, from memory to memory, and prints the text
+abbrev pub RunsScript : List ℕ → List ℕ → model.Memory → model.Memory → List ℕ → Type 0
+RunsScript bytes script before after text = (length script ≤ most_bytes) × Runs bytes (lines script) before after text
 
--- the script runs on the image that the bytes spell, and has printed the text when the writer
--- fails
-abbrev pub StopsScript : List ℕ → List ℕ → List ℕ → Type 0
-StopsScript bytes script text = (length script ≤ most_bytes) × Stops bytes (lines script) text
+-- the script runs on the image that the bytes spell, and has come to the memory after and
+-- printed the text when the writer fails
+abbrev pub StopsScript : List ℕ → List ℕ → model.Memory → model.Memory → List ℕ → Type 0
+StopsScript bytes script before after text = (length script ≤ most_bytes) × Stops bytes (lines script) before after text
 
--- the script ran, and a writer got its text
-abbrev pub RanScript : List ℕ → List ℕ → Option (List ℕ) → Option (List ℕ) → Type 0
-RanScript bytes script old new = (text : List ℕ) × RunsScript bytes script text × Appends old new text
+-- the script ran, from memory to memory, and a writer got its text
+abbrev pub RanScript : List ℕ → List ℕ → model.Memory → model.Memory → Option (List ℕ) → Option (List ℕ) → Type 0
+RanScript bytes script before after old new = (text : List ℕ) × RunsScript bytes script before after text × Appends old new text
 
 -- the script was stopped by a writer that failed, which got the text up to there
-abbrev pub StoppedScript : List ℕ → List ℕ → Option (List ℕ) → Option (List ℕ) → Type 0
-StoppedScript bytes script old new = (text : List ℕ) × StopsScript bytes script text × Appends old new text
+abbrev pub StoppedScript : List ℕ → List ℕ → model.Memory → model.Memory → Option (List ℕ) → Option (List ℕ) → Type 0
+StoppedScript bytes script before after old new = (text : List ℕ) × StopsScript bytes script before after text × Appends old new text
 
 -- when a script ends with a fault: first of all, where it is too long
 abbrev pub ScriptEndsBy : List ℕ → List ℕ → ScriptFault → Type 0

@@ -1,7 +1,8 @@
 -- What a session is, and when it ends early.
-use Rattle.std.specs.Prelude.{◌≡◌, ◌<◌, ◌≤◌, ◌⊎◌, ℕ, List, length, Option, Some, None}
+use Rattle.std.specs.Prelude.{◌≡◌, ◌<◌, ◌≤◌, ◌⊎◌, ℕ, List, length, replicate, Option, Some, None}
 use Rattle.std.specs.Str.Lines.{lines}
 use Rattle.std.specs.Io.KnownBytes.{Appends, Consumes, IsAtEnd}
+use Rattle.geos_model.specs.Memory as model
 use Rattle.geos_cli.specs.declared.fault.ScriptFault.{ScriptFault}
 use Rattle.geos_cli.specs.declared.fault.ScriptFault.TheVariants.{TooLong, BadHex, Read, Memory}
 use Rattle.geos_cli.specs.Hex.{hex_fault, image_bytes, script_lines}
@@ -11,18 +12,28 @@ use Rattle.geos_cli.specs.Script.{most_bytes, Runs, Stops, EndsBy}
 abbrev pub Reads : Option (List ℕ) → Option (List ℕ) → List ℕ → Type 0
 Reads before now bytes = Consumes before now bytes × IsAtEnd now
 
+-- the memory in which a session begins: no block, in a region of 65,536 bytes
+abbrev pub no_blocks : model.Memory
+no_blocks = record { blocks = replicate 1024 None; region = 65536 }
+
+-- the script in the lines behind `end` runs on the image in front of it, and prints the text
+abbrev pub RunsLines : List (List ℕ) → List ℕ → Type 0
+RunsLines lines text = (after : model.Memory) × Runs (image_bytes lines) (script_lines lines) no_blocks after text
+
+-- such a script has printed the text when the writer fails
+abbrev pub StopsLines : List (List ℕ) → List ℕ → Type 0
+StopsLines lines text = (after : model.Memory) × Stops (image_bytes lines) (script_lines lines) no_blocks after text
+
 -- the bytes are an image in digits, a line `end`, and a script that runs on the image and
 -- prints the text
 abbrev pub RunsSession : List ℕ → List ℕ → Type 0
-RunsSession bytes text =
-    (length bytes ≤ most_bytes) × (hex_fault (lines bytes) ≡ None) × Runs (image_bytes (lines bytes)) (script_lines (lines bytes)) text
+RunsSession bytes text = (length bytes ≤ most_bytes) × (hex_fault (lines bytes) ≡ None) × RunsLines (lines bytes) text
 
 -- such bytes, whose script has printed the text when the writer fails: a part of it, or all
 -- where the last flush failed
 abbrev pub StopsSession : List ℕ → List ℕ → Type 0
 StopsSession bytes text =
-    (length bytes ≤ most_bytes) × (hex_fault (lines bytes) ≡ None)
-    × (Stops (image_bytes (lines bytes)) (script_lines (lines bytes)) text ⊎ Runs (image_bytes (lines bytes)) (script_lines (lines bytes)) text)
+    (length bytes ≤ most_bytes) × (hex_fault (lines bytes) ≡ None) × (StopsLines (lines bytes) text ⊎ RunsLines (lines bytes) text)
 
 -- a reader gave a session, which ran, and a writer got its text
 abbrev pub RanSession : Option (List ℕ) → Option (List ℕ) → Option (List ℕ) → Option (List ℕ) → Type 0

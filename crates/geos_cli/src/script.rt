@@ -3,6 +3,7 @@
 ghost use Rattle.std.specs.Prelude.{◌≡◌, ◌≢◌, All, None, Ok, IfOk, IfErr};
 ghost use Rattle.std.specs.Str.Lines.{lines};
 ghost use Rattle.std.specs.Io.KnownBytes.{Appends, Keeps};
+ghost use Rattle.geos_calls.specs.View.{memory_of};
 ghost use Rattle.geos_cli.specs.declared.fault.ScriptFault.TheVariants.{Write};
 ghost use Rattle.geos_cli.specs.Counted.{Rose, AppendsPart};
 ghost use Rattle.geos_cli.specs.Fault.{KeptUnless};
@@ -16,6 +17,7 @@ ghost use Rattle.geos_cli.specs.Text.{words};
 use crate::counted::Counted;
 use crate::fault::ScriptFault;
 use crate::text::{first_line, first_word, number, without_comment};
+use geos_calls::Kernel;
 use geos_image::Image;
 use geos_machine::{Machine, admits};
 use geos_verify::{Checked, check};
@@ -65,12 +67,12 @@ fn registers_of(numbers: &[u8]) -> Option<[u16; 8]>
 }
 
 /// The call of the routine of that name on those numbers, if the machine may be asked for it.
-fn call_named(checked: &Checked, name: &[u8], numbers: &[u8]) -> Option<Call>
+fn call_named(checked: &Checked, name: &[u8], numbers: &[u8], kernel: &Kernel) -> Option<Call>
     ensures { result ≡ call_named checked.now name.now (words numbers.now) }
 {
     let routine = routine_named(checked.image(), name)?;
     let words = registers_of(numbers)?;
-    if admits(checked, routine, &words) {
+    if admits(checked, routine, &words, kernel) {
         Some(Call { routine, words })
     } else {
         None
@@ -78,20 +80,25 @@ fn call_named(checked: &Checked, name: &[u8], numbers: &[u8]) -> Option<Call>
 }
 
 /// The call of a line without its comment, if the machine may be asked for it.
-fn call_of(checked: &Checked, line: &[u8]) -> Option<Call>
+fn call_of(checked: &Checked, line: &[u8], kernel: &Kernel) -> Option<Call>
     ensures { result ≡ call_of checked.now (words line.now) }
 {
     let (command, rest) = first_word(line)?;
     let (name, numbers) = first_word(rest)?;
     if command == b"call".as_slice() {
-        call_named(checked, name, numbers)
+        call_named(checked, name, numbers, kernel)
     } else {
         None
     }
 }
 
 /// The calls of a script, or the number of its first bad line.
-fn calls_of(alloc: Global, checked: &Checked, script: &[u8]) -> Result<Vec<Call>, ScriptFault>
+fn calls_of(
+    alloc: Global,
+    checked: &Checked,
+    script: &[u8],
+    kernel: &Kernel,
+) -> Result<Vec<Call>, ScriptFault>
     ensures calls { IfOk result (λ calls. (first_bad checked.now (lines script.now) ≡ None) × (calls.items ≡ calls_of checked.now (lines script.now))) }
     ensures bad { IfErr result (IsBadLine checked.now (lines script.now)) }
 {
@@ -104,7 +111,7 @@ fn calls_of(alloc: Global, checked: &Checked, script: &[u8]) -> Result<Vec<Call>
         line_number += 1;
         let line = without_comment(line);
         if first_word(line).is_some() {
-            match call_of(checked, line) {
+            match call_of(checked, line, kernel) {
                 Some(call) => calls.push(call)?,
                 None => return Err(ScriptFault::BadScript(line_number)),
             }
@@ -140,21 +147,25 @@ fn print<W: Write>(words: &[u16], out: &mut Counted<W>) -> Result<(), ScriptFaul
     Ok(())
 }
 
-/// Runs the calls one after another, and prints what each puts out.
+/// Runs the calls one after another, and prints what each puts out. Each finds the kernel as
+/// the one before left it.
 fn run_calls<W: Write>(
     checked: &Checked,
     calls: &[Call],
+    kernel: &mut Kernel,
     out: &mut Counted<W>,
 ) -> Result<(), ScriptFault>
     requires { All (IsAdmitted checked.now) calls.now }
-    ensures ok { IfOk result (λ _. RanCalls checked.now calls.now (W.contents out.old.stream) (W.contents out.new.stream)) }
-    ensures stopped { IfErr result (λ _. StoppedCalls checked.now calls.now (W.contents out.old.stream) (W.contents out.new.stream)) }
+    ensures ok { IfOk result (λ _. RanCalls checked.now calls.now (memory_of kernel.old) (memory_of kernel.new)
+        (W.contents out.old.stream) (W.contents out.new.stream)) }
+    ensures stopped { IfErr result (λ _. StoppedCalls checked.now calls.now (memory_of kernel.old) (memory_of kernel.new)
+        (W.contents out.old.stream) (W.contents out.new.stream)) }
     ensures kept { IfOk result (λ _. out.new.failures ≡ out.old.failures) }
     ensures failed { IfErr result (λ fault. (fault ≡ Write) × Rose out.old.failures out.new.failures) }
 {
     let mut machine = Machine::new();
     for call in calls {
-        let outcome = machine.run(checked, call.routine, &call.words);
+        let outcome = machine.run(checked, call.routine, &call.words, kernel);
         print(outcome.output.as_slice(), out)?;
     }
     Ok(())
@@ -172,25 +183,33 @@ fn load(alloc: Global, image: &[u8]) -> Result<Checked, ScriptFault>
     }
 }
 
-/// Checks an image and runs a script of calls, which print the words that they put out. The
-/// script is read whole first, and a bad one runs nothing. The writer is not flushed.
+/// Checks an image and runs a script of calls, which print the words that they put out. Each
+/// call finds the kernel's memory as the one before left it, and the kernel keeps what the
+/// last one left. The script is read whole first, and a bad one runs nothing. The writer is
+/// not flushed.
 ///
 /// Of the faults, the first that is due is answered: `TooLong` where the script has more than
 /// 1,048,576 bytes; `BadImage`; `Rejected`; `BadScript`. `Memory` may come before the first
-/// call runs. Up to then nothing is asked of the writer. `Write` comes where the writer
-/// failed: it got all that the calls before print and a beginning of what the call prints that
-/// was run last, and no other call was begun. Where `Write` is not answered, no call of the
-/// writer failed.
+/// call runs. Up to then nothing is asked of the writer, and the kernel is as it was. `Write`
+/// comes where the writer failed: it got all that the calls before print and a beginning of
+/// what the call prints that was run last, and no other call was begun; the kernel stands
+/// where that call ended. Where `Write` is not answered, no call of the writer failed.
 pub fn run_script<W: Write>(
     alloc: Global,
     image: &[u8],
     script: &[u8],
+    kernel: &mut Kernel,
     out: &mut Counted<W>,
 ) -> Result<(), ScriptFault>
-    ensures ran { IfOk result (λ _. RanScript image.now script.now (W.contents out.old.stream) (W.contents out.new.stream)) }
+    ensures ran { IfOk result (λ _. RanScript image.now script.now (memory_of kernel.old) (memory_of kernel.new)
+        (W.contents out.old.stream) (W.contents out.new.stream)) }
     ensures due { IfErr result (ScriptEndsBy image.now script.now) }
     ensures stopped { IfErr result (λ fault. fault ≡ Write →
-        StoppedScript image.now script.now (W.contents out.old.stream) (W.contents out.new.stream)) }
+        StoppedScript image.now script.now (memory_of kernel.old) (memory_of kernel.new)
+        (W.contents out.old.stream) (W.contents out.new.stream)) }
+
+    // Nothing runs before a fault other than `Write`.
+    ensures kernel_kept { IfErr result (λ fault. fault ≢ Write → kernel.new ≡ kernel.old) }
 
     // The writer: nothing is asked of it before the first call, and it failed exactly where
     // `Write` is answered.
@@ -203,6 +222,6 @@ pub fn run_script<W: Write>(
         return Err(ScriptFault::TooLong);
     }
     let checked = load(alloc, image)?;
-    let calls = calls_of(alloc, &checked, script)?;
-    run_calls(&checked, &calls, out)
+    let calls = calls_of(alloc, &checked, script, kernel)?;
+    run_calls(&checked, &calls, kernel, out)
 }

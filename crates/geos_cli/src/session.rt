@@ -12,11 +12,15 @@ use crate::counted::Counted;
 use crate::fault::ScriptFault;
 use crate::hex::image_and_script;
 use crate::script::{MOST_BYTES, run_script};
+use geos_calls::Kernel;
 use std::alloc::Global;
 use std::io::{Read, Write};
 
 /// How many bytes are asked for at a time.
 const CHUNK: usize = 4096;
+
+/// How many bytes the region of a session's memory blocks has.
+const REGION: u32 = 65_536;
 
 /// All that the reader gives, at most `MOST_BYTES`. Each turn gives a byte at least, or is the
 /// last: so the reader is asked at most `MOST_BYTES` + 1 times.
@@ -48,7 +52,8 @@ fn read_all<R: Read>(alloc: Global, input: &mut Counted<R>) -> Result<Vec<u8>, S
 }
 
 /// Reads a session to its end, runs it, and flushes the writer: an image in hexadecimal
-/// digits, a line `end`, and a script as of `run_script`.
+/// digits, a line `end`, and a script as of `run_script`. It begins with no memory block, in a
+/// region of 65,536 bytes.
 ///
 /// Of the faults, the first that is due is answered: `TooLong` where there are more than
 /// 1,048,576 bytes; `BadHex`; then those of `run_script`. `Read` comes where the reader
@@ -82,7 +87,8 @@ pub fn run_session<R: Read, W: Write>(
 {
     let bytes = read_all(alloc, input)?;
     let (image, script) = image_and_script(alloc, &bytes)?;
-    run_script(alloc, &image, script, out)?;
+    let mut kernel = Kernel::new(alloc, REGION)?;
+    run_script(alloc, &image, script, &mut kernel, out)?;
     match out.flush() {
         Ok(()) => Ok(()),
         Err(_) => Err(ScriptFault::Write),

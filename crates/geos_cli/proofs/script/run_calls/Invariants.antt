@@ -1,9 +1,10 @@
-use Rattle.std.proofs.Common.{◌≡◌, ℕ, List, take}
-use Rattle.std.specs.Io.KnownBytes.{Appends}
-use Rattle.geos_cli.specs.Script.{Prints}
+use Rattle.std.proofs.Common.{◌≡◌, take}
+use Rattle.geos_calls.specs.View.{memory_of}
+use Rattle.geos_cli.specs.Script.{RanCalls}
 use Rattle.geos_cli.proofs.script.run_calls.Given as goal
 
 abbrev pub invariant-loop-call : goal.invariant-loop-call
 invariant-loop-call g l =
-    ((text : List ℕ) × Prints l.fn.checked (take l.call-index l.fn.calls) text × Appends (g.W.Write.contents l.fn.out.stream) (g.W.Write.contents l.out.stream) text)
+    RanCalls l.fn.checked (take l.call-index l.fn.calls) (memory_of l.fn.kernel) (memory_of l.kernel)
+    (g.W.Write.contents l.fn.out.stream) (g.W.Write.contents l.out.stream)
     × (l.out.failures ≡ l.fn.out.failures)
