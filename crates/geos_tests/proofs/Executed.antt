@@ -1,25 +1,21 @@
 -- What each instruction on words and counters does, on values that a wrong definition would
 -- show itself at.
-use Rattle.std.proofs.Common.{◌≡◌, refl, ℕ, List, [], ◌∷◌, ◌++◌, replicate}
+use Rattle.std.proofs.Common.{◌≡◌, refl, ℕ, List, [], ◌∷◌, ◌++◌, replicate, None}
 use Rattle.geos_image.specs.declared.opcode.Opcode.TheVariants.{Ldi, Mov, Add, Sub, And, Shr, Muli, Chk, Jmp, Beq, Blt, Setk, Setkw, Loop, Call, Ret, Out}
 use Rattle.geos_image.specs.declared.instr.Instr.{Instr}
-use Rattle.geos_image.specs.Open.{open_row}
-use Rattle.geos_image.specs.Parts.{Parts}
-use Rattle.geos_semantics.specs.Model.{Frame, State, Outcome, Fault, Next, Done, step}
-use Rattle.geos_machine.specs.Machine.{empty_slots, stale_pointers}
-use Rattle.geos_machine.proofs.Going.{quiet}
-use Rattle.geos_tests.proofs.Images.{potential, routine, instr}
+use Rattle.geos_semantics.specs.State.{Frame, State}
+use Rattle.geos_semantics.specs.Model.{Outcome, Fault, Next, Done, step}
+use Rattle.geos_tests.proofs.Images.{instr}
+use Rattle.geos_tests.proofs.States.{willing, alone, no_blocks}
 
--- the instruction at pc 0 of a routine of nine, of which there is no other
-abbrev pub alone : Instr → Parts
-alone i = record { routines = routine [] 9 9 ∷ []; points = (i, open_row, potential 9 0) ∷ [] }
-
+-- a state with no block, no slot held and no pointer
 abbrev pub state : List ℕ → List ℕ → ℕ → List ℕ → State
 state words counters pc output = record {
+  memory = no_blocks;
   words = words;
   counters = counters;
-  slots = empty_slots;
-  pointers = stale_pointers;
+  slots = replicate 4 None;
+  pointers = replicate 4 None;
   routine = 0;
   pc = pc;
   stack = [];
@@ -52,7 +48,7 @@ at pc = Next (state (words 500) (counters 5) pc (8 ∷ []))
 
 -- the step that is the instruction with these fields a, b, c, imm and target
 abbrev pub stepped : Instr → Outcome
-stepped i = step (alone i) quiet before
+stepped i = step (alone i) willing before
 
 -- 1,024 words are out
 abbrev pub full : List ℕ → State
@@ -100,17 +96,17 @@ pub record Executed : Type 0 where
   pub loop_at_0 : stepped (instr Loop 0 0 0 0 7) ≡ at 1
   -- control begins at the callee's first instruction, and is to return behind the CALL
   pub call : stepped (instr Call 0 0 0 0 0) ≡ Next (called before)
-  pub call_32nd : step (alone (instr Call 0 0 0 0 0)) quiet (within 31) ≡ Next (called (within 31))
-  pub call_33rd : step (alone (instr Call 0 0 0 0 0)) quiet (within 32) ≡ Fault
+  pub call_32nd : step (alone (instr Call 0 0 0 0 0)) willing (within 31) ≡ Next (called (within 31))
+  pub call_33rd : step (alone (instr Call 0 0 0 0 0)) willing (within 32) ≡ Fault
   -- the outermost return
   pub ret : stepped (instr Ret 0 0 0 0 0) ≡ Done before
-  pub ret_to_caller : step (alone (instr Ret 0 0 0 0 0)) quiet (within 1) ≡ Next (record before { routine = 3; pc = 17 })
+  pub ret_to_caller : step (alone (instr Ret 0 0 0 0 0)) willing (within 1) ≡ Next (record before { routine = 3; pc = 17 })
   pub out : stepped (instr Out 6 0 0 0 7) ≡ Next (state (words 500) (counters 5) 1 (8 ∷ 21845 ∷ []))
-  pub out_1024th : step (alone (instr Out 6 0 0 0 7)) quiet almost_full ≡ Next (state (words 500) (counters 5) 1 (replicate 1023 8 ++ 21845 ∷ []))
+  pub out_1024th : step (alone (instr Out 6 0 0 0 7)) willing almost_full ≡ Next (state (words 500) (counters 5) 1 (replicate 1023 8 ++ 21845 ∷ []))
   -- w7 tells why, and nothing is put out
-  pub out_1025th : step (alone (instr Out 6 0 0 0 7)) quiet (full (words 500)) ≡ Next (record (full (65535 ∷ 3 ∷ 500 ∷ 40961 ∷ 9 ∷ 9 ∷ 21845 ∷ 10 ∷ [])) { pc = 7 })
+  pub out_1025th : step (alone (instr Out 6 0 0 0 7)) willing (full (words 500)) ≡ Next (record (full (65535 ∷ 3 ∷ 500 ∷ 40961 ∷ 9 ∷ 9 ∷ 21845 ∷ 10 ∷ [])) { pc = 7 })
   -- where there is no instruction
-  pub past_the_end : step (alone (instr Ret 0 0 0 0 0)) quiet (record before { pc = 1 }) ≡ Fault
+  pub past_the_end : step (alone (instr Ret 0 0 0 0 0)) willing (record before { pc = 1 }) ≡ Fault
 
 pub examples : Executed
 examples = record {

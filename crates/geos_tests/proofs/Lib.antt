@@ -1,5 +1,11 @@
 pub mod Images
+pub mod States
+pub mod BlockImages
 pub mod Spelled
 pub mod Judged
+pub mod JudgedOnBlocks
 pub mod Runs
 pub mod Executed
+pub mod OnSlots
+pub mod OnPointers
+pub mod Faulty

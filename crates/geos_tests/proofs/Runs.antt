@@ -1,14 +1,32 @@
 -- What the model's runs of the worked examples come to.
-use Rattle.std.proofs.Common.{◌≡◌, refl, ℕ, List, [], ◌∷◌, replicate}
+use Rattle.std.proofs.Common.{◌≡◌, refl, ℕ, List, [], ◌∷◌, replicate, Option, Some, None}
+use Rattle.geos_model.specs.Bytes.{word}
+use Rattle.geos_model.specs.Chunks.{cost}
+use Rattle.geos_model.specs.Memory.{Block}
+use Rattle.geos_model.specs.Effects.{Choice}
+use Rattle.geos_image.specs.declared.opcode.Opcode.TheVariants.{Plen}
 use Rattle.geos_image.specs.Parts.{Parts}
 use Rattle.geos_semantics.specs.Model.{Ending, Faulted, Running, Returned, run}
 use Rattle.geos_machine.specs.Runs.{begin}
-use Rattle.geos_machine.proofs.Going.{quiet}
-use Rattle.geos_tests.proofs.Images.{add, outputs, two_and_main, loop_by_k1}
+use Rattle.geos_tests.proofs.Images.{instr, add, outputs, two_and_main, loop_by_k1}
+use Rattle.geos_tests.proofs.BlockImages.{no_bytes, read_after_deref, read_where_apart, deref_after_refusal}
+use Rattle.geos_tests.proofs.States.{willing, unwilling, no_blocks, block}
 
--- the ending of a run of at most n steps of routine r, on words that are 0
+-- the ending of a run of at most n steps of routine r, on words that are 0 and no block
 abbrev pub ending : Parts → ℕ → ℕ → Ending
-ending image r n = run image 0 (replicate n quiet) 0 (begin image r (replicate 8 0))
+ending image r n = run image 0 (replicate n willing) 0 (begin image r (replicate 8 0) no_blocks)
+
+-- the same of the first routine, in a region of 128 bytes with one handle, all of which may be
+-- refused or nothing
+abbrev pub ending_in_128 : Choice → Parts → ℕ → Ending
+ending_in_128 choice image n =
+    run image 0 (replicate n choice) 0 (begin image 0 (replicate 8 0) (record { blocks = None ∷ []; region = 128 }))
+
+-- the blocks that are left
+abbrev pub left : Ending → List (Option Block)
+left Faulted = []
+left (Running s) = []
+left (Returned steps s) = s.memory.blocks
 
 -- the steps, the words and the output of a run that has returned
 abbrev pub returned : Ending → List (ℕ × List ℕ × List ℕ)
@@ -29,3 +47,37 @@ call-runs = refl
 -- four turns of six steps, between the SETK and the RET
 pub loop-of-calls-runs : returned (ending loop_by_k1 2 26) ≡ (26, 0 ∷ 0 ∷ 0 ∷ 0 ∷ 0 ∷ 0 ∷ 0 ∷ 0 ∷ [], []) ∷ []
 loop-of-calls-runs = refl
+
+-- the first chunk lies elsewhere, maybe, and has its bytes
+pub read-after-deref-runs : returned (ending_in_128 willing read_after_deref 10) ≡ (10, 1 ∷ 8 ∷ 16 ∷ 18 ∷ 0 ∷ 0 ∷ 0 ∷ 0 ∷ [], 0 ∷ []) ∷ []
+unfolding cost word
+read-after-deref-runs = refl
+
+-- the block is there, and locked no more
+pub read-after-deref-leaves : left (ending_in_128 willing read_after_deref 10)
+    ≡ block 0 (Some (replicate 8 0) ∷ Some (replicate 8 0) ∷ []) ∷ []
+unfolding cost word
+read-after-deref-leaves = refl
+
+-- the slots hold one block, so that SNE goes to its label
+pub read-where-apart-runs : returned (ending_in_128 willing read_where_apart 13) ≡ (11, 1 ∷ 8 ∷ 16 ∷ 0 ∷ 0 ∷ 1 ∷ 0 ∷ 0 ∷ [], 1 ∷ []) ∷ []
+unfolding cost
+read-where-apart-runs = refl
+
+-- 640 bytes are more than the region
+pub deref-after-refusal-runs : returned (ending_in_128 unwilling deref_after_refusal 12)
+    ≡ (11, 1 ∷ 600 ∷ 16 ∷ 0 ∷ 0 ∷ 0 ∷ 0 ∷ 4 ∷ [], 4 ∷ []) ∷ []
+unfolding cost word
+deref-after-refusal-runs = refl
+
+-- a chunk of no bytes is as long as it is wanted, where nothing is wanted of it
+pub no-bytes-runs : returned (ending_in_128 willing (no_bytes 0 (instr Plen 3 0 0 0 0)) 8)
+    ≡ (8, 1 ∷ 0 ∷ 16 ∷ 0 ∷ 0 ∷ 0 ∷ 0 ∷ 0 ∷ [], 0 ∷ []) ∷ []
+unfolding cost
+no-bytes-runs = refl
+
+-- and too short for one byte
+pub one-byte-runs : returned (ending_in_128 willing (no_bytes 1 (instr Plen 3 0 0 0 0)) 8)
+    ≡ (6, 1 ∷ 0 ∷ 16 ∷ 0 ∷ 0 ∷ 0 ∷ 0 ∷ 3 ∷ [], []) ∷ []
+unfolding cost
+one-byte-runs = refl

@@ -67,7 +67,9 @@ fn two_and_main(
 fn calls(rt: HostRuntime) -> Result<(), Fail> {
     let two = private(b"two", 2, 2);
     let image = two_and_main(rt.alloc(), two, routine(b"main", 3, 5), 5)?;
-    let outcome = run(&checked(image)?, 1, &[0; 8]).ok_or("the routine may be called")?;
+    let outcome = run(rt.alloc(), &checked(image)?, 1, &[0; 8])?.ok_or(
+        "the routine may be called",
+    )?;
     assert_eq!(rt; outcome.output.as_slice(), [2].as_slice());
     assert_eq!(rt; outcome.steps, 5);
     assert_eq!(rt; outcome.words, [2, 0, 0, 0, 0, 0, 0, 0]);
@@ -91,7 +93,9 @@ fn calls_pay_whole_budgets(rt: HostRuntime) -> Result<(), Fail> {
     assert_eq!(rt; reject.pc, 2);
     assert_eq!(rt; reject.rule, Rule::EdgeUnpaid);
     let image = two_and_main(rt.alloc(), slow, routine(b"main", 3, 6), 6)?;
-    let outcome = run(&checked(image)?, 1, &[0; 8]).ok_or("the routine may be called")?;
+    let outcome = run(rt.alloc(), &checked(image)?, 1, &[0; 8])?.ok_or(
+        "the routine may be called",
+    )?;
     assert_eq!(rt; outcome.steps, 5, "what a budget leaves is not taken");
     Ok(())
 }
@@ -163,7 +167,7 @@ fn rows_of_two(
 fn rows_of_callees(rt: HostRuntime) -> Result<(), Fail> {
     let (open, low) = (Row::open(), with_w0(2));
     let image = checked(rows_of_two(rt.alloc(), open, low, 2)?)?;
-    let outcome = run(&image, 1, &[9; 8]).ok_or("the routine may be called")?;
+    let outcome = run(rt.alloc(), &image, 1, &[9; 8])?.ok_or("the routine may be called")?;
     assert_eq!(rt; outcome.output.as_slice(), [2].as_slice());
     let reject = refused(rows_of_two(rt.alloc(), open, low, 1)?)?;
     assert_eq!(rt; reject.pc, 2, "behind the CALL w0 may be 2");
@@ -195,7 +199,9 @@ fn calls_nest(rt: HostRuntime) -> Result<(), Fail> {
     ];
     let (two, four) = (private(b"two", 2, 2), private(b"four", 3, 5));
     let accepted = image(rt.alloc(), &[two, four, routine(b"main", 3, 8)], &code)?;
-    let outcome = run(&checked(accepted)?, 2, &[0; 8]).ok_or("the routine may be called")?;
+    let outcome = run(rt.alloc(), &checked(accepted)?, 2, &[0; 8])?.ok_or(
+        "the routine may be called",
+    )?;
     assert_eq!(rt; outcome.output.as_slice(), [4].as_slice());
     assert_eq!(rt; outcome.steps, 8);
     let cheaper = image(rt.alloc(), &[two, four, routine(b"main", 3, 7)], &code)?;
@@ -261,7 +267,9 @@ fn loops_count_on_what_callees_leave_alone(rt: HostRuntime) -> Result<(), Fail> 
         assert_eq!(rt; reject.rule, Rule::EdgeUnpaid);
         for k in 1..4 {
             let checked = checked(loop_of_calls(rt.alloc(), counts, k)?)?;
-            let outcome = run(&checked, 1, &[9; 8]).ok_or("the routine may be called")?;
+            let outcome = run(rt.alloc(), &checked, 1, &[9; 8])?.ok_or(
+                "the routine may be called",
+            )?;
             assert_eq!(rt; outcome.steps, 18);
         }
     }
@@ -294,7 +302,7 @@ fn what_is_touched_two_calls_down_counts_too(rt: HostRuntime) -> Result<(), Fail
     assert_eq!(rt; reject.pc, 5);
     assert_eq!(rt; reject.rule, Rule::EdgeUnpaid);
     let checked = checked(loop_of_nested_calls(rt.alloc(), 1)?)?;
-    let outcome = run(&checked, 2, &[0; 8]).ok_or("the routine may be called")?;
+    let outcome = run(rt.alloc(), &checked, 2, &[0; 8])?.ok_or("the routine may be called")?;
     assert_eq!(rt; outcome.steps, 26);
     Ok(())
 }
@@ -325,7 +333,7 @@ fn chain(alloc: Global, length: u8) -> Result<Option<Image>, AllocError> {
 #[test]
 fn chains_of_32_routines_run(rt: HostRuntime) -> Result<(), Fail> {
     let checked = checked(chain(rt.alloc(), 32)?)?;
-    let outcome = run(&checked, 31, &[0, 3, 0, 0, 0, 0, 0, 0]);
+    let outcome = run(rt.alloc(), &checked, 31, &[0, 3, 0, 0, 0, 0, 0, 0])?;
     let outcome = outcome.ok_or("the routine may be called")?;
     assert_eq!(rt; outcome.words, [96, 3, 0, 0, 0, 0, 0, 0]);
     assert_eq!(rt; outcome.steps, 95);

@@ -1,5 +1,6 @@
 //! Images written out by hand, and what becomes of them.
 
+use geos_calls::Kernel;
 use geos_image::{Image, Instr, Opcode, Potential, Routine, Row};
 use geos_machine::{Machine, Outcome, admits};
 use geos_verify::{Checked, Reject, check};
@@ -76,13 +77,18 @@ pub fn refused(image: Option<Image>) -> Result<Reject, Fail> {
     Ok(reject)
 }
 
-/// Runs a routine on these words, if it may be called with them.
-pub fn run(checked: &Checked, routine: u16, words: &[u16; 8]) -> Option<Outcome> {
-    if admits(checked, routine, words) {
-        Some(Machine::new().run(checked, routine, words))
-    } else {
-        None
+/// Runs a routine on these words in a kernel with no block, if it may be called with them.
+pub fn run(
+    alloc: Global,
+    checked: &Checked,
+    routine: u16,
+    words: &[u16; 8],
+) -> Result<Option<Outcome>, AllocError> {
+    let mut kernel = Kernel::new(alloc, 65536)?;
+    if !admits(checked, routine, words, &kernel) {
+        return Ok(None);
     }
+    Ok(Some(Machine::new().run(checked, routine, words, &mut kernel)))
 }
 
 /// `LDI w0 2`, `LDI w1 3`, `ADD w0 w0 w1`, `OUT w0 x`, `x: RET`.

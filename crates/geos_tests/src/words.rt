@@ -54,7 +54,7 @@ fn bytes_and_image(rt: HostRuntime) -> Result<(), Fail> {
 #[test]
 fn adds(rt: HostRuntime) -> Result<(), Fail> {
     let checked = checked(add(rt.alloc(), 5)?)?;
-    let outcome = run(&checked, 0, &[0; 8]).ok_or("the routine may be called")?;
+    let outcome = run(rt.alloc(), &checked, 0, &[0; 8])?.ok_or("the routine may be called")?;
     assert_eq!(rt; outcome.output.as_slice(), [5].as_slice());
     assert_eq!(rt; outcome.steps, 5);
     assert_eq!(rt; outcome.words, [5, 3, 0, 0, 0, 0, 0, 0]);
@@ -73,7 +73,9 @@ fn puts_out_1024_words(rt: HostRuntime) -> Result<(), Fail> {
         potential(1, 0),
     ];
     let checked = checked(outputs(rt.alloc(), 1024, 2052, paid)?)?;
-    let outcome = run(&checked, 0, &[7, 0, 0, 0, 0, 0, 0, 0]).ok_or("the routine may be called")?;
+    let outcome = run(rt.alloc(), &checked, 0, &[7, 0, 0, 0, 0, 0, 0, 0])?.ok_or(
+        "the routine may be called",
+    )?;
     assert_eq!(rt; outcome.output.len(), 1024);
     assert!(rt; outcome.output.as_slice().iter().all(|word| *word == 7));
     assert_eq!(rt;
@@ -119,7 +121,7 @@ fn images_have_4096_instructions(rt: HostRuntime) -> Result<(), Fail> {
     assert!(rt; again.as_slice() == bytes.as_slice());
     let checked = checked(Some(image))?;
     for routine in 0..2 {
-        let outcome = run(&checked, routine, &[1, 3, 0, 0, 0, 0, 0, 0]);
+        let outcome = run(rt.alloc(), &checked, routine, &[1, 3, 0, 0, 0, 0, 0, 0])?;
         let outcome = outcome.ok_or("the routine may be called")?;
         assert_eq!(rt; outcome.words, [1 + 2047 * 3, 3, 0, 0, 0, 0, 0, 0]);
         assert_eq!(rt; outcome.steps, 2048);
