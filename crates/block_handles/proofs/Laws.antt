@@ -1,5 +1,5 @@
 -- What callers use of the definitions.
-use Rattle.std.proofs.Common.{◌≡◌, ◌≢◌, ℕ, zero, suc, ◌+◌, ◌-◌, ◌≤◌, ◌<◌, ◌⊎◌, List, [], ◌∷◌, length, drop, Option, Some, None, slice_index, slice_index_or, length-take, length-drop, refl, ap, sym, ◌∙◌, arith, inl, inr}
+use Rattle.std.proofs.Common.{◌≡◌, ◌≢◌, ℕ, zero, suc, ◌+◌, ◌-◌, ◌≤◌, ◌<◌, ◌⊎◌, List, [], ◌∷◌, length, drop, Option, Some, None, slice_index, slice_index_or, length-take, length-drop, refl, ap, sym, subst, ◌∙◌, arith, inl, inr}
 use Rattle.std.proofs.lemmas.List.{get_or-set_same, get_or-set_other, drop_all, ext_get_or, get_or-take, get_or-drop}
 use Rattle.std.proofs.lemmas.Bool.Decides.{nat_tests}
 use Rattle.lmem_raw.specs.Bytes.{part, with_part}
@@ -146,6 +146,11 @@ slot_of-small name q = small name.owner name.h q
     small : (owner : Owner) (h : ℕ) → IsHandle h → slot_of (record { owner = owner; h = h }) < 2048
     small Mem h r = omega (arith, slot_of-handle Mem h r, r.1)
     small Vm h r = omega (arith, slot_of-handle Vm h r, r.1)
+
+-- a block that is there has a handle
+pub handle_of_there : (store seen : Store) (name : Name) → store ≡ seen → IsLaidOut store → IsThere seen (slot_of name) → IsHandle name.h
+handle_of_there store seen name same laid there =
+    let small = there_small store (slot_of name) laid (subst (λ s. IsThere s (slot_of name)) (sym same) there) in grind (arith, nat_tests)
 
 module _ (store : Store) (i : ℕ) where
   -- what was put into a slot is there, and every other block is as it was

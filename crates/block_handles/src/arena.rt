@@ -49,11 +49,7 @@ fn entry_of(table: &[Option<Entry>], slot: usize) -> Entry
 {
     match table[slot] {
         Some(entry) => entry,
-        None => Entry {
-            place: 0,
-            size: 0,
-            locks: 0,
-        },
+        None => unreachable!(),
     }
 }
 

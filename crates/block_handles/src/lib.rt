@@ -21,7 +21,7 @@ mod stretch;
 use arena::Arena;
 pub use error::{HandleError, RoomError};
 pub use geos_model::{Name, Owner};
-use name::{first_slot, slot_of};
+use name::{first_slot, slot_in_use, slot_of};
 use room::{Gap, room_for};
 use slots::SlotSet;
 use std::alloc::{AllocError, Global};
@@ -118,7 +118,7 @@ impl Blocks {
         ensures place { result ≡ place_of self.now (slot_of name) }
         ensures laid { IsLaidOut self.now }
     {
-        self.arena.place(slot_of(name))
+        self.arena.place(slot_in_use(name))
     }
 
     /// A block's size in bytes: from 64 to 65,520, a multiple of 16.
@@ -127,7 +127,7 @@ impl Blocks {
         ensures size { result ≡ size_of self.now (slot_of name) }
         ensures legal { IsSize result }
     {
-        self.arena.size(slot_of(name))
+        self.arena.size(slot_in_use(name))
     }
 
     /// A block's bytes.
@@ -135,7 +135,7 @@ impl Blocks {
         requires { IsThere self.now (slot_of name) }
         ensures { result.now ≡ bytes_of self.now (slot_of name) }
     {
-        self.arena.bytes(slot_of(name))
+        self.arena.bytes(slot_in_use(name))
     }
 
     /// Lends a block's bytes for writing. Once the loan ends, the block has what was left in
@@ -145,7 +145,7 @@ impl Blocks {
         ensures* writes_back { sem 𝓛 (LendsBlock self.entry (slot_of name) result) }
         ensures value { result.now ≡ bytes_of self.old (slot_of name) }
     {
-        self.arena.bytes_mut(slot_of(name))
+        self.arena.bytes_mut(slot_in_use(name))
     }
 
     /// The byte at an offset of the region, as the block that covers it has it.
@@ -221,9 +221,10 @@ impl Blocks {
         requires { 0 < locks_of self.old (slot_of name) }
         ensures { self.new ≡ with_lock_less self.old (slot_of name) }
     {
-        let slot = slot_of(name);
-        let locks = self.arena.locks(slot);
-        self.arena.set_locks(slot, locks - 1);
+        let arena = &mut self.arena;
+        let slot = slot_in_use(name);
+        let locks = arena.locks(slot);
+        arena.set_locks(slot, locks - 1);
     }
 
     /// Frees a block. `BadHandle` where no block has this name, `Locked` where it is locked;

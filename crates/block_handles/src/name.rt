@@ -1,7 +1,7 @@
 //! The slot of each name.
 
 ghost use Rattle.std.specs.Prelude.{◌≡◌};
-ghost use Rattle.block_handles.specs.Names.{first_slot, slot_of};
+ghost use Rattle.block_handles.specs.Names.{IsHandle, first_slot, slot_of};
 
 use geos_model::{Name, Owner};
 
@@ -22,5 +22,13 @@ pub(crate) fn slot_of(name: Name) -> usize
     if name.h == 0 || name.h > Name::HANDLES {
         return 2 * Name::HANDLES as usize;
     }
+    slot_in_use(name)
+}
+
+/// The slot of a name whose handle can be in use.
+pub(crate) fn slot_in_use(name: Name) -> usize
+    requires { IsHandle name.h }
+    ensures { result ≡ slot_of name }
+{
     first_slot(name.owner) + (name.h as usize - 1)
 }
