@@ -179,6 +179,7 @@ pub(crate) fn movp(m: &mut Machine, kernel: &Kernel, i: &Instr, a: usize) -> Goe
 }
 
 /// Copies bytes from one pointer to another.
+#[inline(never)]
 pub(crate) fn copy(m: &Machine, kernel: &mut Kernel, i: &Instr, a: usize) -> Goes
     requires instr { IsInstr Opcode.Copy i.now a }
     requires ready { Ready i.now kernel.old m.now }

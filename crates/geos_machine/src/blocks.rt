@@ -11,6 +11,7 @@ use geos_image::{Instr, Opcode};
 use geos_model::Name;
 
 /// Makes a block, and locks it into a slot.
+#[inline(never)]
 pub(crate) fn mnew(m: &mut Machine, kernel: &mut Kernel, i: &Instr, a: usize) -> Goes
     requires instr { IsInstr Opcode.Mnew i.now a }
     requires ready { Ready i.now kernel.old m.old }
@@ -27,6 +28,7 @@ pub(crate) fn mnew(m: &mut Machine, kernel: &mut Kernel, i: &Instr, a: usize) ->
 }
 
 /// Locks a block into a slot.
+#[inline(never)]
 pub(crate) fn mlock(m: &mut Machine, kernel: &mut Kernel, i: &Instr, a: usize) -> Goes
     requires instr { IsInstr Opcode.Mlock i.now a }
     requires ready { Ready i.now kernel.old m.old }
@@ -43,6 +45,7 @@ pub(crate) fn mlock(m: &mut Machine, kernel: &mut Kernel, i: &Instr, a: usize) -
 }
 
 /// Unlocks the block of a slot, which is empty then.
+#[inline(never)]
 pub(crate) fn munlock(m: &Machine, kernel: &mut Kernel, i: &Instr, a: usize) -> Goes
     requires instr { IsInstr Opcode.Munlock i.now a }
     requires ready { Ready i.now kernel.old m.now }
@@ -53,6 +56,7 @@ pub(crate) fn munlock(m: &Machine, kernel: &mut Kernel, i: &Instr, a: usize) -> 
 }
 
 /// Frees a block.
+#[inline(never)]
 pub(crate) fn mfree(m: &mut Machine, kernel: &mut Kernel, i: &Instr, a: usize) -> Goes
     requires instr { IsInstr Opcode.Mfree i.now a }
     requires ready { Ready i.now kernel.old m.old }
@@ -72,6 +76,7 @@ fn are_same(name: Name, other: Name) -> bool
 }
 
 /// To the target where two slots hold one block.
+#[inline(never)]
 pub(crate) fn sne(m: &Machine, kernel: &Kernel, i: &Instr, a: usize) -> Goes
     requires instr { IsInstr Opcode.Sne i.now a }
     requires ready { Ready i.now kernel.now m.now }

@@ -9,6 +9,7 @@ use geos_calls::Kernel;
 use geos_image::{Instr, Opcode};
 
 /// Makes a chunk.
+#[inline(never)]
 pub(crate) fn lalloc(m: &mut Machine, kernel: &mut Kernel, i: &Instr, a: usize) -> Goes
     requires instr { IsInstr Opcode.Lalloc i.now a }
     requires ready { Ready i.now kernel.old m.old }
@@ -25,6 +26,7 @@ pub(crate) fn lalloc(m: &mut Machine, kernel: &mut Kernel, i: &Instr, a: usize) 
 }
 
 /// Frees a chunk.
+#[inline(never)]
 pub(crate) fn lfree(m: &mut Machine, kernel: &mut Kernel, i: &Instr, a: usize) -> Goes
     requires instr { IsInstr Opcode.Lfree i.now a }
     requires ready { Ready i.now kernel.old m.old }
@@ -38,6 +40,7 @@ pub(crate) fn lfree(m: &mut Machine, kernel: &mut Kernel, i: &Instr, a: usize) -
 }
 
 /// Gives a chunk another length.
+#[inline(never)]
 pub(crate) fn lrealloc(m: &mut Machine, kernel: &mut Kernel, i: &Instr, a: usize) -> Goes
     requires instr { IsInstr Opcode.Lrealloc i.now a }
     requires ready { Ready i.now kernel.old m.old }
@@ -51,6 +54,7 @@ pub(crate) fn lrealloc(m: &mut Machine, kernel: &mut Kernel, i: &Instr, a: usize
 }
 
 /// Inserts zero bytes into a chunk.
+#[inline(never)]
 pub(crate) fn lins(m: &mut Machine, kernel: &mut Kernel, i: &Instr, a: usize) -> Goes
     requires instr { IsInstr Opcode.Lins i.now a }
     requires ready { Ready i.now kernel.old m.old }
@@ -68,6 +72,7 @@ pub(crate) fn lins(m: &mut Machine, kernel: &mut Kernel, i: &Instr, a: usize) ->
 }
 
 /// Deletes bytes of a chunk.
+#[inline(never)]
 pub(crate) fn ldel(m: &mut Machine, kernel: &mut Kernel, i: &Instr, a: usize) -> Goes
     requires instr { IsInstr Opcode.Ldel i.now a }
     requires ready { Ready i.now kernel.old m.old }
@@ -85,6 +90,7 @@ pub(crate) fn ldel(m: &mut Machine, kernel: &mut Kernel, i: &Instr, a: usize) ->
 }
 
 /// Tells the length of a chunk.
+#[inline(never)]
 pub(crate) fn lsize(m: &mut Machine, kernel: &Kernel, i: &Instr, a: usize) -> Goes
     requires instr { IsInstr Opcode.Lsize i.now a }
     requires ready { Ready i.now kernel.now m.old }
@@ -101,6 +107,7 @@ pub(crate) fn lsize(m: &mut Machine, kernel: &Kernel, i: &Instr, a: usize) -> Go
 }
 
 /// Sets a pointer to a chunk.
+#[inline(never)]
 pub(crate) fn deref(m: &mut Machine, kernel: &Kernel, i: &Instr, a: usize) -> Goes
     requires instr { IsInstr Opcode.Deref i.now a }
     requires ready { Ready i.now kernel.now m.old }
@@ -117,6 +124,7 @@ pub(crate) fn deref(m: &mut Machine, kernel: &Kernel, i: &Instr, a: usize) -> Go
 }
 
 /// Moves the chunks of a block together.
+#[inline(never)]
 pub(crate) fn lcontract(m: &Machine, kernel: &mut Kernel, i: &Instr, a: usize) -> Goes
     requires instr { IsInstr Opcode.Lcontract i.now a }
     requires ready { Ready i.now kernel.old m.now }
