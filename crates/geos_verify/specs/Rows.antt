@@ -59,7 +59,7 @@ bound row a = slice_index row.bounds a
 abbrev pub with_bound : ℕ → ℕ → Row → Row
 with_bound a n row = record row { bounds = slice_set row.bounds a n }
 
--- n, or what any word is at most
+-- n, or 65,535 where that is lower: what any word is at most
 abbrev pub or_any : ℕ → ℕ
 or_any n = min n 65535
 
@@ -67,8 +67,8 @@ or_any n = min n 65535
 -- next instruction
 abbrev pub bounded : Instr → Opcode → Row → Row
 bounded i Ldi row = with_bound i.a i.imm row
-bounded i Add row = with_bound i.a (or_any (bound row i.b + bound row i.c)) row
 bounded i Mov row = with_bound i.a (bound row i.b) row
+bounded i Add row = with_bound i.a (or_any (bound row i.b + bound row i.c)) row
 bounded i Sub row = with_bound i.a 65535 row
 bounded i And row = with_bound i.a (min (bound row i.b) i.imm) row
 bounded i Shr row = with_bound i.a (bound row i.b / 2 ^ i.imm) row
@@ -136,8 +136,9 @@ slots_after i _ slots = slots
 
 -- Pairs
 
--- the pairs after an instruction: a new block is none that another slot holds; of a block that
--- is locked, and of an empty slot, nothing is known; slots that were compared differ
+-- the pairs after an instruction: a new block differs from that of each other slot which holds one
+-- of its kind; of a block that is locked, and of an empty slot, nothing is known; slots that were
+-- compared differ
 abbrev pub pairs_after : Instr → SlotUse → Row → List Bool
 pairs_after i (LocksNew kind) row = with_pairs i.a (λ b. holds_kind kind (slot_state row b)) row.pairs
 pairs_after i (Locks kind) row = without_slot i.a row.pairs
@@ -151,8 +152,8 @@ pairs_after i _ row = row.pairs
 abbrev pub pointer_at : Row → ℕ → Option Pointer
 pointer_at row p = slice_index_or row.pointers p None
 
--- slot b may hold the block that slot a holds: they hold blocks of one kind, and are not known
--- to differ
+-- slot b may hold the block that slot a holds: they hold blocks of one kind, or both nothing, and
+-- are not known to differ
 abbrev pub may_be_same : Row → ℕ → ℕ → Bool
 may_be_same row a b = are_alike (slot_state row b) (slot_state row a) && not (are_apart a b row.pairs)
 
@@ -189,7 +190,7 @@ used i uses row = record row {
 abbrev pub refused : Instr → SlotUse → Row → Row
 refused i slot row = record row { bounds = slice_set row.bounds 7 15; pointers = pointers_kept i slot row }
 
--- the exit row of a routine
+-- the exit row of a routine, or the row where there is no such routine
 abbrev pub exit_row : Parts → ℕ → Row → Row
 exit_row image r row = elim (slice_get image.routines r) [ None ↦ row | Some routine ↦ routine.exit ]
 

@@ -101,18 +101,18 @@ is_unmarked _ = false
 abbrev pub pointed_state : Row → ℕ → SlotState
 pointed_state row p = elim (pointer_at row p) [ None ↦ Empty | Some q ↦ slot_state row q.slot ]
 
--- a block is written that is not known to be marked, though it must be
+-- a block of the VM file that is not known to be marked is written through a pointer
 abbrev pub writes_unmarked : Instr → PointerUse → Row → Bool
 writes_unmarked i (Stores width offset) row = is_unmarked (pointed_state row i.b)
 writes_unmarked i Copies row = is_unmarked (pointed_state row i.a)
 writes_unmarked i _ row = false
 
--- or its chunks are changed
+-- the chunks of a block of the VM file that is not known to be marked are changed
 abbrev pub moves_unmarked : Instr → SlotUse → Row → Bool
 moves_unmarked i Moves row = is_unmarked (slot_state row i.a)
 moves_unmarked i _ row = false
 
--- the same, as a rule
+-- either of these, as a rule
 unfoldable pub changes_unmarked : Instr → Row → Bool
 changes_unmarked i row = writes_unmarked i (uses_of i.opcode).pointer row || moves_unmarked i (uses_of i.opcode).slot row
 
@@ -209,7 +209,7 @@ abbrev pub RefusesNone : Parts → ℕ → Routine → ℕ → ℕ → Type 0
 RefusesNone image r routine start limit = (pc : ℕ) (point : Point) → start ≤ pc → pc < limit → slice_get image.points pc ≡ Some point
     → refusal image r routine start pc point ≡ None
 
--- the rule refuses the point at the pc, in a routine that begins at start
+-- the rule refuses the point at the pc, if there is one, in a routine that begins at start
 abbrev pub Refuses : Parts → ℕ → Routine → ℕ → Reject → Type 0
 Refuses image r routine start reject = IfSome (slice_get image.points reject.pc) (λ point. refusal image r routine start reject.pc point ≡ Some reject.rule)
 

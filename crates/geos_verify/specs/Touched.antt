@@ -27,7 +27,8 @@ points_of image r = elim (slice_get image.routines r) [ None ↦ [] | Some routi
 abbrev pub touches_here : (ℕ → Bool) → ℕ → Instr → Bool
 touches_here touched k i = (counts i.opcode && i.a == k) || (calls i.opcode && touched i.imm)
 
--- routine r touches counter k by calls that go at most so deep
+-- routine r touches counter k, or one that it reaches by calls does, in a chain of at most so many
+-- routines, r among them
 abbrev pub touches_within : ℕ → Parts → ℕ → ℕ → Bool
 touches_within zero image k r = false
 touches_within (suc depth) image k r = list_any (λ point. touches_here (touches_within depth image k) k point.0) (points_of image r)

@@ -59,7 +59,7 @@ abbrev pub bytes_in : Width → ℕ
 bytes_in Byte = 1
 bytes_in Word = 2
 
--- two slots hold blocks of one kind
+-- the two kinds are one
 abbrev pub same_kind : Kind → Kind → Bool
 same_kind MemBlock MemBlock = true
 same_kind VmBlock VmBlock = true

@@ -51,7 +51,7 @@ pub enum Width {
 pub enum Offset {
     /// At imm.
     Fixed,
-    /// At word c, for which the verifier asks.
+    /// At word c, whose bound the verifier tests.
     Indexed,
     /// At word c, which is tested when it runs.
     Tested,
