@@ -38,12 +38,15 @@ static void measure(int count, int rounds) {
     must(sqlite3_exec(file, "BEGIN", 0, 0, 0));
     for (int k = 1; k <= count; k++) put(put_blob, k, blob);
     must(sqlite3_exec(file, "COMMIT", 0, 0, 0));
-    double start = now();
+    double least = 1e18;
     for (int i = 0; i < rounds; i++) {
+        double start = now();
         blob[0] = i;
         put(put_blob, 1 + i % count, blob);
+        double taken = now() - start;
+        if (taken < least) least = taken;
     }
-    printf("%d %.0f\n", count, (now() - start) / rounds);
+    printf("%d %.0f\n", count, least);
     sqlite3_finalize(put_blob);
     sqlite3_close(file);
     unlink("commit.sqlite");
