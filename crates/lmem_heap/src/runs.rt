@@ -18,11 +18,11 @@ pub(crate) fn move_run(block: &mut [u8], from: usize, end: usize, to: usize)
         return;
     }
     move_bytes(block, from, to, end - from);
-    move_entries(block, from, end, to);
+    move_entries(block, from as u16, end as u16, to as u16);
 }
 
 /// Moves the entries of the chunks that stood from `from` to `end`.
-fn move_entries(block: &mut [u8], from: usize, end: usize, to: usize)
+fn move_entries(block: &mut [u8], from: u16, end: u16, to: u16)
     requires table { table_end block.old ≤ length block.old }
     requires fits { (from ≤ end) × (to + (end - from) ≤ 65520) }
     ensures { MovesEntries block.old block.new from end to (entries block.old) }
@@ -33,13 +33,12 @@ fn move_entries(block: &mut [u8], from: usize, end: usize, to: usize)
     }
 }
 
-fn moved_entry(entry: u16, from: usize, end: usize, to: usize) -> u16
+fn moved_entry(entry: u16, from: u16, end: u16, to: u16) -> u16
     requires { (from ≤ end) × (to + (end - from) ≤ 65520) }
     ensures { result ≡ entry_moved from end to entry }
 {
-    let at = entry as usize;
-    if from < at && at < end {
-        (at - from + to) as u16
+    if from < entry && entry < end {
+        entry - from + to
     } else {
         entry
     }

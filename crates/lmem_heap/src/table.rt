@@ -1,7 +1,7 @@
 //! The table of chunk handles.
-ghost use Rattle.std.specs.Prelude.{◌≡◌, ℕ, ◌+◌, ◌*◌, ◌<◌, ◌≤◌, [], ◌∷◌, ◌++◌, length};
+ghost use Rattle.std.specs.Prelude.{◌≡◌, ◌≢◌, ℕ, ◌+◌, ◌*◌, ◌<◌, ◌≤◌, [], ◌∷◌, ◌++◌, length, IsTrue};
 ghost use Rattle.geos_model.specs.Chunks.{lowest_entry};
-ghost use Rattle.geos_model.specs.Block.{chunks, entries, entry, handle_word, table_end, total_free};
+ghost use Rattle.geos_model.specs.Block.{chunks, entries, entry, entry_offset, handle_word, table_end, total_free};
 ghost use Rattle.geos_model.specs.Heap.{IsHeap};
 ghost use Rattle.lmem_heap.specs.Packed.{GrowsTable, IsPacked};
 
@@ -9,6 +9,9 @@ use crate::header::{ENTRIES, entries, entry, table_end};
 use crate::runs::move_run;
 use crate::tail::{chunks_end, pack, set_tail};
 use crate::words::put16;
+
+/// How many entries are compared together.
+const RUN: usize = 16;
 
 /// The lowest entry that is not in use, or the number of entries where all are.
 pub(crate) fn lowest_entry(block: &[u8]) -> usize
@@ -18,12 +21,40 @@ pub(crate) fn lowest_entry(block: &[u8]) -> usize
     ensures free { result < entries block.now → entry block.now result ≡ 0 }
 {
     let n = entries(block);
-    for i in 0..n {
+    for i in used_runs(block, n)..n {
         if entry(block, i) == 0 {
             return i;
         }
     }
     n
+}
+
+/// How many entries from the first on are in use, counted in whole runs.
+fn used_runs(block: &[u8], n: usize) -> usize
+    requires { entry_offset n ≤ length block.now }
+    ensures within { result ≤ n }
+    ensures used { (k : ℕ) → k < result → entry block.now k ≢ 0 }
+{
+    let runs = n / RUN;
+    for run in 0..runs {
+        if !is_used_run(block, RUN * run) {
+            return RUN * run;
+        }
+    }
+    RUN * runs
+}
+
+/// Whether each entry of the run that begins at this one is in use. It reads all of them, with
+/// no branch on the way, so that they can be compared together.
+fn is_used_run(block: &[u8], from: usize) -> bool
+    requires { entry_offset (from + RUN) ≤ length block.now }
+    ensures { IsTrue result → (k : ℕ) → from ≤ k → k < from + RUN → entry block.now k ≢ 0 }
+{
+    let mut free = false;
+    for i in from..from + RUN {
+        free |= entry(block, i) == 0;
+    }
+    !free
 }
 
 /// Gives the table two more entries. The chunks move up to make room.

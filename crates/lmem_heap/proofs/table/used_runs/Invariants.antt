@@ -1,0 +1,6 @@
+use Rattle.std.proofs.Common.{◌≢◌, ℕ, ◌<◌, ◌*◌}
+use Rattle.geos_model.specs.Block.{entry}
+use Rattle.lmem_heap.proofs.table.used_runs.Given as goal
+
+abbrev pub invariant-loop-run : goal.invariant-loop-run
+invariant-loop-run l = (k : ℕ) → k < 16 * l.run → entry l.block k ≢ 0
