@@ -1,5 +1,5 @@
 //! Chunks of a packed heap that come, go and change their length.
-ghost use Rattle.std.specs.Prelude.{◌≡◌, ◌≢◌, ℕ, ◌+◌, ◌-◌, ◌*◌, ◌<◌, ◌≤◌, length, replicate, slice_index_or, slice_set, unwrap_or, MatchBool, [], ◌∷◌, List, Option};
+ghost use Rattle.std.specs.Prelude.{◌≡◌, ◌≢◌, ℕ, ◌+◌, ◌-◌, ◌*◌, ◌^◌, ◌<◌, ◌≤◌, length, replicate, slice_index_or, slice_set, unwrap_or, MatchBool, [], ◌∷◌, List, Option};
 ghost use Rattle.geos_model.specs.Chunks.{cost, cost_of, entry_bytes, resized};
 ghost use Rattle.geos_model.specs.Block.{chunks, entries, entry, handle_word, table_end, total_free};
 ghost use Rattle.geos_model.specs.Heap.{IsHeap, IsOffset};
@@ -167,7 +167,7 @@ pub(crate) fn resize_chunk(block: &mut [u8], i: usize, n: u16)
 }
 
 /// Gives a chunk another length where it stands, and leaves the others where they are. False
-/// where the free chunk behind it is not large enough; then no chunk is changed.
+/// where no free chunk behind it is large enough; then no chunk is changed.
 fn resize_beside(block: &mut [u8], i: usize, n: u16) -> bool
     requires heap { IsHeap block.old }
     requires known { i < entries block.old }
@@ -177,8 +177,12 @@ fn resize_beside(block: &mut [u8], i: usize, n: u16) -> bool
 {
     let at = entry(block, i) as usize;
     let len = get16(block, at - 2) - 2;
+    let (has, size) = (cost(len as usize), cost(n as usize));
+    if has < size && !may_be_free(block, at - 2 + has, size - has) {
+        return false;
+    }
     let hole = Hole::left_by(block, i);
-    match hole.widen(block, cost(n as usize)) {
+    match hole.widen(block, size) {
         Some(wide) => {
             let rest = wide.fill(block, i, len as usize, n);
             rest.give_back(block);
@@ -189,6 +193,18 @@ fn resize_beside(block: &mut [u8], i: usize, n: u16) -> bool
             false
         }
     }
+}
+
+/// Whether the word at an offset may be that of a free chunk of at least this size. It may be
+/// that of a chunk, too, but where the answer is no, the free list need not be searched.
+fn may_be_free(block: &[u8], at: usize, size: usize) -> bool
+    requires { at < 2 ^ 32 }
+{
+    if at + 2 > block.len() {
+        return false;
+    }
+    let word = get16(block, at);
+    word % 4 == 0 && word as usize >= size
 }
 
 /// Gives a chunk another length in front of the first free chunk that is large enough, and

@@ -3,7 +3,7 @@ use Rattle.lmem_raw.specs.Bytes.{part}
 use Rattle.geos_model.specs.Bytes.{word}
 use Rattle.geos_model.specs.Chunks.{cost, entry_bytes, resized}
 use Rattle.geos_model.specs.Block.{chunks, entry}
-use Rattle.geos_model.proofs.Costs.{cost-fours, cost-least}
+use Rattle.geos_model.proofs.Costs.{cost-fours, cost-least, cost-most}
 use Rattle.geos_model.proofs.Sums.{count-chunks}
 use Rattle.geos_model.proofs.Words.{part-shifted}
 use Rattle.geos_model.proofs.Lowest.{set-twice}
@@ -31,8 +31,17 @@ overflow_sub-len c =
     let len_is : c.get16-len.result - 2 ≡ chunk_length b i = omega (arith, word_is) in
     omega (arith, word_is, size)
 
+pub overflow_sub-at-then-has-size : goal.overflow_sub-at-then-has-size
+overflow_sub-at-then-has-size c = let y = says c.args.block.now c.args.i c.requires.heap c.requires.known c.requires.offset in let low = y.low in omega (arith, low, c.entry-at.ensures)
+
+pub overflow_add-at : goal.overflow_add-at
+overflow_add-at c = let most = cost-most (c.get16-len.result - 2) in omega (arith, most, c.cost-has.ensures)
+
+pub may_be_free-requires : goal.may_be_free-requires
+may_be_free-requires c = let most = cost-most (c.get16-len.result - 2) in omega (arith, most, c.cost-has.ensures)
+
 pub widen-requires-clause-fours : goal.widen-requires-clause-fours
-widen-requires-clause-fours c = let f = cost-fours c.args.n in (c.left_by-hole.ensures.fours, omega (arith, f, c.cost.ensures))
+widen-requires-clause-fours c = let f = cost-fours c.args.n in (c.left_by-hole.ensures.fours, omega (arith, f, c.cost-size.ensures))
 
 pub fill-rest-requires-clause-kept : goal.fill-rest-requires-clause-kept
 fill-rest-requires-clause-kept c =
