@@ -27,7 +27,7 @@ first-fixed a ne = rw (ne_eqb a.element_size 0 ne) refl
 pub table-varying : (a : Array) → a.element_size ≡ 0 → table a ≡ offsets (first_at a) a.elements
 table-varying a e = rw (eq-eqb a.element_size 0 e) refl
 
-table-fixed : (a : Array) → a.element_size ≢ 0 → table a ≡ []
+pub table-fixed : (a : Array) → a.element_size ≢ 0 → table a ≡ []
 table-fixed a ne = rw (ne_eqb a.element_size 0 ne) refl
 
 -- where an element begins, by what is before it

@@ -15,7 +15,7 @@ length-join xs = sym (length-flat_map (λ (e : List ℕ). e) xs)
 pub join-append : (xs ys : List (List ℕ)) → join (xs ++ ys) ≡ join xs ++ join ys
 join-append xs ys = flat_map-append (λ (e : List ℕ). e) xs ys
 
-join-split : (xs : List (List ℕ)) (i : ℕ) → join xs ≡ join (take i xs) ++ join (drop i xs)
+pub join-split : (xs : List (List ℕ)) (i : ℕ) → join xs ≡ join (take i xs) ++ join (drop i xs)
 join-split xs i = ap join (sym (take-append-drop i xs)) ∙ join-append (take i xs) (drop i xs)
 
 -- what the first lists take, and what is behind them

@@ -14,23 +14,15 @@ use Rattle.geos_model.specs.Chunks.{need, bytes_of, with_bytes}
 use Rattle.geos_model.specs.Memory.{Memory, new_heap, block_of, locks_of, lowest_handle, chunks_at}
 use Rattle.geos_model.specs.Effects.{Choice, Reference, Effect, come_to, outcome, most_size, most_locks, cannot_grow, growing}
 use Rattle.geos_model.specs.Edits.{Edit, Part, alloc, free, realloc, insert_bytes, delete_bytes, size, refer, contract}
+use Rattle.geos_model.specs.ArrayEdits.{create_array, append_element, insert_element, remove_element, count_elements, refer_element, clear_array, resize_element}
 use Rattle.geos_model.specs.Calls.{changes, enlarges, reads, refers, locks_full, mnew, mlock, unlock, mfree, named_bytes, store, copy}
-use Rattle.geos_model.specs.Legal.{AreBytes, AreChunks, IsMemory}
+use Rattle.geos_model.specs.Legal.{AreBytes, IsMemory}
 use Rattle.geos_model.specs.Keeping.{Keeps, RowsKeepMemory}
 use Rattle.geos_model.proofs.LegalBytes.{bytes-part}
-use Rattle.geos_model.proofs.LegalChunks.{bytes_of-legal, with_new-legal, without-legal, with_resized-legal, with_inserted-legal, with_deleted-legal, with_written-legal, need-without, need-with_deleted, need-with_written}
+use Rattle.geos_model.proofs.Passing.{none-here, none-behind, none-before}
+use Rattle.geos_model.proofs.LegalArrays.{create-kept, append-kept, insert-kept, remove-kept, remove-less, clear-kept, clear-less, resize-kept}
+use Rattle.geos_model.proofs.LegalChunks.{KeepsChunks, NeedsNoMore, bytes_of-legal, with_new-legal, without-legal, with_resized-legal, with_inserted-legal, with_deleted-legal, with_written-legal, need-without, need-with_deleted, need-with_written}
 use Rattle.geos_model.proofs.LegalBlocks.{new_heap-legal, with_block-legal, with_locks-legal, with_chunks-legal, chunks-need, chunks-bytes, locks-most}
-
--- Refusals in order
-
--- where no refusal comes, the first test fails, and of the others none comes
-pub none-here : {R : Type 0} (test : Bool) (refusal : R) (rest : Option R) → (if test then Some refusal else rest) ≡ None → (test ≡ false) × (rest ≡ None)
-none-here true refusal rest h = absurd (let x : Some refusal ≡ None = h in cc)
-none-here false refusal rest h = (refl, h)
-
-pub none-behind : {R : Type 0} (front back : List (Bool × R)) → first_refusal (front ++ back) ≡ None → first_refusal back ≡ None
-none-behind [] back h = h
-none-behind (test ∷ front) back h = none-behind front back (none-here test.0 test.1 (first_refusal (front ++ back)) h).1
 
 -- chunks that are not refused need no more than a block can have
 pub grown-small : (choice : Choice) (memory : Memory) (name : Name) (front : List (Bool × Refusal)) (chunks : List (Option (List ℕ))) →
@@ -50,23 +42,20 @@ outcome-kept effect refused done = come_to-kept (first_refusal effect.refusals) 
 
 -- Calls on the chunks of one block
 
--- an edit of legal chunks gives legal ones
-abbrev KeepsChunks : {A : Type 0} → (List (Option (List ℕ)) → Edit A) → Type 0
-KeepsChunks edit = (cs : List (Option (List ℕ))) → AreChunks cs → AreChunks (edit cs).chunks
-
--- an edit needs no more
-abbrev NeedsNoMore : {A : Type 0} → (List (Option (List ℕ)) → Edit A) → Type 0
-NeedsNoMore edit = (cs : List (Option (List ℕ))) → need (edit cs).chunks ≤ need cs
-
 pub changes-kept : {A : Type 0} (edit : List (Option (List ℕ)) → Edit A) (name : Name) → KeepsChunks edit → NeedsNoMore edit → Keeps (changes edit name)
 changes-kept edit name keep less choice memory legal =
-    let most = chunks-need memory name legal in let l = less (chunks_at memory name) in
-    outcome-kept (changes edit name choice memory) (λ r. legal) (λ fine. with_chunks-legal (λ cs. (edit cs).chunks) memory name keep (omega (arith, most, l)) legal)
+    let cs = chunks_at memory name in
+    outcome-kept (changes edit name choice memory) (λ r. legal) (λ fine.
+    let small : need (edit cs).chunks ≤ most_size = (let most = chunks-need memory name legal in let l = less cs (chunks-bytes memory name legal) fine in omega (arith, most, l)) in
+    with_chunks-legal (λ cs. (edit cs).chunks) memory name (λ are. keep cs are fine small) small legal)
 
 pub enlarges-kept : {A : Type 0} (edit : List (Option (List ℕ)) → Edit A) (name : Name) → KeepsChunks edit → Keeps (enlarges edit name)
 enlarges-kept edit name keep choice memory legal =
-    let e = edit (chunks_at memory name) in
-    outcome-kept (enlarges edit name choice memory) (λ r. legal) (λ fine. with_chunks-legal (λ cs. (edit cs).chunks) memory name keep (grown-small choice memory name e.refusals e.chunks fine) legal)
+    let cs = chunks_at memory name in let e = edit cs in
+    outcome-kept (enlarges edit name choice memory) (λ r. legal) (λ fine.
+    let small = grown-small choice memory name e.refusals e.chunks fine in
+    let passed = none-before e.refusals (growing choice memory name e.chunks) fine in
+    with_chunks-legal (λ cs. (edit cs).chunks) memory name (λ are. keep cs are passed small) small legal)
 
 pub reads-kept : {A : Type 0} (edit : List (Option (List ℕ)) → Edit A) (name : Name) → Keeps (reads edit name)
 reads-kept edit name choice memory legal = outcome-kept (reads edit name choice memory) (λ r. legal) (λ fine. legal)
@@ -107,7 +96,7 @@ store-kept ref i ws are choice memory legal =
     let most = chunks-need memory ref.name legal in let less = need-with_written (chunks_at memory ref.name) ref.chunk (ref.start + i) ws in
     outcome-kept (store ref i ws choice memory) (λ r. legal) (λ fine.
     with_chunks-legal (λ cs. with_bytes cs ref.chunk (with_part (bytes_of cs ref.chunk) (ref.start + i) ws)) memory ref.name
-    (λ cs. with_written-legal cs ref.chunk (ref.start + i) ws are) (omega (arith, most, less)) legal)
+    (with_written-legal (chunks_at memory ref.name) ref.chunk (ref.start + i) ws are) (omega (arith, most, less)) legal)
 
 pub named_bytes-legal : (memory : Memory) (ref : Reference) → IsMemory memory → AreBytes (named_bytes memory ref)
 named_bytes-legal memory ref legal =
@@ -124,14 +113,22 @@ rows_keep_memory = record {
   by_mlock = mlock-kept;
   by_unlock = unlock-kept;
   by_mfree = mfree-kept;
-  by_lalloc = λ name n. enlarges-kept (alloc n) name (λ cs. with_new-legal cs n);
-  by_lfree = λ name c. changes-kept (free c) name (λ cs. without-legal cs c) (λ cs. need-without cs c);
-  by_lrealloc = λ name c n. enlarges-kept (realloc c n) name (λ cs. with_resized-legal cs c n);
-  by_lins = λ name c at n. enlarges-kept (insert_bytes c at n) name (λ cs. with_inserted-legal cs c at n);
-  by_ldel = λ name c at n. changes-kept (delete_bytes c at n) name (λ cs. with_deleted-legal cs c at n) (λ cs. need-with_deleted cs c at n);
+  by_lalloc = λ name n. enlarges-kept (alloc n) name (λ cs legal passed small. with_new-legal cs n legal);
+  by_lfree = λ name c. changes-kept (free c) name (λ cs legal passed small. without-legal cs c legal) (λ cs bytes passed. need-without cs c);
+  by_lrealloc = λ name c n. enlarges-kept (realloc c n) name (λ cs legal passed small. with_resized-legal cs c n legal);
+  by_lins = λ name c at n. enlarges-kept (insert_bytes c at n) name (λ cs legal passed small. with_inserted-legal cs c at n legal);
+  by_ldel = λ name c at n. changes-kept (delete_bytes c at n) name (λ cs legal passed small. with_deleted-legal cs c at n legal) (λ cs bytes passed. need-with_deleted cs c at n);
   by_lsize = λ name c. reads-kept (size c) name;
   by_deref = λ name c n. refers-kept (refer c n) name;
-  by_lcontract = λ name. changes-kept contract name (λ cs h. h) (λ cs. omega arith);
+  by_lcontract = λ name. changes-kept contract name (λ cs legal passed small. legal) (λ cs bytes passed. omega arith);
+  by_canew = λ name k word. enlarges-kept (create_array k) name (create-kept k word);
+  by_caadd = λ name c n. enlarges-kept (append_element c n) name (append-kept c n);
+  by_cains = λ name c i n. enlarges-kept (insert_element c i n) name (insert-kept c i n);
+  by_cadel = λ name c i. changes-kept (remove_element c i) name (remove-kept c i) (remove-less c i);
+  by_cacount = λ name c. reads-kept (count_elements c) name;
+  by_caelt = λ name c i n. refers-kept (refer_element c i n) name;
+  by_cazero = λ name c. changes-kept (clear_array c) name (clear-kept c) (clear-less c);
+  by_caresize = λ name c i n. enlarges-kept (resize_element c i n) name (resize-kept c i n);
   by_load8 = λ ref i choice memory legal. legal;
   by_load16 = λ ref i choice memory legal. legal;
   by_store = store-kept;

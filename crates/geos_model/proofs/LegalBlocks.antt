@@ -62,10 +62,10 @@ pub if-locked : (block : Option Block) (n : ℕ) → n ≤ most_locks → IfSome
 if-locked None n h legal = tt
 if-locked (Some block) n h legal = locked-legal block n h legal
 
-pub if-rechunked : (f : List (Option (List ℕ)) → List (Option (List ℕ))) (block : Option Block) → ((cs : List (Option (List ℕ))) → AreChunks cs → AreChunks (f cs)) →
+pub if-rechunked : (f : List (Option (List ℕ)) → List (Option (List ℕ))) (block : Option Block) → (AreChunks (chunks_in block) → AreChunks (f (chunks_in block))) →
     need (f (chunks_in block)) ≤ most_size → IfSome block IsLegalBlock → IfSome (option_map (rechunked_block (f (chunks_in block))) block) IsLegalBlock
 if-rechunked f None keep small legal = tt
-if-rechunked f (Some block) keep small legal = rechunked-legal (f block.heap.chunks) block (keep block.heap.chunks legal.heap.chunks) small legal
+if-rechunked f (Some block) keep small legal = rechunked-legal (f block.heap.chunks) block (keep legal.heap.chunks) small legal
 
 pub need-small : (block : Option Block) → IfSome block IsLegalBlock → need (chunks_in block) ≤ most_size
 need-small None legal = omega arith
@@ -140,7 +140,7 @@ pub with_locks-legal : (memory : Memory) (name : Name) (n : ℕ) → n ≤ most_
 with_locks-legal memory name n h legal = with_block-legal memory name (option_map (locked_block n) (block_of memory name)) (if-locked (block_of memory name) n h (legal.blocks name)) legal
 
 -- other legal chunks, which need no more than a block can have
-pub with_chunks-legal : (f : List (Option (List ℕ)) → List (Option (List ℕ))) (memory : Memory) (name : Name) → ((cs : List (Option (List ℕ))) → AreChunks cs → AreChunks (f cs)) →
+pub with_chunks-legal : (f : List (Option (List ℕ)) → List (Option (List ℕ))) (memory : Memory) (name : Name) → (AreChunks (chunks_at memory name) → AreChunks (f (chunks_at memory name))) →
     need (f (chunks_at memory name)) ≤ most_size → IsMemory memory → IsMemory (with_chunks memory name (f (chunks_at memory name)))
 with_chunks-legal f memory name keep small legal =
     let block = block_of memory name in

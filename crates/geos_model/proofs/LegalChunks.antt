@@ -8,6 +8,8 @@ use Rattle.std.proofs.lemmas.List.Elements.{All-nil, All-cons, All-append, All-s
 use Rattle.lmem_raw.specs.Bytes.{with_part}
 use Rattle.lmem_raw.proofs.Parts.{length-with_part}
 use Rattle.geos_model.specs.Chunks.{cost, cost_of, used_bytes, sixteens, need, entry_of, chunk_of, bytes_of, lowest_entry, with_entry, with_new, with_bytes, without, resized, with_zeros, without_part, with_resized, with_inserted, with_deleted}
+use Rattle.geos_model.specs.Refusals.{first_refusal}
+use Rattle.geos_model.specs.Edits.{Edit}
 use Rattle.geos_model.specs.Legal.{AreBytes, IsChunk, AreChunks}
 use Rattle.geos_model.proofs.Costs.{cost-mono}
 use Rattle.geos_model.proofs.Sums.{cost-zero}
@@ -113,3 +115,13 @@ need-with_deleted cs c at n = need-with_bytes cs c (without_part (bytes_of cs c)
 
 pub need-with_written : (cs : List (Option (List ℕ))) (c at : ℕ) (ws : List ℕ) → need (with_bytes cs c (with_part (bytes_of cs c) at ws)) ≤ need cs
 need-with_written cs c at ws = need-with_bytes cs c (with_part (bytes_of cs c) at ws) (omega (arith, length-with_part (bytes_of cs c) at ws))
+
+-- Edits of chunks
+
+-- an edit that is not refused gives legal chunks, where a block can have room for them
+abbrev pub KeepsChunks : {A : Type 0} → (List (Option (List ℕ)) → Edit A) → Type 0
+KeepsChunks edit = (cs : List (Option (List ℕ))) → AreChunks cs → first_refusal (edit cs).refusals ≡ None → need (edit cs).chunks ≤ 65520 → AreChunks (edit cs).chunks
+
+-- and it needs no more
+abbrev pub NeedsNoMore : {A : Type 0} → (List (Option (List ℕ)) → Edit A) → Type 0
+NeedsNoMore edit = (cs : List (Option (List ℕ))) → All IsChunk cs → first_refusal (edit cs).refusals ≡ None → need (edit cs).chunks ≤ need cs

@@ -28,8 +28,10 @@ pub mod ArrayRound
 pub mod ChunkItems
 pub mod ArrayTests
 pub mod Laws
+pub mod Passing
 pub mod LegalBytes
 pub mod LegalChunks
 pub mod LegalHeaps
+pub mod LegalArrays
 pub mod LegalBlocks
 pub mod Keeps
