@@ -1,5 +1,5 @@
 -- Where elements stand in a block.
-use Rattle.std.specs.Prelude.{◌≡◌, ℕ, ◌+◌, ◌≤◌, List}
+use Rattle.std.specs.Prelude.{◌≡◌, ℕ, ◌+◌, ◌≤◌, List, length}
 use Rattle.lmem_raw.specs.Bytes.{part}
 use Rattle.geos_model.specs.Block.{chunks, IsPlaced}
 use Rattle.geos_model.specs.Edits.{Part}
@@ -14,6 +14,7 @@ pub record HasElement (block : List ℕ) (c i at len : ℕ) : Type 0 where
   pub begin : ℕ
   pub whole : ℕ
   pub chunk : IsPlaced block c begin whole
+  pub inside : begin + whole ≤ length block
   pub place : at ≡ begin + (part_of block c i).start
   pub long : len ≡ (part_of block c i).len
   pub within : at + len ≤ begin + whole

@@ -27,6 +27,7 @@ returns-clause-place c =
       begin = found.at;
       whole = found.len;
       chunk = f.is.place;
+      inside = within;
       place = ap (λ x. found.at + x) (from ∙ sym (ap (λ x. element_at x i) same));
       long = n ∙ sym (ap (λ x. length (element x i)) same);
       within = omega (arith, upto, e, from, to);
