@@ -11,7 +11,10 @@ pub mod Regrown
 pub mod Room
 pub mod Chunked
 pub mod Edited
+pub mod ArrayRoom
+pub mod ArrayRows
 pub mod Looks
+pub mod ArrayLooks
 pub mod AccessReads
 pub mod AccessWrites
 pub mod AccessCopies

@@ -1,4 +1,4 @@
--- Refusals of blocks and of heaps, as refusals of the kernel.
+-- Refusals of blocks, of heaps and of arrays, as refusals of the kernel.
 use Rattle.std.specs.Prelude.{Result, Ok, Err}
 use Rattle.block_handles.specs.declared.error.HandleError.{HandleError}
 use Rattle.block_handles.specs.declared.error.HandleError.TheVariants as handle
@@ -6,7 +6,11 @@ use Rattle.geos_model.specs.declared.refusal.Refusal.{Refusal}
 use Rattle.lmem_heap.specs.declared.error.BadChunk as heap
 use Rattle.lmem_heap.specs.declared.error.DeleteError.{DeleteError}
 use Rattle.lmem_heap.specs.declared.error.DeleteError.TheVariants as delete
-use Rattle.geos_model.specs.declared.refusal.Refusal.TheVariants.{BadHandle, Locked, BadChunk, Range}
+use Rattle.chunk_array.specs.declared.error.ArrayError.{ArrayError}
+use Rattle.chunk_array.specs.declared.error.ArrayError.TheVariants as array
+use Rattle.chunk_array.specs.declared.error.ElementError.{ElementError}
+use Rattle.chunk_array.specs.declared.error.ElementError.TheVariants as element
+use Rattle.geos_model.specs.declared.refusal.Refusal.TheVariants.{BadHandle, Locked, BadChunk, BadArray, BadElement, Range}
 
 -- why a block was not locked or freed
 abbrev pub of_handle : Result (Unit {0}) HandleError → Result (Unit {0}) Refusal
@@ -24,3 +28,14 @@ abbrev pub of_delete : Result (Unit {0}) DeleteError → Result (Unit {0}) Refus
 of_delete (Ok done) = Ok tt
 of_delete (Err delete.BadChunk) = Err BadChunk
 of_delete (Err delete.Range) = Err Range
+
+-- why no array was found
+abbrev pub of_array : ArrayError → Refusal
+of_array array.BadChunk = BadChunk
+of_array array.BadArray = BadArray
+
+-- why no element was found
+abbrev pub of_element : ElementError → Refusal
+of_element element.BadChunk = BadChunk
+of_element element.BadArray = BadArray
+of_element element.BadElement = BadElement

@@ -26,7 +26,7 @@ fn enlarge(blocks: &mut Blocks, name: Name, size: u16) -> Result<(), Refusal>
 }
 
 /// Makes the room that a heap asked for.
-fn make_room(blocks: &mut Blocks, name: Name, room: RoomError) -> Result<(), Refusal>
+pub(crate) fn make_room(blocks: &mut Blocks, name: Name, room: RoomError) -> Result<(), Refusal>
     requires heap { HoldsHeap blocks.old name }
     requires asks { AsksFor room (size_at blocks.old name) }
     ensures { MakesRoom room result blocks.old blocks.new name }

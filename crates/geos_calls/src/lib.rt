@@ -7,6 +7,8 @@
 
 mod access;
 mod answer;
+mod array_calls;
+mod arrays;
 mod call;
 mod growth;
 mod heaps;

@@ -1,0 +1,39 @@
+use Rattle.std.proofs.Common.{sym, subst}
+use Rattle.geos_model.specs.ArrayCalls as table
+use Rattle.geos_model.specs.ArrayEdits.{resize_element}
+use Rattle.geos_model.specs.Memory.{chunks_at}
+use Rattle.geos_calls.specs.View.{IsLocked, memory_of}
+use Rattle.geos_calls.specs.Kernel.{Calls, HasNoRoomFor}
+use Rattle.geos_calls.proofs.ArrayRows.{comes-calls, comes-kernel, comes-no_room, resize-asks}
+use Rattle.geos_calls.proofs.Locks.{with_store}
+use Rattle.geos_calls.proofs.Views.{locked-there, locked-heap}
+use Rattle.geos_calls.proofs.kernel.Kernel.caresize.Goals as goal
+
+pub change-requires : goal.change-requires
+change-requires c =
+    let old = with_store c.self.inside.blocks in
+    let locked = subst (λ s. IsLocked s c.args.name) (sym c.self.view_is) c.requires in
+    locked-heap old c.args.name c.self.invariant locked
+
+pub invariant_of-self : goal.invariant_of-self
+invariant_of-self c =
+    let old = with_store c.self.inside.blocks in
+    let locked = subst (λ s. IsLocked s c.args.name) (sym c.self.view_is) c.requires in
+    let there = locked-there old c.args.name c.self.invariant locked in
+    comes-kernel (resize_element c.args.c c.args.i c.args.n) old c.change.new.blocks c.args.name c.self.invariant there c.change.result c.change.ensures
+
+pub returns-clause-calls : goal.returns-clause-calls
+returns-clause-calls c =
+    let old = with_store c.self.inside.blocks in
+    let locked = subst (λ s. IsLocked s c.args.name) (sym c.self.view_is) c.requires in
+    let there = locked-there old c.args.name c.self.invariant locked in
+    subst (λ s. Calls (table.caresize c.args.name c.args.c c.args.i c.args.n) c.change.result s (with_store c.change.new.blocks)) c.self.view_is
+    (comes-calls (resize_element c.args.c c.args.i c.args.n) old c.change.new.blocks c.args.name c.self.invariant there c.change.result c.change.ensures)
+
+pub returns-clause-no_room : goal.returns-clause-no_room
+returns-clause-no_room c = λ refused.
+    let old = with_store c.self.inside.blocks in
+    let locked = subst (λ s. IsLocked s c.args.name) (sym c.self.view_is) c.requires in
+    let there = locked-there old c.args.name c.self.invariant locked in
+    subst (λ s. HasNoRoomFor (with_store c.change.new.blocks) c.args.name (resize_element c.args.c c.args.i c.args.n (chunks_at (memory_of s) c.args.name)).chunks) c.self.view_is
+    (comes-no_room (resize_element c.args.c c.args.i c.args.n) old c.change.new.blocks c.args.name c.self.invariant there (resize-asks c.args.c c.args.i c.args.n) c.change.result c.change.ensures refused)

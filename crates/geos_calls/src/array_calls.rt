@@ -1,0 +1,118 @@
+//! The kernel's calls on arrays in chunks.
+
+ghost use Rattle.std.specs.Prelude.{◌≡◌, ◌≤◌, IfOk, Err};
+
+use crate::arrays::{self, ArrayGrowth, of_array, of_element};
+use crate::kernel::Kernel;
+use crate::span::Span;
+use chunk_array::{count, element};
+use geos_model::{Name, Refusal};
+
+impl Kernel {
+    ghost use Rattle.geos_model.specs.declared.refusal.Refusal.TheVariants.{NoRoom};
+    ghost use Rattle.geos_model.specs.ArrayCalls as table;
+    ghost use Rattle.geos_model.specs.ArrayEdits.{create_array, append_element, insert_element, resize_element};
+    ghost use Rattle.geos_model.specs.Memory.{chunks_at};
+    ghost use Rattle.geos_calls.specs.Kernel.{Calls, GivesSpan, HasNoRoomFor};
+    ghost use Rattle.geos_calls.specs.Spans.{IsStanding};
+    ghost use Rattle.geos_calls.specs.View.{IsLocked, memory_of};
+
+    /// Makes an empty array in a new chunk of a locked block, and answers the chunk's handle:
+    /// the lowest one of the block that is free. Its elements will have `element_size` bytes
+    /// each, or sizes of their own where that is 0. Refused as `lalloc` is. Spans into the
+    /// block are stale after it, also where it is refused.
+    pub fn canew(&mut self, name: Name, element_size: u16) -> Result<u16, Refusal>
+        requires { IsLocked self.old name }
+        ensures calls { Calls (table.canew name element_size) result self.old self.new }
+        ensures no_room { result ≡ Err NoRoom → HasNoRoomFor self.new name (create_array element_size (chunks_at (memory_of self.old) name)).chunks }
+    {
+        arrays::create(&mut self.blocks, name, element_size)
+    }
+
+    /// Puts an element of zeros behind the others, of `n` bytes where sizes vary. `BadChunk`
+    /// where no chunk of the block has this handle, `BadArray` where its bytes are no array;
+    /// else refused as `lalloc` is, by the room that the larger array needs, and makes stale
+    /// what `canew` does.
+    pub fn caadd(&mut self, name: Name, c: u16, n: u16) -> Result<(), Refusal>
+        requires { IsLocked self.old name }
+        ensures calls { Calls (table.caadd name c n) result self.old self.new }
+        ensures no_room { result ≡ Err NoRoom → HasNoRoomFor self.new name (append_element c n (chunks_at (memory_of self.old) name)).chunks }
+    {
+        arrays::change(&mut self.blocks, name, ArrayGrowth::Append { c, n })
+    }
+
+    /// Puts an element of zeros at an index, which may be the count, of `n` bytes where sizes
+    /// vary. `BadChunk` and `BadArray` as `caadd`, `BadElement` where the index is above the
+    /// count; else refused, and makes stale, as `caadd`.
+    pub fn cains(&mut self, name: Name, c: u16, i: u16, n: u16) -> Result<(), Refusal>
+        requires { IsLocked self.old name }
+        ensures calls { Calls (table.cains name c i n) result self.old self.new }
+        ensures no_room { result ≡ Err NoRoom → HasNoRoomFor self.new name (insert_element c i n (chunks_at (memory_of self.old) name)).chunks }
+    {
+        arrays::change(&mut self.blocks, name, ArrayGrowth::Insert { c, i, n })
+    }
+
+    /// Takes an element out. `BadChunk` and `BadArray` as `caadd`, `BadElement` where no
+    /// element has this index. Makes stale what `canew` does.
+    pub fn cadel(&mut self, name: Name, c: u16, i: u16) -> Result<(), Refusal>
+        requires { IsLocked self.old name }
+        ensures { Calls (table.cadel name c i) result self.old self.new }
+    {
+        arrays::remove(&mut self.blocks, name, c, i)
+    }
+
+    /// The count of an array's elements. `BadChunk` where no chunk of the block has this
+    /// handle, `BadArray` where its bytes are no array.
+    pub fn cacount(&self, name: Name, c: u16) -> Result<u16, Refusal>
+        requires { IsLocked self.now name }
+        ensures { Calls (table.cacount name c) result self.now self.now }
+    {
+        match count(self.blocks.bytes(name), c) {
+            Ok(n) => Ok(n),
+            Err(why) => Err(of_array(why)),
+        }
+    }
+
+    /// Where an element's bytes lie, which must be `n` at least. `BadChunk` where no chunk of
+    /// the block has this handle, `BadArray` where its bytes are no array, `BadElement` where
+    /// it has no element of this index, `Short` where the element has fewer bytes. The span
+    /// stands until a call makes the chunk's references stale.
+    pub fn caelt(&self, name: Name, c: u16, i: u16, n: u16) -> Result<Span, Refusal>
+        requires { IsLocked self.now name }
+        ensures gives { GivesSpan (table.caelt name c i n) result self.now }
+        ensures stands { IfOk result (λ span. IsStanding self.now span × (n ≤ span.len)) }
+    {
+        let (at, len) = match element(self.blocks.bytes(name), c, i) {
+            Ok(place) => place,
+            Err(why) => return Err(of_element(why)),
+        };
+        if len < n {
+            return Err(Refusal::Short);
+        }
+        Ok(Span {
+            at: self.blocks.place(name) + u32::from(at),
+            len,
+        })
+    }
+
+    /// Takes all elements out; their size stays. `BadChunk` and `BadArray` as `caadd`. Makes
+    /// stale what `canew` does.
+    pub fn cazero(&mut self, name: Name, c: u16) -> Result<(), Refusal>
+        requires { IsLocked self.old name }
+        ensures { Calls (table.cazero name c) result self.old self.new }
+    {
+        arrays::clear(&mut self.blocks, name, c)
+    }
+
+    /// Gives an element of an array whose sizes vary `n` bytes: its first ones that fit, and
+    /// zeros behind them. `BadChunk` as `caadd`, `BadArray` where the chunk's bytes are no
+    /// array or its elements have one size, `BadElement` as `cadel`; else refused, and makes
+    /// stale, as `caadd`.
+    pub fn caresize(&mut self, name: Name, c: u16, i: u16, n: u16) -> Result<(), Refusal>
+        requires { IsLocked self.old name }
+        ensures calls { Calls (table.caresize name c i n) result self.old self.new }
+        ensures no_room { result ≡ Err NoRoom → HasNoRoomFor self.new name (resize_element c i n (chunks_at (memory_of self.old) name)).chunks }
+    {
+        arrays::change(&mut self.blocks, name, ArrayGrowth::Resize { c, i, n })
+    }
+}
