@@ -20,10 +20,10 @@ find_fails : {X : Type 0} (test : X → Bool) (xs : List X) → ((x : X) → tes
 find_fails test [] fails = refl
 find_fails test (first ∷ xs) fails = rw (fails first) (find_fails test xs fails)
 
-last_code : (opcode : Opcode) → code_of opcode ≤ 0x2d
+last_code : (opcode : Opcode) → code_of opcode ≤ 0x35
 last_code Ldi = omega arith
 last_code _ = omega arith
 
 -- a byte past the last code spells none
-pub no_opcode : (code : ℕ) → 0x2d < code → None ≡ opcode_of code
+pub no_opcode : (code : ℕ) → 0x35 < code → None ≡ opcode_of code
 no_opcode code past = sym (find_fails (λ o. code_of o == code) opcodes (λ opcode. ne_eqb (code_of opcode) code (λ same. omega (arith, last_code opcode, same, past))))

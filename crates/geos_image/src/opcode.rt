@@ -101,6 +101,28 @@ pub enum Opcode {
     Copy,
     /// `PLEN wa pb`: wa = the length of pb in bytes.
     Plen,
+    /// `CANEW sa wb n L`: wb = a new chunk with an empty array, whose elements have n bytes, or
+    /// sizes of their own where n is 0; refused with 6, 4; moves chunks.
+    Canew,
+    /// `CAADD sa wb wc L`: puts an element of wc zero bytes behind those of the array wb; where
+    /// elements have one size it has that; refused with 2, 8, 6, 4; moves chunks.
+    Caadd,
+    /// `CAINS sa wb wc wd L`: puts one of wd zero bytes at index wc of the array wb, as `CAADD`
+    /// does; refused with 2, 8, 9, 6, 4; moves chunks.
+    Cains,
+    /// `CADEL sa wb wc L`: takes element wc out of the array wb; refused with 2, 8, 9; moves
+    /// chunks.
+    Cadel,
+    /// `CACOUNT sa wb wc L`: wb = the count of elements of the array wc; refused with 2, 8.
+    Cacount,
+    /// `CAELT sa pb wc wd n L`: pb leads to element wd of the array wc; refused with 2, 8, 9, and
+    /// with 3 where it has fewer than n bytes.
+    Caelt,
+    /// `CAZERO sa wb L`: takes all elements out of the array wb; refused with 2, 8; moves chunks.
+    Cazero,
+    /// `CARESIZE sa wb wc wd L`: gives element wc of the array wb wd bytes; refused with 2, 8, 9,
+    /// 6, 4, and with 8 where elements have one size; moves chunks.
+    Caresize,
 }
 
 /// What a field of an instruction holds.
@@ -191,6 +213,14 @@ impl Opcode {
             Opcode::Movp => 0x2b,
             Opcode::Copy => 0x2c,
             Opcode::Plen => 0x2d,
+            Opcode::Canew => 0x2e,
+            Opcode::Caadd => 0x2f,
+            Opcode::Cains => 0x30,
+            Opcode::Cadel => 0x31,
+            Opcode::Cacount => 0x32,
+            Opcode::Caelt => 0x33,
+            Opcode::Cazero => 0x34,
+            Opcode::Caresize => 0x35,
         }
     }
 
@@ -245,7 +275,15 @@ impl Opcode {
             0x2b => Some(Opcode::Movp),
             0x2c => Some(Opcode::Copy),
             0x2d => Some(Opcode::Plen),
-            0x00 | 0x2e..=0xff => None,
+            0x2e => Some(Opcode::Canew),
+            0x2f => Some(Opcode::Caadd),
+            0x30 => Some(Opcode::Cains),
+            0x31 => Some(Opcode::Cadel),
+            0x32 => Some(Opcode::Cacount),
+            0x33 => Some(Opcode::Caelt),
+            0x34 => Some(Opcode::Cazero),
+            0x35 => Some(Opcode::Caresize),
+            0x00 | 0x36..=0xff => None,
         }
     }
 }

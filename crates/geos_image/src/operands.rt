@@ -83,6 +83,14 @@ impl Opcode {
             Opcode::Movp => fields(Pointer, Pointer, Unused, Unused, Unused, Unused),
             Opcode::Copy => fields(Pointer, Pointer, Unused, Unused, Number, Unused),
             Opcode::Plen => fields(Word, Pointer, Unused, Unused, Unused, Unused),
+            Opcode::Canew => refusable_fields(Slot, Word, Unused, Unused, Number),
+            Opcode::Caadd => refusable_fields(Slot, Word, Word, Unused, Unused),
+            Opcode::Cains => refusable_fields(Slot, Word, Word, Word, Unused),
+            Opcode::Cadel => refusable_fields(Slot, Word, Word, Unused, Unused),
+            Opcode::Cacount => refusable_fields(Slot, Word, Word, Unused, Unused),
+            Opcode::Caelt => refusable_fields(Slot, Pointer, Word, Word, Number),
+            Opcode::Cazero => refusable_fields(Slot, Word, Unused, Unused, Unused),
+            Opcode::Caresize => refusable_fields(Slot, Word, Word, Word, Unused),
         }
     }
 }

@@ -11,6 +11,7 @@ pub mod Fine
 pub mod FineLocks
 pub mod Paid
 pub mod Bounds
+pub mod ArrayAnswers
 pub mod Steps
 pub mod Ends
 pub mod Runs

@@ -2,7 +2,7 @@
 use Rattle.std.specs.Prelude.{◌≡◌, ℕ, ◌+◌, ◌*◌, ◌/◌, ◌^◌, min, Bool, true, false, ◌&&◌, ◌||◌, not, nat_le, ◌==◌, if◌then◌else◌, List, map, Option, Some, None, slice_index, slice_index_or, slice_set, slice_get}
 use Rattle.std.specs.List.{list_all}
 use Rattle.geos_image.specs.declared.opcode.Opcode.{Opcode}
-use Rattle.geos_image.specs.declared.opcode.Opcode.TheVariants.{Ldi, Mov, Add, Sub, And, Shr, Muli, Chk, Jmp, Call, Ret, Mnew, Lalloc, Lsize, Ldb, Ldw, Ldxb, Ldxw, Ldcb, Ldcw, Plen}
+use Rattle.geos_image.specs.declared.opcode.Opcode.TheVariants.{Ldi, Mov, Add, Sub, And, Shr, Muli, Chk, Jmp, Call, Ret, Mnew, Lalloc, Lsize, Ldb, Ldw, Ldxb, Ldxw, Ldcb, Ldcw, Plen, Canew, Cacount}
 use Rattle.geos_image.specs.declared.opcode.Operand.{Operand}
 use Rattle.geos_image.specs.declared.opcode.Operand.TheVariants.{Label}
 use Rattle.geos_image.specs.declared.instr.Instr.{Instr}
@@ -84,6 +84,8 @@ bounded i Ldxw row = with_bound i.a 65535 row
 bounded i Ldcb row = with_bound i.a 255 row
 bounded i Ldcw row = with_bound i.a 65535 row
 bounded i Plen row = with_bound i.a 65535 row
+bounded i Canew row = with_bound i.b 65535 row
+bounded i Cacount row = with_bound i.b 65535 row
 bounded i _ row = row
 
 -- Slots

@@ -1,7 +1,7 @@
 -- The table of uses: what an instruction does with slots and pointers.
 use Rattle.std.specs.Prelude.{◌<◌, ℕ, Bool, true, false}
 use Rattle.geos_image.specs.declared.opcode.Opcode.{Opcode}
-use Rattle.geos_image.specs.declared.opcode.Opcode.TheVariants.{Mnew, Mlock, Munlock, Sne, Lalloc, Lfree, Lrealloc, Lins, Ldel, Lsize, Deref, Lcontract, Ldb, Ldw, Stb, Stw, Ldxb, Ldxw, Stxb, Stxw, Ldcb, Ldcw, Stcb, Stcw, Movp, Copy, Plen}
+use Rattle.geos_image.specs.declared.opcode.Opcode.TheVariants.{Mnew, Mlock, Munlock, Sne, Lalloc, Lfree, Lrealloc, Lins, Ldel, Lsize, Deref, Lcontract, Ldb, Ldw, Stb, Stw, Ldxb, Ldxw, Stxb, Stxw, Ldcb, Ldcw, Stcb, Stcw, Movp, Copy, Plen, Canew, Caadd, Cains, Cadel, Cacount, Caelt, Cazero, Caresize}
 use Rattle.geos_image.specs.declared.instr.Instr.{Instr}
 use Rattle.geos_verify.specs.declared.uses.Kind.{Kind}
 use Rattle.geos_verify.specs.declared.uses.Kind.TheVariants.{MemBlock, VmBlock, DbGroup}
@@ -52,6 +52,14 @@ uses_of Stcw = on_pointer (Stores Word Tested)
 uses_of Movp = on_pointer Duplicates
 uses_of Copy = on_pointer Copies
 uses_of Plen = on_pointer Measures
+uses_of Canew = on_slot Moves
+uses_of Caadd = on_slot Moves
+uses_of Cains = on_slot Moves
+uses_of Cadel = on_slot Moves
+uses_of Cacount = on_slot LooksAt
+uses_of Caelt = record { slot = LooksAt; pointer = Sets }
+uses_of Cazero = on_slot Moves
+uses_of Caresize = on_slot Moves
 uses_of _ = on_slot NoSlot
 
 -- how many bytes a read or a write is wide

@@ -35,6 +35,7 @@ pub(crate) fn bound_result(i: &Instr, row: &mut Row)
         Opcode::Ldb | Opcode::Ldxb | Opcode::Ldcb => set_bound(row, i.a, 255),
         Opcode::Ldw | Opcode::Ldxw | Opcode::Ldcw => set_bound(row, i.a, u16::MAX),
         Opcode::Plen => set_bound(row, i.a, u16::MAX),
+        Opcode::Canew | Opcode::Cacount => set_bound(row, i.b, u16::MAX),
         _ => (),
     }
 }

@@ -62,7 +62,7 @@ pub enum Offset {
 pub enum PointerUse {
     /// Nothing.
     NoPointer,
-    /// Sets pointer b, to a chunk of the block that slot a holds.
+    /// Sets pointer b, to bytes of a chunk of the block that slot a holds.
     Sets,
     /// Sets pointer a to what pointer b is.
     Duplicates,
@@ -143,6 +143,17 @@ pub fn uses_of(opcode: Opcode) -> Uses
         Opcode::Movp => on_pointer(Duplicates),
         Opcode::Copy => on_pointer(Copies),
         Opcode::Plen => on_pointer(Measures),
+        Opcode::Canew => on_slot(Moves),
+        Opcode::Caadd => on_slot(Moves),
+        Opcode::Cains => on_slot(Moves),
+        Opcode::Cadel => on_slot(Moves),
+        Opcode::Cacount => on_slot(LooksAt),
+        Opcode::Caelt => Uses {
+            slot: LooksAt,
+            pointer: Sets,
+        },
+        Opcode::Cazero => on_slot(Moves),
+        Opcode::Caresize => on_slot(Moves),
         _ => on_slot(SlotUse::NoSlot),
     }
 }
