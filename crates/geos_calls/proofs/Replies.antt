@@ -4,7 +4,7 @@ use Rattle.std.specs.Prelude.{Result, Ok, Err}
 use Rattle.geos_model.specs.declared.name.Name.{Name}
 use Rattle.geos_model.specs.declared.refusal.Refusal.{Refusal}
 use Rattle.geos_model.specs.Refusals.{first_refusal}
-use Rattle.geos_model.specs.Edits.{refer}
+use Rattle.geos_model.specs.Edits.{Edit, Part}
 use Rattle.geos_model.specs.Memory.{Memory, locks_of, chunks_at}
 use Rattle.geos_model.specs.Effects.{Choice, Effect, Reference, Answers, outcome, come_to, unchanged}
 use Rattle.geos_model.specs.Effects as effects
@@ -12,12 +12,11 @@ use Rattle.geos_model.specs.Calls as table
 use Rattle.geos_model.proofs.Laws.{willing}
 use Rattle.geos_calls.specs.declared.call.Call.TheVariants.{Within}
 use Rattle.geos_calls.specs.declared.call.BlockCall.{BlockCall}
-use Rattle.geos_calls.specs.declared.call.BlockCall.TheVariants.{Deref}
 use Rattle.geos_calls.specs.declared.call.Reply.{Reply}
 use Rattle.geos_calls.specs.declared.call.Reply.TheVariants.{Done, NotLocked}
 use Rattle.geos_calls.specs.declared.places.Held.{Held}
 use Rattle.geos_calls.specs.declared.span.Span.{Span}
-use Rattle.geos_calls.specs.Answer.{done, Asked, ListState, replied, not_tried, with_given, when_locked, answer, block_answer, state_of, Came, Meets}
+use Rattle.geos_calls.specs.Answer.{done, Asked, ListState, replied, not_tried, with_given, gives, when_locked, answer, block_answer, state_of, Came, Meets}
 use Rattle.geos_calls.specs.Kernel.{Calls, GivesSpan, StandsFor}
 use Rattle.geos_calls.specs.Places.{fresh_held, fresh_places, Tied}
 use Rattle.geos_calls.specs.Spans.{Stands, stale_block, SpansStay}
@@ -104,23 +103,25 @@ gave : (ref : Reference) (m after : Memory) (left : Refusal → Memory) (refusal
 gave ref m after left None given e span s stands = let is : given ≡ Ok ref = sym (ap (λ o. o.0) e) in (is, subst (StandsFor s (Ok span)) is stands)
 gave ref m after left (Some refusal) given e span s stands = let is : given ≡ Err refusal = sym (ap (λ o. o.0) e) in absurd (subst (StandsFor s (Ok span)) is stands)
 
-module _ (s : KernelState) (name : Name) (c n : ℕ) (span : Span) (gives : GivesSpan (table.deref name c n) (Ok span) s) where
+module _ (s : KernelState) (name : Name) (edit : List (Option (List ℕ)) → Edit Part) (span : Span) (given : GivesSpan (table.refers edit name) (Ok span) s) where
   abbrev ref : Reference
-  ref = table.in_block name (refer c n (chunks_at (memory_of s) name)).answer
+  ref = table.in_block name (edit (chunks_at (memory_of s) name)).answer
 
   -- a place has the reference that was given
-  pub dereferenced : (place : ℕ) (held left : List (Option Held)) (before : List (Option Reference)) → left ≡ set held place (Some (record { span = span; name = name })) → Tied s held before
-      → Goes (block_answer name (Deref c n place)) Done s s left before
-  dereferenced place held left before is tied =
+  pub referred : (asked : Asked) (place : ℕ) (held left : List (Option Held)) (before : List (Option Reference))
+      → ((choice : Choice) → asked choice (state_of s before) ≡ gives place (table.refers edit name choice (memory_of s)) (state_of s before))
+      → left ≡ set held place (Some (record { span = span; name = name })) → Tied s held before → Goes asked Done s s left before
+  referred asked place held left before by is tied =
       let m = memory_of s in
-      let e = gives.1.1 in
-      let found = gave ref m m (unchanged m) (first_refusal (refer c n (chunks_at m name)).refusals) gives.0 e span s gives.2 in
+      let choice = given.1.0 in
+      let e = given.1.1 in
+      let found = gave ref m m (unchanged m) (first_refusal (edit (chunks_at m name)).refusals) given.0 e span s given.2 in
       let after = set before place (Some ref) in
-      let came : Came (block_answer name (Deref c n place)) Done s s before after = record {
-        choice = gives.1.0;
-        reply = ap (λ o. done o.0) e ∙ ap done found.0;
-        left = ap (λ o. mid o.1 (with_given before place o.0)) e ∙ ap (λ g. mid m (with_given before place g)) found.0;
-        spans = λ span ref stands fresh. stands;
+      let came : Came asked Done s s before after = record {
+        choice = choice;
+        reply = ap (λ a. a.reply) (by choice) ∙ ap (λ o. done o.0) e ∙ ap done found.0;
+        left = ap (λ a. a.after) (by choice) ∙ ap (λ o. mid o.1 (with_given before place o.0)) e ∙ ap (λ g. mid m (with_given before place g)) found.0;
+        spans = subst (λ a. SpansStay s s a.stale) (sym (by choice)) (λ span ref stands fresh. stands);
       } in
       (after, came, rw is (tied-set s held before place (Some (record { span = span; name = name })) (Some ref) tied (found.1, refl)))
     where

@@ -7,11 +7,15 @@ use Rattle.geos_model.specs.Bytes.{word_bytes}
 use Rattle.geos_model.specs.Chunks.{with_new, with_resized, with_inserted}
 use Rattle.geos_model.specs.Memory.{Memory, locks_of, chunks_at}
 use Rattle.geos_model.specs.Effects.{Choice, Effect, Staleness, Reference, Nothing, outcome}
+use Rattle.geos_model.specs.ArrayEdits.{create_array, append_element, insert_element, resize_element}
 use Rattle.geos_model.specs.Calls as table
+use Rattle.geos_model.specs.ArrayCalls as arrays
 use Rattle.geos_calls.specs.declared.call.Call.{Call}
 use Rattle.geos_calls.specs.declared.call.Call.TheVariants.{Mnew, Mlock, Mfree, Within, Load8, Load16, Store8, Store16, Copy}
 use Rattle.geos_calls.specs.declared.call.BlockCall.{BlockCall}
-use Rattle.geos_calls.specs.declared.call.BlockCall.TheVariants.{Unlock, Lalloc, Lfree, Lrealloc, Lins, Ldel, Lsize, Deref, Lcontract}
+use Rattle.geos_calls.specs.declared.call.BlockCall.TheVariants.{Unlock, Lalloc, Lfree, Lrealloc, Lins, Ldel, Lsize, Deref, Lcontract, Array}
+use Rattle.geos_calls.specs.declared.call.ArrayCall.{ArrayCall}
+use Rattle.geos_calls.specs.declared.call.ArrayCall.TheVariants.{Canew, Caadd, Cains, Cadel, Cacount, Caelt, Cazero, Caresize}
 use Rattle.geos_calls.specs.declared.call.Reply.{Reply}
 use Rattle.geos_calls.specs.declared.call.Reply.TheVariants.{Done, Number, Refused, NotLocked, Stale, TooShort}
 use Rattle.geos_calls.specs.declared.places.Held.{Held}
@@ -76,6 +80,17 @@ gives place effect state = record {
   stale = effect.stale;
 }
 
+-- what a call on the arrays of a locked block comes to
+abbrev pub array_answer : Name → ArrayCall → Asked
+array_answer name (Canew size) choice state = replied number (arrays.canew name size choice state.memory) state
+array_answer name (Caadd c n) choice state = replied done (arrays.caadd name c n choice state.memory) state
+array_answer name (Cains c i n) choice state = replied done (arrays.cains name c i n choice state.memory) state
+array_answer name (Cadel c i) choice state = replied done (arrays.cadel name c i choice state.memory) state
+array_answer name (Cacount c) choice state = replied number (arrays.cacount name c choice state.memory) state
+array_answer name (Caelt c i n place) choice state = gives place (arrays.caelt name c i n choice state.memory) state
+array_answer name (Cazero c) choice state = replied done (arrays.cazero name c choice state.memory) state
+array_answer name (Caresize c i n) choice state = replied done (arrays.caresize name c i n choice state.memory) state
+
 -- what a call on a locked block comes to
 abbrev pub block_answer : Name → BlockCall → Asked
 block_answer name Unlock choice state = replied done (table.unlock name choice state.memory) state
@@ -87,6 +102,7 @@ block_answer name (Ldel c at n) choice state = replied done (table.ldel name c a
 block_answer name (Lsize c) choice state = replied number (table.lsize name c choice state.memory) state
 block_answer name (Deref c n place) choice state = gives place (table.deref name c n choice state.memory) state
 block_answer name Lcontract choice state = replied done (table.lcontract name choice state.memory) state
+block_answer name (Array call) choice state = array_answer name call choice state
 
 -- a call that wants a block to be locked, by how often it is
 abbrev pub when_locked : ℕ → Asked → Asked
@@ -162,6 +178,10 @@ FoundNoRoom Mnew old new = NewHasNoRoom old new
 FoundNoRoom (Within name (Lalloc n)) old new = HasNoRoomFor new name (with_new (chunks_at (memory_of old) name) n)
 FoundNoRoom (Within name (Lrealloc c n)) old new = HasNoRoomFor new name (with_resized (chunks_at (memory_of old) name) c n)
 FoundNoRoom (Within name (Lins c at n)) old new = HasNoRoomFor new name (with_inserted (chunks_at (memory_of old) name) c at n)
+FoundNoRoom (Within name (Array (Canew size))) old new = HasNoRoomFor new name (create_array size (chunks_at (memory_of old) name)).chunks
+FoundNoRoom (Within name (Array (Caadd c n))) old new = HasNoRoomFor new name (append_element c n (chunks_at (memory_of old) name)).chunks
+FoundNoRoom (Within name (Array (Cains c i n))) old new = HasNoRoomFor new name (insert_element c i n (chunks_at (memory_of old) name)).chunks
+FoundNoRoom (Within name (Array (Caresize c i n))) old new = HasNoRoomFor new name (resize_element c i n (chunks_at (memory_of old) name)).chunks
 FoundNoRoom call old new = Unit {0}
 
 -- the model's view of a kernel, and of places with these references

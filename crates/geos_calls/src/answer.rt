@@ -1,18 +1,19 @@
 //! Calls as values: each is answered as the model answers it, and so is every list of them.
 //!
-//! A list has places of its own, into which `Deref` puts references. What a call makes stale
+//! A list has places of its own, into which `Deref` and `Caelt` put references. What a call makes stale
 //! goes out of them, so each access goes by a reference that is good.
 
 ghost use Rattle.std.specs.Prelude.{◌≡◌, length};
 ghost use Rattle.geos_model.specs.declared.refusal.Refusal.TheVariants.{NoRoom};
-ghost use Rattle.geos_calls.specs.Answer.{answer, block_answer, FoundNoRoom, Meets, AllAnswered};
+ghost use Rattle.geos_calls.specs.Answer.{answer, block_answer, array_answer, FoundNoRoom, Meets, AllAnswered};
 ghost use Rattle.geos_calls.specs.Places.{IsTied};
 ghost use Rattle.geos_calls.specs.View.{IsLocked};
 ghost use Rattle.geos_calls.specs.declared.call.Call.TheVariants.{Within, Load8, Load16, Store8, Store16, Copy};
-ghost use Rattle.geos_calls.specs.declared.call.BlockCall.TheVariants.{Unlock, Deref};
+ghost use Rattle.geos_calls.specs.declared.call.ArrayCall.TheVariants.{Caelt};
+ghost use Rattle.geos_calls.specs.declared.call.BlockCall.TheVariants.{Unlock, Deref, Array};
 ghost use Rattle.geos_calls.specs.declared.call.Reply.TheVariants.{Refused};
 
-use crate::call::{BlockCall, Call, Reply};
+use crate::call::{ArrayCall, BlockCall, Call, Reply};
 use crate::kernel::Kernel;
 use crate::places::{Held, Places};
 use geos_model::Name;
@@ -94,6 +95,43 @@ impl Kernel {
                 self.lcontract(name);
                 Reply::Done
             }
+            BlockCall::Array(call) => self.answer_array(name, call, places),
+        }
+    }
+
+    /// Answers a call on the arrays of a locked block.
+    fn answer_array(&mut self, name: Name, call: ArrayCall, places: &mut Places) -> Reply
+        requires { IsLocked self.old name }
+        ensures meets { Meets (array_answer name call) result self.old self.new places.old.held places.new.held }
+        ensures room { result ≡ Refused NoRoom → FoundNoRoom (Within name (Array call)) self.old self.new }
+    {
+        match call {
+            ArrayCall::Canew { element_size } => {
+                places.empty(name);
+                Reply::number(self.canew(name, element_size))
+            }
+            ArrayCall::Caadd { c, n } => {
+                places.empty(name);
+                Reply::done(self.caadd(name, c, n))
+            }
+            ArrayCall::Cains { c, i, n } => {
+                places.empty(name);
+                Reply::done(self.cains(name, c, i, n))
+            }
+            ArrayCall::Cadel { c, i } => {
+                places.empty(name);
+                Reply::done(self.cadel(name, c, i))
+            }
+            ArrayCall::Cacount { c } => Reply::number(self.cacount(name, c)),
+            ArrayCall::Caelt { c, i, n, place } => self.answer_caelt(places, name, c, i, n, place),
+            ArrayCall::Cazero { c } => {
+                places.empty(name);
+                Reply::done(self.cazero(name, c))
+            }
+            ArrayCall::Caresize { c, i, n } => {
+                places.empty(name);
+                Reply::done(self.caresize(name, c, i, n))
+            }
         }
     }
 
@@ -115,6 +153,28 @@ impl Kernel {
         ensures { Meets (block_answer name (Deref c n place)) result self.now self.now places.old.held places.new.held }
     {
         match self.deref(name, c, n) {
+            Ok(span) => {
+                places.fill(place, Held { span, name });
+                Reply::Done
+            }
+            Err(refusal) => Reply::Refused(refusal),
+        }
+    }
+
+    /// Puts a reference to an element into a place.
+    fn answer_caelt(
+        &self,
+        places: &mut Places,
+        name: Name,
+        c: u16,
+        i: u16,
+        n: u16,
+        place: u8,
+    ) -> Reply
+        requires { IsLocked self.now name }
+        ensures { Meets (array_answer name (Caelt c i n place)) result self.now self.now places.old.held places.new.held }
+    {
+        match self.caelt(name, c, i, n) {
             Ok(span) => {
                 places.fill(place, Held { span, name });
                 Reply::Done

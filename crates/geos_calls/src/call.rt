@@ -6,7 +6,7 @@ ghost use Rattle.geos_calls.specs.Answer.{number, done};
 use geos_model::{Name, Refusal};
 
 /// A call of the kernel. Accesses go by the sixteen places of a list, 0 to 15, into which
-/// `Deref` puts references; a place of another number is always empty.
+/// `Deref` and `Caelt` put references; a place of another number is always empty.
 #[derive(Clone, Copy, Debug, PartialEq, Eq)]
 pub enum Call {
     /// Makes a block of global memory, and locks it.
@@ -52,6 +52,31 @@ pub enum BlockCall {
     Deref { c: u16, n: u16, place: u8 },
     /// Moves the chunks of the block together.
     Lcontract,
+    /// A call on the arrays in its chunks.
+    Array(ArrayCall),
+}
+
+/// A call on the arrays in the chunks of a locked block. Elements are named by their indexes
+/// `i`; their lengths `n` are in bytes, and count where sizes vary.
+#[derive(Clone, Copy, Debug, PartialEq, Eq)]
+pub enum ArrayCall {
+    /// Makes an array with no element in a new chunk, of elements of so many bytes each, or of
+    /// varying sizes where that is 0.
+    Canew { element_size: u16 },
+    /// Puts an element of zeros behind the others.
+    Caadd { c: u16, n: u16 },
+    /// Puts one at an index, which may be the count.
+    Cains { c: u16, i: u16, n: u16 },
+    /// Takes an element out.
+    Cadel { c: u16, i: u16 },
+    /// Tells the count of elements.
+    Cacount { c: u16 },
+    /// Puts a reference to an element, which must have `n` bytes at least, into a place.
+    Caelt { c: u16, i: u16, n: u16, place: u8 },
+    /// Takes all elements out.
+    Cazero { c: u16 },
+    /// Gives an element so many bytes.
+    Caresize { c: u16, i: u16, n: u16 },
 }
 
 /// What a call comes to.
@@ -59,7 +84,8 @@ pub enum BlockCall {
 pub enum Reply {
     /// It is done.
     Done,
-    /// It is done, and this is its answer: a handle, a length in bytes, a byte or a word.
+    /// It is done, and this is its answer: a handle, a length in bytes, a count, a byte or
+    /// a word.
     Number(u16),
     /// It was refused, and only references that it makes stale have changed.
     Refused(Refusal),
@@ -69,7 +95,7 @@ pub enum Reply {
     /// stale, or there is no such place. It was not tried.
     Stale,
     /// It goes by a place whose reference has too few bytes, and was not tried. (A chunk that
-    /// has too few bytes for `Deref` is refused by `Short`.)
+    /// has too few bytes for `Deref`, or an element for `Caelt`, is refused by `Short`.)
     TooShort,
 }
 

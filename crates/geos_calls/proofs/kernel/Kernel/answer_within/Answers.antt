@@ -42,3 +42,8 @@ returns-in-Lcontract-clause-meets c =
     subst (λ call. Meets (block_answer c.args.name call) Done c.args.self.now c.lcontract.new.self c.args.places.now.held c.empty-in-Lcontract.new.self.held) (sym c.in-Lcontract.is)
     (moved done (table.lcontract c.args.name) c.args.self.now c.lcontract.new.self (Ok tt) Done refl c.lcontract.ensures.calls (block_answer c.args.name (Lcontract)) c.args.name
     c.args.places.now.held c.empty-in-Lcontract.new.self.held (λ choice before. refl) (λ choice. refl) c.empty-in-Lcontract.ensures)
+
+pub returns-in-Array-clause-meets : goal.returns-in-Array-clause-meets
+returns-in-Array-clause-meets c =
+    subst (λ call. Meets (block_answer c.args.name call) c.answer_array.result c.args.self.now c.answer_array.new.self c.args.places.now.held c.answer_array.new.places.held) (sym c.in-Array.is)
+    c.answer_array.ensures.meets
