@@ -1,0 +1,4 @@
+pub mod Examples
+pub mod LineLaws
+pub mod NumberLaws
+pub mod WordLaws

@@ -1,0 +1,13 @@
+//! The lines of a text, the words of a line, the number of a word.
+//!
+//! A line ends with LF, CR LF or the end of the text. Its words are parted by spaces and tabs,
+//! and a comment begins at a `;`.
+#![tactic(auto)]
+
+mod lines;
+mod numbers;
+mod words;
+
+pub use lines::first_line;
+pub use numbers::{NumberError, number, number_up_to};
+pub use words::{first_word, is_blank, without_comment};
