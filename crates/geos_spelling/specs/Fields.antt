@@ -1,0 +1,60 @@
+-- The operands of an instruction in a text: which fields they are of, in which order, and in
+-- which form.
+use Rattle.std.specs.Prelude.{ℕ, Bool, true, false, List, [], ◌∷◌, filter, Option, Some, None}
+use Rattle.geos_image.specs.declared.opcode.Opcode.{Opcode}
+use Rattle.geos_image.specs.declared.opcode.Operand.{Operand}
+use Rattle.geos_image.specs.declared.opcode.Operand.TheVariants.{Unused, Word, Counter, Slot, Pointer, Number, Shift, Routine, Label}
+use Rattle.geos_image.specs.declared.instr.Instr.{Instr}
+use Rattle.geos_image.specs.Opcodes.{operands_of}
+use Rattle.geos_spelling.specs.declared.fields.Field.{Field}
+use Rattle.geos_spelling.specs.declared.fields.Field.TheVariants.{A, B, C, D, Imm, Target}
+
+-- the fields in the order of their operands in a text
+abbrev pub fields : List Field
+fields = A ∷ B ∷ C ∷ D ∷ Imm ∷ Target ∷ []
+
+-- what a field of an opcode's instructions holds
+abbrev pub operand_at : Opcode → Field → Operand
+operand_at opcode A = (operands_of opcode).a
+operand_at opcode B = (operands_of opcode).b
+operand_at opcode C = (operands_of opcode).c
+operand_at opcode D = (operands_of opcode).d
+operand_at opcode Imm = (operands_of opcode).imm
+operand_at opcode Target = (operands_of opcode).target
+
+-- a text writes an operand for each field that is used
+abbrev pub is_written : Operand → Bool
+is_written Unused = false
+is_written Word = true
+is_written Counter = true
+is_written Slot = true
+is_written Pointer = true
+is_written Number = true
+is_written Shift = true
+is_written Routine = true
+is_written Label = true
+
+-- the fields whose operands stand behind an opcode's word, in their order
+abbrev pub written_fields : Opcode → List Field
+written_fields opcode = filter (λ field. is_written (operand_at opcode field)) fields
+
+-- the number in a field
+abbrev pub value_at : Instr → Field → ℕ
+value_at i A = i.a
+value_at i B = i.b
+value_at i C = i.c
+value_at i D = i.d
+value_at i Imm = i.imm
+value_at i Target = i.target
+
+-- registers are written as a letter and a digit: w, k, s and p; other operands have no letter
+abbrev pub register_letter : Operand → Option ℕ
+register_letter Unused = None
+register_letter Word = Some 119
+register_letter Counter = Some 107
+register_letter Slot = Some 115
+register_letter Pointer = Some 112
+register_letter Number = None
+register_letter Shift = None
+register_letter Routine = None
+register_letter Label = None

@@ -1,0 +1,73 @@
+//! The operands of an instruction in a text. Behind the word of its opcode stand the operands of
+//! the fields a, b, c, d, imm and target, in this order, without those of unused fields.
+
+ghost use Rattle.std.specs.Prelude.{◌≡◌};
+ghost use Rattle.geos_spelling.specs.Fields.{operand_at, value_at, register_letter};
+
+use geos_image::{Instr, Opcode, Operand};
+
+/// A field of an instruction.
+#[derive(Clone, Copy, Debug, PartialEq, Eq)]
+pub enum Field {
+    A,
+    B,
+    C,
+    D,
+    Imm,
+    Target,
+}
+
+/// The fields in the order of their operands in a text.
+pub const FIELDS: [Field; 6] = [
+    Field::A,
+    Field::B,
+    Field::C,
+    Field::D,
+    Field::Imm,
+    Field::Target,
+];
+
+/// What a field of the opcode's instructions holds. A text writes nothing for `Operand::Unused`,
+/// the letter and the digit of a register, a number in decimal, a routine's name, or a label.
+pub fn operand_at(opcode: Opcode, field: Field) -> Operand
+    ensures { result ≡ operand_at opcode field }
+{
+    let operands = opcode.operands();
+    match field {
+        Field::A => operands.a,
+        Field::B => operands.b,
+        Field::C => operands.c,
+        Field::D => operands.d,
+        Field::Imm => operands.imm,
+        Field::Target => operands.target,
+    }
+}
+
+/// The number in a field.
+pub fn value_at(instr: &Instr, field: Field) -> u16
+    ensures { result ≡ value_at instr.now field }
+{
+    match field {
+        Field::A => u16::from(instr.a),
+        Field::B => u16::from(instr.b),
+        Field::C => u16::from(instr.c),
+        Field::D => u16::from(instr.d),
+        Field::Imm => instr.imm,
+        Field::Target => instr.target,
+    }
+}
+
+/// The letter of a register; `None` for an operand that is no register. The registers of a kind
+/// are numbered below `Operand::limit`.
+pub fn register_letter(operand: Operand) -> Option<u8>
+    ensures { result ≡ register_letter operand }
+{
+    match operand {
+        Operand::Word => Some(b'w'),
+        Operand::Counter => Some(b'k'),
+        Operand::Slot => Some(b's'),
+        Operand::Pointer => Some(b'p'),
+        Operand::Unused | Operand::Number | Operand::Shift | Operand::Routine | Operand::Label =>
+            None,
+    }
+}
