@@ -6,7 +6,7 @@ use Rattle.std.proofs.lemmas.List.Elements.{All-from_recursion}
 use Rattle.geos_image.specs.Parts.{Parts}
 use Rattle.geos_machine.specs.Runs.{admits}
 use Rattle.geos_cli.specs.declared.script.Call.{Call}
-use Rattle.geos_cli.specs.Text.{is_empty}
+use Rattle.geos_text.specs.Words.{is_empty}
 use Rattle.geos_cli.specs.Script.{IsAdmitted, routine_named, registers_of, call_named, call_of, calls_of, is_bad, said}
 
 -- a line that says nothing

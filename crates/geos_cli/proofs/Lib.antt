@@ -2,11 +2,8 @@ pub mod Calls
 pub mod Digits
 pub mod Examples
 pub mod HexLines
-pub mod Lines
-pub mod Numbers
 pub mod Parts
 pub mod Prints
 pub mod Registers
 pub mod Searches
 pub mod Sessions
-pub mod Words

@@ -3,7 +3,7 @@ use Rattle.std.proofs.Common.{◌≡◌, ◌<◌, ◌≤◌, ℕ, zero, suc, ◌
 use Rattle.std.proofs.lemmas.Grind.{common_steps}
 use Rattle.std.proofs.lemmas.List.{drop-set-lt, drop-drop}
 use Rattle.std.specs.Prelude.{nat_le, cond, option_map}
-use Rattle.geos_cli.specs.Text.{number_of}
+use Rattle.geos_text.specs.Numbers.{number_of}
 use Rattle.geos_cli.specs.Script.{numbers_of, registers_of}
 
 map-front : (front : List ℕ) (n : ℕ) (ns : Option (List ℕ)) → option_map (λ ms. front ++ ms) (option_map (λ ms. n ∷ ms) ns) ≡ option_map (λ ms. (front ++ n ∷ []) ++ ms) ns

@@ -6,7 +6,7 @@ use Rattle.std.specs.Char.{digit_value}
 use Rattle.std.specs.Cmp.Lexicographic.{pointwise}
 use Rattle.geos_cli.specs.declared.fault.ScriptFault.{ScriptFault}
 use Rattle.geos_cli.specs.declared.fault.ScriptFault.TheVariants.{BadHex, Memory}
-use Rattle.geos_cli.specs.Text.{is_blank, words}
+use Rattle.geos_text.specs.Words.{is_blank, words}
 
 -- the value of a hexadecimal digit of either case
 abbrev pub digit_of : ℕ → Option ℕ

@@ -3,4 +3,3 @@ pub mod Fault
 pub mod Hex
 pub mod Script
 pub mod Session
-pub mod Text

@@ -16,7 +16,8 @@ use Rattle.geos_machine.specs.Runs.{admits, Ran}
 use Rattle.geos_cli.specs.declared.script.Call.{Call}
 use Rattle.geos_cli.specs.declared.fault.ScriptFault.{ScriptFault}
 use Rattle.geos_cli.specs.declared.fault.ScriptFault.TheVariants.{TooLong, BadHex, BadImage, Rejected, BadScript, Read, Write, Memory}
-use Rattle.geos_cli.specs.Text.{is_empty, words, without_comment, number_of}
+use Rattle.geos_text.specs.Words.{is_empty, words, without_comment}
+use Rattle.geos_text.specs.Numbers.{number_of}
 
 -- the machine may be asked for the call
 abbrev pub IsAdmitted : Parts → Call → Type 0

@@ -7,7 +7,7 @@ ghost use Rattle.geos_cli.specs.Hex.{digit_of, bytes_of, digits_in, is_hex_line,
 ghost use Rattle.geos_cli.specs.Hex.{hex_fault, image_bytes, script_lines, Takes, IsBadHex};
 
 use crate::fault::ScriptFault;
-use crate::text::{first_line, first_word, is_blank};
+use geos_text::{first_line, first_word, is_blank};
 use std::alloc::{AllocError, Global};
 
 fn digit(byte: u8) -> Option<u8>

@@ -6,7 +6,6 @@
 //! | session | `run_session`: reads a session to its end, and runs it |
 //! | script | `run_script`: runs the calls of a script, and prints what they put out |
 //! | hex | the image in hexadecimal digits, up to the line `end` |
-//! | text | the lines of a text, the words of a line, the number of a word |
 //! | fault | `ScriptFault`: why a session or a script ended early |
 //! | counted | `Counted`: a reader or a writer that counts its calls and those that failed |
 #![tactic(auto)]
@@ -16,7 +15,6 @@ mod fault;
 mod hex;
 mod script;
 mod session;
-mod text;
 
 pub use crate::counted::Counted;
 pub use crate::fault::ScriptFault;

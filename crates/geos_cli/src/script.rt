@@ -12,11 +12,11 @@ ghost use Rattle.geos_cli.specs.Script.{calls_of, first_bad, IsBadLine, IsBadIma
 ghost use Rattle.geos_cli.specs.Script.{RanCalls, StoppedCalls, RanScript, StoppedScript, ScriptEndsBy};
 ghost use Rattle.geos_image.specs.Reading.{image_at};
 ghost use Rattle.geos_verify.specs.Rules.{Accepted};
-ghost use Rattle.geos_cli.specs.Text.{words};
+ghost use Rattle.geos_text.specs.Words.{words};
 
 use crate::counted::Counted;
 use crate::fault::ScriptFault;
-use crate::text::{first_line, first_word, number, without_comment};
+use geos_text::{first_line, first_word, number, without_comment};
 use geos_calls::Kernel;
 use geos_image::Image;
 use geos_machine::{Machine, admits};

@@ -1,6 +1,7 @@
 use Rattle.std.proofs.Common.{length-set, arith, sym, ap, ◌∙◌, ◌≡◌, ◌++◌, ◌∷◌, length, ◌+◌, ◌<◌, take, set}
 use Rattle.std.specs.Prelude.{option_map, Some}
-use Rattle.geos_cli.specs.Text.{words, number_of}
+use Rattle.geos_text.specs.Words.{words}
+use Rattle.geos_text.specs.Numbers.{number_of}
 use Rattle.geos_cli.specs.Script.{numbers_of}
 use Rattle.geos_cli.proofs.Registers.{numbers-more, numbers-end, zeros-behind}
 use Rattle.geos_cli.proofs.script.registers_of.Goals as goal

@@ -1,6 +1,6 @@
 use Rattle.std.proofs.Common.{◌≡◌, ◌+◌, ◌-◌, ◌++◌, length, replicate, take, drop}
 use Rattle.std.specs.Prelude.{option_map}
-use Rattle.geos_cli.specs.Text.{words}
+use Rattle.geos_text.specs.Words.{words}
 use Rattle.geos_cli.specs.Script.{numbers_of}
 use Rattle.geos_cli.proofs.script.registers_of.Given as goal
 
