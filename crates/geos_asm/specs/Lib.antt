@@ -1,0 +1,10 @@
+pub mod Faults
+pub mod Names
+pub mod Tables
+pub mod Lines
+pub mod Operands
+pub mod Readings
+pub mod Items
+pub mod Headers
+pub mod Declarations
+pub mod Texts
