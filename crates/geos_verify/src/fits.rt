@@ -24,7 +24,9 @@ pub fn within_bounds(words: &[u16; 8], bounds: &[u16; 8]) -> bool
     low & high
 }
 
-fn slot_fits(r: SlotState, s: SlotState) -> bool
+/// Whether a slot in state r is as wanted by state s: in that state, or marked where that is not
+/// wanted.
+pub fn slot_fits(r: SlotState, s: SlotState) -> bool
     ensures { result ≡ slot_fits r s }
 {
     r == s
@@ -115,7 +117,8 @@ pub(crate) fn is_plain(row: &Row) -> bool
     are_empty(&row.slots) && are_stale(&row.pointers)
 }
 
-fn leads_nowhere(slots: &[SlotState; 4], pointer: Option<Pointer>) -> bool
+/// Whether the pointer leads into a slot that is empty.
+pub fn leads_nowhere(slots: &[SlotState; 4], pointer: Option<Pointer>) -> bool
     ensures { result ≡ leads_nowhere slots.now pointer }
 {
     match pointer {

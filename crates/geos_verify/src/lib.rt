@@ -19,6 +19,6 @@ mod uses;
 
 pub use checked::{Checked, check};
 pub use edges::after;
-pub use fits::within_bounds;
+pub use fits::{leads_nowhere, slot_fits, within_bounds};
 pub use rule::{Reject, Rule};
 pub use uses::{Kind, Offset, PointerUse, SlotUse, Uses, Width, uses_of};

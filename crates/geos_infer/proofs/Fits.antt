@@ -1,0 +1,116 @@
+-- Fitting is an order on rows.
+use Rattle.std.proofs.Common.{◌≡◌, ℕ, Bool, true, false, Option, Some, None, refl, ◌∙◌, arith}
+use Rattle.std.specs.Prelude.{◌&&◌, ◌==◌, nat_le}
+use Rattle.std.proofs.lemmas.Bool.{and_parts, leb-true, le-leb, eqb-true, eq-eqb}
+use Rattle.geos_image.specs.declared.row.Row.{Row}
+use Rattle.geos_image.specs.declared.row.Pointer.{Pointer}
+use Rattle.geos_image.specs.declared.row.SlotState.{SlotState}
+use Rattle.geos_image.specs.declared.row.SlotState.TheVariants.{Empty, Mem, Vm, VmMarked, Db, DbMarked}
+use Rattle.geos_verify.specs.Lists.{all2}
+use Rattle.geos_verify.specs.Rows.{slot_fits, pointer_fits, pair_fits, fits}
+use Rattle.geos_infer.proofs.Pairwise.{both, all2-trans, all2-refl}
+
+-- the parts of the test
+pub record Fitting (r s : Row) : Type 0 where
+  pub bounds : all2 nat_le r.bounds s.bounds ≡ true
+  pub slots : all2 slot_fits r.slots s.slots ≡ true
+  pub pointers : all2 pointer_fits r.pointers s.pointers ≡ true
+  pub pairs : all2 pair_fits r.pairs s.pairs ≡ true
+
+pub fitting : (r s : Row) → fits r s ≡ true → Fitting r s
+fitting r s h =
+    let bounds = all2 nat_le r.bounds s.bounds in
+    let slots = all2 slot_fits r.slots s.slots in
+    let pointers = all2 pointer_fits r.pointers s.pointers in
+    let a = and_parts (bounds && slots && pointers) (all2 pair_fits r.pairs s.pairs) h in
+    let b = and_parts (bounds && slots) pointers a.0 in
+    let c = and_parts bounds slots b.0 in
+    record { bounds = c.0; slots = c.1; pointers = b.1; pairs = a.1 }
+
+pub fits-from : (r s : Row) → Fitting r s → fits r s ≡ true
+fits-from r s f =
+    let bounds = all2 nat_le r.bounds s.bounds in
+    let slots = all2 slot_fits r.slots s.slots in
+    let pointers = all2 pointer_fits r.pointers s.pointers in
+    let pairs = all2 pair_fits r.pairs s.pairs in
+    both (bounds && slots && pointers) pairs (both (bounds && slots) pointers (both bounds slots f.bounds f.slots) f.pointers) f.pairs
+
+-- Bounds
+
+pub le-trans : (x y z : ℕ) → nat_le x y ≡ true → nat_le y z ≡ true → nat_le x z ≡ true
+le-trans x y z h j = let p = leb-true x y h in let q = leb-true y z j in le-leb x z (omega arith)
+
+pub le-refl : (x : ℕ) → nat_le x x ≡ true
+le-refl x = le-leb x x (omega arith)
+
+-- Slots
+
+pub slot-refl : (x : SlotState) → slot_fits x x ≡ true
+slot-refl Empty = refl
+slot-refl Mem = refl
+slot-refl Vm = refl
+slot-refl VmMarked = refl
+slot-refl Db = refl
+slot-refl DbMarked = refl
+
+slot-trans : (x y z : SlotState) → slot_fits x y ≡ true → slot_fits y z ≡ true → slot_fits x z ≡ true
+slot-trans Empty Empty z h j = j
+slot-trans Mem Mem z h j = j
+slot-trans Vm Vm z h j = j
+slot-trans VmMarked VmMarked z h j = j
+slot-trans VmMarked Vm Vm h j = refl
+slot-trans Db Db z h j = j
+slot-trans DbMarked DbMarked z h j = j
+slot-trans DbMarked Db Db h j = refl
+slot-trans _ _ _ h j = absurd cc
+
+-- Pointers
+
+pub pointer-none : (p : Option Pointer) → pointer_fits p None ≡ true
+pointer-none None = refl
+pointer-none (Some p) = refl
+
+pub pointer-refl : (p : Option Pointer) → pointer_fits p p ≡ true
+pointer-refl None = refl
+pointer-refl (Some p) = both (p.slot == p.slot) (nat_le p.least p.least) (eq-eqb p.slot p.slot refl) (le-refl p.least)
+
+pointer-trans : (p q o : Option Pointer) → pointer_fits p q ≡ true → pointer_fits q o ≡ true → pointer_fits p o ≡ true
+pointer-trans p q None h j = pointer-none p
+pointer-trans p None (Some o) h j = absurd cc
+pointer-trans None (Some q) (Some o) h j = absurd cc
+pointer-trans (Some p) (Some q) (Some o) h j =
+    let a = and_parts (p.slot == q.slot) (nat_le q.least p.least) h in
+    let b = and_parts (q.slot == o.slot) (nat_le o.least q.least) j in
+    both (p.slot == o.slot) (nat_le o.least p.least) (eq-eqb p.slot o.slot (eqb-true p.slot q.slot a.0 ∙ eqb-true q.slot o.slot b.0)) (le-trans o.least q.least p.least b.1 a.1)
+
+-- Pairs
+
+pub pair-refl : (a : Bool) → pair_fits a a ≡ true
+pair-refl true = refl
+pair-refl false = refl
+
+pair-trans : (a b c : Bool) → pair_fits a b ≡ true → pair_fits b c ≡ true → pair_fits a c ≡ true
+pair-trans true b c h j = refl
+pair-trans false true c h j = absurd cc
+pair-trans false false c h j = j
+
+-- Rows
+
+pub fits-trans : (r s t : Row) → fits r s ≡ true → fits s t ≡ true → fits r t ≡ true
+fits-trans r s t h j =
+    let p = fitting r s h in
+    let q = fitting s t j in
+    fits-from r t (record {
+      bounds = all2-trans nat_le le-trans r.bounds s.bounds t.bounds p.bounds q.bounds;
+      slots = all2-trans slot_fits slot-trans r.slots s.slots t.slots p.slots q.slots;
+      pointers = all2-trans pointer_fits pointer-trans r.pointers s.pointers t.pointers p.pointers q.pointers;
+      pairs = all2-trans pair_fits pair-trans r.pairs s.pairs t.pairs p.pairs q.pairs;
+    })
+
+pub fits-refl : (r : Row) → fits r r ≡ true
+fits-refl r = fits-from r r (record {
+  bounds = all2-refl nat_le le-refl r.bounds;
+  slots = all2-refl slot_fits slot-refl r.slots;
+  pointers = all2-refl pointer_fits pointer-refl r.pointers;
+  pairs = all2-refl pair_fits pair-refl r.pairs;
+})

@@ -1,0 +1,5 @@
+pub mod Pairwise
+pub mod Eight
+pub mod Fits
+pub mod Joining
+pub mod Cleaning
