@@ -3,3 +3,5 @@ pub mod Eight
 pub mod Fits
 pub mod Joining
 pub mod Cleaning
+pub mod After
+pub mod Passing
