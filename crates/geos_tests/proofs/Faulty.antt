@@ -1,6 +1,6 @@
 -- The steps that are faults, each on a state where one thing alone is wrong.
 use Rattle.std.proofs.Common.{◌≡◌, refl}
-use Rattle.geos_image.specs.declared.opcode.Opcode.TheVariants.{Mnew, Mlock, Munlock, Sne, Lalloc, Lsize, Deref, Lcontract, Ldb, Ldw, Stb, Stxw, Ldxb, Ldcb, Stcw, Movp, Copy, Plen}
+use Rattle.geos_image.specs.declared.opcode.Opcode.TheVariants.{Mnew, Mlock, Munlock, Sne, Lalloc, Lsize, Deref, Lcontract, Ldb, Ldw, Stb, Stxw, Ldxb, Ldcb, Stcw, Movp, Copy, Plen, Caadd, Cadel, Cacount, Caelt}
 use Rattle.geos_image.specs.declared.instr.Instr.{Instr}
 use Rattle.geos_semantics.specs.Model.{Outcome, Fault, step}
 use Rattle.geos_tests.proofs.Images.{instr}
@@ -37,11 +37,15 @@ pub record Faulty : Type 0 where
   pub contract_empty : stepped (instr Lcontract 3 0 0 0 0) ≡ Fault
   pub look_at_empty : stepped (instr Lsize 3 6 0 0 7) ≡ Fault
   pub refer_into_empty : stepped (instr Deref 3 3 0 0 7) ≡ Fault
+  pub change_array_in_empty : stepped (instr Caadd 3 0 2 0 7) ≡ Fault
+  pub count_in_empty : stepped (instr Cacount 3 6 0 0 7) ≡ Fault
+  pub element_in_empty : stepped (instr Caelt 3 3 0 0 7) ≡ Fault
   pub unlock_other_kind : stepped_on_vm (instr Munlock 3 0 0 0 0) ≡ Fault
   pub compare_other_kind : stepped_on_vm (instr Sne 0 3 0 0 7) ≡ Fault
   pub write_unmarked : stepped_on_vm (instr Stb 6 3 0 0 0) ≡ Fault
   pub copy_to_unmarked : stepped_on_vm (instr Copy 3 0 0 0 0) ≡ Fault
   pub move_unmarked : stepped_on_vm (instr Lalloc 3 6 2 0 7) ≡ Fault
+  pub change_array_unmarked : stepped_on_vm (instr Cadel 3 0 2 0 7) ≡ Fault
 
 pub examples : Faulty
 examples = record {
@@ -69,9 +73,13 @@ examples = record {
   contract_empty = refl;
   look_at_empty = refl;
   refer_into_empty = refl;
+  change_array_in_empty = refl;
+  count_in_empty = refl;
+  element_in_empty = refl;
   unlock_other_kind = refl;
   compare_other_kind = refl;
   write_unmarked = refl;
   copy_to_unmarked = refl;
   move_unmarked = refl;
+  change_array_unmarked = refl;
 }

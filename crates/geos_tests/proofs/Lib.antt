@@ -8,4 +8,7 @@ pub mod Runs
 pub mod Executed
 pub mod OnSlots
 pub mod OnPointers
+pub mod OnArrays
+pub mod ArrayImages
+pub mod ArrayRuns
 pub mod Faulty
