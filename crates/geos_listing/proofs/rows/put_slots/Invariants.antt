@@ -1,0 +1,7 @@
+use Rattle.std.specs.Prelude.{◌≡◌, ◌++◌, ℕ, slice_index_or}
+use Rattle.geos_image.specs.declared.row.SlotState.TheVariants.{Empty}
+use Rattle.geos_listing.specs.Rows.{texts_below, slot_item}
+use Rattle.geos_listing.proofs.rows.put_slots.Given as goal
+
+abbrev pub invariant-loop-i : goal.invariant-loop-i
+invariant-loop-i l = l.out.items ≡ l.initial.out.items ++ texts_below l.i (λ (i : ℕ). slot_item i (slice_index_or l.slots i Empty))

@@ -1,0 +1,54 @@
+-- How a row is written: by the items in which it differs from the open row.
+use Rattle.std.specs.Prelude.{ℕ, zero, suc, Bool, true, false, ◌==◌, if◌then◌else◌, List, [], ◌∷◌, ◌++◌, length, Option, Some, None, slice_index, slice_index_or, codes, decimal}
+use Rattle.geos_image.specs.declared.row.Row.{Row}
+use Rattle.geos_image.specs.declared.row.Pointer.{Pointer}
+use Rattle.geos_image.specs.declared.row.SlotState.{SlotState}
+use Rattle.geos_image.specs.declared.row.SlotState.TheVariants.{Empty, Mem, Vm, VmMarked, Db, DbMarked}
+
+-- the texts of the numbers below n, one after another
+unfoldable pub texts_below : ℕ → (ℕ → List ℕ) → List ℕ
+texts_below zero text = []
+texts_below (suc n) text = texts_below n text ++ text n
+
+-- a word's bound, unless it is the greatest word
+abbrev pub bound_item : ℕ → ℕ → List ℕ
+bound_item i bound = if bound == 65535 then [] else codes " w" ++ decimal i ++ codes "<=" ++ decimal bound
+
+-- a slot that is held, and what it holds
+abbrev pub held_item : ℕ → List ℕ → List ℕ
+held_item i word = codes " s" ++ decimal i ++ codes "=" ++ word
+
+-- what a slot holds, unless it is empty; `!` says that it is marked
+abbrev pub slot_item : ℕ → SlotState → List ℕ
+slot_item i Empty = []
+slot_item i Mem = held_item i (codes "mem")
+slot_item i Vm = held_item i (codes "vm")
+slot_item i VmMarked = held_item i (codes "vm!")
+slot_item i Db = held_item i (codes "db")
+slot_item i DbMarked = held_item i (codes "db!")
+
+-- where a pointer leads, and its least length, unless nothing is known of it
+abbrev pub pointer_item : ℕ → Option Pointer → List ℕ
+pointer_item i None = []
+pointer_item i (Some p) = codes " p" ++ decimal i ++ codes "=s" ++ decimal p.slot ++ codes ":" ++ decimal p.least
+
+-- two slots, if they are known to hold different blocks
+abbrev pub pair_item : ℕ × ℕ → Bool → List ℕ
+pair_item pair false = []
+pair_item pair true = codes " s" ++ decimal pair.0 ++ codes "#s" ++ decimal pair.1
+
+-- the slots of each pair of a row
+abbrev pub pair_slots : List (ℕ × ℕ)
+pair_slots = (0, 1) ∷ (0, 2) ∷ (0, 3) ∷ (1, 2) ∷ (1, 3) ∷ (2, 3) ∷ []
+
+-- the items in which a row differs from the open row: bounds, slots, pointers and pairs
+unfoldable pub row_items : Row → List ℕ
+row_items row =
+    texts_below 8 (λ i. bound_item i (slice_index row.bounds i))
+    ++ texts_below 4 (λ i. slot_item i (slice_index_or row.slots i Empty))
+    ++ texts_below 4 (λ i. pointer_item i (slice_index_or row.pointers i None))
+    ++ texts_below 6 (λ k. pair_item (slice_index_or pair_slots k (0, 0)) (slice_index_or row.pairs k false))
+
+-- the line of a row, which begins with a word; none for the open row
+abbrev pub row_line : List ℕ → Row → List ℕ
+row_line word row = if length (row_items row) == 0 then [] else word ++ row_items row ++ codes "\n"

@@ -1,0 +1,66 @@
+//! The lines of instructions.
+
+ghost use Rattle.std.specs.Prelude.{◌≡◌, ◌<◌, ◌++◌, OnOk, length, codes, decimal};
+ghost use Rattle.geos_image.specs.Opcodes.{limit};
+ghost use Rattle.geos_listing.specs.Instrs.{KeepsLimits, operand_text, operands_text, instr_line};
+
+use crate::numbers::put_number;
+use geos_image::{Image, Instr, Operand};
+use geos_spelling::{FIELDS, operand_at, value_at, word_of};
+use std::alloc::AllocError;
+
+/// A sign and a number.
+pub(crate) fn put_numbered(out: &mut Vec<u8>, sign: &str, number: u16) -> Result<(), AllocError>
+    ensures { OnOk result (out.new.items ≡ out.old.items ++ sign.now ++ decimal number) }
+{
+    out.extend_from_slice(sign.as_bytes())?;
+    put_number(out, u32::from(number))
+}
+
+/// An operand, and a blank in front of it; nothing for a field that is unused.
+fn put_operand(
+    out: &mut Vec<u8>,
+    image: &Image,
+    operand: Operand,
+    number: u16,
+) -> Result<(), AllocError>
+    requires { number < limit (length image.now.routines) (length image.now.points) operand }
+    ensures { OnOk result (out.new.items ≡ out.old.items ++ operand_text image.now.routines operand number) }
+{
+    match operand {
+        Operand::Unused => Ok(()),
+        Operand::Word => put_numbered(out, " w", number),
+        Operand::Counter => put_numbered(out, " k", number),
+        Operand::Slot => put_numbered(out, " s", number),
+        Operand::Pointer => put_numbered(out, " p", number),
+        Operand::Number | Operand::Shift => put_numbered(out, " ", number),
+        Operand::Routine => {
+            out.extend_from_slice(b" ")?;
+            out.extend_from_slice(image.routine(number).name_text())
+        }
+        Operand::Label => put_numbered(out, " L", number),
+    }
+}
+
+/// The operands of the instruction.
+fn put_operands(out: &mut Vec<u8>, image: &Image, instr: &Instr) -> Result<(), AllocError>
+    requires { KeepsLimits image.now instr.now }
+    ensures { OnOk result (out.new.items ≡ out.old.items ++ operands_text image.now.routines instr.now) }
+{
+    for field in &FIELDS {
+        let operand = operand_at(instr.opcode, *field);
+        put_operand(out, image, operand, value_at(instr, *field))?;
+    }
+    Ok(())
+}
+
+/// The line of the instruction.
+pub(crate) fn put_instr(out: &mut Vec<u8>, image: &Image, instr: &Instr) -> Result<(), AllocError>
+    requires { KeepsLimits image.now instr.now }
+    ensures { OnOk result (out.new.items ≡ out.old.items ++ instr_line image.now.routines instr.now) }
+{
+    out.extend_from_slice(b"    ")?;
+    out.extend_from_slice(word_of(instr.opcode).as_bytes())?;
+    put_operands(out, image, instr)?;
+    out.extend_from_slice(b"\n")
+}

@@ -1,0 +1,150 @@
+//! The lines of rows.
+
+ghost use Rattle.std.specs.Prelude.{◌≡◌, ◌<◌, ◌++◌, OnOk, None, false, slice_index, slice_index_or};
+ghost use Rattle.geos_image.specs.declared.row.SlotState.TheVariants.{Empty};
+ghost use Rattle.geos_listing.specs.Rows.{texts_below, bound_item, held_item, slot_item, pointer_item, pair_item, pair_slots, row_items, row_line};
+
+use crate::numbers::put_number;
+use geos_image::{Pointer, Row, SlotState};
+use std::alloc::{AllocError, Global};
+
+/// The slots of each pair of a row.
+const PAIRS: [(u32, u32); 6] = [(0, 1), (0, 2), (0, 3), (1, 2), (1, 3), (2, 3)];
+
+/// A word's bound, unless it is the greatest word.
+fn put_bound(out: &mut Vec<u8>, i: usize, bound: u16) -> Result<(), AllocError>
+    requires { i < 8 }
+    ensures { OnOk result (out.new.items ≡ out.old.items ++ bound_item i bound) }
+{
+    if bound == u16::MAX {
+        return Ok(());
+    }
+    out.extend_from_slice(b" w")?;
+    put_number(out, i as u32)?;
+    out.extend_from_slice(b"<=")?;
+    put_number(out, u32::from(bound))
+}
+
+#[tactic(auto, unfolding(crate::specs::Rows::texts_below))]
+fn put_bounds(out: &mut Vec<u8>, bounds: &[u16; 8]) -> Result<(), AllocError>
+    ensures { OnOk result (out.new.items ≡ out.old.items ++ texts_below 8 (λ i. bound_item i (slice_index bounds.now i))) }
+{
+    for i in 0..bounds.len() {
+        put_bound(out, i, bounds[i])?;
+    }
+    Ok(())
+}
+
+/// A slot that is held, and what it holds.
+fn put_held(out: &mut Vec<u8>, i: usize, word: &str) -> Result<(), AllocError>
+    requires { i < 4 }
+    ensures { OnOk result (out.new.items ≡ out.old.items ++ held_item i word.now) }
+{
+    out.extend_from_slice(b" s")?;
+    put_number(out, i as u32)?;
+    out.extend_from_slice(b"=")?;
+    out.extend_from_slice(word.as_bytes())
+}
+
+fn put_slot(out: &mut Vec<u8>, i: usize, slot: SlotState) -> Result<(), AllocError>
+    requires { i < 4 }
+    ensures { OnOk result (out.new.items ≡ out.old.items ++ slot_item i slot) }
+{
+    match slot {
+        SlotState::Empty => Ok(()),
+        SlotState::Mem => put_held(out, i, "mem"),
+        SlotState::Vm => put_held(out, i, "vm"),
+        SlotState::VmMarked => put_held(out, i, "vm!"),
+        SlotState::Db => put_held(out, i, "db"),
+        SlotState::DbMarked => put_held(out, i, "db!"),
+    }
+}
+
+#[tactic(auto, unfolding(crate::specs::Rows::texts_below))]
+fn put_slots(out: &mut Vec<u8>, slots: &[SlotState; 4]) -> Result<(), AllocError>
+    ensures { OnOk result (out.new.items ≡ out.old.items ++ texts_below 4 (λ i. slot_item i (slice_index_or slots.now i Empty))) }
+{
+    for i in 0..slots.len() {
+        put_slot(out, i, slots[i])?;
+    }
+    Ok(())
+}
+
+/// Where a pointer leads, unless nothing is known of it.
+fn put_pointer(out: &mut Vec<u8>, i: usize, pointer: Option<Pointer>) -> Result<(), AllocError>
+    requires { i < 4 }
+    ensures { OnOk result (out.new.items ≡ out.old.items ++ pointer_item i pointer) }
+{
+    let Some(pointer) = pointer else {
+        return Ok(());
+    };
+    out.extend_from_slice(b" p")?;
+    put_number(out, i as u32)?;
+    out.extend_from_slice(b"=s")?;
+    put_number(out, u32::from(pointer.slot))?;
+    out.extend_from_slice(b":")?;
+    put_number(out, u32::from(pointer.least))
+}
+
+#[tactic(auto, unfolding(crate::specs::Rows::texts_below))]
+fn put_pointers(out: &mut Vec<u8>, pointers: &[Option<Pointer>; 4]) -> Result<(), AllocError>
+    ensures { OnOk result (out.new.items ≡ out.old.items ++ texts_below 4 (λ i. pointer_item i (slice_index_or pointers.now i None))) }
+{
+    for i in 0..pointers.len() {
+        put_pointer(out, i, pointers[i])?;
+    }
+    Ok(())
+}
+
+/// Two slots, if they are known to hold different blocks.
+fn put_pair(out: &mut Vec<u8>, pair: (u32, u32), differ: bool) -> Result<(), AllocError>
+    ensures { OnOk result (out.new.items ≡ out.old.items ++ pair_item pair differ) }
+{
+    if !differ {
+        return Ok(());
+    }
+    out.extend_from_slice(b" s")?;
+    put_number(out, pair.0)?;
+    out.extend_from_slice(b"#s")?;
+    put_number(out, pair.1)
+}
+
+#[tactic(auto, unfolding(crate::specs::Rows::texts_below))]
+fn put_pairs(out: &mut Vec<u8>, pairs: &[bool; 6]) -> Result<(), AllocError>
+    ensures { OnOk result (out.new.items ≡ out.old.items ++ texts_below 6 (λ k. pair_item (slice_index_or pair_slots k (0, 0)) (slice_index_or pairs.now k false))) }
+{
+    for k in 0..pairs.len() {
+        put_pair(out, PAIRS[k], pairs[k])?;
+    }
+    Ok(())
+}
+
+/// The items in which the row differs from the open row.
+#[tactic(auto, unfolding(crate::specs::Rows::row_items))]
+fn put_items(out: &mut Vec<u8>, row: &Row) -> Result<(), AllocError>
+    ensures { OnOk result (out.new.items ≡ out.old.items ++ row_items row.now) }
+{
+    put_bounds(out, &row.bounds)?;
+    put_slots(out, &row.slots)?;
+    put_pointers(out, &row.pointers)?;
+    put_pairs(out, &row.pairs)
+}
+
+/// The line of a row, which begins with the word; none for the open row.
+pub(crate) fn put_row(
+    alloc: Global,
+    out: &mut Vec<u8>,
+    word: &str,
+    row: &Row,
+) -> Result<(), AllocError>
+    ensures { OnOk result (out.new.items ≡ out.old.items ++ row_line word.now row.now) }
+{
+    let mut items = Vec::new(alloc);
+    put_items(&mut items, row)?;
+    if items.is_empty() {
+        return Ok(());
+    }
+    out.extend_from_slice(word.as_bytes())?;
+    out.extend_from_slice(&items)?;
+    out.extend_from_slice(b"\n")
+}
