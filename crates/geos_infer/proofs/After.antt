@@ -252,7 +252,7 @@ exit-mono : (image : Parts) (callee : ℕ) (r s : Row) (o : Option Routine) → 
 exit-mono image callee r s None e h = rw (e, exit_row) h
 exit-mono image callee r s (Some routine) e h = rw (e, exit_row) (fits-refl routine.exit)
 
-is-call : (opcode : Opcode) → calls opcode ≡ true → opcode ≡ Call
+pub is-call : (opcode : Opcode) → calls opcode ≡ true → opcode ≡ Call
 is-call Call e = refl
 is-call _ e = absurd cc
 

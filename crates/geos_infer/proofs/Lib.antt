@@ -5,3 +5,7 @@ pub mod Joining
 pub mod Cleaning
 pub mod After
 pub mod Passing
+pub mod Ends
+pub mod Flows
+pub mod Seeding
+pub mod Back

@@ -1,1 +1,4 @@
 pub mod Joins
+pub mod Code
+pub mod Solutions
+pub mod Flow

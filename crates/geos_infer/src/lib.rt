@@ -4,5 +4,11 @@
 #![tactic(auto)]
 
 mod common;
+mod edges;
+mod error;
+mod flow;
+mod rounds;
+mod seeds;
 
 pub use common::{clean, join};
+pub use error::InferError;

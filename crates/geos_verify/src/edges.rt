@@ -13,7 +13,7 @@ use crate::uses::{SlotUse, Uses, uses_at};
 use geos_image::{Image, Instr, Opcode, Operand, Row};
 
 /// Whether control may go on to the next instruction.
-pub(crate) fn falls_through(opcode: Opcode) -> bool
+pub fn falls_through(opcode: Opcode) -> bool
     ensures { result ≡ falls_through opcode }
 {
     match opcode {
@@ -23,7 +23,7 @@ pub(crate) fn falls_through(opcode: Opcode) -> bool
 }
 
 /// Whether control may go to the target.
-pub(crate) fn branches(opcode: Opcode) -> bool
+pub fn branches(opcode: Opcode) -> bool
     ensures { result ≡ branches opcode }
 {
     match opcode.operands().target {

@@ -1,0 +1,45 @@
+-- The rows at the ends of edges.
+use Rattle.std.proofs.Common.{◌≡◌, ℕ, Bool, true, false, List, length, Some, None, slice_get, refl, sym, ap, ◌∙◌}
+use Rattle.std.specs.Prelude.{option_map}
+use Rattle.std.proofs.lemmas.List.{length-map}
+use Rattle.std.proofs.lemmas.Option.{slice_get-map}
+use Rattle.geos_image.specs.declared.opcode.Opcode.{Opcode}
+use Rattle.geos_image.specs.declared.opcode.Opcode.TheVariants.{Call}
+use Rattle.geos_image.specs.declared.instr.Instr.{Instr}
+use Rattle.geos_image.specs.declared.row.Row.{Row}
+use Rattle.geos_image.specs.declared.routine.Routine.{Routine}
+use Rattle.geos_image.specs.Parts.{Parts, Point}
+use Rattle.geos_verify.specs.Rows.{exit_row, row_along, fits}
+use Rattle.geos_verify.specs.Touched.{calls}
+use Rattle.geos_verify.proofs.Along.{row_along-used}
+use Rattle.geos_infer.specs.Code.{instr_of, code_of, edge_row}
+use Rattle.geos_infer.proofs.After.{along-mono, branching-mono, is-call}
+
+pub edge-mono : (image : Parts) (i : Instr) (branch : Bool) (r s : Row) → fits r s ≡ true → fits (edge_row image i branch r) (edge_row image i branch s) ≡ true
+edge-mono image i true r s h = branching-mono i i.opcode r s h
+edge-mono image i false r s h = along-mono image i i.opcode r s h
+
+-- what a call leaves is the same in images with the same routines
+pub same-along : (image other : Parts) → other.routines ≡ image.routines → (i : Instr) (opcode : Opcode) (row : Row) → row_along other i opcode row ≡ row_along image i opcode row
+same-along image other same i opcode row = by_test (calls opcode) refl
+  where
+    by_test : (b : Bool) → calls opcode ≡ b → row_along other i opcode row ≡ row_along image i opcode row
+    by_test true e =
+        let exits : exit_row other i.imm row ≡ exit_row image i.imm row = ap (λ (routines : List Routine). elim (slice_get routines i.imm) [ None ↦ row | Some routine ↦ routine.exit ]) same in
+        rw (is-call opcode e) exits
+    by_test false e =
+        let no_call : opcode ≡ Call → ⊥ = (λ is. absurd (called is e)) in
+        row_along-used other i opcode row no_call ∙ sym (row_along-used image i opcode row no_call)
+      where
+        called : opcode ≡ Call → calls opcode ≡ false → ⊥
+        called is e = (let at_call : calls Call ≡ false = rw is at e in absurd cc)
+
+pub same-edge : (image other : Parts) → other.routines ≡ image.routines → (i : Instr) (branch : Bool) (row : Row) → edge_row other i branch row ≡ edge_row image i branch row
+same-edge image other same i true row = refl
+same-edge image other same i false row = same-along image other same i i.opcode row
+
+pub code-at : (image : Parts) (pc : ℕ) (point : Point) → slice_get image.points pc ≡ Some point → slice_get (code_of image) pc ≡ Some point.0
+code-at image pc point e = slice_get-map instr_of image.points pc ∙ ap (option_map instr_of) e
+
+pub code-length : (image : Parts) → length (code_of image) ≡ length image.points
+code-length image = length-map image.points instr_of

@@ -1,0 +1,78 @@
+-- How rows flow along the edges that lead ahead.
+use Rattle.std.specs.Prelude.{◌≡◌, ◌<◌, ℕ, ◌+◌, ◌*◌, Bool, true, false, ◌&&◌, nat_lt, nat_le, if◌then◌else◌, List, [], ◌∷◌, length, Option, Some, None, slice_get, slice_index_or, slice_set}
+use Rattle.geos_image.specs.declared.instr.Instr.{Instr}
+use Rattle.geos_image.specs.declared.row.Row.{Row}
+use Rattle.geos_image.specs.declared.row.SlotState.TheVariants.{Empty}
+use Rattle.geos_image.specs.Parts.{Parts}
+use Rattle.geos_verify.specs.Rows.{fits}
+use Rattle.geos_infer.specs.Joins.{join, clean}
+use Rattle.geos_infer.specs.Code.{Edge, Begins, code_of, has_edge, edge_end, edge_row}
+
+-- of a place that nothing reaches: words are 0, no slot is held, and all pairs are known
+abbrev pub strongest : Row
+strongest = record {
+  bounds = 0 ∷ 0 ∷ 0 ∷ 0 ∷ 0 ∷ 0 ∷ 0 ∷ 0 ∷ [];
+  slots = Empty ∷ Empty ∷ Empty ∷ Empty ∷ [];
+  pointers = None ∷ None ∷ None ∷ None ∷ [];
+  pairs = true ∷ true ∷ true ∷ true ∷ true ∷ true ∷ [];
+}
+
+-- the row at a place where this much is known
+abbrev pub row_of : Option Row → Row
+row_of None = strongest
+row_of (Some row) = clean row
+
+-- what is known at a place
+abbrev pub known_at : List (Option Row) → ℕ → Option Row
+known_at known pc = slice_index_or known pc None
+
+-- what is known where another row comes to a place; nothing where they have no join
+abbrev pub join_known : Option Row → Row → Option Row
+join_known None row = Some row
+join_known (Some old) row = join old row
+
+-- the instruction has the edge, and it leads ahead and before the limit
+abbrev pub leads_ahead : ℕ → ℕ → Instr → Bool → Bool
+leads_ahead limit pc i branch = has_edge i branch && nat_lt pc (edge_end pc i branch) && nat_lt (edge_end pc i branch) limit
+
+-- what is known once it is this at a place
+abbrev pub put : List (Option Row) → ℕ → Option Row → Option (List (Option Row))
+put known to None = None
+put known to (Some row) = Some (slice_set known to (Some row))
+
+-- what is known after a row has gone along an edge; nothing where it has no join with what is
+-- known
+abbrev pub spread : Parts → ℕ → ℕ → Instr → Bool → Row → List (Option Row) → Option (List (Option Row))
+spread image limit pc i branch row known =
+    if leads_ahead limit pc i branch
+    then put known (edge_end pc i branch) (join_known (known_at known (edge_end pc i branch)) (edge_row image i branch row))
+    else Some known
+
+-- something is known at the place that the row fits
+pub record KnownAt (known : List (Option Row)) (pc : ℕ) (row : Row) : Type 0 where
+  pub known_row : Row
+  pub read : known_at known pc ≡ Some known_row
+  pub fits : fits row known_row ≡ true
+
+-- edges in the order in which rows flow along them
+abbrev pub edge_number : ℕ → Bool → ℕ
+edge_number pc true = 2 * pc + 1
+edge_number pc false = 2 * pc
+
+-- rows have flowed along the first so many edges, and all that is known fits rows that hold
+pub record Flowing (image : Parts) (want : List Row) (known : List (Option Row)) (done : ℕ) : Type 0 where
+  pub len : length known ≡ length (code_of image)
+  pub below : (pc : ℕ) (row w : Row) → known_at known pc ≡ Some row → slice_get want pc ≡ Some w → fits row w ≡ true
+  pub entries : (pc : ℕ) (entry : Row) → Begins image.routines pc entry → KnownAt known pc entry
+  pub edges : (pc to : ℕ) (branch : Bool) (i : Instr) → edge_number pc branch < done → Edge (code_of image) pc branch to i → to < length (code_of image)
+      → KnownAt known to (edge_row image i branch (row_of (known_at known pc)))
+
+-- each routine's entry row is known where it begins, and nothing else is
+pub record Seeded (image : Parts) (known : List (Option Row)) : Type 0 where
+  pub len : length known ≡ length (code_of image)
+  pub entries : (pc : ℕ) (entry : Row) → Begins image.routines pc entry → known_at known pc ≡ Some entry
+  pub only : (pc : ℕ) (row : Row) → known_at known pc ≡ Some row → Begins image.routines pc row
+
+-- the instruction has the edge, and it leads back or to itself, not before the limit
+abbrev pub leads_back : ℕ → ℕ → Instr → Bool → Bool
+leads_back limit pc i branch = has_edge i branch && nat_le limit (edge_end pc i branch) && nat_le (edge_end pc i branch) pc

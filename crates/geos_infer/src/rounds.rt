@@ -1,0 +1,196 @@
+//! Rows flow round after round, until those of the edges that lead back have nothing new to say.
+
+ghost use Rattle.std.specs.Prelude.{◌≡◌, ◌<◌, ◌≤◌, ◌*◌, ◌+◌, List, ℕ, length, true, IfOk, IfErr, IfSome, slice_get, false};
+ghost use Rattle.geos_image.specs.declared.row.Row.{Row};
+ghost use Rattle.geos_image.specs.Parts.{start_of};
+ghost use Rattle.geos_infer.specs.declared.error.InferError.TheVariants.{NoRows};
+ghost use Rattle.geos_infer.specs.Code.{Forward};
+ghost use Rattle.geos_infer.specs.Solutions.{RowsHold};
+ghost use Rattle.geos_infer.specs.Flow.{leads_back, Flowing};
+
+use crate::common::join;
+use crate::edges::{edge_end, leads_back, span_of};
+use crate::error::InferError;
+use crate::flow::{flow, row_of};
+use crate::seeds::seeds;
+use geos_image::{Image, Pointer, Row};
+use geos_verify::after;
+use std::alloc::Global;
+
+/// What the edges that lead back said.
+#[derive(Clone, Copy, Debug, PartialEq, Eq)]
+enum Feedback {
+    /// Nothing new.
+    Nothing,
+    /// Some row is weaker now.
+    Weaker,
+    /// Two rows have no join.
+    Apart,
+}
+
+/// In the first rounds rows are joined as they are; in later ones what changes is given up.
+const EXACT_ROUNDS: u16 = 16;
+
+/// A routine of n instructions has at most n places where edges lead back, and each gives up at
+/// most 22 things.
+const MOST_ROUNDS: u16 = 4096;
+
+/// The bound that is given up where it changes.
+fn wide_bound(old: u16, joined: u16) -> u16 {
+    if old == joined { old } else { u16::MAX }
+}
+
+fn wide_pointer(old: &Option<Pointer>, joined: &Option<Pointer>) -> Option<Pointer> {
+    if *old == *joined { *old } else { None }
+}
+
+/// The joined row without what changes in it, beside slots and pairs, which change seldom.
+fn widened(old: &Row, joined: &Row) -> Row {
+    let mut next = *joined;
+    for k in 0..8 {
+        next.bounds[k] = wide_bound(old.bounds[k], joined.bounds[k]);
+    }
+    for k in 0..4 {
+        next.pointers[k] = wide_pointer(&old.pointers[k], &joined.pointers[k]);
+    }
+    next
+}
+
+/// What an edge that leads back says to the row where it leads.
+fn fed_by(
+    image: &Image,
+    limit: u16,
+    known: &[Option<Row>],
+    from: &mut [Option<Row>],
+    pc: u16,
+    branch: bool,
+    exact: bool,
+) -> Feedback
+    requires there { pc < length image.now.points }
+    requires short { length image.now.points ≤ 4096 }
+    requires known { length known.now ≡ length image.now.points }
+    requires from { length from.old ≡ length image.now.points }
+    requires back { IfSome (slice_get image.now.points pc) (λ point. leads_back limit pc point.0 branch ≡ true) }
+{
+    let i = image.instr(pc);
+    let to = edge_end(pc, i, branch) as usize;
+    let next = after(image, pc, &row_of(&known[pc as usize]), branch);
+    let Some(old) = known[to] else {
+        from[to] = Some(next);
+        return Feedback::Weaker;
+    };
+    let Some(joined) = join(&old, &next) else {
+        return Feedback::Apart;
+    };
+    if joined == old {
+        return Feedback::Nothing;
+    }
+    from[to] = Some(if exact {
+        joined
+    } else {
+        widened(&old, &joined)
+    });
+    Feedback::Weaker
+}
+
+/// What an edge says, if it leads back within the routine, which begins at the limit.
+fn feed_edge(
+    image: &Image,
+    limit: u16,
+    known: &[Option<Row>],
+    from: &mut [Option<Row>],
+    pc: u16,
+    branch: bool,
+    exact: bool,
+) -> Feedback
+    requires there { pc < length image.now.points }
+    requires short { length image.now.points ≤ 4096 }
+    requires known { length known.now ≡ length image.now.points }
+    requires from { length from.old ≡ length image.now.points }
+    ensures { Forward image.now → result ≡ Feedback.Nothing }
+{
+    if leads_back(image, limit, pc, branch) {
+        fed_by(image, limit, known, from, pc, branch, exact)
+    } else {
+        Feedback::Nothing
+    }
+}
+
+/// What all edges of routine r that lead back say.
+fn feed(
+    image: &Image,
+    r: u16,
+    known: &[Option<Row>],
+    from: &mut [Option<Row>],
+    exact: bool,
+) -> Feedback
+    requires routine { r < length image.now.routines }
+    requires known { length known.now ≡ length image.now.points }
+    requires from { length from.old ≡ length image.now.points }
+    ensures { Forward image.now → result ≡ Feedback.Nothing }
+{
+    let span = span_of(image, r);
+    let mut said = Feedback::Nothing;
+    for pc in span.start..span.end {
+        match feed_edge(image, span.start, known, from, pc, false, exact) {
+            Feedback::Nothing => {}
+            Feedback::Weaker => said = Feedback::Weaker,
+            Feedback::Apart => return Feedback::Apart,
+        }
+        match feed_edge(image, span.start, known, from, pc, true, exact) {
+            Feedback::Nothing => {}
+            Feedback::Weaker => said = Feedback::Weaker,
+            Feedback::Apart => return Feedback::Apart,
+        }
+    }
+    said
+}
+
+/// Makes what is known in routine r what it is at first.
+fn restart(image: &Image, r: u16, from: &[Option<Row>], known: &mut [Option<Row>])
+    requires routine { r < length image.now.routines }
+    requires from { length from.now ≡ length image.now.points }
+    requires known { length known.old ≡ length image.now.points }
+{
+    let span = span_of(image, r);
+    for pc in span.start..span.end {
+        known[pc as usize] = from[pc as usize];
+    }
+}
+
+/// Finds what is known at each instruction of routine r; `false` where two rows have no join.
+fn find_rows_in(image: &Image, r: u16, from: &mut [Option<Row>], known: &mut [Option<Row>]) -> bool
+    requires routine { r < length image.now.routines }
+    requires from { length from.old ≡ length image.now.points }
+    requires known { length known.old ≡ length image.now.points }
+    ensures { (want : List Row) → Forward image.now → RowsHold image.now want → Flowing image.now want known.old (2 * start_of image.now.routines r) → (result ≡ true) × Flowing image.now want known.new (2 * start_of image.now.routines (r + 1)) }
+{
+    for round in 0..MOST_ROUNDS {
+        if !flow(image, r, known) {
+            return false;
+        }
+        match feed(image, r, known, from, round < EXACT_ROUNDS) {
+            Feedback::Nothing => return true,
+            Feedback::Weaker => restart(image, r, from, known),
+            Feedback::Apart => return false,
+        }
+    }
+    false
+}
+
+/// Finds what is known at each instruction. `NoRows` names the first routine where two rows have
+/// no join.
+pub(crate) fn find_rows(alloc: Global, image: &Image) -> Result<Vec<Option<Row>>, InferError>
+    ensures len { IfOk result (λ known. length known.items ≡ length image.now.points) }
+    ensures found { IfOk result (λ known. (want : List Row) → Forward image.now → RowsHold image.now want → Flowing image.now want known.items (2 * length image.now.points)) }
+    ensures none { IfErr result (λ error. (r : ℕ) (want : List Row) → error ≡ NoRows r → Forward image.now → RowsHold image.now want → ⊥) }
+{
+    let mut known = seeds(alloc, image)?;
+    let mut from = seeds(alloc, image)?;
+    for r in 0..image.count() {
+        if !find_rows_in(image, r, &mut from, &mut known) {
+            return Err(InferError::NoRows(r));
+        }
+    }
+    Ok(known)
+}
