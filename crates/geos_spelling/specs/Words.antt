@@ -1,7 +1,7 @@
 -- The words of the opcodes.
 use Rattle.std.specs.Prelude.{ℕ, List, Option, find, codes, bytes_eq}
 use Rattle.geos_image.specs.declared.opcode.Opcode.{Opcode}
-use Rattle.geos_image.specs.declared.opcode.Opcode.TheVariants.{Ldi, Mov, Add, Sub, And, Shr, Muli, Chk, Jmp, Beq, Blt, Setk, Setkw, Loop, Call, Ret, Out, Mnew, Mlock, Munlock, Mfree, Sne, Lalloc, Lfree, Lrealloc, Lins, Ldel, Lsize, Deref, Lcontract, Ldb, Ldw, Stb, Stw, Ldxb, Ldxw, Stxb, Stxw, Ldcb, Ldcw, Stcb, Stcw, Movp, Copy, Plen}
+use Rattle.geos_image.specs.declared.opcode.Opcode.TheVariants.{Ldi, Mov, Add, Sub, And, Shr, Muli, Chk, Jmp, Beq, Blt, Setk, Setkw, Loop, Call, Ret, Out, Mnew, Mlock, Munlock, Mfree, Sne, Lalloc, Lfree, Lrealloc, Lins, Ldel, Lsize, Deref, Lcontract, Ldb, Ldw, Stb, Stw, Ldxb, Ldxw, Stxb, Stxw, Ldcb, Ldcw, Stcb, Stcw, Movp, Copy, Plen, Canew, Caadd, Cains, Cadel, Cacount, Caelt, Cazero, Caresize}
 use Rattle.geos_image.specs.Opcodes.{opcodes}
 
 -- the word that a text writes for each opcode
@@ -51,6 +51,14 @@ word_of Stcw = codes "STCW"
 word_of Movp = codes "MOVP"
 word_of Copy = codes "COPY"
 word_of Plen = codes "PLEN"
+word_of Canew = codes "CANEW"
+word_of Caadd = codes "CAADD"
+word_of Cains = codes "CAINS"
+word_of Cadel = codes "CADEL"
+word_of Cacount = codes "CACOUNT"
+word_of Caelt = codes "CAELT"
+word_of Cazero = codes "CAZERO"
+word_of Caresize = codes "CARESIZE"
 
 -- the opcode whose word it is, if it is one's
 abbrev pub opcode_of_word : List ℕ → Option Opcode

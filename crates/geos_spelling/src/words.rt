@@ -6,7 +6,7 @@ ghost use Rattle.geos_spelling.specs.Words.{word_of, opcode_of_word};
 use geos_image::Opcode;
 
 /// Every opcode, in the order of the codes.
-const OPCODES: [Opcode; 45] = [
+const OPCODES: [Opcode; 53] = [
     Opcode::Ldi,
     Opcode::Mov,
     Opcode::Add,
@@ -52,6 +52,14 @@ const OPCODES: [Opcode; 45] = [
     Opcode::Movp,
     Opcode::Copy,
     Opcode::Plen,
+    Opcode::Canew,
+    Opcode::Caadd,
+    Opcode::Cains,
+    Opcode::Cadel,
+    Opcode::Cacount,
+    Opcode::Caelt,
+    Opcode::Cazero,
+    Opcode::Caresize,
 ];
 
 /// The word that a text writes for the opcode. No two opcodes have one word.
@@ -105,6 +113,14 @@ pub fn word_of(opcode: Opcode) -> &'static str
         Opcode::Movp => "MOVP",
         Opcode::Copy => "COPY",
         Opcode::Plen => "PLEN",
+        Opcode::Canew => "CANEW",
+        Opcode::Caadd => "CAADD",
+        Opcode::Cains => "CAINS",
+        Opcode::Cadel => "CADEL",
+        Opcode::Cacount => "CACOUNT",
+        Opcode::Caelt => "CAELT",
+        Opcode::Cazero => "CAZERO",
+        Opcode::Caresize => "CARESIZE",
     }
 }
 
