@@ -5,7 +5,7 @@ use Rattle.std.proofs.lemmas.Bool.{and_parts, leb-true, le-leb, eqb-true}
 use Rattle.std.proofs.Math.Nat.{mul-le-mul_right, div-mul-le_self}
 use Rattle.std.proofs.lemmas.Nat.{le-div, pow_pos}
 use Rattle.geos_image.specs.declared.opcode.Opcode.{Opcode}
-use Rattle.geos_image.specs.declared.opcode.Opcode.TheVariants.{Ldi, Mov, Add, Sub, And, Shr, Muli, Chk, Call, Mnew, Lalloc, Lsize, Ldb, Ldw, Ldxb, Ldxw, Ldcb, Ldcw, Plen}
+use Rattle.geos_image.specs.declared.opcode.Opcode.TheVariants.{Ldi, Mov, Add, Sub, And, Shr, Muli, Chk, Call, Mnew, Lalloc, Lsize, Ldb, Ldw, Ldxb, Ldxw, Ldcb, Ldcw, Plen, Canew, Cacount}
 use Rattle.geos_image.specs.declared.instr.Instr.{Instr}
 use Rattle.geos_image.specs.declared.row.Row.{Row}
 use Rattle.geos_image.specs.declared.row.Pointer.{Pointer}
@@ -74,6 +74,8 @@ module _ (i : Instr) (r s : Row) (h : fits r s ≡ true) where
   bounded-mono Mnew = fixed i.b 65535
   bounded-mono Lalloc = fixed i.b 65535
   bounded-mono Lsize = fixed i.b 65535
+  bounded-mono Canew = fixed i.b 65535
+  bounded-mono Cacount = fixed i.b 65535
   bounded-mono Ldb = fixed i.a 255
   bounded-mono Ldw = fixed i.a 65535
   bounded-mono Ldxb = fixed i.a 255
