@@ -8,3 +8,5 @@ pub mod Items
 pub mod Headers
 pub mod Declarations
 pub mod Texts
+pub mod Views
+pub mod Parsing

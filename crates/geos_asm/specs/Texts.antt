@@ -1,10 +1,10 @@
 -- The code of a text, or its first fault.
-use Rattle.std.specs.Prelude.{ℕ, ◌+◌, min, true, false, nat_lt, nat_le, if◌then◌else◌, List, [], ◌∷◌, ◌++◌, length, codes, bytes_eq, Option, Some, None, Result, Ok, Err}
-use Rattle.std.specs.Option.{option_to_list}
+use Rattle.std.specs.Prelude.{ℕ, ◌+◌, min, true, false, nat_lt, nat_le, if◌then◌else◌, List, [], ◌∷◌, ◌++◌, length, codes, bytes_eq, Option, Some, None, Result, Ok, Err, Bool, not}
 use Rattle.std.specs.Str.Lines.{lines}
 use Rattle.geos_image.specs.declared.instr.Instr.{Instr}
 use Rattle.geos_image.specs.declared.row.Row.{Row}
 use Rattle.geos_image.specs.declared.routine.Routine.{Routine}
+use Rattle.geos_text.specs.Words.{is_empty}
 use Rattle.geos_asm.specs.declared.fault.Why.{Why}
 use Rattle.geos_asm.specs.declared.fault.Why.TheVariants.{TooMany, OutOfPlace}
 use Rattle.geos_asm.specs.declared.fault.BadLine.{BadLine}
@@ -46,11 +46,18 @@ unfilled Body = None
 abbrev pub drop_labels : Progress → Progress
 drop_labels p = record { part = p.part; current = p.current; waiting = None; fault = first p.fault (unfollowed p.waiting) }
 
+abbrev pub with_current : List TextRoutine → Option TextRoutine → List TextRoutine
+with_current routines None = routines
+with_current routines (Some routine) = routines ++ routine ∷ []
+
 -- the routine that has begun is complete
+abbrev pub closed : Progress → Progress
+closed p =
+    let dropped = drop_labels p in
+    record { part = dropped.part; current = None; waiting = dropped.waiting; fault = first dropped.fault (unfilled dropped.part) }
+
 abbrev pub close : Draft → Draft
-close d =
-    let p = drop_labels d.progress in
-    record { routines = d.routines ++ option_to_list p.current; code = d.code; progress = record { part = p.part; current = None; waiting = p.waiting; fault = first p.fault (unfilled p.part) } }
+close d = record { routines = with_current d.routines d.progress.current; code = d.code; progress = closed d.progress }
 
 -- a fault of the line
 abbrev pub why_of : {A : Type 0} → Result A Why → Option Why
@@ -67,10 +74,13 @@ begun_by line (Ok routine) (Some why) = None
 begun_by line (Err why) other = None
 
 -- a routine begins, faulty or not
+abbrev pub begun : ℕ → Result Routine Why → Option Why → Progress → Progress
+begun line read full p =
+    let why = least (why_of read) full in
+    record { part = Head line false false; current = begun_by line read why; waiting = p.waiting; fault = first p.fault (at_line line why) }
+
 abbrev pub begin : ℕ → Result Routine Why → Draft → Draft
-begin line read d =
-    let why = least (why_of read) (no_room d.routines) in
-    record { routines = d.routines; code = d.code; progress = record { part = Head line false false; current = begun_by line read why; waiting = d.progress.waiting; fault = first d.progress.fault (at_line line why) } }
+begin line read d = record { routines = d.routines; code = d.code; progress = begun line read (no_room d.routines) d.progress }
 
 -- a line `in` may stand here: behind the line that begins a routine, if it is the first
 abbrev pub misplaced_in : Part → Option Why
@@ -136,17 +146,19 @@ with_instr (Ok i) (Some why) code = code
 with_instr (Err why) other code = code
 
 -- and to its routine's count, which is at most that of an image
-abbrev pub one_more : Option Why → Option TextRoutine → Option TextRoutine
-one_more why None = None
-one_more None (Some r) = Some (record { line = r.line; routine = record r.routine { count = min (r.routine.count + 1) 4096 } })
-one_more (Some why) (Some r) = Some r
+abbrev pub counted : Option Why → Option TextRoutine → Option TextRoutine
+counted why None = None
+counted None (Some r) = Some (record { line = r.line; routine = record r.routine { count = min (r.routine.count + 1) 4096 } })
+counted (Some why) (Some r) = Some r
 
 -- an instruction, faulty or not
+abbrev pub with_instr_at : ℕ → Option Why → Progress → Progress
+with_instr_at line why p = record { part = in_body p.part; current = counted why p.current; waiting = None; fault = first p.fault (at_line line why) }
+
 abbrev pub take_instr : ℕ → Result Instr Why → Draft → Draft
 take_instr line read d =
-    let p = d.progress in
-    let why = least (why_of read) (least (is_full d.code) (outside p.part)) in
-    record { routines = d.routines; code = with_instr read why d.code; progress = record { part = in_body p.part; current = one_more why p.current; waiting = None; fault = first p.fault (at_line line why) } }
+    let why = least (why_of read) (least (is_full d.code) (outside d.progress.part)) in
+    record { routines = d.routines; code = with_instr read why d.code; progress = with_instr_at line why d.progress }
 
 -- a statement of a line
 abbrev pub take_statement : Names → ℕ → List (List ℕ) → Draft → Draft
@@ -161,16 +173,16 @@ abbrev pub waiting_from : ℕ → Option ℕ → Option ℕ
 waiting_from line None = Some line
 waiting_from line (Some earlier) = Some earlier
 
--- labels wait for an instruction
-abbrev pub take_labels : ℕ → List (List ℕ) → Progress → Progress
-take_labels line [] p = p
-take_labels line (name ∷ names) p = record { part = p.part; current = p.current; waiting = waiting_from line p.waiting; fault = p.fault }
+-- labels, if there are some, wait for an instruction
+abbrev pub take_labels : ℕ → Bool → Progress → Progress
+take_labels line false p = p
+take_labels line true p = record { part = p.part; current = p.current; waiting = waiting_from line p.waiting; fault = p.fault }
 
 -- a line with its number
 unfoldable pub take_line : Names → ℕ → List ℕ → Draft → Draft
 take_line names number line d =
     let parts = parted (said line) in
-    take_statement names number parts.statement (record d { progress = take_labels number parts.labels d.progress })
+    take_statement names number parts.statement (record d { progress = take_labels number (not (is_empty parts.labels)) d.progress })
 
 -- lines from a number on
 abbrev pub take_lines : Names → ℕ → List (List ℕ) → Draft → Draft

@@ -3,6 +3,8 @@
 ghost use Rattle.std.specs.Prelude.{◌≡◌};
 ghost use Rattle.geos_asm.specs.Faults.{why_number, least, first, at_line};
 
+use std::fmt;
+
 /// Why a line is faulty.
 #[derive(Clone, Copy, Debug, PartialEq, Eq)]
 pub enum Why {
@@ -46,6 +48,12 @@ pub struct BadLine {
     /// Its number, from 1.
     pub line: usize,
     pub why: Why,
+}
+
+impl fmt::Display for BadLine {
+    fn fmt<W: fmt::Write>(&self, f: &mut fmt::Formatter<W>) -> fmt::Result {
+        write!(f, "line {}: why {}", self.line, self.why.number())
+    }
 }
 
 /// Of two faults of a line, the one that is named.

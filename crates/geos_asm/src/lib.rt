@@ -1,10 +1,17 @@
 //! Assembly texts: the routines and instructions that a text writes, or its first fault.
 #![tactic(auto)]
 
+mod declarations;
+mod draft;
 mod fault;
+mod headers;
+mod items;
+mod lines;
 mod names;
 mod operands;
+mod parser;
 mod progress;
 
 pub use fault::{BadLine, Why};
+pub use parser::{MOST_BYTES, ParseError, Parsed, parse};
 pub use progress::TextRoutine;
