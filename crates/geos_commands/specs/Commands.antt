@@ -1,0 +1,30 @@
+-- What the commands on the bytes of an image answer.
+use Rattle.std.specs.Prelude.{◌≡◌, ℕ, List, Ok, Err}
+use Rattle.geos_image.specs.declared.error.ReadError.{ReadError}
+use Rattle.geos_image.specs.declared.error.ReadError.TheVariants as read
+use Rattle.geos_image.specs.Parts.{Parts}
+use Rattle.geos_image.specs.Reading.{image_at}
+use Rattle.geos_verify.specs.Rules.{Accepted, FirstRefusal}
+use Rattle.geos_listing.specs.Listing.{listing}
+use Rattle.geos_commands.specs.declared.fault.CheckFault.{CheckFault}
+use Rattle.geos_commands.specs.declared.fault.CheckFault.TheVariants.{BadImage, Rejected, Memory}
+
+-- the bytes spell an image, and the text is its listing
+abbrev pub IsListed : List ℕ → List ℕ → Type 0
+IsListed bytes text = (image : Parts) × (image_at bytes ≡ Ok image) × (text ≡ listing image)
+
+-- the bytes spell an image that the verifier accepts
+abbrev pub IsAccepted : List ℕ → Type 0
+IsAccepted bytes = (image : Parts) × (image_at bytes ≡ Ok image) × Accepted image
+
+-- the fault is due: the first one of the bytes, or the first refusal of the image that they
+-- spell; or there was no memory
+abbrev pub IsDue : List ℕ → CheckFault → Type 0
+IsDue bytes (BadImage at) = image_at bytes ≡ Err at
+IsDue bytes (Rejected reject) = (image : Parts) × (image_at bytes ≡ Ok image) × FirstRefusal image reject
+IsDue bytes Memory = Unit {0}
+
+-- why bytes are no image
+abbrev pub of_read : ReadError → CheckFault
+of_read (read.BadImage at) = BadImage at
+of_read read.Memory = Memory

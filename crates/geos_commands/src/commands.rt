@@ -1,0 +1,32 @@
+//! The commands.
+
+ghost use Rattle.std.specs.Prelude.{IfOk, IfErr};
+ghost use Rattle.geos_image.specs.Reading.{image_at, Fails};
+ghost use Rattle.geos_commands.specs.Commands.{IsListed, IsAccepted, IsDue};
+
+use crate::fault::CheckFault;
+use geos_image::ReadError;
+use geos_listing::list;
+use geos_verify::check;
+use std::alloc::Global;
+
+/// The listing of the image that the bytes spell. `ReadError::BadImage` where they spell none.
+pub fn list_bytes(alloc: Global, bytes: &[u8]) -> Result<Vec<u8>, ReadError>
+    ensures listed { IfOk result (λ text. IsListed bytes.now text.items) }
+    ensures fault { IfErr result (λ fault. Fails fault (image_at bytes.now)) }
+{
+    let image = geos_image::read(alloc, bytes)?;
+    Ok(list(alloc, &image)?)
+}
+
+/// Whether the bytes spell an image that the verifier accepts; if not, why.
+pub fn check_bytes(alloc: Global, bytes: &[u8]) -> Result<(), CheckFault>
+    ensures accepted { IfOk result (λ _. IsAccepted bytes.now) }
+    ensures due { IfErr result (IsDue bytes.now) }
+{
+    let image = geos_image::read(alloc, bytes)?;
+    match check(image) {
+        Ok(_checked) => Ok(()),
+        Err((_image, reject)) => Err(CheckFault::Rejected(reject)),
+    }
+}
