@@ -1,16 +1,22 @@
-//! The program `geos`: runs a session on its standard input.
+//! The program `geos`: runs a session on its standard input, or a command on an image in a file.
 #![tactic(auto)]
 
+mod images;
+
 use anyhow::Result;
-use clap::Command;
+use clap::{Arg, ArgMatches, Command};
 use geos_cli::{Counted, ScriptFault, run_session};
-use std::alloc::Global;
+use std::alloc::{AllocError, Global};
+use std::fmt::Display;
 use std::io::{BufWriter, ErrorKind};
 use std::process::ExitCode;
 use std::{env, io};
 
 const ABOUT: &str =
-    "Runs a session: checks an image of routines, then calls them as a script says.";
+    "Runs a session: checks an image of routines, then calls them as a script says. \
+     Or prints what there is to say of an image in a file.";
+
+const USAGES: &str = "geos < SESSION\n       geos list IMAGE\n       geos check IMAGE";
 
 const SESSION: &str = "\
 A session is read from standard input, at most 1,048,576 bytes of it. It is
@@ -26,19 +32,43 @@ Example:
   ./geos < examples/add.session     prints 5
 examples/README.md has the routines of that folder in words.
 
-Status: 0 where the script ran; 1 after a fault, which one line on standard error names; 2 where a
-word on the command line is not known. docs/FORMATS.md has the faults, and the digits of an image.";
+An IMAGE is a file of an image's bytes.
+
+Status: 0 where all was done; 1 after a fault, which one line on standard error names; 2 where the
+words on the command line are none of these. docs/FORMATS.md has the faults, and the digits of an image.";
 
 /// A usage fault's status.
 const USAGE: u8 = 2;
 
-fn command<'a>(alloc: Global) -> Command<'a> {
+/// A command on an image.
+fn image_command<'a>(
+    alloc: Global,
+    name: &'a str,
+    about: &'a str,
+) -> Result<Command<'a>, AllocError> {
+    let image = Arg::new(alloc, "IMAGE")
+        .help("A file of an image's bytes")
+        .required(true);
+    Command::new(alloc, name).about(about).arg(image)
+}
+
+fn command<'a>(alloc: Global) -> Result<Command<'a>, AllocError> {
+    let list = image_command(alloc, "list", "Prints the image as text")?;
+    let check = image_command(alloc, "check", "Prints `accepted` where the image may run")?;
     Command::new(alloc, "geos")
         .no_binary_name(true)
         .version("0.1.0")
         .about(ABOUT)
-        .override_usage("geos < SESSION")
+        .override_usage(USAGES)
         .after_help(SESSION)
+        .disable_help_subcommand(true)
+        .subcommand(list)?
+        .subcommand(check)
+}
+
+/// The file that a command names, where that command was given.
+fn image_of<'a>(matches: &ArgMatches<'a>, command: &str) -> Option<&'a str> {
+    matches.subcommand_matches(command)?.get_str("IMAGE")
 }
 
 /// Runs a session on the standard streams, and gives the program's status.
@@ -55,7 +85,7 @@ fn run(rt: &HostRuntime) -> Result<ExitCode> {
 }
 
 /// Says what is wrong in one line on standard error.
-fn fail(rt: &HostRuntime, fault: ScriptFault) -> Result<ExitCode> {
+pub(crate) fn fail<F: Display + Drop>(rt: &HostRuntime, fault: F) -> Result<ExitCode> {
     eprintln!(rt; "{fault}")?;
     Ok(ExitCode::FAILURE)
 }
@@ -63,6 +93,17 @@ fn fail(rt: &HostRuntime, fault: ScriptFault) -> Result<ExitCode> {
 /// The words behind the program's name. `ErrorKind::InvalidData`: one of them is no text.
 fn words(rt: &HostRuntime) -> io::Result<Vec<String>> {
     Ok(env::args(rt)?.skip(1).collect(rt.alloc())?)
+}
+
+/// Carries out the command, or runs a session where there is none.
+fn carry_out(rt: &HostRuntime, matches: &ArgMatches<'_>) -> Result<ExitCode> {
+    if let Some(path) = image_of(matches, "list") {
+        return images::list(rt, path);
+    }
+    if let Some(path) = image_of(matches, "check") {
+        return images::check(rt, path);
+    }
+    run(rt)
 }
 
 fn main(rt: HostRuntime) -> Result<ExitCode> {
@@ -74,8 +115,11 @@ fn main(rt: HostRuntime) -> Result<ExitCode> {
         }
         Err(_) => return fail(&rt, ScriptFault::Memory),
     };
-    match command(rt.alloc()).try_get_matches_from(words.as_slice()) {
-        Ok(_) => run(&rt),
+    let Ok(command) = command(rt.alloc()) else {
+        return fail(&rt, ScriptFault::Memory);
+    };
+    match command.try_get_matches_from(words.as_slice()) {
+        Ok(matches) => carry_out(&rt, &matches),
         Err(answer) => match answer.print(&rt) {
             Ok(()) => Ok(ExitCode::from(answer.exit_code() as u8)),
             Err(_) => fail(&rt, ScriptFault::Write),
