@@ -91,7 +91,12 @@ impl Draft {
         Ok(())
     }
 
-    fn take_statement(&mut self, names: &Names, line: usize, statement: &[u8]) -> Result<(), AllocError>
+    fn take_statement(
+        &mut self,
+        names: &Names,
+        line: usize,
+        statement: &[u8],
+    ) -> Result<(), AllocError>
         ensures { IfOk result (λ _. draft_in self.new ≡ take_statement (names_of names.now) line (words statement.now) (draft_in self.old)) }
     {
         let Some((word, rest)) = first_word(statement) else {

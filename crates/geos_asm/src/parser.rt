@@ -63,7 +63,10 @@ fn first_fault(text: &[u8], twice: Option<BadLine>, progress: Progress) -> Optio
     ensures { result ≡ first (first (too_long text.now) twice) (first progress.fault (without_routine progress.part)) }
 {
     let declared = first(too_long(text), twice);
-    first(declared, first(progress.fault, progress.part.without_routine()))
+    first(
+        declared,
+        first(progress.fault, progress.part.without_routine()),
+    )
 }
 
 /// The code of an assembly text: its routines, with their rows at entry and exit, and their

@@ -245,7 +245,12 @@ impl Progress {
     }
 
     /// A routine begins, faulty or not.
-    pub(crate) fn begin(self, line: usize, read: Result<Routine, Why>, full: Option<Why>) -> Progress
+    pub(crate) fn begin(
+        self,
+        line: usize,
+        read: Result<Routine, Why>,
+        full: Option<Why>,
+    ) -> Progress
         ensures { result ≡ begun line read full self }
     {
         let why = least(why_of(read), full);
