@@ -1,6 +1,7 @@
 //! A device whose calls fail on order, for tests.
 ghost use Rattle.std.specs.Prelude.{◌≡◌, ◌+◌, ◌≤◌, ◌<◌, ◌-◌, ◌^◌, ℕ, List, length, min};
 ghost use Rattle.vm_file.specs.Device.{all_failures, one_more};
+ghost use Rattle.vm_file.specs.Faulty.{is_due};
 
 use crate::device::{Device, Disk, count_failure};
 
@@ -17,12 +18,14 @@ pub struct FaultDevice<D: Device + Drop> {
 }
 
 impl<D: Device + Drop> FaultDevice<D> {
-    ghost use Rattle.vm_file.specs.Faulty.{calls_of, inner_of, own_of};
+    ghost use Rattle.vm_file.specs.Faulty.{call_of, calls_of, inner_of, own_of, rest_of};
 
     /// The call of this number fails, counted from 1 over reads, writes and syncs; with `rest`
     /// each later one does too. 0 lets none fail.
     pub fn new(inner: D, call: u64, rest: bool) -> FaultDevice<D>
         ensures inner { inner_of result ≡ inner }
+        ensures call { call_of result ≡ call }
+        ensures rest { rest_of result ≡ rest }
         ensures calls { calls_of result ≡ 0 }
         ensures own { own_of result ≡ 0 }
     {
@@ -59,7 +62,8 @@ impl<D: Device + Drop> FaultDevice<D> {
 
 /// Counts a call, and tells whether it is to fail.
 fn is_due(calls: &mut u64, call: u64, rest: bool) -> bool
-    ensures { calls.new ≡ one_more calls.old }
+    ensures counted { calls.new ≡ one_more calls.old }
+    ensures due { result ≡ is_due (one_more calls.old) call rest }
 {
     *calls = calls.saturating_add(1);
     call != 0 && (*calls == call || (rest && call < *calls))
