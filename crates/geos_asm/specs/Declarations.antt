@@ -19,6 +19,7 @@ pub record Declared : Type 0 where
 abbrev pub nothing : Declared
 nothing = record { routines = 0; instrs = 0; names = record { labels = none_defined; routines = none_defined }; fault = None }
 
+-- a name that was defined before is used twice
 abbrev pub twice : Option ℕ → Option Why
 twice None = None
 twice (Some value) = Some UsedTwice
@@ -28,6 +29,7 @@ abbrev pub with_label : ℕ → List ℕ → Declared → Declared
 with_label line name d =
     record { routines = d.routines; instrs = d.instrs; names = record { labels = with_name d.names.labels name d.instrs; routines = d.names.routines }; fault = first d.fault (at_line line (twice (d.names.labels name))) }
 
+-- labels of one line, from the first on
 abbrev pub with_labels : ℕ → List (List ℕ) → Declared → Declared
 with_labels line [] d = d
 with_labels line (name ∷ names) d = with_labels line names (with_label line name d)
@@ -43,9 +45,11 @@ abbrev pub name_in_front : List (List ℕ) → Option (List ℕ)
 name_in_front [] = None
 name_in_front (word ∷ words) = name_of word
 
+-- one more routine has begun
 abbrev pub one_more_routine : Declared → Declared
 one_more_routine d = record { routines = min (d.routines + 1) 32; instrs = d.instrs; names = d.names; fault = d.fault }
 
+-- one more instruction has begun
 abbrev pub one_more_instr : Declared → Declared
 one_more_instr d = record { routines = d.routines; instrs = min (d.instrs + 1) 4096; names = d.names; fault = d.fault }
 

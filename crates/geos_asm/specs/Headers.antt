@@ -12,6 +12,7 @@ abbrev pub with_budget : List ℕ → Bool → Result ℕ Why → Result Routine
 with_budget name public (Ok budget) = Ok (record { name = name; public = public; count = 0; budget = budget; entry = open_row; exit = open_row })
 with_budget name public (Err why) = Err why
 
+-- a routine with this name, if the word is one
 abbrev pub named : Option (List ℕ) → Bool → List ℕ → Result Routine Why
 named None public number = Err WrongOperands
 named (Some name) public number = with_budget name public (numbered 4294967295 number)

@@ -14,6 +14,7 @@ use Rattle.geos_asm.specs.Operands.{numbered, unless_faulty}
 abbrev pub behind : List ℕ → List ℕ → Option (List ℕ)
 behind mark word = if bytes_eq (take (length mark) word) mark then Some (drop (length mark) word) else None
 
+-- the row with a word's bound, if it is read
 abbrev pub with_bound : Row → ℕ → Result ℕ Why → Result Row Why
 with_bound row w (Ok bound) = Ok (record row { bounds = slice_set row.bounds w bound })
 with_bound row w (Err why) = Err why
@@ -41,10 +42,12 @@ pair_place low high = if low == 0 then high - 1 else if low == 1 then high + 1 e
 abbrev pub pair_of : ℕ → ℕ → Option ℕ
 pair_of s t = if nat_lt s t then Some (pair_place s t) else if nat_lt t s then Some (pair_place t s) else None
 
+-- the row with a pair that is known to differ, if it is one
 abbrev pub with_pair : Row → Option ℕ → Result Row Why
 with_pair row None = Err WrongOperands
 with_pair row (Some pair) = Ok (record row { pairs = slice_set row.pairs pair true })
 
+-- the pair with the slot of the other word, if it is one
 abbrev pub pair_with : Row → ℕ → Option ℕ → Result Row Why
 pair_with row s None = Err WrongOperands
 pair_with row s (Some t) = with_pair row (pair_of s t)
@@ -54,6 +57,7 @@ abbrev pub pair_item : Row → ℕ → Option (List ℕ) → Result Row Why
 pair_item row s None = Err WrongOperands
 pair_item row s (Some word) = pair_with row s (register_of 115 4 word)
 
+-- the row with what a slot holds, if it is known
 abbrev pub with_slot : Row → ℕ → Option SlotState → Result Row Why
 with_slot row s None = Err WrongOperands
 with_slot row s (Some state) = Ok (record row { slots = slice_set row.slots s state })
@@ -63,14 +67,17 @@ abbrev pub slot_item : Row → ℕ → List ℕ → Option (List ℕ) → Result
 slot_item row s rest None = pair_item row s (behind (codes "#") rest)
 slot_item row s rest (Some word) = with_slot row s (slot_state_of word)
 
+-- the row with a pointer into a slot, if its least length is read
 abbrev pub with_pointer : Row → ℕ → ℕ → Result ℕ Why → Result Row Why
 with_pointer row p s (Ok least) = Ok (record row { pointers = slice_set row.pointers p (Some (record { slot = s; least = least })) })
 with_pointer row p s (Err why) = Err why
 
+-- the least length behind the `:`, if there is one
 abbrev pub pointer_least : Row → ℕ → ℕ → Option (List ℕ) → Result Row Why
 pointer_least row p s None = Err WrongOperands
 pointer_least row p s (Some digits) = with_pointer row p s (numbered 65535 digits)
 
+-- the slot that a pointer leads into, if it is one
 abbrev pub pointer_slot : Row → ℕ → Option ℕ → List ℕ → Result Row Why
 pointer_slot row p None rest = Err WrongOperands
 pointer_slot row p (Some s) rest = pointer_least row p s (behind (codes ":") rest)
@@ -80,6 +87,7 @@ abbrev pub pointer_item : Row → ℕ → Option (List ℕ) → Result Row Why
 pointer_item row p None = Err WrongOperands
 pointer_item row p (Some word) = pointer_slot row p (register_of 115 4 (take 2 word)) (drop 2 word)
 
+-- an item by the register that it begins with: a word, a slot or a pointer
 abbrev pub item_by : Row → Option ℕ → Option ℕ → Option ℕ → List ℕ → Result Row Why
 item_by row (Some w) slot pointer rest = bound_item row w (behind (codes "<=") rest)
 item_by row None (Some s) pointer rest = slot_item row s rest (behind (codes "=") rest)
@@ -97,6 +105,7 @@ pub record RowRead : Type 0 where
   pub row : Row
   pub fault : Option Why
 
+-- what was read so far, with one more item
 abbrev pub with_item : Result Row Why → RowRead → RowRead
 with_item (Ok row) read = record read { row = row }
 with_item (Err why) read = record read { fault = least read.fault (Some why) }

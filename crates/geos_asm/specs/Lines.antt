@@ -12,6 +12,7 @@ pub record Line : Type 0 where
   pub labels : List (List ℕ)
   pub statement : List (List ℕ)
 
+-- a word in front of words that are parted: a label of theirs, or the first word of the statement
 abbrev pub behind_label : Option (List ℕ) → List ℕ → List (List ℕ) → Line → Line
 behind_label None word words rest = record { labels = []; statement = word ∷ words }
 behind_label (Some name) word words rest = record { labels = name ∷ rest.labels; statement = rest.statement }

@@ -38,10 +38,12 @@ pub record Names : Type 0 where
   pub labels : Table
   pub routines : Table
 
+-- a value, if the name is defined
 abbrev pub defined : Option ℕ → Result ℕ Why
 defined None = Err Undefined
 defined (Some value) = Ok value
 
+-- what a name stands for, if the word is one
 abbrev pub meant : Table → Option (List ℕ) → Result ℕ Why
 meant table None = Err WrongOperands
 meant table (Some name) = defined (table name)

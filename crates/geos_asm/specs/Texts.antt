@@ -46,6 +46,7 @@ unfilled Body = None
 abbrev pub drop_labels : Progress → Progress
 drop_labels p = record { part = p.part; current = p.current; waiting = None; fault = first p.fault (unfollowed p.waiting) }
 
+-- routines with one more, if it has begun without fault
 abbrev pub with_current : List TextRoutine → Option TextRoutine → List TextRoutine
 with_current routines None = routines
 with_current routines (Some routine) = routines ++ routine ∷ []
@@ -56,6 +57,7 @@ closed p =
     let dropped = drop_labels p in
     record { part = dropped.part; current = None; waiting = dropped.waiting; fault = first dropped.fault (unfilled dropped.part) }
 
+-- the same of all that is said
 abbrev pub close : Draft → Draft
 close d = record { routines = with_current d.routines d.progress.current; code = d.code; progress = closed d.progress }
 
@@ -68,6 +70,7 @@ why_of (Err why) = Some why
 abbrev pub no_room : List TextRoutine → Option Why
 no_room routines = if nat_le 32 (length routines) then Some TooMany else None
 
+-- the routine that has begun, if its line has no fault
 abbrev pub begun_by : ℕ → Result Routine Why → Option Why → Option TextRoutine
 begun_by line (Ok routine) None = Some (record { line = line; routine = routine })
 begun_by line (Ok routine) (Some why) = None
@@ -79,6 +82,7 @@ begun line read full p =
     let why = least (why_of read) full in
     record { part = Head line false false; current = begun_by line read why; waiting = p.waiting; fault = first p.fault (at_line line why) }
 
+-- the same of all that is said
 abbrev pub begin : ℕ → Result Routine Why → Draft → Draft
 begin line read d = record { routines = d.routines; code = d.code; progress = begun line read (no_room d.routines) d.progress }
 
@@ -94,21 +98,25 @@ misplaced_out Outside = Some OutOfPlace
 misplaced_out (Head line has_in has_out) = if has_out then Some OutOfPlace else None
 misplaced_out Body = Some OutOfPlace
 
+-- a line `in` has come
 abbrev pub with_in : Part → Part
 with_in Outside = Outside
 with_in (Head line has_in has_out) = Head line true has_out
 with_in Body = Body
 
+-- a line `out` has come
 abbrev pub with_out : Part → Part
 with_out Outside = Outside
 with_out (Head line has_in has_out) = Head line has_in true
 with_out Body = Body
 
+-- the routine with its row at entry, if the row has no fault
 abbrev pub with_entry : Result Row Why → Option TextRoutine → Option TextRoutine
 with_entry read None = None
 with_entry (Ok row) (Some r) = Some (record { line = r.line; routine = record r.routine { entry = row } })
 with_entry (Err why) (Some r) = Some r
 
+-- the routine with its row at exit, if the row has no fault
 abbrev pub with_exit : Result Row Why → Option TextRoutine → Option TextRoutine
 with_exit read None = None
 with_exit (Ok row) (Some r) = Some (record { line = r.line; routine = record r.routine { exit = row } })
@@ -130,6 +138,7 @@ outside Outside = Some OutOfPlace
 outside (Head line has_in has_out) = None
 outside Body = None
 
+-- an instruction of the routine has come
 abbrev pub in_body : Part → Part
 in_body Outside = Outside
 in_body (Head line has_in has_out) = Body
@@ -155,6 +164,7 @@ counted (Some why) (Some r) = Some r
 abbrev pub with_instr_at : ℕ → Option Why → Progress → Progress
 with_instr_at line why p = record { part = in_body p.part; current = counted why p.current; waiting = None; fault = first p.fault (at_line line why) }
 
+-- the same of all that is said
 abbrev pub take_instr : ℕ → Result Instr Why → Draft → Draft
 take_instr line read d =
     let why = least (why_of read) (least (is_full d.code) (outside d.progress.part)) in
@@ -169,6 +179,7 @@ take_statement names line (word ∷ words) d =
     else if bytes_eq word (codes "out") then record d { progress = take_out line (row_of words) (drop_labels d.progress) }
     else take_instr line (instruction names word words) d
 
+-- the line of the first label that waits
 abbrev pub waiting_from : ℕ → Option ℕ → Option ℕ
 waiting_from line None = Some line
 waiting_from line (Some earlier) = Some earlier
@@ -209,6 +220,7 @@ pub record Code : Type 0 where
   pub routines : List TextRoutine
   pub instrs : List Instr
 
+-- the code, if the text has no fault
 abbrev pub unless_bad : Draft → Option BadLine → Result Code BadLine
 unless_bad d None = Ok (record { routines = d.routines; instrs = d.code })
 unless_bad d (Some fault) = Err fault
