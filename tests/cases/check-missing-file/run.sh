@@ -1,0 +1,2 @@
+cd /
+"$1" check no-such-file

@@ -1,0 +1,2 @@
+cd /
+"$1" list no-such-file
