@@ -20,8 +20,8 @@ use Rattle.geos_asm.specs.Items.{row_of}
 use Rattle.geos_asm.specs.Headers.{header}
 use Rattle.geos_asm.specs.Declarations.{declared}
 
--- what the lines so far say: the routines that are complete, the instructions, and where the next
--- line stands
+-- what the lines so far say: the routines that are complete and the instructions, as far as they
+-- have no fault, and where the next line stands
 pub record Draft : Type 0 where
   pub routines : List TextRoutine
   pub code : List Instr
@@ -66,11 +66,11 @@ abbrev pub why_of : {A : Type 0} → Result A Why → Option Why
 why_of (Ok value) = None
 why_of (Err why) = Some why
 
--- there may be one more routine
+-- there are as many routines as there may be
 abbrev pub no_room : List TextRoutine → Option Why
 no_room routines = if nat_le 32 (length routines) then Some TooMany else None
 
--- the routine that has begun, if its line has no fault
+-- the routine that has begun, if its line has no fault but a name that was used before
 abbrev pub begun_by : ℕ → Result Routine Why → Option Why → Option TextRoutine
 begun_by line (Ok routine) None = Some (record { line = line; routine = routine })
 begun_by line (Ok routine) (Some why) = None
@@ -86,7 +86,7 @@ begun line read full p =
 abbrev pub begin : ℕ → Result Routine Why → Draft → Draft
 begin line read d = record { routines = d.routines; code = d.code; progress = begun line read (no_room d.routines) d.progress }
 
--- a line `in` may stand here: behind the line that begins a routine, if it is the first
+-- a line `in` may not stand here: it stands behind the line that begins a routine, once
 abbrev pub misplaced_in : Part → Option Why
 misplaced_in Outside = Some OutOfPlace
 misplaced_in (Head line has_in has_out) = if has_in then Some OutOfPlace else None
@@ -132,7 +132,7 @@ abbrev pub take_out : ℕ → Result Row Why → Progress → Progress
 take_out line read p =
     record { part = with_out p.part; current = with_exit read p.current; waiting = p.waiting; fault = first p.fault (at_line line (least (why_of read) (misplaced_out p.part))) }
 
--- an instruction stands in a routine
+-- an instruction stands in no routine
 abbrev pub outside : Part → Option Why
 outside Outside = Some OutOfPlace
 outside (Head line has_in has_out) = None

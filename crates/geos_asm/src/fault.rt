@@ -16,9 +16,9 @@ pub enum Why {
     OutOfRange,
     /// No label, or no routine, has the name.
     Undefined,
-    /// A label or a routine before it has the name.
+    /// A label has the name of a label before it, or a routine that of a routine before it.
     UsedTwice,
-    /// The text, its routines or its instructions are too many.
+    /// The text is too long, or its routines or instructions are too many.
     TooMany,
     /// The line stands where it may not stand, or something is missing behind it.
     OutOfPlace,
