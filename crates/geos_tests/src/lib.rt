@@ -3,6 +3,8 @@
 #![tactic(auto)]
 
 #[cfg(test)]
+mod array_lists;
+#[cfg(test)]
 mod blocks;
 #[cfg(test)]
 mod calls;
@@ -24,5 +26,7 @@ mod random_heaps;
 mod regions;
 #[cfg(test)]
 mod vm_files;
+#[cfg(test)]
+mod wanted;
 #[cfg(test)]
 mod words;

@@ -1,8 +1,7 @@
 //! Lists of calls, by what they reply.
 
+use crate::wanted::{want, want_within, with_a_block, within};
 use geos_calls::{BlockCall, Call, Kernel, Name, Owner, Refusal, Reply};
-use std::alloc::Global;
-use std::process::Abort;
 use std::test::Fail;
 
 const BAD_CHUNK: Reply = Reply::Refused(Refusal::BadChunk);
@@ -19,43 +18,9 @@ const SHORT: Reply = Reply::Refused(Refusal::Short);
 
 const TOO_BIG: Reply = Reply::Refused(Refusal::TooBig);
 
-/// A call on the block of a handle.
-fn within(h: u16, call: BlockCall) -> Call {
-    Call::Within(Name::mem(h), call)
-}
-
 /// Puts a reference to a chunk of block 1 into a place.
 fn deref(c: u16, place: u8) -> Call {
     within(1, BlockCall::Deref { c, n: 0, place })
-}
-
-/// Asks for a list of calls, 32 at most, and wants these replies.
-fn want(rt: &impl Abort, kernel: &mut Kernel, wanted: &[(Call, Reply)]) {
-    let n = wanted.len();
-    assert!(rt; n <= 32);
-    let mut calls = [Call::Mnew; 32];
-    for k in 0..n {
-        calls[k] = wanted[k].0;
-    }
-    let mut replies = [Reply::Done; 32];
-    kernel.answer_all(&calls[..n], &mut replies[..n]);
-    for k in 0..n {
-        assert_eq!(rt; replies[k], wanted[k].1);
-    }
-}
-
-/// Asks for calls on the block of a handle, a list for each, and wants these replies.
-fn want_within(rt: &impl Abort, kernel: &mut Kernel, h: u16, wanted: &[(BlockCall, Reply)]) {
-    for (call, reply) in wanted {
-        want(rt, kernel, &[(within(h, *call), *reply)]);
-    }
-}
-
-/// A kernel with block 1, which is locked.
-fn with_a_block(rt: &impl Abort, alloc: Global) -> Result<Kernel, Fail> {
-    let mut kernel = Kernel::new(alloc, 65_536)?;
-    want(rt, &mut kernel, &[(Call::Mnew, Reply::Number(1))]);
-    Ok(kernel)
 }
 
 #[test]
