@@ -25,7 +25,7 @@ mod random_heaps;
 #[cfg(test)]
 mod regions;
 #[cfg(test)]
-mod texts;
+mod vm_commits;
 #[cfg(test)]
 mod vm_files;
 #[cfg(test)]
