@@ -9,3 +9,9 @@ pub mod Ends
 pub mod Flows
 pub mod Seeding
 pub mod Back
+pub mod Counts
+pub mod Asks
+pub mod Wanted
+pub mod Accepting
+pub mod Finding
+pub mod Written

@@ -1,5 +1,5 @@
 -- Each routine's entry row is known where it begins.
-use Rattle.std.proofs.Common.{◌≡◌, ◌≢◌, ℕ, suc, ◌+◌, ◌<◌, ◌≤◌, true, List, [], length, Option, Some, None, slice_get, get_or, set, sym, ap, ◌∙◌, arith, inl, inr}
+use Rattle.std.proofs.Common.{◌≡◌, ◌≢◌, ℕ, suc, ◌+◌, ◌<◌, ◌≤◌, true, List, [], ◌∷◌, length, Option, Some, None, slice_get, get_or, set, refl, sym, ap, ◌∙◌, arith, inl, inr}
 use Rattle.std.proofs.lemmas.Bool.{cases_eq, cases_lt}
 use Rattle.std.proofs.lemmas.List.{get_or-set_same, get_or-set_other, length-set}
 use Rattle.std.proofs.lemmas.Option.{slice_get_within}
@@ -89,3 +89,8 @@ lies image legal r routine there =
     let end = start_of-end image.routines r routine there in
     let counts = parts.counts in
     (omega arith, (routine_parts [] image.routines r routine parts.routines there).count, parts.short)
+
+-- the first routine starts at 0
+pub start_of-first : (routines : List Routine) → start_of routines 0 ≡ 0
+start_of-first [] = refl
+start_of-first (x ∷ routines) = refl

@@ -2,3 +2,6 @@ pub mod Joins
 pub mod Code
 pub mod Solutions
 pub mod Flow
+pub mod Count
+pub mod Points
+pub mod Theorem

@@ -4,11 +4,14 @@
 #![tactic(auto)]
 
 mod common;
+mod count;
 mod edges;
 mod error;
 mod flow;
+mod inference;
 mod rounds;
 mod seeds;
 
 pub use common::{clean, join};
 pub use error::InferError;
+pub use inference::infer;

@@ -1,0 +1,259 @@
+-- The rows and numbers of steps of an accepted image hold.
+use Rattle.std.proofs.Common.{◌≡◌, ◌≢◌, ℕ, zero, suc, ◌+◌, ◌*◌, ◌<◌, ◌≤◌, Bool, true, false, List, [], ◌∷◌, length, map, take, ◌-◌, Some, None, slice_get, get_or, refl, sym, ap, ◌∙◌, subst, arith, inl, inr}
+use Rattle.std.specs.Prelude.{◌&&◌, nat_le, if◌then◌else◌, slice_index, slice_set, option_map}
+use Rattle.std.proofs.lemmas.Bool.{and_parts, leb-true, cases_lt}
+use Rattle.std.proofs.lemmas.List.{length-map}
+use Rattle.std.proofs.lemmas.List.Sums.{sum_by-cons}
+use Rattle.std.proofs.lemmas.Option.{slice_get-map, slice_get_within, get_or_from_slice_get, same_Some}
+use Rattle.geos_image.specs.declared.opcode.Opcode.{Opcode}
+use Rattle.geos_image.specs.declared.opcode.Opcode.TheVariants.{Setk, Setkw, Loop, Call}
+use Rattle.geos_image.specs.declared.instr.Instr.{Instr}
+use Rattle.geos_image.specs.declared.row.Row.{Row}
+use Rattle.geos_image.specs.declared.potential.Potential.{Potential}
+use Rattle.geos_image.specs.declared.routine.Routine.{Routine}
+use Rattle.geos_image.specs.Parts.{Point, Parts, start_of, total_count}
+use Rattle.geos_image.specs.Legal.{is_image}
+use Rattle.geos_image.specs.Ranges.{ImageFits, PointFits}
+use Rattle.geos_image.proofs.Instrs.{image_parts}
+use Rattle.geos_verify.specs.Lists.{all2}
+use Rattle.geos_verify.specs.Rows.{branches, fits, bound, row_along, row_branching}
+use Rattle.geos_verify.specs.Potentials.{pays, pays_setting, pays_calling, budget_of, pays_along, pays_branching}
+use Rattle.geos_verify.specs.Touched.{calls, touched_by}
+use Rattle.geos_verify.specs.Rules.{has_place, returns, names_empty_slot, tests, HasPoint, IsChecked}
+use Rattle.geos_verify.proofs.Passed.{passed}
+use Rattle.geos_verify.proofs.Places.{place_bounds, place_true, item_at}
+use Rattle.geos_semantics.proofs.Leads.{leads-along, leads-branching, may_return, may_begin, begins-within}
+use Rattle.geos_infer.specs.Code.{Edge, Begins, Spans, Closed, SameCode, Forward, code_of, instr_of, edge_row}
+use Rattle.geos_infer.specs.Solutions.{RowsHold, StepsHold, call_steps}
+use Rattle.geos_infer.proofs.Ends.{code-length, same-edge}
+
+abbrev pub row_at : Point → Row
+row_at point = point.1
+
+abbrev pub constant_at : Point → ℕ
+constant_at point = point.2.constant
+
+-- what was mapped
+pub map-get : {X Y : Type 0} (f : X → Y) (xs : List X) (k : ℕ) (y : Y) → slice_get (map f xs) k ≡ Some y → (x : X) × (slice_get xs k ≡ Some x) × (f x ≡ y)
+map-get f [] k y e = absurd cc
+map-get f (x ∷ xs) zero y e = (x, refl, same_Some (f x) y e)
+map-get f (x ∷ xs) (suc k) y e = map-get f xs k y e
+
+-- each pc is in a routine
+pub routine-at : (routines : List Routine) (pc : ℕ) → pc < total_count routines → (r : ℕ) × (routine : Routine) × (slice_get routines r ≡ Some routine) × (start_of routines r ≤ pc) × (pc < start_of routines r + routine.count)
+routine-at [] pc lt = absurd (omega arith)
+routine-at (x ∷ routines) pc lt = elim (cases_lt pc x.count) [
+  | inl here ↦ (0, x, refl, omega arith, omega arith)
+  | inr past ↦
+      let all = sum_by-cons (λ (y : Routine). y.count) x routines in
+      let ih = routine-at routines (pc - x.count) (omega arith) in
+      let start = sum_by-cons (λ (y : Routine). y.count) x (take ih.0 routines) in
+      (suc ih.0, ih.1, ih.2, (let low = ih.3 in omega arith), (let high = ih.4 in omega arith))
+]
+
+-- a point is one of a routine's
+pub has-point : (o : Parts) → is_image o ≡ true → (pc : ℕ) (point : Point) → slice_get o.points pc ≡ Some point → (r : ℕ) × (routine : Routine) × HasPoint o r routine pc point
+has-point o legal pc point read =
+    let counts = (image_parts o legal).counts in
+    let lt = slice_get_within o.points pc point read in
+    let at = routine-at o.routines pc (omega arith) in
+    (at.0, at.1, record { there = at.2; within = place_true (start_of o.routines at.0) at.1.count pc at.3 at.4; read = read })
+
+setting-steps : (k n : ℕ) (p q : Potential) → pays_setting k n p q ≡ true → q.constant + 1 + 0 ≤ p.constant
+setting-steps k n p q h =
+    let a = and_parts (nat_le (q.constant + 1 + slice_index q.coefficients k * n) p.constant) (all2 nat_le (slice_set q.coefficients k 0) p.coefficients) h in
+    let le = leb-true (q.constant + 1 + slice_index q.coefficients k * n) p.constant a.0 in
+    omega arith
+
+pays-steps : (p q : Potential) → pays p q ≡ true → q.constant + 1 + 0 ≤ p.constant
+pays-steps p q h =
+    let le = leb-true (q.constant + 1) p.constant ((and_parts (nat_le (q.constant + 1) p.constant) (all2 nat_le q.coefficients p.coefficients) h).0) in
+    omega arith
+
+calling-steps : (budget : ℕ) (touched : List Bool) (p q : Potential) → pays_calling budget touched p q ≡ true → q.constant + 1 + budget ≤ p.constant
+calling-steps budget touched p q h =
+    let a = and_parts (nat_le (q.constant + 1 + budget) p.constant && all2 nat_le q.coefficients p.coefficients) _ h in
+    leb-true (q.constant + 1 + budget) p.constant ((and_parts (nat_le (q.constant + 1 + budget) p.constant) (all2 nat_le q.coefficients p.coefficients) a.0).0)
+
+-- what a call takes, by the opcode
+abbrev called : Parts → Instr → Opcode → ℕ
+called image i opcode = if calls opcode then budget_of image i.imm else 0
+
+along-steps : (image : Parts) (i : Instr) (opcode : Opcode) (row : Row) (p q : Potential) → pays_along image i opcode row p q ≡ true → q.constant + 1 + called image i opcode ≤ p.constant
+along-steps image i Setk row p q h = setting-steps i.a i.imm p q h
+along-steps image i Setkw row p q h = setting-steps i.a (bound row i.b) p q h
+along-steps image i Loop row p q h = setting-steps i.a 0 p q h
+along-steps image i Call row p q h = calling-steps (budget_of image i.imm) (touched_by image i.imm) p q h
+along-steps image i _ row p q h = pays-steps p q h
+
+branching-steps : (image : Parts) (i : Instr) (opcode : Opcode) (p q : Potential) → opcode ≢ Loop → branches opcode ≡ true → pays_branching i opcode p q ≡ true → q.constant + 1 + called image i opcode ≤ p.constant
+branching-steps image i Loop p q ne b h = absurd (ne refl)
+branching-steps image i Call p q ne b h = absurd cc
+branching-steps image i _ p q ne b h = pays-steps p q h
+
+module _ (o : Parts) (checked : IsChecked o) where
+  -- where an edge leads, by the rules
+  row-fits : (pc : ℕ) (branch : Bool) (point next : Point) → slice_get o.points pc ≡ Some point → (to : ℕ) → Edge (code_of o) pc branch to point.0 → slice_get o.points to ≡ Some next
+      → fits (edge_row o point.0 branch point.1) next.1 ≡ true
+  row-fits pc true point next read to edge at =
+      let has = has-point o checked.0 pc point read in
+      let L = leads-branching o checked.0 checked.1 has.0 pc has.1 point has.2 point.0.opcode refl edge.has in
+      let same : L.point ≡ next = same_Some L.point next (sym L.has.read ∙ ap (slice_get o.points) edge.leads ∙ at) in
+      subst (λ (x : Point). fits (row_branching point.0 point.0.opcode point.1) x.1 ≡ true) same L.fits
+  row-fits pc false point next read to edge at =
+      let has = has-point o checked.0 pc point read in
+      let L = leads-along o checked.0 checked.1 has.0 pc has.1 point has.2 point.0.opcode refl edge.has in
+      let same : L.point ≡ next = same_Some L.point next (sym L.has.read ∙ ap (slice_get o.points) edge.leads ∙ at) in
+      subst (λ (x : Point). fits (row_along o point.0 point.0.opcode point.1) x.1 ≡ true) same L.fits
+
+  step-paid : (pc : ℕ) (branch : Bool) (point next : Point) → slice_get o.points pc ≡ Some point → (to : ℕ) → Edge (code_of o) pc branch to point.0 → slice_get o.points to ≡ Some next
+      → point.0.opcode ≢ Loop → next.2.constant + 1 + call_steps o point.0 ≤ point.2.constant
+  step-paid pc true point next read to edge at ne =
+      let has = has-point o checked.0 pc point read in
+      let L = leads-branching o checked.0 checked.1 has.0 pc has.1 point has.2 point.0.opcode refl edge.has in
+      let same : L.point ≡ next = same_Some L.point next (sym L.has.read ∙ ap (slice_get o.points) edge.leads ∙ at) in
+      subst (λ (x : Point). x.2.constant + 1 + call_steps o point.0 ≤ point.2.constant) same (branching-steps o point.0 point.0.opcode point.2 L.point.2 ne edge.has L.pays)
+  step-paid pc false point next read to edge at ne =
+      let has = has-point o checked.0 pc point read in
+      let L = leads-along o checked.0 checked.1 has.0 pc has.1 point has.2 point.0.opcode refl edge.has in
+      let same : L.point ≡ next = same_Some L.point next (sym L.has.read ∙ ap (slice_get o.points) edge.leads ∙ at) in
+      subst (λ (x : Point). x.2.constant + 1 + call_steps o point.0 ≤ point.2.constant) same (along-steps o point.0 point.0.opcode point.1 point.2 L.point.2 L.pays)
+
+  -- the edge of the instruction of a point
+  edge-of : (pc to : ℕ) (branch : Bool) (i : Instr) (point : Point) → slice_get o.points pc ≡ Some point → Edge (code_of o) pc branch to i → (i ≡ point.0) × Edge (code_of o) pc branch to point.0
+  edge-of pc to branch i point read edge =
+      let here : slice_get (code_of o) pc ≡ Some point.0 = slice_get-map instr_of o.points pc ∙ ap (option_map instr_of) read in
+      let same : i ≡ point.0 = same_Some i point.0 (sym edge.read ∙ here) in
+      (same, subst (λ x. Edge (code_of o) pc branch to x) same edge)
+
+  -- no edge leaves a routine
+  stays-inside : Closed o
+  stays-inside r start end pc to branch i spans from lt edge =
+      let point = map-get instr_of o.points pc i edge.read in
+      let e = edge-of pc to branch i point.0 point.1 edge in
+      let begin = spans.start_is in
+      let stop = spans.end_is in
+      let within = place_true (start_of o.routines r) spans.routine.count pc (omega arith) (omega arith) in
+      let has : HasPoint o r spans.routine pc point.0 = record { there = spans.there; within = within; read = point.1 } in
+      let place = place_bounds (start_of o.routines r) spans.routine.count to (leads branch point.0 spans.routine has e.1) in
+      omega (arith, place.1)
+    where
+      leads : (branch : Bool) (point : Point) (routine : Routine) → HasPoint o r routine pc point → Edge (code_of o) pc branch to point.0 → has_place (start_of o.routines r) routine.count to ≡ true
+      leads true point routine has e =
+          let L = leads-branching o checked.0 checked.1 r pc routine point has point.0.opcode refl e.has in
+          let P : ℕ → Type 0 = λ n. has_place (start_of o.routines r) routine.count n ≡ true in
+          subst P e.leads L.has.within
+      leads false point routine has e =
+          let L = leads-along o checked.0 checked.1 r pc routine point has point.0.opcode refl e.has in
+          let P : ℕ → Type 0 = λ n. has_place (start_of o.routines r) routine.count n ≡ true in
+          subst P e.leads L.has.within
+
+  rows-hold : RowsHold o (map row_at o.points)
+  rows-hold = record {
+    len = length-map o.points row_at ∙ sym (code-length o);
+    closed = stays-inside;
+    entries = λ pc entry row b at. entries_ pc entry row b (map-get row_at o.points pc row at);
+    edges = λ pc to branch i row next edge at there. edges_ pc to branch i row next edge (map-get row_at o.points pc row at) (map-get row_at o.points to next there);
+    clean = λ pc row at. clean_ pc row (map-get row_at o.points pc row at);
+  }
+    where
+      entries_ : (pc : ℕ) (entry row : Row) → Begins o.routines pc entry → (point : Point) × (slice_get o.points pc ≡ Some point) × (row_at point ≡ row) → fits entry row ≡ true
+      entries_ pc entry row b (point, read, is) =
+          let within = begins-within o checked.0 b.r b.routine b.there in
+          let has : HasPoint o b.r b.routine pc point = record { there = b.there; within = (let P : ℕ → Type 0 = λ n. has_place (start_of o.routines b.r) b.routine.count n ≡ true in subst P (sym b.start) within); read = read } in
+          let may = (may_begin o checked.0 checked.1 b.r pc b.routine point has b.start).0 in
+          subst (λ (x : Row). fits x row ≡ true) b.entry_is (subst (λ (x : Row). fits b.routine.entry x ≡ true) is may)
+
+      edges_ : (pc to : ℕ) (branch : Bool) (i : Instr) (row next : Row) → Edge (code_of o) pc branch to i → (point : Point) × (slice_get o.points pc ≡ Some point) × (row_at point ≡ row)
+          → (point : Point) × (slice_get o.points to ≡ Some point) × (row_at point ≡ next) → fits (edge_row o i branch row) next ≡ true
+      edges_ pc to branch i row next edge (point, read, is) (other, at, next_is) =
+          let e = edge-of pc to branch i point read edge in
+          let k = row-fits pc branch point other read to e.1 at in
+          subst (λ (x : Instr). fits (edge_row o x branch row) next ≡ true) (sym e.0)
+          (subst (λ (x : Row). fits (edge_row o point.0 branch x) next ≡ true) is (subst (λ (x : Row). fits (edge_row o point.0 branch point.1) x ≡ true) next_is k))
+
+      clean_ : (pc : ℕ) (row : Row) → (point : Point) × (slice_get o.points pc ≡ Some point) × (row_at point ≡ row) → names_empty_slot row ≡ false
+      clean_ pc row (point, read, is) =
+          let has = has-point o checked.0 pc point read in
+          let all = passed (tests o has.0 has.1 (start_of o.routines has.0) pc point) (checked.1 has.0 pc has.1 point has.2) in
+          subst (λ (x : Row). names_empty_slot x ≡ false) is all.1.0
+
+  constant-at : (pc : ℕ) (point : Point) → slice_get o.points pc ≡ Some point → get_or (map constant_at o.points) pc 0 ≡ point.2.constant
+  constant-at pc point read = get_or_from_slice_get (map constant_at o.points) pc point.2.constant 0 (slice_get-map constant_at o.points pc ∙ ap (option_map constant_at) read)
+
+  steps-hold : ((pc : ℕ) (i : Instr) → slice_get (code_of o) pc ≡ Some i → i.opcode ≢ Loop) → ImageFits o → StepsHold o (map constant_at o.points)
+  steps-hold no_loop fit = record {
+    closed = stays-inside;
+    edges = λ pc to branch i edge within. (
+        let from = map-get instr_of o.points pc i edge.read in
+        let next = item_at o.points to (let len = code-length o in omega arith) in
+        let e = edge-of pc to branch i from.0 from.1 edge in
+        let ne : from.0.0.opcode ≢ Loop = no_loop pc from.0.0 e.1.read in
+        let paid = step-paid pc branch from.0 next.0 from.1 to e.1 next.1 ne in
+        let paid_here : next.0.2.constant + 1 + call_steps o i ≤ from.0.2.constant = subst (λ (x : Instr). next.0.2.constant + 1 + call_steps o x ≤ from.0.2.constant) (sym e.0) paid in
+        rw (constant-at pc from.0 from.1, constant-at to next.0 next.1) paid_here
+        );
+    returns = λ pc i there is. (
+        let from = map-get instr_of o.points pc i there in
+        let has = has-point o checked.0 pc from.0 from.1 in
+        rw (constant-at pc from.0 from.1) ((may_return o checked.0 checked.1 has.0 pc has.1 from.0 has.2 (ap (λ (x : Instr). returns x.opcode) from.2 ∙ is)).1)
+        );
+    long = λ pc. elim (cases_lt pc (length o.points)) [
+      | inl lt ↦
+          let point = item_at o.points pc lt in
+          let fitting : PointFits point.0 = subst PointFits (get_or_from_slice_get o.points pc point.0 point.0 point.1) (fit.points pc point.0 lt) in
+          let long = fitting.potential.constant in
+          rw (constant-at pc point.0 point.1) (omega arith)
+      | inr past ↦
+          let none = past-zero (map constant_at o.points) pc (let len = length-map o.points constant_at in omega arith) in
+          rw none (omega arith)
+    ];
+  }
+    where
+      past-zero : (xs : List ℕ) (k : ℕ) → length xs ≤ k → get_or xs k 0 ≡ 0
+      past-zero [] k h = refl
+      past-zero (x ∷ xs) zero h = absurd (omega arith)
+      past-zero (x ∷ xs) (suc k) h = past-zero xs k (omega arith)
+
+-- Another image with the same code
+
+module _ (image o : Parts) (same : SameCode image o) where
+  edge-there : (pc to : ℕ) (branch : Bool) (i : Instr) → Edge (code_of image) pc branch to i → Edge (code_of o) pc branch to i
+  edge-there pc to branch i edge = subst (λ (code : List Instr). Edge code pc branch to i) (sym same.instrs) edge
+
+  closed-here : Closed o → Closed image
+  closed-here c = λ r start end pc to branch i spans from lt edge. c r start end pc to branch i (subst (λ (rs : List Routine). Spans rs r start end) (sym same.routines) spans) from lt (edge-there pc to branch i edge)
+
+  rows-here : (rows : List Row) → RowsHold o rows → RowsHold image rows
+  rows-here rows H = record {
+    len = H.len ∙ ap length same.instrs;
+    closed = closed-here H.closed;
+    entries = λ pc entry row b at. H.entries pc entry row (subst (λ (rs : List Routine). Begins rs pc entry) (sym same.routines) b) at;
+    edges = λ pc to branch i row next edge at there.
+        subst (λ (x : Row). fits x next ≡ true) (same-edge image o same.routines i branch row) (H.edges pc to branch i row next (edge-there pc to branch i edge) at there);
+    clean = H.clean;
+  }
+
+  call-same : (i : Instr) → call_steps o i ≡ call_steps image i
+  call-same i = ap (λ (rs : List Routine). if calls i.opcode then elim (slice_get rs i.imm) [ None ↦ 0 | Some routine ↦ routine.budget ] else 0) same.routines
+
+  steps-here : (steps : List ℕ) → StepsHold o steps → StepsHold image steps
+  steps-here steps H = record {
+    closed = closed-here H.closed;
+    edges = λ pc to branch i edge within. (
+        let len = ap length same.instrs in
+        let paid = H.edges pc to branch i (edge-there pc to branch i edge) (omega arith) in
+        let called = call-same i in
+        omega arith
+        );
+    returns = λ pc i there is. H.returns pc i (subst (λ (code : List Instr). slice_get code pc ≡ Some i) (sym same.instrs) there) is;
+    long = H.long;
+  }
+
+  pub rows-wanted : IsChecked o → RowsHold image (map row_at o.points)
+  rows-wanted checked = rows-here (map row_at o.points) (rows-hold o checked)
+
+  pub steps-wanted : Forward image → ImageFits o → IsChecked o → StepsHold image (map constant_at o.points)
+  steps-wanted forward fit checked =
+      let no_loop = subst (λ (code : List Instr). (pc : ℕ) (i : Instr) → slice_get code pc ≡ Some i → i.opcode ≢ Loop) (sym same.instrs) forward.no_loop in
+      steps-here (map constant_at o.points) (steps-hold o checked no_loop fit)

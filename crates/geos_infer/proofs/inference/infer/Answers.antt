@@ -1,0 +1,43 @@
+use Rattle.std.proofs.Common.{◌≡◌, ◌*◌, ◌∙◌, sym, ap, subst, List, Option, ℕ, length, map}
+use Rattle.std.proofs.lemmas.Bool.{false≢true}
+use Rattle.geos_image.specs.declared.row.Row.{Row}
+use Rattle.geos_image.specs.Parts.{Parts}
+use Rattle.geos_infer.specs.Flow.{Flowing}
+use Rattle.geos_infer.specs.Count.{Counting, ZerosFrom}
+use Rattle.geos_infer.specs.Theorem.{FindsWhatThereIs}
+use Rattle.geos_infer.proofs.Wanted.{row_at, constant_at, rows-wanted, steps-wanted}
+use Rattle.geos_infer.proofs.Finding.{found-legal, found-code, found-checked, made-legal, made-is, made-code}
+use Rattle.geos_infer.proofs.inference.infer.Goals as goal
+
+pub returns-in-Err-clause-none : goal.returns-in-Err-clause-none
+returns-in-Err-clause-none c = λ r e forward has. c.in-Err.ensures.none r (map row_at has.other.points) e forward (rows-wanted c.args.skeleton.now has.other has.same has.checked)
+
+pub returns-in-Err-count-clause-none : goal.returns-in-Err-count-clause-none
+returns-in-Err-count-clause-none c = λ r e forward has. c.in-Err-count.ensures.none r (map constant_at has.other.points) e forward (steps-wanted c.args.skeleton.now has.other has.same forward has.fits has.checked)
+
+pub unreachable-requires : goal.unreachable-requires
+unreachable-requires c =
+    let image = c.args.skeleton.now in
+    let points = c.in_ok-points.points.items in
+    let legal = found-legal image c.deref-2.result.now c.deref-3.result.now c.deref-4.result.now points c.len-legal.ensures.legal c.in_ok-points.ensures in
+    absurd (false≢true (c.in-None.ensures.some.1 (made-legal image c.in_ok-routines.routines.items points c.in_ok-routines.ensures legal)))
+
+pub returns-clause-code : goal.returns-clause-code
+returns-clause-code c =
+    let image = c.args.skeleton.now in
+    let points = c.in_ok-points.points.items in
+    let is = made-is image c.in-Some.image c.in_ok-routines.routines.items points c.in_ok-routines.ensures c.in-Some.ensures.value in
+    made-code image c.in-Some.image points is (found-code image c.deref-2.result.now c.deref-3.result.now c.deref-4.result.now points c.in_ok-points.ensures)
+
+pub returns-clause-found : goal.returns-clause-found
+returns-clause-found c =
+    let image = c.args.skeleton.now in
+    let points = c.in_ok-points.points.items in
+    let is = made-is image c.in-Some.image c.in_ok-routines.routines.items points c.in_ok-routines.ensures c.in-Some.ensures.value in
+    let found = found-checked image c.len-legal.ensures.legal c.deref-2.result.now c.deref-3.result.now c.deref-4.result.now points (ap length c.deref-4.ensures.value ∙ c.in-Ok-count.ensures.coefficients)
+    (λ want forward holds. subst (λ (known : List (Option Row)). Flowing image want known (2 * length c.args.skeleton.now.points)) (sym c.deref-2.ensures.value) (c.in-Ok.ensures.found want forward holds))
+    (λ want forward holds. (
+    let counted = c.in-Ok-count.ensures.found want forward holds in
+    (subst (λ (steps : List ℕ). Counting image want steps 0) (sym c.deref-3.ensures.value) counted.0, subst (λ (coefficients : List (List ℕ)). ZerosFrom 0 coefficients) (sym c.deref-4.ensures.value) counted.1)
+    )) c.in_ok-points.ensures in
+    subst (λ (x : Parts). FindsWhatThereIs image x) (sym is) found

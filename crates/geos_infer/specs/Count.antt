@@ -1,0 +1,39 @@
+-- How many steps are left at most, counted from behind.
+use Rattle.std.specs.Prelude.{◌≡◌, ◌≤◌, ◌<◌, ℕ, ◌+◌, max, Bool, true, false, if◌then◌else◌, List, [], ◌∷◌, length, Option, Some, None, slice_get, slice_index, slice_index_or}
+use Rattle.geos_image.specs.declared.instr.Instr.{Instr}
+use Rattle.geos_image.specs.Parts.{Parts}
+use Rattle.geos_verify.specs.Rules.{returns}
+use Rattle.geos_infer.specs.Code.{Edge, code_of, edge_end}
+use Rattle.geos_infer.specs.Flow.{leads_ahead}
+use Rattle.geos_infer.specs.Solutions.{call_steps}
+
+-- what an edge that leads ahead asks for
+abbrev pub edge_steps : Parts → ℕ → ℕ → Instr → Bool → List ℕ → ℕ
+edge_steps image limit pc i branch steps = if leads_ahead limit pc i branch then slice_index steps (edge_end pc i branch) + 1 + call_steps image i else 0
+
+-- what a return asks for
+abbrev pub return_steps : Instr → ℕ
+return_steps i = if returns i.opcode then 1 else 0
+
+-- what an instruction asks for
+abbrev pub steps_at : Parts → ℕ → ℕ → Instr → List ℕ → ℕ
+steps_at image limit pc i steps = max (return_steps i) (max (edge_steps image limit pc i false steps) (edge_steps image limit pc i true steps))
+
+-- from a pc on, the numbers hold, and are at most numbers that do
+pub record Counting (image : Parts) (want steps : List ℕ) (pc : ℕ) : Type 0 where
+  pub len : length steps ≡ length (code_of image)
+  pub below : (k : ℕ) → pc ≤ k → k < length (code_of image) → slice_index steps k ≤ slice_index want k
+  pub edges : (k to : ℕ) (branch : Bool) (i : Instr) → pc ≤ k → Edge (code_of image) k branch to i → to < length (code_of image) → slice_index steps to + 1 + call_steps image i ≤ slice_index steps k
+  pub returns : (k : ℕ) (i : Instr) → pc ≤ k → slice_get (code_of image) k ≡ Some i → returns i.opcode ≡ true → 1 ≤ slice_index steps k
+
+-- no counter counts
+abbrev pub zeros : List ℕ
+zeros = 0 ∷ 0 ∷ 0 ∷ 0 ∷ []
+
+-- no counter counts from a pc on
+abbrev pub ZerosFrom : ℕ → List (List ℕ) → Type 0
+ZerosFrom from coefficients = (k : ℕ) → from ≤ k → k < length coefficients → slice_index_or coefficients k [] ≡ zeros
+
+-- where the edge leads, if that is ahead and before the limit
+abbrev pub target_ahead : ℕ → ℕ → Instr → Bool → Option ℕ
+target_ahead limit pc i branch = if leads_ahead limit pc i branch then Some (edge_end pc i branch) else None

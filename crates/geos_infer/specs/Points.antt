@@ -1,0 +1,25 @@
+-- The routines and points that are made of what was found.
+use Rattle.std.specs.Prelude.{◌≡◌, ℕ, List, [], ◌∷◌, length, Option, Some, true, slice_get, slice_index, slice_index_or}
+use Rattle.geos_image.specs.declared.row.Row.{Row}
+use Rattle.geos_image.specs.declared.potential.Potential.{Potential}
+use Rattle.geos_image.specs.declared.routine.Routine.{Routine}
+use Rattle.geos_image.specs.Parts.{Point, Parts}
+use Rattle.geos_image.specs.Legal.{is_row}
+use Rattle.geos_infer.specs.Flow.{row_of, known_at}
+
+-- so many steps, whatever the counters are
+abbrev pub potential_of : ℕ → Potential
+potential_of n = record { constant = n; coefficients = 0 ∷ 0 ∷ 0 ∷ 0 ∷ [] }
+
+-- the instructions of the image, with the rows that are known, and the steps and coefficients
+-- that are counted
+pub record PointsOf (image : Parts) (known : List (Option Row)) (steps : List ℕ) (coefficients : List (List ℕ)) (points : List Point) : Type 0 where
+  pub len : length points ≡ length image.points
+  pub each : (pc : ℕ) (old : Point) → slice_get image.points pc ≡ Some old
+      → slice_get points pc ≡ Some (old.0, row_of (known_at known pc), record { constant = slice_index steps pc; coefficients = slice_index_or coefficients pc [] })
+  pub legal : (pc : ℕ) (old : Point) → slice_get image.points pc ≡ Some old → is_row (row_of (known_at known pc)) ≡ true
+
+-- the routines of the image
+pub record RoutinesOf (image : Parts) (routines : List Routine) : Type 0 where
+  pub len : length routines ≡ length image.routines
+  pub each : (r : ℕ) (routine : Routine) → slice_get image.routines r ≡ Some routine → slice_get routines r ≡ Some routine

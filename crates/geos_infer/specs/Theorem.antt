@@ -1,0 +1,25 @@
+-- The rows and potentials that are found are enough wherever some are.
+use Rattle.std.specs.Prelude.{◌≡◌, List, Option, Some, None}
+use Rattle.geos_image.specs.Parts.{Point, Parts}
+use Rattle.geos_image.specs.Ranges.{ImageFits}
+use Rattle.geos_verify.specs.Rules.{IsChecked}
+use Rattle.geos_infer.specs.Code.{SameCode, Forward}
+
+-- the image with these points in place of its own
+abbrev pub with_points : Parts → List Point → Parts
+with_points image points = record image { points = points }
+
+-- some image with the code of this one is accepted, and its numbers fit their fields
+pub record HasAccepted (image : Parts) : Type 0 where
+  pub other : Parts
+  pub same : SameCode image other
+  pub fits : ImageFits other
+  pub checked : IsChecked other
+
+-- an image is accepted, if its code has no loops and some image with that code is
+abbrev pub FindsWhatThereIs : Parts → Parts → Type 0
+FindsWhatThereIs skeleton found = Forward skeleton → HasAccepted skeleton → IsChecked found
+
+-- no image is accepted that has this code, or the code has loops
+abbrev pub NoneIsAccepted : Parts → Type 0
+NoneIsAccepted skeleton = Forward skeleton → HasAccepted skeleton → ⊥

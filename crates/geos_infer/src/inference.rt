@@ -1,0 +1,81 @@
+//! Rows and potentials for the code of an image.
+
+ghost use Rattle.std.specs.Prelude.{◌≡◌, ℕ, length, IfOk, IfErr};
+ghost use Rattle.geos_infer.specs.declared.error.InferError.TheVariants.{NoRows};
+ghost use Rattle.geos_infer.specs.Code.{SameCode};
+ghost use Rattle.geos_infer.specs.Points.{PointsOf, RoutinesOf};
+ghost use Rattle.geos_infer.specs.Theorem.{FindsWhatThereIs, NoneIsAccepted};
+
+use crate::count::count;
+use crate::error::InferError;
+use crate::flow::row_of;
+use crate::rounds::find_rows;
+use geos_image::{Image, Instr, Potential, Routine, Row};
+use std::alloc::{AllocError, Global};
+
+/// The instructions of the image, with the rows and potentials that were found.
+fn points_of(
+    alloc: Global,
+    image: &Image,
+    known: &[Option<Row>],
+    steps: &[u32],
+    coefficients: &[[u32; 4]],
+) -> Result<Vec<(Instr, Row, Potential)>, AllocError>
+    requires known { length known.now ≡ length image.now.points }
+    requires steps { length steps.now ≡ length image.now.points }
+    requires coefficients { length coefficients.now ≡ length image.now.points }
+    ensures { IfOk result (λ points. PointsOf image.now known.now steps.now coefficients.now points.items) }
+{
+    let mut points = Vec::new(alloc);
+    for pc in 0..image.len() {
+        let potential = Potential {
+            constant: steps[pc as usize],
+            coefficients: coefficients[pc as usize],
+        };
+        points.push((*image.instr(pc), row_of(&known[pc as usize]), potential))?;
+    }
+    Ok(points)
+}
+
+/// A copy of the image's routines.
+fn routines_of(alloc: Global, image: &Image) -> Result<Vec<Routine>, AllocError>
+    ensures { IfOk result (λ routines. RoutinesOf image.now routines.items) }
+{
+    let mut routines = Vec::new(alloc);
+    for r in 0..image.count() {
+        routines.push(*image.routine(r))?;
+    }
+    Ok(routines)
+}
+
+/// An image with the code of the skeleton (its routines, with entry and exit rows and budgets,
+/// and its instructions), and with rows and potentials that are found for it; those of the
+/// skeleton are not looked at.
+///
+/// Where no edge leads back, and each instruction but a routine's first has an edge into it, the
+/// verifier accepts the image that is answered if it accepts any with that code. The image may be
+/// one that it refuses: then `geos_verify::check` says where. `NoRows` names a routine where
+/// slots differ in more than marks where ways of control meet, or for which no potential was
+/// found.
+pub fn infer(alloc: Global, skeleton: &Image) -> Result<Image, InferError>
+    ensures code { IfOk result (λ image. SameCode skeleton.now image) }
+    ensures found { IfOk result (λ image. FindsWhatThereIs skeleton.now image) }
+    ensures none { IfErr result (λ error. (r : ℕ) → error ≡ NoRows r → NoneIsAccepted skeleton.now) }
+{
+    // For what `len` says of the skeleton: it is one that the format allows.
+    let _legal = skeleton.len();
+    let known = match find_rows(alloc, skeleton) {
+        Ok(known) => known,
+        Err(error) => return Err(error),
+    };
+    let (steps, coefficients) = match count(alloc, skeleton, &known) {
+        Ok(both) => both,
+        Err(error) => return Err(error),
+    };
+    let points = points_of(alloc, skeleton, &known, &steps, &coefficients)?;
+    let routines = routines_of(alloc, skeleton)?;
+    match Image::new(routines, points) {
+        Some(image) => Ok(image),
+        None => unreachable!(),
+    }
+}
