@@ -25,6 +25,8 @@ mod random_heaps;
 #[cfg(test)]
 mod regions;
 #[cfg(test)]
+mod texts;
+#[cfg(test)]
 mod vm_commits;
 #[cfg(test)]
 mod vm_files;
