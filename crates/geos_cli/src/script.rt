@@ -16,10 +16,10 @@ ghost use Rattle.geos_text.specs.Words.{words};
 
 use crate::counted::Counted;
 use crate::fault::ScriptFault;
-use geos_text::{first_line, first_word, number, without_comment};
 use geos_calls::Kernel;
 use geos_image::Image;
 use geos_machine::{Machine, admits};
+use geos_text::{first_line, first_word, number, without_comment};
 use geos_verify::{Checked, check};
 use std::alloc::Global;
 use std::io::Write;
