@@ -1,6 +1,6 @@
 -- The region behind blocks, as one list of bytes.
-use Rattle.std.proofs.Common.{◌≡◌, ℕ, List, length, Option, Some, None, slice_index_or, refl, sym, ap, ◌∙◌}
-use Rattle.lmem_raw.specs.Bytes.{part}
+use Rattle.std.proofs.Common.{◌≡◌, ℕ, zero, suc, List, [], ◌∷◌, length, Option, Some, None, slice_index_or, refl, sym, ap, ◌∙◌}
+use Rattle.lmem_raw.specs.Bytes.{part, with_part}
 use Rattle.block_handles.specs.declared.arena.Entry.{Entry}
 use Rattle.block_handles.specs.Store.{Store, bytes_in, bytes_of, place_of, size_of}
 use Rattle.block_handles.specs.Layout.{IsRegion}
@@ -18,3 +18,10 @@ region-of region table lies = record { long = refl; blocks = blocks }
   where
     blocks : (slot : ℕ) → bytes_of (store_in region table) slot ≡ part region (place_of (store_in region table) slot) (size_of (store_in region table) slot)
     blocks slot = rw (at_slot region table slot, place_slot region table slot) (entry-part region (slice_index_or table slot None) (lies slot))
+
+-- bytes that are written where they stand
+pub part-back : (bs : List ℕ) (at n : ℕ) → with_part bs at (part bs at n) ≡ bs
+part-back [] at n = refl
+part-back (b ∷ bs) zero zero = refl
+part-back (b ∷ bs) zero (suc n) = ap (λ xs. b ∷ xs) (part-back bs zero n)
+part-back (b ∷ bs) (suc at) n = ap (λ xs. b ∷ xs) (part-back bs at n)

@@ -2,6 +2,7 @@
 //! which a block moves or grows.
 ghost use Rattle.std.specs.Prelude.{◌≡◌, ℕ, ◌+◌, ◌*◌, ◌/◌, ◌%◌, ◌<◌, ◌≤◌, ◌↔◌, [], ◌∷◌, length, All, slice_index_or, Some, None, IfOk, IfSome, IfNone, IsTrue};
 ghost use Rattle.std.specs.Borrow.{sem};
+ghost use Rattle.lmem_raw.specs.Bytes.{part, with_part};
 ghost use Rattle.block_handles.specs.View.{IsEntry};
 
 use lmem_raw::Region;
@@ -73,6 +74,17 @@ fn empty_index(alloc: Global, n: usize) -> Result<Vec<Option<u16>>, AllocError>
         index.push(None)?;
     }
     Ok(index)
+}
+
+/// Moves bytes to another place, unless it is the one where they stand.
+fn move_to(region: &mut Region, from: u32, to: u32, n: u32)
+    requires { (from + n ≤ length region.old) × (to + n ≤ length region.old) }
+    ensures { region.new ≡ with_part region.old to (part region.old from n) }
+{
+    if from == to {
+        return;
+    }
+    region.move_bytes(from, to, n);
 }
 
 impl Arena {
@@ -230,7 +242,7 @@ impl Arena {
         ensures laid { IsLaidOut self.new }
     {
         let entry = entry_of(&self.table, slot);
-        self.region.move_bytes(entry.place, to, entry.size);
+        move_to(&mut self.region, entry.place, to, entry.size);
         self.region.fill(to + entry.size, size - entry.size, 0);
         self.table[slot] = Some(Entry {
             place: to,

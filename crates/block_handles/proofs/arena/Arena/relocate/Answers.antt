@@ -7,13 +7,13 @@ use Rattle.block_handles.proofs.arena.Arena.relocate.Goals as goal
 pub fill-requires : goal.fill-requires
 fill-requires c =
     let size = size_seen c.self.inside.region c.self.inside.table.items c.self.inside.index.items c.args.self.now c.self.view_is c.self.invariant c.args.slot c.entry_of-entry.result (rw c.deref.ensures.value at c.entry_of-entry.ensures) in
-    omega (arith, size, c.requires.room, c.requires.legal.0, ap length c.move_bytes.ensures, length-with_part c.self.inside.region c.args.to (part c.self.inside.region c.entry_of-entry.result.place c.entry_of-entry.result.size), ap (λ s. s.len) c.self.view_is)
+    omega (arith, size, c.requires.room, c.requires.legal.0, ap length c.move_to.ensures, length-with_part c.self.inside.region c.args.to (part c.self.inside.region c.entry_of-entry.result.place c.entry_of-entry.result.size), ap (λ s. s.len) c.self.view_is)
 
 pub invariant_of-self : goal.invariant_of-self
-invariant_of-self c = (relocate_seen c.self.inside.region c.self.inside.table.items c.self.inside.index.items c.args.self.now c.self.view_is c.self.invariant c.args.slot c.entry_of-entry.result (rw c.deref.ensures.value at c.entry_of-entry.ensures) c.args.to c.args.size c.requires.legal c.requires.room c.requires.free c.fill.new.self (c.fill.ensures ∙ ap (λ r. with_part r (c.args.to + c.entry_of-entry.result.size) (replicate (c.args.size - c.entry_of-entry.result.size) 0)) c.move_bytes.ensures)).sound
+invariant_of-self c = (relocate_seen c.self.inside.region c.self.inside.table.items c.self.inside.index.items c.args.self.now c.self.view_is c.self.invariant c.args.slot c.entry_of-entry.result (rw c.deref.ensures.value at c.entry_of-entry.ensures) c.args.to c.args.size c.requires.legal c.requires.room c.requires.free c.fill.new.self (c.fill.ensures ∙ ap (λ r. with_part r (c.args.to + c.entry_of-entry.result.size) (replicate (c.args.size - c.entry_of-entry.result.size) 0)) c.move_to.ensures)).sound
 
 pub returns-clause-store : goal.returns-clause-store
-returns-clause-store c = (relocate_seen c.self.inside.region c.self.inside.table.items c.self.inside.index.items c.args.self.now c.self.view_is c.self.invariant c.args.slot c.entry_of-entry.result (rw c.deref.ensures.value at c.entry_of-entry.ensures) c.args.to c.args.size c.requires.legal c.requires.room c.requires.free c.fill.new.self (c.fill.ensures ∙ ap (λ r. with_part r (c.args.to + c.entry_of-entry.result.size) (replicate (c.args.size - c.entry_of-entry.result.size) 0)) c.move_bytes.ensures)).is
+returns-clause-store c = (relocate_seen c.self.inside.region c.self.inside.table.items c.self.inside.index.items c.args.self.now c.self.view_is c.self.invariant c.args.slot c.entry_of-entry.result (rw c.deref.ensures.value at c.entry_of-entry.ensures) c.args.to c.args.size c.requires.legal c.requires.room c.requires.free c.fill.new.self (c.fill.ensures ∙ ap (λ r. with_part r (c.args.to + c.entry_of-entry.result.size) (replicate (c.args.size - c.entry_of-entry.result.size) 0)) c.move_to.ensures)).is
 
 pub returns-clause-laid : goal.returns-clause-laid
-returns-clause-laid c = (relocate_seen c.self.inside.region c.self.inside.table.items c.self.inside.index.items c.args.self.now c.self.view_is c.self.invariant c.args.slot c.entry_of-entry.result (rw c.deref.ensures.value at c.entry_of-entry.ensures) c.args.to c.args.size c.requires.legal c.requires.room c.requires.free c.fill.new.self (c.fill.ensures ∙ ap (λ r. with_part r (c.args.to + c.entry_of-entry.result.size) (replicate (c.args.size - c.entry_of-entry.result.size) 0)) c.move_bytes.ensures)).sound.laid
+returns-clause-laid c = (relocate_seen c.self.inside.region c.self.inside.table.items c.self.inside.index.items c.args.self.now c.self.view_is c.self.invariant c.args.slot c.entry_of-entry.result (rw c.deref.ensures.value at c.entry_of-entry.ensures) c.args.to c.args.size c.requires.legal c.requires.room c.requires.free c.fill.new.self (c.fill.ensures ∙ ap (λ r. with_part r (c.args.to + c.entry_of-entry.result.size) (replicate (c.args.size - c.entry_of-entry.result.size) 0)) c.move_to.ensures)).sound.laid
