@@ -21,3 +21,4 @@ pub mod Unplaced
 pub mod Refits
 pub mod Moving
 pub mod Enlarging
+pub mod Relengthening

@@ -110,22 +110,23 @@ zero-at zero k = refl
 zero-at (suc n) zero = refl
 zero-at (suc n) (suc k) = zero-at n k
 
--- the chunk of an entry in a hole: its first bytes are those that stood there
-pub hole-filled : (b d1 d2 c : List ℕ) (link at end i keep n : ℕ) → (o : IsOpen b link at end) → 0 < n → at + cost n ≤ end → at + 2 + keep ≤ length b → i < entries b → entry b i ≡ 0 →
-    d1 ≡ with_word b (16 + 2 * i) (at + 2) → d2 ≡ with_word d1 at (n + 2) → c ≡ with_part d2 (at + 2 + keep) (replicate (n - keep) 0) → Filled b c link at end i n (resized (part b (at + 2) keep) n) o
-hole-filled b d1 d2 c link at end i keep n o some fits kept h none e1 e2 e3 =
+-- the chunk of an entry in a hole, once its entry says where it is: its first bytes are those
+-- that stood there
+pub hole-refilled : (b d1 d2 c : List ℕ) (link at end i keep n : ℕ) → (o : IsOpen b link at end) → 0 < n → at + cost n ≤ end → at + 2 + keep ≤ length b → i < entries b → entry b i ≡ 0 →
+    length d1 ≡ length b → ((k : ℕ) → Apart k (16 + 2 * i) → get_or d1 k 0 ≡ get_or b k 0) → entry d1 i ≡ at + 2 → d2 ≡ with_word d1 at (n + 2) → c ≡ with_part d2 (at + 2 + keep) (replicate (n - keep) 0) → Filled b c link at end i n (resized (part b (at + 2) keep) n) o
+hole-refilled b d1 d2 c link at end i keep n o some fits kept h none n1 same1 here1 e2 e3 =
     let p = open-place b link at end o in let high = p.high in let most = p.most in let low = p.low in let table = p.table in let wide = cost-least n some in
     let zs : List ℕ = replicate (n - keep) 0 in let nz = length-replicate {A = ℕ} (n - keep) 0 in
-    let n1 = long b d1 (16 + 2 * i) (at + 2) e1 in let n2 = long d1 d2 at (n + 2) e2 in let n3 : length c ≡ length d2 = ap length e3 ∙ length-with_part d2 (at + 2 + keep) zs in
+    let n2 = long d1 d2 at (n + 2) e2 in let n3 : length c ≡ length d2 = ap length e3 ∙ length-with_part d2 (at + 2 + keep) zs in
     let byte3 : (k : ℕ) → (k < at + 2 + keep) ⊎ (at + 2 + keep + (n - keep) ≤ k) → get_or c k 0 ≡ get_or d2 k 0 = (λ k out. ap (λ x. get_or x k 0) e3 ∙ elim out [
       | inl l ↦ get_or-with_part_before d2 (at + 2 + keep) zs k l
       | inr g ↦ get_or-with_part_behind d2 (at + 2 + keep) zs k (omega (arith, nz))
     ]) in
     let past : (k : ℕ) → at + 2 + n ≤ k → (k < at + 2 + keep) ⊎ (at + 2 + keep + (n - keep) ≤ k) = (λ k g. elim (cases_lt k (at + 2 + keep)) [ inl l ↦ inl l | inr r ↦ inr (omega arith) ]) in
-    let back : KeepsBack b c (at + cost n) = (λ k l. byte3 k (past k (omega arith)) ∙ other d1 d2 at (n + 2) k e2 (inr (omega arith)) ∙ other b d1 (16 + 2 * i) (at + 2) k e1 (inr (omega arith))) in
-    let front : (k : ℕ) → k < at → Apart k (16 + 2 * i) → get_or c k 0 ≡ get_or b k 0 = (λ k l u. byte3 k (inl (omega arith)) ∙ other d1 d2 at (n + 2) k e2 (inl l) ∙ other b d1 (16 + 2 * i) (at + 2) k e1 u) in
+    let back : KeepsBack b c (at + cost n) = (λ k l. byte3 k (past k (omega arith)) ∙ other d1 d2 at (n + 2) k e2 (inr (omega arith)) ∙ same1 k (inr (omega arith))) in
+    let front : (k : ℕ) → k < at → Apart k (16 + 2 * i) → get_or c k 0 ≡ get_or b k 0 = (λ k l u. byte3 k (inl (omega arith)) ∙ other d1 d2 at (n + 2) k e2 (inl l) ∙ same1 k u) in
     let word3 : (j : ℕ) → j + 2 ≤ at + 2 → word c j ≡ word d2 j = (λ j l. ap (λ x. word x j) e3 ∙ word-part_other d2 (at + 2 + keep) zs j (inl (omega arith))) in
-    let here : entry c i ≡ at + 2 = word3 (16 + 2 * i) (omega arith) ∙ clear d1 d2 at (n + 2) (16 + 2 * i) e2 (inl (omega arith)) ∙ put b d1 (16 + 2 * i) (at + 2) e1 (omega arith) (omega arith) in
+    let here : entry c i ≡ at + 2 = word3 (16 + 2 * i) (omega arith) ∙ clear d1 d2 at (n + 2) (16 + 2 * i) e2 (inl (omega arith)) ∙ here1 in
     let says : word c at ≡ n + 2 = word3 at (omega arith) ∙ put d1 d2 at (n + 2) e2 (omega arith) (omega (arith, n1)) in
     let old = part b (at + 2) keep in
     let no : length old ≡ keep = omega (arith, length-take keep (drop (at + 2) b), length-drop (at + 2) b) in
@@ -136,10 +137,17 @@ hole-filled b d1 d2 c link at end i keep n o some fits kept h none e1 e2 e3 =
     let left : get_or (part c (at + 2) n) q 0 ≡ get_or c (at + 2 + q) 0 = get_or-take n (drop (at + 2) c) q 0 small ∙ get_or-drop (at + 2) c q 0 in
     let right : get_or (resized old n) q 0 ≡ get_or old q 0 = get_or-resized old n q small in
     get_or_default (part c (at + 2) n) q x 0 l ∙ left ∙ (elim (cases_lt q keep) [
-      | inl stays ↦ byte3 (at + 2 + q) (inl (omega arith)) ∙ other d1 d2 at (n + 2) (at + 2 + q) e2 (inr (omega arith)) ∙ other b d1 (16 + 2 * i) (at + 2) (at + 2 + q) e1 (inr (omega arith))
+      | inl stays ↦ byte3 (at + 2 + q) (inl (omega arith)) ∙ other d1 d2 at (n + 2) (at + 2 + q) e2 (inr (omega arith)) ∙ same1 (at + 2 + q) (inr (omega arith))
           ∙ sym (right ∙ get_or-take keep (drop (at + 2) b) q 0 stays ∙ get_or-drop (at + 2) b q 0)
       | inr new ↦ ap (λ x. get_or x (at + 2 + q) 0) e3 ∙ get_or-with_part_within d2 (at + 2 + keep) zs (at + 2 + q) (q - keep) (omega arith) (omega (arith, nz)) (omega (arith, n1, n2)) ∙ zero-at (n - keep) (q - keep)
           ∙ sym (right ∙ get_or_past old q 0 (omega (arith, no)))
     ])
     ∙ sym (get_or_default (resized old n) q x 0 (omega (arith, nr)))) in
     filled b c link at end i n (resized old n) o some fits h none (n3 ∙ n2 ∙ n1) front back here says content
+
+-- the same, with the entry written
+pub hole-filled : (b d1 d2 c : List ℕ) (link at end i keep n : ℕ) → (o : IsOpen b link at end) → 0 < n → at + cost n ≤ end → at + 2 + keep ≤ length b → i < entries b → entry b i ≡ 0 →
+    d1 ≡ with_word b (16 + 2 * i) (at + 2) → d2 ≡ with_word d1 at (n + 2) → c ≡ with_part d2 (at + 2 + keep) (replicate (n - keep) 0) → Filled b c link at end i n (resized (part b (at + 2) keep) n) o
+hole-filled b d1 d2 c link at end i keep n o some fits kept h none e1 e2 e3 =
+    let p = open-place b link at end o in let high = p.high in let most = p.most in let low = p.low in let wide = cost-least n some in
+    hole-refilled b d1 d2 c link at end i keep n o some fits kept h none (long b d1 (16 + 2 * i) (at + 2) e1) (λ k u. other b d1 (16 + 2 * i) (at + 2) k e1 u) (put b d1 (16 + 2 * i) (at + 2) e1 (omega arith) (omega arith)) e2 e3

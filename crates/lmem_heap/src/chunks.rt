@@ -178,6 +178,10 @@ fn resize_beside(block: &mut [u8], i: usize, n: u16) -> bool
     let at = entry(block, i) as usize;
     let len = get16(block, at - 2) - 2;
     let (has, size) = (cost(len as usize), cost(n as usize));
+    if has == size {
+        resize_within(block, i, n);
+        return true;
+    }
     if has < size && !may_be_free(block, at - 2 + has, size - has) {
         return false;
     }
@@ -193,6 +197,23 @@ fn resize_beside(block: &mut [u8], i: usize, n: u16) -> bool
             false
         }
     }
+}
+
+/// Gives a chunk another length for which it takes as many bytes of the block: its size word is
+/// all that says so.
+fn resize_within(block: &mut [u8], i: usize, n: u16)
+    requires heap { IsHeap block.old }
+    requires known { i < entries block.old }
+    requires offset { IsOffset (entry block.old i) }
+    requires some { 0 < n }
+    requires same { cost n ≡ cost (chunk_length block.old i) }
+    ensures { ResizesChunk block.old block.new i n }
+{
+    let at = entry(block, i) as usize;
+    let len = get16(block, at - 2) as usize - 2;
+    put16(block, at - 2, n + 2);
+    let more = (n as usize).saturating_sub(len);
+    clear(block, at + len, more);
 }
 
 /// Whether the word at an offset may be that of a free chunk of at least this size. It may be

@@ -4,7 +4,7 @@ ghost use Rattle.geos_model.specs.Block.{chunks, handle_word};
 ghost use Rattle.geos_model.specs.Heap.{IsBlockSize, IsHeap};
 
 use crate::header::BLOCK_SIZE;
-use crate::tail::{chunks_end, pack, set_tail};
+use crate::holes::Hole;
 use crate::words::put16;
 
 /// Makes the bytes behind a heap part of it, as free bytes. The first `old_size` bytes are the
@@ -18,10 +18,8 @@ pub fn enlarged(block: &mut [u8], old_size: u16)
     ensures chunks { chunks block.new ≡ chunks (take old_size block.old) }
     ensures handle { handle_word block.new ≡ handle_word block.old }
 {
-    let size = block.len() as u16;
-    let heap = &mut block[..old_size as usize];
-    pack(heap);
-    let at = chunks_end(heap);
-    put16(block, BLOCK_SIZE, size);
-    set_tail(block, at);
+    let size = block.len();
+    put16(block, BLOCK_SIZE, size as u16);
+    let hole = Hole::at(block, old_size as usize, size);
+    hole.give_back(block);
 }

@@ -31,8 +31,8 @@ overflow_sub-len c =
     let len_is : c.get16-len.result - 2 ≡ chunk_length b i = omega (arith, word_is) in
     omega (arith, word_is, size)
 
-pub overflow_sub-at-then-has-size : goal.overflow_sub-at-then-has-size
-overflow_sub-at-then-has-size c = let y = says c.args.block.now c.args.i c.requires.heap c.requires.known c.requires.offset in let low = y.low in omega (arith, low, c.entry-at.ensures)
+pub overflow_sub-at-then-has-size-2 : goal.overflow_sub-at-then-has-size-2
+overflow_sub-at-then-has-size-2 c = let y = says c.args.block.now c.args.i c.requires.heap c.requires.known c.requires.offset in let low = y.low in omega (arith, low, c.entry-at.ensures)
 
 pub overflow_add-at : goal.overflow_add-at
 overflow_add-at c = let most = cost-most (c.get16-len.result - 2) in omega (arith, most, c.cost-has.ensures)
