@@ -52,3 +52,20 @@ rise-seen bytes i n last next h is high =
 
 pub all-seen : (bytes : List ℕ) (i n last : ℕ) → n ≤ i → never_fall last (words_from bytes (8 + 2 * i) (n - i)) (length bytes) ≡ nat_le last (length bytes)
 all-seen bytes i n last h = let none : n - i ≡ 0 = omega arith in ap (λ m. never_fall last (words_from bytes (8 + 2 * i) m) (length bytes)) none
+
+-- offsets that rise from the first one on are seen
+pub risen-up : (bytes : List ℕ) (n first : ℕ) → 0 < n → first ≡ 8 + 2 * n → word bytes 8 ≡ first → (m i last : ℕ) → i ≡ m + 1 → i ≤ n → ((j : ℕ) → j < m → word bytes (8 + 2 * j) ≤ word bytes (8 + 2 * (j + 1))) → last ≡ word bytes (8 + 2 * m)
+    → are_offsets (words_from bytes 8 n) (8 + 2 * n) (length bytes) ≡ never_fall last (words_from bytes (8 + 2 * i) (n - i)) (length bytes)
+risen-up bytes n first some is e zero i last i_is fits rise last_is =
+    let one : 1 ≡ i = omega (arith, i_is) in
+    right-first bytes n first some is e ∙ ap (λ x. never_fall x (words_from bytes (8 + 2 * 1) (n - 1)) (length bytes)) (sym e ∙ sym last_is) ∙ ap (λ k. never_fall last (words_from bytes (8 + 2 * k) (n - k)) (length bytes)) one
+risen-up bytes n first some is e (suc m) i last i_is fits rise last_is =
+    let next : m + 1 + 1 ≡ i = omega (arith, i_is) in let here : suc m ≡ m + 1 = omega arith in
+    let at : last ≡ word bytes (8 + 2 * (m + 1)) = last_is ∙ ap (λ k. word bytes (8 + 2 * k)) here in
+    let high = rise m (omega arith) in
+    risen-up bytes n first some is e m (m + 1) (word bytes (8 + 2 * m)) (omega arith) (omega (arith, next, fits)) (λ j l. rise j (omega arith)) (omega arith)
+    ∙ rise-seen bytes (m + 1) n (word bytes (8 + 2 * m)) last (omega (arith, next, fits)) at (omega (arith, at, high)) ∙ ap (λ k. never_fall last (words_from bytes (8 + 2 * k) (n - k)) (length bytes)) next
+
+pub risen : (bytes : List ℕ) (n first m last : ℕ) → 0 < n → first ≡ 8 + 2 * n → word bytes 8 ≡ first → 0 < m → m ≤ n → ((j : ℕ) → j + 1 < m → word bytes (8 + 2 * j) ≤ word bytes (8 + 2 * (j + 1))) → last ≡ word bytes (8 + 2 * (m - 1))
+    → are_offsets (words_from bytes 8 n) (8 + 2 * n) (length bytes) ≡ never_fall last (words_from bytes (8 + 2 * m) (n - m)) (length bytes)
+risen bytes n first m last some is e pos fits rise last_is = risen-up bytes n first some is e (m - 1) m last (omega arith) fits (λ j l. rise j (omega arith)) last_is

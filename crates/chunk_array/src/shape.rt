@@ -2,6 +2,7 @@
 ghost use Rattle.std.specs.Prelude.{◌≡◌, ◌≢◌, ℕ, ◌+◌, ◌-◌, ◌*◌, ◌<◌, ◌≤◌, length, MatchOption};
 ghost use Rattle.geos_model.specs.Arrays.{Array, arr, are_offsets, element_at, words_from};
 
+use crate::table::rising_offsets;
 use crate::words::get16;
 
 // the offsets of the header's words
@@ -97,8 +98,9 @@ fn are_offsets(bytes: &[u8], count: usize) -> bool
     if first > bytes.len() || get16(bytes, HEADER) as usize != first {
         return false;
     }
-    let mut last = first;
-    for i in 1..count {
+    let rising = rising_offsets(bytes, count);
+    let mut last = get16(bytes, HEADER + 2 * (rising - 1)) as usize;
+    for i in rising..count {
         let at = get16(bytes, HEADER + 2 * i) as usize;
         if at < last {
             return false;

@@ -1,9 +1,42 @@
 //! The table of offsets of an array whose sizes vary.
-ghost use Rattle.std.specs.Prelude.{◌≡◌, ℕ, ◌+◌, ◌*◌, ◌<◌, ◌≤◌, length};
+ghost use Rattle.std.specs.Prelude.{◌≡◌, ℕ, ◌+◌, ◌*◌, ◌<◌, ◌≤◌, length, IsTrue};
 ghost use Rattle.chunk_array.specs.Tables.{offset, ClosesTable, OpensTable, ShiftsOffsets};
 
 use crate::shape::HEADER;
 use crate::words::{get16, move_bytes, put16};
+
+/// How many offsets are compared together.
+const RUN: usize = 16;
+
+/// How many offsets from the first one on never fall, counted in whole runs behind the first.
+pub(crate) fn rising_offsets(bytes: &[u8], count: usize) -> usize
+    requires some { 0 < count }
+    requires within { 8 + 2 * count ≤ length bytes.now }
+    ensures within { (0 < result) × (result ≤ count) }
+    ensures rise { (j : ℕ) → j + 1 < result → offset bytes.now j ≤ offset bytes.now (j + 1) }
+{
+    let runs = (count - 1) / RUN;
+    for run in 0..runs {
+        if !is_rising_run(bytes, RUN * run) {
+            return RUN * run + 1;
+        }
+    }
+    RUN * runs + 1
+}
+
+/// Whether none of the offsets behind this one, a run of them, is below the one before it. It
+/// reads all of them, with no branch on the way, so that they can be compared together.
+fn is_rising_run(bytes: &[u8], from: usize) -> bool
+    requires { 8 + 2 * (from + RUN + 1) ≤ length bytes.now }
+    ensures { IsTrue result → (j : ℕ) → from ≤ j → j < from + RUN → offset bytes.now j ≤ offset bytes.now (j + 1) }
+{
+    let mut falls = false;
+    for j in from..from + RUN {
+        let at = HEADER + 2 * j;
+        falls |= get16(bytes, at + 2) < get16(bytes, at);
+    }
+    !falls
+}
 
 /// Makes the offsets from one index up to another lower by `less` and higher by `more`.
 pub(crate) fn shift_offsets(bytes: &mut [u8], from: usize, to: usize, less: usize, more: usize)
