@@ -86,6 +86,8 @@ impl Shape {
 }
 
 /// Whether the words behind the header are offsets of so many elements, that fill the bytes.
+/// It stays out of those that call it, which are short where elements have one size.
+#[inline(never)]
 fn are_offsets(bytes: &[u8], count: usize) -> bool
     requires header { 8 ≤ length bytes.now }
     requires small { count < 65536 }
