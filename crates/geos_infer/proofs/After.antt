@@ -158,24 +158,24 @@ has_pair-mono a b (x ∷ xs) (y ∷ ys) (pair ∷ pairs) h =
     let p = and_parts (pair_fits x y) (all2 pair_fits xs ys) h in
     or-mono (x && is_pair a b pair) (has_pair a b xs pairs) (y && is_pair a b pair) (has_pair a b ys pairs) (and-mono x y (is_pair a b pair) p.0) (has_pair-mono a b xs ys pairs p.1)
 
--- a new block is none that another slot of its kind holds: of both rows, slots are of one kind
-new-mono : (r s : Row) (a : ℕ) (kind : Kind) → fits r s ≡ true → (known wanted : Bool) (pair : ℕ × ℕ) → pair_fits known wanted ≡ true
-    → (let f : Bool → Row → Bool = λ known row. known || (pair.0 == a && holds_kind kind (slot_state row pair.1)) || (pair.1 == a && holds_kind kind (slot_state row pair.0)) in pair_fits (f known r) (f wanted s) ≡ true)
+-- what is known of a pair once a new block of the kind is locked into slot a: it is none that another slot of its
+-- kind holds
+abbrev with_new : ℕ → Kind → Row → Bool → ℕ × ℕ → Bool
+with_new a kind row known pair = known || (pair.0 == a && holds_kind kind (slot_state row (pair.1))) || (pair.1 == a && holds_kind kind (slot_state row (pair.0)))
+
+new-mono : (r s : Row) (a : ℕ) (kind : Kind) → fits r s ≡ true → (known wanted : Bool) (pair : ℕ × ℕ) → pair_fits known wanted ≡ true → pair_fits (with_new a kind r known pair) (with_new a kind s wanted pair) ≡ true
 new-mono r s a kind h known wanted pair j =
-    let first : Row → Bool = λ row. pair.0 == a && holds_kind kind (slot_state row pair.1) in
-    let second : Row → Bool = λ row. pair.1 == a && holds_kind kind (slot_state row pair.0) in
-    let first_same : first r ≡ first s = ap (λ b. pair.0 == a && b) (same-holds r s kind pair.1 h) in
-    let second_same : second r ≡ second s = ap (λ b. pair.1 == a && b) (same-holds r s kind pair.0 h) in
+    let first : Row → Bool = λ row. pair.0 == a && holds_kind kind (slot_state row (pair.1)) in
+    let second : Row → Bool = λ row. pair.1 == a && holds_kind kind (slot_state row (pair.0)) in
+    let first_same : first r ≡ first s = ap (λ b. pair.0 == a && b) (same-holds r s kind (pair.1) h) in
+    let second_same : second r ≡ second s = ap (λ b. pair.1 == a && b) (same-holds r s kind (pair.0) h) in
     or-mono (known || first r) (second r) (wanted || first s) (second s) (or-mono known (first r) wanted (first s) j (pair-same (first r) (first s) first_same)) (pair-same (second r) (second s) second_same)
 
 dropped-mono : (a : ℕ) (xs ys : List Bool) → all2 pair_fits xs ys ≡ true → all2 pair_fits (without_slot a xs) (without_slot a ys) ≡ true
 dropped-mono a xs ys h = each_pair-mono (λ known pair. known && not (has_slot a pair)) (λ known pair. known && not (has_slot a pair)) (λ known wanted pair j. and-mono known wanted (not (has_slot a pair)) j) xs ys slot_pairs h
 
 pairs_after-mono : (i : Instr) (slot : SlotUse) (r s : Row) → fits r s ≡ true → all2 pair_fits (pairs_after i slot r) (pairs_after i slot s) ≡ true
-pairs_after-mono i (LocksNew kind) r s h =
-    each_pair-mono (λ known pair. known || (pair.0 == i.a && holds_kind kind (slot_state r pair.1)) || (pair.1 == i.a && holds_kind kind (slot_state r pair.0)))
-    (λ known pair. known || (pair.0 == i.a && holds_kind kind (slot_state s pair.1)) || (pair.1 == i.a && holds_kind kind (slot_state s pair.0)))
-    (new-mono r s i.a kind h) r.pairs s.pairs slot_pairs ((fitting r s h).pairs)
+pairs_after-mono i (LocksNew kind) r s h = each_pair-mono (with_new i.a kind r) (with_new i.a kind s) (new-mono r s i.a kind h) r.pairs s.pairs slot_pairs ((fitting r s h).pairs)
 pairs_after-mono i (Locks kind) r s h = dropped-mono i.a r.pairs s.pairs ((fitting r s h).pairs)
 pairs_after-mono i (Unlocks kind) r s h = dropped-mono i.a r.pairs s.pairs ((fitting r s h).pairs)
 pairs_after-mono i Compares r s h =
