@@ -8,7 +8,7 @@ use Rattle.geos_image.specs.declared.instr.Instr.{Instr}
 use Rattle.geos_image.specs.Parts.{Parts}
 use Rattle.geos_verify.specs.Rules.{returns}
 use Rattle.geos_verify.proofs.Places.{item_at, if_some}
-use Rattle.geos_infer.specs.Code.{Edge, Forward, Spans, code_of, has_edge, edge_end}
+use Rattle.geos_infer.specs.Code.{Edge, Forward, Spans, instrs_of, has_edge, edge_end}
 use Rattle.geos_infer.specs.Solutions.{StepsHold, call_steps, most_steps}
 use Rattle.geos_infer.specs.Flow.{leads_ahead}
 use Rattle.geos_infer.specs.Count.{edge_steps, return_steps, steps_at, Counting, zeros, ZerosFrom}
@@ -31,9 +31,9 @@ ahead-true code limit pc to branch i j read edge lt within =
       same,
     )
 
-module _ (image : Parts) (forward : Forward image) (want steps : List ℕ) (holds : StepsHold image want) (pc : ℕ) (i : Instr) (read : slice_get (code_of image) pc ≡ Some i)
-    (C : Counting image want steps (pc + 1)) (within : pc < length (code_of image))
-    (limit : ℕ) (small : limit ≤ length (code_of image)) (inside : (to : ℕ) (j : Instr) (branch : Bool) → Edge (code_of image) pc branch to j → to < limit) where
+module _ (image : Parts) (forward : Forward image) (want steps : List ℕ) (holds : StepsHold image want) (pc : ℕ) (i : Instr) (read : slice_get (instrs_of image) pc ≡ Some i)
+    (C : Counting image want steps (pc + 1)) (within : pc < length (instrs_of image))
+    (limit : ℕ) (small : limit ≤ length (instrs_of image)) (inside : (to : ℕ) (j : Instr) (branch : Bool) → Edge (instrs_of image) pc branch to j → to < limit) where
   -- what an edge asks for is at most the number that holds
   asks-below : (branch b : Bool) → leads_ahead limit pc i branch ≡ b → edge_steps image limit pc i branch steps ≤ get_or want pc 0
   asks-below branch true e =
@@ -41,7 +41,7 @@ module _ (image : Parts) (forward : Forward image) (want steps : List ℕ) (hold
       let b = and_parts (has_edge i branch) (nat_lt pc (edge_end pc i branch)) a.0 in
       let lt = ltb-true pc (edge_end pc i branch) b.1 in
       let before = ltb-true (edge_end pc i branch) limit a.1 in
-      let end : edge_end pc i branch < length (code_of image) = omega (arith, before, small) in
+      let end : edge_end pc i branch < length (instrs_of image) = omega (arith, before, small) in
       let below = C.below (edge_end pc i branch) (omega arith) end in
       let asked = holds.edges pc (edge_end pc i branch) branch i (record { read = read; has = b.0; leads = refl }) end in
       rw e (omega arith)
@@ -72,10 +72,10 @@ module _ (image : Parts) (forward : Forward image) (want steps : List ℕ) (hold
       max-second x y z = omega arith
 
   -- each edge is paid for
-  paid : (to : ℕ) (branch : Bool) (j : Instr) → Edge (code_of image) pc branch to j → to < length (code_of image) → get_or steps to 0 + 1 + call_steps image j ≤ steps_at image limit pc i steps
+  paid : (to : ℕ) (branch : Bool) (j : Instr) → Edge (instrs_of image) pc branch to j → to < length (instrs_of image) → get_or steps to 0 + 1 + call_steps image j ≤ steps_at image limit pc i steps
   paid t branch j edge end =
       let lt = forward.ahead pc t branch j edge in
-      let there = ahead-true (code_of image) limit pc t branch i j read edge lt (inside t j branch edge) in
+      let there = ahead-true (instrs_of image) limit pc t branch i j read edge lt (inside t j branch edge) in
       let is : edge_steps image limit pc i branch steps ≡ get_or steps t 0 + 1 + call_steps image i = rw (there.0, there.1) refl in
       let called : call_steps image i ≡ call_steps image j = ap (call_steps image) there.2 in
       let in_it = edge-within branch in
@@ -107,20 +107,20 @@ module _ (image : Parts) (forward : Forward image) (want steps : List ℕ) (hold
             rw (others t ne) (elim (cases_eq k pc) [
               | inl same ↦
                   let P : ℕ → Type 0 = λ n. get_or steps t 0 + 1 + call_steps image j ≤ get_or (set steps pc (steps_at image limit pc i steps)) n 0 in
-                  subst P (sym same) (rw here (paid t branch j (subst (λ n. Edge (code_of image) n branch t j) same edge) end))
+                  subst P (sym same) (rw here (paid t branch j (subst (λ n. Edge (instrs_of image) n branch t j) same edge) end))
               | inr other ↦ rw (others k other) (C.edges k t branch j (omega arith) edge end)
             ])
             );
         returns = λ k j from there is. elim (cases_eq k pc) [
           | inl same ↦
               let P : ℕ → Type 0 = λ n. 1 ≤ get_or (set steps pc (steps_at image limit pc i steps)) n 0 in
-              let same_instr : j ≡ i = some-is j i (sym there ∙ ap (slice_get (code_of image)) same ∙ read) in
+              let same_instr : j ≡ i = some-is j i (sym there ∙ ap (slice_get (instrs_of image)) same ∙ read) in
               subst P (sym same) (rw here (return-within (ap (λ (x : Instr). returns x.opcode) (sym same_instr) ∙ is)))
           | inr other ↦ rw (others k other) (C.returns k j (omega arith) there is)
         ];
       }
 
-pub counts-none : (image : Parts) (want steps : List ℕ) (n : ℕ) → length steps ≡ length (code_of image) → n ≡ length (code_of image) → Counting image want steps n
+pub counts-none : (image : Parts) (want steps : List ℕ) (n : ℕ) → length steps ≡ length (instrs_of image) → n ≡ length (instrs_of image) → Counting image want steps n
 counts-none image want steps n len end = record {
   len = len;
   below = λ k from lt. absurd (omega arith);
@@ -128,8 +128,8 @@ counts-none image want steps n len end = record {
   returns = λ k i from there is. absurd (beyond k i from there);
 }
   where
-    beyond : (k : ℕ) (i : Instr) → n ≤ k → slice_get (code_of image) k ≡ Some i → ⊥
-    beyond k i from there = let lt = slice_get_within (code_of image) k i there in omega arith
+    beyond : (k : ℕ) (i : Instr) → n ≤ k → slice_get (instrs_of image) k ≡ Some i → ⊥
+    beyond k i from there = let lt = slice_get_within (instrs_of image) k i there in omega arith
 
 -- the same at a pc of a routine, where the instruction is given by its point; and the number is
 -- one that a potential can say
@@ -140,9 +140,9 @@ counted image forward want steps holds r start limit pc more value spans small f
     let len = code-length image in
     let found = item_at image.points pc (omega arith) in
     let value_is = if_some (λ point. value ≡ steps_at image limit pc point.0 steps) (slice_get image.points pc) found.0 found.1 there in
-    let read : slice_get (code_of image) pc ≡ Some found.0.0 = code-at image pc found.0 found.1 in
+    let read : slice_get (instrs_of image) pc ≡ Some found.0.0 = code-at image pc found.0 found.1 in
     let before = subst (λ k. Counting image want steps k) more_is C in
-    let inside : (to : ℕ) (j : Instr) (branch : Bool) → Edge (code_of image) pc branch to j → to < limit = (λ to j branch edge. holds.closed r start limit pc to branch j spans from lt edge) in
+    let inside : (to : ℕ) (j : Instr) (branch : Bool) → Edge (instrs_of image) pc branch to j → to < limit = (λ to j branch edge. holds.closed r start limit pc to branch j spans from lt edge) in
     let next = counts-more image forward want steps holds pc found.0.0 read before (omega arith) limit (omega arith) inside in
     let below = at-below image forward want steps holds pc found.0.0 read before (omega arith) limit (omega arith) inside in
     let long = holds.long pc in

@@ -12,7 +12,7 @@ use Rattle.geos_image.specs.Parts.{Parts, Point}
 use Rattle.geos_verify.specs.Rows.{exit_row, row_along, fits}
 use Rattle.geos_verify.specs.Touched.{calls}
 use Rattle.geos_verify.proofs.Along.{row_along-used}
-use Rattle.geos_infer.specs.Code.{instr_of, code_of, edge_row}
+use Rattle.geos_infer.specs.Code.{instr_of, instrs_of, edge_row}
 use Rattle.geos_infer.proofs.After.{along-mono, branching-mono, is-call}
 
 pub edge-mono : (image : Parts) (i : Instr) (branch : Bool) (r s : Row) → fits r s ≡ true → fits (edge_row image i branch r) (edge_row image i branch s) ≡ true
@@ -38,8 +38,8 @@ pub same-edge : (image other : Parts) → other.routines ≡ image.routines → 
 same-edge image other same i true row = refl
 same-edge image other same i false row = same-along image other same i i.opcode row
 
-pub code-at : (image : Parts) (pc : ℕ) (point : Point) → slice_get image.points pc ≡ Some point → slice_get (code_of image) pc ≡ Some point.0
+pub code-at : (image : Parts) (pc : ℕ) (point : Point) → slice_get image.points pc ≡ Some point → slice_get (instrs_of image) pc ≡ Some point.0
 code-at image pc point e = slice_get-map instr_of image.points pc ∙ ap (option_map instr_of) e
 
-pub code-length : (image : Parts) → length (code_of image) ≡ length image.points
+pub code-length : (image : Parts) → length (instrs_of image) ≡ length image.points
 code-length image = length-map image.points instr_of

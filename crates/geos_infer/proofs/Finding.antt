@@ -15,7 +15,7 @@ use Rattle.geos_verify.specs.Rows.{fits}
 use Rattle.geos_verify.specs.Rules.{has_place, names_empty_slot, refusal, Accepted, IsChecked}
 use Rattle.geos_verify.proofs.Places.{item_at}
 use Rattle.geos_infer.specs.Joins.{clean}
-use Rattle.geos_infer.specs.Code.{Edge, Forward, SameCode, code_of, instr_of, has_edge, edge_end, edge_row}
+use Rattle.geos_infer.specs.Code.{Edge, Forward, SameCode, instrs_of, instr_of, has_edge, edge_end, edge_row}
 use Rattle.geos_infer.specs.Solutions.{RowsHold, StepsHold, call_steps}
 use Rattle.geos_infer.specs.Flow.{row_of, known_at, KnownAt, edge_number, Flowing}
 use Rattle.geos_infer.specs.Count.{Counting, ZerosFrom}
@@ -84,11 +84,11 @@ plain image known steps coefficients points len none P = record {
 module _ (image : Parts) (legal : is_image image ≡ true) (forward : Forward image) (o : Parts) (A : Alike image o) (known : List (Option Row)) (steps : List ℕ) (points : List Point)
     (F : Flowing image (map row_at o.points) known (2 * length image.points)) (C : Counting image (map constant_at o.points) steps 0) (P : Plain image known steps points) where
   -- everything is reached
-  reached : (pc : ℕ) (i : Instr) → slice_get (code_of image) pc ≡ Some i → (row : Row) × (known_at known pc ≡ Some row)
+  reached : (pc : ℕ) (i : Instr) → slice_get (instrs_of image) pc ≡ Some i → (row : Row) × (known_at known pc ≡ Some row)
   reached pc i read = elim (forward.entered pc i read) [
     | inl b ↦ let K = F.entries pc b.0 b.1 in (K.known_row, K.read)
     | inr e ↦
-        let within = slice_get_within (code_of image) pc i read in
+        let within = slice_get_within (instrs_of image) pc i read in
         let lt = forward.ahead e.pc pc e.branch e.i e.edge in
         let len = code-length image in
         let K = F.edges e.pc pc e.branch e.i (number-last e.pc (length image.points) e.branch (omega arith)) e.edge within in
@@ -101,7 +101,7 @@ module _ (image : Parts) (legal : is_image image ≡ true) (forward : Forward im
   -- the point of the other image
   other-at : (pc : ℕ) (old : Point) → slice_get image.points pc ≡ Some old → (point : Point) × (slice_get o.points pc ≡ Some point) × (point.0 ≡ old.0)
   other-at pc old read =
-      let there : slice_get (code_of o) pc ≡ Some old.0 = ap (λ (code : List Instr). slice_get code pc) A.same.instrs ∙ code-at image pc old read in
+      let there : slice_get (instrs_of o) pc ≡ Some old.0 = ap (λ (code : List Instr). slice_get code pc) A.same.instrs ∙ code-at image pc old read in
       map-get instr_of o.points pc old.0 there
 
   want-row : (pc : ℕ) (point : Point) → slice_get o.points pc ≡ Some point → slice_get (map row_at o.points) pc ≡ Some point.1
@@ -132,7 +132,7 @@ module _ (image : Parts) (legal : is_image image ≡ true) (forward : Forward im
   edge-found : (pc to : ℕ) (branch : Bool) (old next : Point) → slice_get image.points pc ≡ Some old → has_edge old.0 branch ≡ true → edge_end pc old.0 branch ≡ to → slice_get points to ≡ Some next
       → (fits (edge_row image old.0 branch (row_of (known_at known pc))) next.1 ≡ true) × ((n : ℕ) × (next.2 ≡ potential_of n) × (n + 1 + call_steps image old.0 ≤ get_or steps pc 0))
   edge-found pc to branch old next read has leads at =
-      let edge : Edge (code_of image) pc branch to old.0 = record { read = code-at image pc old read; has = has; leads = leads } in
+      let edge : Edge (instrs_of image) pc branch to old.0 = record { read = code-at image pc old read; has = has; leads = leads } in
       let lt = slice_get_within points to next at in
       let from = slice_get_within image.points pc old read in
       let len = code-length image in
@@ -206,7 +206,7 @@ found-legal image known steps coefficients points legal P =
         (both (is_instr (length image.routines) (length points) old.0.0) (is_row (row_of (known_at known k))) here (P.legal k old.0 old.1))
 
 -- the code of the image stays
-pub found-code : (image : Parts) (known : List (Option Row)) (steps : List ℕ) (coefficients : List (List ℕ)) (points : List Point) → PointsOf image known steps coefficients points → code_of (with_points image points) ≡ code_of image
+pub found-code : (image : Parts) (known : List (Option Row)) (steps : List ℕ) (coefficients : List (List ℕ)) (points : List Point) → PointsOf image known steps coefficients points → instrs_of (with_points image points) ≡ instrs_of image
 found-code image known steps coefficients points P = same-lists (map instr_of points) (map instr_of image.points) (length-map points instr_of ∙ P.len ∙ sym (length-map image.points instr_of)) each
   where
     each : (k : ℕ) (i : Instr) → slice_get (map instr_of image.points) k ≡ Some i → slice_get (map instr_of points) k ≡ Some i
@@ -241,7 +241,7 @@ made-legal image routines points R h = subst (λ (rs : List Routine). is_image (
 pub made-is : (image made : Parts) (routines : List Routine) (points : List Point) → RoutinesOf image routines → made ≡ made_of routines points → made ≡ with_points image points
 made-is image made routines points R e = e ∙ ap (λ (rs : List Routine). made_of rs points) (same-routines image routines R)
 
-pub made-code : (image made : Parts) (points : List Point) → made ≡ with_points image points → code_of (with_points image points) ≡ code_of image → SameCode image made
+pub made-code : (image made : Parts) (points : List Point) → made ≡ with_points image points → instrs_of (with_points image points) ≡ instrs_of image → SameCode image made
 made-code image made points e same =
     let here : SameCode image (with_points image points) = record { routines = refl; instrs = same } in
     subst (λ (x : Parts). SameCode image x) (sym e) here

@@ -10,7 +10,7 @@ use Rattle.geos_image.specs.Parts.{Parts}
 use Rattle.geos_verify.specs.Rows.{fits}
 use Rattle.geos_verify.proofs.Places.{item_at, if_some}
 use Rattle.geos_infer.specs.Joins.{joined, clean}
-use Rattle.geos_infer.specs.Code.{Edge, Forward, Spans, code_of, has_edge, edge_end, edge_row}
+use Rattle.geos_infer.specs.Code.{Edge, Forward, Spans, instrs_of, has_edge, edge_end, edge_row}
 use Rattle.geos_infer.specs.Solutions.{RowsHold}
 use Rattle.geos_infer.specs.Flow.{row_of, known_at, join_known, leads_ahead, spread, KnownAt, edge_number, Flowing}
 use Rattle.geos_infer.proofs.Pairwise.{both}
@@ -65,31 +65,31 @@ record Joined (known : List (Option Row)) (to : ℕ) (next w : Row) : Type 0 whe
   least : fits joined w ≡ true
 
 module _ (image : Parts) (forward : Forward image) (want : List Row) (holds : RowsHold image want) (known : List (Option Row)) (pc : ℕ) (branch : Bool) (i : Instr)
-    (F : Flowing image want known (edge_number pc branch)) (read : slice_get (code_of image) pc ≡ Some i)
-    (limit : ℕ) (small : limit ≤ length (code_of image)) (inside : (to : ℕ) (j : Instr) → Edge (code_of image) pc branch to j → to < limit) where
+    (F : Flowing image want known (edge_number pc branch)) (read : slice_get (instrs_of image) pc ≡ Some i)
+    (limit : ℕ) (small : limit ≤ length (instrs_of image)) (inside : (to : ℕ) (j : Instr) → Edge (instrs_of image) pc branch to j → to < limit) where
   -- something is known where the row comes from
   reached : (row : Row) × (known_at known pc ≡ Some row)
   reached = elim (forward.entered pc i read) [
     | inl b ↦ let K = F.entries pc b.0 b.1 in (K.known_row, K.read)
     | inr e ↦
-        let K = F.edges e.pc pc e.branch e.i (number-lt e.pc pc e.branch branch (forward.ahead e.pc pc e.branch e.i e.edge)) e.edge (slice_get_within (code_of image) pc i read) in
+        let K = F.edges e.pc pc e.branch e.i (number-lt e.pc pc e.branch branch (forward.ahead e.pc pc e.branch e.i e.edge)) e.edge (slice_get_within (instrs_of image) pc i read) in
         (K.known_row, K.read)
   ]
 
   module _ (ahead : leads_ahead limit pc i branch ≡ true) where
-    parts : (has_edge i branch ≡ true) × (pc < edge_end pc i branch) × (edge_end pc i branch < length (code_of image))
+    parts : (has_edge i branch ≡ true) × (pc < edge_end pc i branch) × (edge_end pc i branch < length (instrs_of image))
     parts =
         let a = and_parts (has_edge i branch && nat_lt pc (edge_end pc i branch)) (nat_lt (edge_end pc i branch) limit) ahead in
         let b = and_parts (has_edge i branch) (nat_lt pc (edge_end pc i branch)) a.0 in
         (let before = ltb-true (edge_end pc i branch) limit a.1 in (b.0, ltb-true pc (edge_end pc i branch) b.1, omega (arith, before, small)))
 
-    edge : Edge (code_of image) pc branch (edge_end pc i branch) i
+    edge : Edge (instrs_of image) pc branch (edge_end pc i branch) i
     edge = record { read = read; has = parts.0; leads = refl }
 
     -- the row that comes fits the one that is wanted
     comes : (w : Row) → slice_get want (edge_end pc i branch) ≡ Some w → fits (edge_row image i branch (row_of (known_at known pc))) w ≡ true
     comes w at =
-        let here = item_at want pc (let len = holds.len in let lt = slice_get_within (code_of image) pc i read in omega arith) in
+        let here = item_at want pc (let len = holds.len in let lt = slice_get_within (instrs_of image) pc i read in omega arith) in
         let below = F.below pc reached.0 here.0 reached.1 here.1 in
         let least = (clean-least reached.0).least here.0 below (holds.clean pc here.0 here.1) in
         let P : Option Row → Type 0 = λ o. fits (edge_row image i branch (row_of o)) w ≡ true in
@@ -154,11 +154,11 @@ module _ (image : Parts) (forward : Forward image) (want : List Row) (holds : Ro
         not-behind k false false less same = let p = parts.1 in omega arith
 
         this-edge : (v : Row) (J : Joined known (edge_end pc i branch) (edge_row image i branch (row_of (known_at known pc))) v) → edge_end pc i branch < length known
-            → (k t : ℕ) (b : Bool) (j : Instr) → k ≡ pc → b ≡ branch → Edge (code_of image) k b t j
+            → (k t : ℕ) (b : Bool) (j : Instr) → k ≡ pc → b ≡ branch → Edge (instrs_of image) k b t j
             → KnownAt (set known (edge_end pc i branch) (Some J.joined)) t (edge_row image j b (row_of (known_at (set known (edge_end pc i branch) (Some J.joined)) k)))
         this-edge v J lt k t b j same same_branch other =
             let table = set known (edge_end pc i branch) (Some J.joined) in
-            let is_i : i ≡ j = some-is i j (sym read ∙ ap (slice_get (code_of image)) (sym same) ∙ other.read) in
+            let is_i : i ≡ j = some-is i j (sym read ∙ ap (slice_get (instrs_of image)) (sym same) ∙ other.read) in
             let is_to : edge_end pc i branch ≡ t = ap (λ x. edge_end pc x branch) is_i ∙ ap (λ x. edge_end pc j x) (sym same_branch) ∙ ap (λ x. edge_end x j b) (sym same) ∙ other.leads in
             let ne : pc ≢ edge_end pc i branch = (λ e. (let p = parts.1 in absurd (omega arith))) in
             let same_row : known_at table k ≡ known_at known pc = ap (known_at table) same ∙ get_or-set_other known (edge_end pc i branch) pc (Some J.joined) None ne in
@@ -175,7 +175,7 @@ module _ (image : Parts) (forward : Forward image) (want : List Row) (holds : Ro
     spreads-to w at J = rw (ahead, J.is) refl
 
   module _ (behind : leads_ahead limit pc i branch ≡ false) where
-    none-ahead : (to : ℕ) (j : Instr) → Edge (code_of image) pc branch to j → to < length (code_of image) → ⊥
+    none-ahead : (to : ℕ) (j : Instr) → Edge (instrs_of image) pc branch to j → to < length (instrs_of image) → ⊥
     none-ahead t j other within =
         let same : j ≡ i = some-is j i (sym other.read ∙ read) in
         let has : has_edge i branch ≡ true = ap (λ x. has_edge x branch) (sym same) ∙ other.has in
@@ -196,8 +196,8 @@ module _ (image : Parts) (forward : Forward image) (want : List Row) (holds : Ro
       ];
     }
       where
-        here : (k t : ℕ) (b : Bool) (j : Instr) → k ≡ pc → b ≡ branch → Edge (code_of image) k b t j → Edge (code_of image) pc branch t j
-        here k t b j same same_branch other = subst (λ x. Edge (code_of image) x branch t j) same (subst (λ x. Edge (code_of image) k x t j) same_branch other)
+        here : (k t : ℕ) (b : Bool) (j : Instr) → k ≡ pc → b ≡ branch → Edge (instrs_of image) k b t j → Edge (instrs_of image) pc branch t j
+        here k t b j same same_branch other = subst (λ x. Edge (instrs_of image) x branch t j) same (subst (λ x. Edge (instrs_of image) k x t j) same_branch other)
 
   -- one edge: the rows that are known agree, and flow on
   pub spread-flows : (ok : Bool) (new : List (Option Row))

@@ -10,14 +10,14 @@ use Rattle.geos_image.specs.Legal.{is_image}
 use Rattle.geos_image.proofs.Instrs.{image_parts}
 use Rattle.geos_image.proofs.Starts.{start_of-next, start_of-le, start_of-end}
 use Rattle.geos_semantics.proofs.Leads.{routine_parts}
-use Rattle.geos_infer.specs.Code.{Begins, code_of}
+use Rattle.geos_infer.specs.Code.{Begins, instrs_of}
 use Rattle.geos_infer.specs.Flow.{known_at, Seeded, Flowing}
 use Rattle.geos_infer.specs.Solutions.{RowsHold}
 use Rattle.geos_infer.proofs.Fits.{fits-refl}
 
 -- the same for the routines below a number
 pub record SeededBelow (image : Parts) (known : List (Option Row)) (limit : ℕ) : Type 0 where
-  pub len : length known ≡ length (code_of image)
+  pub len : length known ≡ length (instrs_of image)
   pub entries : (pc : ℕ) (entry : Row) (b : Begins image.routines pc entry) → b.r < limit → known_at known pc ≡ Some entry
   pub only : (pc : ℕ) (row : Row) → known_at known pc ≡ Some row → Begins image.routines pc row
 
@@ -30,7 +30,7 @@ some-row x y e = cc
 none-some : (x : Row) → None ≡ Some x → ⊥
 none-some x e = absurd cc
 
-pub seeded-none : (image : Parts) (known : List (Option Row)) → length known ≡ length (code_of image) → ((pc : ℕ) → known_at known pc ≡ None) → SeededBelow image known 0
+pub seeded-none : (image : Parts) (known : List (Option Row)) → length known ≡ length (instrs_of image) → ((pc : ℕ) → known_at known pc ≡ None) → SeededBelow image known 0
 seeded-none image known len none = record {
   len = len;
   entries = λ pc entry b less. absurd (omega arith);

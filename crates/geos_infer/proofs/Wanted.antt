@@ -23,7 +23,7 @@ use Rattle.geos_verify.specs.Rules.{has_place, returns, names_empty_slot, tests,
 use Rattle.geos_verify.proofs.Passed.{passed}
 use Rattle.geos_verify.proofs.Places.{place_bounds, place_true, item_at}
 use Rattle.geos_semantics.proofs.Leads.{leads-along, leads-branching, may_return, may_begin, begins-within}
-use Rattle.geos_infer.specs.Code.{Edge, Begins, Spans, Closed, SameCode, Forward, code_of, instr_of, edge_row}
+use Rattle.geos_infer.specs.Code.{Edge, Begins, Spans, Closed, SameCode, Forward, instrs_of, instr_of, edge_row}
 use Rattle.geos_infer.specs.Solutions.{RowsHold, StepsHold, call_steps}
 use Rattle.geos_infer.proofs.Ends.{code-length, same-edge}
 
@@ -93,7 +93,7 @@ branching-steps image i _ p q ne b h = pays-steps p q h
 
 module _ (o : Parts) (checked : IsChecked o) where
   -- where an edge leads, by the rules
-  row-fits : (pc : ℕ) (branch : Bool) (point next : Point) → slice_get o.points pc ≡ Some point → (to : ℕ) → Edge (code_of o) pc branch to point.0 → slice_get o.points to ≡ Some next
+  row-fits : (pc : ℕ) (branch : Bool) (point next : Point) → slice_get o.points pc ≡ Some point → (to : ℕ) → Edge (instrs_of o) pc branch to point.0 → slice_get o.points to ≡ Some next
       → fits (edge_row o point.0 branch point.1) next.1 ≡ true
   row-fits pc true point next read to edge at =
       let has = has-point o checked.0 pc point read in
@@ -106,7 +106,7 @@ module _ (o : Parts) (checked : IsChecked o) where
       let same : L.point ≡ next = same_Some L.point next (sym L.has.read ∙ ap (slice_get o.points) edge.leads ∙ at) in
       subst (λ (x : Point). fits (row_along o point.0 point.0.opcode point.1) x.1 ≡ true) same L.fits
 
-  step-paid : (pc : ℕ) (branch : Bool) (point next : Point) → slice_get o.points pc ≡ Some point → (to : ℕ) → Edge (code_of o) pc branch to point.0 → slice_get o.points to ≡ Some next
+  step-paid : (pc : ℕ) (branch : Bool) (point next : Point) → slice_get o.points pc ≡ Some point → (to : ℕ) → Edge (instrs_of o) pc branch to point.0 → slice_get o.points to ≡ Some next
       → point.0.opcode ≢ Loop → next.2.constant + 1 + call_steps o point.0 ≤ point.2.constant
   step-paid pc true point next read to edge at ne =
       let has = has-point o checked.0 pc point read in
@@ -120,11 +120,11 @@ module _ (o : Parts) (checked : IsChecked o) where
       subst (λ (x : Point). x.2.constant + 1 + call_steps o point.0 ≤ point.2.constant) same (along-steps o point.0 point.0.opcode point.1 point.2 L.point.2 L.pays)
 
   -- the edge of the instruction of a point
-  edge-of : (pc to : ℕ) (branch : Bool) (i : Instr) (point : Point) → slice_get o.points pc ≡ Some point → Edge (code_of o) pc branch to i → (i ≡ point.0) × Edge (code_of o) pc branch to point.0
+  edge-of : (pc to : ℕ) (branch : Bool) (i : Instr) (point : Point) → slice_get o.points pc ≡ Some point → Edge (instrs_of o) pc branch to i → (i ≡ point.0) × Edge (instrs_of o) pc branch to point.0
   edge-of pc to branch i point read edge =
-      let here : slice_get (code_of o) pc ≡ Some point.0 = slice_get-map instr_of o.points pc ∙ ap (option_map instr_of) read in
+      let here : slice_get (instrs_of o) pc ≡ Some point.0 = slice_get-map instr_of o.points pc ∙ ap (option_map instr_of) read in
       let same : i ≡ point.0 = same_Some i point.0 (sym edge.read ∙ here) in
-      (same, subst (λ x. Edge (code_of o) pc branch to x) same edge)
+      (same, subst (λ x. Edge (instrs_of o) pc branch to x) same edge)
 
   -- no edge leaves a routine
   stays-inside : Closed o
@@ -138,7 +138,7 @@ module _ (o : Parts) (checked : IsChecked o) where
       let place = place_bounds (start_of o.routines r) spans.routine.count to (leads branch point.0 spans.routine has e.1) in
       omega (arith, place.1)
     where
-      leads : (branch : Bool) (point : Point) (routine : Routine) → HasPoint o r routine pc point → Edge (code_of o) pc branch to point.0 → has_place (start_of o.routines r) routine.count to ≡ true
+      leads : (branch : Bool) (point : Point) (routine : Routine) → HasPoint o r routine pc point → Edge (instrs_of o) pc branch to point.0 → has_place (start_of o.routines r) routine.count to ≡ true
       leads true point routine has e =
           let L = leads-branching o checked.0 checked.1 r pc routine point has point.0.opcode refl e.has in
           let P : ℕ → Type 0 = λ n. has_place (start_of o.routines r) routine.count n ≡ true in
@@ -164,7 +164,7 @@ module _ (o : Parts) (checked : IsChecked o) where
           let may = (may_begin o checked.0 checked.1 b.r pc b.routine point has b.start).0 in
           subst (λ (x : Row). fits x row ≡ true) b.entry_is (subst (λ (x : Row). fits b.routine.entry x ≡ true) is may)
 
-      edges_ : (pc to : ℕ) (branch : Bool) (i : Instr) (row next : Row) → Edge (code_of o) pc branch to i → (point : Point) × (slice_get o.points pc ≡ Some point) × (row_at point ≡ row)
+      edges_ : (pc to : ℕ) (branch : Bool) (i : Instr) (row next : Row) → Edge (instrs_of o) pc branch to i → (point : Point) × (slice_get o.points pc ≡ Some point) × (row_at point ≡ row)
           → (point : Point) × (slice_get o.points to ≡ Some point) × (row_at point ≡ next) → fits (edge_row o i branch row) next ≡ true
       edges_ pc to branch i row next edge (point, read, is) (other, at, next_is) =
           let e = edge-of pc to branch i point read edge in
@@ -181,7 +181,7 @@ module _ (o : Parts) (checked : IsChecked o) where
   constant-at : (pc : ℕ) (point : Point) → slice_get o.points pc ≡ Some point → get_or (map constant_at o.points) pc 0 ≡ point.2.constant
   constant-at pc point read = get_or_from_slice_get (map constant_at o.points) pc point.2.constant 0 (slice_get-map constant_at o.points pc ∙ ap (option_map constant_at) read)
 
-  steps-hold : ((pc : ℕ) (i : Instr) → slice_get (code_of o) pc ≡ Some i → i.opcode ≢ Loop) → ImageFits o → StepsHold o (map constant_at o.points)
+  steps-hold : ((pc : ℕ) (i : Instr) → slice_get (instrs_of o) pc ≡ Some i → i.opcode ≢ Loop) → ImageFits o → StepsHold o (map constant_at o.points)
   steps-hold no_loop fit = record {
     closed = stays-inside;
     edges = λ pc to branch i edge within. (
@@ -218,7 +218,7 @@ module _ (o : Parts) (checked : IsChecked o) where
 -- Another image with the same code
 
 module _ (image o : Parts) (same : SameCode image o) where
-  edge-there : (pc to : ℕ) (branch : Bool) (i : Instr) → Edge (code_of image) pc branch to i → Edge (code_of o) pc branch to i
+  edge-there : (pc to : ℕ) (branch : Bool) (i : Instr) → Edge (instrs_of image) pc branch to i → Edge (instrs_of o) pc branch to i
   edge-there pc to branch i edge = subst (λ (code : List Instr). Edge code pc branch to i) (sym same.instrs) edge
 
   closed-here : Closed o → Closed image

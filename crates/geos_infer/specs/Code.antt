@@ -12,14 +12,14 @@ abbrev pub instr_of : Point → Instr
 instr_of point = point.0
 
 -- the instructions, by pc
-abbrev pub code_of : Parts → List Instr
-code_of image = map instr_of image.points
+abbrev pub instrs_of : Parts → List Instr
+instrs_of image = map instr_of image.points
 
 -- both have the same routines, with their entry and exit rows and budgets, and the same
 -- instructions
 pub record SameCode (image other : Parts) : Type 0 where
   pub routines : other.routines ≡ image.routines
-  pub instrs : code_of other ≡ code_of image
+  pub instrs : instrs_of other ≡ instrs_of image
 
 -- Edges
 
@@ -63,7 +63,7 @@ pub record Spans (routines : List Routine) (r start end : ℕ) : Type 0 where
 
 -- no edge leaves a routine
 abbrev pub Closed : Parts → Type 0
-Closed image = (r start end pc to : ℕ) (branch : Bool) (i : Instr) → Spans image.routines r start end → start ≤ pc → pc < end → Edge (code_of image) pc branch to i → to < end
+Closed image = (r start end pc to : ℕ) (branch : Bool) (i : Instr) → Spans image.routines r start end → start ≤ pc → pc < end → Edge (instrs_of image) pc branch to i → to < end
 
 -- Code without loops
 
@@ -76,6 +76,6 @@ pub record Entered (code : List Instr) (to : ℕ) : Type 0 where
 
 -- no LOOP; each target lies ahead; and each instruction but a routine's first has an edge into it
 pub record Forward (image : Parts) : Type 0 where
-  pub no_loop : (pc : ℕ) (i : Instr) → slice_get (code_of image) pc ≡ Some i → i.opcode ≢ Loop
-  pub ahead : (pc to : ℕ) (branch : Bool) (i : Instr) → Edge (code_of image) pc branch to i → pc < to
-  pub entered : (pc : ℕ) (i : Instr) → slice_get (code_of image) pc ≡ Some i → ((entry : Row) × Begins image.routines pc entry) ⊎ Entered (code_of image) pc
+  pub no_loop : (pc : ℕ) (i : Instr) → slice_get (instrs_of image) pc ≡ Some i → i.opcode ≢ Loop
+  pub ahead : (pc to : ℕ) (branch : Bool) (i : Instr) → Edge (instrs_of image) pc branch to i → pc < to
+  pub entered : (pc : ℕ) (i : Instr) → slice_get (instrs_of image) pc ≡ Some i → ((entry : Row) × Begins image.routines pc entry) ⊎ Entered (instrs_of image) pc

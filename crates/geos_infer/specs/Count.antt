@@ -3,7 +3,7 @@ use Rattle.std.specs.Prelude.{◌≡◌, ◌≤◌, ◌<◌, ℕ, ◌+◌, max, 
 use Rattle.geos_image.specs.declared.instr.Instr.{Instr}
 use Rattle.geos_image.specs.Parts.{Parts}
 use Rattle.geos_verify.specs.Rules.{returns}
-use Rattle.geos_infer.specs.Code.{Edge, code_of, edge_end}
+use Rattle.geos_infer.specs.Code.{Edge, instrs_of, edge_end}
 use Rattle.geos_infer.specs.Flow.{leads_ahead}
 use Rattle.geos_infer.specs.Solutions.{call_steps}
 
@@ -21,10 +21,10 @@ steps_at image limit pc i steps = max (return_steps i) (max (edge_steps image li
 
 -- from a pc on, the numbers hold, and are at most numbers that do
 pub record Counting (image : Parts) (want steps : List ℕ) (pc : ℕ) : Type 0 where
-  pub len : length steps ≡ length (code_of image)
-  pub below : (k : ℕ) → pc ≤ k → k < length (code_of image) → slice_index steps k ≤ slice_index want k
-  pub edges : (k to : ℕ) (branch : Bool) (i : Instr) → pc ≤ k → Edge (code_of image) k branch to i → to < length (code_of image) → slice_index steps to + 1 + call_steps image i ≤ slice_index steps k
-  pub returns : (k : ℕ) (i : Instr) → pc ≤ k → slice_get (code_of image) k ≡ Some i → returns i.opcode ≡ true → 1 ≤ slice_index steps k
+  pub len : length steps ≡ length (instrs_of image)
+  pub below : (k : ℕ) → pc ≤ k → k < length (instrs_of image) → slice_index steps k ≤ slice_index want k
+  pub edges : (k to : ℕ) (branch : Bool) (i : Instr) → pc ≤ k → Edge (instrs_of image) k branch to i → to < length (instrs_of image) → slice_index steps to + 1 + call_steps image i ≤ slice_index steps k
+  pub returns : (k : ℕ) (i : Instr) → pc ≤ k → slice_get (instrs_of image) k ≡ Some i → returns i.opcode ≡ true → 1 ≤ slice_index steps k
 
 -- no counter counts
 abbrev pub zeros : List ℕ

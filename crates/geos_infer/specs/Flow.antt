@@ -6,7 +6,7 @@ use Rattle.geos_image.specs.declared.row.SlotState.TheVariants.{Empty}
 use Rattle.geos_image.specs.Parts.{Parts}
 use Rattle.geos_verify.specs.Rows.{fits}
 use Rattle.geos_infer.specs.Joins.{join, clean}
-use Rattle.geos_infer.specs.Code.{Edge, Begins, code_of, has_edge, edge_end, edge_row}
+use Rattle.geos_infer.specs.Code.{Edge, Begins, instrs_of, has_edge, edge_end, edge_row}
 
 -- of a place that nothing reaches: words are 0, no slot is held, and all pairs are known
 abbrev pub strongest : Row
@@ -61,15 +61,15 @@ edge_number pc false = 2 * pc
 
 -- rows have flowed along the first so many edges, and all that is known fits rows that hold
 pub record Flowing (image : Parts) (want : List Row) (known : List (Option Row)) (done : ℕ) : Type 0 where
-  pub len : length known ≡ length (code_of image)
+  pub len : length known ≡ length (instrs_of image)
   pub below : (pc : ℕ) (row w : Row) → known_at known pc ≡ Some row → slice_get want pc ≡ Some w → fits row w ≡ true
   pub entries : (pc : ℕ) (entry : Row) → Begins image.routines pc entry → KnownAt known pc entry
-  pub edges : (pc to : ℕ) (branch : Bool) (i : Instr) → edge_number pc branch < done → Edge (code_of image) pc branch to i → to < length (code_of image)
+  pub edges : (pc to : ℕ) (branch : Bool) (i : Instr) → edge_number pc branch < done → Edge (instrs_of image) pc branch to i → to < length (instrs_of image)
       → KnownAt known to (edge_row image i branch (row_of (known_at known pc)))
 
 -- each routine's entry row is known where it begins, and nothing else is
 pub record Seeded (image : Parts) (known : List (Option Row)) : Type 0 where
-  pub len : length known ≡ length (code_of image)
+  pub len : length known ≡ length (instrs_of image)
   pub entries : (pc : ℕ) (entry : Row) → Begins image.routines pc entry → known_at known pc ≡ Some entry
   pub only : (pc : ℕ) (row : Row) → known_at known pc ≡ Some row → Begins image.routines pc row
 

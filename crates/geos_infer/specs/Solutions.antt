@@ -7,7 +7,7 @@ use Rattle.geos_verify.specs.Rows.{fits}
 use Rattle.geos_verify.specs.Potentials.{budget_of}
 use Rattle.geos_verify.specs.Rules.{names_empty_slot, returns}
 use Rattle.geos_verify.specs.Touched.{calls}
-use Rattle.geos_infer.specs.Code.{Edge, Begins, Closed, code_of, edge_row}
+use Rattle.geos_infer.specs.Code.{Edge, Begins, Closed, instrs_of, edge_row}
 
 -- the most steps that a potential can say
 abbrev pub most_steps : ℕ
@@ -16,10 +16,10 @@ most_steps = 4294967295
 -- rows at the instructions: each routine's entry row fits the first one; the row after an edge
 -- fits the one where it leads; no pointer leads into an empty slot; and no edge leaves a routine
 pub record RowsHold (image : Parts) (rows : List Row) : Type 0 where
-  pub len : length rows ≡ length (code_of image)
+  pub len : length rows ≡ length (instrs_of image)
   pub closed : Closed image
   pub entries : (pc : ℕ) (entry row : Row) → Begins image.routines pc entry → slice_get rows pc ≡ Some row → fits entry row ≡ true
-  pub edges : (pc to : ℕ) (branch : Bool) (i : Instr) (row next : Row) → Edge (code_of image) pc branch to i → slice_get rows pc ≡ Some row → slice_get rows to ≡ Some next
+  pub edges : (pc to : ℕ) (branch : Bool) (i : Instr) (row next : Row) → Edge (instrs_of image) pc branch to i → slice_get rows pc ≡ Some row → slice_get rows to ≡ Some next
       → fits (edge_row image i branch row) next ≡ true
   pub clean : (pc : ℕ) (row : Row) → slice_get rows pc ≡ Some row → names_empty_slot row ≡ false
 
@@ -31,6 +31,6 @@ call_steps image i = if calls i.opcode then budget_of image i.imm else 0
 -- for the number where an edge leads, and for a return
 pub record StepsHold (image : Parts) (steps : List ℕ) : Type 0 where
   pub closed : Closed image
-  pub edges : (pc to : ℕ) (branch : Bool) (i : Instr) → Edge (code_of image) pc branch to i → to < length (code_of image) → slice_index steps to + 1 + call_steps image i ≤ slice_index steps pc
-  pub returns : (pc : ℕ) (i : Instr) → slice_get (code_of image) pc ≡ Some i → returns i.opcode ≡ true → 1 ≤ slice_index steps pc
+  pub edges : (pc to : ℕ) (branch : Bool) (i : Instr) → Edge (instrs_of image) pc branch to i → to < length (instrs_of image) → slice_index steps to + 1 + call_steps image i ≤ slice_index steps pc
+  pub returns : (pc : ℕ) (i : Instr) → slice_get (instrs_of image) pc ≡ Some i → returns i.opcode ≡ true → 1 ≤ slice_index steps pc
   pub long : (pc : ℕ) → slice_index steps pc ≤ most_steps
