@@ -1,12 +1,13 @@
 -- How rows flow along the edges that lead ahead.
-use Rattle.std.specs.Prelude.{◌≡◌, ◌<◌, ℕ, ◌+◌, ◌*◌, Bool, true, false, ◌&&◌, nat_lt, nat_le, if◌then◌else◌, List, [], ◌∷◌, length, Option, Some, None, slice_get, slice_index_or, slice_set}
+use Rattle.std.specs.Prelude.{◌≡◌, ◌<◌, ℕ, ◌+◌, ◌*◌, Bool, true, false, ◌&&◌, nat_lt, nat_le, if◌then◌else◌, List, [], ◌∷◌, length, Option, Some, None, slice_get, slice_index_or, slice_set, IfSome, MatchBool}
 use Rattle.geos_image.specs.declared.instr.Instr.{Instr}
 use Rattle.geos_image.specs.declared.row.Row.{Row}
 use Rattle.geos_image.specs.declared.row.SlotState.TheVariants.{Empty}
-use Rattle.geos_image.specs.Parts.{Parts}
+use Rattle.geos_image.specs.Parts.{Parts, start_of}
 use Rattle.geos_verify.specs.Rows.{fits}
 use Rattle.geos_infer.specs.Joins.{join, clean}
-use Rattle.geos_infer.specs.Code.{Edge, Begins, instrs_of, has_edge, edge_end, edge_row}
+use Rattle.geos_infer.specs.Code.{Edge, Begins, Forward, instrs_of, has_edge, edge_end, edge_row}
+use Rattle.geos_infer.specs.Solutions.{RowsHold}
 
 -- of a place that nothing reaches: words are 0, no slot is held, and all pairs are known
 abbrev pub strongest : Row
@@ -76,3 +77,19 @@ pub record Seeded (image : Parts) (known : List (Option Row)) : Type 0 where
 -- the instruction has the edge, and it leads back or to itself, not before the limit
 abbrev pub leads_back : ℕ → ℕ → Instr → Bool → Bool
 leads_back limit pc i branch = has_edge i branch && nat_le limit (edge_end pc i branch) && nat_le (edge_end pc i branch) pc
+
+-- What the flow of rows promises
+
+-- what is known next is what is known after the row at the pc has gone along the edge, or there is no join
+abbrev pub Spreads : Parts → ℕ → ℕ → Bool → List (Option Row) → List (Option Row) → Bool → Type 0
+Spreads image limit pc branch known next done =
+    IfSome (slice_get image.points pc) (λ point. let after = spread image limit pc point.0 branch (row_of (known_at known pc)) known in MatchBool done (after ≡ Some next) (after ≡ None))
+
+-- where rows have flowed up to routine r, they have flowed through it next; of code without loops
+abbrev pub FlowsOn : Parts → ℕ → List (Option Row) → List (Option Row) → Bool → Type 0
+FlowsOn image r known next done = (want : List Row) → Forward image → RowsHold image want → Flowing image want known (2 * start_of image.routines r)
+    → (done ≡ true) × Flowing image want next (2 * start_of image.routines (r + 1))
+
+-- rows have flowed along all edges; of code without loops
+abbrev pub HaveFlowed : Parts → List (Option Row) → Type 0
+HaveFlowed image known = (want : List Row) → Forward image → RowsHold image want → Flowing image want known (2 * length image.points)

@@ -7,7 +7,7 @@ use Rattle.geos_verify.specs.Rows.{fits}
 use Rattle.geos_verify.specs.Potentials.{budget_of}
 use Rattle.geos_verify.specs.Rules.{names_empty_slot, returns}
 use Rattle.geos_verify.specs.Touched.{calls}
-use Rattle.geos_infer.specs.Code.{Edge, Begins, Closed, instrs_of, edge_row}
+use Rattle.geos_infer.specs.Code.{Edge, Begins, Closed, Forward, instrs_of, edge_row}
 
 -- the most steps that a potential can say
 abbrev pub most_steps : ℕ
@@ -34,3 +34,11 @@ pub record StepsHold (image : Parts) (steps : List ℕ) : Type 0 where
   pub edges : (pc to : ℕ) (branch : Bool) (i : Instr) → Edge (instrs_of image) pc branch to i → to < length (instrs_of image) → slice_index steps to + 1 + call_steps image i ≤ slice_index steps pc
   pub returns : (pc : ℕ) (i : Instr) → slice_get (instrs_of image) pc ≡ Some i → returns i.opcode ≡ true → 1 ≤ slice_index steps pc
   pub long : (pc : ℕ) → slice_index steps pc ≤ most_steps
+
+-- no rows hold, or the code has loops
+abbrev pub NoRowsHold : Parts → Type 0
+NoRowsHold image = (want : List Row) → Forward image → RowsHold image want → ⊥
+
+-- no numbers of steps hold, or the code has loops
+abbrev pub NoStepsHold : Parts → Type 0
+NoStepsHold image = (want : List ℕ) → Forward image → StepsHold image want → ⊥

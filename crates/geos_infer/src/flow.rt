@@ -1,12 +1,8 @@
 //! Rows flow along the edges that lead ahead.
 
-ghost use Rattle.std.specs.Prelude.{◌≡◌, ◌<◌, ◌≤◌, ◌*◌, ◌+◌, List, length, true, slice_get, Some, None, IfSome, MatchBool};
-ghost use Rattle.geos_image.specs.declared.row.Row.{Row};
+ghost use Rattle.std.specs.Prelude.{◌≡◌, ◌<◌, ◌≤◌, length, true};
 ghost use Rattle.geos_image.specs.Legal.{is_row};
-ghost use Rattle.geos_image.specs.Parts.{start_of};
-ghost use Rattle.geos_infer.specs.Code.{Forward};
-ghost use Rattle.geos_infer.specs.Solutions.{RowsHold};
-ghost use Rattle.geos_infer.specs.Flow.{row_of, known_at, join_known, spread, Flowing};
+ghost use Rattle.geos_infer.specs.Flow.{row_of, join_known, Spreads, FlowsOn};
 
 use crate::common::{clean, join};
 use crate::edges::{edge_end, leads_ahead, span_of};
@@ -49,7 +45,7 @@ fn spread(image: &Image, known: &mut [Option<Row>], limit: u16, pc: u16, branch:
     requires short { length image.now.points ≤ 4096 }
     requires limit { limit ≤ length image.now.points }
     requires len { length known.old ≡ length image.now.points }
-    ensures { IfSome (slice_get image.now.points pc) (λ point. let next = spread image.now limit pc point.0 branch (row_of (known_at known.old pc)) known.old in MatchBool result (next ≡ Some known.new) (next ≡ None)) }
+    ensures { Spreads image.now limit pc branch known.old known.new result }
 {
     let i = image.instr(pc);
     if !leads_ahead(limit, pc, i, branch) {
@@ -72,7 +68,7 @@ fn spread(image: &Image, known: &mut [Option<Row>], limit: u16, pc: u16, branch:
 pub(crate) fn flow(image: &Image, r: u16, known: &mut [Option<Row>]) -> bool
     requires routine { r < length image.now.routines }
     requires len { length known.old ≡ length image.now.points }
-    ensures { (want : List Row) → Forward image.now → RowsHold image.now want → Flowing image.now want known.old (2 * start_of image.now.routines r) → (result ≡ true) × Flowing image.now want known.new (2 * start_of image.now.routines (r + 1)) }
+    ensures { FlowsOn image.now r known.old known.new result }
 {
     let span = span_of(image, r);
     for pc in span.start..span.end {

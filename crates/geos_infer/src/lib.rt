@@ -3,12 +3,15 @@
 //! docs/VERIFIER.md says what rows and potentials are.
 #![tactic(auto)]
 
+mod asked;
 mod common;
 mod count;
 mod edges;
 mod error;
 mod flow;
 mod inference;
+mod paid;
+mod prices;
 mod rounds;
 mod seeds;
 

@@ -1,12 +1,10 @@
 //! Rows flow round after round, until those of the edges that lead back have nothing new to say.
 
-ghost use Rattle.std.specs.Prelude.{◌≡◌, ◌<◌, ◌≤◌, ◌*◌, ◌+◌, List, ℕ, length, true, IfOk, IfErr, IfSome, slice_get, false};
-ghost use Rattle.geos_image.specs.declared.row.Row.{Row};
-ghost use Rattle.geos_image.specs.Parts.{start_of};
+ghost use Rattle.std.specs.Prelude.{◌≡◌, ◌<◌, ◌≤◌, ℕ, length, true, IfOk, IfErr, IfSome, slice_get};
 ghost use Rattle.geos_infer.specs.declared.error.InferError.TheVariants.{NoRows};
 ghost use Rattle.geos_infer.specs.Code.{Forward};
-ghost use Rattle.geos_infer.specs.Solutions.{RowsHold};
-ghost use Rattle.geos_infer.specs.Flow.{leads_back, Flowing};
+ghost use Rattle.geos_infer.specs.Solutions.{NoRowsHold};
+ghost use Rattle.geos_infer.specs.Flow.{leads_back, FlowsOn, HaveFlowed};
 
 use crate::common::join;
 use crate::edges::{edge_end, leads_back, span_of};
@@ -163,7 +161,7 @@ fn find_rows_in(image: &Image, r: u16, from: &mut [Option<Row>], known: &mut [Op
     requires routine { r < length image.now.routines }
     requires from { length from.old ≡ length image.now.points }
     requires known { length known.old ≡ length image.now.points }
-    ensures { (want : List Row) → Forward image.now → RowsHold image.now want → Flowing image.now want known.old (2 * start_of image.now.routines r) → (result ≡ true) × Flowing image.now want known.new (2 * start_of image.now.routines (r + 1)) }
+    ensures { FlowsOn image.now r known.old known.new result }
 {
     for round in 0..MOST_ROUNDS {
         if !flow(image, r, known) {
@@ -182,8 +180,8 @@ fn find_rows_in(image: &Image, r: u16, from: &mut [Option<Row>], known: &mut [Op
 /// no join.
 pub(crate) fn find_rows(alloc: Global, image: &Image) -> Result<Vec<Option<Row>>, InferError>
     ensures len { IfOk result (λ known. length known.items ≡ length image.now.points) }
-    ensures found { IfOk result (λ known. (want : List Row) → Forward image.now → RowsHold image.now want → Flowing image.now want known.items (2 * length image.now.points)) }
-    ensures none { IfErr result (λ error. (r : ℕ) (want : List Row) → error ≡ NoRows r → Forward image.now → RowsHold image.now want → ⊥) }
+    ensures found { IfOk result (λ known. HaveFlowed image.now known.items) }
+    ensures none { IfErr result (λ error. (r : ℕ) → error ≡ NoRows r → NoRowsHold image.now) }
 {
     let mut known = seeds(alloc, image)?;
     let mut from = seeds(alloc, image)?;

@@ -21,8 +21,8 @@ loop-r-init c =
       ),
     )
 
-pub returns-then-not-count_in : goal.returns-then-not-count_in
-returns-then-not-count_in c = λ want forward holds.
+pub returns-then-not-count_in-clause-counted : goal.returns-then-not-count_in-clause-counted
+returns-then-not-count_in-clause-counted c = λ want forward holds.
     let image = c.args.image.now in
     let one_more : c.loop-r.r ≡ c.loop-r.r - 1 + 1 = omega (arith, c.loop-r-test.true) in
     let before = c.loop-r.invariant.2 want forward holds in
@@ -43,8 +43,8 @@ loop-r-preserved c =
           (F.1, F.2),
     )
 
-pub returns : goal.returns
-returns c = λ want forward holds.
+pub returns-clause-counted : goal.returns-clause-counted
+returns-clause-counted c = λ want forward holds.
     let image = c.args.image.now in
     let F = c.loop-r.invariant.2 want forward holds in
     let zero : c.loop-r.r ≡ 0 = omega (arith, c.loop-r-test.false) in

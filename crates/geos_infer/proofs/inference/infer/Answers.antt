@@ -10,10 +10,10 @@ use Rattle.geos_infer.proofs.Finding.{found-legal, found-code, found-checked, ma
 use Rattle.geos_infer.proofs.inference.infer.Goals as goal
 
 pub returns-in-Err-clause-none : goal.returns-in-Err-clause-none
-returns-in-Err-clause-none c = λ r e forward has. c.in-Err.ensures.none r (map row_at has.other.points) e forward (rows-wanted c.args.skeleton.now has.other has.same has.checked)
+returns-in-Err-clause-none c = λ r e forward has. c.in-Err.ensures.none r e (map row_at has.other.points) forward (rows-wanted c.args.skeleton.now has.other has.same has.checked)
 
 pub returns-in-Err-count-clause-none : goal.returns-in-Err-count-clause-none
-returns-in-Err-count-clause-none c = λ r e forward has. c.in-Err-count.ensures.none r (map constant_at has.other.points) e forward (steps-wanted c.args.skeleton.now has.other has.same forward has.fits has.checked)
+returns-in-Err-count-clause-none c = λ r e forward has. c.in-Err-count.ensures.none r e (map constant_at has.other.points) forward (steps-wanted c.args.skeleton.now has.other has.same forward has.fits has.checked)
 
 pub unreachable-requires : goal.unreachable-requires
 unreachable-requires c =

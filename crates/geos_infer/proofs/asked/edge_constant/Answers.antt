@@ -1,6 +1,6 @@
 use Rattle.std.proofs.Common.{◌+◌, arith}
 use Rattle.geos_infer.proofs.Asks.{asks-some, no-loop}
-use Rattle.geos_infer.proofs.count.edge_constant.Goals as goal
+use Rattle.geos_infer.proofs.asked.edge_constant.Goals as goal
 
 pub returns-then-is_loop_back-clause-asks : goal.returns-then-is_loop_back-clause-asks
 returns-then-is_loop_back-clause-asks c = λ forward none.

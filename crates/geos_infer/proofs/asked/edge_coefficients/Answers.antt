@@ -1,6 +1,6 @@
 use Rattle.std.proofs.Common.{arith}
 use Rattle.geos_infer.proofs.Asks.{target-later}
-use Rattle.geos_infer.proofs.count.edge_coefficients.Goals as goal
+use Rattle.geos_infer.proofs.asked.edge_coefficients.Goals as goal
 
 pub returns-in-Some : goal.returns-in-Some
 returns-in-Some c = λ forward none.

@@ -1,6 +1,6 @@
 use Rattle.std.proofs.Common.{arith}
 use Rattle.geos_infer.proofs.Back.{ends-back}
-use Rattle.geos_infer.proofs.count.target.Goals as goal
+use Rattle.geos_infer.proofs.asked.target.Goals as goal
 
 pub returns-then-leads_back-clause-within : goal.returns-then-leads_back-clause-within
 returns-then-leads_back-clause-within c =

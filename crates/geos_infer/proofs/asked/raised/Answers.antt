@@ -1,5 +1,5 @@
 use Rattle.geos_infer.proofs.Asks.{no-loop}
-use Rattle.geos_infer.proofs.count.raised.Goals as goal
+use Rattle.geos_infer.proofs.asked.raised.Goals as goal
 
 pub returns-in_err-missing : goal.returns-in_err-missing
 returns-in_err-missing c = λ forward.
