@@ -1,9 +1,13 @@
 -- The rows and potentials that are found are enough wherever some are.
-use Rattle.std.specs.Prelude.{◌≡◌, List, Option, Some, None}
+use Rattle.std.specs.Prelude.{◌≡◌, ◌<◌, ℕ, List, length}
+use Rattle.geos_image.specs.declared.row.Row.{Row}
 use Rattle.geos_image.specs.Parts.{Point, Parts}
 use Rattle.geos_image.specs.Ranges.{ImageFits}
 use Rattle.geos_verify.specs.Rules.{IsChecked}
+use Rattle.geos_infer.specs.declared.error.InferError.{InferError}
+use Rattle.geos_infer.specs.declared.error.InferError.TheVariants.{NoRows, Memory}
 use Rattle.geos_infer.specs.Code.{SameCode, Forward}
+use Rattle.geos_infer.specs.Solutions.{RowsHold, StepsHold}
 
 -- the image with these points in place of its own
 abbrev pub with_points : Parts → List Point → Parts
@@ -23,3 +27,12 @@ FindsWhatThereIs skeleton found = Forward skeleton → HasAccepted skeleton → 
 -- no image is accepted that has this code, or the code has loops
 abbrev pub NoneIsAccepted : Parts → Type 0
 NoneIsAccepted skeleton = Forward skeleton → HasAccepted skeleton → ⊥
+
+-- no rows and numbers of steps hold, or the code has loops
+abbrev pub NothingHolds : Parts → Type 0
+NothingHolds image = Forward image → (rows : List Row) (steps : List ℕ) → RowsHold image rows → StepsHold image steps → ⊥
+
+-- if an error names a routine, it is one of the image
+abbrev pub NamesRoutine : Parts → InferError → Type 0
+NamesRoutine image (NoRows r) = r < length image.routines
+NamesRoutine image Memory = Unit {0}

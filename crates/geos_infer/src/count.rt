@@ -5,6 +5,7 @@ ghost use Rattle.std.specs.Prelude.{◌≡◌, ◌<◌, ℕ, length, IfOk, IfErr
 ghost use Rattle.geos_infer.specs.declared.error.InferError.TheVariants.{NoRows};
 ghost use Rattle.geos_infer.specs.Solutions.{NoStepsHold};
 ghost use Rattle.geos_infer.specs.Count.{CountsOn, CountsAll, AreCounted};
+ghost use Rattle.geos_infer.specs.Theorem.{NamesRoutine};
 
 use crate::asked::{coefficients_at, constant_at};
 use crate::edges::span_of;
@@ -123,6 +124,7 @@ pub(crate) fn count(
     ensures steps { IfOk result (λ both. length both.0.items ≡ length image.now.points) }
     ensures coefficients { IfOk result (λ both. length both.1.items ≡ length image.now.points) }
     ensures found { IfOk result (λ both. AreCounted image.now both.0.items both.1.items) }
+    ensures within { IfErr result (NamesRoutine image.now) }
     ensures none { IfErr result (λ error. (r : ℕ) → error ≡ NoRows r → NoStepsHold image.now) }
 {
     let mut steps = zero_steps(alloc, image.len() as usize)?;

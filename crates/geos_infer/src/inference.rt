@@ -4,7 +4,7 @@ ghost use Rattle.std.specs.Prelude.{◌≡◌, ℕ, length, IfOk, IfErr};
 ghost use Rattle.geos_infer.specs.declared.error.InferError.TheVariants.{NoRows};
 ghost use Rattle.geos_infer.specs.Code.{SameCode};
 ghost use Rattle.geos_infer.specs.Points.{PointsOf, RoutinesOf};
-ghost use Rattle.geos_infer.specs.Theorem.{FindsWhatThereIs, NoneIsAccepted};
+ghost use Rattle.geos_infer.specs.Theorem.{FindsWhatThereIs, NoneIsAccepted, NothingHolds, NamesRoutine};
 
 use crate::count::count;
 use crate::error::InferError;
@@ -61,6 +61,8 @@ pub fn infer(alloc: Global, skeleton: &Image) -> Result<Image, InferError>
     ensures code { IfOk result (λ image. SameCode skeleton.now image) }
     ensures found { IfOk result (λ image. FindsWhatThereIs skeleton.now image) }
     ensures none { IfErr result (λ error. (r : ℕ) → error ≡ NoRows r → NoneIsAccepted skeleton.now) }
+    ensures stuck { IfErr result (λ error. (r : ℕ) → error ≡ NoRows r → NothingHolds skeleton.now) }
+    ensures within { IfErr result (NamesRoutine skeleton.now) }
 {
     // For what `len` says of the skeleton: it is one that the format allows.
     let _legal = skeleton.len();

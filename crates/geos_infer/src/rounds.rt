@@ -5,6 +5,7 @@ ghost use Rattle.geos_infer.specs.declared.error.InferError.TheVariants.{NoRows}
 ghost use Rattle.geos_infer.specs.Code.{Forward};
 ghost use Rattle.geos_infer.specs.Solutions.{NoRowsHold};
 ghost use Rattle.geos_infer.specs.Flow.{leads_back, FlowsOn, HaveFlowed};
+ghost use Rattle.geos_infer.specs.Theorem.{NamesRoutine};
 
 use crate::common::join;
 use crate::edges::{edge_end, leads_back, span_of};
@@ -181,6 +182,7 @@ fn find_rows_in(image: &Image, r: u16, from: &mut [Option<Row>], known: &mut [Op
 pub(crate) fn find_rows(alloc: Global, image: &Image) -> Result<Vec<Option<Row>>, InferError>
     ensures len { IfOk result (λ known. length known.items ≡ length image.now.points) }
     ensures found { IfOk result (λ known. HaveFlowed image.now known.items) }
+    ensures within { IfErr result (NamesRoutine image.now) }
     ensures none { IfErr result (λ error. (r : ℕ) → error ≡ NoRows r → NoRowsHold image.now) }
 {
     let mut known = seeds(alloc, image)?;

@@ -15,6 +15,12 @@ returns-in-Err-clause-none c = λ r e forward has. c.in-Err.ensures.none r e (ma
 pub returns-in-Err-count-clause-none : goal.returns-in-Err-count-clause-none
 returns-in-Err-count-clause-none c = λ r e forward has. c.in-Err-count.ensures.none r e (map constant_at has.other.points) forward (steps-wanted c.args.skeleton.now has.other has.same forward has.fits has.checked)
 
+pub returns-in-Err-clause-stuck : goal.returns-in-Err-clause-stuck
+returns-in-Err-clause-stuck c = λ r e forward rows steps rows_hold steps_hold. c.in-Err.ensures.none r e rows forward rows_hold
+
+pub returns-in-Err-count-clause-stuck : goal.returns-in-Err-count-clause-stuck
+returns-in-Err-count-clause-stuck c = λ r e forward rows steps rows_hold steps_hold. c.in-Err-count.ensures.none r e steps forward steps_hold
+
 pub unreachable-requires : goal.unreachable-requires
 unreachable-requires c =
     let image = c.args.skeleton.now in
