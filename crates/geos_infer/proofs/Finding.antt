@@ -24,6 +24,7 @@ use Rattle.geos_infer.specs.Theorem.{HasAccepted, FindsWhatThereIs, with_points}
 use Rattle.geos_infer.proofs.Pairwise.{both}
 use Rattle.geos_infer.proofs.Fits.{fits-trans}
 use Rattle.geos_infer.proofs.Cleaning.{clean-least}
+use Rattle.geos_infer.proofs.Flows.{all-reached}
 use Rattle.geos_infer.proofs.Ends.{code-at, code-length, same-edge}
 use Rattle.geos_infer.proofs.Wanted.{row_at, constant_at, map-get, rows-wanted, steps-wanted}
 use Rattle.geos_infer.proofs.Accepting.{Beside, accepts}
@@ -85,15 +86,10 @@ module _ (image : Parts) (legal : is_image image ≡ true) (forward : Forward im
     (F : Flowing image (map row_at o.points) known (2 * length image.points)) (C : Counting image (map constant_at o.points) steps 0) (P : Plain image known steps points) where
   -- everything is reached
   reached : (pc : ℕ) (i : Instr) → slice_get (instrs_of image) pc ≡ Some i → (row : Row) × (known_at known pc ≡ Some row)
-  reached pc i read = elim (forward.entered pc i read) [
-    | inl b ↦ let K = F.entries pc b.0 b.1 in (K.known_row, K.read)
-    | inr e ↦
-        let within = slice_get_within (instrs_of image) pc i read in
-        let lt = forward.ahead e.pc pc e.branch e.i e.edge in
-        let len = code-length image in
-        let K = F.edges e.pc pc e.branch e.i (number-last e.pc (length image.points) e.branch (omega arith)) e.edge within in
-        (K.known_row, K.read)
-  ]
+  reached pc i read =
+      let len = code-length image in
+      let lt = slice_get_within (instrs_of image) pc i read in
+      all-reached image forward (map row_at o.points) known (2 * length image.points) F (length image.points) (omega arith) pc (omega arith) (let known_len = F.len in omega arith)
 
   found-at : (pc : ℕ) (old : Point) → slice_get image.points pc ≡ Some old → slice_get points pc ≡ Some (old.0, row_of (known_at known pc), potential_of (get_or steps pc 0))
   found-at pc old read = P.each pc old read
@@ -139,8 +135,10 @@ module _ (image : Parts) (legal : is_image image ≡ true) (forward : Forward im
       let points_len = P.len in
       let there = item_at image.points to (omega arith) in
       let is : (there.0.0, row_of (known_at known to), potential_of (get_or steps to 0)) ≡ next = same_Some (there.0.0, row_of (known_at known to), potential_of (get_or steps to 0)) next (sym (found-at to there.0 there.1) ∙ at) in
-      let K = F.edges pc to branch old.0 (number-last pc (length image.points) branch from) edge (omega arith) in
-      let fit = known-fits to (edge_row image old.0 branch (row_of (known_at known pc))) K in
+      let row = row-is pc old read in
+      let K = F.edges pc to branch old.0 row.0 (number-last pc (length image.points) branch from) edge (omega arith) row.1 in
+      let fit : fits (edge_row image old.0 branch (row_of (known_at known pc))) (row_of (known_at known to)) ≡ true =
+      subst (λ (x : Row). fits (edge_row image old.0 branch x) (row_of (known_at known to)) ≡ true) (sym row.2) (known-fits to (edge_row image old.0 branch (clean row.0)) K) in
       let paid = C.edges pc to branch old.0 (omega arith) edge (omega arith) in
       (subst (λ (x : Point). fits (edge_row image old.0 branch (row_of (known_at known pc))) x.1 ≡ true) is fit, (get_or steps to 0, ap (λ (x : Point). x.2) (sym is), paid))
 

@@ -1,9 +1,9 @@
 -- What is known stays below rows that hold, and comes to hold, while rows flow.
-use Rattle.std.proofs.Common.{◌≡◌, ◌≢◌, ℕ, suc, ◌+◌, ◌*◌, ◌<◌, ◌≤◌, Bool, true, false, List, length, Option, Some, None, slice_get, get_or, set, refl, sym, ap, ◌∙◌, subst, arith, inl, inr, ◌⊎◌}
+use Rattle.std.proofs.Common.{◌≡◌, ◌≢◌, ℕ, zero, suc, ◌+◌, ◌*◌, ◌<◌, ◌≤◌, Bool, true, false, List, length, Option, Some, None, slice_get, get_or, set, refl, sym, ap, ◌∙◌, subst, arith, inl, inr, ◌⊎◌}
 use Rattle.std.specs.Prelude.{◌&&◌, nat_lt, MatchBool, IfSome}
 use Rattle.std.proofs.lemmas.Bool.{and_parts, ltb-true, lt-ltb, cases_eq, cases_lt, false≢true}
 use Rattle.std.proofs.lemmas.List.{get_or-set_same, get_or-set_other, length-set}
-use Rattle.std.proofs.lemmas.Option.{slice_get_within}
+use Rattle.std.proofs.lemmas.Option.{slice_get_within, none-some}
 use Rattle.geos_image.specs.declared.instr.Instr.{Instr}
 use Rattle.geos_image.specs.declared.row.Row.{Row}
 use Rattle.geos_image.specs.Parts.{Parts}
@@ -12,7 +12,7 @@ use Rattle.geos_verify.proofs.Places.{item_at, if_some}
 use Rattle.geos_infer.specs.Joins.{joined, clean}
 use Rattle.geos_infer.specs.Code.{Edge, Forward, Spans, instrs_of, has_edge, edge_end, edge_row}
 use Rattle.geos_infer.specs.Solutions.{RowsHold}
-use Rattle.geos_infer.specs.Flow.{row_of, known_at, join_known, leads_ahead, spread, KnownAt, edge_number, Flowing}
+use Rattle.geos_infer.specs.Flow.{known_at, join_known, leads_ahead, spread, KnownAt, edge_number, Flowing, AllKnown}
 use Rattle.geos_infer.proofs.Pairwise.{both}
 use Rattle.geos_infer.proofs.Fits.{fits-refl, fits-trans}
 use Rattle.geos_infer.proofs.Joining.{agreeing, joined-least}
@@ -67,16 +67,7 @@ record Joined (known : List (Option Row)) (to : ℕ) (next w : Row) : Type 0 whe
 module _ (image : Parts) (forward : Forward image) (want : List Row) (holds : RowsHold image want) (known : List (Option Row)) (pc : ℕ) (branch : Bool) (i : Instr)
     (F : Flowing image want known (edge_number pc branch)) (read : slice_get (instrs_of image) pc ≡ Some i)
     (limit : ℕ) (small : limit ≤ length (instrs_of image)) (inside : (to : ℕ) (j : Instr) → Edge (instrs_of image) pc branch to j → to < limit) where
-  -- something is known where the row comes from
-  reached : (row : Row) × (known_at known pc ≡ Some row)
-  reached = elim (forward.entered pc i read) [
-    | inl b ↦ let K = F.entries pc b.0 b.1 in (K.known_row, K.read)
-    | inr e ↦
-        let K = F.edges e.pc pc e.branch e.i (number-lt e.pc pc e.branch branch (forward.ahead e.pc pc e.branch e.i e.edge)) e.edge (slice_get_within (instrs_of image) pc i read) in
-        (K.known_row, K.read)
-  ]
-
-  module _ (ahead : leads_ahead limit pc i branch ≡ true) where
+  module _ (row : Row) (here : known_at known pc ≡ Some row) (ahead : leads_ahead limit pc i branch ≡ true) where
     parts : (has_edge i branch ≡ true) × (pc < edge_end pc i branch) × (edge_end pc i branch < length (instrs_of image))
     parts =
         let a = and_parts (has_edge i branch && nat_lt pc (edge_end pc i branch)) (nat_lt (edge_end pc i branch) limit) ahead in
@@ -87,27 +78,23 @@ module _ (image : Parts) (forward : Forward image) (want : List Row) (holds : Ro
     edge = record { read = read; has = parts.0; leads = refl }
 
     -- the row that comes fits the one that is wanted
-    comes : (w : Row) → slice_get want (edge_end pc i branch) ≡ Some w → fits (edge_row image i branch (row_of (known_at known pc))) w ≡ true
+    comes : (w : Row) → slice_get want (edge_end pc i branch) ≡ Some w → fits (edge_row image i branch (clean row)) w ≡ true
     comes w at =
-        let here = item_at want pc (let len = holds.len in let lt = slice_get_within (instrs_of image) pc i read in omega arith) in
-        let below = F.below pc reached.0 here.0 reached.1 here.1 in
-        let least = (clean-least reached.0).least here.0 below (holds.clean pc here.0 here.1) in
-        let P : Option Row → Type 0 = λ o. fits (edge_row image i branch (row_of o)) w ≡ true in
-        subst P (sym reached.1) (
-        fits-trans (edge_row image i branch (clean reached.0)) (edge_row image i branch here.0) w (edge-mono image i branch (clean reached.0) here.0 least)
-        (holds.edges pc (edge_end pc i branch) branch i here.0 w edge here.1 at)
-        )
+        let before = item_at want pc (let len = holds.len in let lt = slice_get_within (instrs_of image) pc i read in omega arith) in
+        let below = F.below pc row before.0 here before.1 in
+        let least = (clean-least row).least before.0 below (holds.clean pc before.0 before.1) in
+        fits-trans (edge_row image i branch (clean row)) (edge_row image i branch before.0) w (edge-mono image i branch (clean row) before.0 least) (holds.edges pc (edge_end pc i branch) branch i before.0 w edge before.1 at)
 
-    joined-with : (o : Option Row) (w : Row) → known_at known (edge_end pc i branch) ≡ o → slice_get want (edge_end pc i branch) ≡ Some w → Joined known (edge_end pc i branch) (edge_row image i branch (row_of (known_at known pc))) w
+    joined-with : (o : Option Row) (w : Row) → known_at known (edge_end pc i branch) ≡ o → slice_get want (edge_end pc i branch) ≡ Some w → Joined known (edge_end pc i branch) (edge_row image i branch (clean row)) w
     joined-with None w e at = record {
-      joined = edge_row image i branch (row_of (known_at known pc));
-      is = ap (λ o. join_known o (edge_row image i branch (row_of (known_at known pc)))) e;
+      joined = edge_row image i branch (clean row);
+      is = ap (λ o. join_known o (edge_row image i branch (clean row))) e;
       above = λ old f. absurd (cc);
-      upper = fits-refl (edge_row image i branch (row_of (known_at known pc)));
+      upper = fits-refl (edge_row image i branch (clean row));
       least = comes w at;
     }
     joined-with (Some old) w e at =
-        let next = edge_row image i branch (row_of (known_at known pc)) in
+        let next = edge_row image i branch (clean row) in
         let before = F.below (edge_end pc i branch) old w e at in
         let agreed = agreeing old next w before (comes w at) in
         let both_fit = joined-least old next agreed in
@@ -120,10 +107,10 @@ module _ (image : Parts) (forward : Forward image) (want : List Row) (holds : Ro
           least = both_fit.least w before (comes w at);
         }
 
-    goes : (w : Row) → slice_get want (edge_end pc i branch) ≡ Some w → Joined known (edge_end pc i branch) (edge_row image i branch (row_of (known_at known pc))) w
+    goes : (w : Row) → slice_get want (edge_end pc i branch) ≡ Some w → Joined known (edge_end pc i branch) (edge_row image i branch (clean row)) w
     goes w at = joined-with (known_at known (edge_end pc i branch)) w refl at
 
-    after-joined : (w : Row) → slice_get want (edge_end pc i branch) ≡ Some w → (J : Joined known (edge_end pc i branch) (edge_row image i branch (row_of (known_at known pc))) w)
+    after-joined : (w : Row) → slice_get want (edge_end pc i branch) ≡ Some w → (J : Joined known (edge_end pc i branch) (edge_row image i branch (clean row)) w)
         → Flowing image want (set known (edge_end pc i branch) (Some J.joined)) (suc (edge_number pc branch))
     after-joined w at J =
         let lt : edge_end pc i branch < length known = (let len = F.len in let p = parts.2 in omega arith) in
@@ -138,12 +125,12 @@ module _ (image : Parts) (forward : Forward image) (want : List Row) (holds : Ro
             | inr ne ↦ F.below t row v (sym (get_or-set_other known (edge_end pc i branch) t (Some J.joined) None ne) ∙ e) f
           ];
           entries = λ t entry b. stays known (edge_end pc i branch) J.joined lt J.above t entry (F.entries t entry b);
-          edges = λ k t b j less other within. elim (number-split k pc b branch less) [
+          edges = λ k t b j from less other within there. elim (number-split k pc b branch less) [
             | inl before ↦
                 let ne : k ≢ edge_end pc i branch = (λ same. not-behind k b branch before same) in
                 let same_row : known_at (set known (edge_end pc i branch) (Some J.joined)) k ≡ known_at known k = get_or-set_other known (edge_end pc i branch) k (Some J.joined) None ne in
-                rw same_row (stays known (edge_end pc i branch) J.joined lt J.above t (edge_row image j b (row_of (known_at known k))) (F.edges k t b j before other within))
-            | inr this ↦ this-edge w J lt k t b j this.0 this.1 other
+                stays known (edge_end pc i branch) J.joined lt J.above t (edge_row image j b (clean from)) (F.edges k t b j from before other within (sym same_row ∙ there))
+            | inr this ↦ this-edge w J lt k t b j from this.0 this.1 other there
           ];
         }
       where
@@ -153,26 +140,27 @@ module _ (image : Parts) (forward : Forward image) (want : List Row) (holds : Ro
         not-behind k false true less same = let p = parts.1 in omega arith
         not-behind k false false less same = let p = parts.1 in omega arith
 
-        this-edge : (v : Row) (J : Joined known (edge_end pc i branch) (edge_row image i branch (row_of (known_at known pc))) v) → edge_end pc i branch < length known
-            → (k t : ℕ) (b : Bool) (j : Instr) → k ≡ pc → b ≡ branch → Edge (instrs_of image) k b t j
-            → KnownAt (set known (edge_end pc i branch) (Some J.joined)) t (edge_row image j b (row_of (known_at (set known (edge_end pc i branch) (Some J.joined)) k)))
-        this-edge v J lt k t b j same same_branch other =
+        this-edge : (v : Row) (J : Joined known (edge_end pc i branch) (edge_row image i branch (clean row)) v) → edge_end pc i branch < length known
+            → (k t : ℕ) (b : Bool) (j : Instr) (from : Row) → k ≡ pc → b ≡ branch → Edge (instrs_of image) k b t j → known_at (set known (edge_end pc i branch) (Some J.joined)) k ≡ Some from
+            → KnownAt (set known (edge_end pc i branch) (Some J.joined)) t (edge_row image j b (clean from))
+        this-edge v J lt k t b j from same same_branch other there =
             let table = set known (edge_end pc i branch) (Some J.joined) in
             let is_i : i ≡ j = some-is i j (sym read ∙ ap (slice_get (instrs_of image)) (sym same) ∙ other.read) in
             let is_to : edge_end pc i branch ≡ t = ap (λ x. edge_end pc x branch) is_i ∙ ap (λ x. edge_end pc j x) (sym same_branch) ∙ ap (λ x. edge_end x j b) (sym same) ∙ other.leads in
             let ne : pc ≢ edge_end pc i branch = (λ e. (let p = parts.1 in absurd (omega arith))) in
             let same_row : known_at table k ≡ known_at known pc = ap (known_at table) same ∙ get_or-set_other known (edge_end pc i branch) pc (Some J.joined) None ne in
-            let rows : edge_row image i branch (row_of (known_at known pc)) ≡ edge_row image j b (row_of (known_at table k)) =
-            ap (λ x. edge_row image x branch (row_of (known_at known pc))) is_i ∙ ap (λ x. edge_row image j x (row_of (known_at known pc))) (sym same_branch) ∙ ap (λ o. edge_row image j b (row_of o)) (sym same_row) in
+            let is_row : row ≡ from = some-is row from (sym here ∙ sym same_row ∙ there) in
+            let rows : edge_row image i branch (clean row) ≡ edge_row image j b (clean from) =
+            ap (λ x. edge_row image x branch (clean row)) is_i ∙ ap (λ x. edge_row image j x (clean row)) (sym same_branch) ∙ ap (λ (x : Row). edge_row image j b (clean x)) is_row in
             record {
               known_row = J.joined;
               read = ap (known_at table) (sym is_to) ∙ get_or-set_same known (edge_end pc i branch) (Some J.joined) None lt;
               fits = subst (λ (x : Row). fits x J.joined ≡ true) rows J.upper;
             }
 
-    spreads-to : (w : Row) → slice_get want (edge_end pc i branch) ≡ Some w → (J : Joined known (edge_end pc i branch) (edge_row image i branch (row_of (known_at known pc))) w)
-        → spread image limit pc i branch (row_of (known_at known pc)) known ≡ Some (set known (edge_end pc i branch) (Some J.joined))
-    spreads-to w at J = rw (ahead, J.is) refl
+    spreads-to : (w : Row) → slice_get want (edge_end pc i branch) ≡ Some w → (J : Joined known (edge_end pc i branch) (edge_row image i branch (clean row)) w)
+        → spread image limit pc i branch (known_at known pc) known ≡ Some (set known (edge_end pc i branch) (Some J.joined))
+    spreads-to w at J = rw (here, ahead, J.is) refl
 
   module _ (behind : leads_ahead limit pc i branch ≡ false) where
     none-ahead : (to : ℕ) (j : Instr) → Edge (instrs_of image) pc branch to j → to < length (instrs_of image) → ⊥
@@ -190,8 +178,8 @@ module _ (image : Parts) (forward : Forward image) (want : List Row) (holds : Ro
       len = F.len;
       below = F.below;
       entries = F.entries;
-      edges = λ k t b j less other within. elim (number-split k pc b branch less) [
-        | inl before ↦ F.edges k t b j before other within
+      edges = λ k t b j from less other within there. elim (number-split k pc b branch less) [
+        | inl before ↦ F.edges k t b j from before other within there
         | inr this ↦ absurd (none-ahead t j (here k t b j this.0 this.1 other) within)
       ];
     }
@@ -199,43 +187,78 @@ module _ (image : Parts) (forward : Forward image) (want : List Row) (holds : Ro
         here : (k t : ℕ) (b : Bool) (j : Instr) → k ≡ pc → b ≡ branch → Edge (instrs_of image) k b t j → Edge (instrs_of image) pc branch t j
         here k t b j same same_branch other = subst (λ x. Edge (instrs_of image) x branch t j) same (subst (λ x. Edge (instrs_of image) k x t j) same_branch other)
 
+  -- nothing flows from where nothing is known
+  nothing-flows : known_at known pc ≡ None → Flowing image want known (suc (edge_number pc branch))
+  nothing-flows nothing = record {
+    len = F.len;
+    below = F.below;
+    entries = F.entries;
+    edges = λ k t b j from less other within there. elim (number-split k pc b branch less) [
+      | inl before ↦ F.edges k t b j from before other within there
+      | inr this ↦ absurd (none-some from (sym nothing ∙ ap (known_at known) (sym this.0) ∙ there))
+    ];
+  }
+
   -- one edge: the rows that are known agree, and flow on
   pub spread-flows : (ok : Bool) (new : List (Option Row))
-      → (let next = spread image limit pc i branch (row_of (known_at known pc)) known in MatchBool ok (next ≡ Some new) (next ≡ None))
+      → (let next = spread image limit pc i branch (known_at known pc) known in MatchBool ok (next ≡ Some new) (next ≡ None))
       → (ok ≡ true) × Flowing image want new (suc (edge_number pc branch))
-  spread-flows ok new h = by_case (leads_ahead limit pc i branch) refl ok h
+  spread-flows ok new h = by_known (known_at known pc) refl ok h
     where
-      conclude : (table : List (Option Row)) → spread image limit pc i branch (row_of (known_at known pc)) known ≡ Some table → Flowing image want table (suc (edge_number pc branch))
-          → (b : Bool) → (let next = spread image limit pc i branch (row_of (known_at known pc)) known in MatchBool b (next ≡ Some new) (next ≡ None))
+      conclude : (table : List (Option Row)) → spread image limit pc i branch (known_at known pc) known ≡ Some table → Flowing image want table (suc (edge_number pc branch))
+          → (b : Bool) → (let next = spread image limit pc i branch (known_at known pc) known in MatchBool b (next ≡ Some new) (next ≡ None))
           → (b ≡ true) × Flowing image want new (suc (edge_number pc branch))
       conclude table is G true e = (refl, subst (λ x. Flowing image want x (suc (edge_number pc branch))) (some-is table new (sym is ∙ e)) G)
       conclude table is G false e = absurd (none-some table (sym e ∙ is))
-        where
-          none-some : (x : List (Option Row)) → None ≡ Some x → ⊥
-          none-some x f = absurd cc
 
-      by_case : (b : Bool) → leads_ahead limit pc i branch ≡ b → (c : Bool) → (let next = spread image limit pc i branch (row_of (known_at known pc)) known in MatchBool c (next ≡ Some new) (next ≡ None))
+      by_case : (row : Row) → known_at known pc ≡ Some row → (b : Bool) → leads_ahead limit pc i branch ≡ b → (c : Bool)
+          → (let next = spread image limit pc i branch (known_at known pc) known in MatchBool c (next ≡ Some new) (next ≡ None))
           → (c ≡ true) × Flowing image want new (suc (edge_number pc branch))
-      by_case true e c h =
-          let p = parts e in
+      by_case row here true e c h =
+          let p = parts row here e in
           let there = item_at want (edge_end pc i branch) (let len = holds.len in let lt = p.2 in omega arith) in
-          let J = goes e there.0 there.1 in
-          conclude (set known (edge_end pc i branch) (Some J.joined)) (spreads-to e there.0 there.1 J) (after-joined e there.0 there.1 J) c h
-      by_case false e c h =
-          let unchanged : spread image limit pc i branch (row_of (known_at known pc)) known ≡ Some known = rw e refl in
+          let J = goes row here e there.0 there.1 in
+          conclude (set known (edge_end pc i branch) (Some J.joined)) (spreads-to row here e there.0 there.1 J) (after-joined row here e there.0 there.1 J) c h
+      by_case row here false e c h =
+          let unchanged : spread image limit pc i branch (known_at known pc) known ≡ Some known = rw (here, e) refl in
           conclude known unchanged (stays-flowing e) c h
+
+      by_known : (o : Option Row) → known_at known pc ≡ o → (c : Bool) → (let next = spread image limit pc i branch (known_at known pc) known in MatchBool c (next ≡ Some new) (next ≡ None))
+          → (c ≡ true) × Flowing image want new (suc (edge_number pc branch))
+      by_known None e c h =
+          let unchanged : spread image limit pc i branch (known_at known pc) known ≡ Some known = rw e refl in
+          conclude known unchanged (nothing-flows e) c h
+      by_known (Some row) e c h = by_case row e (leads_ahead limit pc i branch) refl c h
 
 -- the same at a pc of a routine, where the instruction is given by its point
 pub flows-on : (image : Parts) → Forward image → (want : List Row) → RowsHold image want → (known new : List (Option Row)) (r start limit pc : ℕ) (branch ok : Bool) (done more : ℕ)
     → Spans image.routines r start limit → limit ≤ length image.points → start ≤ pc → pc < limit → done ≡ edge_number pc branch → more ≡ done + 1 → Flowing image want known done
-    → IfSome (slice_get image.points pc) (λ point. let next = spread image limit pc point.0 branch (row_of (known_at known pc)) known in MatchBool ok (next ≡ Some new) (next ≡ None))
+    → IfSome (slice_get image.points pc) (λ point. let next = spread image limit pc point.0 branch (known_at known pc) known in MatchBool ok (next ≡ Some new) (next ≡ None))
     → (ok ≡ true) × Flowing image want new more
 flows-on image forward want holds known new r start limit pc branch ok done more spans small from lt done_is more_is F h =
     let found = item_at image.points pc (omega arith) in
     let read = code-at image pc found.0 found.1 in
     let D : ℕ → Type 0 = λ n. Flowing image want known n in
-    let here = if_some (λ point. let next = spread image limit pc point.0 branch (row_of (known_at known pc)) known in MatchBool ok (next ≡ Some new) (next ≡ None)) (slice_get image.points pc) found.0 found.1 h in
+    let here = if_some (λ point. let next = spread image limit pc point.0 branch (known_at known pc) known in MatchBool ok (next ≡ Some new) (next ≡ None)) (slice_get image.points pc) found.0 found.1 h in
     let step = spread-flows image forward want holds known pc branch found.0.0 (subst D done_is F) read limit (let len = code-length image in omega arith)
     (λ to j edge. holds.closed r start limit pc to branch j spans from lt edge) ok new here in
     let count : suc (edge_number pc branch) ≡ more = (let a = done_is in let b = more_is in omega arith) in
     (step.0, subst (λ n. Flowing image want new n) count step.1)
+
+-- where rows have flowed, something is known
+pub all-reached : (image : Parts) → Forward image → (want : List Row) (known : List (Option Row)) (done : ℕ) → Flowing image want known done → (limit : ℕ) → 2 * limit ≤ done → AllKnown known limit
+all-reached image forward want known done F limit enough pc lt within = reached-before (suc pc) pc (omega arith) lt (let len = F.len in omega arith)
+  where
+    reached-before : (n pc : ℕ) → pc < n → pc < limit → pc < length (instrs_of image) → (row : Row) × (known_at known pc ≡ Some row)
+    reached-before zero pc less lt within = absurd (omega arith)
+    reached-before (suc n) pc less lt within =
+        let i = item_at (instrs_of image) pc within in
+        elim (forward.entered pc i.0 i.1) [
+          | inl b ↦ let K = F.entries pc b.0 b.1 in (K.known_row, K.read)
+          | inr e ↦
+              let earlier = forward.ahead e.pc pc e.branch e.i e.edge in
+              let from = reached-before n e.pc (omega arith) (omega arith) (omega arith) in
+              let number = number-last e.pc pc e.branch earlier in
+              let K = F.edges e.pc pc e.branch e.i from.0 (omega arith) e.edge within from.1 in
+              (K.known_row, K.read)
+        ]

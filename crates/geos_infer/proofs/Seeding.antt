@@ -78,7 +78,7 @@ seeds-flow image want known holds S = record {
   len = S.len;
   below = λ pc row w e f. holds.entries pc row w (S.only pc row e) f;
   entries = λ pc entry b. record { known_row = entry; read = S.entries pc entry b; fits = fits-refl entry };
-  edges = λ pc t b i less edge within. absurd (omega arith);
+  edges = λ pc t b i row less edge within there. absurd (omega arith);
 }
 
 -- where a routine lies

@@ -41,12 +41,13 @@ abbrev pub put : List (Option Row) → ℕ → Option Row → Option (List (Opti
 put known to None = None
 put known to (Some row) = Some (slice_set known to (Some row))
 
--- what is known after a row has gone along an edge; nothing where it has no join with what is
--- known
-abbrev pub spread : Parts → ℕ → ℕ → Instr → Bool → Row → List (Option Row) → Option (List (Option Row))
-spread image limit pc i branch row known =
+-- what is known after what is known at a place has gone along an edge; nothing where it has no
+-- join with what is known
+abbrev pub spread : Parts → ℕ → ℕ → Instr → Bool → Option Row → List (Option Row) → Option (List (Option Row))
+spread image limit pc i branch None known = Some known
+spread image limit pc i branch (Some row) known =
     if leads_ahead limit pc i branch
-    then put known (edge_end pc i branch) (join_known (known_at known (edge_end pc i branch)) (edge_row image i branch row))
+    then put known (edge_end pc i branch) (join_known (known_at known (edge_end pc i branch)) (edge_row image i branch (clean row)))
     else Some known
 
 -- something is known at the place that the row fits
@@ -65,8 +66,12 @@ pub record Flowing (image : Parts) (want : List Row) (known : List (Option Row))
   pub len : length known ≡ length (instrs_of image)
   pub below : (pc : ℕ) (row w : Row) → known_at known pc ≡ Some row → slice_get want pc ≡ Some w → fits row w ≡ true
   pub entries : (pc : ℕ) (entry : Row) → Begins image.routines pc entry → KnownAt known pc entry
-  pub edges : (pc to : ℕ) (branch : Bool) (i : Instr) → edge_number pc branch < done → Edge (instrs_of image) pc branch to i → to < length (instrs_of image)
-      → KnownAt known to (edge_row image i branch (row_of (known_at known pc)))
+  pub edges : (pc to : ℕ) (branch : Bool) (i : Instr) (row : Row) → edge_number pc branch < done → Edge (instrs_of image) pc branch to i → to < length (instrs_of image)
+      → known_at known pc ≡ Some row → KnownAt known to (edge_row image i branch (clean row))
+
+-- something is known at each place before the limit
+abbrev pub AllKnown : List (Option Row) → ℕ → Type 0
+AllKnown known limit = (pc : ℕ) → pc < limit → pc < length known → (row : Row) × (known_at known pc ≡ Some row)
 
 -- each routine's entry row is known where it begins, and nothing else is
 pub record Seeded (image : Parts) (known : List (Option Row)) : Type 0 where
@@ -83,12 +88,17 @@ leads_back limit pc i branch = has_edge i branch && nat_le limit (edge_end pc i 
 -- what is known next is what is known after the row at the pc has gone along the edge, or there is no join
 abbrev pub Spreads : Parts → ℕ → ℕ → Bool → List (Option Row) → List (Option Row) → Bool → Type 0
 Spreads image limit pc branch known next done =
-    IfSome (slice_get image.points pc) (λ point. let after = spread image limit pc point.0 branch (row_of (known_at known pc)) known in MatchBool done (after ≡ Some next) (after ≡ None))
+    IfSome (slice_get image.points pc) (λ point. let after = spread image limit pc point.0 branch (known_at known pc) known in MatchBool done (after ≡ Some next) (after ≡ None))
 
 -- where rows have flowed up to routine r, they have flowed through it next; of code without loops
 abbrev pub FlowsOn : Parts → ℕ → List (Option Row) → List (Option Row) → Bool → Type 0
 FlowsOn image r known next done = (want : List Row) → Forward image → RowsHold image want → Flowing image want known (2 * start_of image.routines r)
     → (done ≡ true) × Flowing image want next (2 * start_of image.routines (r + 1))
+
+-- the same in the first round
+abbrev pub FlowsAtOnce : Parts → ℕ → List (Option Row) → List (Option Row) → Option ℕ → Type 0
+FlowsAtOnce image r known next rounds = (want : List Row) → Forward image → RowsHold image want → Flowing image want known (2 * start_of image.routines r)
+    → (rounds ≡ Some 0) × Flowing image want next (2 * start_of image.routines (r + 1))
 
 -- rows have flowed along all edges; of code without loops
 abbrev pub HaveFlowed : Parts → List (Option Row) → Type 0

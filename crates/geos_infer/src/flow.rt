@@ -38,8 +38,8 @@ fn join_known(old: &Option<Row>, row: &Row) -> Option<Row>
     }
 }
 
-/// The row at the pc goes along the edge, if it leads ahead and before the limit; `false` where
-/// it has no join with what is known there.
+/// The row that is known at the pc goes along the edge, if that leads ahead and before the limit;
+/// `false` where it has no join with what is known there.
 fn spread(image: &Image, known: &mut [Option<Row>], limit: u16, pc: u16, branch: bool) -> bool
     requires there { pc < length image.now.points }
     requires short { length image.now.points ≤ 4096 }
@@ -47,13 +47,15 @@ fn spread(image: &Image, known: &mut [Option<Row>], limit: u16, pc: u16, branch:
     requires len { length known.old ≡ length image.now.points }
     ensures { Spreads image.now limit pc branch known.old known.new result }
 {
+    let Some(row) = known[pc as usize] else {
+        return true;
+    };
     let i = image.instr(pc);
     if !leads_ahead(limit, pc, i, branch) {
         return true;
     }
-    let row = row_of(&known[pc as usize]);
     let to = edge_end(pc, i, branch) as usize;
-    let next = after(image, pc, &row, branch);
+    let next = after(image, pc, &clean(&row), branch);
     match join_known(&known[to], &next) {
         Some(joined) => {
             known[to] = Some(joined);

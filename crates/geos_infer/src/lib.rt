@@ -14,6 +14,8 @@ mod paid;
 mod prices;
 mod rounds;
 mod seeds;
+mod unreached;
+mod widening;
 
 pub use common::{clean, join};
 pub use error::InferError;

@@ -4,15 +4,17 @@ ghost use Rattle.std.specs.Prelude.{◌≡◌, ◌<◌, ◌≤◌, ℕ, length, 
 ghost use Rattle.geos_infer.specs.declared.error.InferError.TheVariants.{NoRows};
 ghost use Rattle.geos_infer.specs.Code.{Forward};
 ghost use Rattle.geos_infer.specs.Solutions.{NoRowsHold};
-ghost use Rattle.geos_infer.specs.Flow.{leads_back, FlowsOn, HaveFlowed};
+ghost use Rattle.geos_infer.specs.Flow.{leads_back, FlowsOn, FlowsAtOnce, HaveFlowed};
 ghost use Rattle.geos_infer.specs.Theorem.{NamesRoutine};
 
-use crate::common::join;
+use crate::common::{clean, join};
 use crate::edges::{edge_end, leads_back, span_of};
 use crate::error::InferError;
-use crate::flow::{flow, row_of};
+use crate::flow::flow;
 use crate::seeds::seeds;
-use geos_image::{Image, Pointer, Row};
+use crate::unreached::fill;
+use crate::widening::widened;
+use geos_image::{Image, Row};
 use geos_verify::after;
 use std::alloc::Global;
 
@@ -28,32 +30,11 @@ enum Feedback {
 }
 
 /// In the first rounds rows are joined as they are; in later ones what changes is given up.
-const EXACT_ROUNDS: u16 = 16;
+pub(crate) const EXACT_ROUNDS: u16 = 16;
 
 /// A routine of n instructions has at most n places where edges lead back, and each gives up at
 /// most 22 things.
-const MOST_ROUNDS: u16 = 4096;
-
-/// The bound that is given up where it changes.
-fn wide_bound(old: u16, joined: u16) -> u16 {
-    if old == joined { old } else { u16::MAX }
-}
-
-fn wide_pointer(old: &Option<Pointer>, joined: &Option<Pointer>) -> Option<Pointer> {
-    if *old == *joined { *old } else { None }
-}
-
-/// The joined row without what changes in it, beside slots and pairs, which change seldom.
-fn widened(old: &Row, joined: &Row) -> Row {
-    let mut next = *joined;
-    for k in 0..8 {
-        next.bounds[k] = wide_bound(old.bounds[k], joined.bounds[k]);
-    }
-    for k in 0..4 {
-        next.pointers[k] = wide_pointer(&old.pointers[k], &joined.pointers[k]);
-    }
-    next
-}
+pub(crate) const MOST_ROUNDS: u16 = 4096;
 
 /// What an edge that leads back says to the row where it leads.
 fn fed_by(
@@ -71,9 +52,12 @@ fn fed_by(
     requires from { length from.old ≡ length image.now.points }
     requires back { IfSome (slice_get image.now.points pc) (λ point. leads_back limit pc point.0 branch ≡ true) }
 {
+    let Some(row) = known[pc as usize] else {
+        return Feedback::Nothing;
+    };
     let i = image.instr(pc);
     let to = edge_end(pc, i, branch) as usize;
-    let next = after(image, pc, &row_of(&known[pc as usize]), branch);
+    let next = after(image, pc, &clean(&row), branch);
     let Some(old) = known[to] else {
         from[to] = Some(next);
         return Feedback::Weaker;
@@ -145,8 +129,8 @@ fn feed(
     said
 }
 
-/// Makes what is known in routine r what it is at first.
-fn restart(image: &Image, r: u16, from: &[Option<Row>], known: &mut [Option<Row>])
+/// What is known in routine r becomes what it is in the other table.
+pub(crate) fn restart(image: &Image, r: u16, from: &[Option<Row>], known: &mut [Option<Row>])
     requires routine { r < length image.now.routines }
     requires from { length from.now ≡ length image.now.points }
     requires known { length known.old ≡ length image.now.points }
@@ -157,6 +141,27 @@ fn restart(image: &Image, r: u16, from: &[Option<Row>], known: &mut [Option<Row>
     }
 }
 
+/// Rows flow in routine r until its edges that lead back say nothing new. How many rounds began
+/// after the first; `None` where two rows have no join.
+fn climb(image: &Image, r: u16, from: &mut [Option<Row>], known: &mut [Option<Row>]) -> Option<u16>
+    requires routine { r < length image.now.routines }
+    requires from { length from.old ≡ length image.now.points }
+    requires known { length known.old ≡ length image.now.points }
+    ensures { FlowsAtOnce image.now r known.old known.new result }
+{
+    for round in 0..MOST_ROUNDS {
+        if !flow(image, r, known) {
+            return None;
+        }
+        match feed(image, r, known, from, round < EXACT_ROUNDS) {
+            Feedback::Nothing => return Some(round),
+            Feedback::Weaker => restart(image, r, from, known),
+            Feedback::Apart => return None,
+        }
+    }
+    None
+}
+
 /// Finds what is known at each instruction of routine r; `false` where two rows have no join.
 fn find_rows_in(image: &Image, r: u16, from: &mut [Option<Row>], known: &mut [Option<Row>]) -> bool
     requires routine { r < length image.now.routines }
@@ -164,17 +169,11 @@ fn find_rows_in(image: &Image, r: u16, from: &mut [Option<Row>], known: &mut [Op
     requires known { length known.old ≡ length image.now.points }
     ensures { FlowsOn image.now r known.old known.new result }
 {
-    for round in 0..MOST_ROUNDS {
-        if !flow(image, r, known) {
-            return false;
-        }
-        match feed(image, r, known, from, round < EXACT_ROUNDS) {
-            Feedback::Nothing => return true,
-            Feedback::Weaker => restart(image, r, from, known),
-            Feedback::Apart => return false,
-        }
-    }
-    false
+    let Some(_rounds) = climb(image, r, from, known) else {
+        return false;
+    };
+    fill(image, r, from, known);
+    true
 }
 
 /// Finds what is known at each instruction. `NoRows` names the first routine where two rows have

@@ -2,8 +2,8 @@ use Rattle.std.proofs.Common.{arith}
 use Rattle.geos_infer.proofs.Back.{back-end}
 use Rattle.geos_infer.proofs.rounds.fed_by.Goals as goal
 
-pub bounds : goal.bounds
-bounds c =
+pub bounds-2 : goal.bounds-2
+bounds-2 c =
     let end = back-end c.args.image.now c.args.limit c.args.pc c.args.branch c.instr-i.result.now c.requires.there c.requires.back c.instr-i.ensures.there in
     omega (arith, end, c.edge_end-to.ensures, c.requires.known, c.requires.there)
 

@@ -1,20 +1,19 @@
-use Rattle.std.proofs.Common.{◌*◌, List, Option, refl, sym, ◌∙◌, subst}
-use Rattle.std.proofs.lemmas.Bool.{false≢true}
+use Rattle.std.proofs.Common.{◌≡◌, ◌*◌, ◌+◌, ◌≤◌, List, Option, length, refl, sym, ◌∙◌, subst, arith}
+use Rattle.std.proofs.lemmas.Option.{none-some}
 use Rattle.geos_image.specs.declared.row.Row.{Row}
 use Rattle.geos_image.specs.Parts.{start_of}
-use Rattle.geos_infer.specs.Flow.{Flowing}
+use Rattle.geos_infer.specs.Flow.{Flowing, AllKnown}
+use Rattle.geos_infer.proofs.Ends.{code-length}
+use Rattle.geos_infer.proofs.Flows.{all-reached}
 use Rattle.geos_infer.proofs.rounds.find_rows_in.Goals as goal
 
-pub returns-then-not-flow : goal.returns-then-not-flow
-returns-then-not-flow c = λ want forward holds start.
-    let image = c.args.image.now in
-    let same = (c.loop-round.invariant.2 forward).1 in
-    let F = c.flow.ensures want forward holds (subst (λ (known : List (Option Row)). Flowing image want known (2 * start_of image.routines c.args.r)) (sym same) start) in
-    absurd (false≢true (sym c.if-not-flow.true ∙ F.0))
+pub returns-in_default : goal.returns-in_default
+returns-in_default c = λ want forward holds start.
+    absurd (none-some 0 (sym c.in_default.is ∙ (c.climb.ensures want forward holds start).0))
 
-pub returns-in-Nothing : goal.returns-in-Nothing
-returns-in-Nothing c = λ want forward holds start.
+pub returns : goal.returns
+returns c = λ want forward holds start.
     let image = c.args.image.now in
-    let same = (c.loop-round.invariant.2 forward).1 in
-    let F = c.flow.ensures want forward holds (subst (λ (known : List (Option Row)). Flowing image want known (2 * start_of image.routines c.args.r)) (sym same) start) in
-    (refl, F.1)
+    let F = c.climb.ensures want forward holds start in
+    let all : AllKnown c.climb.new.known (start_of image.routines (c.args.r + 1)) = all-reached image forward want c.climb.new.known (2 * start_of image.routines (c.args.r + 1)) F.1 (start_of image.routines (c.args.r + 1)) (omega arith) in
+    (refl, subst (λ (known : List (Option Row)). Flowing image want known (2 * start_of image.routines (c.args.r + 1))) (sym (c.fill.ensures all)) F.1)

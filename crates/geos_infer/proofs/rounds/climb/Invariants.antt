@@ -1,6 +1,6 @@
 use Rattle.std.specs.Prelude.{◌≡◌, length}
 use Rattle.geos_infer.specs.Code.{Forward}
-use Rattle.geos_infer.proofs.rounds.find_rows_in.Given as goal
+use Rattle.geos_infer.proofs.rounds.climb.Given as goal
 
 -- without edges that lead back there is one round
 abbrev pub invariant-loop-round : goal.invariant-loop-round
