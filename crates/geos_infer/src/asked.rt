@@ -1,12 +1,12 @@
 //! What the instruction at a pc asks of the steps and coefficients there.
 
-ghost use Rattle.std.specs.Prelude.{◌≡◌, ◌<◌, ◌≤◌, ◌+◌, ◌^◌, max, length, slice_get, IfSome, true, Some};
+ghost use Rattle.std.specs.Prelude.{◌≡◌, ◌<◌, ◌≤◌, ◌+◌, ◌^◌, max, length, slice_get, IfSome, true};
 ghost use Rattle.geos_infer.specs.Code.{Forward};
 ghost use Rattle.geos_infer.specs.Count.{edge_steps, steps_at, IsAskedAt, zeros, ZerosFrom, target_ahead};
 
 use crate::edges::{Span, edge_end, leads_ahead, leads_back};
 use crate::prices::{
-    asked_coefficients, call_steps, coefficients_join, larger, price, return_steps,
+    OwnCounter, asked_coefficients, call_steps, coefficients_join, larger, price, return_steps,
 };
 use geos_image::{Image, Instr, Opcode};
 
@@ -38,13 +38,14 @@ pub(crate) fn is_loop_back(i: &Instr, branch: bool) -> bool
     }
 }
 
-/// What an edge asks of the constant; a LOOP's way to its target is paid by its coefficient.
+/// What an edge asks of the constant; of a LOOP's way to its target a unit of the counter pays a
+/// part.
 pub(crate) fn edge_constant(
     image: &Image,
     span: Span,
     pc: u16,
     branch: bool,
-    bound: u16,
+    own: OwnCounter,
     steps: &[u32],
     coefficients: &[[u32; 4]],
 ) -> u64
@@ -61,10 +62,10 @@ pub(crate) fn edge_constant(
         return 0;
     };
     if is_loop_back(i, branch) {
-        return 0;
+        return (u64::from(steps[to as usize]) + 1).saturating_sub(u64::from(own.pays));
     }
     let called = call_steps(image, i);
-    let price = price(i, branch, bound, &coefficients[to as usize]);
+    let price = price(i, branch, own.most, &coefficients[to as usize]);
     u64::from(steps[to as usize]) + 1 + u64::from(called) + price
 }
 
@@ -99,7 +100,7 @@ pub(crate) fn constant_at(
     image: &Image,
     span: Span,
     pc: u16,
-    bound: u16,
+    own: OwnCounter,
     steps: &[u32],
     coefficients: &[[u32; 4]],
 ) -> u64
@@ -111,33 +112,23 @@ pub(crate) fn constant_at(
     ensures { IsAskedAt image.now pc coefficients.now (λ i. steps_at image.now span.end pc i steps.now) result }
 {
     let returning = u64::from(return_steps(image.instr(pc)));
-    let along = edge_constant(image, span, pc, false, bound, steps, coefficients);
-    let branching = edge_constant(image, span, pc, true, bound, steps, coefficients);
+    let along = edge_constant(image, span, pc, false, own, steps, coefficients);
+    let branching = edge_constant(image, span, pc, true, own, steps, coefficients);
     larger64(returning, larger64(along, branching))
 }
 
-/// The coefficient of a LOOP's counter, raised so that with the constant it pays for the way back.
-fn raised(
-    image: &Image,
-    pc: u16,
-    steps: &[u32],
-    constant: u64,
-    coefficients: [u32; 4],
-) -> Option<[u32; 4]>
+/// The coefficients, with that of a LOOP's counter at what a unit of it pays for at least.
+fn raised(image: &Image, pc: u16, pays: u32, coefficients: [u32; 4]) -> [u32; 4]
     requires there { pc < length image.now.points }
-    requires short { length image.now.points ≤ 4096 }
-    requires steps { length steps.now ≡ length image.now.points }
-    ensures { Forward image.now → result ≡ Some coefficients }
+    ensures { Forward image.now → result ≡ coefficients }
 {
     let i = image.instr(pc);
     if !is_loop_back(i, true) {
-        return Some(coefficients);
+        return coefficients;
     }
-    let need = u64::from(steps[i.target as usize]) + 1;
-    let missing = u32::try_from(need.saturating_sub(constant)).ok()?;
     let mut next = coefficients;
-    next[i.a as usize] = larger(next[i.a as usize], missing);
-    Some(next)
+    next[i.a as usize] = larger(next[i.a as usize], pays);
+    next
 }
 
 /// The coefficients at a pc.
@@ -145,24 +136,16 @@ pub(crate) fn coefficients_at(
     image: &Image,
     span: Span,
     pc: u16,
-    steps: &[u32],
-    constant: u64,
+    own: OwnCounter,
     coefficients: &[[u32; 4]],
-) -> Option<[u32; 4]>
+) -> [u32; 4]
     requires there { pc < length image.now.points }
     requires short { length image.now.points ≤ 4096 }
     requires room { span.end ≤ length image.now.points }
-    requires steps { length steps.now ≡ length image.now.points }
     requires coefficients { length coefficients.now ≡ length image.now.points }
-    ensures { Forward image.now → ZerosFrom (pc + 1) coefficients.now → result ≡ Some zeros }
+    ensures { Forward image.now → ZerosFrom (pc + 1) coefficients.now → result ≡ zeros }
 {
     let along = edge_coefficients(image, span, pc, false, coefficients);
     let branching = edge_coefficients(image, span, pc, true, coefficients);
-    raised(
-        image,
-        pc,
-        steps,
-        constant,
-        coefficients_join(&along, &branching),
-    )
+    raised(image, pc, own.pays, coefficients_join(&along, &branching))
 }

@@ -10,33 +10,35 @@ ghost use Rattle.geos_infer.specs.Theorem.{NamesRoutine};
 use crate::asked::{coefficients_at, constant_at};
 use crate::edges::span_of;
 use crate::error::InferError;
+use crate::loops::find_counters;
 use crate::paid::{are_paid, most_sweeps};
-use crate::prices::bound_at;
+use crate::prices::own_counter;
 use geos_image::{Image, Row};
 use std::alloc::{AllocError, Global};
 
-/// Steps of routine r are counted from its last instruction to its first; `false` where a number
-/// is past what a potential can say.
+/// Steps of routine r are counted from its last instruction to its first, where a unit of a LOOP's
+/// counter pays for so much; `false` where a number is past what a potential can say.
 fn sweep(
     image: &Image,
     r: u16,
     known: &[Option<Row>],
+    counters: &[[u32; 4]],
     steps: &mut [u32],
     coefficients: &mut [[u32; 4]],
 ) -> bool
     requires routine { r < length image.now.routines }
     requires known { length known.now ≡ length image.now.points }
+    requires counters { length counters.now ≡ length image.now.points }
     requires steps { length steps.old ≡ length image.now.points }
     requires coefficients { length coefficients.old ≡ length image.now.points }
     ensures { CountsOn image.now r steps.old coefficients.old steps.new coefficients.new result }
 {
     let span = span_of(image, r);
     for pc in (span.start..span.end).rev() {
-        let bound = bound_at(image.instr(pc), &known[pc as usize]);
-        let constant = constant_at(image, span, pc, bound, steps, coefficients);
-        let Some(next) = coefficients_at(image, span, pc, steps, constant, coefficients) else {
-            return false;
-        };
+        let i = image.instr(pc);
+        let own = own_counter(i, &known[pc as usize], &counters[pc as usize]);
+        let constant = constant_at(image, span, pc, own, steps, coefficients);
+        let next = coefficients_at(image, span, pc, own, coefficients);
         let Ok(enough) = u32::try_from(constant) else {
             return false;
         };
@@ -51,17 +53,19 @@ fn count_in(
     image: &Image,
     r: u16,
     known: &[Option<Row>],
+    counters: &[[u32; 4]],
     steps: &mut [u32],
     coefficients: &mut [[u32; 4]],
 ) -> bool
     requires routine { r < length image.now.routines }
     requires known { length known.now ≡ length image.now.points }
+    requires counters { length counters.now ≡ length image.now.points }
     requires steps { length steps.old ≡ length image.now.points }
     requires coefficients { length coefficients.old ≡ length image.now.points }
     ensures { CountsOn image.now r steps.old coefficients.old steps.new coefficients.new result }
 {
     for _ in 0..most_sweeps(image, r) {
-        if !sweep(image, r, known, steps, coefficients) {
+        if !sweep(image, r, known, counters, steps, coefficients) {
             return false;
         }
         if are_paid(image, r, known, steps, coefficients) {
@@ -76,24 +80,26 @@ fn count_in(
 fn count_all(
     image: &Image,
     known: &[Option<Row>],
+    counters: &[[u32; 4]],
     steps: &mut [u32],
     coefficients: &mut [[u32; 4]],
 ) -> Option<u16>
     requires known { length known.now ≡ length image.now.points }
+    requires counters { length counters.now ≡ length image.now.points }
     requires steps { length steps.old ≡ length image.now.points }
     requires coefficients { length coefficients.old ≡ length image.now.points }
     ensures counted { CountsAll image.now steps.new coefficients.new result }
     ensures within { IfSome result (λ r. r < length image.now.routines) }
 {
     for r in (0..image.count()).rev() {
-        if !count_in(image, r, known, steps, coefficients) {
+        if !count_in(image, r, known, counters, steps, coefficients) {
             return Some(r);
         }
     }
     None
 }
 
-fn zero_steps(alloc: Global, n: usize) -> Result<Vec<u32>, AllocError>
+pub(crate) fn zero_steps(alloc: Global, n: usize) -> Result<Vec<u32>, AllocError>
     ensures { IfOk result (λ steps. length steps.items ≡ n) }
 {
     let mut steps = Vec::new(alloc);
@@ -103,7 +109,7 @@ fn zero_steps(alloc: Global, n: usize) -> Result<Vec<u32>, AllocError>
     Ok(steps)
 }
 
-fn zero_coefficients(alloc: Global, n: usize) -> Result<Vec<[u32; 4]>, AllocError>
+pub(crate) fn zero_coefficients(alloc: Global, n: usize) -> Result<Vec<[u32; 4]>, AllocError>
     ensures { IfOk result (λ coefficients. length coefficients.items ≡ n) }
 {
     let mut coefficients = Vec::new(alloc);
@@ -127,9 +133,10 @@ pub(crate) fn count(
     ensures within { IfErr result (NamesRoutine image.now) }
     ensures none { IfErr result (λ error. (r : ℕ) → error ≡ NoRows r → NoStepsHold image.now) }
 {
+    let counters = find_counters(alloc, image, known)?;
     let mut steps = zero_steps(alloc, image.len() as usize)?;
     let mut coefficients = zero_coefficients(alloc, image.len() as usize)?;
-    match count_all(image, known, &mut steps, &mut coefficients) {
+    match count_all(image, known, &counters, &mut steps, &mut coefficients) {
         Some(r) => Err(InferError::NoRows(r)),
         None => Ok((steps, coefficients)),
     }

@@ -10,6 +10,7 @@ mod edges;
 mod error;
 mod flow;
 mod inference;
+mod loops;
 mod paid;
 mod prices;
 mod rounds;

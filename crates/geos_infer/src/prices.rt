@@ -45,12 +45,42 @@ fn product(coefficient: u32, n: u16) -> u64
 }
 
 /// What the word is at most that a SETKW sets its counter to.
-pub(crate) fn bound_at(i: &Instr, known: &Option<Row>) -> u16
+fn bound_at(i: &Instr, known: &Option<Row>) -> u16
     requires { FieldsFit i.now.opcode i.now }
 {
     match (i.opcode, known) {
         (Opcode::Setkw, Some(row)) => row.bounds[i.b as usize],
         _ => 0,
+    }
+}
+
+/// What a unit of a LOOP's counter pays for.
+fn paid_by(i: &Instr, coefficients: &[u32; 4]) -> u32
+    requires { FieldsFit i.now.opcode i.now }
+{
+    match i.opcode {
+        Opcode::Loop => coefficients[i.a as usize],
+        _ => 0,
+    }
+}
+
+/// What is said of the counter that an instruction names.
+#[derive(Clone, Copy, Debug, PartialEq, Eq)]
+pub(crate) struct OwnCounter {
+    /// What it is at most that a word sets it to.
+    pub(crate) most: u16,
+    /// What a unit of it pays for, at a LOOP.
+    pub(crate) pays: u32,
+}
+
+/// The same of the counter that the instruction names, where so much is known and these are the
+/// coefficients.
+pub(crate) fn own_counter(i: &Instr, known: &Option<Row>, coefficients: &[u32; 4]) -> OwnCounter
+    requires { FieldsFit i.now.opcode i.now }
+{
+    OwnCounter {
+        most: bound_at(i, known),
+        pays: paid_by(i, coefficients),
     }
 }
 

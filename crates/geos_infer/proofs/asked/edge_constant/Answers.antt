@@ -8,6 +8,6 @@ returns-then-is_loop_back-clause-asks c = λ forward none.
 
 pub returns-clause-asks : goal.returns-clause-asks
 returns-clause-asks c = λ forward none.
-    asks-some c.args.image.now c.args.span.end c.args.pc c.args.branch c.in-Some.to (c.from.result + 1 + c.from-2.result + c.price-price.result) c.price-price.result c.call_steps-called.result c.instr-i.result.now c.args.steps.now
+    asks-some c.args.image.now c.args.span.end c.args.pc c.args.branch c.in-Some.to (c.from-2.result + 1 + c.from-3.result + c.price-price.result) c.price-price.result c.call_steps-called.result c.instr-i.result.now c.args.steps.now
     c.args.coefficients.now c.requires.there c.in-Some.ensures.within c.requires.coefficients none (c.in-Some.ensures.ahead forward) c.instr-i.ensures.there c.price-price.ensures.none c.call_steps-called.ensures
-    (omega (arith, c.from.ensures, c.from-2.ensures))
+    (omega (arith, c.from-2.ensures, c.from-3.ensures))

@@ -7,8 +7,8 @@ use Rattle.geos_infer.proofs.count.count.Goals as goal
 pub returns-in-Some-clause-none : goal.returns-in-Some-clause-none
 returns-in-Some-clause-none c = λ r e want forward holds. none-some c.in-Some.r (sym ((c.count_all.ensures.counted want forward holds).0) ∙ c.in-Some.is)
 
-pub returns-in-None-clause-found : goal.returns-in-None-clause-found
-returns-in-None-clause-found c = λ want forward holds.
+pub returns-clause-found : goal.returns-clause-found
+returns-clause-found c = λ want forward holds.
     let F = c.count_all.ensures.counted want forward holds in
     let steps_len : length c.count_all.new.steps ≡ length c.in_ok-steps.steps.items = c.count_all.auto.steps ∙ ap length c.deref_mut.ensures.value in
     let coefficients_len : length c.count_all.new.coefficients ≡ length c.in_ok-coefficients.coefficients.items = c.count_all.auto.coefficients ∙ ap length c.deref_mut-2.ensures.value in

@@ -1,6 +1,5 @@
-use Rattle.std.proofs.Common.{◌≡◌, ◌+◌, ◌-◌, ◌<◌, ◌≤◌, ℕ, List, Some, None, length, set, refl, sym, subst, arith}
+use Rattle.std.proofs.Common.{◌≡◌, ◌+◌, ◌-◌, ◌<◌, ◌≤◌, ℕ, List, length, set, refl, sym, subst, arith}
 use Rattle.std.proofs.lemmas.List.{length-set}
-use Rattle.std.proofs.lemmas.Option.{same_Some}
 use Rattle.geos_image.specs.Parts.{start_of}
 use Rattle.geos_infer.specs.Count.{Counting, ZerosFrom, zeros}
 use Rattle.geos_infer.proofs.Counts.{counted, zeros-more}
@@ -19,15 +18,6 @@ loop-pc-init c = (
 
 pub returns-in_default : goal.returns-in_default
 returns-in_default c =
-    let one_more : c.loop-pc.pc ≡ c.loop-pc.pc - 1 + 1 = omega (arith, c.loop-pc-test.true) in
-    λ want forward holds counting zero.
-    let before = c.loop-pc.invariant.3 want forward holds counting zero in
-    let none = subst (λ (k : ℕ). ZerosFrom k c.loop-pc.coefficients) one_more before.1 in
-    let clash : None ≡ Some zeros = c.in_default.ensures forward none in
-    absurd cc
-
-pub returns-in_default-try_from : goal.returns-in_default-try_from
-returns-in_default-try_from c =
     let image = c.args.image.now in
     let span = c.span_of-span.ensures in
     let one_more : c.loop-pc.pc ≡ c.loop-pc.pc - 1 + 1 = omega (arith, c.loop-pc-test.true) in
@@ -39,7 +29,7 @@ returns-in_default-try_from c =
     let next = counted image forward want c.loop-pc.steps holds c.args.r c.span_of-span.result.start c.span_of-span.result.end (c.loop-pc.pc - 1) c.loop-pc.pc c.constant_at-constant.result span.spans span.room from lt one_more
     (c.constant_at-constant.ensures forward none) before.0 in
     let most = next.1 in
-    absurd (c.in_default-try_from.ensures (omega (arith, most)))
+    absurd (c.in_default.ensures (omega (arith, most)))
 
 pub loop-pc-preserved : goal.loop-pc-preserved
 loop-pc-preserved c =
@@ -50,13 +40,13 @@ loop-pc-preserved c =
     let lt : c.loop-pc.pc - 1 < c.span_of-span.result.end = omega (arith, c.loop-pc-test.true) in (
       omega (arith, from, span.start),
       omega (arith, length-set c.loop-pc.steps (c.loop-pc.pc - 1) c.in-Ok.enough),
-      omega (arith, length-set c.loop-pc.coefficients (c.loop-pc.pc - 1) c.in-Some.next),
+      omega (arith, length-set c.loop-pc.coefficients (c.loop-pc.pc - 1) c.coefficients_at-next.result),
       λ want forward holds counting zero.
           let before = c.loop-pc.invariant.3 want forward holds counting zero in
           let none = subst (λ (k : ℕ). ZerosFrom k c.loop-pc.coefficients) one_more before.1 in
           let next = counted image forward want c.loop-pc.steps holds c.args.r c.span_of-span.result.start c.span_of-span.result.end (c.loop-pc.pc - 1) c.loop-pc.pc c.constant_at-constant.result span.spans span.room from lt one_more
           (c.constant_at-constant.ensures forward none) before.0 in
-          let is_zeros : c.in-Some.next ≡ zeros = same_Some c.in-Some.next zeros (c.in-Some.ensures forward none) in (
+          let is_zeros : c.coefficients_at-next.result ≡ zeros = c.coefficients_at-next.ensures forward none in (
             subst (λ (v : ℕ). Counting image want (set c.loop-pc.steps (c.loop-pc.pc - 1) v) (c.loop-pc.pc - 1)) (sym c.in-Ok.ensures.1) next.0,
             subst (λ (v : List ℕ). ZerosFrom (c.loop-pc.pc - 1) (set c.loop-pc.coefficients (c.loop-pc.pc - 1) v)) (sym is_zeros)
                 (zeros-more (c.loop-pc.pc - 1) c.loop-pc.pc c.loop-pc.coefficients one_more (omega (arith, c.loop-pc.invariant.2, span.room, lt)) before.1),

@@ -1,5 +1,5 @@
-use Rattle.std.proofs.Common.{◌≤◌, ◌*◌}
+use Rattle.std.proofs.Common.{◌≤◌}
 use Rattle.geos_infer.proofs.paid.back_edges.Given as goal
 
 abbrev pub invariant-loop-pc : goal.invariant-loop-pc
-invariant-loop-pc l = l.edges ≤ 2 * l.pc
+invariant-loop-pc l = l.edges ≤ l.pc
