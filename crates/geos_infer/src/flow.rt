@@ -29,7 +29,7 @@ pub(crate) fn row_of(known: &Option<Row>) -> Row
 }
 
 /// What is known where another row comes to a place; nothing where they have no join.
-fn join_known(old: &Option<Row>, row: &Row) -> Option<Row>
+pub(crate) fn join_known(old: &Option<Row>, row: &Row) -> Option<Row>
     ensures { result ≡ join_known old.now row.now }
 {
     match old {

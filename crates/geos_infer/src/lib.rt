@@ -6,6 +6,7 @@
 mod asked;
 mod common;
 mod count;
+mod descent;
 mod edges;
 mod error;
 mod flow;

@@ -8,9 +8,10 @@ ghost use Rattle.geos_infer.specs.Flow.{leads_back, FlowsOn, FlowsAtOnce, HaveFl
 ghost use Rattle.geos_infer.specs.Theorem.{NamesRoutine};
 
 use crate::common::{clean, join};
+use crate::descent::descend;
 use crate::edges::{edge_end, leads_back, span_of};
 use crate::error::InferError;
-use crate::flow::flow;
+use crate::flow::{flow, join_known};
 use crate::seeds::seeds;
 use crate::unreached::fill;
 use crate::widening::widened;
@@ -58,22 +59,26 @@ fn fed_by(
     let i = image.instr(pc);
     let to = edge_end(pc, i, branch) as usize;
     let next = after(image, pc, &clean(&row), branch);
-    let Some(old) = known[to] else {
-        from[to] = Some(next);
-        return Feedback::Weaker;
+    let weaker = match &known[to] {
+        None => next,
+        Some(old) => {
+            let Some(joined) = join(old, &next) else {
+                return Feedback::Apart;
+            };
+            if joined == *old {
+                return Feedback::Nothing;
+            }
+            if exact { joined } else { widened(old, &joined) }
+        }
     };
-    let Some(joined) = join(&old, &next) else {
-        return Feedback::Apart;
-    };
-    if joined == old {
-        return Feedback::Nothing;
+    // Another edge may have fed the place before in this round.
+    match join_known(&from[to], &weaker) {
+        Some(row) => {
+            from[to] = Some(row);
+            Feedback::Weaker
+        }
+        None => Feedback::Apart,
     }
-    from[to] = Some(if exact {
-        joined
-    } else {
-        widened(&old, &joined)
-    });
-    Feedback::Weaker
 }
 
 /// What an edge says, if it leads back within the routine, which begins at the limit.
@@ -169,9 +174,12 @@ fn find_rows_in(image: &Image, r: u16, from: &mut [Option<Row>], known: &mut [Op
     requires known { length known.old ≡ length image.now.points }
     ensures { FlowsOn image.now r known.old known.new result }
 {
-    let Some(_rounds) = climb(image, r, from, known) else {
+    let Some(rounds) = climb(image, r, from, known) else {
         return false;
     };
+    if !descend(image, r, rounds, from, known) {
+        return false;
+    }
     fill(image, r, from, known);
     true
 }
