@@ -100,6 +100,6 @@ abbrev pub FlowsAtOnce : Parts → ℕ → List (Option Row) → List (Option Ro
 FlowsAtOnce image r known next rounds = (want : List Row) → Forward image → RowsHold image want → Flowing image want known (2 * start_of image.routines r)
     → (rounds ≡ Some 0) × Flowing image want next (2 * start_of image.routines (r + 1))
 
--- rows have flowed along all edges; of code without loops
-abbrev pub HaveFlowed : Parts → List (Option Row) → Type 0
-HaveFlowed image known = (want : List Row) → Forward image → RowsHold image want → Flowing image want known (2 * length image.points)
+-- rows have flowed in so many routines: in all of them, along all edges; of code without loops
+abbrev pub HaveFlowed : Parts → List (Option Row) → ℕ → Type 0
+HaveFlowed image known done = (want : List Row) → Forward image → RowsHold image want → (done ≡ length image.routines) × Flowing image want known (2 * length image.points)

@@ -35,10 +35,6 @@ pub record StepsHold (image : Parts) (steps : List ℕ) : Type 0 where
   pub returns : (pc : ℕ) (i : Instr) → slice_get (instrs_of image) pc ≡ Some i → returns i.opcode ≡ true → 1 ≤ slice_index steps pc
   pub long : (pc : ℕ) → slice_index steps pc ≤ most_steps
 
--- no rows hold, or the code has loops
-abbrev pub NoRowsHold : Parts → Type 0
-NoRowsHold image = (want : List Row) → Forward image → RowsHold image want → ⊥
-
 -- no numbers of steps hold, or the code has loops
 abbrev pub NoStepsHold : Parts → Type 0
 NoStepsHold image = (want : List ℕ) → Forward image → StepsHold image want → ⊥

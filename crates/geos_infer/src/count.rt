@@ -1,7 +1,7 @@
 //! Steps are counted from behind, sweep after sweep, until the edges that lead back are paid
 //! too.
 
-ghost use Rattle.std.specs.Prelude.{◌≡◌, ◌<◌, ℕ, length, IfOk, IfErr, IfSome};
+ghost use Rattle.std.specs.Prelude.{◌≡◌, ◌<◌, ◌≤◌, ℕ, length, IfOk, IfErr, IfSome};
 ghost use Rattle.geos_infer.specs.declared.error.InferError.TheVariants.{NoRows};
 ghost use Rattle.geos_infer.specs.Solutions.{NoStepsHold};
 ghost use Rattle.geos_infer.specs.Count.{CountsOn, CountsAll, AreCounted};
@@ -75,10 +75,11 @@ fn count_in(
     false
 }
 
-/// Counts the steps of all routines, from the last to the first; the routine for which no number
-/// is found, if there is one.
+/// Counts the steps of so many routines, from the last to the first; the first one for which no
+/// number is found, if there is one.
 fn count_all(
     image: &Image,
+    routines: u16,
     known: &[Option<Row>],
     counters: &[[u32; 4]],
     steps: &mut [u32],
@@ -88,15 +89,19 @@ fn count_all(
     requires counters { length counters.now ≡ length image.now.points }
     requires steps { length steps.old ≡ length image.now.points }
     requires coefficients { length coefficients.old ≡ length image.now.points }
-    ensures counted { CountsAll image.now steps.new coefficients.new result }
-    ensures within { IfSome result (λ r. r < length image.now.routines) }
+    requires routines { routines ≤ length image.now.routines }
+    ensures counted { routines ≡ length image.now.routines → CountsAll image.now steps.new coefficients.new result }
+    ensures within { IfSome result (λ r. r < routines) }
 {
-    for r in (0..image.count()).rev() {
+    // For what `len` says of the image: its routines have its instructions.
+    let _legal = image.len();
+    let mut left = None;
+    for r in (0..routines).rev() {
         if !count_in(image, r, known, counters, steps, coefficients) {
-            return Some(r);
+            left = Some(r);
         }
     }
-    None
+    left
 }
 
 pub(crate) fn zero_steps(alloc: Global, n: usize) -> Result<Vec<u32>, AllocError>
@@ -119,25 +124,40 @@ pub(crate) fn zero_coefficients(alloc: Global, n: usize) -> Result<Vec<[u32; 4]>
     Ok(coefficients)
 }
 
-/// Enough steps at each instruction, and coefficients. `NoRows` names the last routine for which
-/// none were found.
+/// Enough steps at each instruction, and coefficients, where so many routines have rows. `NoRows`
+/// names the first one that has none, or for which no steps were found.
 pub(crate) fn count(
     alloc: Global,
     image: &Image,
+    routines: u16,
     known: &[Option<Row>],
 ) -> Result<(Vec<u32>, Vec<[u32; 4]>), InferError>
+    requires routines { routines ≤ length image.now.routines }
     requires known { length known.now ≡ length image.now.points }
     ensures steps { IfOk result (λ both. length both.0.items ≡ length image.now.points) }
     ensures coefficients { IfOk result (λ both. length both.1.items ≡ length image.now.points) }
     ensures found { IfOk result (λ both. AreCounted image.now both.0.items both.1.items) }
     ensures within { IfErr result (NamesRoutine image.now) }
-    ensures none { IfErr result (λ error. (r : ℕ) → error ≡ NoRows r → NoStepsHold image.now) }
+    ensures none { IfErr result (λ error. (r : ℕ) → error ≡ NoRows r → routines ≡ length image.now.routines → NoStepsHold image.now) }
 {
     let counters = find_counters(alloc, image, known)?;
     let mut steps = zero_steps(alloc, image.len() as usize)?;
     let mut coefficients = zero_coefficients(alloc, image.len() as usize)?;
-    match count_all(image, known, &counters, &mut steps, &mut coefficients) {
+    match count_all(
+        image,
+        routines,
+        known,
+        &counters,
+        &mut steps,
+        &mut coefficients,
+    ) {
         Some(r) => Err(InferError::NoRows(r)),
-        None => Ok((steps, coefficients)),
+        None => {
+            if routines < image.count() {
+                Err(InferError::NoRows(routines))
+            } else {
+                Ok((steps, coefficients))
+            }
+        }
     }
 }

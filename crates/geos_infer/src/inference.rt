@@ -54,9 +54,9 @@ fn routines_of(alloc: Global, image: &Image) -> Result<Vec<Routine>, AllocError>
 ///
 /// Where no edge leads back, and each instruction but a routine's first has an edge into it, the
 /// verifier accepts the image that is answered if it accepts any with that code. The image may be
-/// one that it refuses: then `geos_verify::check` says where. `NoRows` names a routine where
-/// slots differ in more than marks where ways of control meet, or for which no potential was
-/// found.
+/// one that it refuses: then `geos_verify::check` says where. `NoRows` names the first routine
+/// where slots differ in more than marks where ways of control meet, or for which no potential
+/// was found.
 pub fn infer(alloc: Global, skeleton: &Image) -> Result<Image, InferError>
     ensures code { IfOk result (λ image. SameCode skeleton.now image) }
     ensures found { IfOk result (λ image. FindsWhatThereIs skeleton.now image) }
@@ -66,11 +66,8 @@ pub fn infer(alloc: Global, skeleton: &Image) -> Result<Image, InferError>
 {
     // For what `len` says of the skeleton: it is one that the format allows.
     let _legal = skeleton.len();
-    let known = match find_rows(alloc, skeleton) {
-        Ok(known) => known,
-        Err(error) => return Err(error),
-    };
-    let (steps, coefficients) = match count(alloc, skeleton, &known) {
+    let (known, routines) = find_rows(alloc, skeleton)?;
+    let (steps, coefficients) = match count(alloc, skeleton, routines, &known) {
         Ok(both) => both,
         Err(error) => return Err(error),
     };

@@ -1,23 +1,19 @@
 //! Rows flow round after round, until those of the edges that lead back have nothing new to say.
 
-ghost use Rattle.std.specs.Prelude.{◌≡◌, ◌<◌, ◌≤◌, ℕ, length, true, IfOk, IfErr, IfSome, slice_get};
-ghost use Rattle.geos_infer.specs.declared.error.InferError.TheVariants.{NoRows};
+ghost use Rattle.std.specs.Prelude.{◌≡◌, ◌<◌, ◌≤◌, length, true, IfOk, IfSome, slice_get};
 ghost use Rattle.geos_infer.specs.Code.{Forward};
-ghost use Rattle.geos_infer.specs.Solutions.{NoRowsHold};
 ghost use Rattle.geos_infer.specs.Flow.{leads_back, FlowsOn, FlowsAtOnce, HaveFlowed};
-ghost use Rattle.geos_infer.specs.Theorem.{NamesRoutine};
 
 use crate::common::{clean, join};
 use crate::descent::descend;
 use crate::edges::{edge_end, leads_back, span_of};
-use crate::error::InferError;
 use crate::flow::{flow, join_known};
 use crate::seeds::seeds;
 use crate::unreached::fill;
 use crate::widening::widened;
 use geos_image::{Image, Row};
 use geos_verify::after;
-use std::alloc::Global;
+use std::alloc::{AllocError, Global};
 
 /// What the edges that lead back said.
 #[derive(Clone, Copy, Debug, PartialEq, Eq)]
@@ -184,20 +180,19 @@ fn find_rows_in(image: &Image, r: u16, from: &mut [Option<Row>], known: &mut [Op
     true
 }
 
-/// Finds what is known at each instruction. `NoRows` names the first routine where two rows have
-/// no join.
-pub(crate) fn find_rows(alloc: Global, image: &Image) -> Result<Vec<Option<Row>>, InferError>
-    ensures len { IfOk result (λ known. length known.items ≡ length image.now.points) }
-    ensures found { IfOk result (λ known. HaveFlowed image.now known.items) }
-    ensures within { IfErr result (NamesRoutine image.now) }
-    ensures none { IfErr result (λ error. (r : ℕ) → error ≡ NoRows r → NoRowsHold image.now) }
+/// Finds what is known at each instruction, up to the first routine where two rows have no join;
+/// and how many routines there are before it.
+pub(crate) fn find_rows(alloc: Global, image: &Image) -> Result<(Vec<Option<Row>>, u16), AllocError>
+    ensures len { IfOk result (λ both. length both.0.items ≡ length image.now.points) }
+    ensures few { IfOk result (λ both. both.1 ≤ length image.now.routines) }
+    ensures found { IfOk result (λ both. HaveFlowed image.now both.0.items both.1) }
 {
     let mut known = seeds(alloc, image)?;
     let mut from = seeds(alloc, image)?;
     for r in 0..image.count() {
         if !find_rows_in(image, r, &mut from, &mut known) {
-            return Err(InferError::NoRows(r));
+            return Ok((known, r));
         }
     }
-    Ok(known)
+    Ok((known, image.count()))
 }

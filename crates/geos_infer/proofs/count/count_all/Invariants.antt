@@ -1,11 +1,13 @@
-use Rattle.std.proofs.Common.{◌≡◌, ℕ, List, length}
+use Rattle.std.proofs.Common.{◌≡◌, ◌<◌, ℕ, List, None, length}
+use Rattle.std.specs.Prelude.{IfSome}
 use Rattle.geos_image.specs.Parts.{start_of}
 use Rattle.geos_infer.specs.Code.{Forward}
 use Rattle.geos_infer.specs.Solutions.{StepsHold}
 use Rattle.geos_infer.specs.Count.{Counting, ZerosFrom}
 use Rattle.geos_infer.proofs.count.count_all.Given as goal
 
--- steps are counted in the routines from r on
+-- steps are counted in the routines from r on, and a routine that is left is one of these
 abbrev pub invariant-loop-r : goal.invariant-loop-r
 invariant-loop-r l = (length l.steps ≡ length l.image.points) × (length l.coefficients ≡ length l.image.points)
-    × ((want : List ℕ) → Forward l.image → StepsHold l.image want → Counting l.image want l.steps (start_of l.image.routines l.r) × ZerosFrom (start_of l.image.routines l.r) l.coefficients)
+    × IfSome l.left (λ r. r < l.routines)
+    × (l.routines ≡ length l.image.routines → (want : List ℕ) → Forward l.image → StepsHold l.image want → (l.left ≡ None) × Counting l.image want l.steps (start_of l.image.routines l.r) × ZerosFrom (start_of l.image.routines l.r) l.coefficients)

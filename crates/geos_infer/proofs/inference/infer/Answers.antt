@@ -10,16 +10,15 @@ use Rattle.geos_infer.proofs.Finding.{found-legal, found-code, found-checked, ma
 use Rattle.geos_infer.proofs.inference.infer.Goals as goal
 
 pub returns-in-Err-clause-none : goal.returns-in-Err-clause-none
-returns-in-Err-clause-none c = λ r e forward has. c.in-Err.ensures.none r e (map row_at has.other.points) forward (rows-wanted c.args.skeleton.now has.other has.same has.checked)
-
-pub returns-in-Err-count-clause-none : goal.returns-in-Err-count-clause-none
-returns-in-Err-count-clause-none c = λ r e forward has. c.in-Err-count.ensures.none r e (map constant_at has.other.points) forward (steps-wanted c.args.skeleton.now has.other has.same forward has.fits has.checked)
+returns-in-Err-clause-none c = λ r e forward has.
+    let image = c.args.skeleton.now in
+    let all = (c.in_ok-known.ensures.found (map row_at has.other.points) forward (rows-wanted image has.other has.same has.checked)).0 in
+    c.in-Err.ensures.none r e all (map constant_at has.other.points) forward (steps-wanted image has.other has.same forward has.fits has.checked)
 
 pub returns-in-Err-clause-stuck : goal.returns-in-Err-clause-stuck
-returns-in-Err-clause-stuck c = λ r e forward rows steps rows_hold steps_hold. c.in-Err.ensures.none r e rows forward rows_hold
-
-pub returns-in-Err-count-clause-stuck : goal.returns-in-Err-count-clause-stuck
-returns-in-Err-count-clause-stuck c = λ r e forward rows steps rows_hold steps_hold. c.in-Err-count.ensures.none r e steps forward steps_hold
+returns-in-Err-clause-stuck c = λ r e forward rows steps rows_hold steps_hold.
+    let all = (c.in_ok-known.ensures.found rows forward rows_hold).0 in
+    c.in-Err.ensures.none r e all steps forward steps_hold
 
 pub unreachable-requires : goal.unreachable-requires
 unreachable-requires c =
@@ -40,10 +39,10 @@ returns-clause-found c =
     let image = c.args.skeleton.now in
     let points = c.in_ok-points.points.items in
     let is = made-is image c.in-Some.image c.in_ok-routines.routines.items points c.in_ok-routines.ensures c.in-Some.ensures.value in
-    let found = found-checked image c.len-legal.ensures.legal c.deref-2.result.now c.deref-3.result.now c.deref-4.result.now points (ap length c.deref-4.ensures.value ∙ c.in-Ok-count.ensures.coefficients)
-    (λ want forward holds. subst (λ (known : List (Option Row)). Flowing image want known (2 * length c.args.skeleton.now.points)) (sym c.deref-2.ensures.value) (c.in-Ok.ensures.found want forward holds))
+    let found = found-checked image c.len-legal.ensures.legal c.deref-2.result.now c.deref-3.result.now c.deref-4.result.now points (ap length c.deref-4.ensures.value ∙ c.in-Ok.ensures.coefficients)
+    (λ want forward holds. subst (λ (known : List (Option Row)). Flowing image want known (2 * length c.args.skeleton.now.points)) (sym c.deref-2.ensures.value) ((c.in_ok-known.ensures.found want forward holds).1))
     (λ want forward holds. (
-    let counted = c.in-Ok-count.ensures.found want forward holds in
+    let counted = c.in-Ok.ensures.found want forward holds in
     (subst (λ (steps : List ℕ). Counting image want steps 0) (sym c.deref-3.ensures.value) counted.0, subst (λ (coefficients : List (List ℕ)). ZerosFrom 0 coefficients) (sym c.deref-4.ensures.value) counted.1)
     )) c.in_ok-points.ensures in
     subst (λ (x : Parts). FindsWhatThereIs image x) (sym is) found
