@@ -1,8 +1,8 @@
 -- The points that are found are accepted, where some with the same code are.
-use Rattle.std.proofs.Common.{◌≡◌, ℕ, zero, suc, ◌+◌, ◌*◌, ◌<◌, ◌≤◌, Bool, true, false, not, List, [], ◌∷◌, length, Option, Some, None, slice_get, get_or, set, refl, sym, ap, ◌∙◌, subst, arith}
+use Rattle.std.proofs.Common.{◌≡◌, ℕ, zero, suc, ◌+◌, ◌*◌, ◌≤◌, Bool, true, false, not, List, [], ◌∷◌, Option, Some, None, slice_get, get_or, set, refl, sym, ap, ◌∙◌, subst, arith}
 use Rattle.std.specs.Prelude.{◌&&◌, ◌||◌, ◌==◌, nat_le, nat_lt, if◌then◌else◌}
-use Rattle.std.specs.List.{list_any, list_all}
-use Rattle.std.proofs.lemmas.Bool.{and_parts, or_parts, leb-true, le-leb, lt-ltb, eqb-true, not-false}
+use Rattle.std.specs.List.{list_any}
+use Rattle.std.proofs.lemmas.Bool.{and_parts, or_parts, leb-true, le-leb, eqb-true, not-false}
 use Rattle.geos_model.specs.Refusals.{first_refusal}
 use Rattle.geos_image.specs.declared.opcode.Opcode.{Opcode}
 use Rattle.geos_image.specs.declared.opcode.Opcode.TheVariants.{Setk, Setkw, Loop, Call}
@@ -13,15 +13,14 @@ use Rattle.geos_image.specs.declared.routine.Routine.{Routine}
 use Rattle.geos_image.specs.Parts.{Point, Parts}
 use Rattle.geos_verify.specs.Lists.{all2}
 use Rattle.geos_verify.specs.Rows.{falls_through, branches, at_point, bound, fits, is_plain, row_along, row_branching}
-use Rattle.geos_verify.specs.Touched.{calls, touched_by, touches}
+use Rattle.geos_verify.specs.Touched.{calls, touches}
 use Rattle.geos_verify.specs.Potentials.{pays, pays_setting, pays_taking, pays_calling, budget_of, pays_along, pays_branching, is_within}
-use Rattle.geos_verify.specs.Rules.{returns, leaves_routine, names_empty_slot, entry_misfits, call_misfits, exit_misfits, misfits_at, edge_misfits, unpaid_along, unpaid_branching, edge_unpaid, over_budget, tests, refusal}
-use Rattle.geos_verify.proofs.Passed.{Passed, NoneRefuses, none-refuses}
+use Rattle.geos_verify.specs.Rules.{returns, leaves_routine, names_empty_slot, entry_misfits, call_misfits, misfits_at, edge_misfits, unpaid_along, unpaid_branching, edge_unpaid, over_budget, tests, refusal}
+use Rattle.geos_verify.proofs.Passed.{Passed, none-refuses}
 use Rattle.geos_infer.specs.Solutions.{call_steps}
 use Rattle.geos_infer.specs.Count.{zeros}
 use Rattle.geos_infer.specs.Points.{potential_of}
 use Rattle.geos_infer.proofs.Pairwise.{both}
-use Rattle.geos_infer.proofs.Fits.{fits-trans}
 use Rattle.geos_infer.proofs.Passing.{neither, not-both, second-false, true-not, MayStand, may_stand-mono}
 
 -- Tests

@@ -1,5 +1,5 @@
 -- The rows and potentials that are found are enough wherever some are.
-use Rattle.std.specs.Prelude.{◌≡◌, ◌<◌, ℕ, List, length}
+use Rattle.std.specs.Prelude.{◌<◌, ℕ, List, length}
 use Rattle.geos_image.specs.declared.row.Row.{Row}
 use Rattle.geos_image.specs.Parts.{Point, Parts}
 use Rattle.geos_image.specs.Ranges.{ImageFits}

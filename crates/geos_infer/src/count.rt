@@ -13,6 +13,7 @@ use crate::error::InferError;
 use crate::loops::find_counters;
 use crate::paid::{are_paid, most_sweeps};
 use crate::prices::own_counter;
+use crate::spent::{are_spent, find_touched};
 use geos_image::{Image, Row};
 use std::alloc::{AllocError, Global};
 
@@ -48,12 +49,14 @@ fn sweep(
     true
 }
 
-/// Counts the steps of routine r; `false` where no number of them is found to be enough.
+/// Counts the steps of routine r; `false` where no number of them is found to be enough, or a
+/// counter is wanted behind a call that touches it.
 fn count_in(
     image: &Image,
     r: u16,
     known: &[Option<Row>],
     counters: &[[u32; 4]],
+    touched: &[[bool; 4]],
     steps: &mut [u32],
     coefficients: &mut [[u32; 4]],
 ) -> bool
@@ -69,7 +72,7 @@ fn count_in(
             return false;
         }
         if are_paid(image, r, known, steps, coefficients) {
-            return true;
+            return are_spent(image, r, touched, coefficients);
         }
     }
     false
@@ -82,6 +85,7 @@ fn count_all(
     routines: u16,
     known: &[Option<Row>],
     counters: &[[u32; 4]],
+    touched: &[[bool; 4]],
     steps: &mut [u32],
     coefficients: &mut [[u32; 4]],
 ) -> Option<u16>
@@ -97,7 +101,7 @@ fn count_all(
     let _legal = image.len();
     let mut left = None;
     for r in (0..routines).rev() {
-        if !count_in(image, r, known, counters, steps, coefficients) {
+        if !count_in(image, r, known, counters, touched, steps, coefficients) {
             left = Some(r);
         }
     }
@@ -141,6 +145,7 @@ pub(crate) fn count(
     ensures none { IfErr result (λ error. (r : ℕ) → error ≡ NoRows r → routines ≡ length image.now.routines → NoStepsHold image.now) }
 {
     let counters = find_counters(alloc, image, known)?;
+    let touched = find_touched(alloc, image)?;
     let mut steps = zero_steps(alloc, image.len() as usize)?;
     let mut coefficients = zero_coefficients(alloc, image.len() as usize)?;
     match count_all(
@@ -148,6 +153,7 @@ pub(crate) fn count(
         routines,
         known,
         &counters,
+        &touched,
         &mut steps,
         &mut coefficients,
     ) {

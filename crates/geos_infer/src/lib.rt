@@ -16,6 +16,7 @@ mod paid;
 mod prices;
 mod rounds;
 mod seeds;
+mod spent;
 mod unreached;
 mod widening;
 

@@ -1,4 +1,4 @@
-use Rattle.std.proofs.Common.{◌≡◌, ◌*◌, ◌∙◌, sym, ap, subst, List, Option, ℕ, length, map}
+use Rattle.std.proofs.Common.{◌*◌, ◌∙◌, sym, ap, subst, List, Option, ℕ, length, map}
 use Rattle.std.proofs.lemmas.Bool.{false≢true}
 use Rattle.geos_image.specs.declared.row.Row.{Row}
 use Rattle.geos_image.specs.Parts.{Parts}

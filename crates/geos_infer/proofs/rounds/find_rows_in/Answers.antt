@@ -1,10 +1,9 @@
-use Rattle.std.proofs.Common.{◌≡◌, ◌*◌, ◌+◌, ◌≤◌, List, Option, length, refl, sym, ◌∙◌, subst, arith}
+use Rattle.std.proofs.Common.{◌*◌, ◌+◌, List, Option, refl, sym, ◌∙◌, subst, arith}
 use Rattle.std.proofs.lemmas.Bool.{false≢true}
 use Rattle.std.proofs.lemmas.Option.{none-some, same_Some}
 use Rattle.geos_image.specs.declared.row.Row.{Row}
 use Rattle.geos_image.specs.Parts.{start_of}
 use Rattle.geos_infer.specs.Flow.{Flowing, AllKnown}
-use Rattle.geos_infer.proofs.Ends.{code-length}
 use Rattle.geos_infer.proofs.Flows.{all-reached}
 use Rattle.geos_infer.proofs.rounds.find_rows_in.Goals as goal
 

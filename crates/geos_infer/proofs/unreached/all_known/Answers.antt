@@ -1,6 +1,5 @@
-use Rattle.std.proofs.Common.{◌≡◌, ◌<◌, ◌+◌, length, sym, ◌∙◌, arith}
+use Rattle.std.proofs.Common.{sym, ◌∙◌, arith}
 use Rattle.std.proofs.lemmas.Option.{none-some}
-use Rattle.geos_image.specs.Parts.{start_of}
 use Rattle.geos_infer.proofs.unreached.all_known.Goals as goal
 
 pub returns-in_default : goal.returns-in_default
