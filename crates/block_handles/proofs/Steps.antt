@@ -1,5 +1,6 @@
 -- What each step of an arena leaves: its fields are sound, and the store is as promised.
 use Rattle.std.proofs.Common.{◌≡◌, ◌≢◌, ℕ, ◌+◌, ◌-◌, ◌/◌, ◌%◌, ◌≤◌, ◌<◌, List, ◌++◌, length, replicate, Option, Some, None, slice_index_or, slice_set, refl, ap, sym, subst, ◌∙◌, arith, length-append}
+use Rattle.std.specs.Prelude.{IfSome}
 use Rattle.std.proofs.lemmas.List.{length-replicate, get_or-set_other, set-get_or}
 use Rattle.lmem_raw.specs.Bytes.{part, with_part}
 use Rattle.lmem_raw.proofs.Parts.{length-with_part, part-same}
@@ -7,8 +8,8 @@ use Rattle.block_handles.specs.declared.arena.Entry.{Entry}
 use Rattle.block_handles.specs.Store.{Block, Store, bytes_of, locks_in, locks_of, IsBlock, IsThere, size_of, place_of}
 use Rattle.block_handles.specs.Change.{with_block, new_block, grown_block, with_locks, block_with_locks}
 use Rattle.block_handles.specs.Layout.{IsLaidOut, IsFreeBut, IsSize}
-use Rattle.block_handles.specs.View.{block_in, store_in, place_in, Lies, IsSound, IsIndexed}
-use Rattle.block_handles.proofs.Views.{OffEntry, off_slot, off_same, off_less, store-set, part-two, block_there, bytes_there, place_there, lies_there, size_there, lies_set, length-part}
+use Rattle.block_handles.specs.View.{block_in, store_in, place_in, Lies, IsEntry, IsSound, IsIndexed}
+use Rattle.block_handles.proofs.Views.{OffEntry, entry_there, off_slot, off_same, off_less, store-set, part-two, block_there, bytes_there, place_there, lies_there, size_there, lies_set, length-part}
 use Rattle.block_handles.proofs.Layouts.{with_locks-shape, Differs, with_block-differs, laid-differs, laid-gone, SameShape, laid-same, indexed-same, size_of_none, there_small}
 use Rattle.block_handles.proofs.Indexing.{indexed-freed, indexed-put}
 
@@ -167,3 +168,12 @@ module _ (region : List ℕ) (table : List (Option Entry)) (index : List (Option
     relocate_seen to size legal room free region' eq =
         subst (λ s. (size_of s i ≤ size) × (size ≤ 65520) × (size % 16 ≡ 0) → to + size ≤ s.len → IsFreeBut s i to (to + size) → Step region' (slice_set table i (Some (record { place = to; size = size; locks = e.locks }))) (slice_set (slice_set index (e.place / 64) None) (to / 64) (Some i)) (with_block s i (grown_block s i size) to))
         view (λ legal room free. relocate-step region table index sound i e is to size legal.0 legal.1 legal.2 room free region' eq) legal room free
+
+-- the same where the entry's number alone was written
+pub locks_put : (region : List ℕ) (table : List (Option Entry)) (index : List (Option ℕ)) (seen : Store) → store_in region table ≡ seen → IsSound region table index → (i n : ℕ) → IsThere seen i
+    → (after : List (Option Entry)) → IfSome (slice_index_or table i None) (λ e. after ≡ slice_set table i (Some (record e { locks = n }))) → Step region after index (with_locks seen i n)
+locks_put region table index seen view sound i n there after put = go (slice_index_or table i None) refl (entry_there region table i (subst (λ s. IsThere s i) (sym view) there)) put
+  where
+    go : (o : Option Entry) → slice_index_or table i None ≡ o → IsEntry o → IfSome o (λ e. after ≡ slice_set table i (Some (record e { locks = n }))) → Step region after index (with_locks seen i n)
+    go None is h same = absurd h
+    go (Some e) is h same = rw same (locks_seen region table index seen view sound i e is n)

@@ -1,6 +1,6 @@
 //! Blocks by slots in a region: what a slot holds, where its block lies, and the one step by
 //! which a block moves or grows.
-ghost use Rattle.std.specs.Prelude.{◌≡◌, ℕ, ◌+◌, ◌*◌, ◌/◌, ◌%◌, ◌<◌, ◌≤◌, ◌↔◌, [], ◌∷◌, length, All, slice_index_or, Some, None, IfOk, IfSome, IfNone, IsTrue};
+ghost use Rattle.std.specs.Prelude.{◌≡◌, ℕ, ◌+◌, ◌*◌, ◌/◌, ◌%◌, ◌<◌, ◌≤◌, ◌↔◌, [], ◌∷◌, length, All, slice_index_or, slice_set, Some, None, IfOk, IfSome, IfNone, IsTrue};
 ghost use Rattle.std.specs.Borrow.{sem};
 ghost use Rattle.lmem_raw.specs.Bytes.{part, with_part};
 ghost use Rattle.block_handles.specs.View.{IsEntry};
@@ -51,6 +51,16 @@ fn entry_of(table: &[Option<Entry>], slot: usize) -> Entry
     match table[slot] {
         Some(entry) => entry,
         None => unreachable!(),
+    }
+}
+
+/// Writes how often the block of a slot in use is locked: that one number, in its place.
+fn put_locks(table: &mut Vec<Option<Entry>>, slot: usize, locks: u16)
+    requires { IsEntry (slice_index_or table.old.items slot None) }
+    ensures { IfSome (slice_index_or table.old.items slot None) (λ entry. table.new.items ≡ slice_set table.old.items slot (Some (record entry { locks = locks }))) }
+{
+    if let Some(entry) = &mut table[slot] {
+        entry.locks = locks;
     }
 }
 
@@ -126,7 +136,7 @@ impl Arena {
     pub(crate) fn has(&self, slot: usize) -> bool
         ensures { IsTrue result ↔ IsThere self.now slot }
     {
-        slot < self.table.len() && self.table[slot].is_some()
+        slot < SLOTS && self.table[slot].is_some()
     }
 
     pub(crate) fn locks(&self, slot: usize) -> u16
@@ -269,8 +279,7 @@ impl Arena {
         ensures store { self.new ≡ with_locks self.old slot locks }
         ensures laid { IsLaidOut self.new }
     {
-        let entry = entry_of(&self.table, slot);
-        self.table[slot] = Some(Entry { locks, ..entry });
+        put_locks(&mut self.table, slot, locks);
     }
 
     /// Moves a block to where no other lies. It may overlap its own old place.

@@ -9,10 +9,7 @@ use geos_model::{Name, Owner};
 pub(crate) fn first_slot(owner: Owner) -> usize
     ensures { result ≡ first_slot owner }
 {
-    match owner {
-        Owner::Mem => 0,
-        Owner::Vm => Name::HANDLES as usize,
-    }
+    owner as usize * Name::HANDLES as usize
 }
 
 /// The slot of a name; past the last one where the handle can't be in use.
