@@ -28,7 +28,7 @@ pub(crate) fn mnew(m: &mut Machine, kernel: &mut Kernel, i: &Instr, a: usize) ->
 }
 
 /// Locks a block into a slot.
-#[inline(never)]
+#[inline]
 pub(crate) fn mlock(m: &mut Machine, kernel: &mut Kernel, i: &Instr, a: usize) -> Goes
     requires instr { IsInstr Opcode.Mlock i.now a }
     requires ready { Ready i.now kernel.old m.old }
@@ -38,21 +38,21 @@ pub(crate) fn mlock(m: &mut Machine, kernel: &mut Kernel, i: &Instr, a: usize) -
     match kernel.mlock(h) {
         Ok(()) => {
             m.slots[a] = Name::mem(h);
-            Goes::Along
+            Goes::Past
         }
         Err(refusal) => refuse(m, i, refusal),
     }
 }
 
 /// Unlocks the block of a slot, which is empty then.
-#[inline(never)]
+#[inline]
 pub(crate) fn munlock(m: &Machine, kernel: &mut Kernel, i: &Instr, a: usize) -> Goes
     requires instr { IsInstr Opcode.Munlock i.now a }
     requires ready { Ready i.now kernel.old m.now }
     ensures { Works i.now kernel.old m.now kernel.new m.now result }
 {
     kernel.munlock(m.slots[a]);
-    Goes::Along
+    Goes::Past
 }
 
 /// Frees a block.

@@ -107,7 +107,7 @@ pub(crate) fn lsize(m: &mut Machine, kernel: &Kernel, i: &Instr, a: usize) -> Go
 }
 
 /// Sets a pointer to a chunk.
-#[inline(never)]
+#[inline]
 pub(crate) fn deref(m: &mut Machine, kernel: &Kernel, i: &Instr, a: usize) -> Goes
     requires instr { IsInstr Opcode.Deref i.now a }
     requires ready { Ready i.now kernel.now m.old }
@@ -117,7 +117,7 @@ pub(crate) fn deref(m: &mut Machine, kernel: &Kernel, i: &Instr, a: usize) -> Go
     match kernel.deref(m.slots[a], c, i.imm) {
         Ok(span) => {
             m.pointers[i.b as usize] = span;
-            Goes::Along
+            Goes::Past
         }
         Err(refusal) => refuse(m, i, refusal),
     }

@@ -1,14 +1,14 @@
 use Rattle.std.proofs.Common.{refl, get_or}
 use Rattle.geos_model.specs.Calls.{mlock}
 use Rattle.geos_semantics.specs.Model.{holding}
-use Rattle.geos_machine.proofs.Works.{call-refused, slot-locked-into}
+use Rattle.geos_machine.proofs.Works.{call-refused, on-past, slot-locked-into}
 use Rattle.geos_machine.proofs.blocks.mlock.Goals as goal
 
 pub returns-in-Ok : goal.returns-in-Ok
 returns-in-Ok c =
     let i = c.args.i.now in
-    slot-locked-into i c.args.kernel.now c.mlock.new.self c.args.m.now _ (mlock (get_or c.args.m.now.words i.b 0)) (λ done t. holding i.a (get_or c.args.m.now.words i.b 0) t) tt (get_or c.args.m.now.words i.b 0) c.in-Ok.ensures (λ choice memory. refl) (λ image choice beside pc. rw c.requires.instr.is refl) (λ beside pc. refl)
-    (rw (c.requires.instr.a_is, c.mem.ensures) refl) refl
+    on-past i c.args.kernel.now c.mlock.new.self c.args.m.now _ (slot-locked-into i c.args.kernel.now c.mlock.new.self c.args.m.now _ (mlock (get_or c.args.m.now.words i.b 0)) (λ done t. holding i.a (get_or c.args.m.now.words i.b 0) t) tt (get_or c.args.m.now.words i.b 0) c.in-Ok.ensures (λ choice memory. refl) (λ image choice beside pc. rw c.requires.instr.is refl) (λ beside pc. refl)
+    (rw (c.requires.instr.a_is, c.mem.ensures) refl) refl)
 
 pub returns-in-Err : goal.returns-in-Err
 returns-in-Err c =

@@ -2,7 +2,7 @@ use Rattle.std.proofs.Common.{refl}
 use Rattle.geos_model.specs.Names.{mem}
 use Rattle.geos_model.specs.Calls.{unlock}
 use Rattle.geos_verify.specs.declared.uses.Kind.TheVariants.{MemBlock}
-use Rattle.geos_machine.proofs.Works.{slot-unlocked, slot-locked}
+use Rattle.geos_machine.proofs.Works.{on-past, slot-unlocked, slot-locked}
 use Rattle.geos_machine.proofs.Safe.{unlocks-held}
 use Rattle.geos_machine.proofs.blocks.munlock.Goals as goal
 
@@ -14,5 +14,5 @@ munlock-requires c =
 pub returns : goal.returns
 returns c =
     let i = c.args.i.now in
-    slot-unlocked i c.args.kernel.now c.munlock.new.self c.args.m.now (mem 0) unlock (λ name choice memory. refl) (λ beside pc safe. unlocks-held i _ MemBlock (rw c.requires.instr.is refl) safe)
-    (λ image choice beside pc. rw c.requires.instr.is refl) (rw c.requires.instr.a_is at c.munlock.ensures)
+    on-past i c.args.kernel.now c.munlock.new.self c.args.m.now c.args.m.now (slot-unlocked i c.args.kernel.now c.munlock.new.self c.args.m.now (mem 0) unlock (λ name choice memory. refl) (λ beside pc safe. unlocks-held i _ MemBlock (rw c.requires.instr.is refl) safe)
+    (λ image choice beside pc. rw c.requires.instr.is refl) (rw c.requires.instr.a_is at c.munlock.ensures))

@@ -2,7 +2,7 @@ use Rattle.std.proofs.Common.{refl, get_or}
 use Rattle.geos_model.specs.Names.{mem}
 use Rattle.geos_model.specs.Calls.{deref}
 use Rattle.geos_verify.specs.Uses.{uses_of}
-use Rattle.geos_machine.proofs.Works.{slot-locked}
+use Rattle.geos_machine.proofs.Works.{slot-locked, on-past}
 use Rattle.geos_machine.proofs.Through.{pointer-set, pointer-refused}
 use Rattle.geos_machine.proofs.Safe.{looks-held}
 use Rattle.geos_image.specs.declared.opcode.Opcode.TheVariants.{Deref}
@@ -16,8 +16,8 @@ deref-requires c =
 pub returns-in-Ok : goal.returns-in-Ok
 returns-in-Ok c =
     let i = c.args.i.now in
-    pointer-set i c.args.kernel.now c.args.m.now _ (mem 0) (λ name. deref name (get_or c.args.m.now.words i.c 0) i.imm) (λ name choice memory. refl)
-    (λ beside pc safe. looks-held i _ (uses_of Deref) (rw c.requires.instr.is refl) (λ t. refl) safe) (λ image choice beside pc. rw c.requires.instr.is refl) c.in-Ok.span (rw c.requires.instr.a_is at c.in-Ok.ensures.gives) refl
+    on-past i c.args.kernel.now c.args.kernel.now c.args.m.now _ (pointer-set i c.args.kernel.now c.args.m.now _ (mem 0) (λ name. deref name (get_or c.args.m.now.words i.c 0) i.imm) (λ name choice memory. refl)
+    (λ beside pc safe. looks-held i _ (uses_of Deref) (rw c.requires.instr.is refl) (λ t. refl) safe) (λ image choice beside pc. rw c.requires.instr.is refl) c.in-Ok.span (rw c.requires.instr.a_is at c.in-Ok.ensures.gives) refl)
 
 pub returns-in-Err : goal.returns-in-Err
 returns-in-Err c =
