@@ -1,6 +1,6 @@
 //! Assembly texts: a text of each fault, and texts at their limits.
 
-use geos_asm::{BadLine, MOST_BYTES, ParseError, Why, parse};
+use geos_source::{BadLine, MOST_BYTES, ParseError, Why, parse};
 use geos_image::Opcode;
 use std::alloc::{AllocError, Global};
 use std::test::Fail;

@@ -1,0 +1,14 @@
+use Rattle.std.proofs.Common.{◌≡◌, ◌≤◌, ◌+◌, length}
+use Rattle.std.specs.Str.Lines.{lines}
+use Rattle.geos_source.specs.Readings.{names_of}
+use Rattle.geos_source.specs.Texts.{take_lines, blank}
+use Rattle.geos_source.specs.Views.{draft_in}
+use Rattle.geos_source.proofs.draft.draft_of.Given as goal
+
+abbrev pub invariant-loop-rest : goal.invariant-loop-rest
+invariant-loop-rest l =
+    (l.number + length l.rest ≤ length l.fn.text)
+    × (take_lines (names_of l.names) 1 (lines l.fn.text) blank ≡ take_lines (names_of l.names) (l.number + 1) (lines l.rest) (draft_in l.draft))
+
+abbrev pub decreases-loop-rest : goal.decreases-loop-rest
+decreases-loop-rest l = length l.rest

@@ -1,0 +1,10 @@
+use Rattle.std.proofs.Common.{ap}
+use Rattle.std.proofs.Math.Path.{fun_ext}
+use Rattle.std.specs.Prelude.{bytes_eq}
+use Rattle.std.specs.Map.{lookup}
+use Rattle.geos_source.specs.Tables.{table_of}
+use Rattle.geos_source.proofs.names.Table.new.Goals as goal
+
+pub returns : goal.returns
+unfolding table_of
+returns c = fun_ext (λ name. ap (lookup (bytes_eq name)) c.new.ensures.empty)

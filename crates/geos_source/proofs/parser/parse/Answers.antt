@@ -1,0 +1,11 @@
+use Rattle.geos_source.specs.Views.{declared_of, draft_in}
+use Rattle.geos_source.proofs.TextLaws.{code_of-found}
+use Rattle.geos_source.proofs.parser.parse.Goals as goal
+
+pub returns-clause-parsed : goal.returns-clause-parsed
+returns-clause-parsed c =
+    code_of-found c.args.text.now (declared_of c.in_ok-declarations.declarations) (draft_in c.in_ok-draft.draft) _ c.in_ok-declarations.ensures c.in_ok-draft.ensures c.in-None.ensures
+
+pub returns-in-Some-clause-bad : goal.returns-in-Some-clause-bad
+returns-in-Some-clause-bad c =
+    code_of-found c.args.text.now (declared_of c.in_ok-declarations.declarations) (draft_in c.in_ok-draft.draft) _ c.in_ok-declarations.ensures c.in_ok-draft.ensures c.in-Some.ensures

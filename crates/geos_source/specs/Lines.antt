@@ -1,0 +1,23 @@
+-- What a line says: its labels, and the words behind them.
+use Rattle.std.specs.Prelude.{ℕ, List, [], ◌∷◌, Option, Some, None}
+use Rattle.geos_text.specs.Words.{words, without_comment}
+use Rattle.geos_source.specs.Names.{label_of}
+
+-- the words of a line, without its comment
+abbrev pub said : List ℕ → List (List ℕ)
+said line = words (without_comment line)
+
+-- the names of the labels in front, and the words behind them
+pub record Line : Type 0 where
+  pub labels : List (List ℕ)
+  pub statement : List (List ℕ)
+
+-- a word in front of words that are parted: a label of theirs, or the first word of the statement
+abbrev pub behind_label : Option (List ℕ) → List ℕ → List (List ℕ) → Line → Line
+behind_label None word words rest = record { labels = []; statement = word ∷ words }
+behind_label (Some name) word words rest = record { labels = name ∷ rest.labels; statement = rest.statement }
+
+-- a line's words parted: labels as long as there are some, then the statement
+abbrev pub parted : List (List ℕ) → Line
+parted [] = record { labels = []; statement = [] }
+parted (word ∷ words) = behind_label (label_of word) word words (parted words)

@@ -1,0 +1,108 @@
+//! Names, labels, and what they stand for.
+
+ghost use Rattle.std.specs.Prelude.{◌≡◌, IfOk};
+ghost use Rattle.std.specs.List.{list_all};
+ghost use Rattle.geos_source.specs.Names.{is_name_byte, is_name, name_of, label_of, resolved, with_name, none_defined};
+
+use crate::fault::Why;
+use std::alloc::{AllocError, Global};
+use std::collections::HashMap;
+
+/// A name as an image has it: 1 to 16 letters, digits and underscores, the first a letter; then
+/// zeros.
+pub(crate) type Name = [u8; 16];
+
+fn is_name_byte(byte: u8) -> bool
+    ensures { result ≡ is_name_byte byte }
+{
+    byte.is_ascii_alphanumeric() || byte == b'_'
+}
+
+fn are_name_bytes(word: &[u8]) -> bool
+    ensures { result ≡ list_all is_name_byte word.now }
+{
+    word.iter().all(|byte| is_name_byte(*byte))
+}
+
+fn is_name(word: &[u8]) -> bool
+    ensures { result ≡ is_name word.now }
+{
+    match word.first() {
+        None => false,
+        Some(first) => word.len() <= 16 && first.is_ascii_alphabetic() && are_name_bytes(word),
+    }
+}
+
+/// The name that a word writes.
+#[tactic(auto, unfolding(crate::specs::Names::name_of))]
+pub(crate) fn name_of(word: &[u8]) -> Option<Name>
+    ensures { result ≡ name_of word.now }
+{
+    if !is_name(word) {
+        return None;
+    }
+    let mut name = [0; 16];
+    name[..word.len()].copy_from_slice(word);
+    Some(name)
+}
+
+/// The name of a label, which a `:` follows.
+#[tactic(auto, unfolding(crate::specs::Names::label_of))]
+pub(crate) fn label_of(word: &[u8]) -> Option<Name>
+    ensures { result ≡ label_of word.now }
+{
+    match word.split_last() {
+        Some((b':', front)) => name_of(front),
+        _ => None,
+    }
+}
+
+/// What names stand for.
+#[derive(Drop)]
+pub(crate) struct Table {
+    values: HashMap<Name, u16>,
+}
+
+impl Table {
+    ghost use Rattle.geos_source.specs.Tables.{table_of};
+
+    /// No name is defined.
+    pub(crate) fn new(alloc: Global) -> Table
+        ensures { table_of result ≡ none_defined }
+    {
+        Table {
+            values: HashMap::new(alloc),
+        }
+    }
+
+    pub(crate) fn get(&self, name: &Name) -> Option<u16>
+        ensures { result ≡ table_of self.now name.now }
+    {
+        self.values.get(name).copied()
+    }
+
+    /// Defines one more name; where it was defined before, answers what it stood for.
+    pub(crate) fn insert(&mut self, name: Name, value: u16) -> Result<Option<u16>, AllocError>
+        ensures old { IfOk result (λ old. old ≡ table_of self.old name) }
+        ensures new { IfOk result (λ _. table_of self.new ≡ with_name (table_of self.old) name value) }
+    {
+        match self.values.insert(name, value) {
+            Ok(old) => Ok(old),
+            Err(_) => Err(AllocError),
+        }
+    }
+
+    /// What the name that a word writes stands for. `WrongOperands` where the word is no name,
+    /// `Undefined` where the name is not defined.
+    pub(crate) fn resolve(&self, word: &[u8]) -> Result<u16, Why>
+        ensures { result ≡ resolved (table_of self.now) word.now }
+    {
+        match name_of(word) {
+            None => Err(Why::WrongOperands),
+            Some(name) => match self.get(&name) {
+                None => Err(Why::Undefined),
+                Some(value) => Ok(value),
+            },
+        }
+    }
+}

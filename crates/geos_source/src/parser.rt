@@ -1,0 +1,88 @@
+//! The parser.
+
+ghost use Rattle.std.specs.Prelude.{◌≡◌, Ok, IfOk, IfErr};
+ghost use Rattle.geos_source.specs.Faults.{first};
+ghost use Rattle.geos_source.specs.Texts.{too_long, without_routine, code_of};
+ghost use Rattle.geos_source.specs.declared.parser.ParseError.TheVariants.{Memory};
+ghost use Rattle.geos_source.specs.Parsing.{code_in, IsWhyNot};
+
+use crate::declarations::declare;
+use crate::draft::draft_of;
+use crate::fault::{BadLine, Why, first};
+use crate::progress::{Progress, TextRoutine};
+use geos_image::Instr;
+use std::alloc::{AllocError, Global};
+use thiserror::Error;
+
+/// The most bytes of a text.
+pub const MOST_BYTES: usize = 1_048_576;
+
+/// The code of a text.
+#[derive(Drop)]
+pub struct Parsed {
+    /// The routines, each with the line that begins it.
+    pub routines: Vec<TextRoutine>,
+    /// The instructions of all routines, one after another.
+    pub instrs: Vec<Instr>,
+}
+
+/// Why a text is not parsed.
+#[derive(Debug, Drop, Error)]
+pub enum ParseError {
+    /// The first faulty line.
+    #[error("{0}")]
+    BadLine(BadLine),
+    /// The allocator refused memory.
+    #[error("memory")]
+    Memory,
+}
+
+impl From<AllocError> for ParseError {
+    ghost from_gives = { λ _ e. e ≡ Memory };
+
+    fn from(_: AllocError) -> ParseError {
+        ParseError::Memory
+    }
+}
+
+fn too_long(text: &[u8]) -> Option<BadLine>
+    ensures { result ≡ too_long text.now }
+{
+    if text.len() > MOST_BYTES {
+        Some(BadLine {
+            line: 1,
+            why: Why::TooMany,
+        })
+    } else {
+        None
+    }
+}
+
+/// The first fault of a text, of which this is known.
+fn first_fault(text: &[u8], twice: Option<BadLine>, progress: Progress) -> Option<BadLine>
+    ensures { result ≡ first (first (too_long text.now) twice) (first progress.fault (without_routine progress.part)) }
+{
+    let declared = first(too_long(text), twice);
+    first(
+        declared,
+        first(progress.fault, progress.part.without_routine()),
+    )
+}
+
+/// The code of an assembly text: its routines, with their rows at entry and exit, and their
+/// instructions. `BadLine` exactly where the text has a fault, and names the first one: the
+/// least line, and there the least number. `Memory` may come at any text.
+pub fn parse(alloc: Global, text: &[u8]) -> Result<Parsed, ParseError>
+    ensures parsed { IfOk result (λ parsed. code_of text.now ≡ Ok (code_in parsed)) }
+    ensures bad { IfErr result (IsWhyNot text.now) }
+{
+    let declarations = declare(alloc, text)?;
+    let draft = draft_of(alloc, &declarations.names, text)?;
+    match first_fault(text, declarations.fault, draft.progress) {
+        Some(fault) => Err(ParseError::BadLine(fault)),
+        None => Ok(Parsed {
+            routines: draft.routines,
+            instrs: draft.code,
+        }),
+    }
+}
