@@ -8,5 +8,6 @@ pub mod Items
 pub mod Headers
 pub mod Declarations
 pub mod Texts
+pub mod Skeletons
 pub mod Views
 pub mod Parsing

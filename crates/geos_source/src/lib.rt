@@ -11,7 +11,9 @@ mod names;
 mod operands;
 mod parser;
 mod progress;
+mod skeletons;
 
 pub use fault::{BadLine, Why};
 pub use parser::{MOST_BYTES, ParseError, Parsed, parse};
 pub use progress::TextRoutine;
+pub use skeletons::skeleton;

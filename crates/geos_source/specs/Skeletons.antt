@@ -1,0 +1,20 @@
+-- The image of a code of which nothing is found yet.
+use Rattle.std.specs.Prelude.{[], ◌∷◌, map}
+use Rattle.geos_image.specs.declared.instr.Instr.{Instr}
+use Rattle.geos_image.specs.declared.routine.Routine.{Routine}
+use Rattle.geos_image.specs.Open.{open_row}
+use Rattle.geos_image.specs.Parts.{Point, Parts}
+use Rattle.geos_source.specs.declared.progress.TextRoutine.{TextRoutine}
+use Rattle.geos_source.specs.Texts.{Code}
+
+-- a routine of a text, without its line
+abbrev pub routine_of : TextRoutine → Routine
+routine_of r = r.routine
+
+-- an instruction where nothing is known and nothing is to be paid
+abbrev pub blank_point : Instr → Point
+blank_point i = (i, open_row, record { constant = 0; coefficients = 0 ∷ 0 ∷ 0 ∷ 0 ∷ [] })
+
+-- the code as an image, with such a point for each instruction
+abbrev pub skeleton : Code → Parts
+skeleton code = record { routines = map routine_of code.routines; points = map blank_point code.instrs }

@@ -1,0 +1,51 @@
+//! The image of a code of which nothing is found yet.
+
+ghost use Rattle.std.specs.Prelude.{◌≡◌, true, map, IfOk};
+ghost use Rattle.geos_image.specs.Legal.{is_image};
+ghost use Rattle.geos_source.specs.Parsing.{code_in};
+ghost use Rattle.geos_source.specs.Skeletons.{routine_of, blank_point, skeleton};
+
+use crate::parser::Parsed;
+use crate::progress::TextRoutine;
+use geos_image::{Image, Instr, Potential, Routine, Row};
+use std::alloc::{AllocError, Global};
+
+/// The routines without their lines.
+fn routines_of(alloc: Global, routines: &[TextRoutine]) -> Result<Vec<Routine>, AllocError>
+    ensures { IfOk result (λ made. made.items ≡ map routine_of routines.now) }
+{
+    let mut made = Vec::new(alloc);
+    for routine in routines {
+        made.push(routine.routine)?;
+    }
+    Ok(made)
+}
+
+/// A point for each instruction, with the open row and no potential.
+fn points_of(alloc: Global, instrs: &[Instr]) -> Result<Vec<(Instr, Row, Potential)>, AllocError>
+    ensures { IfOk result (λ points. points.items ≡ map blank_point instrs.now) }
+{
+    let mut points = Vec::new(alloc);
+    for instr in instrs {
+        let potential = Potential {
+            constant: 0,
+            coefficients: [0; 4],
+        };
+        points.push((*instr, Row::open(), potential))?;
+    }
+    Ok(points)
+}
+
+/// The image of the code of a text, with the open row and no potential at each instruction: what
+/// rows and potentials are to be found for. `AllocError` where the allocator refuses memory.
+pub fn skeleton(alloc: Global, parsed: &Parsed) -> Result<Image, AllocError>
+    requires { is_image (skeleton (code_in parsed.now)) ≡ true }
+    ensures { IfOk result (λ image. image ≡ skeleton (code_in parsed.now)) }
+{
+    let routines = routines_of(alloc, &parsed.routines)?;
+    let points = points_of(alloc, &parsed.instrs)?;
+    match Image::new(routines, points) {
+        Some(image) => Ok(image),
+        None => unreachable!(),
+    }
+}
