@@ -1,3 +1,10 @@
 pub mod Examples
 pub mod TextLaws
+pub mod ReadLaws
+pub mod NamesRead
+pub mod NumbersRead
+pub mod RowsRead
+pub mod HeadsRead
+pub mod OperandsRead
 pub mod SkeletonLaws
+pub mod Quiet
