@@ -8,3 +8,8 @@ pub mod HeadsRead
 pub mod OperandsRead
 pub mod SkeletonLaws
 pub mod Quiet
+pub mod Pushed
+pub mod Told
+pub mod ToldParts
+pub mod ToldLines
+pub mod Ended
