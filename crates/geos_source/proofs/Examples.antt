@@ -50,7 +50,8 @@ names_computed : Names
 unfolding label_of name_of
 names_computed = record { sixteen = refl; seventeen = refl; padded = refl; digit = refl; none = refl; colon = refl; label = refl }
 
--- wrong operands: too few, too many, of another form; then numbers past their range, and names
+-- wrong operands: too few or too many, whatever they are, or of another form; then numbers past
+-- their range, and names
 pub record Operands : Type 0 where
   pub few : behind_routine (codes "LDI w0") ≡ bad 2 WrongOperands
   pub many : behind_routine (codes "RET w0") ≡ bad 2 WrongOperands
@@ -63,10 +64,15 @@ pub record Operands : Type 0 where
   pub both : behind_routine (codes "CHK w0 65536 x") ≡ bad 2 OutOfRange
   pub callee : behind_routine (codes "CALL b") ≡ bad 2 Undefined
   pub sets : behind_routine (codes "a: CALL x\nx: RET") ≡ bad 2 Undefined
+  pub few_first : behind_routine (codes "CHK w0 65536") ≡ bad 2 WrongOperands
+  pub many_first : behind_routine (codes "LDI w0 65536 1") ≡ bad 2 WrongOperands
+  pub many_names : behind_routine (codes "CALL b b") ≡ bad 2 WrongOperands
+  pub huge : behind_routine (codes "LDI w0 340282366920938463463374607431768211456") ≡ bad 2 OutOfRange
+  pub zeros : behind_routine (codes "LDI w0 00000000000000000000000000000000000065535") ≡ None
 
 operands_computed : Operands
 unfolding with_line label_of name_of take_line header instruction constant register
-operands_computed = record { few = refl; many = refl; zero = refl; minus = refl; hexadecimal = refl; form = refl; lower = refl; shift = refl; both = refl; callee = refl; sets = refl }
+operands_computed = record { few = refl; many = refl; zero = refl; minus = refl; hexadecimal = refl; form = refl; lower = refl; shift = refl; both = refl; callee = refl; sets = refl; few_first = refl; many_first = refl; many_names = refl; huge = refl; zeros = refl }
 
 -- lines out of place: rows behind an instruction or twice, labels that no instruction follows,
 -- instructions before any routine
@@ -80,10 +86,11 @@ pub record Places : Type 0 where
   pub label_end : behind_routine (codes "RET\nx:\n;") ≡ bad 3 OutOfPlace
   pub outer : fault_of (codes "RET\nroutine a budget 1\nRET") ≡ bad 1 OutOfPlace
   pub outer_lower : fault_of (codes "JMP x\nroutine a budget 1\nRET") ≡ bad 1 Undefined
+  pub comments : fault_of (codes "; a\n\n ; b") ≡ bad 1 OutOfPlace
 
 places_computed : Places
 unfolding with_line label_of name_of take_line header instruction constant register row_of item
-places_computed = record { second_in = refl; rows = refl; late_in = refl; outer_in = refl; label_in = refl; label_routine = refl; label_end = refl; outer = refl; outer_lower = refl }
+places_computed = record { second_in = refl; rows = refl; late_in = refl; outer_in = refl; label_in = refl; label_routine = refl; label_end = refl; outer = refl; outer_lower = refl; comments = refl }
 
 -- items of rows, in either order of a pair
 pub record Items : Type 0 where
@@ -111,10 +118,15 @@ pub record Said : Type 0 where
   pub ahead : behind_routine (codes "JMP x\nroutine b budget 1\nx: RET") ≡ None
   pub callee : behind_routine (codes "CALL b\nroutine b budget 1\nRET") ≡ None
   pub faulty : behind_routine (codes "x: FOO\nJMP x") ≡ bad 2 UnknownWord
+  pub defined : behind_routine (codes "JMP x\nx: FOO") ≡ bad 3 UnknownWord
+  pub colon : behind_routine (codes ": RET") ≡ bad 2 UnknownWord
+  pub small : behind_routine (codes "ret") ≡ bad 2 UnknownWord
+  pub return : behind_routine (codes "RET\rRET") ≡ bad 2 UnknownWord
+  pub last_return : behind_routine (codes "RET\r") ≡ bad 2 UnknownWord
 
 said_computed : Said
 unfolding with_line label_of name_of take_line header instruction constant register
-said_computed = record { ends = refl; comment = refl; other = refl; digit = refl; joined = refl; labels = refl; ahead = refl; callee = refl; faulty = refl }
+said_computed = record { ends = refl; comment = refl; other = refl; digit = refl; joined = refl; labels = refl; ahead = refl; callee = refl; faulty = refl; defined = refl; colon = refl; small = refl; return = refl; last_return = refl }
 
 -- lines that begin routines
 pub record Headers : Type 0 where
@@ -125,10 +137,31 @@ pub record Headers : Type 0 where
   pub large : fault_of (codes "routine a budget 4294967296\nRET") ≡ bad 1 OutOfRange
   pub twice : behind_routine (codes "RET\nroutine a budget 1\nRET") ≡ bad 3 UsedTwice
   pub named : fault_of (codes "routine a budget x\nCALL a\nroutine b budget y\nRET") ≡ bad 1 WrongOperands
+  pub gives_name : behind_routine (codes "CALL b\nroutine b budget x\nRET") ≡ bad 3 WrongOperands
+  pub begins : behind_routine (codes "routine 9 budget 1\nRET") ≡ bad 1 OutOfPlace
+  pub zero : fault_of (codes "routine a budget 0\nRET") ≡ None
 
 headers_computed : Headers
 unfolding with_line label_of name_of take_line header instruction constant register
-headers_computed = record { name = refl; few = refl; order = refl; most = refl; large = refl; twice = refl; named = refl }
+headers_computed = record { name = refl; few = refl; order = refl; most = refl; large = refl; twice = refl; named = refl; gives_name = refl; begins = refl; zero = refl }
+
+-- names that are used twice, by labels of the whole text or by routines: these are two sets of
+-- names, and the case of letters counts
+pub record Twice : Type 0 where
+  pub line : behind_routine (codes "x: x: RET") ≡ bad 2 UsedTwice
+  pub apart : behind_routine (codes "x:\nx:\nRET") ≡ bad 3 UsedTwice
+  pub elsewhere : behind_routine (codes "x: RET\nroutine b budget 1\nx: RET") ≡ bad 4 UsedTwice
+  pub first : behind_routine (codes "x: y: RET\ny: RET\nx: RET") ≡ bad 3 UsedTwice
+  pub routine : fault_of (codes "routine a budget 1\nRET\nroutine b budget 1\nRET\nroutine b public budget 2\nRET") ≡ bad 5 UsedTwice
+  pub lower : behind_routine (codes "x: RET\nx: JMP y") ≡ bad 3 Undefined
+  pub higher : behind_routine (codes "x: RET\nx: in") ≡ bad 3 UsedTwice
+  pub faulty : behind_routine (codes "RET\nroutine a budget") ≡ bad 3 WrongOperands
+  pub sets : behind_routine (codes "a: JMP a") ≡ None
+  pub case : behind_routine (codes "x: RET\nX: RET\nxx: RET") ≡ None
+
+twice_computed : Twice
+unfolding with_line label_of name_of take_line header instruction constant register row_of
+twice_computed = record { line = refl; apart = refl; elsewhere = refl; first = refl; routine = refl; lower = refl; higher = refl; faulty = refl; sets = refl; case = refl }
 
 -- a routine of five instructions, with a row at its entry
 add_computed : code_of (codes "routine add public budget 5\nin w0<=9 w0<=3\nLDI w0 2\nLDI w1 3\nADD w0 w0 w1\nOUT w0 end\nend: RET\n")
