@@ -1,0 +1,51 @@
+-- What an assembler answers.
+use Rattle.std.specs.Prelude.{◌≡◌, ℕ, List, map, Some, Ok, Err, slice_get}
+use Rattle.geos_image.specs.Parts.{Parts}
+use Rattle.geos_source.specs.declared.parser.ParseError.{ParseError}
+use Rattle.geos_source.specs.declared.parser.ParseError.TheVariants as parse_error
+use Rattle.geos_source.specs.declared.progress.TextRoutine.{TextRoutine}
+use Rattle.geos_source.specs.Texts.{Code, code_of}
+use Rattle.geos_source.specs.Skeletons.{routine_of, skeleton}
+use Rattle.geos_infer.specs.Code.{instrs_of}
+use Rattle.geos_infer.specs.Theorem.{FindsWhatThereIs, NoneIsAccepted}
+use Rattle.geos_asm.specs.declared.error.AssembleError.{AssembleError}
+use Rattle.geos_asm.specs.declared.error.AssembleError.TheVariants.{BadLine, NoRows, Memory}
+
+-- a parser's fault as the assembler's
+abbrev pub of_parse : ParseError → AssembleError
+of_parse (parse_error.BadLine fault) = BadLine fault
+of_parse parse_error.Memory = Memory
+
+-- the image has exactly this code
+pub record HasCode (code : Code) (image : Parts) : Type 0 where
+  pub routines : image.routines ≡ map routine_of code.routines
+  pub instrs : instrs_of image ≡ code.instrs
+
+-- a routine of the code begins at the line
+pub record BeginsAt (code : Code) (line : ℕ) : Type 0 where
+  pub r : ℕ
+  pub routine : TextRoutine
+  pub there : slice_get code.routines r ≡ Some routine
+  pub line_is : routine.line ≡ line
+
+-- the text has no fault; the image has its code, and is accepted if that code has no loops and
+-- some image with it is
+pub record IsAssembled (text : List ℕ) (image : Parts) : Type 0 where
+  pub code : Code
+  pub read : code_of text ≡ Ok code
+  pub has : HasCode code image
+  pub found : FindsWhatThereIs (skeleton code) image
+
+-- the text has no fault, and a routine of it begins at the line; if its code has no loops, no
+-- image with that code is accepted
+pub record HasNoRows (text : List ℕ) (line : ℕ) : Type 0 where
+  pub code : Code
+  pub read : code_of text ≡ Ok code
+  pub begins : BeginsAt code line
+  pub none : NoneIsAccepted (skeleton code)
+
+-- why there is no image: the text's first fault, no rows, or want of memory
+abbrev pub IsWhyNoImage : List ℕ → AssembleError → Type 0
+IsWhyNoImage text (BadLine fault) = code_of text ≡ Err fault
+IsWhyNoImage text (NoRows line) = HasNoRows text line
+IsWhyNoImage text Memory = Unit {0}

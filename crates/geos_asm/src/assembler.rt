@@ -1,0 +1,34 @@
+//! The image of a text.
+
+ghost use Rattle.std.specs.Prelude.{IfOk, IfErr};
+ghost use Rattle.geos_asm.specs.Assembling.{IsAssembled, IsWhyNoImage};
+
+use crate::error::AssembleError;
+use geos_image::Image;
+use geos_infer::{InferError, infer};
+use geos_source::{parse, skeleton};
+use std::alloc::Global;
+
+/// The image of an assembly text: its routines and instructions, with rows and potentials that
+/// are found for them.
+///
+/// `BadLine` exactly where the text has a fault, and names the first one. `NoRows` only for a
+/// text without fault. Where no edge leads back, and each instruction but a routine's first has
+/// an edge into it, the verifier accepts the image if it accepts any with the text's code; it may
+/// refuse the image that is answered, and `geos_verify::check` says where. `Memory` may come at
+/// any text.
+pub fn assemble(alloc: Global, text: &[u8]) -> Result<Image, AssembleError>
+    ensures image { IfOk result (IsAssembled text.now) }
+    ensures fault { IfErr result (IsWhyNoImage text.now) }
+{
+    let parsed = parse(alloc, text)?;
+    let blank = skeleton(alloc, &parsed)?;
+    match infer(alloc, &blank) {
+        Ok(image) => Ok(image),
+        Err(InferError::NoRows(r)) => {
+            let routine = &parsed.routines[usize::from(r)];
+            Err(AssembleError::NoRows(routine.line))
+        }
+        Err(InferError::Memory) => Err(AssembleError::Memory),
+    }
+}

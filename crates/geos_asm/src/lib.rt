@@ -1,0 +1,12 @@
+//! The assembler: the image of an assembly text, and the text of an image.
+//!
+//! docs/FORMATS.md has the form of texts, docs/VERIFIER.md how rows and potentials are found.
+#![tactic(auto)]
+
+mod assembler;
+mod error;
+
+pub use assembler::assemble;
+pub use error::AssembleError;
+pub use geos_listing::list;
+pub use geos_source::{BadLine, Why};
