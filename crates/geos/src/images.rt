@@ -1,14 +1,15 @@
-//! The commands on an image in a file.
+//! The commands on texts and images in files.
 
 use crate::fail;
+use crate::replace::replace;
 use anyhow::Result;
-use geos_commands::{check_bytes, list_bytes};
+use geos_commands::{assemble_bytes, check_bytes, list_bytes};
 use std::io::{ErrorKind, Read, Write};
 use std::process::ExitCode;
 use std::{fs, io};
 use thiserror::Error;
 
-/// The most bytes that are read of a file: one more than a file of any kind may have.
+/// The most bytes that are read of a file: one more than a text may have, and more than any image has.
 const MOST_READ: u64 = 1_048_577;
 
 /// Why a file was not read, or a text not written.
@@ -16,8 +17,8 @@ const MOST_READ: u64 = 1_048_577;
 enum StreamFault<'a> {
     #[error("cannot read {0}")]
     Read(&'a str),
-    #[error("cannot write -")]
-    Write,
+    #[error("cannot write {0}")]
+    Write(&'a str),
     #[error("memory")]
     Memory,
 }
@@ -41,7 +42,24 @@ fn print(rt: &HostRuntime, text: &[u8]) -> Result<ExitCode> {
     if out.write_all(text).is_ok() && out.flush().is_ok() {
         Ok(ExitCode::SUCCESS)
     } else {
-        fail(rt, StreamFault::Write)
+        fail(rt, StreamFault::Write("-"))
+    }
+}
+
+/// Makes the image of the text in one file, and puts it into another.
+pub(crate) fn assemble(rt: &HostRuntime, text: &str, image: &str) -> Result<ExitCode> {
+    let bytes = match bytes_of(rt, text) {
+        Ok(bytes) => bytes,
+        Err(fault) => return fail(rt, fault),
+    };
+    let bytes = match assemble_bytes(rt.alloc(), &bytes) {
+        Ok(bytes) => bytes,
+        Err(fault) => return fail(rt, fault),
+    };
+    match replace(rt, image, &bytes) {
+        Ok(()) => Ok(ExitCode::SUCCESS),
+        Err(error) if error.kind() == ErrorKind::OutOfMemory => fail(rt, StreamFault::Memory),
+        Err(_) => fail(rt, StreamFault::Write(image)),
     }
 }
 

@@ -2,6 +2,7 @@
 #![tactic(auto)]
 
 mod images;
+mod replace;
 
 use anyhow::Result;
 use clap::{Arg, ArgMatches, Command};
@@ -14,9 +15,10 @@ use std::{env, io};
 
 const ABOUT: &str =
     "Runs a session: checks an image of routines, then calls them as a script says. \
-     Or prints what there is to say of an image in a file.";
+     Or makes an image of a text, or says what there is to say of an image in a file.";
 
-const USAGES: &str = "geos < SESSION\n       geos list IMAGE\n       geos check IMAGE";
+const USAGES: &str =
+    "geos < SESSION\n       geos asm IN OUT\n       geos list IMAGE\n       geos check IMAGE";
 
 const SESSION: &str = "\
 A session is read from standard input, at most 1,048,576 bytes of it. It is
@@ -32,7 +34,14 @@ Example:
   ./geos < examples/add.session     prints 5
 examples/README.md has the routines of that folder in words.
 
-An IMAGE is a file of an image's bytes.
+IN is a file of assembly text, OUT and IMAGE are files of an image's bytes. docs/FORMATS.md has the
+form of texts, docs/INSTRUCTIONS.md the instructions. A text to begin with:
+  routine add public budget 5
+          LDI w0 2
+          LDI w1 3
+          ADD w0 w0 w1
+          OUT w0 end
+  end:    RET
 
 Status: 0 where all was done; 1 after a fault, which one line on standard error names; 2 where the
 words on the command line are none of these. docs/FORMATS.md has the faults, and the digits of an image.";
@@ -52,16 +61,34 @@ fn image_command<'a>(
     Command::new(alloc, name).about(about).arg(image)
 }
 
+/// The command that assembles.
+fn asm_command<'a>(alloc: Global) -> Result<Command<'a>, AllocError> {
+    let text = Arg::new(alloc, "IN")
+        .help("A file of assembly text, at most 1,048,576 bytes")
+        .required(true);
+    let image = Arg::new(alloc, "OUT")
+        .help(
+            "The file that the image goes to; if there is one, it is replaced, on a fault it is left as it was",
+        )
+        .required(true);
+    Command::new(alloc, "asm")
+        .about("Makes the image of a text")
+        .arg(text)?
+        .arg(image)
+}
+
 fn command<'a>(alloc: Global) -> Result<Command<'a>, AllocError> {
     let list = image_command(alloc, "list", "Prints the image as text")?;
     let check = image_command(alloc, "check", "Prints `accepted` where the image may run")?;
     Command::new(alloc, "geos")
         .no_binary_name(true)
         .version("0.1.0")
+        .bin_name("geos")?
         .about(ABOUT)
         .override_usage(USAGES)
         .after_help(SESSION)
         .disable_help_subcommand(true)
+        .subcommand(asm_command(alloc)?)?
         .subcommand(list)?
         .subcommand(check)
 }
@@ -69,6 +96,12 @@ fn command<'a>(alloc: Global) -> Result<Command<'a>, AllocError> {
 /// The file that a command names, where that command was given.
 fn image_of<'a>(matches: &ArgMatches<'a>, command: &str) -> Option<&'a str> {
     matches.subcommand_matches(command)?.get_str("IMAGE")
+}
+
+/// The files that `asm` names, where that command was given.
+fn files_of<'a>(matches: &ArgMatches<'a>) -> Option<(&'a str, &'a str)> {
+    let files = matches.subcommand_matches("asm")?;
+    Some((files.get_str("IN")?, files.get_str("OUT")?))
 }
 
 /// Runs a session on the standard streams, and gives the program's status.
@@ -97,6 +130,9 @@ fn words(rt: &HostRuntime) -> io::Result<Vec<String>> {
 
 /// Carries out the command, or runs a session where there is none.
 fn carry_out(rt: &HostRuntime, matches: &ArgMatches<'_>) -> Result<ExitCode> {
+    if let Some((text, image)) = files_of(matches) {
+        return images::assemble(rt, text, image);
+    }
     if let Some(path) = image_of(matches, "list") {
         return images::list(rt, path);
     }
@@ -120,9 +156,9 @@ fn main(rt: HostRuntime) -> Result<ExitCode> {
     };
     match command.try_get_matches_from(words.as_slice()) {
         Ok(matches) => carry_out(&rt, &matches),
-        Err(answer) => match answer.print(&rt) {
-            Ok(()) => Ok(ExitCode::from(answer.exit_code() as u8)),
-            Err(_) => fail(&rt, ScriptFault::Write),
-        },
+        Err(answer) if answer.print(&rt).is_ok() || answer.use_stderr() => {
+            Ok(ExitCode::from(answer.exit_code() as u8))
+        }
+        Err(_) => fail(&rt, ScriptFault::Write),
     }
 }

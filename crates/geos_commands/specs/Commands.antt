@@ -1,4 +1,4 @@
--- What the commands on the bytes of an image answer.
+-- What the commands on the bytes of texts and images answer.
 use Rattle.std.specs.Prelude.{◌≡◌, ℕ, List, Ok, Err}
 use Rattle.geos_image.specs.declared.error.ReadError.{ReadError}
 use Rattle.geos_image.specs.declared.error.ReadError.TheVariants as read
@@ -6,8 +6,13 @@ use Rattle.geos_image.specs.Parts.{Parts}
 use Rattle.geos_image.specs.Reading.{image_at}
 use Rattle.geos_verify.specs.Rules.{Accepted, FirstRefusal}
 use Rattle.geos_listing.specs.Listing.{listing}
+use Rattle.geos_asm.specs.Assembling.{IsAssembled}
 use Rattle.geos_commands.specs.declared.fault.CheckFault.{CheckFault}
 use Rattle.geos_commands.specs.declared.fault.CheckFault.TheVariants.{BadImage, Rejected, Memory}
+
+-- the bytes spell an image that is one of the text
+abbrev pub IsAssembledAs : List ℕ → List ℕ → Type 0
+IsAssembledAs text bytes = (image : Parts) × (image_at bytes ≡ Ok image) × IsAssembled text image
 
 -- the bytes spell an image, and the text is its listing
 abbrev pub IsListed : List ℕ → List ℕ → Type 0

@@ -1,14 +1,24 @@
 //! The commands.
 
 ghost use Rattle.std.specs.Prelude.{IfOk, IfErr};
+ghost use Rattle.geos_asm.specs.Assembling.{IsWhyNoImage};
 ghost use Rattle.geos_image.specs.Reading.{image_at, Fails};
-ghost use Rattle.geos_commands.specs.Commands.{IsListed, IsAccepted, IsDue};
+ghost use Rattle.geos_commands.specs.Commands.{IsAssembledAs, IsListed, IsAccepted, IsDue};
 
 use crate::fault::CheckFault;
+use geos_asm::{AssembleError, assemble, list};
 use geos_image::ReadError;
-use geos_listing::list;
 use geos_verify::check;
 use std::alloc::Global;
+
+/// The bytes of the image of an assembly text. Its faults are those of `geos_asm::assemble`.
+pub fn assemble_bytes(alloc: Global, text: &[u8]) -> Result<Vec<u8>, AssembleError>
+    ensures assembled { IfOk result (λ bytes. IsAssembledAs text.now bytes.items) }
+    ensures fault { IfErr result (IsWhyNoImage text.now) }
+{
+    let image = assemble(alloc, text)?;
+    Ok(geos_image::write(alloc, &image)?)
+}
 
 /// The listing of the image that the bytes spell. `ReadError::BadImage` where they spell none.
 pub fn list_bytes(alloc: Global, bytes: &[u8]) -> Result<Vec<u8>, ReadError>
