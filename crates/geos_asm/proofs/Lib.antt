@@ -1,1 +1,11 @@
 pub mod Assembled
+pub mod Spaced
+pub mod NumbersAgain
+pub mod NamesAgain
+pub mod OperandsAgain
+pub mod InstrLines
+pub mod HeadsAgain
+pub mod ItemsAgain
+pub mod RowsAgain
+pub mod TextLines
+pub mod RowLines
