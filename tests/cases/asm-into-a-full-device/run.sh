@@ -1,0 +1,1 @@
+"$1" asm "$(dirname "$0")/../../../examples/add.asm" /dev/full

@@ -1,0 +1,2 @@
+cd "$(dirname "$0")"
+"$1" asm ../../../examples/add.asm no-such-folder/image

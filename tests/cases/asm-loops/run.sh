@@ -1,0 +1,1 @@
+sh "$(dirname "$0")/../../least_budgets.sh" "$1" "$(dirname "$0")"

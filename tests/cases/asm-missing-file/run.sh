@@ -1,0 +1,2 @@
+cd /
+"$1" asm no-such-file no-such-folder/image

@@ -1,0 +1,21 @@
+routine tries public budget 40
+        MNEW s0 w0 e
+        LDI w1 600
+again:
+        LALLOC s0 w2 w1 x
+        JMP u
+x:
+        JMP again
+u:
+        MUNLOCK s0
+e:
+        RET
+
+routine fill public budget 40
+        MNEW s0 w0 f
+        LDI w1 65000
+        LALLOC s0 w2 w1 v
+v:
+        MUNLOCK s0
+f:
+        RET

@@ -1,0 +1,1 @@
+"$1" asm "$(dirname "$0")/../../../examples/rejected.asm" /dev/null

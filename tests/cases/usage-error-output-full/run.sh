@@ -1,0 +1,1 @@
+"$1" no-such-command 2>/dev/full
