@@ -42,6 +42,10 @@ operand_text routines Label n = codes " " ++ label_of n
 abbrev pub operands_text : List routine.Routine → Instr → List ℕ
 operands_text routines i = flat_map (λ field. operand_text routines (operand_at i.opcode field) (value_at i field)) fields
 
+-- an instruction, indented: its word and its operands
+abbrev pub instr_code : List routine.Routine → Instr → List ℕ
+instr_code routines i = codes "    " ++ word_of i.opcode ++ operands_text routines i
+
 -- the line of an instruction: its word and its operands; it is indented
 abbrev pub instr_line : List routine.Routine → Instr → List ℕ
 instr_line routines i = codes "    " ++ word_of i.opcode ++ operands_text routines i ++ codes "\n"

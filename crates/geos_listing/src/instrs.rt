@@ -2,7 +2,7 @@
 
 ghost use Rattle.std.specs.Prelude.{◌≡◌, ◌<◌, ◌++◌, OnOk, length, codes, decimal};
 ghost use Rattle.geos_image.specs.Opcodes.{limit};
-ghost use Rattle.geos_listing.specs.Instrs.{KeepsLimits, operand_text, operands_text, instr_line};
+ghost use Rattle.geos_listing.specs.Instrs.{KeepsLimits, operand_text, operands_text, instr_code, instr_line};
 
 use crate::numbers::put_number;
 use geos_image::{Image, Instr, Operand};
@@ -54,13 +54,21 @@ fn put_operands(out: &mut Vec<u8>, image: &Image, instr: &Instr) -> Result<(), A
     Ok(())
 }
 
+/// Appends the instruction, indented, without the end of its line.
+pub fn put_code(out: &mut Vec<u8>, image: &Image, instr: &Instr) -> Result<(), AllocError>
+    requires { KeepsLimits image.now instr.now }
+    ensures { OnOk result (out.new.items ≡ out.old.items ++ instr_code image.now.routines instr.now) }
+{
+    out.extend_from_slice(b"    ")?;
+    out.extend_from_slice(word_of(instr.opcode).as_bytes())?;
+    put_operands(out, image, instr)
+}
+
 /// The line of the instruction.
 pub(crate) fn put_instr(out: &mut Vec<u8>, image: &Image, instr: &Instr) -> Result<(), AllocError>
     requires { KeepsLimits image.now instr.now }
     ensures { OnOk result (out.new.items ≡ out.old.items ++ instr_line image.now.routines instr.now) }
 {
-    out.extend_from_slice(b"    ")?;
-    out.extend_from_slice(word_of(instr.opcode).as_bytes())?;
-    put_operands(out, image, instr)?;
+    put_code(out, image, instr)?;
     out.extend_from_slice(b"\n")
 }

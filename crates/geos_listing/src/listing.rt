@@ -15,8 +15,8 @@ use crate::targets::{Targets, targets_of};
 use geos_image::{Image, Routine};
 use std::alloc::{AllocError, Global};
 
-/// The line of a label, where one names the pc.
-fn put_label_line(
+/// Appends the line of a label, where one names the pc.
+pub fn put_label_line(
     out: &mut Vec<u8>,
     image: &Image,
     targets: &Targets,
@@ -74,8 +74,8 @@ fn put_public(out: &mut Vec<u8>, public: bool) -> Result<(), AllocError>
     }
 }
 
-/// The routine's name, whether it is public, and its budget.
-fn put_routine_line(out: &mut Vec<u8>, routine: &Routine) -> Result<(), AllocError>
+/// Appends the line with the routine's name, whether it is public, and its budget.
+pub fn put_routine_line(out: &mut Vec<u8>, routine: &Routine) -> Result<(), AllocError>
     ensures { OnOk result (out.new.items ≡ out.old.items ++ routine_line routine.now) }
 {
     out.extend_from_slice(b"routine ")?;

@@ -119,9 +119,9 @@ fn put_pairs(out: &mut Vec<u8>, pairs: &[bool; 6]) -> Result<(), AllocError>
     Ok(())
 }
 
-/// The items in which the row differs from the open row.
+/// Appends the items in which the row differs from the open row, a blank in front of each.
 #[tactic(auto, unfolding(crate::specs::Rows::row_items))]
-fn put_items(out: &mut Vec<u8>, row: &Row) -> Result<(), AllocError>
+pub fn put_items(out: &mut Vec<u8>, row: &Row) -> Result<(), AllocError>
     ensures { OnOk result (out.new.items ≡ out.old.items ++ row_items row.now) }
 {
     put_bounds(out, &row.bounds)?;
@@ -130,13 +130,8 @@ fn put_items(out: &mut Vec<u8>, row: &Row) -> Result<(), AllocError>
     put_pairs(out, &row.pairs)
 }
 
-/// The line of a row, which begins with the word; none for the open row.
-pub(crate) fn put_row(
-    alloc: Global,
-    out: &mut Vec<u8>,
-    word: &str,
-    row: &Row,
-) -> Result<(), AllocError>
+/// Appends the line of the row, which begins with the word; none for the open row.
+pub fn put_row(alloc: Global, out: &mut Vec<u8>, word: &str, row: &Row) -> Result<(), AllocError>
     ensures { OnOk result (out.new.items ≡ out.old.items ++ row_line word.now row.now) }
 {
     let mut items = Vec::new(alloc);

@@ -7,7 +7,7 @@ use geos_image::{Image, Instr, Operand};
 use geos_spelling::{Field, operand_at};
 
 /// For each pc of an image, of which there are at most so many, whether a label names it.
-pub(crate) type Targets = [bool; 4096];
+pub type Targets = [bool; 4096];
 
 /// Where the instruction may lead besides the next one.
 fn target_of(instr: &Instr) -> Option<u16>
@@ -27,7 +27,7 @@ fn target_of(instr: &Instr) -> Option<u16>
 }
 
 /// The pcs to which some instruction may lead by its label.
-pub(crate) fn targets_of(image: &Image) -> Targets
+pub fn targets_of(image: &Image) -> Targets
     ensures { MarksTargets image.now.points result }
 {
     let mut targets = [false; 4096];
