@@ -1,0 +1,29 @@
+-- What is said of the point at a pc, and of one point after another.
+use Rattle.std.proofs.Common.{◌≡◌, ◌<◌, ℕ, suc, ◌+◌, List, [], ◌++◌, length, slice_get, refl, ap, ◌∙◌, append_assoc, arith}
+use Rattle.std.specs.Prelude.{IfSome}
+use Rattle.std.specs.Option.{option_map_or}
+use Rattle.geos_image.specs.declared.instr.Instr.{Instr}
+use Rattle.geos_image.specs.declared.row.Row.{Row}
+use Rattle.geos_image.specs.declared.potential.Potential.{Potential}
+use Rattle.geos_image.specs.Parts.{Point}
+use Rattle.geos_listing.specs.Rows.{texts_below}
+use Rattle.geos_listing.proofs.Limits.{item_at}
+
+-- its instruction, its row and its potential
+pub point-at : (f : Instr → Row → Potential → List ℕ) (points : List Point) (pc : ℕ) (i : Instr) (row : Row) (p : Potential) → pc < length points
+    → IfSome (slice_get points pc) (λ point. i ≡ point.0) → IfSome (slice_get points pc) (λ point. row ≡ point.1) → IfSome (slice_get points pc) (λ point. p ≡ point.2)
+    → option_map_or (λ point. f point.0 point.1 point.2) (slice_get points pc) [] ≡ f i row p
+point-at f points pc i row p lt is_i is_row is_p =
+    let at = item_at points pc lt in
+    let same_i : i ≡ at.0.0 = rw at.1 at is_i in
+    let same_row : row ≡ at.0.1 = rw at.1 at is_row in
+    let same_p : p ≡ at.0.2 = rw at.1 at is_p in
+    rw (at.1, same_i, same_row, same_p) refl
+
+-- one more text was written
+pub texts_below-step : (start middle after : List ℕ) (text : ℕ → List ℕ) (k : ℕ) → middle ≡ start ++ texts_below k text → after ≡ middle ++ text k
+    → after ≡ start ++ texts_below (k + 1) text
+unfolding texts_below
+texts_below-step start middle after text k so_far written =
+    let next : suc k ≡ k + 1 = omega arith in
+    written ∙ ap (λ bytes. bytes ++ text k) so_far ∙ append_assoc start (texts_below k text) (text k) ∙ ap (λ n. start ++ texts_below n text) next

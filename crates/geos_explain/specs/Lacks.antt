@@ -1,0 +1,49 @@
+-- What a row lacks to fit another.
+use Rattle.std.specs.Prelude.{ℕ, Bool, ◌&&◌, not, nat_le, if◌then◌else◌, List, [], ◌∷◌, ◌++◌, Option, None, slice_index_or, codes, decimal}
+use Rattle.geos_image.specs.declared.row.Row.{Row}
+use Rattle.geos_image.specs.declared.row.Pointer.{Pointer}
+use Rattle.geos_image.specs.declared.row.SlotState.{SlotState}
+use Rattle.geos_image.specs.declared.row.SlotState.TheVariants.{Empty}
+use Rattle.geos_listing.specs.Rows.{texts_below, row_items}
+use Rattle.geos_verify.specs.Rows.{slot_fits, pointer_fits, pair_fits, is_empty}
+
+-- the operation at each place of two lists
+abbrev pub zip2 : {X : Type 0} → (X → X → X) → List X → List X → List X
+zip2 f [] ys = []
+zip2 f (x ∷ xs) [] = []
+zip2 f (x ∷ xs) (y ∷ ys) = f x y ∷ zip2 f xs ys
+
+-- a bound that is wanted and not kept, else any word's
+abbrev pub lacking_bound : ℕ → ℕ → ℕ
+lacking_bound known wanted = if nat_le known wanted then 65535 else wanted
+
+-- a state of a slot that is wanted and not met, else that of the open row
+abbrev pub lacking_slot : SlotState → SlotState → SlotState
+lacking_slot known wanted = if slot_fits known wanted then Empty else wanted
+
+-- a pointer that is wanted and not known, else none
+abbrev pub lacking_pointer : Option Pointer → Option Pointer → Option Pointer
+lacking_pointer known wanted = if pointer_fits known wanted then None else wanted
+
+-- a pair that is wanted and not known
+abbrev pub lacking_pair : Bool → Bool → Bool
+lacking_pair known wanted = not (pair_fits known wanted)
+
+-- of a row that is wanted, what a row that is known does not meet; else the open row
+abbrev pub lacking : Row → Row → Row
+lacking known wanted = record {
+  bounds = zip2 lacking_bound known.bounds wanted.bounds;
+  slots = zip2 lacking_slot known.slots wanted.slots;
+  pointers = zip2 lacking_pointer known.pointers wanted.pointers;
+  pairs = zip2 lacking_pair known.pairs wanted.pairs;
+}
+
+-- a slot that is wanted empty and is held
+abbrev pub held_item : ℕ → SlotState → SlotState → List ℕ
+held_item i known wanted = if is_empty wanted && not (is_empty known) then codes " s" ++ decimal i ++ codes "=empty" else []
+
+-- the items of a row that is wanted which a row that is known does not meet; none where it fits
+unfoldable pub lacking_items : Row → Row → List ℕ
+lacking_items known wanted =
+    row_items (lacking known wanted)
+    ++ texts_below 4 (λ i. held_item i (slice_index_or known.slots i Empty) (slice_index_or wanted.slots i Empty))

@@ -1,0 +1,21 @@
+-- What stands behind an instruction: what its row knows, and its potential.
+use Rattle.std.specs.Prelude.{ℕ, ◌==◌, if◌then◌else◌, List, [], ◌++◌, length, slice_index, codes, decimal}
+use Rattle.geos_image.specs.declared.row.Row.{Row}
+use Rattle.geos_image.specs.declared.potential.Potential.{Potential}
+use Rattle.geos_listing.specs.Rows.{texts_below, row_items}
+
+-- the items of a row and a comma; nothing for the open row
+unfoldable pub known_text : Row → List ℕ
+known_text row = if length (row_items row) == 0 then [] else row_items row ++ codes ","
+
+-- so many steps for each that is on a counter, unless there are none
+abbrev pub coefficient_text : ℕ → ℕ → List ℕ
+coefficient_text k n = if n == 0 then [] else codes " + " ++ decimal n ++ codes " k" ++ decimal k
+
+-- the steps that a potential stands for
+unfoldable pub potential_text : Potential → List ℕ
+potential_text p = codes " " ++ decimal p.constant ++ texts_below 4 (λ k. coefficient_text k (slice_index p.coefficients k)) ++ codes " steps"
+
+-- what a row knows beyond the open row, and the potential
+unfoldable pub note : Row → Potential → List ℕ
+note row p = codes " ;" ++ known_text row ++ potential_text p

@@ -1,0 +1,91 @@
+-- What an edge asks of a potential, and what is said where it is not paid for.
+use Rattle.std.specs.Prelude.{ℕ, ◌+◌, ◌*◌, Bool, ◌&&◌, nat_le, if◌then◌else◌, List, [], ◌++◌, Option, Some, None, slice_index, slice_set, slice_get, codes, decimal}
+use Rattle.geos_image.specs.declared.opcode.Opcode.{Opcode}
+use Rattle.geos_image.specs.declared.opcode.Opcode.TheVariants.{Setk, Setkw, Loop, Call}
+use Rattle.geos_image.specs.declared.instr.Instr.{Instr}
+use Rattle.geos_image.specs.declared.row.Row.{Row}
+use Rattle.geos_image.specs.declared.potential.Potential.{Potential}
+use Rattle.geos_image.specs.Parts.{Parts}
+use Rattle.geos_listing.specs.Rows.{texts_below}
+use Rattle.geos_verify.specs.Lists.{all2}
+use Rattle.geos_verify.specs.Rows.{bound, falls_through, branches}
+use Rattle.geos_verify.specs.Rules.{returns}
+use Rattle.geos_verify.specs.Potentials.{budget_of}
+use Rattle.geos_explain.specs.declared.steps.Asked.{Asked}
+
+-- one step more than is left at the end of the edge, and so many besides
+abbrev pub asked_plain : ℕ → Potential → Potential → Asked
+asked_plain more p q = record { owed = q.constant + 1 + more; left = p.constant; coefficients = q.coefficients }
+
+-- the same where counter k is set to a number that is at most n
+abbrev pub asked_setting : ℕ → ℕ → Potential → Potential → Asked
+asked_setting k n p q = record { owed = q.constant + 1 + slice_index q.coefficients k * n; left = p.constant; coefficients = slice_set q.coefficients k 0 }
+
+-- the same where 1 is taken from counter k, whose coefficient then helps to pay
+abbrev pub asked_taking : ℕ → Potential → Potential → Asked
+asked_taking k p q = record { owed = q.constant + 1; left = p.constant + slice_index p.coefficients k; coefficients = q.coefficients }
+
+-- what the edge to the next instruction asks of potential p, where q is the potential there
+abbrev pub asked_along : Parts → Instr → Opcode → Row → Potential → Potential → Asked
+asked_along image i Setk row p q = asked_setting i.a i.imm p q
+asked_along image i Setkw row p q = asked_setting i.a (bound row i.b) p q
+asked_along image i Loop row p q = asked_setting i.a 0 p q
+asked_along image i Call row p q = asked_plain (budget_of image i.imm) p q
+asked_along image i _ row p q = asked_plain 0 p q
+
+-- what the edge to the target asks of it
+abbrev pub asked_branching : Instr → Opcode → Potential → Potential → Asked
+asked_branching i Loop p q = asked_taking i.a p q
+asked_branching i _ p q = asked_plain 0 p q
+
+-- the steps are left, and each coefficient is
+abbrev pub is_paid : Asked → Potential → Bool
+is_paid asked p = nat_le asked.owed asked.left && all2 nat_le asked.coefficients p.coefficients
+
+-- a coefficient that is asked and not left
+abbrev pub missing_item : ℕ → ℕ → ℕ → List ℕ
+missing_item k asked left = if nat_le asked left then [] else codes " " ++ decimal asked ++ codes " k" ++ decimal k
+
+-- the coefficients that are asked and not left
+unfoldable pub missing_items : List ℕ → List ℕ → List ℕ
+missing_items asked left = texts_below 4 (λ k. missing_item k (slice_index asked k) (slice_index left k))
+
+-- so many steps are owed, and so many are left
+abbrev pub owed_words : ℕ → ℕ → List ℕ
+owed_words owed left = codes " " ++ decimal owed ++ codes " steps are owed from here, " ++ decimal left ++ codes " are left"
+
+-- what is asked and not left: steps, or else coefficients
+abbrev pub asked_words : Asked → Potential → List ℕ
+asked_words asked p =
+    if nat_le asked.owed asked.left
+    then missing_items asked.coefficients p.coefficients ++ codes " steps are owed from here, and not left"
+    else owed_words asked.owed asked.left
+
+-- what the edge asks, if there is one
+abbrev pub asks_along : Parts → ℕ → Instr → Row → Potential → Option Asked
+asks_along image pc i row p =
+    if falls_through i.opcode
+    then elim (slice_get image.points (pc + 1)) [ None ↦ None | Some next ↦ Some (asked_along image i i.opcode row p next.2) ]
+    else None
+
+-- the same of the edge to the target
+abbrev pub asks_branching : Parts → Instr → Potential → Option Asked
+asks_branching image i p =
+    if branches i.opcode
+    then elim (slice_get image.points i.target) [ None ↦ None | Some next ↦ Some (asked_branching i i.opcode p next.2) ]
+    else None
+
+-- what is said of an instruction whose edges leave nothing to pay but this: a return wants a step; a
+-- call wants no coefficient behind it on a counter that the routine touches
+abbrev pub last_words : Instr → List ℕ
+last_words i =
+    if returns i.opcode then codes " a return takes a step, and none is left" else codes " a routine that is called touches a counter that still pays behind the call"
+
+-- what is said of an edge, or else of the rest
+abbrev pub words_if_unpaid : Option Asked → Potential → List ℕ → List ℕ
+words_if_unpaid None p rest = rest
+words_if_unpaid (Some asked) p rest = if is_paid asked p then rest else asked_words asked p
+
+-- an edge, or the return, is not paid for: the edge to the next instruction is tried first
+unfoldable pub unpaid_words : Parts → ℕ → Instr → Row → Potential → List ℕ
+unpaid_words image pc i row p = words_if_unpaid (asks_along image pc i row p) p (words_if_unpaid (asks_branching image i p) p (last_words i))

@@ -1,0 +1,108 @@
+-- What is wrong with the slots and pointers that an instruction uses, rule by rule.
+use Rattle.std.specs.Prelude.{ℕ, nat_lt, if◌then◌else◌, List, [], map, ◌++◌, Option, Some, None, codes, decimal}
+use Rattle.geos_image.specs.declared.instr.Instr.{Instr}
+use Rattle.geos_image.specs.declared.row.Row.{Row}
+use Rattle.geos_image.specs.declared.row.Pointer.{Pointer}
+use Rattle.geos_image.specs.declared.row.SlotState.{SlotState}
+use Rattle.geos_image.specs.declared.row.SlotState.TheVariants.{Empty, Mem, Vm, VmMarked, Db, DbMarked}
+use Rattle.geos_image.specs.Open.{open_row}
+use Rattle.geos_listing.specs.Rows.{row_items}
+use Rattle.geos_verify.specs.declared.uses.Kind.{Kind}
+use Rattle.geos_verify.specs.declared.uses.Kind.TheVariants.{MemBlock, VmBlock, DbGroup}
+use Rattle.geos_verify.specs.declared.uses.SlotUse.{SlotUse}
+use Rattle.geos_verify.specs.declared.uses.SlotUse.TheVariants.{Unlocks, Compares}
+use Rattle.geos_verify.specs.declared.uses.PointerUse.{PointerUse}
+use Rattle.geos_verify.specs.declared.uses.PointerUse.TheVariants.{Loads, Stores, Copies}
+use Rattle.geos_verify.specs.Rows.{slot_state, pointer_at, is_stale, leads_nowhere}
+use Rattle.geos_verify.specs.Rules.{reach, least_at}
+
+-- what a slot holds, in a word
+abbrev pub state_word : SlotState → List ℕ
+state_word Empty = codes "empty"
+state_word Mem = codes "mem"
+state_word Vm = codes "vm"
+state_word VmMarked = codes "vm!"
+state_word Db = codes "db"
+state_word DbMarked = codes "db!"
+
+-- a slot, and what the row says that it holds
+unfoldable pub state_item : ℕ → Row → List ℕ
+state_item a row = codes " s" ++ decimal a ++ codes "=" ++ state_word (slot_state row a)
+
+-- the pointer, where it leads into an empty slot
+abbrev pub nowhere_only : List SlotState → Option Pointer → Option Pointer
+nowhere_only slots pointer = if leads_nowhere slots pointer then pointer else None
+
+-- the pointers of a row that lead into empty slots, and nothing else
+abbrev pub leading_nowhere : Row → Row
+leading_nowhere row = record open_row { pointers = map (nowhere_only row.slots) row.pointers }
+
+-- a pointer leads into an empty slot
+unfoldable pub nowhere_words : Row → List ℕ
+nowhere_words row = row_items (leading_nowhere row) ++ codes " leads into an empty slot"
+
+-- a pointer of which nothing is known
+abbrev pub stale_item : ℕ → Row → List ℕ
+stale_item p row = if is_stale (pointer_at row p) then codes " p" ++ decimal p else []
+
+-- the pointers that an instruction uses and of which nothing is known
+abbrev pub stale_items : Instr → PointerUse → Row → List ℕ
+stale_items i Copies row = stale_item i.a row ++ stale_item i.b row
+stale_items i _ row = stale_item i.b row
+
+-- a pointer that is used may be stale
+unfoldable pub stale_words : Instr → PointerUse → Row → List ℕ
+stale_words i pointer row = stale_items i pointer row ++ codes " may be stale here"
+
+-- so many bytes are wanted behind a pointer
+unfoldable pub wanted_bytes : ℕ → ℕ → List ℕ
+wanted_bytes p wanted = codes " " ++ decimal wanted ++ codes " bytes are wanted behind p" ++ decimal p
+
+-- the same, and how many there are
+unfoldable pub short_words : ℕ → ℕ → Row → List ℕ
+short_words p wanted row = wanted_bytes p wanted ++ codes ", and " ++ decimal (least_at row p) ++ codes " are known there"
+
+-- a read or a write may reach past the bytes behind its pointer
+unfoldable pub past_words : Instr → PointerUse → Row → List ℕ
+past_words i (Loads width offset) row = short_words i.b (reach i width offset row) row
+past_words i (Stores width offset) row = short_words i.b (reach i width offset row) row
+past_words i _ row = if nat_lt (least_at row i.a) i.imm then short_words i.a i.imm row else short_words i.b i.imm row
+
+-- the slot that a pointer leads into
+abbrev pub slot_behind : Row → ℕ → ℕ
+slot_behind row p = elim (pointer_at row p) [ None ↦ 0 | Some q ↦ q.slot ]
+
+-- the slot whose block an instruction changes
+abbrev pub changed_slot : Instr → PointerUse → Row → ℕ
+changed_slot i (Stores width offset) row = slot_behind row i.b
+changed_slot i Copies row = slot_behind row i.a
+changed_slot i _ row = i.a
+
+-- a block is changed that may not be marked
+unfoldable pub unmarked_words : Instr → PointerUse → Row → List ℕ
+unmarked_words i pointer row = state_item (changed_slot i pointer row) row ++ codes " is changed here, and may not be marked yet"
+
+-- a block is locked into a slot that is held
+unfoldable pub held_words : Instr → Row → List ℕ
+held_words i row = state_item i.a row ++ codes " is held here, and an empty slot is wanted"
+
+-- a block of this kind is wanted
+abbrev pub kind_wish : Kind → List ℕ
+kind_wish MemBlock = codes " is known here, and mem is wanted"
+kind_wish VmBlock = codes " is known here, and vm or vm! is wanted"
+kind_wish DbGroup = codes " is known here, and db or db! is wanted"
+
+-- what an instruction wants of its slot, or of two
+unfoldable pub slot_wish : SlotUse → List ℕ
+slot_wish (Unlocks kind) = kind_wish kind
+slot_wish Compares = codes " are known here, and two held slots of one kind are wanted"
+slot_wish _ = codes " is known here, and a held slot is wanted"
+
+-- the second slot, where there are two
+unfoldable pub other_item : Instr → SlotUse → Row → List ℕ
+other_item i Compares row = state_item i.b row
+other_item i _ row = []
+
+-- a slot is not held as the instruction wants it
+unfoldable pub slot_words : Instr → SlotUse → Row → List ℕ
+slot_words i slot row = state_item i.a row ++ other_item i slot row ++ slot_wish slot

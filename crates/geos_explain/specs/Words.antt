@@ -1,0 +1,133 @@
+-- What is wrong at a point that is refused, in a line of plain words, rule by rule.
+use Rattle.std.specs.Prelude.{ℕ, ◌+◌, true, false, ◌&&◌, not, nat_lt, if◌then◌else◌, ◌==◌, List, [], ◌++◌, Some, None, length, slice_get, codes, decimal}
+use Rattle.geos_image.specs.declared.opcode.Opcode.{Opcode}
+use Rattle.geos_image.specs.declared.opcode.Opcode.TheVariants.{Call}
+use Rattle.geos_image.specs.declared.instr.Instr.{Instr}
+use Rattle.geos_image.specs.declared.row.Row.{Row}
+use Rattle.geos_image.specs.declared.potential.Potential.{Potential}
+use Rattle.geos_image.specs.declared.routine.Routine.{Routine}
+use Rattle.geos_image.specs.Parts.{Parts, start_of}
+use Rattle.geos_listing.specs.Instrs.{name_of}
+use Rattle.geos_verify.specs.declared.rule.Rule.{Rule}
+use Rattle.geos_verify.specs.declared.rule.Rule.TheVariants.{LeavesRoutine, NamesEmptySlot, EntryMisfit, StalePointer, PassesEnd, ChangesUnmarked, LocksIntoHeld, WrongSlot, CallMisfit, ExitMisfit, EdgeMisfit, EdgeUnpaid, OverBudget}
+use Rattle.geos_verify.specs.Uses.{uses_of}
+use Rattle.geos_verify.specs.Rows.{falls_through, branches, after}
+use Rattle.geos_verify.specs.Rules.{has_place}
+use Rattle.geos_explain.specs.Notes.{potential_text}
+use Rattle.geos_explain.specs.Lacks.{lacking_items}
+use Rattle.geos_explain.specs.Uses.{nowhere_words, stale_words, past_words, unmarked_words, held_words, slot_words}
+use Rattle.geos_explain.specs.Steps.{unpaid_words}
+
+-- control leaves the routine
+unfoldable pub leaves_words : Parts → ℕ → Routine → ℕ → Instr → List ℕ
+leaves_words image r routine pc i =
+    if falls_through i.opcode && not (has_place (start_of image.routines r) routine.count (pc + 1))
+    then codes " control goes on past the end of the routine"
+    else codes " L" ++ decimal i.target ++ codes " stands outside of the routine"
+
+-- the row wants more than the routine's entry row says, or the routine is public and wants or leaves
+-- what a caller from outside does not have
+unfoldable pub entry_words : Routine → Row → List ℕ
+entry_words routine row =
+    if length (lacking_items routine.entry row) == 0
+    then codes " a public routine begins and ends with empty slots and stale pointers"
+    else lacking_items routine.entry row ++ codes " is wanted here, and not known from the entry row"
+
+-- a pointer that the instruction uses may be stale
+unfoldable pub stale_here : Instr → Row → List ℕ
+stale_here i row = stale_words i (uses_of i.opcode).pointer row
+
+-- the instruction may reach past the bytes behind its pointer
+unfoldable pub past_here : Instr → Row → List ℕ
+past_here i row = past_words i (uses_of i.opcode).pointer row
+
+-- the instruction changes a block that may not be marked
+unfoldable pub unmarked_here : Instr → Row → List ℕ
+unmarked_here i row = unmarked_words i (uses_of i.opcode).pointer row
+
+-- the instruction's slot is not held as it wants it
+unfoldable pub slot_here : Instr → Row → List ℕ
+slot_here i row = slot_words i (uses_of i.opcode).slot row
+
+-- the routine that is called does not stand before routine r, or its entry row wants more than the row says
+abbrev pub callee_words : ℕ → ℕ → Row → Routine → List ℕ
+callee_words r n row callee =
+    if nat_lt n r
+    then lacking_items row callee.entry ++ codes " is wanted by " ++ name_of callee ++ codes ", and not known here"
+    else codes " " ++ name_of callee ++ codes " does not stand before this routine"
+
+-- the same of the routine that a call names
+abbrev pub call_words : Parts → ℕ → Instr → Opcode → Row → List ℕ
+call_words image r i Call row = elim (slice_get image.routines i.imm) [ None ↦ [] | Some callee ↦ callee_words r i.imm row callee ]
+call_words image r i _ row = []
+
+-- the same of an instruction
+unfoldable pub call_here : Parts → ℕ → Instr → Row → List ℕ
+call_here image r i row = call_words image r i i.opcode row
+
+-- the exit row wants more than the row says
+unfoldable pub exit_words : Routine → Row → List ℕ
+exit_words routine row = lacking_items row routine.exit ++ codes " is wanted by the exit row, and not known here"
+
+-- what the row at a pc wants and another does not say
+unfoldable pub wanted_at : Parts → ℕ → Row → List ℕ
+wanted_at image to row = elim (slice_get image.points to) [ None ↦ [] | Some next ↦ lacking_items row next.1 ]
+
+-- the same at the end of the edge to the next instruction; nothing where there is no such edge
+unfoldable pub wanted_along : Parts → ℕ → Instr → Row → List ℕ
+wanted_along image pc i row = if falls_through i.opcode then wanted_at image (pc + 1) (after image pc row false) else []
+
+-- and at the end of the edge to the target
+unfoldable pub wanted_branching : Parts → ℕ → Instr → Row → List ℕ
+wanted_branching image pc i row = if branches i.opcode then wanted_at image i.target (after image pc row true) else []
+
+-- the instruction at a pc wants these items
+unfoldable pub wanted_words : ℕ → List ℕ → List ℕ
+wanted_words to items = items ++ codes " is wanted at " ++ decimal to ++ codes ", and not known here"
+
+-- a row does not fit that at the end of an edge: the edge to the next instruction is tried first
+unfoldable pub edge_words : Parts → ℕ → Instr → Row → List ℕ
+edge_words image pc i row =
+    if length (wanted_along image pc i row) == 0
+    then wanted_words i.target (wanted_branching image pc i row)
+    else wanted_words (pc + 1) (wanted_along image pc i row)
+
+-- the potential is above the budget
+unfoldable pub budget_words : Routine → Potential → List ℕ
+budget_words routine p = potential_text p ++ codes " are owed from here, the budget is " ++ decimal routine.budget
+
+-- what is wrong at an instruction of routine r, by a rule
+unfoldable pub words : Parts → ℕ → Routine → ℕ → Instr → Row → Potential → Rule → List ℕ
+words image r routine pc i row p LeavesRoutine = leaves_words image r routine pc i
+words image r routine pc i row p NamesEmptySlot = nowhere_words row
+words image r routine pc i row p EntryMisfit = entry_words routine row
+words image r routine pc i row p StalePointer = stale_here i row
+words image r routine pc i row p PassesEnd = past_here i row
+words image r routine pc i row p ChangesUnmarked = unmarked_here i row
+words image r routine pc i row p LocksIntoHeld = held_words i row
+words image r routine pc i row p WrongSlot = slot_here i row
+words image r routine pc i row p CallMisfit = call_here image r i row
+words image r routine pc i row p ExitMisfit = exit_words routine row
+words image r routine pc i row p EdgeMisfit = edge_words image pc i row
+words image r routine pc i row p EdgeUnpaid = unpaid_words image pc i row p
+words image r routine pc i row p OverBudget = budget_words routine p
+
+-- how the line of a refusal by a rule begins
+abbrev pub refusal_head : Rule → List ℕ
+refusal_head LeavesRoutine = codes "; refused by V1:"
+refusal_head NamesEmptySlot = codes "; refused by V2:"
+refusal_head EntryMisfit = codes "; refused by V3:"
+refusal_head StalePointer = codes "; refused by V4:"
+refusal_head PassesEnd = codes "; refused by V5:"
+refusal_head ChangesUnmarked = codes "; refused by V6:"
+refusal_head LocksIntoHeld = codes "; refused by V7:"
+refusal_head WrongSlot = codes "; refused by V8:"
+refusal_head CallMisfit = codes "; refused by V10:"
+refusal_head ExitMisfit = codes "; refused by V11:"
+refusal_head EdgeMisfit = codes "; refused by V12:"
+refusal_head EdgeUnpaid = codes "; refused by V13:"
+refusal_head OverBudget = codes "; refused by V14:"
+
+-- the line of a refusal by a rule
+unfoldable pub refusal_line : Parts → ℕ → Routine → ℕ → Instr → Row → Potential → Rule → List ℕ
+refusal_line image r routine pc i row p rule = refusal_head rule ++ words image r routine pc i row p rule ++ codes "\n"

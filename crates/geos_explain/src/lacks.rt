@@ -1,0 +1,181 @@
+//! What a row lacks to fit another.
+
+ghost use Rattle.std.specs.Prelude.{◌≡◌, ◌<◌, ◌++◌, OnOk, nat_le, slice_index_or};
+ghost use Rattle.geos_image.specs.declared.row.SlotState.TheVariants.{Empty};
+ghost use Rattle.geos_listing.specs.Rows.{texts_below};
+ghost use Rattle.geos_verify.specs.Rows.{pointer_fits, is_empty};
+ghost use Rattle.geos_explain.specs.Lacks.{zip2, lacking_bound, lacking_slot, lacking_pointer, lacking_pair, lacking, held_item, lacking_items};
+
+use crate::numbers::put_numbered;
+use geos_image::{Pointer, Row, SlotState};
+use geos_listing::put_items;
+use geos_verify::slot_fits;
+use std::alloc::AllocError;
+
+/// The bound that is wanted where it is not kept, else that of any word.
+fn lacking_bound(known: u16, wanted: u16) -> u16
+    ensures { result ≡ lacking_bound known wanted }
+{
+    if known <= wanted { u16::MAX } else { wanted }
+}
+
+fn lacking_bounds(known: &[u16; 8], wanted: &[u16; 8]) -> [u16; 8]
+    ensures { result ≡ zip2 lacking_bound known.now wanted.now }
+{
+    let [r0, r1, r2, r3, r4, r5, r6, r7] = *known;
+    let [s0, s1, s2, s3, s4, s5, s6, s7] = *wanted;
+    [
+        lacking_bound(r0, s0),
+        lacking_bound(r1, s1),
+        lacking_bound(r2, s2),
+        lacking_bound(r3, s3),
+        lacking_bound(r4, s4),
+        lacking_bound(r5, s5),
+        lacking_bound(r6, s6),
+        lacking_bound(r7, s7),
+    ]
+}
+
+/// The state that is wanted where it is not met, else that of the open row.
+fn lacking_slot(known: SlotState, wanted: SlotState) -> SlotState
+    ensures { result ≡ lacking_slot known wanted }
+{
+    if slot_fits(known, wanted) {
+        SlotState::Empty
+    } else {
+        wanted
+    }
+}
+
+fn lacking_slots(known: &[SlotState; 4], wanted: &[SlotState; 4]) -> [SlotState; 4]
+    ensures { result ≡ zip2 lacking_slot known.now wanted.now }
+{
+    let [r0, r1, r2, r3] = *known;
+    let [s0, s1, s2, s3] = *wanted;
+    [
+        lacking_slot(r0, s0),
+        lacking_slot(r1, s1),
+        lacking_slot(r2, s2),
+        lacking_slot(r3, s3),
+    ]
+}
+
+fn pointer_fits(known: Option<Pointer>, wanted: Option<Pointer>) -> bool
+    ensures { result ≡ pointer_fits known wanted }
+{
+    match (known, wanted) {
+        (_, None) => true,
+        (None, Some(_)) => false,
+        (Some(p), Some(q)) => p.slot == q.slot && q.least <= p.least,
+    }
+}
+
+/// The pointer that is wanted where it is not known, else none.
+fn lacking_pointer(known: Option<Pointer>, wanted: Option<Pointer>) -> Option<Pointer>
+    ensures { result ≡ lacking_pointer known wanted }
+{
+    if pointer_fits(known, wanted) {
+        None
+    } else {
+        wanted
+    }
+}
+
+fn lacking_pointers(
+    known: &[Option<Pointer>; 4],
+    wanted: &[Option<Pointer>; 4],
+) -> [Option<Pointer>; 4]
+    ensures { result ≡ zip2 lacking_pointer known.now wanted.now }
+{
+    let [r0, r1, r2, r3] = *known;
+    let [s0, s1, s2, s3] = *wanted;
+    [
+        lacking_pointer(r0, s0),
+        lacking_pointer(r1, s1),
+        lacking_pointer(r2, s2),
+        lacking_pointer(r3, s3),
+    ]
+}
+
+/// Whether the pair is wanted and not known.
+fn lacking_pair(known: bool, wanted: bool) -> bool
+    ensures { result ≡ lacking_pair known wanted }
+{
+    !(known || !wanted)
+}
+
+fn lacking_pairs(known: &[bool; 6], wanted: &[bool; 6]) -> [bool; 6]
+    ensures { result ≡ zip2 lacking_pair known.now wanted.now }
+{
+    let [r0, r1, r2, r3, r4, r5] = *known;
+    let [s0, s1, s2, s3, s4, s5] = *wanted;
+    [
+        lacking_pair(r0, s0),
+        lacking_pair(r1, s1),
+        lacking_pair(r2, s2),
+        lacking_pair(r3, s3),
+        lacking_pair(r4, s4),
+        lacking_pair(r5, s5),
+    ]
+}
+
+/// Of the row that is wanted, what the row that is known does not meet; else the open row.
+fn lacking(known: &Row, wanted: &Row) -> Row
+    ensures { result ≡ lacking known.now wanted.now }
+{
+    Row {
+        bounds: lacking_bounds(&known.bounds, &wanted.bounds),
+        slots: lacking_slots(&known.slots, &wanted.slots),
+        pointers: lacking_pointers(&known.pointers, &wanted.pointers),
+        pairs: lacking_pairs(&known.pairs, &wanted.pairs),
+    }
+}
+
+fn is_empty(slot: SlotState) -> bool
+    ensures { result ≡ is_empty slot }
+{
+    match slot {
+        SlotState::Empty => true,
+        _ => false,
+    }
+}
+
+/// A slot that is wanted empty and is held.
+fn put_held(
+    out: &mut Vec<u8>,
+    i: usize,
+    known: SlotState,
+    wanted: SlotState,
+) -> Result<(), AllocError>
+    ensures { OnOk result (out.new.items ≡ out.old.items ++ held_item i known wanted) }
+{
+    if !is_empty(wanted) || is_empty(known) {
+        return Ok(());
+    }
+    put_numbered(out, " s", i as u64)?;
+    out.extend_from_slice(b"=empty")
+}
+
+#[tactic(auto, unfolding(geos_listing::specs::Rows::texts_below))]
+fn put_all_held(
+    out: &mut Vec<u8>,
+    known: &[SlotState; 4],
+    wanted: &[SlotState; 4],
+) -> Result<(), AllocError>
+    ensures { OnOk result (out.new.items ≡ out.old.items ++ texts_below 4 (λ i. held_item i (slice_index_or known.now i Empty) (slice_index_or wanted.now i Empty))) }
+{
+    for i in 0..known.len() {
+        put_held(out, i, known[i], wanted[i])?;
+    }
+    Ok(())
+}
+
+/// The items of the row that is wanted which the row that is known does not meet; none where it
+/// fits.
+#[tactic(auto, unfolding(crate::specs::Lacks::lacking_items))]
+pub(crate) fn put_lacking(out: &mut Vec<u8>, known: &Row, wanted: &Row) -> Result<(), AllocError>
+    ensures { OnOk result (out.new.items ≡ out.old.items ++ lacking_items known.now wanted.now) }
+{
+    put_items(out, &lacking(known, wanted))?;
+    put_all_held(out, &known.slots, &wanted.slots)
+}

@@ -1,0 +1,15 @@
+//! Explanations: the listing of an image with what is known at each instruction, and, where the
+//! verifier refuses it, what is wrong at the first such place, in plain words.
+//!
+//! docs/FORMATS.md has the form.
+#![tactic(auto)]
+
+mod explanation;
+mod lacks;
+mod notes;
+mod numbers;
+mod steps;
+mod uses;
+mod words;
+
+pub use explanation::explain;

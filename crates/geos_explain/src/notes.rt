@@ -1,0 +1,70 @@
+//! What stands behind an instruction.
+
+ghost use Rattle.std.specs.Prelude.{◌≡◌, ◌++◌, OnOk, slice_index};
+ghost use Rattle.geos_listing.specs.Rows.{texts_below, row_items};
+ghost use Rattle.geos_explain.specs.Notes.{known_text, coefficient_text, potential_text, note};
+
+use crate::numbers::put_numbered;
+use geos_image::{Potential, Row};
+use geos_listing::put_items;
+use std::alloc::{AllocError, Global};
+
+/// The items of the row and a comma; nothing for the open row.
+#[tactic(auto, unfolding(crate::specs::Notes::known_text))]
+fn put_known(alloc: Global, out: &mut Vec<u8>, row: &Row) -> Result<(), AllocError>
+    ensures { OnOk result (out.new.items ≡ out.old.items ++ known_text row.now) }
+{
+    let mut items = Vec::new(alloc);
+    put_items(&mut items, row)?;
+    if items.is_empty() {
+        return Ok(());
+    }
+    out.extend_from_slice(&items)?;
+    out.extend_from_slice(b",")
+}
+
+/// So many steps for each that is on counter k, unless there are none.
+fn put_coefficient(out: &mut Vec<u8>, k: usize, n: u32) -> Result<(), AllocError>
+    ensures { OnOk result (out.new.items ≡ out.old.items ++ coefficient_text k n) }
+{
+    if n == 0 {
+        return Ok(());
+    }
+    put_numbered(out, " + ", u64::from(n))?;
+    put_numbered(out, " k", k as u64)
+}
+
+#[tactic(auto, unfolding(geos_listing::specs::Rows::texts_below))]
+fn put_coefficients(out: &mut Vec<u8>, coefficients: &[u32; 4]) -> Result<(), AllocError>
+    ensures { OnOk result (out.new.items ≡ out.old.items ++ texts_below 4 (λ k. coefficient_text k (slice_index coefficients.now k))) }
+{
+    for k in 0..coefficients.len() {
+        put_coefficient(out, k, coefficients[k])?;
+    }
+    Ok(())
+}
+
+/// The steps that the potential stands for.
+#[tactic(auto, unfolding(crate::specs::Notes::potential_text))]
+pub(crate) fn put_potential(out: &mut Vec<u8>, potential: &Potential) -> Result<(), AllocError>
+    ensures { OnOk result (out.new.items ≡ out.old.items ++ potential_text potential.now) }
+{
+    put_numbered(out, " ", u64::from(potential.constant))?;
+    put_coefficients(out, &potential.coefficients)?;
+    out.extend_from_slice(b" steps")
+}
+
+/// What the row knows beyond the open row, and the potential.
+#[tactic(auto, unfolding(crate::specs::Notes::note))]
+pub(crate) fn put_note(
+    alloc: Global,
+    out: &mut Vec<u8>,
+    row: &Row,
+    potential: &Potential,
+) -> Result<(), AllocError>
+    ensures { OnOk result (out.new.items ≡ out.old.items ++ note row.now potential.now) }
+{
+    out.extend_from_slice(b" ;")?;
+    put_known(alloc, out, row)?;
+    put_potential(out, potential)
+}

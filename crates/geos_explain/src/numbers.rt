@@ -1,0 +1,14 @@
+//! Numbers in decimal digits.
+
+ghost use Rattle.std.specs.Prelude.{◌≡◌, ◌++◌, OnOk, decimal};
+
+use std::alloc::AllocError;
+
+/// A sign and a number.
+pub(crate) fn put_numbered(out: &mut Vec<u8>, sign: &str, n: u64) -> Result<(), AllocError>
+    ensures { OnOk result (out.new.items ≡ out.old.items ++ sign.now ++ decimal n) }
+{
+    out.extend_from_slice(sign.as_bytes())?;
+    let mut digits = itoa::Buffer::new();
+    out.extend_from_slice(digits.format(n).as_bytes())
+}

@@ -1,0 +1,307 @@
+//! What is wrong with the slots and pointers that an instruction uses.
+
+ghost use Rattle.std.specs.Prelude.{◌≡◌, ◌<◌, ◌++◌, OnOk, map};
+ghost use Rattle.geos_image.specs.Fields.{FieldsFit};
+ghost use Rattle.geos_verify.specs.Rows.{slot_state, pointer_at, is_stale};
+ghost use Rattle.geos_verify.specs.Rules.{reach, least_at};
+ghost use Rattle.geos_verify.specs.Uses.{uses_of, bytes_in, OffsetFits, PointerFits, UsesFit};
+ghost use Rattle.geos_explain.specs.Uses.{state_word, state_item, nowhere_only, leading_nowhere, nowhere_words, stale_item, stale_items, stale_words, wanted_bytes, short_words, past_words, slot_behind, changed_slot, unmarked_words, held_words, kind_wish, slot_wish, other_item, slot_words};
+
+use crate::numbers::put_numbered;
+use geos_image::{Instr, Pointer, Row, SlotState};
+use geos_listing::put_items;
+use geos_verify::{Kind, Offset, PointerUse, SlotUse, Uses, Width, leads_nowhere, uses_of};
+use std::alloc::AllocError;
+
+/// What an instruction does with slots and pointers: it names ones that there are.
+pub(crate) fn uses_at(i: &Instr) -> Uses
+    requires { FieldsFit i.now.opcode i.now }
+    ensures value { result ≡ uses_of i.now.opcode }
+    ensures fit { UsesFit result i.now }
+{
+    uses_of(i.opcode)
+}
+
+fn slot_state(row: &Row, a: u8) -> SlotState
+    ensures { result ≡ slot_state row.now a }
+{
+    match row.slots.get(usize::from(a)) {
+        Some(state) => *state,
+        None => SlotState::Empty,
+    }
+}
+
+fn pointer_at(row: &Row, p: u8) -> Option<Pointer>
+    ensures { result ≡ pointer_at row.now p }
+{
+    match row.pointers.get(usize::from(p)) {
+        Some(pointer) => *pointer,
+        None => None,
+    }
+}
+
+/// What a slot holds, in a word.
+fn state_word(state: SlotState) -> &'static str
+    ensures { result.now ≡ state_word state }
+{
+    match state {
+        SlotState::Empty => "empty",
+        SlotState::Mem => "mem",
+        SlotState::Vm => "vm",
+        SlotState::VmMarked => "vm!",
+        SlotState::Db => "db",
+        SlotState::DbMarked => "db!",
+    }
+}
+
+/// A slot, and what the row says that it holds.
+#[tactic(auto, unfolding(crate::specs::Uses::state_item))]
+fn put_state(out: &mut Vec<u8>, a: u8, row: &Row) -> Result<(), AllocError>
+    ensures { OnOk result (out.new.items ≡ out.old.items ++ state_item a row.now) }
+{
+    put_numbered(out, " s", u64::from(a))?;
+    out.extend_from_slice(b"=")?;
+    out.extend_from_slice(state_word(slot_state(row, a)).as_bytes())
+}
+
+/// The pointer, where it leads into an empty slot.
+fn nowhere_only(slots: &[SlotState; 4], pointer: Option<Pointer>) -> Option<Pointer>
+    ensures { result ≡ nowhere_only slots.now pointer }
+{
+    if leads_nowhere(slots, pointer) {
+        pointer
+    } else {
+        None
+    }
+}
+
+/// The pointers of a row that lead into empty slots, and nothing else.
+fn leading_nowhere(row: &Row) -> Row
+    ensures { result ≡ leading_nowhere row.now }
+{
+    let [p0, p1, p2, p3] = row.pointers;
+    let mut nowhere = Row::open();
+    nowhere.pointers = [
+        nowhere_only(&row.slots, p0),
+        nowhere_only(&row.slots, p1),
+        nowhere_only(&row.slots, p2),
+        nowhere_only(&row.slots, p3),
+    ];
+    nowhere
+}
+
+/// A pointer leads into an empty slot.
+#[tactic(auto, unfolding(crate::specs::Uses::nowhere_words))]
+pub(crate) fn put_nowhere(out: &mut Vec<u8>, row: &Row) -> Result<(), AllocError>
+    ensures { OnOk result (out.new.items ≡ out.old.items ++ nowhere_words row.now) }
+{
+    put_items(out, &leading_nowhere(row))?;
+    out.extend_from_slice(b" leads into an empty slot")
+}
+
+/// A pointer of which nothing is known.
+fn put_stale_item(out: &mut Vec<u8>, p: u8, row: &Row) -> Result<(), AllocError>
+    ensures { OnOk result (out.new.items ≡ out.old.items ++ stale_item p row.now) }
+{
+    if pointer_at(row, p).is_some() {
+        return Ok(());
+    }
+    put_numbered(out, " p", u64::from(p))
+}
+
+/// The pointers that the instruction uses and of which nothing is known.
+fn put_stale_items(
+    out: &mut Vec<u8>,
+    i: &Instr,
+    pointer: PointerUse,
+    row: &Row,
+) -> Result<(), AllocError>
+    ensures { OnOk result (out.new.items ≡ out.old.items ++ stale_items i.now pointer row.now) }
+{
+    match pointer {
+        PointerUse::Copies => {
+            put_stale_item(out, i.a, row)?;
+            put_stale_item(out, i.b, row)
+        }
+        _ => put_stale_item(out, i.b, row),
+    }
+}
+
+/// A pointer that is used may be stale.
+#[tactic(auto, unfolding(crate::specs::Uses::stale_words))]
+pub(crate) fn put_stale(
+    out: &mut Vec<u8>,
+    i: &Instr,
+    pointer: PointerUse,
+    row: &Row,
+) -> Result<(), AllocError>
+    ensures { OnOk result (out.new.items ≡ out.old.items ++ stale_words i.now pointer row.now) }
+{
+    put_stale_items(out, i, pointer, row)?;
+    out.extend_from_slice(b" may be stale here")
+}
+
+fn bytes_in(width: Width) -> u32
+    ensures { result ≡ bytes_in width }
+{
+    match width {
+        Width::Byte => 1,
+        Width::Word => 2,
+    }
+}
+
+/// How many bytes must stand behind the pointer of a read or a write.
+fn reach(i: &Instr, width: Width, offset: Offset, row: &Row) -> u32
+    requires { OffsetFits offset i.now }
+    ensures { result ≡ reach i.now width offset row.now }
+{
+    match offset {
+        Offset::Fixed => u32::from(i.imm) + bytes_in(width),
+        Offset::Indexed => u32::from(row.bounds[i.c as usize]) + bytes_in(width),
+        Offset::Tested => 0,
+    }
+}
+
+/// How many bytes the row says that there are behind a pointer, at least.
+fn least_at(row: &Row, p: u8) -> u16
+    ensures { result ≡ least_at row.now p }
+{
+    match pointer_at(row, p) {
+        Some(pointer) => pointer.least,
+        None => 0,
+    }
+}
+
+/// So many bytes are wanted behind a pointer.
+#[tactic(auto, unfolding(crate::specs::Uses::wanted_bytes))]
+fn put_wanted(out: &mut Vec<u8>, p: u8, wanted: u32) -> Result<(), AllocError>
+    ensures { OnOk result (out.new.items ≡ out.old.items ++ wanted_bytes p wanted) }
+{
+    put_numbered(out, " ", u64::from(wanted))?;
+    put_numbered(out, " bytes are wanted behind p", u64::from(p))
+}
+
+/// The same, and how many there are.
+#[tactic(auto, unfolding(crate::specs::Uses::short_words))]
+fn put_short(out: &mut Vec<u8>, p: u8, wanted: u32, row: &Row) -> Result<(), AllocError>
+    ensures { OnOk result (out.new.items ≡ out.old.items ++ short_words p wanted row.now) }
+{
+    put_wanted(out, p, wanted)?;
+    put_numbered(out, ", and ", u64::from(least_at(row, p)))?;
+    out.extend_from_slice(b" are known there")
+}
+
+/// A read or a write may reach past the bytes behind its pointer.
+#[tactic(auto, unfolding(crate::specs::Uses::past_words))]
+pub(crate) fn put_past(
+    out: &mut Vec<u8>,
+    i: &Instr,
+    pointer: PointerUse,
+    row: &Row,
+) -> Result<(), AllocError>
+    requires { PointerFits pointer i.now }
+    ensures { OnOk result (out.new.items ≡ out.old.items ++ past_words i.now pointer row.now) }
+{
+    match pointer {
+        PointerUse::Loads(width, offset) | PointerUse::Stores(width, offset) => {
+            put_short(out, i.b, reach(i, width, offset, row), row)
+        }
+        _ => {
+            let p = if least_at(row, i.a) < i.imm { i.a } else { i.b };
+            put_short(out, p, u32::from(i.imm), row)
+        }
+    }
+}
+
+/// The slot that a pointer leads into.
+fn slot_behind(row: &Row, p: u8) -> u8
+    ensures { result ≡ slot_behind row.now p }
+{
+    match pointer_at(row, p) {
+        Some(pointer) => pointer.slot,
+        None => 0,
+    }
+}
+
+/// The slot whose block the instruction changes.
+fn changed_slot(i: &Instr, pointer: PointerUse, row: &Row) -> u8
+    ensures { result ≡ changed_slot i.now pointer row.now }
+{
+    match pointer {
+        PointerUse::Stores(_, _) => slot_behind(row, i.b),
+        PointerUse::Copies => slot_behind(row, i.a),
+        _ => i.a,
+    }
+}
+
+/// A block is changed that may not be marked.
+#[tactic(auto, unfolding(crate::specs::Uses::unmarked_words))]
+pub(crate) fn put_unmarked(
+    out: &mut Vec<u8>,
+    i: &Instr,
+    pointer: PointerUse,
+    row: &Row,
+) -> Result<(), AllocError>
+    ensures { OnOk result (out.new.items ≡ out.old.items ++ unmarked_words i.now pointer row.now) }
+{
+    put_state(out, changed_slot(i, pointer, row), row)?;
+    out.extend_from_slice(b" is changed here, and may not be marked yet")
+}
+
+/// A block is locked into a slot that is held.
+#[tactic(auto, unfolding(crate::specs::Uses::held_words))]
+pub(crate) fn put_held(out: &mut Vec<u8>, i: &Instr, row: &Row) -> Result<(), AllocError>
+    ensures { OnOk result (out.new.items ≡ out.old.items ++ held_words i.now row.now) }
+{
+    put_state(out, i.a, row)?;
+    out.extend_from_slice(b" is held here, and an empty slot is wanted")
+}
+
+/// A block of this kind is wanted.
+fn kind_wish(kind: Kind) -> &'static str
+    ensures { result.now ≡ kind_wish kind }
+{
+    match kind {
+        Kind::MemBlock => " is known here, and mem is wanted",
+        Kind::VmBlock => " is known here, and vm or vm! is wanted",
+        Kind::DbGroup => " is known here, and db or db! is wanted",
+    }
+}
+
+/// What the instruction wants of its slot, or of two.
+#[tactic(auto, unfolding(crate::specs::Uses::slot_wish))]
+fn slot_wish(slot: SlotUse) -> &'static str
+    ensures { result.now ≡ slot_wish slot }
+{
+    match slot {
+        SlotUse::Unlocks(kind) => kind_wish(kind),
+        SlotUse::Compares => " are known here, and two held slots of one kind are wanted",
+        _ => " is known here, and a held slot is wanted",
+    }
+}
+
+/// The second slot, where there are two.
+#[tactic(auto, unfolding(crate::specs::Uses::other_item))]
+fn put_other(out: &mut Vec<u8>, i: &Instr, slot: SlotUse, row: &Row) -> Result<(), AllocError>
+    ensures { OnOk result (out.new.items ≡ out.old.items ++ other_item i.now slot row.now) }
+{
+    match slot {
+        SlotUse::Compares => put_state(out, i.b, row),
+        _ => Ok(()),
+    }
+}
+
+/// A slot is not held as the instruction wants it.
+#[tactic(auto, unfolding(crate::specs::Uses::slot_words))]
+pub(crate) fn put_slot(
+    out: &mut Vec<u8>,
+    i: &Instr,
+    slot: SlotUse,
+    row: &Row,
+) -> Result<(), AllocError>
+    ensures { OnOk result (out.new.items ≡ out.old.items ++ slot_words i.now slot row.now) }
+{
+    put_state(out, i.a, row)?;
+    put_other(out, i, slot, row)?;
+    out.extend_from_slice(slot_wish(slot).as_bytes())
+}

@@ -1,0 +1,342 @@
+//! What is wrong at a point that is refused, rule by rule.
+
+ghost use Rattle.std.specs.Prelude.{◌≡◌, ◌<◌, ◌≤◌, ◌+◌, ◌++◌, ◌&&◌, OnOk, IfSome, length, slice_get};
+ghost use Rattle.geos_image.specs.Fields.{FieldsFit, CalleeFits};
+ghost use Rattle.geos_image.specs.Parts.{start_of};
+ghost use Rattle.geos_verify.specs.Rules.{has_place};
+ghost use Rattle.geos_explain.specs.Words.{leaves_words, entry_words, stale_here, past_here, unmarked_here, slot_here, callee_words, call_words, call_here, exit_words, wanted_at, wanted_along, wanted_branching, wanted_words, edge_words, budget_words, words, refusal_head, refusal_line};
+
+use crate::lacks::put_lacking;
+use crate::notes::put_potential;
+use crate::numbers::put_numbered;
+use crate::steps::put_unpaid;
+use crate::uses::{put_held, put_nowhere, put_past, put_slot, put_stale, put_unmarked, uses_at};
+use geos_image::{Image, Instr, Opcode, Potential, Routine, Row};
+use geos_verify::{Rule, after, branches, falls_through};
+use std::alloc::{AllocError, Global};
+
+/// Whether the pc is one of the routine's, which begins at `start`.
+fn has_place(start: u32, routine: &Routine, pc: u32) -> bool
+    requires { start ≤ 4096 }
+    ensures { result ≡ has_place start routine.now.count pc }
+{
+    start <= pc && pc < start + u32::from(routine.count)
+}
+
+/// Control leaves the routine.
+#[tactic(auto, unfolding(crate::specs::Words::leaves_words))]
+fn put_leaves(
+    out: &mut Vec<u8>,
+    image: &Image,
+    r: u16,
+    routine: &Routine,
+    pc: u16,
+    i: &Instr,
+) -> Result<(), AllocError>
+    requires routine { r < length image.now.routines }
+    requires start { start_of image.now.routines r ≤ 4096 }
+    ensures { OnOk result (out.new.items ≡ out.old.items ++ leaves_words image.now r routine.now pc i.now) }
+{
+    let start = u32::from(image.start(r));
+    if falls_through(i.opcode) && !has_place(start, routine, u32::from(pc) + 1) {
+        out.extend_from_slice(b" control goes on past the end of the routine")
+    } else {
+        put_numbered(out, " L", u64::from(i.target))?;
+        out.extend_from_slice(b" stands outside of the routine")
+    }
+}
+
+/// The row wants more than the routine's entry row says, or the routine is public and wants or
+/// leaves what a caller from outside does not have.
+#[tactic(auto, unfolding(crate::specs::Words::entry_words))]
+fn put_entry(
+    alloc: Global,
+    out: &mut Vec<u8>,
+    routine: &Routine,
+    row: &Row,
+) -> Result<(), AllocError>
+    ensures { OnOk result (out.new.items ≡ out.old.items ++ entry_words routine.now row.now) }
+{
+    let mut items = Vec::new(alloc);
+    put_lacking(&mut items, &routine.entry, row)?;
+    if items.is_empty() {
+        return out.extend_from_slice(
+            b" a public routine begins and ends with empty slots and stale pointers",
+        );
+    }
+    out.extend_from_slice(&items)?;
+    out.extend_from_slice(b" is wanted here, and not known from the entry row")
+}
+
+/// A pointer that the instruction uses may be stale.
+#[tactic(auto, unfolding(crate::specs::Words::stale_here))]
+fn put_stale_here(out: &mut Vec<u8>, i: &Instr, row: &Row) -> Result<(), AllocError>
+    requires { FieldsFit i.now.opcode i.now }
+    ensures { OnOk result (out.new.items ≡ out.old.items ++ stale_here i.now row.now) }
+{
+    put_stale(out, i, uses_at(i).pointer, row)
+}
+
+/// The instruction may reach past the bytes behind its pointer.
+#[tactic(auto, unfolding(crate::specs::Words::past_here))]
+fn put_past_here(out: &mut Vec<u8>, i: &Instr, row: &Row) -> Result<(), AllocError>
+    requires { FieldsFit i.now.opcode i.now }
+    ensures { OnOk result (out.new.items ≡ out.old.items ++ past_here i.now row.now) }
+{
+    put_past(out, i, uses_at(i).pointer, row)
+}
+
+/// The instruction changes a block that may not be marked.
+#[tactic(auto, unfolding(crate::specs::Words::unmarked_here))]
+fn put_unmarked_here(out: &mut Vec<u8>, i: &Instr, row: &Row) -> Result<(), AllocError>
+    requires { FieldsFit i.now.opcode i.now }
+    ensures { OnOk result (out.new.items ≡ out.old.items ++ unmarked_here i.now row.now) }
+{
+    put_unmarked(out, i, uses_at(i).pointer, row)
+}
+
+/// The instruction's slot is not held as it wants it.
+#[tactic(auto, unfolding(crate::specs::Words::slot_here))]
+fn put_slot_here(out: &mut Vec<u8>, i: &Instr, row: &Row) -> Result<(), AllocError>
+    requires { FieldsFit i.now.opcode i.now }
+    ensures { OnOk result (out.new.items ≡ out.old.items ++ slot_here i.now row.now) }
+{
+    put_slot(out, i, uses_at(i).slot, row)
+}
+
+/// The routine that is called, which is n, does not stand before routine r, or its entry row wants
+/// more than the row says.
+fn put_callee(
+    out: &mut Vec<u8>,
+    r: u16,
+    n: u16,
+    row: &Row,
+    callee: &Routine,
+) -> Result<(), AllocError>
+    ensures { OnOk result (out.new.items ≡ out.old.items ++ callee_words r n row.now callee.now) }
+{
+    if n < r {
+        put_lacking(out, row, &callee.entry)?;
+        out.extend_from_slice(b" is wanted by ")?;
+        out.extend_from_slice(callee.name_text())?;
+        out.extend_from_slice(b", and not known here")
+    } else {
+        out.extend_from_slice(b" ")?;
+        out.extend_from_slice(callee.name_text())?;
+        out.extend_from_slice(b" does not stand before this routine")
+    }
+}
+
+/// The same of the routine that a call names.
+#[tactic(auto, unfolding(crate::specs::Words::call_here))]
+fn put_call(
+    out: &mut Vec<u8>,
+    image: &Image,
+    r: u16,
+    i: &Instr,
+    row: &Row,
+) -> Result<(), AllocError>
+    requires { CalleeFits (length image.now.routines) i.now }
+    ensures { OnOk result (out.new.items ≡ out.old.items ++ call_here image.now r i.now row.now) }
+{
+    match i.opcode {
+        Opcode::Call => put_callee(out, r, i.imm, row, image.routine(i.imm)),
+        _ => Ok(()),
+    }
+}
+
+/// The exit row wants more than the row says.
+#[tactic(auto, unfolding(crate::specs::Words::exit_words))]
+fn put_exit(out: &mut Vec<u8>, routine: &Routine, row: &Row) -> Result<(), AllocError>
+    ensures { OnOk result (out.new.items ≡ out.old.items ++ exit_words routine.now row.now) }
+{
+    put_lacking(out, row, &routine.exit)?;
+    out.extend_from_slice(b" is wanted by the exit row, and not known here")
+}
+
+/// What the row at a pc wants and this one does not say.
+#[tactic(auto, unfolding(crate::specs::Words::wanted_at))]
+fn put_wanted_at(out: &mut Vec<u8>, image: &Image, to: u16, row: &Row) -> Result<(), AllocError>
+    ensures { OnOk result (out.new.items ≡ out.old.items ++ wanted_at image.now to row.now) }
+{
+    match image.points().get(usize::from(to)) {
+        Some(next) => put_lacking(out, row, &next.1),
+        None => Ok(()),
+    }
+}
+
+/// The same at the end of the edge to the next instruction; nothing where there is no such edge.
+#[tactic(auto, unfolding(crate::specs::Words::wanted_along))]
+fn put_wanted_along(
+    out: &mut Vec<u8>,
+    image: &Image,
+    pc: u16,
+    i: &Instr,
+    row: &Row,
+) -> Result<(), AllocError>
+    requires there { pc < length image.now.points }
+    requires short { length image.now.points ≤ 4096 }
+    requires here { IfSome (slice_get image.now.points pc) (λ point. i.now ≡ point.0) }
+    ensures { OnOk result (out.new.items ≡ out.old.items ++ wanted_along image.now pc i.now row.now) }
+{
+    if !falls_through(i.opcode) {
+        return Ok(());
+    }
+    put_wanted_at(out, image, pc + 1, &after(image, pc, row, false))
+}
+
+/// And at the end of the edge to the target.
+#[tactic(auto, unfolding(crate::specs::Words::wanted_branching))]
+fn put_wanted_branching(
+    out: &mut Vec<u8>,
+    image: &Image,
+    pc: u16,
+    i: &Instr,
+    row: &Row,
+) -> Result<(), AllocError>
+    requires there { pc < length image.now.points }
+    requires here { IfSome (slice_get image.now.points pc) (λ point. i.now ≡ point.0) }
+    ensures { OnOk result (out.new.items ≡ out.old.items ++ wanted_branching image.now pc i.now row.now) }
+{
+    if !branches(i.opcode) {
+        return Ok(());
+    }
+    put_wanted_at(out, image, i.target, &after(image, pc, row, true))
+}
+
+/// The instruction at a pc wants these items.
+#[tactic(auto, unfolding(crate::specs::Words::wanted_words))]
+fn put_wanted(out: &mut Vec<u8>, to: u32, items: &[u8]) -> Result<(), AllocError>
+    ensures { OnOk result (out.new.items ≡ out.old.items ++ wanted_words to items.now) }
+{
+    out.extend_from_slice(items)?;
+    put_numbered(out, " is wanted at ", u64::from(to))?;
+    out.extend_from_slice(b", and not known here")
+}
+
+/// A row does not fit that at the end of an edge: the edge to the next instruction is tried first.
+#[tactic(auto, unfolding(crate::specs::Words::edge_words))]
+fn put_edge(
+    alloc: Global,
+    out: &mut Vec<u8>,
+    image: &Image,
+    pc: u16,
+    i: &Instr,
+    row: &Row,
+) -> Result<(), AllocError>
+    requires there { pc < length image.now.points }
+    requires short { length image.now.points ≤ 4096 }
+    requires here { IfSome (slice_get image.now.points pc) (λ point. i.now ≡ point.0) }
+    ensures { OnOk result (out.new.items ≡ out.old.items ++ edge_words image.now pc i.now row.now) }
+{
+    let mut along = Vec::new(alloc);
+    put_wanted_along(&mut along, image, pc, i, row)?;
+    if !along.is_empty() {
+        return put_wanted(out, u32::from(pc) + 1, &along);
+    }
+    let mut branching = Vec::new(alloc);
+    put_wanted_branching(&mut branching, image, pc, i, row)?;
+    put_wanted(out, u32::from(i.target), &branching)
+}
+
+/// The potential is above the budget.
+#[tactic(auto, unfolding(crate::specs::Words::budget_words))]
+fn put_budget(out: &mut Vec<u8>, routine: &Routine, potential: &Potential) -> Result<(), AllocError>
+    ensures { OnOk result (out.new.items ≡ out.old.items ++ budget_words routine.now potential.now) }
+{
+    put_potential(out, potential)?;
+    put_numbered(
+        out,
+        " are owed from here, the budget is ",
+        u64::from(routine.budget),
+    )
+}
+
+/// What is wrong at an instruction of routine r, by the rule.
+#[tactic(auto, unfolding(crate::specs::Words::words))]
+fn put_words(
+    alloc: Global,
+    out: &mut Vec<u8>,
+    image: &Image,
+    r: u16,
+    routine: &Routine,
+    pc: u16,
+    i: &Instr,
+    row: &Row,
+    potential: &Potential,
+    rule: Rule,
+) -> Result<(), AllocError>
+    requires routine { r < length image.now.routines }
+    requires start { start_of image.now.routines r ≤ 4096 }
+    requires there { pc < length image.now.points }
+    requires short { length image.now.points ≤ 4096 }
+    requires here { IfSome (slice_get image.now.points pc) (λ point. i.now ≡ point.0) }
+    requires fields { FieldsFit i.now.opcode i.now }
+    requires callee { CalleeFits (length image.now.routines) i.now }
+    ensures { OnOk result (out.new.items ≡ out.old.items ++ words image.now r routine.now pc i.now row.now potential.now rule) }
+{
+    match rule {
+        Rule::LeavesRoutine => put_leaves(out, image, r, routine, pc, i),
+        Rule::NamesEmptySlot => put_nowhere(out, row),
+        Rule::EntryMisfit => put_entry(alloc, out, routine, row),
+        Rule::StalePointer => put_stale_here(out, i, row),
+        Rule::PassesEnd => put_past_here(out, i, row),
+        Rule::ChangesUnmarked => put_unmarked_here(out, i, row),
+        Rule::LocksIntoHeld => put_held(out, i, row),
+        Rule::WrongSlot => put_slot_here(out, i, row),
+        Rule::CallMisfit => put_call(out, image, r, i, row),
+        Rule::ExitMisfit => put_exit(out, routine, row),
+        Rule::EdgeMisfit => put_edge(alloc, out, image, pc, i, row),
+        Rule::EdgeUnpaid => put_unpaid(out, image, pc, i, row, potential),
+        Rule::OverBudget => put_budget(out, routine, potential),
+    }
+}
+
+/// How the line of a refusal by the rule begins.
+fn refusal_head(rule: Rule) -> &'static str
+    ensures { result.now ≡ refusal_head rule }
+{
+    match rule {
+        Rule::LeavesRoutine => "; refused by V1:",
+        Rule::NamesEmptySlot => "; refused by V2:",
+        Rule::EntryMisfit => "; refused by V3:",
+        Rule::StalePointer => "; refused by V4:",
+        Rule::PassesEnd => "; refused by V5:",
+        Rule::ChangesUnmarked => "; refused by V6:",
+        Rule::LocksIntoHeld => "; refused by V7:",
+        Rule::WrongSlot => "; refused by V8:",
+        Rule::CallMisfit => "; refused by V10:",
+        Rule::ExitMisfit => "; refused by V11:",
+        Rule::EdgeMisfit => "; refused by V12:",
+        Rule::EdgeUnpaid => "; refused by V13:",
+        Rule::OverBudget => "; refused by V14:",
+    }
+}
+
+/// The line of a refusal by the rule.
+#[tactic(auto, unfolding(crate::specs::Words::refusal_line))]
+pub(crate) fn put_refusal_line(
+    alloc: Global,
+    out: &mut Vec<u8>,
+    image: &Image,
+    r: u16,
+    routine: &Routine,
+    pc: u16,
+    i: &Instr,
+    row: &Row,
+    potential: &Potential,
+    rule: Rule,
+) -> Result<(), AllocError>
+    requires routine { r < length image.now.routines }
+    requires start { start_of image.now.routines r ≤ 4096 }
+    requires there { pc < length image.now.points }
+    requires short { length image.now.points ≤ 4096 }
+    requires here { IfSome (slice_get image.now.points pc) (λ point. i.now ≡ point.0) }
+    requires fields { FieldsFit i.now.opcode i.now }
+    requires callee { CalleeFits (length image.now.routines) i.now }
+    ensures { OnOk result (out.new.items ≡ out.old.items ++ refusal_line image.now r routine.now pc i.now row.now potential.now rule) }
+{
+    out.extend_from_slice(refusal_head(rule).as_bytes())?;
+    put_words(alloc, out, image, r, routine, pc, i, row, potential, rule)?;
+    out.extend_from_slice(b"\n")
+}
