@@ -3,7 +3,7 @@
 use crate::fail;
 use crate::replace::replace;
 use anyhow::Result;
-use geos_commands::{assemble_bytes, check_bytes, list_bytes};
+use geos_commands::{assemble_bytes, check_bytes, explain_bytes, list_bytes};
 use std::io::{ErrorKind, Read, Write};
 use std::process::ExitCode;
 use std::{fs, io};
@@ -84,5 +84,23 @@ pub(crate) fn check(rt: &HostRuntime, path: &str) -> Result<ExitCode> {
     match check_bytes(rt.alloc(), &bytes) {
         Ok(()) => print(rt, b"accepted\n"),
         Err(fault) => fail(rt, fault),
+    }
+}
+
+/// Prints the listing of the image in the file, with what is known at each instruction, and says
+/// where it is refused.
+pub(crate) fn explain(rt: &HostRuntime, path: &str) -> Result<ExitCode> {
+    let bytes = match bytes_of(rt, path) {
+        Ok(bytes) => bytes,
+        Err(fault) => return fail(rt, fault),
+    };
+    let explained = match explain_bytes(rt.alloc(), &bytes) {
+        Ok(explained) => explained,
+        Err(fault) => return fail(rt, fault),
+    };
+    let status = print(rt, &explained.text)?;
+    match explained.reject {
+        Some(reject) if status == ExitCode::SUCCESS => fail(rt, reject),
+        _ => Ok(status),
     }
 }

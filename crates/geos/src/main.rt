@@ -18,7 +18,7 @@ const ABOUT: &str =
      Or makes an image of a text, or says what there is to say of an image in a file.";
 
 const USAGES: &str =
-    "geos < SESSION\n       geos asm IN OUT\n       geos list IMAGE\n       geos check IMAGE";
+    "geos < SESSION\n       geos asm IN OUT\n       geos list IMAGE\n       geos check IMAGE\n       geos explain IMAGE";
 
 const SESSION: &str = "\
 A session is read from standard input, at most 1,048,576 bytes of it. It is
@@ -80,6 +80,11 @@ fn asm_command<'a>(alloc: Global) -> Result<Command<'a>, AllocError> {
 fn command<'a>(alloc: Global) -> Result<Command<'a>, AllocError> {
     let list = image_command(alloc, "list", "Prints the image as text")?;
     let check = image_command(alloc, "check", "Prints `accepted` where the image may run")?;
+    let explain = image_command(
+        alloc,
+        "explain",
+        "Prints the image as text with what is known at each instruction, and why it may not run",
+    )?;
     Command::new(alloc, "geos")
         .no_binary_name(true)
         .version("0.1.0")
@@ -90,7 +95,8 @@ fn command<'a>(alloc: Global) -> Result<Command<'a>, AllocError> {
         .disable_help_subcommand(true)
         .subcommand(asm_command(alloc)?)?
         .subcommand(list)?
-        .subcommand(check)
+        .subcommand(check)?
+        .subcommand(explain)
 }
 
 /// The file that a command names, where that command was given.
@@ -138,6 +144,9 @@ fn carry_out(rt: &HostRuntime, matches: &ArgMatches<'_>) -> Result<ExitCode> {
     }
     if let Some(path) = image_of(matches, "check") {
         return images::check(rt, path);
+    }
+    if let Some(path) = image_of(matches, "explain") {
+        return images::explain(rt, path);
     }
     run(rt)
 }

@@ -1,11 +1,13 @@
 -- What the commands on the bytes of texts and images answer.
-use Rattle.std.specs.Prelude.{◌≡◌, ℕ, List, Ok, Err}
+use Rattle.std.specs.Prelude.{◌≡◌, ℕ, List, Ok, Err, Option}
 use Rattle.geos_image.specs.declared.error.ReadError.{ReadError}
 use Rattle.geos_image.specs.declared.error.ReadError.TheVariants as read
 use Rattle.geos_image.specs.Parts.{Parts}
 use Rattle.geos_image.specs.Reading.{image_at}
+use Rattle.geos_verify.specs.declared.rule.Reject.{Reject}
 use Rattle.geos_verify.specs.Rules.{Accepted, FirstRefusal}
 use Rattle.geos_listing.specs.Listing.{listing}
+use Rattle.geos_explain.specs.Explanation.{explanation, IsVerdict}
 use Rattle.geos_asm.specs.Assembling.{IsAssembled}
 use Rattle.geos_commands.specs.declared.fault.CheckFault.{CheckFault}
 use Rattle.geos_commands.specs.declared.fault.CheckFault.TheVariants.{BadImage, Rejected, Memory}
@@ -17,6 +19,10 @@ IsAssembledAs text bytes = (image : Parts) × (image_at bytes ≡ Ok image) × I
 -- the bytes spell an image, and the text is its listing
 abbrev pub IsListed : List ℕ → List ℕ → Type 0
 IsListed bytes text = (image : Parts) × (image_at bytes ≡ Ok image) × (text ≡ listing image)
+
+-- the bytes spell an image, the refusal is its first, if there is one, and the text is the explanation of both
+abbrev pub IsExplained : List ℕ → List ℕ → Option Reject → Type 0
+IsExplained bytes text reject = (image : Parts) × (image_at bytes ≡ Ok image) × IsVerdict image reject × (text ≡ explanation image reject)
 
 -- the bytes spell an image that the verifier accepts
 abbrev pub IsAccepted : List ℕ → Type 0
