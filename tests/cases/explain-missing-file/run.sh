@@ -1,0 +1,2 @@
+cd /
+"$1" explain no-such-file
