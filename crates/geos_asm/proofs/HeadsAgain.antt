@@ -50,6 +50,11 @@ budget-words : (public : Bool) (budget : ℕ) → budget < 2 ^ 32 → list_all i
 budget-words false budget long = and_from (is_word (decimal budget)) true (decimal-word budget (omega (arith, long))) refl
 budget-words true budget long = and_from (is_word (decimal budget)) true (decimal-word budget (omega (arith, long))) refl
 
+-- the words behind `routine` are words
+pub head-words : (r : Routine) → is_name r.name ≡ true → length r.name ≡ 16 → r.budget < 2 ^ 32 → list_all is_word (head_words r) ≡ true
+head-words r legal long budget =
+    and_from (is_word (name_text r)) (list_all is_word (budget_words r.public r.budget)) (name-word r.name legal long) (budget-words r.public r.budget budget)
+
 routine-no_label : label_of (codes "routine") ≡ None
 unfolding label_of
 routine-no_label = refl
@@ -58,9 +63,7 @@ routine-no_label = refl
 pub head-said : (r : Routine) → is_name r.name ≡ true → length r.name ≡ 16 → r.budget < 2 ^ 32
     → parted (said (head_text r)) ≡ record { labels = []; statement = codes "routine" ∷ head_words r }
 head-said r legal long budget =
-    let words : list_all is_word (head_words r) ≡ true =
-    and_from (is_word (name_text r)) (list_all is_word (budget_words r.public r.budget)) (name-word r.name legal long) (budget-words r.public r.budget budget) in
-    ap parted (said-spaced (codes "routine") (head_words r) refl words) ∙ parted-statement (codes "routine") (head_words r) routine-no_label
+    ap parted (said-spaced (codes "routine") (head_words r) refl (head-words r legal long budget)) ∙ parted-statement (codes "routine") (head_words r) routine-no_label
 
 -- a routine that has no instructions so far, with open rows
 abbrev pub begun_as : Routine → Routine

@@ -9,3 +9,7 @@ pub mod ItemsAgain
 pub mod RowsAgain
 pub mod TextLines
 pub mod RowLines
+pub mod LabelLines
+pub mod Ended
+pub mod ListedFacts
+pub mod ListingLines
