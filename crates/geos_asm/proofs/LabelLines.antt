@@ -1,5 +1,5 @@
 -- The line of a label says that label.
-use Rattle.std.proofs.Common.{◌≡◌, ◌∙◌, ◌<◌, ℕ, ◌-◌, Bool, true, cond, ◌==◌, List, [], ◌∷◌, ◌++◌, length, take, get_or, Some, None, refl, sym, ap, append_assoc, arith}
+use Rattle.std.proofs.Common.{◌≡◌, ◌∙◌, ◌<◌, ℕ, ◌-◌, true, cond, ◌==◌, List, [], ◌∷◌, ◌++◌, length, take, get_or, None, refl, sym, ap, append_assoc, arith}
 use Rattle.std.specs.Prelude.{codes}
 use Rattle.std.specs.List.{list_all}
 use Rattle.std.proofs.Math.Seq.{get_or-append_seam, take-append_seam}

@@ -13,3 +13,5 @@ pub mod LabelLines
 pub mod Ended
 pub mod ListedFacts
 pub mod ListingLines
+pub mod NamesBelow
+pub mod Declaring

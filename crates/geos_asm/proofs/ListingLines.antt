@@ -1,5 +1,5 @@
 -- The listing of an image is lines, each with its end.
-use Rattle.std.proofs.Common.{◌≡◌, ◌∙◌, ◌<◌, ◌≤◌, ℕ, ◌+◌, Bool, true, false, cond, List, [], ◌∷◌, ◌++◌, length, Some, slice_get, refl, sym, ap, append_assoc, arith}
+use Rattle.std.proofs.Common.{◌≡◌, ◌∙◌, ◌<◌, ◌≤◌, ℕ, ◌+◌, Bool, true, false, cond, List, [], ◌∷◌, ◌++◌, length, Some, slice_get, refl, sym, ap, arith}
 use Rattle.std.specs.Prelude.{codes}
 use Rattle.std.specs.List.{list_all}
 use Rattle.std.specs.Option.{option_map_or}
@@ -8,15 +8,15 @@ use Rattle.std.proofs.lemmas.Bool.{and_from}
 use Rattle.std.proofs.lemmas.List.Folds.{list_all-append}
 use Rattle.geos_image.specs.declared.row.Row.{Row}
 use Rattle.geos_image.specs.declared.routine.Routine.{Routine}
-use Rattle.geos_image.specs.Parts.{Parts, Point, start_of, total_count}
+use Rattle.geos_image.specs.Parts.{Parts, Point, start_of}
 use Rattle.geos_image.proofs.Starts.{start_of-end}
 use Rattle.geos_listing.specs.Rows.{texts_below, row_line}
 use Rattle.geos_listing.specs.Instrs.{is_target, label_of as label_text, label_line, instr_line}
-use Rattle.geos_listing.specs.Listing.{routine_line, place_text, routine_text, listing}
+use Rattle.geos_listing.specs.Listing.{place_text, routine_text, listing}
 use Rattle.geos_listing.proofs.Limits.{item_at}
 use Rattle.geos_spelling.specs.Words.{word_of}
 use Rattle.geos_text.specs.Words.{is_empty}
-use Rattle.geos_asm.proofs.Spaced.{is_said, is_word, spaced, line-said}
+use Rattle.geos_asm.proofs.Spaced.{is_said, is_word, line-said}
 use Rattle.geos_asm.proofs.InstrLines.{instr_text, instr_line-text, operands-words, word_of-is}
 use Rattle.geos_asm.proofs.OperandsAgain.{operand_words}
 use Rattle.geos_asm.proofs.HeadsAgain.{head_words, head_text, head-written, head-words}
@@ -64,9 +64,9 @@ label_line-ended true pc = label_line-written pc ∙ one_ended (label_line_text 
 row_line-ended : (word : List ℕ) (row : Row) → IsSound row → row_line word row ≡ ended (row_lines word row)
 row_line-ended word row sound = row_line-text word row sound ∙ unless_open (is_empty (row_words row)) (row_text word row)
   where
-  unless_open : (none : Bool) (text : List ℕ) → cond none [] (text ++ codes "\n") ≡ ended (cond none [] (text ∷ []))
-  unless_open true text = refl
-  unless_open false text = one_ended text
+    unless_open : (none : Bool) (text : List ℕ) → cond none [] (text ++ codes "\n") ≡ ended (cond none [] (text ∷ []))
+    unless_open true text = refl
+    unless_open false text = one_ended text
 
 place-ended : (image : Parts) (pc : ℕ) → pc < length image.points → place_text image pc ≡ ended (place_lines image pc)
 place-ended image pc lt =
@@ -105,11 +105,11 @@ room image known n r e = omega (arith, start_of-end image.routines n r e, known.
 pub listing-ended : (image : Parts) → Facts image → listing image ≡ ended (listing_lines image)
 listing-ended image known =
     texts-ended (length image.routines) (λ n. option_map_or (routine_text image (start_of image.routines n)) (slice_get image.routines n) []) (lines_at image) (λ n lt.
-        let at = item_at image.routines n lt in
-        let start = start_of image.routines n in
-        ap (λ o. option_map_or (routine_text image start) o []) at.1
-        ∙ routine-ended image start at.0 (known.routine n at.0 at.1) (room image known n at.0 at.1)
-        ∙ ap (λ o. ended (option_map_or (routine_lines image start) o [])) (sym at.1))
+    let at = item_at image.routines n lt in
+    let start = start_of image.routines n in
+    ap (λ o. option_map_or (routine_text image start) o []) at.1
+    ∙ routine-ended image start at.0 (known.routine n at.0 at.1) (room image known n at.0 at.1)
+    ∙ ap (λ o. ended (option_map_or (routine_lines image start) o [])) (sym at.1))
 
 -- ---- no line has an end in it
 
@@ -155,10 +155,10 @@ said-routine image start r known is within =
 listing-said : (image : Parts) → Facts image → are_said (listing_lines image) ≡ true
 listing-said image known =
     all_below (length image.routines) (lines_at image) (λ n lt.
-        let at = item_at image.routines n lt in
-        let start = start_of image.routines n in
-        ap (λ o. are_said (option_map_or (routine_lines image start) o [])) at.1
-        ∙ said-routine image start at.0 known (known.routine n at.0 at.1) (room image known n at.0 at.1))
+    let at = item_at image.routines n lt in
+    let start = start_of image.routines n in
+    ap (λ o. are_said (option_map_or (routine_lines image start) o [])) at.1
+    ∙ said-routine image start at.0 known (known.routine n at.0 at.1) (room image known n at.0 at.1))
 
 -- the lines of the listing
 pub listing-lines : (image : Parts) → Facts image → lines (listing image) ≡ listing_lines image
