@@ -15,3 +15,4 @@ pub mod ListedFacts
 pub mod ListingLines
 pub mod NamesBelow
 pub mod Declaring
+pub mod Drafting

@@ -13,3 +13,4 @@ pub mod Told
 pub mod ToldParts
 pub mod ToldLines
 pub mod Ended
+pub mod PartNames
