@@ -16,3 +16,4 @@ pub mod ListingLines
 pub mod NamesBelow
 pub mod Declaring
 pub mod Drafting
+pub mod ListedAgain
