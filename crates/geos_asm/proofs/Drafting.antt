@@ -1,12 +1,12 @@
 -- What the lines of a listing say, line by line.
-use Rattle.std.proofs.Common.{◌≡◌, ◌∙◌, ◌<◌, ◌≤◌, ℕ, zero, suc, ◌+◌, min, Bool, true, false, cond, not, List, [], ◌∷◌, ◌++◌, length, map, take, Option, Some, None, Ok, slice_get, refl, sym, ap, subst, leb-true, arith}
+use Rattle.std.proofs.Common.{◌≡◌, ◌∙◌, ◌<◌, ◌≤◌, ℕ, zero, suc, ◌+◌, min, Bool, true, false, cond, not, List, [], ◌∷◌, ◌++◌, length, map, take, Option, Some, None, Ok, slice_get, refl, ap, leb-true, arith}
 use Rattle.std.specs.Prelude.{codes, bytes_eq, nat_le}
 use Rattle.std.specs.Option.{option_map_or}
 use Rattle.geos_image.specs.declared.instr.Instr.{Instr}
 use Rattle.geos_image.specs.declared.row.Row.{Row}
 use Rattle.geos_image.specs.declared.routine.Routine.{Routine}
 use Rattle.geos_image.specs.Open.{open_row}
-use Rattle.geos_image.specs.Parts.{Parts, Point, start_of}
+use Rattle.geos_image.specs.Parts.{Parts, Point}
 use Rattle.geos_infer.specs.Code.{instrs_of, instr_of}
 use Rattle.geos_listing.specs.Instrs.{is_target}
 use Rattle.geos_listing.proofs.Limits.{item_at}
@@ -14,21 +14,18 @@ use Rattle.geos_spelling.specs.Words.{word_of}
 use Rattle.geos_text.specs.Words.{is_empty}
 use Rattle.geos_source.specs.declared.fault.Why.TheVariants.{TooMany}
 use Rattle.geos_source.specs.declared.progress.TextRoutine.{TextRoutine}
-use Rattle.geos_source.specs.Faults.{least, first, at_line}
-use Rattle.geos_source.specs.Operands.{instruction}
-use Rattle.geos_source.specs.Items.{row_of}
-use Rattle.geos_source.specs.Headers.{header}
-use Rattle.geos_source.specs.Texts.{Draft, no_room, is_full, outside, in_body, close, begin, begun_by, closed, drop_labels, take_in, take_out, with_instr, with_instr_at, take_instr, take_labels, take_statement, take_line, take_lines}
+use Rattle.geos_source.specs.Faults.{least}
+use Rattle.geos_source.specs.Texts.{Draft, is_full, outside, in_body, close, begin, drop_labels, take_in, take_out, with_instr, with_instr_at, take_instr, take_labels, take_statement, take_line, take_lines}
 use Rattle.geos_source.proofs.Quiet.{taken_by}
 use Rattle.geos_source.proofs.PartNames.{TextPart, head, body, in_body-is}
 use Rattle.geos_asm.proofs.OperandsAgain.{operand_words, instruction-again}
 use Rattle.geos_asm.proofs.InstrLines.{instr_text, instr-said, word_of-is}
-use Rattle.geos_asm.proofs.HeadsAgain.{head_text, head_words, head-said, begun_as, header-again}
+use Rattle.geos_asm.proofs.HeadsAgain.{head_text, head-said, begun_as, header-again}
 use Rattle.geos_asm.proofs.RowsAgain.{words_below as lines_below, row_words, IsSound, row_of-again}
 use Rattle.geos_asm.proofs.RowLines.{row_text, row-said, in-is, out-is, open-again}
 use Rattle.geos_asm.proofs.LabelLines.{label_line_text, label-said}
 use Rattle.geos_asm.proofs.ListedFacts.{IsListed, Facts}
-use Rattle.geos_asm.proofs.ListingLines.{label_lines, instr_lines, place_lines, row_lines}
+use Rattle.geos_asm.proofs.ListingLines.{label_lines, instr_lines, place_lines}
 use Rattle.geos_asm.proofs.Declaring.{IsLabel, names_in, names-stand, has_label}
 
 -- a routine has begun, no label waits, and there is no fault

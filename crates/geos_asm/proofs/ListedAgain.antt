@@ -1,15 +1,13 @@
 -- The text that lists an image has its code.
-use Rattle.std.proofs.Common.{◌≡◌, ◌∙◌, ◌<◌, ◌≤◌, ℕ, zero, suc, ◌+◌, Bool, true, false, cond, not, List, [], ◌∷◌, ◌++◌, length, map, take, Option, Some, None, Ok, slice_get, refl, sym, ap, subst, leb-true, arith}
+use Rattle.std.proofs.Common.{◌≡◌, ◌∙◌, ◌<◌, ◌≤◌, ℕ, zero, suc, ◌+◌, Bool, true, false, cond, not, List, [], ◌∷◌, ◌++◌, length, map, take, Some, None, Ok, slice_get, refl, sym, ap, subst, leb-true, arith}
 use Rattle.std.specs.Prelude.{codes, nat_le}
 use Rattle.std.specs.Option.{option_map_or}
-use Rattle.std.specs.Str.Lines.{lines}
 use Rattle.std.proofs.lemmas.Bool.{le-ltb}
 use Rattle.std.proofs.lemmas.List.{length-map, length-take, take_all}
-use Rattle.geos_image.specs.declared.instr.Instr.{Instr}
 use Rattle.geos_image.specs.declared.routine.Routine.{Routine}
 use Rattle.geos_image.specs.Legal.{is_image}
 use Rattle.geos_image.specs.Ranges.{ImageFits}
-use Rattle.geos_image.specs.Parts.{Parts, Point, start_of}
+use Rattle.geos_image.specs.Parts.{Parts, start_of}
 use Rattle.geos_image.proofs.Starts.{start_of-next, start_of-all}
 use Rattle.geos_infer.specs.Code.{instrs_of, instr_of}
 use Rattle.geos_listing.specs.Listing.{listing}
@@ -20,17 +18,17 @@ use Rattle.geos_source.specs.declared.progress.TextRoutine.{TextRoutine}
 use Rattle.geos_source.specs.Skeletons.{routine_of}
 use Rattle.geos_source.specs.Faults.{first, at_line}
 use Rattle.geos_source.specs.Declarations.{declared}
-use Rattle.geos_source.specs.Texts.{Draft, Code, blank, no_room, close, begin, begun_by, unfilled, without_routine, too_long, draft_of, take_line, take_lines, code_of}
+use Rattle.geos_source.specs.Texts.{Draft, Code, blank, no_room, close, begin, begun_by, unfilled, without_routine, too_long, draft_of, take_lines, code_of}
 use Rattle.geos_source.proofs.PartNames.{TextPart, head, body}
 use Rattle.geos_source.proofs.Pushed.{routines-push}
 use Rattle.geos_source.proofs.TextLaws.{fault_by, code_of-found}
 use Rattle.geos_asm.specs.Assembling.{HasCode}
-use Rattle.geos_asm.proofs.HeadsAgain.{head_text, begun_as}
+use Rattle.geos_asm.proofs.HeadsAgain.{begun_as}
 use Rattle.geos_asm.proofs.RowsAgain.{words_below as lines_below, row_words}
-use Rattle.geos_asm.proofs.ListedFacts.{IsListed, Facts, facts}
+use Rattle.geos_asm.proofs.ListedFacts.{Facts, facts}
 use Rattle.geos_asm.proofs.ListingLines.{row_lines, place_lines, routine_lines, lines_at, listing_lines, room, listing-lines}
 use Rattle.geos_asm.proofs.Declaring.{state, names_in, listing-declared}
-use Rattle.geos_asm.proofs.Drafting.{drafted, takes-both, Takes, one_by_one, part_behind, behind, places-taken, entry-taken, exit-taken, head-taken}
+use Rattle.geos_asm.proofs.Drafting.{drafted, takes-both, one_by_one, part_behind, behind, places-taken, entry-taken, exit-taken, head-taken}
 
 -- the draft between routines, of which so many are complete
 record Between (image : Parts) (n : ℕ) (t : Draft) : Type 0 where
