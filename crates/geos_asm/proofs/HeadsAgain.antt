@@ -18,7 +18,7 @@ use Rattle.geos_asm.proofs.NamesAgain.{name_of-again, name-word}
 use Rattle.geos_asm.proofs.InstrLines.{parted-statement}
 
 -- the words behind a routine's name
-abbrev budget_words : Bool → ℕ → List (List ℕ)
+abbrev pub budget_words : Bool → ℕ → List (List ℕ)
 budget_words false budget = codes "budget" ∷ decimal budget ∷ []
 budget_words true budget = codes "public" ∷ codes "budget" ∷ decimal budget ∷ []
 

@@ -17,3 +17,5 @@ pub mod NamesBelow
 pub mod Declaring
 pub mod Drafting
 pub mod ListedAgain
+pub mod ListingLength
+pub mod ListingShort

@@ -28,6 +28,7 @@ use Rattle.geos_asm.proofs.RowsAgain.{words_below as lines_below, row_words}
 use Rattle.geos_asm.proofs.ListedFacts.{Facts, facts}
 use Rattle.geos_asm.proofs.ListingLines.{row_lines, place_lines, routine_lines, lines_at, listing_lines, room, listing-lines}
 use Rattle.geos_asm.proofs.Declaring.{state, names_in, listing-declared}
+use Rattle.geos_asm.proofs.ListingShort.{listing-short}
 use Rattle.geos_asm.proofs.Drafting.{drafted, takes-both, one_by_one, part_behind, behind, places-taken, entry-taken, exit-taken, head-taken}
 
 -- the draft between routines, of which so many are complete
@@ -127,10 +128,10 @@ module _ (image : Parts) (known : Facts image) where
       let many = length-map image.points instr_of in
       take_all (start_of image.routines (length image.routines)) (instrs_of image) (omega (arith, end, many))
 
--- a text that is not too long has the code of the image that it lists
-pub list-again : (image : Parts) → is_image image ≡ true → ImageFits image → length (listing image) ≤ 1048576
+-- the text that lists an image has its code
+pub list-again : (image : Parts) → is_image image ≡ true → ImageFits image
     → (code : Code) × (code_of (listing image) ≡ Ok code) × HasCode code image
-list-again image legal fits short =
+list-again image legal fits =
     let known = facts image legal fits in
     let text = listing image in
     let names = names_in image in
@@ -139,7 +140,7 @@ list-again image legal fits short =
     let d = state image n (length image.points) in
     let draft = draft_of names (listing_lines image) in
     let are = listing-lines image known in
-    let fits_text : too_long text ≡ None = ap (λ t. cond t (Some (record { line = 1; why = TooMany })) None) (le-ltb 1048576 (length text) short) in
+    let fits_text : too_long text ≡ None = ap (λ t. cond t (Some (record { line = 1; why = TooMany })) None) (le-ltb 1048576 (length text) (listing-short image known)) in
     let rest = first draft.progress.fault (without_routine draft.progress.part) in
     let no_fault : fault_by text d draft ≡ None =
     ap (λ o. first (first o None) rest) fits_text ∙ ap (λ o. first o (without_routine draft.progress.part)) b.fault ∙ b.placed known.some in
