@@ -188,10 +188,10 @@ one_item row next word e = ap (λ answer. with_item answer (reading row)) e
 
 -- where each number's words make one step, those below n make n steps
 steps : (n : ℕ) (words : ℕ → List (List ℕ)) (row : ℕ → Row) → ((k : ℕ) → k < n → with_items (words k) (reading (row k)) ≡ reading (row (suc k)))
-    → with_items (words_below n words) (reading (row 0)) ≡ reading (row n)
+    → with_items (words_below n words) (reading (row (0))) ≡ reading (row n)
 steps zero words row each = refl
 steps (suc n) words row each =
-    with_items-append (words_below n words) (words n) (reading (row 0))
+    with_items-append (words_below n words) (words n) (reading (row (0)))
     ∙ ap (with_items (words n)) (steps n words row (λ k lt. each k (omega (arith, lt))))
     ∙ each n (omega arith)
 
@@ -295,24 +295,24 @@ items-read row sound =
     let b = words_below 4 (slots_of row) in
     let c = words_below 4 (pointers_of row) in
     let d = words_below 6 (pairs_of row) in
-    let bounds : with_items a (reading open_row) ≡ reading (with_bounds row 8) =
+    let bounds : with_items a (reading open_row) ≡ reading (with_bounds row (8)) =
     steps 8 (bounds_of row) (with_bounds row)
     (λ i lt. bounds-read (with_bounds row i) i (slice_index row.bounds i) (slice_index row.bounds i == 65535) refl lt (sound.bound i lt) (fresh (slice_index row.bounds) 8 i 65535 lt)) in
-    let all_bounds : reading (with_bounds row 8) ≡ reading (with_slots row 0) = ap (λ (bs : List ℕ). reading (record open_row { bounds = bs })) (all_eight row.bounds 0 65535 sound.eight) in
-    let slots : with_items b (reading (with_slots row 0)) ≡ reading (with_slots row 4) =
+    let all_bounds : reading (with_bounds row (8)) ≡ reading (with_slots row (0)) = ap (λ (bs : List ℕ). reading (record open_row { bounds = bs })) (all_eight row.bounds 0 65535 sound.eight) in
+    let slots : with_items b (reading (with_slots row (0))) ≡ reading (with_slots row (4)) =
     steps 4 (slots_of row) (with_slots row)
     (λ i lt. slots-read (with_slots row i) i (slice_index_or row.slots i Empty) lt (fresh (λ j. slice_index_or row.slots j Empty) 4 i Empty lt)) in
-    let all_slots : reading (with_slots row 4) ≡ reading (with_pointers row 0) =
+    let all_slots : reading (with_slots row (4)) ≡ reading (with_pointers row (0)) =
     ap (λ (ss : List SlotState). reading (record open_row { bounds = row.bounds; slots = ss })) (all_four row.slots Empty Empty sound.slots) in
-    let pointers : with_items c (reading (with_pointers row 0)) ≡ reading (with_pointers row 4) =
+    let pointers : with_items c (reading (with_pointers row (0))) ≡ reading (with_pointers row (4)) =
     steps 4 (pointers_of row) (with_pointers row)
     (λ i lt. pointers-read (with_pointers row i) i (slice_index_or row.pointers i None) lt (sound.leads i lt) (sound.least i lt) (fresh (λ j. slice_index_or row.pointers j None) 4 i None lt)) in
-    let all_pointers : reading (with_pointers row 4) ≡ reading (with_pairs row 0) =
+    let all_pointers : reading (with_pointers row (4)) ≡ reading (with_pairs row (0)) =
     ap (λ (ps : List (Option Pointer)). reading (record row { pointers = ps; pairs = replicate 6 false })) (all_four row.pointers None None sound.pointers) in
-    let pairs : with_items d (reading (with_pairs row 0)) ≡ reading (with_pairs row 6) =
+    let pairs : with_items d (reading (with_pairs row (0))) ≡ reading (with_pairs row (6)) =
     steps 6 (pairs_of row) (with_pairs row)
     (λ k lt. pair-read (with_pairs row k) k (slice_index_or row.pairs k false) lt (fresh (λ j. slice_index_or row.pairs j false) 6 k false lt)) in
-    let all_pairs : reading (with_pairs row 6) ≡ reading row = ap (λ (ps : List Bool). reading (record row { pairs = ps })) (all_six row.pairs false false sound.pairs) in
+    let all_pairs : reading (with_pairs row (6)) ≡ reading row = ap (λ (ps : List Bool). reading (record row { pairs = ps })) (all_six row.pairs false false sound.pairs) in
     with_items-append (a ++ b ++ c) d (reading open_row)
     ∙ ap (with_items d) (with_items-append (a ++ b) c (reading open_row))
     ∙ ap (λ read. with_items d (with_items c read)) (with_items-append a b (reading open_row))

@@ -81,7 +81,7 @@ module _ (image : Parts) (forward : Forward image) (want : List Row) (holds : Ro
     comes : (w : Row) → slice_get want (edge_end pc i branch) ≡ Some w → fits (edge_row image i branch (clean row)) w ≡ true
     comes w at =
         let before = item_at want pc (let len = holds.len in let lt = slice_get_within (instrs_of image) pc i read in omega arith) in
-        let below = F.below pc row before.0 here before.1 in
+        let below = F.below pc row (before.0) here (before.1) in
         let least = (clean-least row).least before.0 below (holds.clean pc before.0 before.1) in
         fits-trans (edge_row image i branch (clean row)) (edge_row image i branch before.0) w (edge-mono image i branch (clean row) before.0 least) (holds.edges pc (edge_end pc i branch) branch i before.0 w edge before.1 at)
 
