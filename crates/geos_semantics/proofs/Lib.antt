@@ -12,6 +12,14 @@ pub mod FineLocks
 pub mod Paid
 pub mod Bounds
 pub mod ArrayAnswers
+pub mod Moments
+pub mod PlainSteps
+pub mod RoutineSteps
+pub mod KernelSteps
+pub mod BlockSteps
+pub mod ChunkSteps
+pub mod PointerSteps
+pub mod ArraySteps
 pub mod Steps
 pub mod Ends
 pub mod Runs

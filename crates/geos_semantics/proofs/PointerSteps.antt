@@ -1,0 +1,160 @@
+-- Each step of an instruction that reads, writes, copies or measures through a pointer goes well.
+use Rattle.std.proofs.Common.{◌≡◌, ℕ, ◌+◌, ◌≤◌, false, take, refl, arith, zero, suc, ◌<◌}
+use Rattle.std.specs.Prelude.{is_none}
+use Rattle.std.proofs.lemmas.Bool.{or_parts}
+use Rattle.std.proofs.lemmas.List.Elements.{All-take}
+use Rattle.geos_model.specs.Memory.{Memory}
+use Rattle.geos_model.specs.Legal.{AreBytes, IsMemory}
+use Rattle.geos_model.specs.Effects.{Choice, Reference, Nothing}
+use Rattle.geos_model.specs.Calls.{store, named_bytes, written}
+use Rattle.geos_model.proofs.Keeps.{named_bytes-legal}
+use Rattle.geos_image.specs.declared.opcode.Opcode.TheVariants as op
+use Rattle.geos_verify.specs.declared.uses.Width.{Width}
+use Rattle.geos_verify.specs.declared.uses.Width.TheVariants.{Byte, Word}
+use Rattle.geos_verify.specs.declared.uses.SlotUse.TheVariants.{NoSlot}
+use Rattle.geos_verify.specs.Rows.{with_bound, pointer_at}
+use Rattle.geos_verify.specs.Rows as rows
+use Rattle.geos_verify.specs.Potentials.{pays}
+use Rattle.geos_semantics.specs.State.{word, pointer, with_pointer, reference_at, kept_pointers}
+use Rattle.geos_semantics.specs.Model.{reads, writes, reads_within, writes_within, nowhere, load, low_bytes, within}
+use Rattle.geos_semantics.specs.Meets.{PointerMeets, PointerIsSound}
+use Rattle.geos_semantics.proofs.Lists.{each2-set}
+use Rattle.geos_semantics.proofs.Leads.{Leads}
+use Rattle.geos_semantics.proofs.Locking.{each-set}
+use Rattle.geos_semantics.proofs.NoFaults.{pointer-sound, pointer-known}
+use Rattle.geos_semantics.proofs.Bounds.{byte-most, word-most, led-at, led-most}
+use Rattle.geos_semantics.proofs.Fine.{Fine, fine-word}
+use Rattle.geos_semantics.proofs.Moments.{Moment, Well, StepsWell, unfaulted-here, along_edge, branch_edge, fine-goes, fine-here}
+use Rattle.geos_semantics.proofs.KernelSteps.{LeavesAll, fine-unchanged, calls-well, telling-well, fine-written}
+
+-- the bytes of a word are bytes
+low-bytes : (width : Width) (n : ℕ) → AreBytes (low_bytes width n)
+low-bytes Byte n zero d lt = omega arith
+low-bytes Byte n (suc k) d lt = absurd (omega (arith, lt))
+low-bytes Word n zero d lt = omega arith
+low-bytes Word n (suc zero) d lt = omega arith
+low-bytes Word n (suc (suc k)) d lt = absurd (omega (arith, lt))
+
+-- the greatest number in so many bytes
+abbrev most_in : Width → ℕ
+most_in Byte = 255
+most_in Word = 65535
+
+load-leaves : (width : Width) (ref : Reference) (at : ℕ) (choice : Choice) (m : Memory) → LeavesAll (load width ref at choice m) m
+load-leaves Byte ref at choice m = (refl, refl, λ r. refl)
+load-leaves Word ref at choice m = (refl, refl, λ r. refl)
+
+load-most : (width : Width) (ref : Reference) (at : ℕ) (choice : Choice) (m : Memory) → IsMemory m → (load width ref at choice m).answer ≤ most_in width
+load-most Byte ref at choice m legal = byte-most (named_bytes m ref) at (named_bytes-legal m ref legal)
+load-most Word ref at choice m legal = word-most (named_bytes m ref) at (named_bytes-legal m ref legal)
+
+module _ (moment : Moment) where
+  open moment use {image, base, state as s, good as G}
+
+  -- Reads and writes whose offset the verifier knows of
+
+  read-well : (width : Width) (at : ℕ) (choice : Choice) → Leads image s.routine G.routine (s.pc + 1) (with_bound G.point.0.a (most_in width) G.point.1) (pays G.point.2) → Well moment (reads width at choice G.point.0 s)
+  read-well width at choice L = go width L
+    where
+      go : (width : Width) → Leads image s.routine G.routine (s.pc + 1) (with_bound G.point.0.a (most_in width) G.point.1) (pays G.point.2) → Well moment (reads width at choice G.point.0 s)
+      go Byte L = fine-goes moment _ (s.pc + 1) _ L (fine-word base s _ G.point.1 G.point.0.a _ 255 (fine-unchanged moment) (load-most Byte (reference_at s G.point.0.b) at choice s.memory G.sound.memory))
+      go Word L = fine-goes moment _ (s.pc + 1) _ L (fine-word base s _ G.point.1 G.point.0.a _ 65535 (fine-unchanged moment) (load-most Word (reference_at s G.point.0.b) at choice s.memory G.sound.memory))
+
+  pub ldb-well : StepsWell moment op.Ldb
+  ldb-well is choice = read-well Byte G.point.0.imm choice (along_edge moment op.Ldb is refl)
+
+  pub ldw-well : StepsWell moment op.Ldw
+  ldw-well is choice = read-well Word G.point.0.imm choice (along_edge moment op.Ldw is refl)
+
+  pub ldxb-well : StepsWell moment op.Ldxb
+  ldxb-well is choice = read-well Byte (word s G.point.0.c) choice (along_edge moment op.Ldxb is refl)
+
+  pub ldxw-well : StepsWell moment op.Ldxw
+  ldxw-well is choice = read-well Word (word s G.point.0.c) choice (along_edge moment op.Ldxw is refl)
+
+  -- the low bytes of a word go where a pointer leads
+  stored-fine : (width : Width) (at : ℕ) → is_none (pointer s G.point.0.b) ≡ false
+      → Fine base s (record s { memory = written s.memory (reference_at s G.point.0.b) at (low_bytes width (word s G.point.0.a)); pointers = kept_pointers G.point.0.a Nothing s.pointers }) G.point.1
+  stored-fine width at fresh = fine-written moment (reference_at s G.point.0.b) at (low_bytes width (word s G.point.0.a)) (led-at base s G.point.0.b G.sound fresh) (low-bytes width (word s G.point.0.a))
+
+  write-well : (width : Width) (at : ℕ) (choice : Choice) → is_none (pointer s G.point.0.b) ≡ false → Leads image s.routine G.routine (s.pc + 1) G.point.1 (pays G.point.2) → Well moment (writes width at choice G.point.0 s)
+  write-well width at choice fresh L = fine-goes moment _ (s.pc + 1) G.point.1 L (stored-fine width at fresh)
+
+  pub stb-well : StepsWell moment op.Stb
+  stb-well is choice = write-well Byte G.point.0.imm choice (unfaulted-here moment op.Stb is).fresh (along_edge moment op.Stb is refl)
+
+  pub stw-well : StepsWell moment op.Stw
+  stw-well is choice = write-well Word G.point.0.imm choice (unfaulted-here moment op.Stw is).fresh (along_edge moment op.Stw is refl)
+
+  pub stxb-well : StepsWell moment op.Stxb
+  stxb-well is choice = write-well Byte (word s G.point.0.c) choice (unfaulted-here moment op.Stxb is).fresh (along_edge moment op.Stxb is refl)
+
+  pub stxw-well : StepsWell moment op.Stxw
+  stxw-well is choice = write-well Word (word s G.point.0.c) choice (unfaulted-here moment op.Stxw is).fresh (along_edge moment op.Stxw is refl)
+
+  -- Reads and writes whose offset is tested
+
+  tested-read-well : (width : Width) (choice : Choice) → Leads image s.routine G.routine (s.pc + 1) (with_bound G.point.0.a (most_in width) G.point.1) (pays G.point.2)
+      → Leads image s.routine G.routine G.point.0.target (rows.refused G.point.0 NoSlot G.point.1) (pays G.point.2) → Well moment (reads_within width (word s G.point.0.c) choice G.point.0 s)
+  tested-read-well width choice L B =
+      let ref = reference_at s G.point.0.b in
+      let at = word s G.point.0.c in
+      telling-well moment NoSlot refl G.point.0.a (most_in width) L B (within ref at width (load width ref at)) choice (load-leaves width ref at choice s.memory) (λ e. load-most width ref at choice s.memory G.sound.memory)
+
+  pub ldcb-well : StepsWell moment op.Ldcb
+  ldcb-well is choice = tested-read-well Byte choice (along_edge moment op.Ldcb is refl) (branch_edge moment op.Ldcb is refl)
+
+  pub ldcw-well : StepsWell moment op.Ldcw
+  ldcw-well is choice = tested-read-well Word choice (along_edge moment op.Ldcw is refl) (branch_edge moment op.Ldcw is refl)
+
+  tested-write-well : (width : Width) (choice : Choice) → is_none (pointer s G.point.0.b) ≡ false → Leads image s.routine G.routine (s.pc + 1) G.point.1 (pays G.point.2)
+      → Leads image s.routine G.routine G.point.0.target (rows.refused G.point.0 NoSlot G.point.1) (pays G.point.2) → Well moment (writes_within width (word s G.point.0.c) choice G.point.0 s)
+  tested-write-well width choice fresh L B =
+      let ref = reference_at s G.point.0.b in
+      let at = word s G.point.0.c in
+      calls-well moment NoSlot G.point.1 (within ref at width (store ref at (low_bytes width (word s G.point.0.a)))) nowhere choice L B (λ r. fine-unchanged moment) (λ e. stored-fine width at fresh) refl
+
+  pub stcb-well : StepsWell moment op.Stcb
+  stcb-well is choice = tested-write-well Byte choice (unfaulted-here moment op.Stcb is).fresh (along_edge moment op.Stcb is refl) (branch_edge moment op.Stcb is refl)
+
+  pub stcw-well : StepsWell moment op.Stcw
+  stcw-well is choice = tested-write-well Word choice (unfaulted-here moment op.Stcw is).fresh (along_edge moment op.Stcw is refl) (branch_edge moment op.Stcw is refl)
+
+  -- Pointers as a whole
+
+  pub movp-well : StepsWell moment op.Movp
+  movp-well is choice =
+      let i = G.point.0 in
+      fine-goes moment (with_pointer i.a (pointer s i.b) s) (s.pc + 1) _ (along_edge moment op.Movp is refl) (record {
+        sound = record {
+          memory = G.sound.memory;
+          four = G.sound.four;
+          slots = G.sound.slots;
+          locks = G.sound.locks;
+          pointers = each-set (PointerIsSound s.memory s.slots) s.pointers i.a (pointer s i.b) G.sound.pointers (pointer-sound base s i.b G.sound);
+        };
+        meets = record {
+          words = G.meets.words;
+          slots = G.meets.slots;
+          pointers = each2-set PointerMeets s.pointers G.point.1.pointers i.a (pointer s i.b) (pointer_at G.point.1 i.b) G.meets.pointers (pointer-known s G.point.1 i.b G.meets);
+          pairs = G.meets.pairs;
+        };
+        routine = refl;
+        stack = refl;
+        counters = refl;
+      })
+
+  pub copy-well : StepsWell moment op.Copy
+  copy-well is choice =
+      let i = G.point.0 in
+      let fresh = (or_parts (is_none (pointer s i.a)) (is_none (pointer s i.b)) (unfaulted-here moment op.Copy is).fresh).0 in
+      let from = reference_at s i.b in
+      let ws = take i.imm (named_bytes s.memory from) in
+      fine-goes moment _ (s.pc + 1) G.point.1 (along_edge moment op.Copy is refl)
+      (fine-written moment (reference_at s i.a) 0 ws (led-at base s i.a G.sound fresh) (All-take (λ b. b < 256) i.imm (named_bytes s.memory from) (named_bytes-legal s.memory from G.sound.memory)))
+
+  pub plen-well : StepsWell moment op.Plen
+  plen-well is choice =
+      let i = G.point.0 in
+      let led = led-at base s i.b G.sound (unfaulted-here moment op.Plen is).fresh in
+      fine-goes moment _ (s.pc + 1) _ (along_edge moment op.Plen is refl) (fine-word base s s G.point.1 i.a (reference_at s i.b).len 65535 (fine-here moment) (led-most s.memory (reference_at s i.b) G.sound.memory led))
