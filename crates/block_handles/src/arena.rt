@@ -48,10 +48,7 @@ fn entry_of(table: &[Option<Entry>], slot: usize) -> Entry
     requires { IsEntry (slice_index_or table.now slot None) }
     ensures { slice_index_or table.now slot None ≡ Some result }
 {
-    match table[slot] {
-        Some(entry) => entry,
-        None => unreachable!(),
-    }
+    table[slot].unwrap()
 }
 
 /// Writes how often the block of a slot in use is locked: that one number, in its place.

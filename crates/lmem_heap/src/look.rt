@@ -17,13 +17,10 @@ pub(crate) fn find(block: &[u8], c: u16) -> Result<usize, BadChunk>
     ensures place { MatchResult result (λ i. place_of block.now c ≡ place_at block.now (entry block.now i)) (λ _. place_of block.now c ≡ None) }
     ensures found { MatchResult result (λ i. HasEntry block.now c i) (λ _. chunk_of (chunks block.now) c ≡ None) }
 {
-    let c = c as usize;
-    if c < TABLE || c % 2 != 0 {
-        return Err(BadChunk);
-    }
-    let n = entries(block);
-    let i = (c - TABLE) / 2;
-    if i >= n || entry(block, i) == 0 {
+    // below the table it wraps, and is past the last entry then
+    let at = c.wrapping_sub(TABLE as u16) as usize;
+    let i = at / 2;
+    if at % 2 != 0 || i >= entries(block) || entry(block, i) == 0 {
         return Err(BadChunk);
     }
     Ok(i)
