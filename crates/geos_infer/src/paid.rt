@@ -12,33 +12,6 @@ fn covers(p: &[u32; 4], q: &[u32; 4]) -> bool {
     p[0] >= q[0] && p[1] >= q[1] && p[2] >= q[2] && p[3] >= q[3]
 }
 
-/// Whether what there is at the pc pays for the edge to the target.
-fn pays_to_target(
-    image: &Image,
-    span: Span,
-    known: &[Option<Row>],
-    pc: u16,
-    steps: &[u32],
-    coefficients: &[[u32; 4]],
-) -> bool
-    requires there { pc < length image.now.points }
-    requires short { length image.now.points ≤ 4096 }
-    requires room { span.end ≤ length image.now.points }
-    requires known { length known.now ≡ length image.now.points }
-    requires steps { length steps.now ≡ length image.now.points }
-    requires coefficients { length coefficients.now ≡ length image.now.points }
-{
-    let i = image.instr(pc);
-    let Some(to) = target(image, span, pc, true) else {
-        return true;
-    };
-    let here = &coefficients[pc as usize];
-    let own = own_counter(i, &known[pc as usize], here);
-    let asked = edge_constant(image, span, pc, true, own, steps, coefficients);
-    let next = asked_coefficients(i, true, &coefficients[to as usize]);
-    asked <= u64::from(steps[pc as usize]) && covers(here, &next)
-}
-
 /// Whether the edge to the target is paid for, if it leads back.
 fn is_paid(
     image: &Image,
@@ -56,11 +29,18 @@ fn is_paid(
     requires coefficients { length coefficients.now ≡ length image.now.points }
     ensures { Forward image.now → result ≡ true }
 {
-    if leads_back(image, span.start, pc, true) {
-        pays_to_target(image, span, known, pc, steps, coefficients)
-    } else {
-        true
+    if !leads_back(image, span.start, pc, true) {
+        return true;
     }
+    let i = image.instr(pc);
+    let Some(to) = target(image, span, pc, true) else {
+        return true;
+    };
+    let here = &coefficients[pc as usize];
+    let own = own_counter(i, &known[pc as usize], here);
+    let asked = edge_constant(image, span, pc, true, own, steps, coefficients);
+    let next = asked_coefficients(i, true, &coefficients[to as usize]);
+    asked <= u64::from(steps[pc as usize]) && covers(here, &next)
 }
 
 /// Whether each edge of routine r that leads back is paid for; no instruction is its own next.

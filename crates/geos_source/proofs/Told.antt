@@ -83,8 +83,11 @@ waiting_from-some : (n : ℕ) (waiting : Option ℕ) → (line : ℕ) × (waitin
 waiting_from-some n None = (n, refl)
 waiting_from-some n (Some line) = (line, refl)
 
-label-told : (names : Names) (n : ℕ) (name : List ℕ) (line : ℕ) (d : Declared) (t : Draft) → t.progress.waiting ≡ Some line → Told names d t → Told names (with_label n name d) t
-label-told names n name line d t waits h =
+-- names may stand for what follows, where something waits
+waits-told : (names : Names) (labels : List ℕ → Option ℕ) (waiting : Option ℕ) (line : ℕ) (fault : Option BadLine) (d : Declared) (t : Draft) → waiting ≡ Some line
+    → ((name : List ℕ) (pc : ℕ) → labels name ≡ Some pc → pc ≤ d.instrs) → Told names d t
+    → Told names (record { routines = d.routines; instrs = d.instrs; names = record { labels = labels; routines = d.names.routines }; fault = fault }) (record t { progress = record t.progress { waiting = waiting } })
+waits-told names labels waiting line fault d t waits within h =
     record {
       part = h.part;
       complete = h.complete;
@@ -95,10 +98,15 @@ label-told names n name line d t waits h =
       counts = h.counts;
       unnamed = h.unnamed;
       callees = h.callees;
-      labels = λ other pc e. named-holds (λ k. k ≤ d.instrs) (bytes_eq name other) d.instrs pc (d.names.labels other) (omega arith) (h.labels other pc) e;
+      labels = within;
       followed = λ none. absurd cc;
       code = h.code;
     }
+
+label-told : (names : Names) (n : ℕ) (name : List ℕ) (line : ℕ) (d : Declared) (t : Draft) → t.progress.waiting ≡ Some line → Told names d t → Told names (with_label n name d) t
+label-told names n name line d t waits h =
+    waits-told names (with_name d.names.labels name d.instrs) t.progress.waiting line _ d t waits
+    (λ other pc e. named-holds (λ k. k ≤ d.instrs) (bytes_eq name other) d.instrs pc (d.names.labels other) (omega arith) (h.labels other pc) e) h
 
 later_labels-told : (names : Names) (n : ℕ) (others : List (List ℕ)) (line : ℕ) (d : Declared) (t : Draft) → t.progress.waiting ≡ Some line → Told names d t → Told names (with_labels n others d) t
 later_labels-told names n [] line d t waits h = h
@@ -107,20 +115,7 @@ later_labels-told names n (name ∷ others) line d t waits h = later_labels-told
 waiting-told : (names : Names) (n : ℕ) (d : Declared) (t : Draft) → Told names d t → Told names d (record t { progress = take_labels n true t.progress })
 waiting-told names n d t h =
     let waits = waiting_from-some n t.progress.waiting in
-    record {
-      part = h.part;
-      complete = h.complete;
-      instrs = h.instrs;
-      routines = h.routines;
-      short = h.short;
-      few = h.few;
-      counts = h.counts;
-      unnamed = h.unnamed;
-      callees = h.callees;
-      labels = h.labels;
-      followed = λ none. absurd (cc (waits.1, none));
-      code = h.code;
-    }
+    waits-told names d.names.labels (waiting_from n t.progress.waiting) waits.0 d.fault d t waits.1 h.labels h
 
 -- labels stand for what follows
 pub labels-told : (names : Names) (n : ℕ) (labels : List (List ℕ)) (d : Declared) (t : Draft) → Told names d t

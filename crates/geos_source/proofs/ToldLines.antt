@@ -6,7 +6,8 @@ use Rattle.geos_image.specs.declared.routine.Routine.{Routine}
 use Rattle.geos_image.specs.Legal.{is_row}
 use Rattle.geos_text.specs.Words.{is_empty}
 use Rattle.geos_source.specs.declared.fault.Why.{Why}
-use Rattle.geos_source.specs.Faults.{least}
+use Rattle.geos_source.specs.declared.progress.Progress.{Progress}
+use Rattle.geos_source.specs.Faults.{least, first, at_line}
 use Rattle.geos_source.specs.Names.{Names}
 use Rattle.geos_source.specs.Lines.{parted, said}
 use Rattle.geos_source.specs.Operands.{instruction}
@@ -48,29 +49,32 @@ routine-told names n (Ok r) name None d t made room h single quiet =
     let told = begun-told names d t r n _ _ h ended.0 ended.1 (room refl) new from.1 head.name head.entry head.exit in
     subst (λ (o : Option (List ℕ)). Told names (one_more_routine (with_routine_name n o d)) (record { routines = all_of t; code = t.code; progress = begun n (Ok r) None (closed t.progress) })) (sym from.0) told
 
+-- where a line of a row has no fault, the row is read, no label waits, and the line stands where
+-- it may
+row_line-quiet : (n : ℕ) (read : Result Row Why) (misplaced : Option Why) (p : Progress) → first (drop_labels p).fault (at_line n (least (why_of read) misplaced)) ≡ None
+    → (row : Row) × (read ≡ Ok row) × (p.waiting ≡ None) × (misplaced ≡ None)
+row_line-quiet n (Err why) misplaced p quiet =
+    let not_read = at_line-none n (least (Some why) misplaced) (first-none (drop_labels p).fault _ quiet).1 in
+    absurd (some_there why (least-none (Some why) misplaced not_read).0)
+row_line-quiet n (Ok row) misplaced p quiet =
+    let q = first-none _ _ quiet in
+    (row, refl, unfollowed-none p.waiting (first-none _ _ q.0).1, at_line-none n misplaced q.1)
+
 -- a line `in`
 in-told : (names : Names) (n : ℕ) (read : Result Row Why) (d : Declared) (t : Draft) → ((row : Row) → read ≡ Ok row → is_row row ≡ true) → Told names d t → (take_in n read (drop_labels t.progress)).fault ≡ None
     → Told names d (record { routines = t.routines; code = t.code; progress = take_in n read (drop_labels t.progress) })
-in-told names n (Err why) d t legal h quiet =
-    let not_read = at_line-none n (least (Some why) (misplaced_in t.progress.part)) (first-none (drop_labels t.progress).fault _ quiet).1 in
-    absurd (some_there why (least-none (Some why) (misplaced_in t.progress.part) not_read).0)
-in-told names n (Ok row) d t legal h quiet =
-    let q = first-none _ _ quiet in
-    let none = unfollowed-none t.progress.waiting (first-none _ _ q.0).1 in
-    let placed = at_line-none n (misplaced_in t.progress.part) q.1 in
-    in_part-told names d t.routines t.code t.progress.part t.progress.current t.progress.waiting t.progress.fault n row h placed none (legal row refl)
+in-told names n read d t legal h quiet =
+    let line = row_line-quiet n read (misplaced_in t.progress.part) t.progress quiet in
+    let told = in_part-told names d t.routines t.code t.progress.part t.progress.current t.progress.waiting t.progress.fault n line.0 h line.3 line.2 (legal line.0 line.1) in
+    subst (λ (other : Result Row Why). Told names d (record { routines = t.routines; code = t.code; progress = take_in n other (drop_labels t.progress) })) (sym line.1) told
 
 -- a line `out`
 out-told : (names : Names) (n : ℕ) (read : Result Row Why) (d : Declared) (t : Draft) → ((row : Row) → read ≡ Ok row → is_row row ≡ true) → Told names d t → (take_out n read (drop_labels t.progress)).fault ≡ None
     → Told names d (record { routines = t.routines; code = t.code; progress = take_out n read (drop_labels t.progress) })
-out-told names n (Err why) d t legal h quiet =
-    let not_read = at_line-none n (least (Some why) (misplaced_out t.progress.part)) (first-none (drop_labels t.progress).fault _ quiet).1 in
-    absurd (some_there why (least-none (Some why) (misplaced_out t.progress.part) not_read).0)
-out-told names n (Ok row) d t legal h quiet =
-    let q = first-none _ _ quiet in
-    let none = unfollowed-none t.progress.waiting (first-none _ _ q.0).1 in
-    let placed = at_line-none n (misplaced_out t.progress.part) q.1 in
-    out_part-told names d t.routines t.code t.progress.part t.progress.current t.progress.waiting t.progress.fault n row h placed none (legal row refl)
+out-told names n read d t legal h quiet =
+    let line = row_line-quiet n read (misplaced_out t.progress.part) t.progress quiet in
+    let told = out_part-told names d t.routines t.code t.progress.part t.progress.current t.progress.waiting t.progress.fault n line.0 h line.3 line.2 (legal line.0 line.1) in
+    subst (λ (other : Result Row Why). Told names d (record { routines = t.routines; code = t.code; progress = take_out n other (drop_labels t.progress) })) (sym line.1) told
 
 -- an instruction that is read, and stands where it may
 instr_read-told : (names : Names) (n : ℕ) (read : Result Instr Why) (why : Option Why) (d : Declared) (t : Draft) → why ≡ None → why_of read ≡ None → is_full t.code ≡ None → outside t.progress.part ≡ None
