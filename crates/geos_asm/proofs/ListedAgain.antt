@@ -1,12 +1,13 @@
 -- The text that lists an image has its code.
-use Rattle.std.proofs.Common.{◌≡◌, ◌∙◌, ◌<◌, ◌≤◌, ℕ, zero, suc, ◌+◌, Bool, true, false, cond, not, List, [], ◌∷◌, ◌++◌, length, map, take, Some, None, Ok, slice_get, refl, sym, ap, subst, leb-true, arith}
-use Rattle.std.specs.Prelude.{codes, nat_le}
+use Rattle.std.proofs.Common.{◌≡◌, ◌∙◌, ◌<◌, ◌≤◌, ℕ, zero, suc, ◌+◌, Bool, true, false, cond, not, List, [], ◌∷◌, ◌++◌, length, map, take, Some, None, Result, Ok, Err, Vec, slice_get, refl, sym, ap, subst, leb-true, arith}
+use Rattle.std.specs.Prelude.{codes, nat_le, IfOk, OnOk}
+use Rattle.std.specs.List.{All}
 use Rattle.std.specs.Option.{option_map_or}
 use Rattle.std.proofs.lemmas.Bool.{le-ltb}
 use Rattle.std.proofs.lemmas.List.{length-map, length-take, take_all}
 use Rattle.geos_image.specs.declared.routine.Routine.{Routine}
 use Rattle.geos_image.specs.Legal.{is_image}
-use Rattle.geos_image.specs.Ranges.{ImageFits}
+use Rattle.geos_image.specs.Ranges.{RoutineFits}
 use Rattle.geos_image.specs.Parts.{Parts, start_of}
 use Rattle.geos_image.proofs.Starts.{start_of-next, start_of-all}
 use Rattle.geos_infer.specs.Code.{instrs_of, instr_of}
@@ -18,11 +19,11 @@ use Rattle.geos_source.specs.declared.progress.TextRoutine.{TextRoutine}
 use Rattle.geos_source.specs.Skeletons.{routine_of}
 use Rattle.geos_source.specs.Faults.{first, at_line}
 use Rattle.geos_source.specs.Declarations.{declared}
-use Rattle.geos_source.specs.Texts.{Draft, Code, blank, no_room, close, begin, begun_by, unfilled, without_routine, too_long, draft_of, take_lines, code_of}
+use Rattle.geos_source.specs.Texts.{Draft, blank, no_room, close, begin, begun_by, unfilled, without_routine, too_long, draft_of, take_lines}
 use Rattle.geos_source.proofs.PartNames.{TextPart, head, body}
 use Rattle.geos_source.proofs.Pushed.{routines-push}
 use Rattle.geos_source.proofs.TextLaws.{fault_by, code_of-found}
-use Rattle.geos_asm.specs.Assembling.{HasCode}
+use Rattle.geos_asm.specs.Assembling.{IsTextOf}
 use Rattle.geos_asm.proofs.HeadsAgain.{begun_as}
 use Rattle.geos_asm.proofs.RowsAgain.{words_below as lines_below, row_words}
 use Rattle.geos_asm.proofs.ListedFacts.{Facts, facts}
@@ -129,8 +130,7 @@ module _ (image : Parts) (known : Facts image) where
       take_all (start_of image.routines (length image.routines)) (instrs_of image) (omega (arith, end, many))
 
 -- the text that lists an image has its code
-pub list-again : (image : Parts) → is_image image ≡ true → ImageFits image
-    → (code : Code) × (code_of (listing image) ≡ Ok code) × HasCode code image
+pub list-again : (image : Parts) → is_image image ≡ true → All RoutineFits image.routines → IsTextOf image (listing image)
 list-again image legal fits =
     let known = facts image legal fits in
     let text = listing image in
@@ -144,11 +144,17 @@ list-again image legal fits =
     let rest = first draft.progress.fault (without_routine draft.progress.part) in
     let no_fault : fault_by text d draft ≡ None =
     ap (λ o. first (first o None) rest) fits_text ∙ ap (λ o. first o (without_routine draft.progress.part)) b.fault ∙ b.placed known.some in
-    let code : Code = record { routines = draft.routines; instrs = draft.code } in (
-      code,
-      code_of-found text d draft None (sym (ap declared are ∙ listing-declared image known)) (sym (ap (draft_of names) are)) (sym no_fault),
-      record {
+    record {
+      code = record { routines = draft.routines; instrs = draft.code };
+      read = code_of-found text d draft None (sym (ap declared are ∙ listing-declared image known)) (sym (ap (draft_of names) are)) (sym no_fault);
+      has = record {
         routines = sym (b.routines ∙ take_all n image.routines (omega arith));
         instrs = sym (b.code ∙ all_instrs image known);
-      },
-    )
+      };
+    }
+
+-- so it is where a text is answered
+pub listed-again : {A E : Type 0} (image : Parts) (answer : Result (Vec ℕ A) E) → is_image image ≡ true → IfOk answer (λ text. text.items ≡ listing image)
+    → OnOk answer (All RoutineFits image.routines) → IfOk answer (λ text. IsTextOf image text.items)
+listed-again image (Ok text) legal is fits = subst (IsTextOf image) (sym is) (list-again image legal fits)
+listed-again image (Err e) legal is fits = tt

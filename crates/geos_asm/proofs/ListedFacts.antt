@@ -6,7 +6,7 @@ use Rattle.std.proofs.lemmas.Bool.{and_parts, ltb-true}
 use Rattle.geos_image.specs.declared.routine.Routine.{Routine}
 use Rattle.geos_image.specs.Parts.{Parts, Point, total_count}
 use Rattle.geos_image.specs.Legal.{is_name, is_named, is_row, is_instr, is_point, is_routine, are_routines, is_image}
-use Rattle.geos_image.specs.Ranges.{ImageFits, RoutineFits}
+use Rattle.geos_image.specs.Ranges.{RoutineFits}
 use Rattle.geos_image.proofs.Instrs.{image_parts}
 use Rattle.geos_listing.proofs.Limits.{item_at, get_or-at}
 use Rattle.geos_asm.proofs.RowsAgain.{IsSound, is_sound}
@@ -127,13 +127,13 @@ within (y ∷ xs) (suc k) x e = omega (arith, within xs k x e)
 fits_at : {A : Type 0} (P : A → Type 0) (xs : List A) (k : ℕ) (x : A) → All P xs → slice_get xs k ≡ Some x → P x
 fits_at P xs k x all e = subst P (get_or-at xs k x x e) (all k x (within xs k x e))
 
-pub facts : (image : Parts) → is_image image ≡ true → ImageFits image → Facts image
+pub facts : (image : Parts) → is_image image ≡ true → All RoutineFits image.routines → Facts image
 facts image legal fits =
     let parts = image_parts image legal in
     let r = length image.routines in
     let n = length image.points in
     let here : (k : ℕ) (x : Routine) → slice_get image.routines k ≡ Some x → IsListed x =
-    λ k x e. listed image k x legal (fits_at RoutineFits image.routines k x fits.routines e) e in
+    λ k x e. listed image k x legal (fits_at RoutineFits image.routines k x fits e) e in
     record {
       some = parts.some;
       few = parts.few;

@@ -21,6 +21,12 @@ pub record HasCode (code : Code) (image : Parts) : Type 0 where
   pub routines : image.routines ≡ map routine_of code.routines
   pub instrs : instrs_of image ≡ code.instrs
 
+-- the text has no fault, and the image has its code
+pub record IsTextOf (image : Parts) (text : List ℕ) : Type 0 where
+  pub code : Code
+  pub read : code_of text ≡ Ok code
+  pub has : HasCode code image
+
 -- a routine of the code begins at the line
 pub record BeginsAt (code : Code) (line : ℕ) : Type 0 where
   pub r : ℕ

@@ -5,8 +5,9 @@
 
 mod assembler;
 mod error;
+mod listing;
 
 pub use assembler::assemble;
 pub use error::AssembleError;
-pub use geos_listing::list;
 pub use geos_source::{BadLine, Why};
+pub use listing::list;

@@ -8,7 +8,7 @@ use Rattle.geos_verify.specs.declared.rule.Reject.{Reject}
 use Rattle.geos_verify.specs.Rules.{Accepted, FirstRefusal}
 use Rattle.geos_listing.specs.Listing.{listing}
 use Rattle.geos_explain.specs.Explanation.{explanation, IsVerdict}
-use Rattle.geos_asm.specs.Assembling.{IsAssembled}
+use Rattle.geos_asm.specs.Assembling.{IsAssembled, IsTextOf}
 use Rattle.geos_commands.specs.declared.fault.CheckFault.{CheckFault}
 use Rattle.geos_commands.specs.declared.fault.CheckFault.TheVariants.{BadImage, Rejected, Memory}
 
@@ -16,9 +16,9 @@ use Rattle.geos_commands.specs.declared.fault.CheckFault.TheVariants.{BadImage, 
 abbrev pub IsAssembledAs : List ℕ → List ℕ → Type 0
 IsAssembledAs text bytes = (image : Parts) × (image_at bytes ≡ Ok image) × IsAssembled text image
 
--- the bytes spell an image, and the text is its listing
+-- the bytes spell an image, and the text is its listing, and has its code
 abbrev pub IsListed : List ℕ → List ℕ → Type 0
-IsListed bytes text = (image : Parts) × (image_at bytes ≡ Ok image) × (text ≡ listing image)
+IsListed bytes text = (image : Parts) × (image_at bytes ≡ Ok image) × (text ≡ listing image) × IsTextOf image text
 
 -- the bytes spell an image, the refusal is its first, if there is one, and the text is the explanation of both
 abbrev pub IsExplained : List ℕ → List ℕ → Option Reject → Type 0

@@ -1,9 +1,10 @@
 -- What a legal image says of its instructions.
-use Rattle.std.proofs.Common.{◌≡◌, ◌<◌, ℕ, zero, suc, Bool, true, Some, List, [], ◌∷◌, length, slice_get, refl, subst, arith, get_or}
+use Rattle.std.proofs.Common.{◌≡◌, ◌<◌, ℕ, zero, suc, ◌+◌, Bool, true, Some, List, [], ◌∷◌, length, take, slice_get, refl, sym, subst, arith, get_or}
 use Rattle.std.specs.Prelude.{IfSome}
-use Rattle.std.specs.List.{list_all}
+use Rattle.std.specs.List.{All, list_all}
 use Rattle.std.specs.Option.{option_map_or}
 use Rattle.std.proofs.lemmas.Bool.{and_parts}
+use Rattle.std.proofs.lemmas.List.Elements.{All-more}
 use Rattle.geos_image.specs.Parts.{Parts, Point}
 use Rattle.geos_image.specs.declared.instr.Instr.{Instr}
 use Rattle.geos_image.specs.Legal.{is_image, is_instr, is_row, is_point}
@@ -37,6 +38,13 @@ pub get_or-at : {A : Type 0} (xs : List A) (k : ℕ) (x d : A) → slice_get xs 
 get_or-at [] k x d e = absurd cc
 get_or-at (y ∷ xs) zero x d e = cc
 get_or-at (y ∷ xs) (suc k) x d e = get_or-at xs k x d e
+
+-- one more element is as all before it are
+pub All-one_more : {A : Type 0} (P : A → Type 0) (xs : List A) (k : ℕ) → k < length xs → All P (take k xs) → IfSome (slice_get xs k) P → All P (take (k + 1) xs)
+All-one_more P xs k lt before there =
+    let at = item_at xs k lt in
+    let here : P at.0 = rw at.1 at there in
+    All-more P xs k at.0 lt before (subst P (sym (get_or-at xs k at.0 at.0 at.1)) here)
 
 -- an instruction of a legal image keeps the limits
 pub KeepsLimits-at : (image : Parts) (pc : ℕ) (i : Instr) → is_image image ≡ true → pc < length image.points → IfSome (slice_get image.points pc) (λ point. i ≡ point.0) → KeepsLimits image i

@@ -24,6 +24,10 @@ abbrev pub routine_text : Parts → ℕ → Routine → List ℕ
 routine_text image start r =
     routine_line r ++ row_line (codes "in") r.entry ++ row_line (codes "out") r.exit ++ texts_below r.count (λ k. place_text image (start + k))
 
+-- the same of the routine with a number, if there is one
+abbrev pub listed_routine : Parts → ℕ → List ℕ
+listed_routine image r = option_map_or (routine_text image (start_of image.routines r)) (slice_get image.routines r) []
+
 -- the routines one after another
 abbrev pub listing : Parts → List ℕ
-listing image = texts_below (length image.routines) (λ r. option_map_or (routine_text image (start_of image.routines r)) (slice_get image.routines r) [])
+listing image = texts_below (length image.routines) (λ r. listed_routine image r)

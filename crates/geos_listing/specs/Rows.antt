@@ -41,13 +41,17 @@ pair_item pair true = codes " s" ++ decimal pair.0 ++ codes "#s" ++ decimal pair
 abbrev pub pair_slots : List (ℕ × ℕ)
 pair_slots = (0, 1) ∷ (0, 2) ∷ (0, 3) ∷ (1, 2) ∷ (1, 3) ∷ (2, 3) ∷ []
 
+-- the pairs below n that are known to hold different blocks
+abbrev pub pair_items : ℕ → List Bool → List ℕ
+pair_items n pairs = texts_below n (λ k. pair_item (slice_index_or pair_slots k (0, 0)) (slice_index_or pairs k false))
+
 -- the items in which a row differs from the open row: bounds, slots, pointers and pairs
 unfoldable pub row_items : Row → List ℕ
 row_items row =
     texts_below 8 (λ i. bound_item i (slice_index row.bounds i))
     ++ texts_below 4 (λ i. slot_item i (slice_index_or row.slots i Empty))
     ++ texts_below 4 (λ i. pointer_item i (slice_index_or row.pointers i None))
-    ++ texts_below 6 (λ k. pair_item (slice_index_or pair_slots k (0, 0)) (slice_index_or row.pairs k false))
+    ++ pair_items 6 row.pairs
 
 -- the line of a row, which begins with a word; none for the open row
 abbrev pub row_line : List ℕ → Row → List ℕ

@@ -1,12 +1,12 @@
 //! The text of an image.
 
-ghost use Rattle.std.specs.Prelude.{◌≡◌, ◌<◌, ◌≤◌, ◌+◌, ◌++◌, [], true, OnOk, IfOk, length, slice_get};
-ghost use Rattle.std.specs.Option.{option_map_or};
+ghost use Rattle.std.specs.Prelude.{◌≡◌, ◌<◌, ◌≤◌, ◌+◌, ◌++◌, true, OnOk, IfOk, IfSome, length, slice_get};
+ghost use Rattle.std.specs.List.{All};
 ghost use Rattle.geos_image.specs.Legal.{is_image};
-ghost use Rattle.geos_image.specs.Parts.{start_of};
+ghost use Rattle.geos_image.specs.Ranges.{IsLong, RoutineFits};
 ghost use Rattle.geos_listing.specs.Rows.{texts_below};
 ghost use Rattle.geos_listing.specs.Instrs.{MarksTargets, label_line};
-ghost use Rattle.geos_listing.specs.Listing.{public_text, routine_line, place_text, routine_text, listing};
+ghost use Rattle.geos_listing.specs.Listing.{public_text, routine_line, place_text, listed_routine, listing};
 
 use crate::instrs::{put_instr, put_numbered};
 use crate::numbers::put_number;
@@ -76,7 +76,9 @@ fn put_public(out: &mut Vec<u8>, public: bool) -> Result<(), AllocError>
 
 /// Appends the line with the routine's name, whether it is public, and its budget.
 pub fn put_routine_line(out: &mut Vec<u8>, routine: &Routine) -> Result<(), AllocError>
-    ensures { OnOk result (out.new.items ≡ out.old.items ++ routine_line routine.now) }
+    ensures value { OnOk result (out.new.items ≡ out.old.items ++ routine_line routine.now) }
+    ensures name { OnOk result (length routine.now.name ≡ 16) }
+    ensures budget { OnOk result (IsLong routine.now.budget) }
 {
     out.extend_from_slice(b"routine ")?;
     out.extend_from_slice(routine.name_text())?;
@@ -96,7 +98,8 @@ fn put_routine(
     requires within { r < length image.now.routines }
     requires legal { is_image image.now ≡ true }
     requires targets { MarksTargets image.now.points targets.now }
-    ensures { OnOk result (out.new.items ≡ out.old.items ++ option_map_or (routine_text image.now (start_of image.now.routines r)) (slice_get image.now.routines r) []) }
+    ensures value { OnOk result (out.new.items ≡ out.old.items ++ listed_routine image.now r) }
+    ensures fits { OnOk result (IfSome (slice_get image.now.routines r) RoutineFits) }
 {
     let routine = image.routine(r);
     put_routine_line(out, routine)?;
@@ -108,7 +111,9 @@ fn put_routine(
 /// The text of the image. It takes time in proportion to the image.
 #[tactic(auto, unfolding(crate::specs::Rows::texts_below))]
 pub fn list(alloc: Global, image: &Image) -> Result<Vec<u8>, AllocError>
-    ensures { IfOk result (λ text. text.items ≡ listing image.now) }
+    ensures value { IfOk result (λ text. text.items ≡ listing image.now) }
+    ensures legal { is_image image.now ≡ true }
+    ensures fits { OnOk result (All RoutineFits image.now.routines) }
 {
     let targets = targets_of(image);
     let mut out = Vec::new(alloc);

@@ -1,8 +1,10 @@
 //! The lines of rows.
 
-ghost use Rattle.std.specs.Prelude.{◌≡◌, ◌<◌, ◌++◌, OnOk, None, false, slice_index, slice_index_or};
+ghost use Rattle.std.specs.Prelude.{◌≡◌, ◌<◌, ◌++◌, OnOk, None, slice_index, slice_index_or};
+ghost use Rattle.std.specs.List.{All};
 ghost use Rattle.geos_image.specs.declared.row.SlotState.TheVariants.{Empty};
-ghost use Rattle.geos_listing.specs.Rows.{texts_below, bound_item, held_item, slot_item, pointer_item, pair_item, pair_slots, row_items, row_line};
+ghost use Rattle.geos_image.specs.Ranges.{IsWord, PointerFits, RowFits};
+ghost use Rattle.geos_listing.specs.Rows.{texts_below, bound_item, held_item, slot_item, pointer_item, pair_item, pair_slots, pair_items, row_items, row_line};
 
 use crate::numbers::put_number;
 use geos_image::{Pointer, Row, SlotState};
@@ -27,7 +29,8 @@ fn put_bound(out: &mut Vec<u8>, i: usize, bound: u16) -> Result<(), AllocError>
 
 #[tactic(auto, unfolding(crate::specs::Rows::texts_below))]
 fn put_bounds(out: &mut Vec<u8>, bounds: &[u16; 8]) -> Result<(), AllocError>
-    ensures { OnOk result (out.new.items ≡ out.old.items ++ texts_below 8 (λ i. bound_item i (slice_index bounds.now i))) }
+    ensures value { OnOk result (out.new.items ≡ out.old.items ++ texts_below 8 (λ i. bound_item i (slice_index bounds.now i))) }
+    ensures fits { OnOk result (All IsWord bounds.now) }
 {
     for i in 0..bounds.len() {
         put_bound(out, i, bounds[i])?;
@@ -73,7 +76,8 @@ fn put_slots(out: &mut Vec<u8>, slots: &[SlotState; 4]) -> Result<(), AllocError
 /// Where a pointer leads, unless nothing is known of it.
 fn put_pointer(out: &mut Vec<u8>, i: usize, pointer: Option<Pointer>) -> Result<(), AllocError>
     requires { i < 4 }
-    ensures { OnOk result (out.new.items ≡ out.old.items ++ pointer_item i pointer) }
+    ensures value { OnOk result (out.new.items ≡ out.old.items ++ pointer_item i pointer) }
+    ensures fits { OnOk result (PointerFits pointer) }
 {
     let Some(pointer) = pointer else {
         return Ok(());
@@ -88,7 +92,8 @@ fn put_pointer(out: &mut Vec<u8>, i: usize, pointer: Option<Pointer>) -> Result<
 
 #[tactic(auto, unfolding(crate::specs::Rows::texts_below))]
 fn put_pointers(out: &mut Vec<u8>, pointers: &[Option<Pointer>; 4]) -> Result<(), AllocError>
-    ensures { OnOk result (out.new.items ≡ out.old.items ++ texts_below 4 (λ i. pointer_item i (slice_index_or pointers.now i None))) }
+    ensures value { OnOk result (out.new.items ≡ out.old.items ++ texts_below 4 (λ i. pointer_item i (slice_index_or pointers.now i None))) }
+    ensures fits { OnOk result (All PointerFits pointers.now) }
 {
     for i in 0..pointers.len() {
         put_pointer(out, i, pointers[i])?;
@@ -111,7 +116,7 @@ fn put_pair(out: &mut Vec<u8>, pair: (u32, u32), differ: bool) -> Result<(), All
 
 #[tactic(auto, unfolding(crate::specs::Rows::texts_below))]
 fn put_pairs(out: &mut Vec<u8>, pairs: &[bool; 6]) -> Result<(), AllocError>
-    ensures { OnOk result (out.new.items ≡ out.old.items ++ texts_below 6 (λ k. pair_item (slice_index_or pair_slots k (0, 0)) (slice_index_or pairs.now k false))) }
+    ensures { OnOk result (out.new.items ≡ out.old.items ++ pair_items 6 pairs.now) }
 {
     for k in 0..pairs.len() {
         put_pair(out, PAIRS[k], pairs[k])?;
@@ -122,7 +127,8 @@ fn put_pairs(out: &mut Vec<u8>, pairs: &[bool; 6]) -> Result<(), AllocError>
 /// Appends the items in which the row differs from the open row, a blank in front of each.
 #[tactic(auto, unfolding(crate::specs::Rows::row_items))]
 pub fn put_items(out: &mut Vec<u8>, row: &Row) -> Result<(), AllocError>
-    ensures { OnOk result (out.new.items ≡ out.old.items ++ row_items row.now) }
+    ensures value { OnOk result (out.new.items ≡ out.old.items ++ row_items row.now) }
+    ensures fits { OnOk result (RowFits row.now) }
 {
     put_bounds(out, &row.bounds)?;
     put_slots(out, &row.slots)?;
@@ -132,7 +138,8 @@ pub fn put_items(out: &mut Vec<u8>, row: &Row) -> Result<(), AllocError>
 
 /// Appends the line of the row, which begins with the word; none for the open row.
 pub fn put_row(alloc: Global, out: &mut Vec<u8>, word: &str, row: &Row) -> Result<(), AllocError>
-    ensures { OnOk result (out.new.items ≡ out.old.items ++ row_line word.now row.now) }
+    ensures value { OnOk result (out.new.items ≡ out.old.items ++ row_line word.now row.now) }
+    ensures fits { OnOk result (RowFits row.now) }
 {
     let mut items = Vec::new(alloc);
     put_items(&mut items, row)?;

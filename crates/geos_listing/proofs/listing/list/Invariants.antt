@@ -1,9 +1,11 @@
-use Rattle.std.specs.Prelude.{◌≡◌, ℕ, [], slice_get}
-use Rattle.std.specs.Option.{option_map_or}
-use Rattle.geos_image.specs.Parts.{start_of}
+use Rattle.std.specs.Prelude.{◌≡◌, ℕ, take}
+use Rattle.std.specs.List.{All}
+use Rattle.geos_image.specs.Ranges.{RoutineFits}
 use Rattle.geos_listing.specs.Rows.{texts_below}
-use Rattle.geos_listing.specs.Listing.{routine_text}
+use Rattle.geos_listing.specs.Listing.{listed_routine}
 use Rattle.geos_listing.proofs.listing.list.Given as goal
 
 abbrev pub invariant-loop-r : goal.invariant-loop-r
-invariant-loop-r l = l.out.items ≡ texts_below l.r (λ (r : ℕ). option_map_or (routine_text l.image (start_of l.image.routines r)) (slice_get l.image.routines r) [])
+invariant-loop-r l =
+    (l.out.items ≡ texts_below l.r (λ (r : ℕ). listed_routine l.image r))
+    × All RoutineFits (take l.r l.image.routines)
