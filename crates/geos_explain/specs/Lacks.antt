@@ -42,8 +42,10 @@ lacking known wanted = record {
 abbrev pub held_item : ℕ → SlotState → SlotState → List ℕ
 held_item i known wanted = if is_empty wanted && not (is_empty known) then codes " s" ++ decimal i ++ codes "=empty" else []
 
+-- the same of the first n slots
+abbrev pub held_items : ℕ → List SlotState → List SlotState → List ℕ
+held_items n known wanted = texts_below n (λ i. held_item i (slice_index_or known i Empty) (slice_index_or wanted i Empty))
+
 -- the items of a row that is wanted which a row that is known does not meet; none where it fits
 unfoldable pub lacking_items : Row → Row → List ℕ
-lacking_items known wanted =
-    row_items (lacking known wanted)
-    ++ texts_below 4 (λ i. held_item i (slice_index_or known.slots i Empty) (slice_index_or wanted.slots i Empty))
+lacking_items known wanted = row_items (lacking known wanted) ++ held_items 4 known.slots wanted.slots

@@ -1,6 +1,9 @@
+pub mod Numbers
+pub mod Places
 pub mod Notes
 pub mod Lacks
 pub mod Uses
+pub mod Stale
 pub mod Steps
 pub mod Words
 pub mod Explanation

@@ -1,8 +1,10 @@
 -- What stands behind an instruction: what its row knows, and its potential.
-use Rattle.std.specs.Prelude.{ℕ, ◌==◌, if◌then◌else◌, List, [], ◌++◌, length, slice_index, codes, decimal}
+use Rattle.std.specs.Prelude.{ℕ, Bool, ◌&&◌, ◌==◌, if◌then◌else◌, List, [], ◌++◌, length, slice_index, codes, decimal}
+use Rattle.std.specs.List.{list_all}
 use Rattle.geos_image.specs.declared.row.Row.{Row}
 use Rattle.geos_image.specs.declared.potential.Potential.{Potential}
 use Rattle.geos_listing.specs.Rows.{texts_below, row_items}
+use Rattle.geos_explain.specs.Numbers.{steps_word}
 
 -- the items of a row and a comma; nothing for the open row
 unfoldable pub known_text : Row → List ℕ
@@ -12,9 +14,14 @@ known_text row = if length (row_items row) == 0 then [] else row_items row ++ co
 abbrev pub coefficient_text : ℕ → ℕ → List ℕ
 coefficient_text k n = if n == 0 then [] else codes " + " ++ decimal n ++ codes " k" ++ decimal k
 
+-- a potential stands for just one step
+unfoldable pub is_one : Potential → Bool
+is_one p = p.constant == 1 && list_all (λ n. n == 0) p.coefficients
+
 -- the steps that a potential stands for
 unfoldable pub potential_text : Potential → List ℕ
-potential_text p = codes " " ++ decimal p.constant ++ texts_below 4 (λ k. coefficient_text k (slice_index p.coefficients k)) ++ codes " steps"
+potential_text p =
+    codes " " ++ decimal p.constant ++ texts_below 4 (λ k. coefficient_text k (slice_index p.coefficients k)) ++ steps_word (is_one p)
 
 -- what a row knows beyond the open row, and the potential
 unfoldable pub note : Row → Potential → List ℕ

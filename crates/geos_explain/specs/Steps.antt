@@ -1,17 +1,21 @@
 -- What an edge asks of a potential, and what is said where it is not paid for.
-use Rattle.std.specs.Prelude.{ℕ, ◌+◌, ◌*◌, Bool, ◌&&◌, nat_le, if◌then◌else◌, List, [], ◌++◌, Option, Some, None, slice_index, slice_set, slice_get, codes, decimal}
+use Rattle.std.specs.Prelude.{ℕ, ◌+◌, ◌*◌, Bool, ◌&&◌, nat_le, ◌==◌, if◌then◌else◌, List, [], ◌++◌, Option, Some, None, slice_index, slice_set, slice_get, codes, decimal}
 use Rattle.geos_image.specs.declared.opcode.Opcode.{Opcode}
-use Rattle.geos_image.specs.declared.opcode.Opcode.TheVariants.{Setk, Setkw, Loop, Call}
+use Rattle.geos_image.specs.declared.opcode.Opcode.TheVariants.{Setk, Setkw, Loop, Call, Ret}
 use Rattle.geos_image.specs.declared.instr.Instr.{Instr}
 use Rattle.geos_image.specs.declared.row.Row.{Row}
 use Rattle.geos_image.specs.declared.potential.Potential.{Potential}
+use Rattle.std.specs.Option.{option_map_or}
+use Rattle.geos_image.specs.declared.routine.Routine.{Routine}
 use Rattle.geos_image.specs.Parts.{Parts}
 use Rattle.geos_listing.specs.Rows.{texts_below}
+use Rattle.geos_listing.specs.Instrs.{name_of}
 use Rattle.geos_verify.specs.Lists.{all2}
 use Rattle.geos_verify.specs.Rows.{bound, falls_through, branches}
-use Rattle.geos_verify.specs.Rules.{returns}
 use Rattle.geos_verify.specs.Potentials.{budget_of}
 use Rattle.geos_explain.specs.declared.steps.Asked.{Asked}
+use Rattle.geos_explain.specs.Numbers.{owed_text, left_text}
+use Rattle.geos_explain.specs.Places.{Place}
 
 -- one step more than is left at the end of the edge, and so many besides
 abbrev pub asked_plain : ℕ → Potential → Potential → Asked
@@ -52,7 +56,7 @@ missing_items asked left = texts_below 4 (λ k. missing_item k (slice_index aske
 
 -- so many steps are owed, and so many are left
 abbrev pub owed_words : ℕ → ℕ → List ℕ
-owed_words owed left = codes " " ++ decimal owed ++ codes " steps are owed from here, " ++ decimal left ++ codes " are left"
+owed_words owed left = codes " " ++ owed_text owed ++ codes " from here" ++ left_text left
 
 -- what is asked and not left: steps, or else coefficients
 abbrev pub asked_words : Asked → Potential → List ℕ
@@ -62,24 +66,50 @@ asked_words asked p =
     else owed_words asked.owed asked.left
 
 -- what the edge asks, if there is one
-abbrev pub asks_along : Parts → ℕ → Instr → Row → Potential → Option Asked
-asks_along image pc i row p =
-    if falls_through i.opcode
-    then elim (slice_get image.points (pc + 1)) [ None ↦ None | Some next ↦ Some (asked_along image i i.opcode row p next.2) ]
+abbrev pub asks_along : Place → Option Asked
+asks_along place =
+    if falls_through place.i.opcode
+    then elim (slice_get place.image.points (place.pc + 1)) [
+      | None ↦ None
+      | Some next ↦ Some (asked_along place.image place.i place.i.opcode place.row place.potential next.2)
+    ]
     else None
 
 -- the same of the edge to the target
-abbrev pub asks_branching : Parts → Instr → Potential → Option Asked
-asks_branching image i p =
-    if branches i.opcode
-    then elim (slice_get image.points i.target) [ None ↦ None | Some next ↦ Some (asked_branching i i.opcode p next.2) ]
+abbrev pub asks_branching : Place → Option Asked
+asks_branching place =
+    if branches place.i.opcode
+    then elim (slice_get place.image.points place.i.target) [
+      | None ↦ None
+      | Some next ↦ Some (asked_branching place.i place.i.opcode place.potential next.2)
+    ]
     else None
+
+-- a counter that has a coefficient
+abbrev pub paying_item : ℕ → ℕ → List ℕ
+paying_item k n = if n == 0 then [] else codes " k" ++ decimal k
+
+-- the counters below n that have a coefficient
+abbrev pub paying_items : ℕ → List ℕ → List ℕ
+paying_items n coefficients = texts_below n (λ k. paying_item k (slice_index coefficients k))
+
+-- the routine that is called touches one of the counters that pay behind the call
+abbrev pub touched_words : Routine → Potential → List ℕ
+touched_words callee q = codes " " ++ name_of callee ++ codes " touches a counter that still pays behind the call:" ++ paying_items 4 q.coefficients
+
+-- the same of the routine that a call names
+abbrev pub touched_here : Place → List ℕ
+touched_here place = elim (slice_get place.image.points (place.pc + 1)) [
+  | None ↦ []
+  | Some next ↦ option_map_or (λ callee. touched_words callee next.2) (slice_get place.image.routines place.i.imm) []
+]
 
 -- what is said of an instruction whose edges leave nothing to pay but this: a return wants a step; a
 -- call wants no coefficient behind it on a counter that the routine touches
-abbrev pub last_words : Instr → List ℕ
-last_words i =
-    if returns i.opcode then codes " a return takes a step, and none is left" else codes " a routine that is called touches a counter that still pays behind the call"
+abbrev pub last_words : Place → Opcode → List ℕ
+last_words place Ret = codes " a return takes a step, and none is left"
+last_words place Call = touched_here place
+last_words place _ = []
 
 -- what is said of an edge, or else of the rest
 abbrev pub words_if_unpaid : Option Asked → Potential → List ℕ → List ℕ
@@ -87,5 +117,6 @@ words_if_unpaid None p rest = rest
 words_if_unpaid (Some asked) p rest = if is_paid asked p then rest else asked_words asked p
 
 -- an edge, or the return, is not paid for: the edge to the next instruction is tried first
-unfoldable pub unpaid_words : Parts → ℕ → Instr → Row → Potential → List ℕ
-unpaid_words image pc i row p = words_if_unpaid (asks_along image pc i row p) p (words_if_unpaid (asks_branching image i p) p (last_words i))
+unfoldable pub unpaid_words : Place → List ℕ
+unpaid_words place =
+    words_if_unpaid (asks_along place) place.potential (words_if_unpaid (asks_branching place) place.potential (last_words place place.i.opcode))

@@ -13,7 +13,7 @@ use Rattle.geos_verify.specs.declared.uses.SlotUse.{SlotUse}
 use Rattle.geos_verify.specs.declared.uses.SlotUse.TheVariants.{Unlocks, Compares}
 use Rattle.geos_verify.specs.declared.uses.PointerUse.{PointerUse}
 use Rattle.geos_verify.specs.declared.uses.PointerUse.TheVariants.{Loads, Stores, Copies}
-use Rattle.geos_verify.specs.Rows.{slot_state, pointer_at, is_stale, leads_nowhere}
+use Rattle.geos_verify.specs.Rows.{slot_state, pointer_at, leads_nowhere}
 use Rattle.geos_verify.specs.Rules.{reach, least_at}
 
 -- what a slot holds, in a word
@@ -40,19 +40,6 @@ leading_nowhere row = record open_row { pointers = map (nowhere_only row.slots) 
 -- a pointer leads into an empty slot
 unfoldable pub nowhere_words : Row → List ℕ
 nowhere_words row = row_items (leading_nowhere row) ++ codes " leads into an empty slot"
-
--- a pointer of which nothing is known
-abbrev pub stale_item : ℕ → Row → List ℕ
-stale_item p row = if is_stale (pointer_at row p) then codes " p" ++ decimal p else []
-
--- the pointers that an instruction uses and of which nothing is known
-abbrev pub stale_items : Instr → PointerUse → Row → List ℕ
-stale_items i Copies row = stale_item i.a row ++ stale_item i.b row
-stale_items i _ row = stale_item i.b row
-
--- a pointer that is used may be stale
-unfoldable pub stale_words : Instr → PointerUse → Row → List ℕ
-stale_words i pointer row = stale_items i pointer row ++ codes " may be stale here"
 
 -- so many bytes are wanted behind a pointer
 unfoldable pub wanted_bytes : ℕ → ℕ → List ℕ

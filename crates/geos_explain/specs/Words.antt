@@ -13,17 +13,20 @@ use Rattle.geos_verify.specs.declared.rule.Rule.TheVariants.{LeavesRoutine, Name
 use Rattle.geos_verify.specs.Uses.{uses_of}
 use Rattle.geos_verify.specs.Rows.{falls_through, branches, after}
 use Rattle.geos_verify.specs.Rules.{has_place}
-use Rattle.geos_explain.specs.Notes.{potential_text}
+use Rattle.geos_explain.specs.Places.{Place}
+use Rattle.geos_explain.specs.Numbers.{verb}
+use Rattle.geos_explain.specs.Notes.{is_one, potential_text}
 use Rattle.geos_explain.specs.Lacks.{lacking_items}
-use Rattle.geos_explain.specs.Uses.{nowhere_words, stale_words, past_words, unmarked_words, held_words, slot_words}
+use Rattle.geos_explain.specs.Uses.{nowhere_words, past_words, unmarked_words, held_words, slot_words}
+use Rattle.geos_explain.specs.Stale.{stale_words}
 use Rattle.geos_explain.specs.Steps.{unpaid_words}
 
 -- control leaves the routine
-unfoldable pub leaves_words : Parts → ℕ → Routine → ℕ → Instr → List ℕ
-leaves_words image r routine pc i =
-    if falls_through i.opcode && not (has_place (start_of image.routines r) routine.count (pc + 1))
+unfoldable pub leaves_words : Place → List ℕ
+leaves_words place =
+    if falls_through place.i.opcode && not (has_place (start_of place.image.routines place.r) place.routine.count (place.pc + 1))
     then codes " control goes on past the end of the routine"
-    else codes " L" ++ decimal i.target ++ codes " stands outside of the routine"
+    else codes " L" ++ decimal place.i.target ++ codes " stands outside of the routine"
 
 -- the row wants more than the routine's entry row says, or the routine is public and wants or leaves
 -- what a caller from outside does not have
@@ -32,10 +35,6 @@ entry_words routine row =
     if length (lacking_items routine.entry row) == 0
     then codes " a public routine begins and ends with empty slots and stale pointers"
     else lacking_items routine.entry row ++ codes " is wanted here, and not known from the entry row"
-
--- a pointer that the instruction uses may be stale
-unfoldable pub stale_here : Instr → Row → List ℕ
-stale_here i row = stale_words i (uses_of i.opcode).pointer row
 
 -- the instruction may reach past the bytes behind its pointer
 unfoldable pub past_here : Instr → Row → List ℕ
@@ -57,13 +56,13 @@ callee_words r n row callee =
     else codes " " ++ name_of callee ++ codes " does not stand before this routine"
 
 -- the same of the routine that a call names
-abbrev pub call_words : Parts → ℕ → Instr → Opcode → Row → List ℕ
-call_words image r i Call row = elim (slice_get image.routines i.imm) [ None ↦ [] | Some callee ↦ callee_words r i.imm row callee ]
-call_words image r i _ row = []
+abbrev pub call_words : Place → Opcode → List ℕ
+call_words place Call = elim (slice_get place.image.routines place.i.imm) [ None ↦ [] | Some callee ↦ callee_words place.r place.i.imm place.row callee ]
+call_words place _ = []
 
--- the same of an instruction
-unfoldable pub call_here : Parts → ℕ → Instr → Row → List ℕ
-call_here image r i row = call_words image r i i.opcode row
+-- the same of a place
+unfoldable pub call_here : Place → List ℕ
+call_here place = call_words place place.i.opcode
 
 -- the exit row wants more than the row says
 unfoldable pub exit_words : Routine → Row → List ℕ
@@ -74,43 +73,43 @@ unfoldable pub wanted_at : Parts → ℕ → Row → List ℕ
 wanted_at image to row = elim (slice_get image.points to) [ None ↦ [] | Some next ↦ lacking_items row (next.1) ]
 
 -- the same at the end of the edge to the next instruction; nothing where there is no such edge
-unfoldable pub wanted_along : Parts → ℕ → Instr → Row → List ℕ
-wanted_along image pc i row = if falls_through i.opcode then wanted_at image (pc + 1) (after image pc row false) else []
+unfoldable pub wanted_along : Place → List ℕ
+wanted_along place = if falls_through place.i.opcode then wanted_at place.image (place.pc + 1) (after place.image place.pc place.row false) else []
 
 -- and at the end of the edge to the target
-unfoldable pub wanted_branching : Parts → ℕ → Instr → Row → List ℕ
-wanted_branching image pc i row = if branches i.opcode then wanted_at image i.target (after image pc row true) else []
+unfoldable pub wanted_branching : Place → List ℕ
+wanted_branching place = if branches place.i.opcode then wanted_at place.image place.i.target (after place.image place.pc place.row true) else []
 
 -- the instruction at a pc wants these items
 unfoldable pub wanted_words : ℕ → List ℕ → List ℕ
 wanted_words to items = items ++ codes " is wanted at " ++ decimal to ++ codes ", and not known here"
 
 -- a row does not fit that at the end of an edge: the edge to the next instruction is tried first
-unfoldable pub edge_words : Parts → ℕ → Instr → Row → List ℕ
-edge_words image pc i row =
-    if length (wanted_along image pc i row) == 0
-    then wanted_words i.target (wanted_branching image pc i row)
-    else wanted_words (pc + 1) (wanted_along image pc i row)
+unfoldable pub edge_words : Place → List ℕ
+edge_words place =
+    if length (wanted_along place) == 0
+    then wanted_words place.i.target (wanted_branching place)
+    else wanted_words (place.pc + 1) (wanted_along place)
 
 -- the potential is above the budget
 unfoldable pub budget_words : Routine → Potential → List ℕ
-budget_words routine p = potential_text p ++ codes " are owed from here, the budget is " ++ decimal routine.budget
+budget_words routine p = potential_text p ++ verb (is_one p) ++ codes " owed from here, the budget is " ++ decimal routine.budget
 
--- what is wrong at an instruction of routine r, by a rule
-unfoldable pub words : Parts → ℕ → Routine → ℕ → Instr → Row → Potential → Rule → List ℕ
-words image r routine pc i row p LeavesRoutine = leaves_words image r routine pc i
-words image r routine pc i row p NamesEmptySlot = nowhere_words row
-words image r routine pc i row p EntryMisfit = entry_words routine row
-words image r routine pc i row p StalePointer = stale_here i row
-words image r routine pc i row p PassesEnd = past_here i row
-words image r routine pc i row p ChangesUnmarked = unmarked_here i row
-words image r routine pc i row p LocksIntoHeld = held_words i row
-words image r routine pc i row p WrongSlot = slot_here i row
-words image r routine pc i row p CallMisfit = call_here image r i row
-words image r routine pc i row p ExitMisfit = exit_words routine row
-words image r routine pc i row p EdgeMisfit = edge_words image pc i row
-words image r routine pc i row p EdgeUnpaid = unpaid_words image pc i row p
-words image r routine pc i row p OverBudget = budget_words routine p
+-- what is wrong at a place, by a rule
+unfoldable pub words : Place → Rule → List ℕ
+words place LeavesRoutine = leaves_words place
+words place NamesEmptySlot = nowhere_words place.row
+words place EntryMisfit = entry_words place.routine place.row
+words place StalePointer = stale_words place
+words place PassesEnd = past_here place.i place.row
+words place ChangesUnmarked = unmarked_here place.i place.row
+words place LocksIntoHeld = held_words place.i place.row
+words place WrongSlot = slot_here place.i place.row
+words place CallMisfit = call_here place
+words place ExitMisfit = exit_words place.routine place.row
+words place EdgeMisfit = edge_words place
+words place EdgeUnpaid = unpaid_words place
+words place OverBudget = budget_words place.routine place.potential
 
 -- how the line of a refusal by a rule begins
 abbrev pub refusal_head : Rule → List ℕ
@@ -129,5 +128,5 @@ refusal_head EdgeUnpaid = codes "; refused by V13:"
 refusal_head OverBudget = codes "; refused by V14:"
 
 -- the line of a refusal by a rule
-unfoldable pub refusal_line : Parts → ℕ → Routine → ℕ → Instr → Row → Potential → Rule → List ℕ
-refusal_line image r routine pc i row p rule = refusal_head rule ++ words image r routine pc i row p rule ++ codes "\n"
+unfoldable pub refusal_line : Place → Rule → List ℕ
+refusal_line place rule = refusal_head rule ++ words place rule ++ codes "\n"

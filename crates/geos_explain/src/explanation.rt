@@ -1,61 +1,37 @@
 //! The text of an image with what is known at each instruction.
 
-ghost use Rattle.std.specs.Prelude.{◌≡◌, ◌<◌, ◌≤◌, ◌+◌, ◌++◌, [], true, OnOk, IfOk, IfSome, length, slice_get};
-ghost use Rattle.std.specs.Option.{option_map_or};
-ghost use Rattle.geos_image.specs.Fields.{FieldsFit, CalleeFits};
+ghost use Rattle.std.specs.Prelude.{◌≡◌, ◌<◌, ◌≤◌, ◌+◌, ◌++◌, true, OnOk, IfOk, length};
 ghost use Rattle.geos_image.specs.Legal.{is_image};
-ghost use Rattle.geos_image.specs.Parts.{start_of};
 ghost use Rattle.geos_listing.specs.Rows.{texts_below};
-ghost use Rattle.geos_listing.specs.Instrs.{KeepsLimits, MarksTargets};
-ghost use Rattle.geos_explain.specs.Explanation.{refusal_text, point_text, place_text, head_text, routine_text, explanation};
+ghost use Rattle.geos_listing.specs.Instrs.{MarksTargets};
+ghost use Rattle.geos_explain.specs.Places.{HasRoutine, IsPlace, place_of};
+ghost use Rattle.geos_explain.specs.Explanation.{refusal_text, point_text, place_text, head_text, numbered_routine, explanation};
 
 use crate::notes::put_note;
+use crate::place::Place;
 use crate::words::put_refusal_line;
-use geos_image::{Image, Instr, Potential, Routine, Row};
+use geos_image::{Image, Routine};
 use geos_listing::{Targets, put_code, put_label_line, put_routine_line, put_row, targets_of};
 use geos_verify::Reject;
 use std::alloc::{AllocError, Global};
 
-/// The line of the refusal, if there is one and it is at this pc.
+/// The line of the refusal, if there is one and it is at this place.
 fn put_refusal(
     alloc: Global,
     out: &mut Vec<u8>,
-    image: &Image,
     reject: Option<Reject>,
-    r: u16,
-    routine: &Routine,
-    pc: u16,
-    i: &Instr,
-    row: &Row,
-    potential: &Potential,
+    place: &Place,
 ) -> Result<(), AllocError>
-    requires routine { r < length image.now.routines }
-    requires start { start_of image.now.routines r ≤ 4096 }
-    requires there { pc < length image.now.points }
-    requires short { length image.now.points ≤ 4096 }
-    requires here { IfSome (slice_get image.now.points pc) (λ point. i.now ≡ point.0) }
-    requires fields { FieldsFit i.now.opcode i.now }
-    requires callee { CalleeFits (length image.now.routines) i.now }
-    ensures { OnOk result (out.new.items ≡ out.old.items ++ refusal_text image.now reject r routine.now pc i.now row.now potential.now) }
+    requires { IsPlace (place_of place.now) }
+    ensures { OnOk result (out.new.items ≡ out.old.items ++ refusal_text reject (place_of place.now)) }
 {
     let Some(reject) = reject else {
         return Ok(());
     };
-    if reject.pc != pc {
+    if reject.pc != place.pc {
         return Ok(());
     }
-    put_refusal_line(
-        alloc,
-        out,
-        image,
-        r,
-        routine,
-        pc,
-        i,
-        row,
-        potential,
-        reject.rule,
-    )
+    put_refusal_line(alloc, out, place, reject.rule)
 }
 
 /// An instruction with what is known there, and what is wrong with it.
@@ -63,29 +39,16 @@ fn put_refusal(
 fn put_point(
     alloc: Global,
     out: &mut Vec<u8>,
-    image: &Image,
     reject: Option<Reject>,
-    r: u16,
-    routine: &Routine,
-    pc: u16,
-    i: &Instr,
-    row: &Row,
-    potential: &Potential,
+    place: &Place,
 ) -> Result<(), AllocError>
-    requires routine { r < length image.now.routines }
-    requires start { start_of image.now.routines r ≤ 4096 }
-    requires there { pc < length image.now.points }
-    requires short { length image.now.points ≤ 4096 }
-    requires here { IfSome (slice_get image.now.points pc) (λ point. i.now ≡ point.0) }
-    requires limits { KeepsLimits image.now i.now }
-    requires fields { FieldsFit i.now.opcode i.now }
-    requires callee { CalleeFits (length image.now.routines) i.now }
-    ensures { OnOk result (out.new.items ≡ out.old.items ++ point_text image.now reject r routine.now pc i.now row.now potential.now) }
+    requires { IsPlace (place_of place.now) }
+    ensures { OnOk result (out.new.items ≡ out.old.items ++ point_text reject (place_of place.now)) }
 {
-    put_code(out, image, i)?;
-    put_note(alloc, out, row, potential)?;
+    put_code(out, place.image, place.i)?;
+    put_note(alloc, out, place.row, place.potential)?;
     out.extend_from_slice(b"\n")?;
-    put_refusal(alloc, out, image, reject, r, routine, pc, i, row, potential)
+    put_refusal(alloc, out, reject, place)
 }
 
 /// The same of the instruction at a pc, behind its label where another leads to it.
@@ -99,28 +62,22 @@ fn put_place(
     routine: &Routine,
     pc: u16,
 ) -> Result<(), AllocError>
-    requires routine { r < length image.now.routines }
-    requires start { start_of image.now.routines r ≤ 4096 }
+    requires routine { HasRoutine image.now r }
     requires within { pc < length image.now.points }
-    requires short { length image.now.points ≤ 4096 }
-    requires legal { is_image image.now ≡ true }
     requires targets { MarksTargets image.now.points targets.now }
     ensures { OnOk result (out.new.items ≡ out.old.items ++ place_text image.now reject r routine.now pc) }
 {
     put_label_line(out, image, targets, pc)?;
-    let i = image.instr(pc);
-    put_point(
-        alloc,
-        out,
+    let place = Place {
         image,
-        reject,
         r,
         routine,
         pc,
-        i,
-        image.row(pc),
-        image.potential(pc),
-    )
+        i: image.instr(pc),
+        row: image.row(pc),
+        potential: image.potential(pc),
+    };
+    put_point(alloc, out, reject, &place)
 }
 
 /// So many of the routine's instructions, from a pc.
@@ -136,11 +93,8 @@ fn put_places(
     start: u16,
     count: u16,
 ) -> Result<(), AllocError>
-    requires routine { r < length image.now.routines }
-    requires start { start_of image.now.routines r ≤ 4096 }
+    requires routine { HasRoutine image.now r }
     requires within { start + count ≤ length image.now.points }
-    requires short { length image.now.points ≤ 4096 }
-    requires legal { is_image image.now ≡ true }
     requires targets { MarksTargets image.now.points targets.now }
     ensures { OnOk result (out.new.items ≡ out.old.items ++ texts_below count (λ k. place_text image.now reject r routine.now (start + k))) }
 {
@@ -171,7 +125,7 @@ fn put_routine(
     requires within { r < length image.now.routines }
     requires legal { is_image image.now ≡ true }
     requires targets { MarksTargets image.now.points targets.now }
-    ensures { OnOk result (out.new.items ≡ out.old.items ++ option_map_or (routine_text image.now reject r (start_of image.now.routines r)) (slice_get image.now.routines r) []) }
+    ensures { OnOk result (out.new.items ≡ out.old.items ++ numbered_routine image.now reject r) }
 {
     let routine = image.routine(r);
     put_head(alloc, out, routine)?;

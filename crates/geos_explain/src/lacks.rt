@@ -1,10 +1,8 @@
 //! What a row lacks to fit another.
 
-ghost use Rattle.std.specs.Prelude.{◌≡◌, ◌<◌, ◌++◌, OnOk, nat_le, slice_index_or};
-ghost use Rattle.geos_image.specs.declared.row.SlotState.TheVariants.{Empty};
-ghost use Rattle.geos_listing.specs.Rows.{texts_below};
+ghost use Rattle.std.specs.Prelude.{◌≡◌, ◌<◌, ◌++◌, OnOk, nat_le};
 ghost use Rattle.geos_verify.specs.Rows.{pointer_fits, is_empty};
-ghost use Rattle.geos_explain.specs.Lacks.{zip2, lacking_bound, lacking_slot, lacking_pointer, lacking_pair, lacking, held_item, lacking_items};
+ghost use Rattle.geos_explain.specs.Lacks.{zip2, lacking_bound, lacking_slot, lacking_pointer, lacking_pair, lacking, held_item, held_items, lacking_items};
 
 use crate::numbers::put_numbered;
 use geos_image::{Pointer, Row, SlotState};
@@ -162,7 +160,7 @@ fn put_all_held(
     known: &[SlotState; 4],
     wanted: &[SlotState; 4],
 ) -> Result<(), AllocError>
-    ensures { OnOk result (out.new.items ≡ out.old.items ++ texts_below 4 (λ i. held_item i (slice_index_or known.now i Empty) (slice_index_or wanted.now i Empty))) }
+    ensures { OnOk result (out.new.items ≡ out.old.items ++ held_items 4 known.now wanted.now) }
 {
     for i in 0..known.len() {
         put_held(out, i, known[i], wanted[i])?;

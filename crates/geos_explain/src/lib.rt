@@ -8,6 +8,8 @@ mod explanation;
 mod lacks;
 mod notes;
 mod numbers;
+mod place;
+mod stale;
 mod steps;
 mod uses;
 mod words;

@@ -2,9 +2,9 @@
 
 ghost use Rattle.std.specs.Prelude.{◌≡◌, ◌++◌, OnOk, slice_index};
 ghost use Rattle.geos_listing.specs.Rows.{texts_below, row_items};
-ghost use Rattle.geos_explain.specs.Notes.{known_text, coefficient_text, potential_text, note};
+ghost use Rattle.geos_explain.specs.Notes.{known_text, coefficient_text, is_one, potential_text, note};
 
-use crate::numbers::put_numbered;
+use crate::numbers::{put_numbered, steps_word};
 use geos_image::{Potential, Row};
 use geos_listing::put_items;
 use std::alloc::{AllocError, Global};
@@ -44,6 +44,14 @@ fn put_coefficients(out: &mut Vec<u8>, coefficients: &[u32; 4]) -> Result<(), Al
     Ok(())
 }
 
+/// Whether the potential stands for just one step.
+#[tactic(auto, unfolding(crate::specs::Notes::is_one))]
+pub(crate) fn is_one(potential: &Potential) -> bool
+    ensures { result ≡ is_one potential.now }
+{
+    potential.constant == 1 && potential.coefficients.iter().all(|n| *n == 0)
+}
+
 /// The steps that the potential stands for.
 #[tactic(auto, unfolding(crate::specs::Notes::potential_text))]
 pub(crate) fn put_potential(out: &mut Vec<u8>, potential: &Potential) -> Result<(), AllocError>
@@ -51,7 +59,7 @@ pub(crate) fn put_potential(out: &mut Vec<u8>, potential: &Potential) -> Result<
 {
     put_numbered(out, " ", u64::from(potential.constant))?;
     put_coefficients(out, &potential.coefficients)?;
-    out.extend_from_slice(b" steps")
+    out.extend_from_slice(steps_word(is_one(potential)).as_bytes())
 }
 
 /// What the row knows beyond the open row, and the potential.

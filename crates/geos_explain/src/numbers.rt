@@ -1,6 +1,7 @@
-//! Numbers in decimal digits.
+//! Numbers in decimal digits, and the words that go with a number of steps.
 
 ghost use Rattle.std.specs.Prelude.{◌≡◌, ◌++◌, OnOk, decimal};
+ghost use Rattle.geos_explain.specs.Numbers.{steps_word, verb, owed_text, left_text};
 
 use std::alloc::AllocError;
 
@@ -11,4 +12,41 @@ pub(crate) fn put_numbered(out: &mut Vec<u8>, sign: &str, n: u64) -> Result<(), 
     out.extend_from_slice(sign.as_bytes())?;
     let mut digits = itoa::Buffer::new();
     out.extend_from_slice(digits.format(n).as_bytes())
+}
+
+/// The word for steps, and whether there is just one.
+#[tactic(auto, unfolding(crate::specs::Numbers::steps_word))]
+pub(crate) fn steps_word(one: bool) -> &'static str
+    ensures { result.now ≡ steps_word one }
+{
+    if one { " step" } else { " steps" }
+}
+
+/// That it is, where there is just one, or that they are.
+#[tactic(auto, unfolding(crate::specs::Numbers::verb))]
+pub(crate) fn verb(one: bool) -> &'static str
+    ensures { result.now ≡ verb one }
+{
+    if one { " is" } else { " are" }
+}
+
+/// A sign, and that so many steps are owed.
+#[tactic(auto, unfolding(crate::specs::Numbers::owed_text))]
+pub(crate) fn put_owed(out: &mut Vec<u8>, sign: &str, n: u64) -> Result<(), AllocError>
+    ensures { OnOk result (out.new.items ≡ out.old.items ++ sign.now ++ owed_text n) }
+{
+    put_numbered(out, sign, n)?;
+    out.extend_from_slice(steps_word(n == 1).as_bytes())?;
+    out.extend_from_slice(verb(n == 1).as_bytes())?;
+    out.extend_from_slice(b" owed")
+}
+
+/// That so many are left.
+#[tactic(auto, unfolding(crate::specs::Numbers::left_text))]
+pub(crate) fn put_left(out: &mut Vec<u8>, n: u64) -> Result<(), AllocError>
+    ensures { OnOk result (out.new.items ≡ out.old.items ++ left_text n) }
+{
+    put_numbered(out, ", ", n)?;
+    out.extend_from_slice(verb(n == 1).as_bytes())?;
+    out.extend_from_slice(b" left")
 }

@@ -4,12 +4,13 @@ ghost use Rattle.std.specs.Prelude.{◌≡◌, ◌<◌, ◌*◌, ◌^◌, ◌++�
 ghost use Rattle.geos_image.specs.Fields.{FieldsFit, CalleeFits};
 ghost use Rattle.geos_listing.specs.Rows.{texts_below};
 ghost use Rattle.geos_verify.specs.Lists.{all2};
-ghost use Rattle.geos_verify.specs.Rules.{returns};
 ghost use Rattle.geos_verify.specs.Potentials.{budget_of};
-ghost use Rattle.geos_explain.specs.Steps.{asked_plain, asked_setting, asked_taking, asked_along, asked_branching, is_paid, missing_item, missing_items, owed_words, asked_words, asks_along, asks_branching, last_words, unpaid_words};
+ghost use Rattle.geos_explain.specs.Places.{IsPlace, place_of};
+ghost use Rattle.geos_explain.specs.Steps.{asked_plain, asked_setting, asked_taking, asked_along, asked_branching, is_paid, missing_item, missing_items, owed_words, asked_words, asks_along, asks_branching, paying_item, paying_items, touched_words, touched_here, last_words, unpaid_words};
 
-use crate::numbers::put_numbered;
-use geos_image::{Image, Instr, Opcode, Potential, Row};
+use crate::numbers::{put_left, put_numbered, put_owed};
+use crate::place::Place;
+use geos_image::{Image, Instr, Opcode, Potential, Routine, Row};
 use geos_verify::{branches, falls_through};
 use std::alloc::AllocError;
 
@@ -139,89 +140,112 @@ fn put_asked(out: &mut Vec<u8>, asked: &Asked, p: &Potential) -> Result<(), Allo
         put_all_missing(out, &asked.coefficients, &p.coefficients)?;
         out.extend_from_slice(b" steps are owed from here, and not left")
     } else {
-        put_numbered(out, " ", asked.owed)?;
-        put_numbered(out, " steps are owed from here, ", asked.left)?;
-        out.extend_from_slice(b" are left")
+        put_owed(out, " ", asked.owed)?;
+        out.extend_from_slice(b" from here")?;
+        put_left(out, asked.left)
     }
 }
 
 /// What the edge to the next instruction asks, if there is one.
-fn asks_along(image: &Image, pc: u16, i: &Instr, row: &Row, p: &Potential) -> Option<Asked>
-    requires pc { pc < 4096 }
-    requires fields { FieldsFit i.now.opcode i.now }
-    requires callee { CalleeFits (length image.now.routines) i.now }
-    ensures { result ≡ asks_along image.now pc i.now row.now p.now }
+fn asks_along(place: &Place) -> Option<Asked>
+    requires { IsPlace (place_of place.now) }
+    ensures { result ≡ asks_along (place_of place.now) }
 {
-    if !falls_through(i.opcode) {
+    if !falls_through(place.i.opcode) {
         return None;
     }
-    match image.points().get(usize::from(pc + 1)) {
-        Some(next) => Some(asked_along(image, i, row, p, &next.2)),
+    match place.image.points().get(usize::from(place.pc + 1)) {
+        Some(next) => Some(asked_along(place.image, place.i, place.row, place.potential, &next.2)),
         None => None,
     }
 }
 
 /// What the edge to the target asks, if there is one.
-fn asks_branching(image: &Image, i: &Instr, p: &Potential) -> Option<Asked>
-    requires { FieldsFit i.now.opcode i.now }
-    ensures { result ≡ asks_branching image.now i.now p.now }
+fn asks_branching(place: &Place) -> Option<Asked>
+    requires { IsPlace (place_of place.now) }
+    ensures { result ≡ asks_branching (place_of place.now) }
 {
-    if !branches(i.opcode) {
+    if !branches(place.i.opcode) {
         return None;
     }
-    match image.points().get(usize::from(i.target)) {
-        Some(next) => Some(asked_branching(i, p, &next.2)),
+    match place.image.points().get(usize::from(place.i.target)) {
+        Some(next) => Some(asked_branching(place.i, place.potential, &next.2)),
         None => None,
     }
 }
 
-fn returns(opcode: Opcode) -> bool
-    ensures { result ≡ returns opcode }
+/// Counter k, where it has a coefficient.
+fn put_paying(out: &mut Vec<u8>, k: usize, n: u32) -> Result<(), AllocError>
+    ensures { OnOk result (out.new.items ≡ out.old.items ++ paying_item k n) }
 {
-    match opcode {
-        Opcode::Ret => true,
-        _ => false,
+    if n == 0 {
+        return Ok(());
+    }
+    put_numbered(out, " k", k as u64)
+}
+
+/// The counters that have a coefficient.
+#[tactic(auto, unfolding(geos_listing::specs::Rows::texts_below))]
+fn put_all_paying(out: &mut Vec<u8>, coefficients: &[u32; 4]) -> Result<(), AllocError>
+    ensures { OnOk result (out.new.items ≡ out.old.items ++ paying_items 4 coefficients.now) }
+{
+    for k in 0..coefficients.len() {
+        put_paying(out, k, coefficients[k])?;
+    }
+    Ok(())
+}
+
+/// The routine that is called touches one of the counters that pay behind the call.
+fn put_touched(out: &mut Vec<u8>, callee: &Routine, q: &Potential) -> Result<(), AllocError>
+    ensures { OnOk result (out.new.items ≡ out.old.items ++ touched_words callee.now q.now) }
+{
+    out.extend_from_slice(b" ")?;
+    out.extend_from_slice(callee.name_text())?;
+    out.extend_from_slice(b" touches a counter that still pays behind the call:")?;
+    put_all_paying(out, &q.coefficients)
+}
+
+/// The same of the routine that a call names.
+fn put_touched_here(out: &mut Vec<u8>, place: &Place) -> Result<(), AllocError>
+    requires there { place.now.pc < 4096 }
+    requires callee { place.now.i.now.imm < length place.now.image.now.routines }
+    ensures { OnOk result (out.new.items ≡ out.old.items ++ touched_here (place_of place.now)) }
+{
+    match place.image.points().get(usize::from(place.pc + 1)) {
+        Some(next) => put_touched(out, place.image.routine(place.i.imm), &next.2),
+        None => Ok(()),
     }
 }
 
 /// What is said where neither edge is unpaid: a return wants a step; a call wants no coefficient
 /// behind it on a counter that the routine touches.
-fn put_last(out: &mut Vec<u8>, i: &Instr) -> Result<(), AllocError>
-    ensures { OnOk result (out.new.items ≡ out.old.items ++ last_words i.now) }
+fn put_last(out: &mut Vec<u8>, place: &Place) -> Result<(), AllocError>
+    requires { IsPlace (place_of place.now) }
+    ensures { OnOk result (out.new.items ≡ out.old.items ++ last_words (place_of place.now) place.now.i.now.opcode) }
 {
-    if returns(i.opcode) {
-        out.extend_from_slice(b" a return takes a step, and none is left")
-    } else {
-        out.extend_from_slice(
-            b" a routine that is called touches a counter that still pays behind the call",
-        )
+    match place.i.opcode {
+        Opcode::Ret => out.extend_from_slice(b" a return takes a step, and none is left"),
+        Opcode::Call => put_touched_here(out, place),
+        _ => Ok(()),
     }
 }
 
 /// An edge, or the return, is not paid for: the edge to the next instruction is tried first.
 #[tactic(auto, unfolding(crate::specs::Steps::unpaid_words))]
-pub(crate) fn put_unpaid(
-    out: &mut Vec<u8>,
-    image: &Image,
-    pc: u16,
-    i: &Instr,
-    row: &Row,
-    p: &Potential,
-) -> Result<(), AllocError>
-    requires pc { pc < 4096 }
-    requires fields { FieldsFit i.now.opcode i.now }
-    requires callee { CalleeFits (length image.now.routines) i.now }
-    ensures { OnOk result (out.new.items ≡ out.old.items ++ unpaid_words image.now pc i.now row.now p.now) }
+pub(crate) fn put_unpaid(out: &mut Vec<u8>, place: &Place) -> Result<(), AllocError>
+    requires { IsPlace (place_of place.now) }
+    ensures { OnOk result (out.new.items ≡ out.old.items ++ unpaid_words (place_of place.now)) }
 {
-    if let Some(asked) = asks_along(image, pc, i, row, p) {
+    let p = place.potential;
+    if let Some(asked) = asks_along(place) {
         if !is_paid(&asked, p) {
             return put_asked(out, &asked, p);
         }
     }
-    if let Some(asked) = asks_branching(image, i, p) {
+    if let Some(asked) = asks_branching(place) {
         if !is_paid(&asked, p) {
             return put_asked(out, &asked, p);
         }
     }
-    put_last(out, i)
+    put_last(out, place)
 }

@@ -2,10 +2,10 @@
 
 ghost use Rattle.std.specs.Prelude.{◌≡◌, ◌<◌, ◌++◌, OnOk, map};
 ghost use Rattle.geos_image.specs.Fields.{FieldsFit};
-ghost use Rattle.geos_verify.specs.Rows.{slot_state, pointer_at, is_stale};
+ghost use Rattle.geos_verify.specs.Rows.{slot_state, pointer_at};
 ghost use Rattle.geos_verify.specs.Rules.{reach, least_at};
 ghost use Rattle.geos_verify.specs.Uses.{uses_of, bytes_in, OffsetFits, PointerFits, UsesFit};
-ghost use Rattle.geos_explain.specs.Uses.{state_word, state_item, nowhere_only, leading_nowhere, nowhere_words, stale_item, stale_items, stale_words, wanted_bytes, short_words, past_words, slot_behind, changed_slot, unmarked_words, held_words, kind_wish, slot_wish, other_item, slot_words};
+ghost use Rattle.geos_explain.specs.Uses.{state_word, state_item, nowhere_only, leading_nowhere, nowhere_words, wanted_bytes, short_words, past_words, slot_behind, changed_slot, unmarked_words, held_words, kind_wish, slot_wish, other_item, slot_words};
 
 use crate::numbers::put_numbered;
 use geos_image::{Instr, Pointer, Row, SlotState};
@@ -31,7 +31,7 @@ fn slot_state(row: &Row, a: u8) -> SlotState
     }
 }
 
-fn pointer_at(row: &Row, p: u8) -> Option<Pointer>
+pub(crate) fn pointer_at(row: &Row, p: u8) -> Option<Pointer>
     ensures { result ≡ pointer_at row.now p }
 {
     match row.pointers.get(usize::from(p)) {
@@ -97,48 +97,6 @@ pub(crate) fn put_nowhere(out: &mut Vec<u8>, row: &Row) -> Result<(), AllocError
 {
     put_items(out, &leading_nowhere(row))?;
     out.extend_from_slice(b" leads into an empty slot")
-}
-
-/// A pointer of which nothing is known.
-fn put_stale_item(out: &mut Vec<u8>, p: u8, row: &Row) -> Result<(), AllocError>
-    ensures { OnOk result (out.new.items ≡ out.old.items ++ stale_item p row.now) }
-{
-    if pointer_at(row, p).is_some() {
-        return Ok(());
-    }
-    put_numbered(out, " p", u64::from(p))
-}
-
-/// The pointers that the instruction uses and of which nothing is known.
-fn put_stale_items(
-    out: &mut Vec<u8>,
-    i: &Instr,
-    pointer: PointerUse,
-    row: &Row,
-) -> Result<(), AllocError>
-    ensures { OnOk result (out.new.items ≡ out.old.items ++ stale_items i.now pointer row.now) }
-{
-    match pointer {
-        PointerUse::Copies => {
-            put_stale_item(out, i.a, row)?;
-            put_stale_item(out, i.b, row)
-        }
-        _ => put_stale_item(out, i.b, row),
-    }
-}
-
-/// A pointer that is used may be stale.
-#[tactic(auto, unfolding(crate::specs::Uses::stale_words))]
-pub(crate) fn put_stale(
-    out: &mut Vec<u8>,
-    i: &Instr,
-    pointer: PointerUse,
-    row: &Row,
-) -> Result<(), AllocError>
-    ensures { OnOk result (out.new.items ≡ out.old.items ++ stale_words i.now pointer row.now) }
-{
-    put_stale_items(out, i, pointer, row)?;
-    out.extend_from_slice(b" may be stale here")
 }
 
 fn bytes_in(width: Width) -> u32

@@ -1,16 +1,18 @@
 //! What is wrong at a point that is refused, rule by rule.
 
-ghost use Rattle.std.specs.Prelude.{◌≡◌, ◌<◌, ◌≤◌, ◌+◌, ◌++◌, ◌&&◌, OnOk, IfSome, length, slice_get};
-ghost use Rattle.geos_image.specs.Fields.{FieldsFit, CalleeFits};
-ghost use Rattle.geos_image.specs.Parts.{start_of};
+ghost use Rattle.std.specs.Prelude.{◌≡◌, ◌<◌, ◌≤◌, ◌+◌, ◌++◌, ◌&&◌, OnOk};
+ghost use Rattle.geos_image.specs.Fields.{FieldsFit};
 ghost use Rattle.geos_verify.specs.Rules.{has_place};
-ghost use Rattle.geos_explain.specs.Words.{leaves_words, entry_words, stale_here, past_here, unmarked_here, slot_here, callee_words, call_words, call_here, exit_words, wanted_at, wanted_along, wanted_branching, wanted_words, edge_words, budget_words, words, refusal_head, refusal_line};
+ghost use Rattle.geos_explain.specs.Places.{IsPlace, place_of};
+ghost use Rattle.geos_explain.specs.Words.{leaves_words, entry_words, past_here, unmarked_here, slot_here, callee_words, call_words, call_here, exit_words, wanted_at, wanted_along, wanted_branching, wanted_words, edge_words, budget_words, words, refusal_head, refusal_line};
 
 use crate::lacks::put_lacking;
-use crate::notes::put_potential;
-use crate::numbers::put_numbered;
+use crate::notes::{is_one, put_potential};
+use crate::numbers::{put_numbered, verb};
+use crate::place::Place;
+use crate::stale::put_stale;
 use crate::steps::put_unpaid;
-use crate::uses::{put_held, put_nowhere, put_past, put_slot, put_stale, put_unmarked, uses_at};
+use crate::uses::{put_held, put_nowhere, put_past, put_slot, put_unmarked, uses_at};
 use geos_image::{Image, Instr, Opcode, Potential, Routine, Row};
 use geos_verify::{Rule, after, branches, falls_through};
 use std::alloc::{AllocError, Global};
@@ -25,23 +27,16 @@ fn has_place(start: u32, routine: &Routine, pc: u32) -> bool
 
 /// Control leaves the routine.
 #[tactic(auto, unfolding(crate::specs::Words::leaves_words))]
-fn put_leaves(
-    out: &mut Vec<u8>,
-    image: &Image,
-    r: u16,
-    routine: &Routine,
-    pc: u16,
-    i: &Instr,
-) -> Result<(), AllocError>
-    requires routine { r < length image.now.routines }
-    requires start { start_of image.now.routines r ≤ 4096 }
-    ensures { OnOk result (out.new.items ≡ out.old.items ++ leaves_words image.now r routine.now pc i.now) }
+fn put_leaves(out: &mut Vec<u8>, place: &Place) -> Result<(), AllocError>
+    requires { IsPlace (place_of place.now) }
+    ensures { OnOk result (out.new.items ≡ out.old.items ++ leaves_words (place_of place.now)) }
 {
-    let start = u32::from(image.start(r));
-    if falls_through(i.opcode) && !has_place(start, routine, u32::from(pc) + 1) {
+    let start = u32::from(place.image.start(place.r));
+    let next = u32::from(place.pc) + 1;
+    if falls_through(place.i.opcode) && !has_place(start, place.routine, next) {
         out.extend_from_slice(b" control goes on past the end of the routine")
     } else {
-        put_numbered(out, " L", u64::from(i.target))?;
+        put_numbered(out, " L", u64::from(place.i.target))?;
         out.extend_from_slice(b" stands outside of the routine")
     }
 }
@@ -66,15 +61,6 @@ fn put_entry(
     }
     out.extend_from_slice(&items)?;
     out.extend_from_slice(b" is wanted here, and not known from the entry row")
-}
-
-/// A pointer that the instruction uses may be stale.
-#[tactic(auto, unfolding(crate::specs::Words::stale_here))]
-fn put_stale_here(out: &mut Vec<u8>, i: &Instr, row: &Row) -> Result<(), AllocError>
-    requires { FieldsFit i.now.opcode i.now }
-    ensures { OnOk result (out.new.items ≡ out.old.items ++ stale_here i.now row.now) }
-{
-    put_stale(out, i, uses_at(i).pointer, row)
 }
 
 /// The instruction may reach past the bytes behind its pointer.
@@ -129,18 +115,13 @@ fn put_callee(
 
 /// The same of the routine that a call names.
 #[tactic(auto, unfolding(crate::specs::Words::call_here))]
-fn put_call(
-    out: &mut Vec<u8>,
-    image: &Image,
-    r: u16,
-    i: &Instr,
-    row: &Row,
-) -> Result<(), AllocError>
-    requires { CalleeFits (length image.now.routines) i.now }
-    ensures { OnOk result (out.new.items ≡ out.old.items ++ call_here image.now r i.now row.now) }
+fn put_call(out: &mut Vec<u8>, place: &Place) -> Result<(), AllocError>
+    requires { IsPlace (place_of place.now) }
+    ensures { OnOk result (out.new.items ≡ out.old.items ++ call_here (place_of place.now)) }
 {
-    match i.opcode {
-        Opcode::Call => put_callee(out, r, i.imm, row, image.routine(i.imm)),
+    let n = place.i.imm;
+    match place.i.opcode {
+        Opcode::Call => put_callee(out, place.r, n, place.row, place.image.routine(n)),
         _ => Ok(()),
     }
 }
@@ -167,41 +148,28 @@ fn put_wanted_at(out: &mut Vec<u8>, image: &Image, to: u16, row: &Row) -> Result
 
 /// The same at the end of the edge to the next instruction; nothing where there is no such edge.
 #[tactic(auto, unfolding(crate::specs::Words::wanted_along))]
-fn put_wanted_along(
-    out: &mut Vec<u8>,
-    image: &Image,
-    pc: u16,
-    i: &Instr,
-    row: &Row,
-) -> Result<(), AllocError>
-    requires there { pc < length image.now.points }
-    requires short { length image.now.points ≤ 4096 }
-    requires here { IfSome (slice_get image.now.points pc) (λ point. i.now ≡ point.0) }
-    ensures { OnOk result (out.new.items ≡ out.old.items ++ wanted_along image.now pc i.now row.now) }
+fn put_wanted_along(out: &mut Vec<u8>, place: &Place) -> Result<(), AllocError>
+    requires { IsPlace (place_of place.now) }
+    ensures { OnOk result (out.new.items ≡ out.old.items ++ wanted_along (place_of place.now)) }
 {
-    if !falls_through(i.opcode) {
+    if !falls_through(place.i.opcode) {
         return Ok(());
     }
-    put_wanted_at(out, image, pc + 1, &after(image, pc, row, false))
+    let next = after(place.image, place.pc, place.row, false);
+    put_wanted_at(out, place.image, place.pc + 1, &next)
 }
 
 /// And at the end of the edge to the target.
 #[tactic(auto, unfolding(crate::specs::Words::wanted_branching))]
-fn put_wanted_branching(
-    out: &mut Vec<u8>,
-    image: &Image,
-    pc: u16,
-    i: &Instr,
-    row: &Row,
-) -> Result<(), AllocError>
-    requires there { pc < length image.now.points }
-    requires here { IfSome (slice_get image.now.points pc) (λ point. i.now ≡ point.0) }
-    ensures { OnOk result (out.new.items ≡ out.old.items ++ wanted_branching image.now pc i.now row.now) }
+fn put_wanted_branching(out: &mut Vec<u8>, place: &Place) -> Result<(), AllocError>
+    requires { IsPlace (place_of place.now) }
+    ensures { OnOk result (out.new.items ≡ out.old.items ++ wanted_branching (place_of place.now)) }
 {
-    if !branches(i.opcode) {
+    if !branches(place.i.opcode) {
         return Ok(());
     }
-    put_wanted_at(out, image, i.target, &after(image, pc, row, true))
+    let next = after(place.image, place.pc, place.row, true);
+    put_wanted_at(out, place.image, place.i.target, &next)
 }
 
 /// The instruction at a pc wants these items.
@@ -216,27 +184,18 @@ fn put_wanted(out: &mut Vec<u8>, to: u32, items: &[u8]) -> Result<(), AllocError
 
 /// A row does not fit that at the end of an edge: the edge to the next instruction is tried first.
 #[tactic(auto, unfolding(crate::specs::Words::edge_words))]
-fn put_edge(
-    alloc: Global,
-    out: &mut Vec<u8>,
-    image: &Image,
-    pc: u16,
-    i: &Instr,
-    row: &Row,
-) -> Result<(), AllocError>
-    requires there { pc < length image.now.points }
-    requires short { length image.now.points ≤ 4096 }
-    requires here { IfSome (slice_get image.now.points pc) (λ point. i.now ≡ point.0) }
-    ensures { OnOk result (out.new.items ≡ out.old.items ++ edge_words image.now pc i.now row.now) }
+fn put_edge(alloc: Global, out: &mut Vec<u8>, place: &Place) -> Result<(), AllocError>
+    requires { IsPlace (place_of place.now) }
+    ensures { OnOk result (out.new.items ≡ out.old.items ++ edge_words (place_of place.now)) }
 {
     let mut along = Vec::new(alloc);
-    put_wanted_along(&mut along, image, pc, i, row)?;
+    put_wanted_along(&mut along, place)?;
     if !along.is_empty() {
-        return put_wanted(out, u32::from(pc) + 1, &along);
+        return put_wanted(out, u32::from(place.pc) + 1, &along);
     }
     let mut branching = Vec::new(alloc);
-    put_wanted_branching(&mut branching, image, pc, i, row)?;
-    put_wanted(out, u32::from(i.target), &branching)
+    put_wanted_branching(&mut branching, place)?;
+    put_wanted(out, u32::from(place.i.target), &branching)
 }
 
 /// The potential is above the budget.
@@ -245,50 +204,35 @@ fn put_budget(out: &mut Vec<u8>, routine: &Routine, potential: &Potential) -> Re
     ensures { OnOk result (out.new.items ≡ out.old.items ++ budget_words routine.now potential.now) }
 {
     put_potential(out, potential)?;
+    out.extend_from_slice(verb(is_one(potential)).as_bytes())?;
     put_numbered(
         out,
-        " are owed from here, the budget is ",
+        " owed from here, the budget is ",
         u64::from(routine.budget),
     )
 }
 
-/// What is wrong at an instruction of routine r, by the rule.
+/// What is wrong at the place, by the rule.
 #[tactic(auto, unfolding(crate::specs::Words::words))]
-fn put_words(
-    alloc: Global,
-    out: &mut Vec<u8>,
-    image: &Image,
-    r: u16,
-    routine: &Routine,
-    pc: u16,
-    i: &Instr,
-    row: &Row,
-    potential: &Potential,
-    rule: Rule,
-) -> Result<(), AllocError>
-    requires routine { r < length image.now.routines }
-    requires start { start_of image.now.routines r ≤ 4096 }
-    requires there { pc < length image.now.points }
-    requires short { length image.now.points ≤ 4096 }
-    requires here { IfSome (slice_get image.now.points pc) (λ point. i.now ≡ point.0) }
-    requires fields { FieldsFit i.now.opcode i.now }
-    requires callee { CalleeFits (length image.now.routines) i.now }
-    ensures { OnOk result (out.new.items ≡ out.old.items ++ words image.now r routine.now pc i.now row.now potential.now rule) }
+fn put_words(alloc: Global, out: &mut Vec<u8>, place: &Place, rule: Rule) -> Result<(), AllocError>
+    requires { IsPlace (place_of place.now) }
+    ensures { OnOk result (out.new.items ≡ out.old.items ++ words (place_of place.now) rule) }
 {
+    let (i, row) = (place.i, place.row);
     match rule {
-        Rule::LeavesRoutine => put_leaves(out, image, r, routine, pc, i),
+        Rule::LeavesRoutine => put_leaves(out, place),
         Rule::NamesEmptySlot => put_nowhere(out, row),
-        Rule::EntryMisfit => put_entry(alloc, out, routine, row),
-        Rule::StalePointer => put_stale_here(out, i, row),
+        Rule::EntryMisfit => put_entry(alloc, out, place.routine, row),
+        Rule::StalePointer => put_stale(out, place),
         Rule::PassesEnd => put_past_here(out, i, row),
         Rule::ChangesUnmarked => put_unmarked_here(out, i, row),
         Rule::LocksIntoHeld => put_held(out, i, row),
         Rule::WrongSlot => put_slot_here(out, i, row),
-        Rule::CallMisfit => put_call(out, image, r, i, row),
-        Rule::ExitMisfit => put_exit(out, routine, row),
-        Rule::EdgeMisfit => put_edge(alloc, out, image, pc, i, row),
-        Rule::EdgeUnpaid => put_unpaid(out, image, pc, i, row, potential),
-        Rule::OverBudget => put_budget(out, routine, potential),
+        Rule::CallMisfit => put_call(out, place),
+        Rule::ExitMisfit => put_exit(out, place.routine, row),
+        Rule::EdgeMisfit => put_edge(alloc, out, place),
+        Rule::EdgeUnpaid => put_unpaid(out, place),
+        Rule::OverBudget => put_budget(out, place.routine, place.potential),
     }
 }
 
@@ -313,30 +257,18 @@ fn refusal_head(rule: Rule) -> &'static str
     }
 }
 
-/// The line of a refusal by the rule.
+/// The line of the refusal by the rule.
 #[tactic(auto, unfolding(crate::specs::Words::refusal_line))]
 pub(crate) fn put_refusal_line(
     alloc: Global,
     out: &mut Vec<u8>,
-    image: &Image,
-    r: u16,
-    routine: &Routine,
-    pc: u16,
-    i: &Instr,
-    row: &Row,
-    potential: &Potential,
+    place: &Place,
     rule: Rule,
 ) -> Result<(), AllocError>
-    requires routine { r < length image.now.routines }
-    requires start { start_of image.now.routines r ≤ 4096 }
-    requires there { pc < length image.now.points }
-    requires short { length image.now.points ≤ 4096 }
-    requires here { IfSome (slice_get image.now.points pc) (λ point. i.now ≡ point.0) }
-    requires fields { FieldsFit i.now.opcode i.now }
-    requires callee { CalleeFits (length image.now.routines) i.now }
-    ensures { OnOk result (out.new.items ≡ out.old.items ++ refusal_line image.now r routine.now pc i.now row.now potential.now rule) }
+    requires { IsPlace (place_of place.now) }
+    ensures { OnOk result (out.new.items ≡ out.old.items ++ refusal_line (place_of place.now) rule) }
 {
     out.extend_from_slice(refusal_head(rule).as_bytes())?;
-    put_words(alloc, out, image, r, routine, pc, i, row, potential, rule)?;
+    put_words(alloc, out, place, rule)?;
     out.extend_from_slice(b"\n")
 }

@@ -1,0 +1,55 @@
+-- An instruction of a routine, with what is known there.
+use Rattle.std.specs.Prelude.{◌≡◌, ◌<◌, ◌≤◌, ℕ, true, length, slice_get, IfSome}
+use Rattle.geos_image.specs.declared.instr.Instr.{Instr}
+use Rattle.geos_image.specs.declared.row.Row.{Row}
+use Rattle.geos_image.specs.declared.potential.Potential.{Potential}
+use Rattle.geos_image.specs.declared.routine.Routine.{Routine}
+use Rattle.geos_image.specs.Fields.{FieldsFit, CalleeFits}
+use Rattle.geos_image.specs.Legal.{is_image}
+use Rattle.geos_image.specs.Parts.{Parts, Point, start_of}
+use Rattle.geos_listing.specs.Instrs.{KeepsLimits}
+use Rattle.geos_explain.specs.declared.place.Place as code
+
+-- the instruction at a pc of routine r, its row and its potential
+pub record Place : Type 0 where
+  pub image : Parts
+  pub r : ℕ
+  pub routine : Routine
+  pub pc : ℕ
+  pub i : Instr
+  pub row : Row
+  pub potential : Potential
+
+-- the place of a point
+abbrev pub place_at : Parts → ℕ → Routine → ℕ → Point → Place
+place_at image r routine pc point = record { image = image; r = r; routine = routine; pc = pc; i = point.0; row = point.1; potential = point.2 }
+
+-- the place that the code has
+abbrev pub place_of : code.Place → Place
+place_of place = record {
+  image = place.image.now;
+  r = place.r;
+  routine = place.routine.now;
+  pc = place.pc;
+  i = place.i.now;
+  row = place.row.now;
+  potential = place.potential.now;
+}
+
+-- there is a routine r in the image, which is no longer than images may be
+pub record HasRoutine (image : Parts) (r : ℕ) : Type 0 where
+  pub within : r < length image.routines
+  pub start : start_of image.routines r ≤ 4096
+  pub short : length image.points ≤ 4096
+  pub legal : is_image image ≡ true
+
+-- the instruction is the image's, and the routine is one of its routines
+pub record IsPlace (place : Place) : Type 0 where
+  pub routine : place.r < length place.image.routines
+  pub start : start_of place.image.routines place.r ≤ 4096
+  pub there : place.pc < length place.image.points
+  pub short : length place.image.points ≤ 4096
+  pub here : IfSome (slice_get place.image.points place.pc) (λ point. place.i ≡ point.0)
+  pub fields : FieldsFit place.i.opcode place.i
+  pub callee : CalleeFits (length place.image.routines) place.i
+  pub limits : KeepsLimits place.image place.i

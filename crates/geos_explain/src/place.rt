@@ -1,0 +1,15 @@
+//! An instruction of a routine, with what is known there.
+
+use geos_image::{Image, Instr, Potential, Routine, Row};
+
+/// The instruction at a pc of routine r, its row and its potential.
+#[derive(Clone, Copy)]
+pub(crate) struct Place<'a> {
+    pub image: &'a Image,
+    pub r: u16,
+    pub routine: &'a Routine,
+    pub pc: u16,
+    pub i: &'a Instr,
+    pub row: &'a Row,
+    pub potential: &'a Potential,
+}
