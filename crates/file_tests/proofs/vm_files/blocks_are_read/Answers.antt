@@ -2,7 +2,7 @@ use Rattle.std.proofs.Common.{◌≡◌, ◌∙◌, ℕ, Option, Some, length, a
 use Rattle.std.specs.Prelude.{IsSomeAnd, find, ◌==◌}
 use Rattle.vm_file.specs.declared.directory.Entry.{Entry}
 use Rattle.vm_file.specs.declared.directory.Directory.{Directory}
-use Rattle.geos_tests.proofs.vm_files.blocks_are_read.Goals as goal
+use Rattle.file_tests.proofs.vm_files.blocks_are_read.Goals as goal
 
 -- the entry that was found has the length of the bytes
 found : (d e : Directory) (o : Option Entry) (entry : Entry) (n : ℕ) → e ≡ d → o ≡ find (λ x. x.h == 1) e.entries.items → o ≡ Some entry → entry.len ≡ n → IsSomeAnd (find (λ x. x.h == 1) d.entries.items) (λ x. x.len ≡ n)

@@ -3,8 +3,8 @@ use Rattle.std.proofs.Common.{◌≡◌, refl}
 use Rattle.geos_image.specs.declared.opcode.Opcode.TheVariants.{Mnew, Mlock, Munlock, Sne, Lalloc, Lsize, Deref, Lcontract, Ldb, Ldw, Stb, Stxw, Ldxb, Ldcb, Stcw, Movp, Copy, Plen, Caadd, Cadel, Cacount, Caelt}
 use Rattle.geos_image.specs.declared.instr.Instr.{Instr}
 use Rattle.geos_semantics.specs.Model.{Outcome, Fault, step}
-use Rattle.geos_tests.proofs.Images.{instr}
-use Rattle.geos_tests.proofs.States.{willing, alone, with_vm, stepped}
+use Rattle.worked_examples.proofs.Images.{instr}
+use Rattle.worked_examples.proofs.States.{willing, alone, with_vm, stepped}
 
 -- the step where s3 holds a block of the VM file, and p3 leads into it
 abbrev pub stepped_on_vm : Instr → Outcome

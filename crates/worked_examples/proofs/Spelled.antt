@@ -4,7 +4,7 @@ use Rattle.std.specs.Prelude.{Ok, Err}
 use Rattle.geos_image.specs.Spelling.{spelling}
 use Rattle.geos_image.specs.Legal.{is_name_byte}
 use Rattle.geos_image.specs.Reading.{image_at, header_at, routines_at, routine_at, name_at, count_at, row_at, slot_at, pointer_at, instr_at, points_at, entry_at, potential_at}
-use Rattle.geos_tests.proofs.Images.{add}
+use Rattle.worked_examples.proofs.Images.{add}
 
 abbrev pub bytes : List ℕ
 bytes = spelling (add 5)

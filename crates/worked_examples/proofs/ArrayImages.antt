@@ -4,8 +4,8 @@ use Rattle.geos_image.specs.declared.opcode.Opcode.TheVariants.{Caadd, Cacount, 
 use Rattle.geos_image.specs.declared.row.SlotState.TheVariants.{Mem}
 use Rattle.geos_image.specs.Open.{open_row}
 use Rattle.geos_image.specs.Parts.{Parts}
-use Rattle.geos_tests.proofs.Images.{instr}
-use Rattle.geos_tests.proofs.BlockImages.{s0, s0_p0, once}
+use Rattle.worked_examples.proofs.Images.{instr}
+use Rattle.worked_examples.proofs.BlockImages.{s0, s0_p0, once}
 
 -- elements of 3, 0 and 5 bytes are put in, then 2 bytes at index 1, and the first one goes; put
 -- out are the count, the lengths of elements 0, 1 and 2, and what 3 is refused with; then the

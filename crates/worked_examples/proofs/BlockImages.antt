@@ -7,7 +7,7 @@ use Rattle.geos_image.specs.declared.row.SlotState.{SlotState}
 use Rattle.geos_image.specs.declared.row.SlotState.TheVariants.{Empty, Mem}
 use Rattle.geos_image.specs.Open.{open_row}
 use Rattle.geos_image.specs.Parts.{Point, Parts}
-use Rattle.geos_tests.proofs.Images.{potential, routine, instr}
+use Rattle.worked_examples.proofs.Images.{potential, routine, instr}
 
 -- s0 holds such a block
 abbrev pub s0 : SlotState → Row

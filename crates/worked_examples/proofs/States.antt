@@ -11,7 +11,7 @@ use Rattle.geos_image.specs.Parts.{Parts}
 use Rattle.geos_verify.specs.declared.uses.Kind.TheVariants.{MemBlock, VmBlock}
 use Rattle.geos_semantics.specs.State.{Held, SlotReference, State}
 use Rattle.geos_semantics.specs.Model.{Outcome, Next, step}
-use Rattle.geos_tests.proofs.Images.{potential, routine}
+use Rattle.worked_examples.proofs.Images.{potential, routine}
 
 -- nothing is refused from outside
 abbrev pub willing : Choice

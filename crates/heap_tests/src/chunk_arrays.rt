@@ -151,49 +151,34 @@ fn count_in(rt: &impl Abort, bytes: &[u8]) -> Result<u16, ArrayError> {
     count(&block, 16)
 }
 
+const NONE: Result<u16, ArrayError> = Err(ArrayError::BadArray);
+
 #[test]
 fn tells_what_is_no_array(rt: HostRuntime) -> Result<(), Fail> {
-    let none = Err(ArrayError::BadArray);
-    // two elements of varying sizes, then each way in which such bytes are no array
-    assert_eq!(rt;
-        count_in(&rt, &[2, 0, 0, 0, 0, 0, 8, 0, 12, 0, 13, 0, 7]),
-        Ok(2)
-    );
-    assert_eq!(rt;
-        count_in(&rt, &[3, 0, 0, 0, 0, 0, 8, 0, 12, 0, 13, 0, 7]),
-        none
-    );
-    assert_eq!(rt;
-        count_in(&rt, &[2, 0, 0, 0, 1, 0, 8, 0, 12, 0, 13, 0, 7]),
-        none
-    );
-    assert_eq!(rt;
-        count_in(&rt, &[2, 0, 0, 0, 0, 0, 9, 0, 12, 0, 13, 0, 7]),
-        none
-    );
-    assert_eq!(rt;
-        count_in(&rt, &[2, 0, 0, 0, 0, 0, 8, 0, 13, 0, 13, 0, 7]),
-        none
-    );
-    assert_eq!(rt;
-        count_in(&rt, &[2, 0, 0, 0, 0, 0, 8, 0, 12, 0, 11, 0, 7]),
-        none
-    );
-    assert_eq!(rt;
-        count_in(&rt, &[2, 0, 0, 0, 0, 0, 8, 0, 12, 0, 14, 0, 7]),
-        none
-    );
-    assert_eq!(rt; count_in(&rt, &[2, 0, 0, 0, 0, 0, 8, 0, 12, 0]), none);
-    // no element, and a byte too many
-    assert_eq!(rt; count_in(&rt, &[0, 0, 0, 0, 0, 0, 8, 0]), Ok(0));
-    assert_eq!(rt; count_in(&rt, &[0, 0, 0, 0, 0, 0, 8, 0, 0]), none);
-    // elements of two bytes
-    assert_eq!(rt; count_in(&rt, &[1, 0, 2, 0, 0, 0, 8, 0, 5, 6]), Ok(1));
-    assert_eq!(rt; count_in(&rt, &[1, 0, 2, 0, 0, 0, 8, 0, 5, 6, 7]), none);
-    assert_eq!(rt; count_in(&rt, &[2, 0, 2, 0, 0, 0, 8, 0, 5, 6]), none);
-    // less than a header, and no byte
-    assert_eq!(rt; count_in(&rt, &[0, 0, 2, 0, 0, 0, 8]), none);
-    assert_eq!(rt; count_in(&rt, &[]), none);
+    let rows = [
+        // two elements of varying sizes, then each way in which such bytes are no array
+        ([2, 0, 0, 0, 0, 0, 8, 0, 12, 0, 13, 0, 7].as_slice(), Ok(2)),
+        ([3, 0, 0, 0, 0, 0, 8, 0, 12, 0, 13, 0, 7].as_slice(), NONE),
+        ([2, 0, 0, 0, 1, 0, 8, 0, 12, 0, 13, 0, 7].as_slice(), NONE),
+        ([2, 0, 0, 0, 0, 0, 9, 0, 12, 0, 13, 0, 7].as_slice(), NONE),
+        ([2, 0, 0, 0, 0, 0, 8, 0, 13, 0, 13, 0, 7].as_slice(), NONE),
+        ([2, 0, 0, 0, 0, 0, 8, 0, 12, 0, 11, 0, 7].as_slice(), NONE),
+        ([2, 0, 0, 0, 0, 0, 8, 0, 12, 0, 14, 0, 7].as_slice(), NONE),
+        ([2, 0, 0, 0, 0, 0, 8, 0, 12, 0].as_slice(), NONE),
+        // no element, and a byte too many
+        ([0, 0, 0, 0, 0, 0, 8, 0].as_slice(), Ok(0)),
+        ([0, 0, 0, 0, 0, 0, 8, 0, 0].as_slice(), NONE),
+        // elements of two bytes
+        ([1, 0, 2, 0, 0, 0, 8, 0, 5, 6].as_slice(), Ok(1)),
+        ([1, 0, 2, 0, 0, 0, 8, 0, 5, 6, 7].as_slice(), NONE),
+        ([2, 0, 2, 0, 0, 0, 8, 0, 5, 6].as_slice(), NONE),
+        // less than a header, and no byte
+        ([0, 0, 2, 0, 0, 0, 8].as_slice(), NONE),
+        (b"".as_slice(), NONE),
+    ];
+    for (bytes, wanted) in rows {
+        assert_eq!(rt; count_in(&rt, bytes), wanted, "{bytes:?}");
+    }
     Ok(())
 }
 

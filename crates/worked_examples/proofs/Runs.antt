@@ -8,9 +8,9 @@ use Rattle.geos_image.specs.declared.opcode.Opcode.TheVariants.{Plen}
 use Rattle.geos_image.specs.Parts.{Parts}
 use Rattle.geos_semantics.specs.Model.{Ending, Faulted, Running, Returned, run}
 use Rattle.geos_machine.specs.Runs.{begin}
-use Rattle.geos_tests.proofs.Images.{instr, add, outputs, two_and_main, loop_by_k1}
-use Rattle.geos_tests.proofs.BlockImages.{no_bytes, read_after_deref, read_where_apart, deref_after_refusal}
-use Rattle.geos_tests.proofs.States.{willing, unwilling, no_blocks, block}
+use Rattle.worked_examples.proofs.Images.{instr, add, outputs, two_and_main, loop_by_k1}
+use Rattle.worked_examples.proofs.BlockImages.{no_bytes, read_after_deref, read_where_apart, deref_after_refusal}
+use Rattle.worked_examples.proofs.States.{willing, unwilling, no_blocks, block}
 
 -- the ending of a run of at most n steps of routine r, on words that are 0 and no block
 abbrev pub ending : Parts → ℕ → ℕ → Ending

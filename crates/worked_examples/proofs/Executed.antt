@@ -5,8 +5,8 @@ use Rattle.geos_image.specs.declared.opcode.Opcode.TheVariants.{Ldi, Mov, Add, S
 use Rattle.geos_image.specs.declared.instr.Instr.{Instr}
 use Rattle.geos_semantics.specs.State.{Frame, State}
 use Rattle.geos_semantics.specs.Model.{Outcome, Fault, Next, Done, step}
-use Rattle.geos_tests.proofs.Images.{instr}
-use Rattle.geos_tests.proofs.States.{willing, alone, no_blocks}
+use Rattle.worked_examples.proofs.Images.{instr}
+use Rattle.worked_examples.proofs.States.{willing, alone, no_blocks}
 
 -- a state with no block, no slot held and no pointer
 abbrev pub state : List ℕ → List ℕ → ℕ → List ℕ → State

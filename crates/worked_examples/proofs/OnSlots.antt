@@ -8,8 +8,8 @@ use Rattle.geos_image.specs.declared.instr.Instr.{Instr}
 use Rattle.geos_image.specs.declared.opcode.Opcode.{Opcode}
 use Rattle.geos_semantics.specs.State.{Held, State}
 use Rattle.geos_semantics.specs.Model.{Outcome, Next, step}
-use Rattle.geos_tests.proofs.Images.{instr}
-use Rattle.geos_tests.proofs.States.{willing, alone, block, bytes, first, second, third, region_of, with_first, with_second, held, leads, moved_first, moved_second, before, stepped, refused_all, on, refused, with_w6, greatest, greatest_refused}
+use Rattle.worked_examples.proofs.Images.{instr}
+use Rattle.worked_examples.proofs.States.{willing, alone, block, bytes, first, second, third, region_of, with_first, with_second, held, leads, moved_first, moved_second, before, stepped, refused_all, on, refused, with_w6, greatest, greatest_refused}
 
 -- an instruction on the first block's chunk 16, with fields c and d
 abbrev pub on_chunk : Opcode → ℕ → ℕ → Instr

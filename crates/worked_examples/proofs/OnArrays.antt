@@ -10,8 +10,8 @@ use Rattle.geos_image.specs.declared.opcode.Opcode.TheVariants.{Canew, Caadd, Ca
 use Rattle.geos_image.specs.declared.instr.Instr.{Instr}
 use Rattle.geos_semantics.specs.State.{SlotReference, State}
 use Rattle.geos_semantics.specs.Model.{Outcome, step}
-use Rattle.geos_tests.proofs.Images.{instr}
-use Rattle.geos_tests.proofs.States.{willing, unwilling, alone, block, few_bytes, third, region_of, leads, moved_first, moved_second, before, registers, on, refused, with_w6, greatest_refused}
+use Rattle.worked_examples.proofs.Images.{instr}
+use Rattle.worked_examples.proofs.States.{willing, unwilling, alone, block, few_bytes, third, region_of, leads, moved_first, moved_second, before, registers, on, refused, with_w6, greatest_refused}
 
 -- chunk 16 of the first block: an array of varying sizes, with elements of 2 bytes and of 1
 abbrev pub varying : List ℕ

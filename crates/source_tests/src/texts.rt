@@ -72,36 +72,25 @@ fn image_of_a_code(rt: HostRuntime) -> Result<(), Fail> {
     Ok(())
 }
 
+/// The line of a routine, with its end.
+const HEADER: &[u8] = b"routine a public budget 9\n";
+
 #[test]
 fn a_text_of_each_fault(rt: HostRuntime) -> Result<(), Fail> {
     let alloc = rt.alloc();
-    assert_eq!(rt;
-        fault(alloc, b"routine a public budget 9\nFOO")?,
-        at(2, Why::UnknownWord)
-    );
-    assert_eq!(rt;
-        fault(alloc, b"routine a public budget 9\nLDI w8 1")?,
-        at(2, Why::WrongOperands)
-    );
-    assert_eq!(rt;
-        fault(alloc, b"routine a public budget 9\nLDI w0 65536")?,
-        at(2, Why::OutOfRange)
-    );
-    assert_eq!(rt;
-        fault(alloc, b"routine a public budget 9\nJMP nowhere")?,
-        at(2, Why::Undefined)
-    );
-    assert_eq!(rt;
-        fault(alloc, b"routine a public budget 9\nx: x: RET")?,
-        at(2, Why::UsedTwice)
-    );
-    assert_eq!(rt;
-        fault(
-            alloc,
-            b"routine a public budget 9\nroutine a public budget 9"
-        )?,
-        at(1, Why::OutOfPlace)
-    );
+    let second_lines = [
+        (b"FOO".as_slice(), Why::UnknownWord),
+        (b"LDI w8 1".as_slice(), Why::WrongOperands),
+        (b"LDI w0 65536".as_slice(), Why::OutOfRange),
+        (b"JMP nowhere".as_slice(), Why::Undefined),
+        (b"x: x: RET".as_slice(), Why::UsedTwice),
+    ];
+    for (line, why) in second_lines {
+        let text = repeated(alloc, HEADER, line, 1)?;
+        assert_eq!(rt; fault(alloc, &text)?, at(2, why), "{why:?}");
+    }
+    let without_code = b"routine a public budget 9\nroutine a public budget 9".as_slice();
+    assert_eq!(rt; fault(alloc, without_code)?, at(1, Why::OutOfPlace));
     assert_eq!(rt; fault(alloc, b"")?, at(1, Why::OutOfPlace));
     Ok(())
 }
@@ -109,10 +98,9 @@ fn a_text_of_each_fault(rt: HostRuntime) -> Result<(), Fail> {
 #[test]
 fn instructions_up_to_4096(rt: HostRuntime) -> Result<(), Fail> {
     let alloc = rt.alloc();
-    let header = b"routine a public budget 9\n".as_slice();
-    let mut most = repeated(alloc, header, b"RET\n", 4096)?;
+    let mut most = repeated(alloc, HEADER, b"RET\n", 4096)?;
     assert_eq!(rt; fault(alloc, &most)?, None);
-    let more = repeated(alloc, header, b"RET\n", 4097)?;
+    let more = repeated(alloc, HEADER, b"RET\n", 4097)?;
     assert_eq!(rt; fault(alloc, &more)?, at(4098, Why::TooMany));
     most.extend_from_slice(b"FOO")?;
     assert_eq!(rt; fault(alloc, &most)?, at(4098, Why::UnknownWord));
@@ -163,19 +151,16 @@ fn fault_behind_routines(alloc: Global, line: &[u8]) -> Result<Option<BadLine>, 
 
 #[test]
 fn lower_faults_of_the_routine_past_32(rt: HostRuntime) -> Result<(), Fail> {
-    let alloc = rt.alloc();
-    assert_eq!(rt;
-        fault_behind_routines(alloc, b"routine r00 budget 1\nRET")?,
-        at(65, Why::UsedTwice)
-    );
-    assert_eq!(rt;
-        fault_behind_routines(alloc, b"routine new budget 4294967296\nRET")?,
-        at(65, Why::OutOfRange)
-    );
-    assert_eq!(rt;
-        fault_behind_routines(alloc, b"routine new budget 1")?,
-        at(65, Why::TooMany)
-    );
+    let too_large = b"routine new budget 4294967296\nRET".as_slice();
+    let lines = [
+        (b"routine r00 budget 1\nRET".as_slice(), Why::UsedTwice),
+        (too_large, Why::OutOfRange),
+        (b"routine new budget 1".as_slice(), Why::TooMany),
+    ];
+    for (line, why) in lines {
+        let found = fault_behind_routines(rt.alloc(), line)?;
+        assert_eq!(rt; found, at(65, why), "{why:?}");
+    }
     Ok(())
 }
 

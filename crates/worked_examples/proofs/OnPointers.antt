@@ -6,8 +6,8 @@ use Rattle.geos_model.specs.Bytes.{word}
 use Rattle.geos_image.specs.declared.opcode.Opcode.TheVariants.{Ldb, Ldw, Stb, Stw, Ldxb, Ldxw, Stxb, Stxw, Ldcb, Ldcw, Stcb, Stcw, Movp, Copy, Plen}
 use Rattle.geos_semantics.specs.State.{State}
 use Rattle.geos_semantics.specs.Model.{step}
-use Rattle.geos_tests.proofs.Images.{instr}
-use Rattle.geos_tests.proofs.States.{willing, alone, with_first, with_second, leads, before, stepped, on, refused, with_w6, greatest, greatest_refused}
+use Rattle.worked_examples.proofs.Images.{instr}
+use Rattle.worked_examples.proofs.States.{willing, alone, with_first, with_second, leads, before, stepped, on, refused, with_w6, greatest, greatest_refused}
 
 -- with other bytes in the first block's chunk; no pointer becomes stale by that
 abbrev pub with_bytes : List ℕ → State

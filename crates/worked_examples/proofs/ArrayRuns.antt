@@ -7,13 +7,13 @@ use Rattle.geos_image.specs.declared.opcode.Opcode.TheVariants.{Canew, Caadd, Ca
 use Rattle.geos_image.specs.declared.row.SlotState.TheVariants.{Mem, Vm}
 use Rattle.geos_verify.specs.declared.rule.Rule.TheVariants.{PassesEnd, ChangesUnmarked, WrongSlot, EdgeMisfit}
 use Rattle.geos_verify.specs.Rules.{leaves_routine, names_empty_slot, entry_misfits, stale_pointer, passes_end, changes_unmarked, locks_into_held, wrong_slot, call_misfits, exit_misfits, misfits_at, edge_misfits, unpaid_along, unpaid_branching, edge_unpaid, over_budget}
-use Rattle.geos_tests.proofs.Images.{instr}
-use Rattle.geos_tests.proofs.BlockImages.{s0, s0_p0, with_row}
-use Rattle.geos_tests.proofs.ArrayImages.{edits, pair}
-use Rattle.geos_tests.proofs.Judged.{judged}
-use Rattle.geos_tests.proofs.JudgedOnBlocks.{fine, refused_at}
-use Rattle.geos_tests.proofs.Runs.{ending_in_128, left, returned}
-use Rattle.geos_tests.proofs.States.{willing, block}
+use Rattle.worked_examples.proofs.Images.{instr}
+use Rattle.worked_examples.proofs.BlockImages.{s0, s0_p0, with_row}
+use Rattle.worked_examples.proofs.ArrayImages.{edits, pair}
+use Rattle.worked_examples.proofs.Judged.{judged}
+use Rattle.worked_examples.proofs.JudgedOnBlocks.{fine, refused_at}
+use Rattle.worked_examples.proofs.Runs.{ending_in_128, left, returned}
+use Rattle.worked_examples.proofs.States.{willing, block}
 
 pub record JudgedOnArrays : Type 0 where
   pub edits_accepted : judged edits ≡ fine 38
