@@ -17,8 +17,12 @@ const ABOUT: &str =
     "Runs a session: checks an image of routines, then calls them as a script says. \
      Or makes an image of a text, or says what there is to say of an image in a file.";
 
-const USAGES: &str =
-    "geos < SESSION\n       geos asm IN OUT\n       geos list IMAGE\n       geos check IMAGE\n       geos explain IMAGE";
+const USAGES: &str = "\
+geos < SESSION
+       geos asm IN OUT
+       geos list IMAGE
+       geos check IMAGE
+       geos explain IMAGE";
 
 const SESSION: &str = "\
 A session is read from standard input, at most 1,048,576 bytes of it. It is
@@ -129,6 +133,17 @@ pub(crate) fn fail<F: Display + Drop>(rt: &HostRuntime, fault: F) -> Result<Exit
     Ok(ExitCode::FAILURE)
 }
 
+/// Prints what the words on the command line are answered, help or what is wrong with them.
+fn answered(rt: &HostRuntime, answer: &clap::Error) -> Result<ExitCode> {
+    if answer.kind() == clap::error::ErrorKind::OutOfMemory {
+        return fail(rt, ScriptFault::Memory);
+    }
+    if answer.print(rt).is_ok() || answer.use_stderr() {
+        return Ok(ExitCode::from(answer.exit_code() as u8));
+    }
+    fail(rt, ScriptFault::Write)
+}
+
 /// The words behind the program's name. `ErrorKind::InvalidData`: one of them is no text.
 fn words(rt: &HostRuntime) -> io::Result<Vec<String>> {
     Ok(env::args(rt)?.skip(1).collect(rt.alloc())?)
@@ -165,9 +180,6 @@ fn main(rt: HostRuntime) -> Result<ExitCode> {
     };
     match command.try_get_matches_from(words.as_slice()) {
         Ok(matches) => carry_out(&rt, &matches),
-        Err(answer) if answer.print(&rt).is_ok() || answer.use_stderr() => {
-            Ok(ExitCode::from(answer.exit_code() as u8))
-        }
-        Err(_) => fail(&rt, ScriptFault::Write),
+        Err(answer) => answered(&rt, &answer),
     }
 }
