@@ -12,10 +12,8 @@ use Rattle.vm_file.specs.declared.directory.Entry.{Entry}
 use Rattle.vm_file.specs.Committing.{Shows}
 use Rattle.vm_file.specs.Contents.{Block, block_spelling, is_filled}
 use Rattle.vm_file.specs.Directories.{entries_length}
-use Rattle.vm_file.specs.Spelling.{Puts}
 use Rattle.vm_file.proofs.HeapTests.{both, heap-sound}
 use Rattle.vm_file.proofs.Lengths.{entries_length-more}
-use Rattle.vm_file.proofs.Putting.{puts_then}
 
 -- what a source shows is what is resident
 pub shown_some : (shown : Bor (List ℕ)) (o : Option (List ℕ)) → Shows (Some shown) o → o ≡ Some shown.now
@@ -30,12 +28,14 @@ pub some_length : (e : Entry) (o : Option (List ℕ)) (ws : List ℕ) → o ≡ 
 some_length e o ws is long = (let P : Option (List ℕ) → Type 0 = λ x. IfSome x (λ bytes. length bytes ≡ e.len) in subst P is long)
 
 -- an entry and, behind it, as many bytes as it says are a block
-pub block_puts : (e : Entry) (at : ℕ) (bytes ws old mid new : List ℕ) → bytes ≡ ws → length ws ≡ e.len → Puts at (at + 6) (word_bytes e.h ++ word_bytes e.uid ++ word_bytes e.len) old mid →
-    Puts (at + 6) (at + (6 + e.len)) ws mid new → Puts at (at + (6 + e.len)) (block_spelling (let b : Block = record { h = e.h; uid = e.uid; bytes = bytes } in b)) old new
-block_puts e at bytes ws old mid new is long head body =
-    let P : List ℕ → Type 0 = λ xs. Puts at (at + (6 + e.len)) (block_spelling (let b : Block = record { h = e.h; uid = e.uid; bytes = xs } in b)) old new in
-    let H : ℕ → Type 0 = λ n. Puts at (at + 6) (word_bytes e.h ++ word_bytes e.uid ++ word_bytes n) old mid in
-    subst P (sym is) (puts_then at (at + 6) (at + (6 + e.len)) (word_bytes e.h ++ word_bytes e.uid ++ word_bytes (length ws)) ws old mid new (subst H (sym long) head) body)
+pub block_appended : (e : Entry) (bytes ws old mid new : List ℕ) → bytes ≡ ws → length ws ≡ e.len → mid ≡ old ++ (word_bytes e.h ++ word_bytes e.uid ++ word_bytes e.len) → new ≡ mid ++ ws →
+    new ≡ old ++ block_spelling (let b : Block = record { h = e.h; uid = e.uid; bytes = bytes } in b)
+block_appended e bytes ws old mid new is long head body =
+    let P : List ℕ → Type 0 = λ xs. new ≡ old ++ block_spelling (let b : Block = record { h = e.h; uid = e.uid; bytes = xs } in b) in
+    let H : ℕ → Type 0 = λ n. mid ≡ old ++ (word_bytes e.h ++ word_bytes e.uid ++ word_bytes n) in
+    let words = word_bytes e.h ++ word_bytes e.uid ++ word_bytes (length ws) in
+    let spelled : (old ++ words) ++ ws ≡ old ++ block_spelling (let b : Block = record { h = e.h; uid = e.uid; bytes = ws } in b) = append_assoc old words ws in
+    subst P (sym is) (body ∙ ap (λ xs. xs ++ ws) (subst H (sym long) head) ∙ spelled)
 
 -- a block that is not resident is filled where its bytes are a heap under its handle
 pub filled_stored : (h uid : ℕ) (o : Option (List ℕ)) (stored : List ℕ) → o ≡ None → is_filled (let b : Block = record { h = h; uid = uid; bytes = unwrap_or o stored } in b) ≡ true →
@@ -63,13 +63,14 @@ module _ (f : Entry → Block) where
       ap (λ xs. block_spelling (f e) ++ xs) (spelled_more es i d (omega arith))
       ∙ sym (append_assoc (block_spelling (f e)) (flat_map block_spelling (map f (take i es))) (block_spelling (f (get_or es i d))))
 
-  pub blocks_put : (es : List Entry) (i : ℕ) (d : Entry) (n m k : ℕ) (old mid new : List ℕ) → i < length es → Puts n m (flat_map block_spelling (map f (take i es))) old mid →
-      Puts m k (block_spelling (f (get_or es i d))) mid new → Puts n k (flat_map block_spelling (map f (take (i + 1) es))) old new
-  blocks_put es i d n m k old mid new h so_far one =
+  pub blocks_appended : (es : List Entry) (i : ℕ) (d : Entry) (old mid new : List ℕ) → i < length es → mid ≡ old ++ flat_map block_spelling (map f (take i es)) →
+      new ≡ mid ++ block_spelling (f (get_or es i d)) → new ≡ old ++ flat_map block_spelling (map f (take (i + 1) es))
+  blocks_appended es i d old mid new h so_far one =
       let next : i + 1 ≡ suc i = omega arith in
-      let P : List ℕ → Type 0 = λ xs. Puts n k xs old new in
-      subst P (sym (ap (λ j. flat_map block_spelling (map f (take j es))) next ∙ spelled_more es i d h))
-      (puts_then n m k (flat_map block_spelling (map f (take i es))) (block_spelling (f (get_or es i d))) old mid new so_far one)
+      one
+      ∙ ap (λ xs. xs ++ block_spelling (f (get_or es i d))) so_far
+      ∙ append_assoc old (flat_map block_spelling (map f (take i es))) (block_spelling (f (get_or es i d)))
+      ∙ ap (λ xs. old ++ xs) (sym (ap (λ j. flat_map block_spelling (map f (take j es))) next ∙ spelled_more es i d h))
 
   -- each of the blocks is filled
   pub filled_at : (es : List Entry) (i : ℕ) (d : Entry) → i < length es → list_all is_filled (map f es) ≡ true → is_filled (f (get_or es i d)) ≡ true

@@ -1,7 +1,6 @@
 -- The pair that a commit keeps.
-use Rattle.std.proofs.Common.{◌≡◌, ◌⊎◌, ℕ, Bool, true, not, List, ◌++◌, length, take, drop, Option, Result, Ok, ap, sym, ◌∙◌, subst, inl, inr}
+use Rattle.std.proofs.Common.{◌≡◌, ◌⊎◌, ℕ, Bool, true, not, List, Option, Result, Ok, ap, sym, ◌∙◌, subst, inl, inr}
 use Rattle.std.specs.Prelude.{MatchBool}
-use Rattle.std.proofs.lemmas.List.{take_at}
 use Rattle.vm_file.specs.declared.commit.How.{How}
 use Rattle.vm_file.specs.declared.commit.How.TheVariants.{Update, Save, Revert}
 use Rattle.vm_file.specs.declared.directory.Directory.{Directory}
@@ -50,10 +49,6 @@ cut_spells how cur saved mid q bytes same spells =
     let P : Directory → Type 0 = λ s. Spells (current_after how cur s) (saved_after how cur s) q bytes in
     let Q : Pair → Type 0 = λ p. Spells (current_after how cur mid) (saved_after how cur mid) p bytes in
     subst Q (sym (cut_is how cur saved mid q bytes same spells)) (subst P (sym same) spells)
-
--- a vector whose slice was written whole
-pub written_whole : (n : ℕ) (out items : List ℕ) → n ≡ length items → length out ≡ length items → take n (out ++ drop (length out) items) ≡ out
-written_whole n out items len long = take_at out (drop (length out) items) n (long ∙ sym len)
 
 module _ {D : Type 0} (image : D → List ℕ) where
   -- a sure file keeps its pair

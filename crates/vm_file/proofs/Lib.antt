@@ -12,7 +12,7 @@ pub mod StateLaws
 pub mod StopLaws
 pub mod BlockLaws
 pub mod NewFiles
-pub mod Putting
+pub mod Filling
 pub mod Blocks
 pub mod Sources
 pub mod CommitLaws

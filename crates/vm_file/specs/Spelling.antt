@@ -1,5 +1,5 @@
 -- What is written in front of the areas.
-use Rattle.std.specs.Prelude.{◌≡◌, ℕ, ◌%◌, ◌/◌, List, [], ◌∷◌, ◌++◌, length, take, replicate}
+use Rattle.std.specs.Prelude.{ℕ, ◌%◌, ◌/◌, List, [], ◌∷◌, ◌++◌, replicate}
 use Rattle.geos_model.specs.Bytes.{word_bytes}
 use Rattle.vm_file.specs.Contents.{Contents, Pair}
 use Rattle.vm_file.specs.Reading.{magic}
@@ -23,8 +23,3 @@ empty_contents = record { blocks = []; map_block = 0; map_item = (0, 0) }
 -- the pair of a new file
 abbrev pub empty_pair : Pair
 empty_pair = record { cur = empty_contents; saved = empty_contents }
-
--- these bytes were written from n to m; what stood before them stays
-pub record Puts (n m : ℕ) (bytes old new : List ℕ) : Type 0 where
-  pub long : length new ≡ length old
-  pub front : take m new ≡ take n old ++ bytes

@@ -1,5 +1,6 @@
 //! Files that are open.
-ghost use Rattle.std.specs.Prelude.{◌≡◌, ◌+◌, ◌*◌, ◌≤◌, ◌<◌, ◌↔◌, ℕ, List, Ok, Err, true, false, not, MatchResult, IfOk, IfErr, OnOk, OnErr, IsTrue, length};
+ghost use Rattle.std.specs.Prelude.{◌≡◌, ◌+◌, ◌*◌, ◌≤◌, ◌<◌, ◌↔◌, ◌++◌, ℕ, List, [], Ok, Err, true, false, not, MatchResult, IfOk, IfErr, OnOk, OnErr, IsTrue, length};
+ghost use Rattle.std.specs.Vec.{vec_len, vec_capacity};
 ghost use Rattle.geos_model.specs.Block.{handle_word};
 ghost use Rattle.geos_model.specs.Heap.{IsHeap};
 ghost use Rattle.vm_file.specs.Device.{Only, Passes, Rose};
@@ -47,7 +48,7 @@ impl<D: Device + Drop> VmFile<D> {
     ghost use Rattle.vm_file.specs.Committing.{contents_from, current_after, kept_after, length_after, saved_after};
     ghost use Rattle.vm_file.specs.Contents.{contents_spelling, listed, pair_in, pair_spelling};
     ghost use Rattle.vm_file.specs.Directories.{directory_length, is_directory};
-    ghost use Rattle.vm_file.specs.Spelling.{Puts, empty_contents, empty_pair, new_file};
+    ghost use Rattle.vm_file.specs.Spelling.{empty_contents, empty_pair, new_file};
     ghost use Rattle.vm_file.specs.Reading.{is_area};
     ghost use Rattle.vm_file.specs.State.{FileState, Finds, HasBlock, IsOther, bytes_of_block, file_of, pair_of};
 
@@ -256,7 +257,7 @@ impl<D: Device + Drop> VmFile<D> {
         if self.area < length {
             return Err(CommitError::TooBig);
         }
-        let mut bytes = match Vec::from_elem(self.alloc, 0u8, length as usize) {
+        let mut bytes = match Vec::with_capacity(self.alloc, length as usize) {
             Ok(bytes) => bytes,
             Err(_) => return Err(CommitError::Memory),
         };
@@ -270,20 +271,20 @@ impl<D: Device + Drop> VmFile<D> {
         }
     }
 
-    /// Writes a directory behind the first `at` bytes: its blocks are those of the source where
-    /// they are resident there, else those of the current directory.
+    /// Appends a directory: its blocks are those of the source where they are resident there, else
+    /// those of the current directory.
     fn spell_current<S: Source>(
         &mut self,
         cur: &Directory,
         source: &S,
-        into: &mut [u8],
-        at: usize,
+        into: &mut Vec<u8>,
     ) -> Result<(), Disk>
         requires may { MayCommit (S.resident_bytes source.now) self.old.current cur.now }
-        requires room { at + directory_length cur.now ≤ length into.old }
-        ensures long { length into.new ≡ length into.old }
-        ensures put { D.honest self.old.device → OnOk result (Puts at (at + directory_length cur.now)
-            (contents_spelling (contents_from (S.resident_bytes source.now) (pair_of D.image self.old).cur.blocks cur.now)) into.old into.new) }
+        requires room { vec_len into.old + directory_length cur.now ≤ vec_capacity into.old }
+        ensures items { D.honest self.old.device → OnOk result (into.new.items ≡ into.old.items
+            ++ contents_spelling (contents_from (S.resident_bytes source.now) (pair_of D.image self.old).cur.blocks cur.now)) }
+        ensures len { OnOk result (vec_len into.new ≡ vec_len into.old + directory_length cur.now) }
+        ensures room { vec_capacity into.old ≤ vec_capacity into.new }
         ensures same { self.new ≡ record self.old { device = self.new.device } }
         ensures pair { pair_of D.image self.new ≡ pair_of D.image self.old }
         ensures ok { OnOk result (D.failed self.new.device ≡ D.failed self.old.device) }
@@ -291,15 +292,16 @@ impl<D: Device + Drop> VmFile<D> {
         ensures reads { ReadsOnly D.image D.honest D.may_leave D.may_have_left self.old.device self.new.device }
     {
         let from = base_of(self.area, self.second) + 2;
-        spell_directory(&mut self.device, from, &self.current, cur, source, into, at)
+        spell_directory(&mut self.device, from, &self.current, cur, source, into)
     }
 
-    /// Writes the saved directory with its blocks behind the first `at` bytes.
-    fn spell_saved(&mut self, into: &mut [u8], at: usize) -> Result<(), Disk>
-        requires room { at + directory_length self.old.saved ≤ length into.old }
-        ensures long { length into.new ≡ length into.old }
-        ensures put { D.honest self.old.device → OnOk result (Puts at (at + directory_length self.old.saved)
-            (contents_spelling (pair_of D.image self.old).saved) into.old into.new) }
+    /// Appends the saved directory with its blocks.
+    fn spell_saved(&mut self, into: &mut Vec<u8>) -> Result<(), Disk>
+        requires room { vec_len into.old + directory_length self.old.saved ≤ vec_capacity into.old }
+        ensures items { D.honest self.old.device → OnOk result (into.new.items ≡ into.old.items
+            ++ contents_spelling (pair_of D.image self.old).saved) }
+        ensures len { OnOk result (vec_len into.new ≡ vec_len into.old + directory_length self.old.saved) }
+        ensures room { vec_capacity into.old ≤ vec_capacity into.new }
         ensures same { self.new ≡ record self.old { device = self.new.device } }
         ensures pair { pair_of D.image self.new ≡ pair_of D.image self.old }
         ensures ok { OnOk result (D.failed self.new.device ≡ D.failed self.old.device) }
@@ -315,22 +317,22 @@ impl<D: Device + Drop> VmFile<D> {
             &self.saved,
             &Nothing,
             into,
-            at,
         )
     }
 
-    /// Fills a buffer with the bytes of the pair that a commit keeps.
+    /// Fills an empty buffer that has room for them with the bytes of the pair that a commit keeps.
     fn spell<S: Source>(
         &mut self,
         how: How,
         cur: &Directory,
         source: &S,
-        into: &mut [u8],
+        into: &mut Vec<u8>,
     ) -> Result<(), Disk>
         requires may { MayCommit (S.resident_bytes source.now) self.old.current cur.now }
-        requires room { length into.old ≡ length_after how cur.now self.old.saved }
-        ensures long { length into.new ≡ length into.old }
-        ensures spelled { D.honest self.old.device → OnOk result (into.new
+        requires empty { (into.old.items ≡ []) × (vec_len into.old ≡ 0) }
+        requires room { length_after how cur.now self.old.saved ≤ vec_capacity into.old }
+        ensures len { OnOk result (vec_len into.new ≡ length_after how cur.now self.old.saved) }
+        ensures spelled { D.honest self.old.device → OnOk result (into.new.items
             ≡ pair_spelling (kept_after D.image (S.resident_bytes source.now) how cur.now self.old)) }
         ensures same { self.new ≡ record self.old { device = self.new.device } }
         ensures pair { pair_of D.image self.new ≡ pair_of D.image self.old }
@@ -339,27 +341,24 @@ impl<D: Device + Drop> VmFile<D> {
         ensures reads { ReadsOnly D.image D.honest D.may_leave D.may_have_left self.old.device self.new.device }
     {
         match how {
-            How::Update => match self.spell_current(cur, source, into, 0) {
-                Ok(()) => self.spell_saved(into, directory_length(cur) as usize),
+            How::Update => match self.spell_current(cur, source, into) {
+                Ok(()) => self.spell_saved(into),
                 Err(Disk) => Err(Disk),
             },
-            How::Save => match self.spell_current(cur, source, into, 0) {
+            How::Save => match self.spell_current(cur, source, into) {
                 Ok(()) => {
-                    put_again(into, directory_length(cur) as usize);
+                    put_again(into);
                     Ok(())
                 }
                 Err(Disk) => Err(Disk),
             },
-            How::Revert => {
-                let n = directory_length(&self.saved) as usize;
-                match self.spell_saved(into, 0) {
-                    Ok(()) => {
-                        put_again(into, n);
-                        Ok(())
-                    }
-                    Err(Disk) => Err(Disk),
+            How::Revert => match self.spell_saved(into) {
+                Ok(()) => {
+                    put_again(into);
+                    Ok(())
                 }
-            }
+                Err(Disk) => Err(Disk),
+            },
         }
     }
 

@@ -1,40 +1,45 @@
-//! The bytes of an area, built in memory before they are written.
-ghost use Rattle.std.specs.Prelude.{◌≡◌, ◌+◌, ◌<◌, ◌≤◌, ◌^◌, ◌++◌, ℕ, true, length, map, take, All, OnOk, OnErr, IfOk};
+//! The bytes of an area, built in memory before they are written: each function appends, within the
+//! room that the buffer has.
+ghost use Rattle.std.specs.Prelude.{◌≡◌, ◌+◌, ◌-◌, ◌<◌, ◌≤◌, ◌^◌, ◌++◌, ℕ, true, length, map, take, All, OnOk, OnErr, IfOk};
 ghost use Rattle.std.specs.List.{list_all, flat_map};
+ghost use Rattle.std.specs.Vec.{vec_len, vec_capacity};
 ghost use Rattle.geos_model.specs.Block.{handle_word};
 ghost use Rattle.geos_model.specs.Bytes.{word_bytes};
 ghost use Rattle.geos_model.specs.Heap.{IsHeap};
-ghost use Rattle.lmem_raw.specs.Bytes.{part, with_part};
+ghost use Rattle.lmem_raw.specs.Bytes.{part};
 ghost use Rattle.vm_file.specs.Committing.{HasLength, block_read, contents_read};
 ghost use Rattle.vm_file.specs.Contents.{block_spelling, contents_spelling, is_filled};
 ghost use Rattle.vm_file.specs.Device.{Rose};
 ghost use Rattle.vm_file.specs.Directories.{directory_length, entries_length};
 ghost use Rattle.vm_file.specs.Outcomes.{ReadsOnly};
-ghost use Rattle.vm_file.specs.Spelling.{Puts};
 
 use crate::commit::Source;
 use crate::device::{Device, Disk};
 use crate::directory::{Directory, Entry, MOST_BLOCKS};
-use crate::fields::{entries_length, place_in};
-use crate::memory::write_part;
+use crate::fields::place_in;
 use crate::reader::read_block;
 
-/// Writes a word.
-fn put_word(into: &mut [u8], at: usize, word: u16)
-    requires { at + 2 ≤ length into.old }
-    ensures { Puts at (at + 2) (word_bytes word) into.old into.new }
+/// Appends a word.
+fn put_word(into: &mut Vec<u8>, word: u16)
+    requires { vec_len into.old + 2 ≤ vec_capacity into.old }
+    ensures items { into.new.items ≡ into.old.items ++ word_bytes word }
+    ensures len { vec_len into.new ≡ vec_len into.old + 2 }
+    ensures room { vec_capacity into.old ≤ vec_capacity into.new }
 {
-    write_part(into, at, &[(word % 256) as u8, (word / 256) as u8]);
+    into.extend_from_slice(&[(word % 256) as u8, (word / 256) as u8])
+        .unwrap();
 }
 
-/// Writes three words.
-fn put_words(into: &mut [u8], at: usize, first: u16, second: u16, third: u16)
-    requires { at + 6 ≤ length into.old }
-    ensures { Puts at (at + 6) (word_bytes first ++ word_bytes second ++ word_bytes third) into.old into.new }
+/// Appends three words.
+fn put_words(into: &mut Vec<u8>, first: u16, second: u16, third: u16)
+    requires { vec_len into.old + 6 ≤ vec_capacity into.old }
+    ensures items { into.new.items ≡ into.old.items ++ (word_bytes first ++ word_bytes second ++ word_bytes third) }
+    ensures len { vec_len into.new ≡ vec_len into.old + 6 }
+    ensures room { vec_capacity into.old ≤ vec_capacity into.new }
 {
-    put_word(into, at, first);
-    put_word(into, at + 2, second);
-    put_word(into, at + 4, third);
+    put_word(into, first);
+    put_word(into, second);
+    put_word(into, third);
 }
 
 /// Reads the bytes of a block with this handle into a part of a slice, and checks them. `Disk`
@@ -45,12 +50,32 @@ fn read_part<D: Device>(
     h: u16,
     into: &mut [u8],
     at: usize,
-    n: usize,
 ) -> Result<(), Disk>
-    requires { at + n ≤ length into.old }
+    requires { at ≤ length into.old }
     ensures long { length into.new ≡ length into.old }
-    ensures put { D.honest device.old → OnOk result (Puts at (at + n) (part (D.image device.old) from n) into.old into.new) }
-    ensures whole { D.honest device.old → OnOk result (length (part (D.image device.old) from n) ≡ n) }
+    ensures bytes { D.honest device.old → OnOk result (into.new ≡ take at into.old ++ part (D.image device.old) from (length into.old - at)) }
+    ensures reads { ReadsOnly D.image D.honest D.may_leave D.may_have_left device.old device.new }
+    ensures ok { OnOk result (D.failed device.new ≡ D.failed device.old) }
+    ensures cause { D.honest device.old
+        → IsHeap (part (D.image device.old) from (length into.old - at))
+        → handle_word (part (D.image device.old) from (length into.old - at)) ≡ h
+        → OnErr result (Rose (D.failed device.old) (D.failed device.new)) }
+{
+    read_block(device, from, h, &mut into[at..])
+}
+
+/// Appends `n` bytes that are read as a block with this handle.
+fn append_block<D: Device>(
+    device: &mut D,
+    from: u64,
+    h: u16,
+    n: u16,
+    into: &mut Vec<u8>,
+) -> Result<(), Disk>
+    requires { vec_len into.old + n ≤ vec_capacity into.old }
+    ensures items { D.honest device.old → OnOk result (into.new.items ≡ into.old.items ++ part (D.image device.old) from n) }
+    ensures len { vec_len into.new ≡ vec_len into.old + n }
+    ensures room { vec_capacity into.old ≤ vec_capacity into.new }
     ensures reads { ReadsOnly D.image D.honest D.may_leave D.may_have_left device.old device.new }
     ensures ok { OnOk result (D.failed device.new ≡ D.failed device.old) }
     ensures cause { D.honest device.old
@@ -58,105 +83,104 @@ fn read_part<D: Device>(
         → handle_word (part (D.image device.old) from n) ≡ h
         → OnErr result (Rose (D.failed device.old) (D.failed device.new)) }
 {
-    read_block(device, from, h, &mut into[at..at + n])
+    let at = into.len();
+    into.resize(at + n as usize, 0).unwrap();
+    read_part(device, from, h, into, at)
 }
 
-/// Writes the entry and the bytes of a block behind the first `at` bytes: those of the source
-/// where they are resident there, else those that are read from where the entry of the same
-/// handle among the kept ones has them, `from` being where the kept ones begin.
+/// Appends the entry and the bytes of a block: those of the source where they are resident
+/// there, else those that are read from where the entry of the same handle among the kept ones
+/// has them, `from` being where the kept ones begin.
 fn spell_block<D: Device, S: Source>(
     device: &mut D,
     from: u64,
     kept: &[Entry],
     e: Entry,
     source: &S,
-    into: &mut [u8],
-    at: usize,
+    into: &mut Vec<u8>,
 ) -> Result<(), Disk>
     requires range { from < 2 ^ 32 }
     requires few { length kept.now ≤ MOST_BLOCKS }
-    requires room { at + (6 + e.len) ≤ length into.old }
+    requires room { vec_len into.old + (6 + e.len) ≤ vec_capacity into.old }
     requires length { HasLength (S.resident_bytes source.now) e }
-    ensures long { length into.new ≡ length into.old }
-    ensures put { D.honest device.old → OnOk result (Puts at (at + (6 + e.len))
-        (block_spelling (block_read (S.resident_bytes source.now) (D.image device.old) from kept.now e)) into.old into.new) }
+    ensures items { D.honest device.old → OnOk result (into.new.items
+        ≡ into.old.items ++ block_spelling (block_read (S.resident_bytes source.now) (D.image device.old) from kept.now e)) }
+    ensures len { vec_len into.new ≡ vec_len into.old + (6 + e.len) }
+    ensures room { vec_capacity into.old ≤ vec_capacity into.new }
     ensures reads { ReadsOnly D.image D.honest D.may_leave D.may_have_left device.old device.new }
     ensures ok { OnOk result (D.failed device.new ≡ D.failed device.old) }
     ensures cause { D.honest device.old
         → is_filled (block_read (S.resident_bytes source.now) (D.image device.old) from kept.now e) ≡ true
         → OnErr result (Rose (D.failed device.old) (D.failed device.new)) }
 {
-    put_words(into, at, e.h, e.uid, e.len);
+    put_words(into, e.h, e.uid, e.len);
     match source.resident(e.h) {
         Some(bytes) => {
-            write_part(into, at + 6, bytes);
+            into.extend_from_slice(bytes).unwrap();
             Ok(())
         }
         None => {
             let place = from + u64::from(place_in(kept, e.h));
-            read_part(device, place, e.h, into, at + 6, e.len as usize)
+            append_block(device, place, e.h, e.len, into)
         }
     }
 }
 
-/// Writes blocks, one behind the other, as `spell_block` does one.
+/// Appends blocks, one behind the other, as `spell_block` does one.
 fn spell_blocks<D: Device, S: Source>(
     device: &mut D,
     from: u64,
     kept: &[Entry],
     entries: &[Entry],
     source: &S,
-    into: &mut [u8],
-    at: usize,
+    into: &mut Vec<u8>,
 ) -> Result<(), Disk>
     requires range { from < 2 ^ 32 }
     requires few { (length kept.now ≤ MOST_BLOCKS) × (length entries.now ≤ MOST_BLOCKS) }
-    requires room { at + entries_length entries.now ≤ length into.old }
+    requires room { vec_len into.old + entries_length entries.now ≤ vec_capacity into.old }
     requires length { All (HasLength (S.resident_bytes source.now)) entries.now }
-    ensures long { length into.new ≡ length into.old }
-    ensures put { D.honest device.old → OnOk result (Puts at (at + entries_length entries.now)
-        (flat_map block_spelling (map (block_read (S.resident_bytes source.now) (D.image device.old) from kept.now) entries.now)) into.old into.new) }
+    ensures items { D.honest device.old → OnOk result (into.new.items ≡ into.old.items
+        ++ flat_map block_spelling (map (block_read (S.resident_bytes source.now) (D.image device.old) from kept.now) entries.now)) }
+    ensures len { OnOk result (vec_len into.new ≡ vec_len into.old + entries_length entries.now) }
+    ensures room { vec_capacity into.old ≤ vec_capacity into.new }
     ensures reads { ReadsOnly D.image D.honest D.may_leave D.may_have_left device.old device.new }
     ensures ok { OnOk result (D.failed device.new ≡ D.failed device.old) }
     ensures cause { D.honest device.old
         → list_all is_filled (map (block_read (S.resident_bytes source.now) (D.image device.old) from kept.now) entries.now) ≡ true
         → OnErr result (Rose (D.failed device.old) (D.failed device.new)) }
 {
-    let mut end = at;
     for e in entries {
-        match spell_block(device, from, kept, *e, source, into, end) {
+        match spell_block(device, from, kept, *e, source, into) {
             Ok(()) => {}
             Err(Disk) => return Err(Disk),
         }
-        end += 6 + e.len as usize;
     }
     Ok(())
 }
 
-/// Writes a directory with the bytes of its blocks behind the first `at` bytes, as
-/// `spell_block` does a block.
+/// Appends a directory with the bytes of its blocks, as `spell_block` does a block.
 pub(crate) fn spell_directory<D: Device, S: Source>(
     device: &mut D,
     from: u64,
     kept: &Directory,
     directory: &Directory,
     source: &S,
-    into: &mut [u8],
-    at: usize,
+    into: &mut Vec<u8>,
 ) -> Result<(), Disk>
     requires range { from < 2 ^ 32 }
-    requires room { at + directory_length directory.now ≤ length into.old }
+    requires room { vec_len into.old + directory_length directory.now ≤ vec_capacity into.old }
     requires length { All (HasLength (S.resident_bytes source.now)) directory.now.entries.items }
-    ensures long { length into.new ≡ length into.old }
-    ensures put { D.honest device.old → OnOk result (Puts at (at + directory_length directory.now)
-        (contents_spelling (contents_read (S.resident_bytes source.now) (D.image device.old) from kept.now.entries.items directory.now)) into.old into.new) }
+    ensures items { D.honest device.old → OnOk result (into.new.items ≡ into.old.items
+        ++ contents_spelling (contents_read (S.resident_bytes source.now) (D.image device.old) from kept.now.entries.items directory.now)) }
+    ensures len { OnOk result (vec_len into.new ≡ vec_len into.old + directory_length directory.now) }
+    ensures room { vec_capacity into.old ≤ vec_capacity into.new }
     ensures reads { ReadsOnly D.image D.honest D.may_leave D.may_have_left device.old device.new }
     ensures ok { OnOk result (D.failed device.new ≡ D.failed device.old) }
     ensures cause { D.honest device.old
         → list_all is_filled (contents_read (S.resident_bytes source.now) (D.image device.old) from kept.now.entries.items directory.now).blocks ≡ true
         → OnErr result (Rose (D.failed device.old) (D.failed device.new)) }
 {
-    put_word(into, at, directory.entries.len() as u16);
+    put_word(into, directory.entries.len() as u16);
     match spell_blocks(
         device,
         from,
@@ -164,21 +188,20 @@ pub(crate) fn spell_directory<D: Device, S: Source>(
         &directory.entries,
         source,
         into,
-        at + 2,
     ) {
         Ok(()) => {}
         Err(Disk) => return Err(Disk),
     }
-    let end = at + 2 + entries_length(&directory.entries) as usize;
     let (group, item) = directory.map_item;
-    put_words(into, end, directory.map_block, group, item);
+    put_words(into, directory.map_block, group, item);
     Ok(())
 }
 
-/// Writes the first `n` bytes again behind them.
-pub(crate) fn put_again(into: &mut [u8], n: usize)
-    requires { n + n ≤ length into.old }
-    ensures { Puts n (n + n) (take n into.old) into.old into.new }
+/// Appends the bytes that are there again.
+pub(crate) fn put_again(into: &mut Vec<u8>)
+    requires { vec_len into.old + vec_len into.old ≤ vec_capacity into.old }
+    ensures items { into.new.items ≡ into.old.items ++ into.old.items }
+    ensures len { vec_len into.new ≡ vec_len into.old + vec_len into.old }
 {
-    into.copy_within(..n, n);
+    into.extend_from_within(..).unwrap();
 }

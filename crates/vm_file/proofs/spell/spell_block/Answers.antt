@@ -1,23 +1,19 @@
-use Rattle.std.proofs.Common.{◌≡◌, ℕ, ◌+◌, ◌∙◌, List, ap, sym, subst, arith}
+use Rattle.std.proofs.Common.{◌≡◌, ℕ, ◌+◌, ◌∙◌, ap, sym, subst, rules}
 use Rattle.std.specs.Prelude.{unwrap_or}
 use Rattle.lmem_raw.specs.Bytes.{part}
 use Rattle.geos_model.specs.Block.{handle_word}
 use Rattle.geos_model.specs.Heap.{IsHeap}
-use Rattle.vm_file.specs.Spelling.{Puts}
 use Rattle.vm_file.specs.State.{place_in}
-use Rattle.vm_file.proofs.Putting.{puts_part}
-use Rattle.vm_file.proofs.Blocks.{shown_some, shown_none, some_length, block_puts, filled_stored}
+use Rattle.vm_file.proofs.Blocks.{shown_some, shown_none, some_length, block_appended, filled_stored}
 use Rattle.vm_file.proofs.spell.spell_block.Goals as goal
 
-pub returns-in-Some-clause-put : goal.returns-in-Some-clause-put
-returns-in-Some-clause-put g c = λ h.
-    let e = c.args.e in let at = c.args.at in let ws = c.in-Some.bytes.now in
+pub returns-in-Some-clause-items : goal.returns-in-Some-clause-items
+returns-in-Some-clause-items g c = λ h.
+    let e = c.args.e in let ws = c.in-Some.bytes.now in
     let is = shown_some c.in-Some.bytes (g.S.Source.resident_bytes c.args.source.now e.h) c.in-Some.ensures in
     let long = some_length e (g.S.Source.resident_bytes c.args.source.now e.h) ws is c.requires.length in
     let stored = part (g.D.Device.image c.args.device.now) (c.args.from + place_in c.args.kept.now e.h) e.len in
-    let P : List ℕ → Type 0 = λ x. Puts (at + 6) (at + (6 + e.len)) ws c.put_words.new.into x in
-    block_puts e at _ ws c.args.into.now c.put_words.new.into c.write_part.new.bytes (ap (λ o. unwrap_or o stored) is) long c.put_words.ensures
-    (subst P (sym c.write_part.ensures) (puts_part (at + 6) (at + (6 + e.len)) c.put_words.new.into ws (omega (arith, long)) (omega (arith, long, c.requires.room, c.put_words.ensures.long))))
+    block_appended e _ ws _ _ _ (ap (λ o. unwrap_or o stored) is) long c.put_words.ensures.items (search rules)
 
 pub returns-in-None-clause-cause : goal.returns-in-None-clause-cause
 returns-in-None-clause-cause g c = λ h filled.
@@ -26,4 +22,4 @@ returns-in-None-clause-cause g c = λ h filled.
     let place : c.args.from + c.from.result ≡ c.args.from + place_in c.args.kept.now e.h = ap (λ k. c.args.from + k) (c.from.ensures ∙ c.place_in.ensures.exact) in
     let stored = filled_stored e.h e.uid (g.S.Source.resident_bytes c.args.source.now e.h) (part image (c.args.from + place_in c.args.kept.now e.h) e.len) none filled in
     let P : ℕ → Type 0 = λ k. IsHeap (part image k e.len) in
-    c.read_part.ensures.cause h (subst P (sym place) stored.0) (ap (λ k. handle_word (part image k e.len)) place ∙ stored.1)
+    c.append_block.ensures.cause h (subst P (sym place) stored.0) (ap (λ k. handle_word (part image k e.len)) place ∙ stored.1)

@@ -1,8 +1,8 @@
-use Rattle.std.proofs.Common.{◌≡◌, ◌∙◌, ℕ, Result, Ok, length, true, ap, subst, inl}
+use Rattle.std.proofs.Common.{◌≡◌, ◌∙◌, ℕ, Result, Ok, true, ap, subst, inl}
 use Rattle.vm_file.specs.Committing.{current_after, kept_after, saved_after}
 use Rattle.vm_file.specs.Contents.{Pair, pair_in}
 use Rattle.vm_file.specs.State.{FileState, pair_of}
-use Rattle.vm_file.proofs.Kept.{finds_before, kept_spells, cut_is, cut_spells, written_whole, finds_either, finds_same}
+use Rattle.vm_file.proofs.Kept.{finds_before, kept_spells, cut_is, cut_spells, finds_either, finds_same}
 use Rattle.vm_file.proofs.Moments.{weaker, goes_on, at_any_moment}
 use Rattle.vm_file.proofs.file.VmFile.commit.Goals as goal
 
@@ -51,36 +51,32 @@ pub select-requires-clause-spelled : goal.select-requires-clause-spelled
 select-requires-clause-spelled g c =
     let d = g.D.Device in let resident = g.S.Source.resident_bytes c.args.source.now in let cur = c.args.cur.now in let how = c.args.how in
     let old = c.args.self.now in let mid = c.spell.new.self in let r = c.in-Ok-spell.ensures in
-    let whole = c.deref.ensures.value ∙ written_whole c.in-Ok.bytes.len c.spell.new.into c.in-Ok.bytes.items c.in-Ok.bytes.ok.0 (r.long ∙ ap length c.deref_mut.ensures.value) in
     let after = kept_after d.image resident how cur old in
-    let spells = λ (h : d.honest old.device). kept_spells d.image d.honest d.may_leave _ _ c.self.view_is c.self.invariant resident cur c.requires how h c.deref.result.now (whole ∙ r.spelled h) in
+    let spells = λ (h : d.honest old.device). kept_spells d.image d.honest d.may_leave _ _ c.self.view_is c.self.invariant resident cur c.requires how h c.deref.result.now (c.deref.ensures.value ∙ r.spelled h) in
     λ h. cut_spells how cur old.saved mid.saved after c.deref.result.now (ap (λ f. f.saved) r.same) (spells (r.reads.was h))
 
 pub returns-in-Ok-select-clause-pair : goal.returns-in-Ok-select-clause-pair
 returns-in-Ok-select-clause-pair g c =
     let d = g.D.Device in let resident = g.S.Source.resident_bytes c.args.source.now in let cur = c.args.cur.now in let how = c.args.how in
     let old = c.args.self.now in let mid = c.spell.new.self in let r = c.in-Ok-spell.ensures in
-    let whole = c.deref.ensures.value ∙ written_whole c.in-Ok.bytes.len c.spell.new.into c.in-Ok.bytes.items c.in-Ok.bytes.ok.0 (r.long ∙ ap length c.deref_mut.ensures.value) in
     let after = kept_after d.image resident how cur old in
-    let spells = λ (h : d.honest old.device). kept_spells d.image d.honest d.may_leave _ _ c.self.view_is c.self.invariant resident cur c.requires how h c.deref.result.now (whole ∙ r.spelled h) in
+    let spells = λ (h : d.honest old.device). kept_spells d.image d.honest d.may_leave _ _ c.self.view_is c.self.invariant resident cur c.requires how h c.deref.result.now (c.deref.ensures.value ∙ r.spelled h) in
     λ h. c.in-Ok-select.ensures.pair (r.reads.stays h) ∙ (cut_is how cur old.saved mid.saved after c.deref.result.now (ap (λ f. f.saved) r.same) (spells h))
 
 pub returns-clause-other : goal.returns-clause-other
 returns-clause-other g c =
     let d = g.D.Device in let resident = g.S.Source.resident_bytes c.args.source.now in let cur = c.args.cur.now in let how = c.args.how in
     let old = c.args.self.now in let mid = c.spell.new.self in let r = c.in-Ok-spell.ensures in
-    let whole = c.deref.ensures.value ∙ written_whole c.in-Ok.bytes.len c.spell.new.into c.in-Ok.bytes.items c.in-Ok.bytes.ok.0 (r.long ∙ ap length c.deref_mut.ensures.value) in
     let after = kept_after d.image resident how cur old in
-    let spells = λ (h : d.honest old.device). kept_spells d.image d.honest d.may_leave _ _ c.self.view_is c.self.invariant resident cur c.requires how h c.deref.result.now (whole ∙ r.spelled h) in
+    let spells = λ (h : d.honest old.device). kept_spells d.image d.honest d.may_leave _ _ c.self.view_is c.self.invariant resident cur c.requires how h c.deref.result.now (c.deref.ensures.value ∙ r.spelled h) in
     λ h _ unsure. c.in-Err-select.ensures.other (r.reads.stays h) unsure ∙ ap (λ p. let x : Result Pair ℕ = Ok p in x) (cut_is how cur old.saved mid.saved after c.deref.result.now (ap (λ f. f.saved) r.same) (spells h))
 
 pub returns-in-Ok-select-clause-any_moment : goal.returns-in-Ok-select-clause-any_moment
 returns-in-Ok-select-clause-any_moment g c =
     let d = g.D.Device in let resident = g.S.Source.resident_bytes c.args.source.now in let cur = c.args.cur.now in let how = c.args.how in
     let old = c.args.self.now in let mid = c.spell.new.self in let r = c.in-Ok-spell.ensures in
-    let whole = c.deref.ensures.value ∙ written_whole c.in-Ok.bytes.len c.spell.new.into c.in-Ok.bytes.items c.in-Ok.bytes.ok.0 (r.long ∙ ap length c.deref_mut.ensures.value) in
     let after = kept_after d.image resident how cur old in
-    let spells = λ (h : d.honest old.device). kept_spells d.image d.honest d.may_leave _ _ c.self.view_is c.self.invariant resident cur c.requires how h c.deref.result.now (whole ∙ r.spelled h) in
+    let spells = λ (h : d.honest old.device). kept_spells d.image d.honest d.may_leave _ _ c.self.view_is c.self.invariant resident cur c.requires how h c.deref.result.now (c.deref.ensures.value ∙ r.spelled h) in
     let S : FileState g.row.D.Denot → Type 0 = λ f. f.sure ≡ true in
     λ h. goes_on d.may_have_left old.device mid.device c.select.new.self.device _
     (weaker d.may_have_left old.device mid.device _ _ (λ x l. inl (finds_before d.image d.honest d.may_leave _ _ c.self.view_is c.self.invariant h x l)) (r.reads.time h))
@@ -92,9 +88,8 @@ pub returns-clause-any_moment : goal.returns-clause-any_moment
 returns-clause-any_moment g c =
     let d = g.D.Device in let resident = g.S.Source.resident_bytes c.args.source.now in let cur = c.args.cur.now in let how = c.args.how in
     let old = c.args.self.now in let mid = c.spell.new.self in let r = c.in-Ok-spell.ensures in
-    let whole = c.deref.ensures.value ∙ written_whole c.in-Ok.bytes.len c.spell.new.into c.in-Ok.bytes.items c.in-Ok.bytes.ok.0 (r.long ∙ ap length c.deref_mut.ensures.value) in
     let after = kept_after d.image resident how cur old in
-    let spells = λ (h : d.honest old.device). kept_spells d.image d.honest d.may_leave _ _ c.self.view_is c.self.invariant resident cur c.requires how h c.deref.result.now (whole ∙ r.spelled h) in
+    let spells = λ (h : d.honest old.device). kept_spells d.image d.honest d.may_leave _ _ c.self.view_is c.self.invariant resident cur c.requires how h c.deref.result.now (c.deref.ensures.value ∙ r.spelled h) in
     let S : FileState g.row.D.Denot → Type 0 = λ f. f.sure ≡ true in
     λ h. goes_on d.may_have_left old.device mid.device c.select.new.self.device _
     (weaker d.may_have_left old.device mid.device _ _ (λ x l. inl (finds_before d.image d.honest d.may_leave _ _ c.self.view_is c.self.invariant h x l)) (r.reads.time h))

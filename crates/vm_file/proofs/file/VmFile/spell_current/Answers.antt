@@ -1,23 +1,22 @@
-use Rattle.std.proofs.Common.{◌≡◌, ◌+◌, true, ap, sym, subst}
+use Rattle.std.proofs.Common.{◌≡◌, ◌+◌, ◌++◌, true, ap, sym, subst}
 use Rattle.std.specs.Prelude.{OnOk, OnErr}
 use Rattle.std.specs.List.{list_all}
+use Rattle.std.specs.Vec.{vec_items}
 use Rattle.vm_file.specs.Committing.{MayCommit, contents_from}
 use Rattle.vm_file.specs.Contents.{Contents, contents_spelling, is_filled}
 use Rattle.vm_file.specs.Device.{Rose}
-use Rattle.vm_file.specs.Directories.{directory_length}
-use Rattle.vm_file.specs.Spelling.{Puts}
 use Rattle.vm_file.specs.State.{FileState, pair_of}
 use Rattle.vm_file.proofs.Sources.{current_contents, from_filled}
 use Rattle.vm_file.proofs.file.VmFile.spell_current.Goals as goal
 
-pub returns-clause-put : goal.returns-clause-put
-returns-clause-put g c =
+pub returns-clause-items : goal.returns-clause-items
+returns-clause-items g c =
     let d = g.D.Device in let resident = g.S.Source.resident_bytes c.args.source.now in let cur = c.args.cur.now in
     let M : FileState g.row.D.Denot → Type 0 = λ f. MayCommit resident f.current cur in
-    let P : Contents → Type 0 = λ x. OnOk c.spell_directory.result (Puts c.args.at (c.args.at + directory_length cur) (contents_spelling x) c.args.into.now c.spell_directory.new.into) in
+    let P : Contents → Type 0 = λ x. OnOk c.spell_directory.result (vec_items c.spell_directory.new.into ≡ vec_items c.args.into.now ++ contents_spelling x) in
     let G : FileState g.row.D.Denot → Type 0 = λ f. d.honest f.device → P (contents_from resident (pair_of d.image f).cur.blocks cur) in
     let same = current_contents d.image d.honest d.may_leave _ c.self.invariant resident cur (subst M (sym c.self.view_is) c.requires.may) (c.base_of-from.result + 2) (ap (λ k. k + 2) c.base_of-from.ensures.exact) in
-    subst G c.self.view_is (λ h. subst P same (c.spell_directory.ensures.put h))
+    subst G c.self.view_is (λ h. subst P same (c.spell_directory.ensures.items h))
 
 pub returns-clause-cause : goal.returns-clause-cause
 returns-clause-cause g c =

@@ -1,10 +1,10 @@
-use Rattle.std.proofs.Common.{◌≡◌, ℕ, ◌+◌, true, sym, subst, arith}
+use Rattle.std.proofs.Common.{◌≡◌, ◌+◌, ◌++◌, true, sym, subst, arith}
 use Rattle.std.specs.Prelude.{OnOk, OnErr}
 use Rattle.std.specs.List.{list_all}
+use Rattle.std.specs.Vec.{vec_items}
 use Rattle.vm_file.specs.Contents.{Contents, contents_spelling, is_filled, listed}
 use Rattle.vm_file.specs.Device.{Rose}
-use Rattle.vm_file.specs.Directories.{is_directory, directory_length}
-use Rattle.vm_file.specs.Spelling.{Puts}
+use Rattle.vm_file.specs.Directories.{is_directory}
 use Rattle.vm_file.specs.Reading.{area_of, base_of}
 use Rattle.vm_file.specs.State.{FileState, pair_of}
 use Rattle.vm_file.proofs.HeapTests.{both}
@@ -12,13 +12,13 @@ use Rattle.vm_file.proofs.ReadLaws.{pair_ok}
 use Rattle.vm_file.proofs.Sources.{saved_contents}
 use Rattle.vm_file.proofs.file.VmFile.spell_saved.Goals as goal
 
-pub returns-clause-put : goal.returns-clause-put
-returns-clause-put g c =
+pub returns-clause-items : goal.returns-clause-items
+returns-clause-items g c =
     let d = g.D.Device in
-    let P : ℕ → Contents → Type 0 = λ n x. OnOk c.spell_directory.result (Puts c.args.at (c.args.at + n) (contents_spelling x) c.args.into.now c.spell_directory.new.into) in
-    let G : FileState g.row.D.Denot → Type 0 = λ f. d.honest f.device → P (directory_length f.saved) (pair_of d.image f).saved in
+    let P : Contents → Type 0 = λ x. OnOk c.spell_directory.result (vec_items c.spell_directory.new.into ≡ vec_items c.args.into.now ++ contents_spelling x) in
+    let G : FileState g.row.D.Denot → Type 0 = λ f. d.honest f.device → P (pair_of d.image f).saved in
     let same = saved_contents d.image d.honest d.may_leave _ c.self.invariant (c.base_of.result + c.from-first.result + 2) (omega (arith, c.base_of.ensures.exact, c.from-first.ensures, c.directory_length.ensures.exact)) in
-    subst G c.self.view_is (λ h. subst (P _) same (c.spell_directory.ensures.put h))
+    subst G c.self.view_is (λ h. subst P same (c.spell_directory.ensures.items h))
 
 pub returns-clause-cause : goal.returns-clause-cause
 returns-clause-cause g c =
