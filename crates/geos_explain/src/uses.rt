@@ -3,14 +3,14 @@
 ghost use Rattle.std.specs.Prelude.{◌≡◌, ◌<◌, ◌++◌, OnOk, map};
 ghost use Rattle.geos_image.specs.Fields.{FieldsFit};
 ghost use Rattle.geos_verify.specs.Rows.{slot_state, pointer_at};
-ghost use Rattle.geos_verify.specs.Rules.{reach, least_at};
-ghost use Rattle.geos_verify.specs.Uses.{uses_of, bytes_in, OffsetFits, PointerFits, UsesFit};
+ghost use Rattle.geos_verify.specs.Rules.{least_at};
+ghost use Rattle.geos_verify.specs.Uses.{uses_of, PointerFits, UsesFit};
 ghost use Rattle.geos_explain.specs.Uses.{state_word, state_item, nowhere_only, leading_nowhere, nowhere_words, wanted_bytes, short_words, past_words, slot_behind, changed_slot, unmarked_words, held_words, kind_wish, slot_wish, other_item, slot_words};
 
 use crate::numbers::put_numbered;
 use geos_image::{Instr, Pointer, Row, SlotState};
 use geos_listing::put_items;
-use geos_verify::{Kind, Offset, PointerUse, SlotUse, Uses, Width, leads_nowhere, uses_of};
+use geos_verify::{Kind, PointerUse, SlotUse, Uses, leads_nowhere, reach, uses_of};
 use std::alloc::AllocError;
 
 /// What an instruction does with slots and pointers: it names ones that there are.
@@ -97,27 +97,6 @@ pub(crate) fn put_nowhere(out: &mut Vec<u8>, row: &Row) -> Result<(), AllocError
 {
     put_items(out, &leading_nowhere(row))?;
     out.extend_from_slice(b" leads into an empty slot")
-}
-
-fn bytes_in(width: Width) -> u32
-    ensures { result ≡ bytes_in width }
-{
-    match width {
-        Width::Byte => 1,
-        Width::Word => 2,
-    }
-}
-
-/// How many bytes must stand behind the pointer of a read or a write.
-fn reach(i: &Instr, width: Width, offset: Offset, row: &Row) -> u32
-    requires { OffsetFits offset i.now }
-    ensures { result ≡ reach i.now width offset row.now }
-{
-    match offset {
-        Offset::Fixed => u32::from(i.imm) + bytes_in(width),
-        Offset::Indexed => u32::from(row.bounds[i.c as usize]) + bytes_in(width),
-        Offset::Tested => 0,
-    }
 }
 
 /// How many bytes the row says that there are behind a pointer, at least.

@@ -1,6 +1,6 @@
 -- The operands of an instruction in a text: which fields they are of, in which order, and in
 -- which form.
-use Rattle.std.specs.Prelude.{ℕ, Bool, true, false, List, [], ◌∷◌, filter, Option, Some, None}
+use Rattle.std.specs.Prelude.{ℕ, Bool, true, false, List, [], ◌∷◌, Option, Some, None}
 use Rattle.geos_image.specs.declared.opcode.Opcode.{Opcode}
 use Rattle.geos_image.specs.declared.opcode.Operand.{Operand}
 use Rattle.geos_image.specs.declared.opcode.Operand.TheVariants.{Unused, Word, Counter, Slot, Pointer, Number, Shift, Routine, Label}
@@ -33,10 +33,6 @@ is_written Number = true
 is_written Shift = true
 is_written Routine = true
 is_written Label = true
-
--- the fields whose operands stand behind an opcode's word, in their order
-abbrev pub written_fields : Opcode → List Field
-written_fields opcode = filter (λ field. is_written (operand_at opcode field)) fields
 
 -- the number in a field
 abbrev pub value_at : Instr → Field → ℕ

@@ -20,5 +20,6 @@ mod uses;
 pub use checked::{Checked, check};
 pub use edges::{after, branches, falls_through};
 pub use fits::{leads_nowhere, slot_fits, within_bounds};
+pub use misuse::reach;
 pub use rule::{Reject, Rule};
 pub use uses::{Kind, Offset, PointerUse, SlotUse, Uses, Width, uses_of};

@@ -36,8 +36,10 @@ fn bytes_in(width: Width) -> u32
     }
 }
 
-/// How many bytes must stand behind the pointer of a read or a write.
-fn reach(i: &Instr, width: Width, offset: Offset, row: &Row) -> u32
+/// How many bytes must stand behind the pointer of a read or a write: up to the end of what it
+/// reads or writes at the offset, or at the greatest index that the row knows of; 0 where the
+/// index is tested.
+pub fn reach(i: &Instr, width: Width, offset: Offset, row: &Row) -> u32
     requires { OffsetFits offset i.now }
     ensures { result ≡ reach i.now width offset row.now }
 {

@@ -50,7 +50,7 @@ fn begins_with_a_heap(block: &[u8], size: usize) -> bool
 }
 
 /// Makes the heap in a block's first bytes one of the whole block.
-pub fn grow(rt: &impl Abort, block: &mut [u8], old_size: usize)
+pub(crate) fn grow(rt: &impl Abort, block: &mut [u8], old_size: usize)
     ensures { IsHeap block.new }
 {
     let size = block.len();

@@ -5,7 +5,7 @@ use std::alloc::{AllocError, Global};
 
 /// What the calls of a list of random ones answer.
 #[derive(Clone, Copy, Debug, Drop, PartialEq, Eq)]
-pub enum Answer {
+pub(crate) enum Answer {
     Done,
     Handle(u16),
     BadChunk,
@@ -15,7 +15,7 @@ pub enum Answer {
 
 /// The heap of a block of `size` bytes: the lengths of its chunks by entry, and their bytes.
 #[derive(Drop)]
-pub struct Packed {
+pub(crate) struct Packed {
     alloc: Global,
     pub size: u32,
     pub lengths: Vec<Option<u16>>,
@@ -23,7 +23,7 @@ pub struct Packed {
 }
 
 /// The byte so far behind a first one, where they count up.
-pub fn counted(first: u8, at: usize) -> u8 {
+pub(crate) fn counted(first: u8, at: usize) -> u8 {
     ((first as usize + at % 256) % 256) as u8
 }
 
@@ -55,7 +55,7 @@ fn replaced(
 
 impl Packed {
     /// A heap with two entries and no chunk.
-    pub fn new(alloc: Global, size: u32) -> Result<Packed, AllocError> {
+    pub(crate) fn new(alloc: Global, size: u32) -> Result<Packed, AllocError> {
         let mut lengths = Vec::new(alloc);
         lengths.push(None)?;
         lengths.push(None)?;
@@ -89,7 +89,7 @@ impl Packed {
     }
 
     /// The bytes of an entry's chunk, of this length.
-    pub fn bytes_of(&self, i: usize, length: u16) -> &[u8] {
+    pub(crate) fn bytes_of(&self, i: usize, length: u16) -> &[u8] {
         let begin = self.begin(i);
         let end = begin.wrapping_add(length as usize);
         if begin <= end && end <= self.bytes.len() {
@@ -100,7 +100,7 @@ impl Packed {
     }
 
     /// Fills a chunk with bytes that count up from a first one.
-    pub fn fill(&mut self, c: u16, first: u8) {
+    pub(crate) fn fill(&mut self, c: u16, first: u8) {
         if let Some((i, length)) = self.chunk(c) {
             let begin = self.begin(i);
             for at in 0..length as usize {
@@ -166,7 +166,7 @@ impl Packed {
         Ok(())
     }
 
-    pub fn alloc(&mut self, n: u16) -> Result<Answer, AllocError> {
+    pub(crate) fn alloc(&mut self, n: u16) -> Result<Answer, AllocError> {
         let i = self.lowest();
         if let Some(error) = self.lacks(i, u32::from(n)) {
             return Ok(Answer::Room(error));
@@ -179,7 +179,7 @@ impl Packed {
         Ok(Answer::Handle((i.wrapping_mul(2).wrapping_add(16) % 65_536) as u16))
     }
 
-    pub fn free(&mut self, c: u16) -> Result<Answer, AllocError> {
+    pub(crate) fn free(&mut self, c: u16) -> Result<Answer, AllocError> {
         let Some((i, length)) = self.chunk(c) else {
             return Ok(Answer::BadChunk);
         };
@@ -187,7 +187,7 @@ impl Packed {
         Ok(Answer::Done)
     }
 
-    pub fn realloc(&mut self, c: u16, n: u16) -> Result<Answer, AllocError> {
+    pub(crate) fn realloc(&mut self, c: u16, n: u16) -> Result<Answer, AllocError> {
         let Some((i, length)) = self.chunk(c) else {
             return Ok(Answer::BadChunk);
         };
@@ -205,7 +205,7 @@ impl Packed {
         Ok(Answer::Done)
     }
 
-    pub fn insert(&mut self, c: u16, at: u16, n: u16) -> Result<Answer, AllocError> {
+    pub(crate) fn insert(&mut self, c: u16, at: u16, n: u16) -> Result<Answer, AllocError> {
         let Some((i, length)) = self.chunk(c) else {
             return Ok(Answer::BadChunk);
         };
@@ -220,7 +220,7 @@ impl Packed {
         Ok(Answer::Done)
     }
 
-    pub fn delete(&mut self, c: u16, at: u16, n: u16) -> Result<Answer, AllocError> {
+    pub(crate) fn delete(&mut self, c: u16, at: u16, n: u16) -> Result<Answer, AllocError> {
         let Some((i, length)) = self.chunk(c) else {
             return Ok(Answer::BadChunk);
         };

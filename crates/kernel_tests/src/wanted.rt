@@ -6,12 +6,12 @@ use std::process::Abort;
 use std::test::Fail;
 
 /// A call on the block of a handle.
-pub fn within(h: u16, call: BlockCall) -> Call {
+pub(crate) fn within(h: u16, call: BlockCall) -> Call {
     Call::Within(Name::mem(h), call)
 }
 
 /// Asks for a list of calls, 32 at most, and wants these replies.
-pub fn want(rt: &impl Abort, kernel: &mut Kernel, wanted: &[(Call, Reply)]) {
+pub(crate) fn want(rt: &impl Abort, kernel: &mut Kernel, wanted: &[(Call, Reply)]) {
     let n = wanted.len();
     assert!(rt; n <= 32);
     let mut calls = [Call::Mnew; 32];
@@ -26,14 +26,19 @@ pub fn want(rt: &impl Abort, kernel: &mut Kernel, wanted: &[(Call, Reply)]) {
 }
 
 /// Asks for calls on the block of a handle, a list for each, and wants these replies.
-pub fn want_within(rt: &impl Abort, kernel: &mut Kernel, h: u16, wanted: &[(BlockCall, Reply)]) {
+pub(crate) fn want_within(
+    rt: &impl Abort,
+    kernel: &mut Kernel,
+    h: u16,
+    wanted: &[(BlockCall, Reply)],
+) {
     for (call, reply) in wanted {
         want(rt, kernel, &[(within(h, *call), *reply)]);
     }
 }
 
 /// A kernel with block 1, which is locked.
-pub fn with_a_block(rt: &impl Abort, alloc: Global) -> Result<Kernel, Fail> {
+pub(crate) fn with_a_block(rt: &impl Abort, alloc: Global) -> Result<Kernel, Fail> {
     let mut kernel = Kernel::new(alloc, 65_536)?;
     want(rt, &mut kernel, &[(Call::Mnew, Reply::Number(1))]);
     Ok(kernel)

@@ -8,7 +8,7 @@ use std::alloc::{AllocError, Global};
 use std::test::Fail;
 
 /// An instruction with no operands.
-pub const BLANK: Instr = Instr {
+pub(crate) const BLANK: Instr = Instr {
     opcode: Opcode::Ret,
     a: 0,
     b: 0,
@@ -19,7 +19,7 @@ pub const BLANK: Instr = Instr {
 };
 
 /// The name behind which zeros stand.
-pub fn name(text: &[u8]) -> [u8; 16] {
+pub(crate) fn name(text: &[u8]) -> [u8; 16] {
     let mut name = [0; 16];
     for (place, byte) in name.iter_mut().zip(text) {
         *place = *byte;
@@ -28,7 +28,7 @@ pub fn name(text: &[u8]) -> [u8; 16] {
 }
 
 /// A public routine with open rows.
-pub fn routine(text: &[u8], count: u16, budget: u32) -> Routine {
+pub(crate) fn routine(text: &[u8], count: u16, budget: u32) -> Routine {
     Routine {
         name: name(text),
         public: true,
@@ -40,7 +40,7 @@ pub fn routine(text: &[u8], count: u16, budget: u32) -> Routine {
 }
 
 /// A potential with a constant and the coefficient of k0.
-pub fn potential(constant: u32, k0: u32) -> Potential {
+pub(crate) fn potential(constant: u32, k0: u32) -> Potential {
     Potential {
         constant,
         coefficients: [k0, 0, 0, 0],
@@ -48,7 +48,7 @@ pub fn potential(constant: u32, k0: u32) -> Potential {
 }
 
 /// Routines, and the code of them all, with an open row at each instruction.
-pub fn image(
+pub(crate) fn image(
     alloc: Global,
     routines: &[Routine],
     code: &[(Instr, Potential)],
@@ -65,20 +65,20 @@ pub fn image(
 }
 
 /// An image that the verifier accepts.
-pub fn checked(image: Option<Image>) -> Result<Checked, Fail> {
+pub(crate) fn checked(image: Option<Image>) -> Result<Checked, Fail> {
     let image = image.ok_or("the image is legal")?;
     Ok(check(image).ok().ok_or("the image is accepted")?)
 }
 
 /// Where the verifier refuses an image.
-pub fn refused(image: Option<Image>) -> Result<Reject, Fail> {
+pub(crate) fn refused(image: Option<Image>) -> Result<Reject, Fail> {
     let image = image.ok_or("the image is legal")?;
     let (_image, reject) = check(image).err().ok_or("the image is refused")?;
     Ok(reject)
 }
 
 /// Runs a routine on these words in a kernel with no block, if it may be called with them.
-pub fn run(
+pub(crate) fn run(
     alloc: Global,
     checked: &Checked,
     routine: u16,
@@ -92,7 +92,7 @@ pub fn run(
 }
 
 /// `LDI w0 2`, `LDI w1 3`, `ADD w0 w0 w1`, `OUT w0 x`, `x: RET`.
-pub fn add(alloc: Global, budget: u32) -> Result<Option<Image>, AllocError> {
+pub(crate) fn add(alloc: Global, budget: u32) -> Result<Option<Image>, AllocError> {
     let ldi = Instr {
         opcode: Opcode::Ldi,
         ..BLANK
@@ -129,7 +129,7 @@ pub fn add(alloc: Global, budget: u32) -> Result<Option<Image>, AllocError> {
 }
 
 /// `SETK k0 n`, `a: OUT w0 x`, `LOOP k0 a`, `x: RET`, with these potentials.
-pub fn outputs(
+pub(crate) fn outputs(
     alloc: Global,
     n: u16,
     budget: u32,
@@ -164,7 +164,7 @@ const HALF: u16 = 2048;
 
 /// Two routines that add w1 to w0 in each of their instructions but the last, with as many
 /// instructions as an image has.
-pub fn longest(alloc: Global) -> Result<Option<Image>, AllocError> {
+pub(crate) fn longest(alloc: Global) -> Result<Option<Image>, AllocError> {
     let mut routines = Vec::new(alloc);
     routines.push(routine(b"first", HALF, u32::from(HALF)))?;
     routines.push(routine(b"second", HALF, u32::from(HALF)))?;
