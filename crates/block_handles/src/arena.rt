@@ -54,7 +54,8 @@ fn entry_of(table: &[Option<Entry>], slot: usize) -> Entry
 /// Writes how often the block of a slot in use is locked: that one number, in its place.
 fn put_locks(table: &mut Vec<Option<Entry>>, slot: usize, locks: u16)
     requires { IsEntry (slice_index_or table.old.items slot None) }
-    ensures { IfSome (slice_index_or table.old.items slot None) (λ entry. table.new.items ≡ slice_set table.old.items slot (Some (record entry { locks = locks }))) }
+    ensures { IfSome (slice_index_or table.old.items slot None)
+        (λ entry. table.new.items ≡ slice_set table.old.items slot (Some (record entry { locks = locks }))) }
 {
     if let Some(entry) = &mut table[slot] {
         entry.locks = locks;
