@@ -42,9 +42,9 @@ fn put_words(into: &mut Vec<u8>, first: u16, second: u16, third: u16)
     put_word(into, third);
 }
 
-/// Reads the bytes of a block with this handle into a part of a slice, and checks them. `Disk`
+/// Reads the bytes of a block with this handle into a slice from `at` on, and checks them. `Disk`
 /// where the device fails, or gives bytes that are no heap with that handle.
-fn read_part<D: Device>(
+fn read_from<D: Device>(
     device: &mut D,
     from: u64,
     h: u16,
@@ -85,7 +85,7 @@ fn append_block<D: Device>(
 {
     let at = into.len();
     into.resize(at + n as usize, 0).unwrap();
-    read_part(device, from, h, into, at)
+    read_from(device, from, h, into, at)
 }
 
 /// Appends the entry and the bytes of a block: those of the source where they are resident

@@ -1,7 +1,7 @@
 use Rattle.std.proofs.Common.{◌-◌, length, refl}
 use Rattle.std.proofs.lemmas.Result.{on_ok_weaker}
 use Rattle.vm_file.proofs.Filling.{read_from}
-use Rattle.vm_file.proofs.spell.read_part.Goals as goal
+use Rattle.vm_file.proofs.spell.read_from.Goals as goal
 
 pub returns-clause-bytes : goal.returns-clause-bytes
 returns-clause-bytes g c = λ h.
