@@ -14,6 +14,10 @@ known_text row = if length (row_items row) == 0 then [] else row_items row ++ co
 abbrev pub coefficient_text : ℕ → ℕ → List ℕ
 coefficient_text k n = if n == 0 then [] else codes " + " ++ decimal n ++ codes " k" ++ decimal k
 
+-- those for each counter
+abbrev pub coefficients_text : List ℕ → List ℕ
+coefficients_text coefficients = texts_below 4 (λ k. coefficient_text k (slice_index coefficients k))
+
 -- a potential stands for just one step
 unfoldable pub is_one : Potential → Bool
 is_one p = p.constant == 1 && list_all (λ n. n == 0) p.coefficients
@@ -21,7 +25,7 @@ is_one p = p.constant == 1 && list_all (λ n. n == 0) p.coefficients
 -- the steps that a potential stands for
 unfoldable pub potential_text : Potential → List ℕ
 potential_text p =
-    codes " " ++ decimal p.constant ++ texts_below 4 (λ k. coefficient_text k (slice_index p.coefficients k)) ++ steps_word (is_one p)
+    codes " " ++ decimal p.constant ++ coefficients_text p.coefficients ++ steps_word (is_one p)
 
 -- what a row knows beyond the open row, and the potential
 unfoldable pub note : Row → Potential → List ℕ

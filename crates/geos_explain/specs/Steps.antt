@@ -14,6 +14,7 @@ use Rattle.geos_verify.specs.Lists.{all2}
 use Rattle.geos_verify.specs.Rows.{bound, falls_through, branches}
 use Rattle.geos_verify.specs.Potentials.{budget_of}
 use Rattle.geos_explain.specs.declared.steps.Asked.{Asked}
+use Rattle.geos_explain.specs.Notes.{coefficients_text}
 use Rattle.geos_explain.specs.Numbers.{owed_text, left_text}
 use Rattle.geos_explain.specs.Places.{Place}
 
@@ -46,23 +47,21 @@ asked_branching i _ p q = asked_plain 0 p q
 abbrev pub is_paid : Asked → Potential → Bool
 is_paid asked p = nat_le asked.owed asked.left && all2 nat_le asked.coefficients p.coefficients
 
--- a coefficient that is asked and not left
-abbrev pub missing_item : ℕ → ℕ → ℕ → List ℕ
-missing_item k asked left = if nat_le asked left then [] else codes " " ++ decimal asked ++ codes " k" ++ decimal k
-
--- the coefficients that are asked and not left
-unfoldable pub missing_items : List ℕ → List ℕ → List ℕ
-missing_items asked left = texts_below 4 (λ k. missing_item k (slice_index asked k) (slice_index left k))
-
 -- so many steps are owed, and so many are left
 abbrev pub owed_words : ℕ → ℕ → List ℕ
 owed_words owed left = codes " " ++ owed_text owed ++ codes " from here" ++ left_text left
 
--- what is asked and not left: steps, or else coefficients
+-- the same in whole, with what each counter must pay, and pays
+abbrev pub whole_words : Asked → Potential → List ℕ
+whole_words asked p =
+    codes " " ++ decimal asked.owed ++ coefficients_text asked.coefficients ++ codes " steps are owed from here, with "
+    ++ decimal asked.left ++ coefficients_text p.coefficients ++ codes " left"
+
+-- what is asked and not left: steps, or else what counters pay
 abbrev pub asked_words : Asked → Potential → List ℕ
 asked_words asked p =
     if nat_le asked.owed asked.left
-    then missing_items asked.coefficients p.coefficients ++ codes " steps are owed from here, and not left"
+    then whole_words asked p
     else owed_words asked.owed asked.left
 
 -- what the edge asks, if there is one

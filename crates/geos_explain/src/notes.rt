@@ -1,8 +1,8 @@
 //! What stands behind an instruction.
 
-ghost use Rattle.std.specs.Prelude.{◌≡◌, ◌++◌, OnOk, slice_index};
-ghost use Rattle.geos_listing.specs.Rows.{texts_below, row_items};
-ghost use Rattle.geos_explain.specs.Notes.{known_text, coefficient_text, is_one, potential_text, note};
+ghost use Rattle.std.specs.Prelude.{◌≡◌, ◌++◌, OnOk};
+ghost use Rattle.geos_listing.specs.Rows.{row_items};
+ghost use Rattle.geos_explain.specs.Notes.{known_text, coefficient_text, coefficients_text, is_one, potential_text, note};
 
 use crate::numbers::{put_numbered, steps_word};
 use geos_image::{Potential, Row};
@@ -34,9 +34,10 @@ fn put_coefficient(out: &mut Vec<u8>, k: usize, n: u32) -> Result<(), AllocError
     put_numbered(out, " k", k as u64)
 }
 
+/// Those for each counter.
 #[tactic(auto, unfolding(geos_listing::specs::Rows::texts_below))]
-fn put_coefficients(out: &mut Vec<u8>, coefficients: &[u32; 4]) -> Result<(), AllocError>
-    ensures { OnOk result (out.new.items ≡ out.old.items ++ texts_below 4 (λ k. coefficient_text k (slice_index coefficients.now k))) }
+pub(crate) fn put_coefficients(out: &mut Vec<u8>, coefficients: &[u32; 4]) -> Result<(), AllocError>
+    ensures { OnOk result (out.new.items ≡ out.old.items ++ coefficients_text coefficients.now) }
 {
     for k in 0..coefficients.len() {
         put_coefficient(out, k, coefficients[k])?;

@@ -1,13 +1,13 @@
 //! What an edge asks of a potential, and what is said where it is not paid for.
 
-ghost use Rattle.std.specs.Prelude.{◌≡◌, ◌<◌, ◌*◌, ◌^◌, ◌++◌, OnOk, length, nat_le, slice_index};
+ghost use Rattle.std.specs.Prelude.{◌≡◌, ◌<◌, ◌*◌, ◌^◌, ◌++◌, OnOk, length, nat_le};
 ghost use Rattle.geos_image.specs.Fields.{FieldsFit, CalleeFits};
-ghost use Rattle.geos_listing.specs.Rows.{texts_below};
 ghost use Rattle.geos_verify.specs.Lists.{all2};
 ghost use Rattle.geos_verify.specs.Potentials.{budget_of};
 ghost use Rattle.geos_explain.specs.Places.{IsPlace, place_of};
-ghost use Rattle.geos_explain.specs.Steps.{asked_plain, asked_setting, asked_taking, asked_along, asked_branching, is_paid, missing_item, missing_items, owed_words, asked_words, asks_along, asks_branching, paying_item, paying_items, touched_words, touched_here, last_words, unpaid_words};
+ghost use Rattle.geos_explain.specs.Steps.{asked_plain, asked_setting, asked_taking, asked_along, asked_branching, is_paid, whole_words, owed_words, asked_words, asks_along, asks_branching, paying_item, paying_items, touched_words, touched_here, last_words, unpaid_words};
 
+use crate::notes::put_coefficients;
 use crate::numbers::{put_left, put_numbered, put_owed};
 use crate::place::Place;
 use geos_image::{Image, Instr, Opcode, Potential, Routine, Row};
@@ -110,35 +110,23 @@ fn is_paid(asked: &Asked, p: &Potential) -> bool
     asked.owed <= asked.left && coefficients_pay(&asked.coefficients, &p.coefficients)
 }
 
-/// A coefficient that is asked and not left.
-fn put_missing(out: &mut Vec<u8>, k: usize, asked: u32, left: u32) -> Result<(), AllocError>
-    ensures { OnOk result (out.new.items ≡ out.old.items ++ missing_item k asked left) }
+/// The steps that are asked and those that are left, with what each counter must pay, and pays.
+fn put_whole(out: &mut Vec<u8>, asked: &Asked, p: &Potential) -> Result<(), AllocError>
+    ensures { OnOk result (out.new.items ≡ out.old.items ++ whole_words asked.now p.now) }
 {
-    if asked <= left {
-        return Ok(());
-    }
-    put_numbered(out, " ", u64::from(asked))?;
-    put_numbered(out, " k", k as u64)
+    put_numbered(out, " ", asked.owed)?;
+    put_coefficients(out, &asked.coefficients)?;
+    put_numbered(out, " steps are owed from here, with ", asked.left)?;
+    put_coefficients(out, &p.coefficients)?;
+    out.extend_from_slice(b" left")
 }
 
-/// The coefficients that are asked and not left.
-#[tactic(auto, unfolding(geos_listing::specs::Rows::texts_below, crate::specs::Steps::missing_items))]
-fn put_all_missing(out: &mut Vec<u8>, asked: &[u32; 4], left: &[u32; 4]) -> Result<(), AllocError>
-    ensures { OnOk result (out.new.items ≡ out.old.items ++ missing_items asked.now left.now) }
-{
-    for k in 0..asked.len() {
-        put_missing(out, k, asked[k], left[k])?;
-    }
-    Ok(())
-}
-
-/// What is asked and not left: steps, or else coefficients.
+/// What is asked and not left: steps, or else what counters pay.
 fn put_asked(out: &mut Vec<u8>, asked: &Asked, p: &Potential) -> Result<(), AllocError>
     ensures { OnOk result (out.new.items ≡ out.old.items ++ asked_words asked.now p.now) }
 {
     if asked.owed <= asked.left {
-        put_all_missing(out, &asked.coefficients, &p.coefficients)?;
-        out.extend_from_slice(b" steps are owed from here, and not left")
+        put_whole(out, asked, p)
     } else {
         put_owed(out, " ", asked.owed)?;
         out.extend_from_slice(b" from here")?;
