@@ -77,19 +77,19 @@ module _ (s : KernelState) (name : Name) (c : ℕ) (k : IsKernel s) (locked : Is
         let refuses : first_refusal (edits.refer c n (model.chunks_at memory name)).refusals ≡ Some Short = rw (known, short) refl in
         (Err Short, refers-refused (edits.refer c n) name memory Short refuses, refl)
 
-    pub deref-span : (place start : ℕ) → place ≡ store.place_of s.blocks (slot_of name) → start ≡ at → (len < n → ⊥) → block.IsPlaced (store.bytes_of s.blocks (slot_of name)) c at len
-        → GivesSpan (table.deref name c n) (Ok (record { at = place + start; len = len })) s
-    deref-span place start e f enough placed =
+    pub deref-span : (place : ℕ) → place ≡ store.place_of s.blocks (slot_of name) → (len < n → ⊥) → block.IsPlaced (store.bytes_of s.blocks (slot_of name)) c at len
+        → GivesSpan (table.deref name c n) (Ok (record { at = place + at; len = len })) s
+    deref-span place e enough placed =
         let fits : nat_lt (length bytes) n ≡ false = rw long (grind (arith, enough)) in
         let passes : first_refusal (edits.refer c n (model.chunks_at memory name)).refusals ≡ None = rw (known, fits) refl in
         let ref : Reference = record { name = name; chunk = c; start = 0; len = length bytes } in
         let tells : table.in_block name (edits.refer c n (model.chunks_at memory name)).answer ≡ ref = rw known refl in
-        let stands : Stands s (record { at = place + start; len = len }) ref = record {
+        let stands : Stands s (record { at = place + at; len = len }) ref = record {
           bytes = bytes;
           locked = omega (arith, locked, locks-view s name k);
           chunk = found;
           fits = omega arith;
           len = sym long;
-          place = λ some. rw placed (omega (arith, e, f));
+          place = λ some. rw placed (omega (arith, e));
         } in
         (Ok ref, subst (λ r. Answers (table.deref name c n) (Ok r) memory memory) tells (refers-ok (edits.refer c n) name memory passes), stands)

@@ -11,7 +11,7 @@ use crate::span::Span;
 use crate::{growth, heaps};
 use block_handles::{Blocks, HandleError, RoomError};
 use geos_model::{Name, Owner, Refusal};
-use lmem_heap::{BadChunk, DeleteError, init, place, size};
+use lmem_heap::{BadChunk, DeleteError, init, locate, size};
 use std::alloc::{AllocError, Global};
 use std::marker::Model;
 
@@ -130,14 +130,14 @@ impl Kernel {
         ensures gives { GivesSpan (table.deref name c n) result self.now }
         ensures stands { IfOk result (λ span. IsStanding self.now span × (n ≤ span.len)) }
     {
-        let Ok((at, len)) = place(self.blocks.bytes(name), c) else {
+        let Ok((at, len)) = locate(self.blocks.bytes(name), c) else {
             return Err(Refusal::BadChunk);
         };
         if len < n {
             return Err(Refusal::Short);
         }
         Ok(Span {
-            at: self.blocks.place(name) + u32::from(at),
+            at: self.blocks.place(name) + at as u32,
             len,
         })
     }

@@ -5,7 +5,7 @@ ghost use Rattle.geos_machine.specs.Machine.{IsInstr, Ready, Works};
 
 use crate::machine::Machine;
 use crate::step::{Goes, refuse};
-use geos_calls::Kernel;
+use geos_calls::{Kernel, Span};
 use geos_image::{Instr, Opcode};
 
 /// Makes a chunk.
@@ -115,8 +115,9 @@ pub(crate) fn deref(m: &mut Machine, kernel: &Kernel, i: &Instr, a: usize) -> Go
 {
     let c = m.words[i.c as usize];
     match kernel.deref(m.slots[a], c, i.imm) {
-        Ok(span) => {
-            m.pointers[i.b as usize] = span;
+        // field by field, or the compiler makes one number of a span, and takes it apart again
+        Ok(Span { at, len }) => {
+            m.pointers[i.b as usize] = Span { at, len };
             Goes::Past
         }
         Err(refusal) => refuse(m, i, refusal),

@@ -34,7 +34,7 @@ pub use enlarge::enlarged;
 pub use error::{BadChunk, DeleteError, InsertError, ReallocError, RoomError};
 pub use grammar::check;
 use header::TABLE;
-pub use look::{next, place, size, total_free};
+pub use look::{locate, next, place, size, total_free};
 pub use resize::{delete, insert, realloc};
 use words::put_words;
 

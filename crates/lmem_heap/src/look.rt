@@ -27,7 +27,7 @@ pub(crate) fn find(block: &[u8], c: u16) -> Result<usize, BadChunk>
 }
 
 /// Where the bytes of an entry's chunk stand, and how many there are.
-pub(crate) fn place_of_entry(block: &[u8], i: usize) -> (u16, u16)
+pub(crate) fn place_of_entry(block: &[u8], i: usize) -> (usize, u16)
     requires heap { IsHeap block.now }
     requires known { i < entries block.now }
     requires used { entry block.now i ≢ 0 }
@@ -38,7 +38,8 @@ pub(crate) fn place_of_entry(block: &[u8], i: usize) -> (u16, u16)
     if at == NO_BYTE {
         return (0, 0);
     }
-    (at, get16(block, at as usize - 2) - 2)
+    let at = at as usize;
+    (at, get16(block, at - 2) - 2)
 }
 
 /// The length of a chunk in bytes. `BadChunk` exactly where no chunk has this handle.
@@ -54,6 +55,19 @@ pub fn size(block: &[u8], c: u16) -> Result<u16, BadChunk>
 /// chunk of no byte has offset 0. `BadChunk` exactly where no chunk has this handle. Bytes may
 /// be written there: see `writes_stay_in_their_chunk`.
 pub fn place(block: &[u8], c: u16) -> Result<(u16, u16), BadChunk>
+    requires { IsHeap block.now }
+    ensures within { IfOk result (λ p. p.0 + p.1 ≤ length block.now) }
+    ensures place { MatchResult result (λ p. IsPlaced block.now c p.0 p.1) (λ _. place_of block.now c ≡ None) }
+    ensures bytes { MatchResult result (λ p. chunk_of (chunks block.now) c ≡ Some (part block.now p.0 p.1)) (λ _. chunk_of (chunks block.now) c ≡ None) }
+{
+    let (at, n) = locate(block, c)?;
+    Ok((at as u16, n))
+}
+
+/// Where the bytes of a chunk stand, as `place` says it, the offset as an index of the block.
+/// `BadChunk` exactly where no chunk has this handle.
+// The compiler makes one number of a pair of words, and takes it apart again; not of this pair.
+pub fn locate(block: &[u8], c: u16) -> Result<(usize, u16), BadChunk>
     requires { IsHeap block.now }
     ensures within { IfOk result (λ p. p.0 + p.1 ≤ length block.now) }
     ensures place { MatchResult result (λ p. IsPlaced block.now c p.0 p.1) (λ _. place_of block.now c ≡ None) }

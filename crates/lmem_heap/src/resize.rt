@@ -114,7 +114,7 @@ fn open_bytes(block: &mut [u8], i: usize, at: usize, n: usize)
     ensures chunks { chunks block.new ≡ slice_set (chunks block.old) i (Some (opened (entry_bytes (chunks block.old) i) at n)) }
 {
     let (begin, len) = place_of_entry(block, i);
-    let begin = begin as usize + at;
+    let begin = begin + at;
     move_bytes(block, begin, begin + n, len as usize - (at + n));
     clear(block, begin, n);
 }
@@ -130,6 +130,6 @@ fn close_bytes(block: &mut [u8], i: usize, at: usize, n: usize)
     ensures chunks { chunks block.new ≡ slice_set (chunks block.old) i (Some (closed (entry_bytes (chunks block.old) i) at n)) }
 {
     let (begin, len) = place_of_entry(block, i);
-    let begin = begin as usize + at;
+    let begin = begin + at;
     move_bytes(block, begin + n, begin, len as usize - (at + n));
 }

@@ -17,7 +17,7 @@ pub returns-in-Ok : goal.returns-in-Ok
 returns-in-Ok c =
     let i = c.args.i.now in
     on-past i c.args.kernel.now c.args.kernel.now c.args.m.now _ (pointer-set i c.args.kernel.now c.args.m.now _ (mem 0) (λ name. deref name (get_or c.args.m.now.words i.c 0) i.imm) (λ name choice memory. refl)
-    (λ beside pc safe. looks-held i _ (uses_of Deref) (rw c.requires.instr.is refl) (λ t. refl) safe) (λ image choice beside pc. rw c.requires.instr.is refl) c.in-Ok.span (rw c.requires.instr.a_is at c.in-Ok.ensures.gives) refl)
+    (λ beside pc safe. looks-held i _ (uses_of Deref) (rw c.requires.instr.is refl) (λ t. refl) safe) (λ image choice beside pc. rw c.requires.instr.is refl) c.in-Ok.field-0 (rw c.requires.instr.a_is at c.in-Ok.ensures.gives) refl)
 
 pub returns-in-Err : goal.returns-in-Err
 returns-in-Err c =

@@ -19,15 +19,15 @@ bytes-requires c =
     let locked = subst (λ t. IsLocked t c.args.name) (sym c.self.view_is) c.requires in
     locked-there s c.args.name c.self.invariant locked
 
-pub place-requires : goal.place-requires
-place-requires c =
+pub locate-requires : goal.locate-requires
+locate-requires c =
     let s = with_store c.self.inside.blocks in
     let locked = subst (λ t. IsLocked t c.args.name) (sym c.self.view_is) c.requires in
     let held = locked-heap s c.args.name c.self.invariant locked in
     subst IsHeap (sym c.bytes.ensures) held.heap
 
-pub place-requires-2 : goal.place-requires-2
-place-requires-2 c =
+pub place-requires : goal.place-requires
+place-requires c =
     let s = with_store c.self.inside.blocks in
     let locked = subst (λ t. IsLocked t c.args.name) (sym c.self.view_is) c.requires in
     locked-there s c.args.name c.self.invariant locked
@@ -59,14 +59,14 @@ returns-clause-gives c =
     let found = subst (λ bytes. chunk_of (chunks bytes) c.args.c ≡ Some (part bytes at len)) c.bytes.ensures c.in-Ok.ensures.bytes in
     let placed = subst (λ bytes. IsPlaced bytes c.args.c at len) c.bytes.ensures c.in-Ok.ensures.place in
     let enough : len < c.args.n → ⊥ = λ less. absurd (omega (arith, less, c.if-len-n.false)) in
-    let start = c.place-2.result in
-    let span : Span = record { at = start + c.from.result; len = len } in
+    let start = c.place.result in
+    let span : Span = record { at = start + at; len = len } in
     let gives : GivesSpan (table.deref c.args.name c.args.c c.args.n) (Ok span) s =
-    deref-span s c.args.name c.args.c c.self.invariant locked at len c.args.n within found start c.from.result c.place-2.ensures.place c.from.ensures enough placed in
+    deref-span s c.args.name c.args.c c.self.invariant locked at len c.args.n within found start c.place.ensures.place enough placed in
     subst (GivesSpan (table.deref c.args.name c.args.c c.args.n) (Ok span)) c.self.view_is gives
 
 pub returns-clause-stands : goal.returns-clause-stands
 returns-clause-stands c = (
-  gives-standing (table.deref c.args.name c.args.c c.args.n) (record { at = c.place-2.result + c.from.result; len = c.in-Ok.len }) c.args.self.now (returns-clause-gives c),
+  gives-standing (table.deref c.args.name c.args.c c.args.n) (record { at = c.place.result + c.in-Ok.at; len = c.in-Ok.len }) c.args.self.now (returns-clause-gives c),
   omega (arith, c.if-len-n.false),
 )
