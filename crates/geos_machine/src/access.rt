@@ -1,8 +1,9 @@
 //! Instructions that go through pointers.
 
 ghost use Rattle.std.specs.Prelude.{◌≡◌, ◌≤◌, ◌+◌, ◌%◌, not, nat_lt};
-ghost use Rattle.geos_machine.specs.Machine.{IsInstr, Ready, Works};
+ghost use Rattle.geos_machine.specs.Machine.{HasOperands, IsInstr, Ready, Works};
 
+use crate::head::{index_a, index_b, index_c};
 use crate::machine::Machine;
 use crate::step::{Goes, refuse};
 use geos_calls::{Kernel, Span};
@@ -28,12 +29,13 @@ pub(crate) fn ldb(m: &mut Machine, kernel: &Kernel, i: &Instr, a: usize) -> Goes
 }
 
 /// Reads a word.
-pub(crate) fn ldw(m: &mut Machine, kernel: &Kernel, i: &Instr, a: usize) -> Goes
-    requires instr { IsInstr Opcode.Ldw i.now a }
+pub(crate) fn ldw(m: &mut Machine, kernel: &Kernel, i: &Instr, operands: usize) -> Goes
+    requires instr { HasOperands Opcode.Ldw i.now operands }
     requires ready { Ready i.now kernel.now m.old }
     ensures { Works i.now kernel.now m.old kernel.now m.new result }
 {
-    let (span, at) = (m.pointers[i.b as usize], i.imm);
+    let (a, b) = (index_a(i, operands), index_b(i, operands));
+    let (span, at) = (m.pointers[b], i.imm);
     m.words[a] = kernel.load16(span, at);
     Goes::Along
 }
@@ -50,12 +52,13 @@ pub(crate) fn stb(m: &Machine, kernel: &mut Kernel, i: &Instr, a: usize) -> Goes
 }
 
 /// Writes a word.
-pub(crate) fn stw(m: &Machine, kernel: &mut Kernel, i: &Instr, a: usize) -> Goes
-    requires instr { IsInstr Opcode.Stw i.now a }
+pub(crate) fn stw(m: &Machine, kernel: &mut Kernel, i: &Instr, operands: usize) -> Goes
+    requires instr { HasOperands Opcode.Stw i.now operands }
     requires ready { Ready i.now kernel.old m.now }
     ensures { Works i.now kernel.old m.now kernel.new m.now result }
 {
-    let (span, at) = (m.pointers[i.b as usize], i.imm);
+    let (a, b) = (index_a(i, operands), index_b(i, operands));
+    let (span, at) = (m.pointers[b], i.imm);
     kernel.store16(span, at, m.words[a]);
     Goes::Along
 }
@@ -72,12 +75,17 @@ pub(crate) fn ldxb(m: &mut Machine, kernel: &Kernel, i: &Instr, a: usize) -> Goe
 }
 
 /// Reads a word at an index.
-pub(crate) fn ldxw(m: &mut Machine, kernel: &Kernel, i: &Instr, a: usize) -> Goes
-    requires instr { IsInstr Opcode.Ldxw i.now a }
+pub(crate) fn ldxw(m: &mut Machine, kernel: &Kernel, i: &Instr, operands: usize) -> Goes
+    requires instr { HasOperands Opcode.Ldxw i.now operands }
     requires ready { Ready i.now kernel.now m.old }
     ensures { Works i.now kernel.now m.old kernel.now m.new result }
 {
-    let (span, at) = (m.pointers[i.b as usize], m.words[i.c as usize]);
+    let (a, b, c) = (
+        index_a(i, operands),
+        index_b(i, operands),
+        index_c(i, operands),
+    );
+    let (span, at) = (m.pointers[b], m.words[c]);
     m.words[a] = kernel.load16(span, at);
     Goes::Along
 }
@@ -94,12 +102,17 @@ pub(crate) fn stxb(m: &Machine, kernel: &mut Kernel, i: &Instr, a: usize) -> Goe
 }
 
 /// Writes a word at an index.
-pub(crate) fn stxw(m: &Machine, kernel: &mut Kernel, i: &Instr, a: usize) -> Goes
-    requires instr { IsInstr Opcode.Stxw i.now a }
+pub(crate) fn stxw(m: &Machine, kernel: &mut Kernel, i: &Instr, operands: usize) -> Goes
+    requires instr { HasOperands Opcode.Stxw i.now operands }
     requires ready { Ready i.now kernel.old m.now }
     ensures { Works i.now kernel.old m.now kernel.new m.now result }
 {
-    let (span, at) = (m.pointers[i.b as usize], m.words[i.c as usize]);
+    let (a, b, c) = (
+        index_a(i, operands),
+        index_b(i, operands),
+        index_c(i, operands),
+    );
+    let (span, at) = (m.pointers[b], m.words[c]);
     kernel.store16(span, at, m.words[a]);
     Goes::Along
 }

@@ -2,8 +2,9 @@
 
 ghost use Rattle.std.specs.Prelude.{◌≡◌};
 ghost use Rattle.geos_semantics.specs.State.{same_name};
-ghost use Rattle.geos_machine.specs.Machine.{IsInstr, Ready, Works};
+ghost use Rattle.geos_machine.specs.Machine.{HasOperands, IsInstr, Ready, Works};
 
+use crate::head::{index_a, index_b};
 use crate::machine::Machine;
 use crate::step::{Goes, refuse, to_if};
 use geos_calls::Kernel;
@@ -29,12 +30,13 @@ pub(crate) fn mnew(m: &mut Machine, kernel: &mut Kernel, i: &Instr, a: usize) ->
 
 /// Locks a block into a slot.
 #[inline]
-pub(crate) fn mlock(m: &mut Machine, kernel: &mut Kernel, i: &Instr, a: usize) -> Goes
-    requires instr { IsInstr Opcode.Mlock i.now a }
+pub(crate) fn mlock(m: &mut Machine, kernel: &mut Kernel, i: &Instr, operands: usize) -> Goes
+    requires instr { HasOperands Opcode.Mlock i.now operands }
     requires ready { Ready i.now kernel.old m.old }
     ensures { Works i.now kernel.old m.old kernel.new m.new result }
 {
-    let h = m.words[i.b as usize];
+    let (a, b) = (index_a(i, operands), index_b(i, operands));
+    let h = m.words[b];
     match kernel.mlock(h) {
         Ok(()) => {
             m.slots[a] = Name::mem(h);

@@ -1,8 +1,9 @@
 //! Instructions on the chunks of a block that a slot holds.
 
 ghost use Rattle.std.specs.Prelude.{◌≡◌};
-ghost use Rattle.geos_machine.specs.Machine.{IsInstr, Ready, Works};
+ghost use Rattle.geos_machine.specs.Machine.{HasOperands, IsInstr, Ready, Works};
 
+use crate::head::{index_a, index_b, index_c};
 use crate::machine::Machine;
 use crate::step::{Goes, refuse};
 use geos_calls::{Kernel, Span};
@@ -108,16 +109,20 @@ pub(crate) fn lsize(m: &mut Machine, kernel: &Kernel, i: &Instr, a: usize) -> Go
 
 /// Sets a pointer to a chunk.
 #[inline]
-pub(crate) fn deref(m: &mut Machine, kernel: &Kernel, i: &Instr, a: usize) -> Goes
-    requires instr { IsInstr Opcode.Deref i.now a }
+pub(crate) fn deref(m: &mut Machine, kernel: &Kernel, i: &Instr, operands: usize) -> Goes
+    requires instr { HasOperands Opcode.Deref i.now operands }
     requires ready { Ready i.now kernel.now m.old }
     ensures { Works i.now kernel.now m.old kernel.now m.new result }
 {
-    let c = m.words[i.c as usize];
-    match kernel.deref(m.slots[a], c, i.imm) {
+    let (a, b, c) = (
+        index_a(i, operands),
+        index_b(i, operands),
+        index_c(i, operands),
+    );
+    match kernel.deref(m.slots[a], m.words[c], i.imm) {
         // field by field, or the compiler makes one number of a span, and takes it apart again
         Ok(Span { at, len }) => {
-            m.pointers[i.b as usize] = Span { at, len };
+            m.pointers[b] = Span { at, len };
             Goes::Past
         }
         Err(refusal) => refuse(m, i, refusal),
