@@ -53,7 +53,7 @@ static void measure(const char *what, int gathers, long count, long size, long a
 static void measure_all(const char *what, int gathers) {
     measure(what, gathers, 1, 4096, 4608, 200);
     measure(what, gathers, 16, 4096, 66048, 200);
-    measure(what, gathers, 256, 4096, 1050624, 50);
+    measure(what, gathers, 256, 4096, 1050624, 200);
     measure(what, gathers, 256, 65520, 16777216, 5);
 }
 
