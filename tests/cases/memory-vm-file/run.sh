@@ -1,4 +1,3 @@
 # Each allocation of calls on a VM file is refused in turn.
-top=$(dirname "$1")
-(cd "$top/crates/file_trials" && rt run >/dev/null 2>&1) || exit 1
-sh "$top/tests/allocations.sh" "$top/crates/file_trials/out/file_trials"
+trials=$("$top/build" file_trials) || exit
+sh "$top/tests/allocations.sh" "$trials"

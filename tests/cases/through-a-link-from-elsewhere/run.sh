@@ -1,4 +1,4 @@
 folder=$(mktemp -d)
 trap 'rm -rf "$folder"' EXIT
-ln -s "$1" "$folder/program"
+ln -s "$top/geos" "$folder/program"
 cd / && "$folder/program"
