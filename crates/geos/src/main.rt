@@ -81,26 +81,36 @@ fn asm_command<'a>(alloc: Global) -> Result<Command<'a>, AllocError> {
         .arg(image)
 }
 
-fn command<'a>(alloc: Global) -> Result<Command<'a>, AllocError> {
-    let list = image_command(alloc, "list", "Prints the image as text")?;
-    let check = image_command(alloc, "check", "Prints `accepted` where the image may run")?;
-    let explain = image_command(
-        alloc,
+/// The commands on an image, and what each does.
+const IMAGE_COMMANDS: [(&str, &str); 3] = [
+    ("list", "Prints the image as text"),
+    ("check", "Prints `accepted` where the image may run"),
+    (
         "explain",
         "Prints the image as text with what is known at each instruction, and why it may not run",
-    )?;
-    Command::new(alloc, "geos")
+    ),
+];
+
+/// What the program says of itself.
+fn program<'a>(alloc: Global) -> Result<Command<'a>, AllocError> {
+    let program = Command::new(alloc, "geos")
         .no_binary_name(true)
         .version("0.1.0")
-        .bin_name("geos")?
+        .bin_name("geos")?;
+    Ok(program
         .about(ABOUT)
         .override_usage(USAGES)
         .after_help(SESSION)
-        .disable_help_subcommand(true)
-        .subcommand(asm_command(alloc)?)?
-        .subcommand(list)?
-        .subcommand(check)?
-        .subcommand(explain)
+        .disable_help_subcommand(true))
+}
+
+/// The program with its commands.
+fn command<'a>(alloc: Global) -> Result<Command<'a>, AllocError> {
+    let mut command = program(alloc)?.subcommand(asm_command(alloc)?)?;
+    for (name, about) in IMAGE_COMMANDS {
+        command = command.subcommand(image_command(alloc, name, about)?)?;
+    }
+    Ok(command)
 }
 
 /// The file that a command names, where that command was given.
