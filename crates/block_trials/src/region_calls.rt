@@ -1,0 +1,73 @@
+//! Lines with calls of a region.
+
+ghost use Rattle.std.specs.Prelude.{◌+◌, ◌≤◌, IsTrue, length};
+
+use crate::answer::{Answer, Obstacle};
+use crate::byte_at;
+use lmem_raw::Region;
+use trial_lines::Line;
+
+/// Whether the `n` bytes from an offset on lie in the region.
+fn has_range(region: &Region, at: u32, n: u32) -> bool
+    ensures { IsTrue result → at + n ≤ length region.now }
+{
+    let len = region.len();
+    n <= len && at <= len - n
+}
+
+/// Makes the call of a line.
+pub(crate) fn answer(region: &mut Region, line: &Line<'_>) -> Answer {
+    match line.word {
+        "len" => Answer::Number(region.len()),
+        "get8" | "get16" => read(region, line).into(),
+        "put8" | "put16" => write(region, line).into(),
+        "fill" | "fill_slice" | "move" => write_range(region, line).into(),
+        _ => Answer::NotACall,
+    }
+}
+
+/// Reads a byte or a word.
+fn read(region: &Region, line: &Line<'_>) -> Result<Answer, Obstacle> {
+    let at = line.numbers[0];
+    match line.word {
+        "get8" if has_range(region, at, 1) => Ok(Answer::Number(u32::from(region.get8(at)))),
+        "get16" if has_range(region, at, 2) => Ok(Answer::Number(u32::from(region.get16(at)))),
+        _ => Err(Obstacle::PastTheEnd),
+    }
+}
+
+/// Writes a byte or a word.
+fn write(region: &mut Region, line: &Line<'_>) -> Result<Answer, Obstacle> {
+    let at = line.numbers[0];
+    match line.word {
+        "put8" if has_range(region, at, 1) => region.put8(at, byte_at(line, 1)),
+        "put16" if has_range(region, at, 2) => region.put16(at, line.word_at(1)),
+        _ => return Err(Obstacle::PastTheEnd),
+    }
+    Ok(Answer::Done)
+}
+
+/// Writes many bytes.
+fn write_range(region: &mut Region, line: &Line<'_>) -> Result<Answer, Obstacle> {
+    let [at, second, third, ..] = line.numbers;
+    match line.word {
+        "fill" if has_range(region, at, second) => region.fill(at, second, byte_at(line, 2)),
+        "fill_slice" if has_range(region, at, second) => region
+            .slice_mut(at, second)
+            .fill(byte_at(line, 2)),
+        "move" if has_range(region, at, third) && has_range(region, second, third) =>
+            region.move_bytes(at, second, third),
+        _ => return Err(Obstacle::PastTheEnd),
+    }
+    Ok(Answer::Done)
+}
+
+/// The bytes of a line `slice AT N`.
+pub(crate) fn slice<'a>(region: &'a Region, line: &Line<'_>) -> Result<&'a [u8], Obstacle> {
+    let [at, n, ..] = line.numbers;
+    if has_range(region, at, n) {
+        Ok(region.slice(at, n))
+    } else {
+        Err(Obstacle::PastTheEnd)
+    }
+}
