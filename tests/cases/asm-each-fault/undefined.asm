@@ -1,0 +1,2 @@
+routine a public budget 9
+JMP nowhere
