@@ -1,146 +1,155 @@
-//! The calls on VM files that may be refused memory, one after the other on one file. Each prints a line where it is done, and ends
-//! the program where it is refused. The tests refuse one allocation after the other (tests/allocations.sh).
+//! A trial of the calls on VM files. It reads lines with calls, makes one after the other, and prints each line again with what the call
+//! answers. Where memory is refused it ends, and says so (tests/allocations.sh refuses one allocation after the other).
+//!
+//! Each block has 64 bytes, with a chunk of two bytes; the first of these tells the blocks apart.
+//!
+//! - `memory LEN` makes a device in memory, `system LEN` one on a file of the system, which `system_open` opens and `system_remove`
+//!   removes. Calls go to the last device.
+//! - `write AT COUNT BYTE..`, `write_block AT H BYTE`, `read AT COUNT`, `sync`: calls on the device itself. `calls` tells how many calls
+//!   it had. `keep` keeps its bytes.
+//! - `fail CALL` and `stop CALL` make a device in memory with the kept bytes, of which that call fails, or that and each later one. After
+//!   `go_on` no call of the device fails any more.
+//! - `damaged AT BYTE BYTE` and `cut LEN` open the kept bytes with two of them changed, or only the first ones. `each_byte FROM TO` and
+//!   `each_cut FROM TO AREA` do so with each byte and each length of a range.
+//! - `create AREA`, `open`, `current`, `saved`, `block H`, `saved_block H`: calls on the file. `pair` tells the bytes of block 1.
+//! - `no_block`, `entry H USER LEN`, `map_block H`, `map_item GROUP ITEM` and `take_current` make the directory that is to be committed,
+//!   `resident H BYTE` and `absent` the block in memory; `update`, `save` and `revert` commit.
 #![tactic(auto)]
 
-ghost use Rattle.std.specs.Prelude.{◌==◌, if◌then◌else◌, Some, None};
+mod answer;
+mod draft;
+mod kept;
+mod stand;
 
-use lmem_heap::init;
-use std::alloc::{AllocError, Global};
-use std::io;
+use crate::answer::{Answer, Obstacle};
+use crate::draft::Draft;
+use crate::kept::Kept;
+use crate::stand::Stand;
+use std::alloc::AllocError;
+use std::io::ErrorKind;
 use std::process::ExitCode;
-use thiserror::Error;
-use vm_file::{
-    CommitError, CreateError, Device, Directory, Disk, Entry, How, MemoryDevice, OpenError, Source,
-    VmFile,
-};
+use std::{fs, io};
+use trial_lines::Line;
+use vm_file::{Device, Disk, FileDevice, MemoryDevice};
 
-/// The size of an area, which has room for two directories with a block each.
-const AREA: u32 = 512;
+/// The file of the system.
+const PATH: &str = "trial.vm";
 
-/// The length of the device: the file's first 1,024 bytes, and two areas.
-const LEN: u64 = 2048;
-
-/// The block's size.
-const SIZE: u16 = 64;
-
-/// Why the program ends early.
-#[derive(Debug, Drop, Error)]
-enum Refusal {
-    #[error("{0}")]
-    Create(#[from] CreateError),
-    #[error("{0}")]
-    Open(#[from] OpenError),
-    #[error("{0}")]
-    Commit(#[from] CommitError),
-    #[error("memory")]
-    Memory(#[from] AllocError),
-    #[error("disk")]
-    Disk(#[from] Disk),
-    #[error("the line was not printed")]
-    Output(#[from] io::Error),
-    #[error("a block or a byte is not where it should be")]
-    Elsewhere,
-}
-
-/// The block with handle 1 in memory, or none under handle 0.
+/// The device that calls go to.
 #[derive(Drop)]
-struct InMemory<'a> {
-    h: u16,
-    bytes: &'a [u8],
+enum Bench {
+    Memory(Stand<MemoryDevice>),
+    System(Stand<FileDevice>),
 }
 
-impl Source for InMemory<'_> {
-    ghost resident_bytes = { λ s h. if h == s.h then Some s.bytes.now else None };
+/// What the lines so far have left.
+#[derive(Drop)]
+struct Trial {
+    bench: Bench,
+    kept: Kept,
+    draft: Draft,
+}
 
-    fn resident(&self, h: u16) -> Option<&[u8]> {
-        if h == self.h { Some(self.bytes) } else { None }
+impl Trial {
+    /// Carries out the call of a line.
+    fn answer(&mut self, rt: &HostRuntime, line: &Line<'_>) -> Result<Answer, AllocError> {
+        match line.word {
+            "memory" | "fail" | "stop" => self.in_memory(rt, line),
+            "system" | "system_open" | "system_open_folder" | "system_remove" => Ok(self.on_system(
+                rt, line,
+            )),
+            "keep" => self.keep(rt),
+            "damaged" | "cut" | "each_byte" | "each_cut" => self.kept.answer(rt.alloc(), line),
+            "no_block" | "entry" | "map_block" | "map_item" | "resident" | "absent" => Ok(
+                self.draft.answer(line),
+            ),
+            _ => match &mut self.bench {
+                Bench::Memory(stand) => stand.answer(rt.alloc(), line, &mut self.draft),
+                Bench::System(stand) => stand.answer(rt.alloc(), line, &mut self.draft),
+            },
+        }
+    }
+
+    /// Makes a device in memory.
+    fn in_memory(&mut self, rt: &HostRuntime, line: &Line<'_>) -> Result<Answer, AllocError> {
+        let number = u64::from(line.numbers[0]);
+        let stand = match line.word {
+            "memory" => Stand::new(MemoryDevice::new(rt.alloc(), number)?, 0, false),
+            word => Stand::new(self.kept.device(rt.alloc())?, number, word == "stop"),
+        };
+        self.bench = Bench::Memory(stand);
+        Ok(Answer::Done)
+    }
+
+    /// Makes, opens or removes the file of the system.
+    fn on_system(&mut self, rt: &HostRuntime, line: &Line<'_>) -> Answer {
+        let outcome = match line.word {
+            "system" => FileDevice::create(rt, rt.alloc(), PATH, u64::from(line.numbers[0])),
+            "system_open" => FileDevice::open(rt, rt.alloc(), PATH),
+            "system_open_folder" => FileDevice::open(rt, rt.alloc(), "."),
+            _ => return Answer::of_device(fs::remove_file(rt, PATH).map_err(|_| Disk)),
+        };
+        match outcome {
+            Ok(device) => {
+                let len = device.len();
+                self.bench = Bench::System(Stand::new(device, 0, false));
+                Answer::Length(len)
+            }
+            Err(Disk) => Answer::Disk,
+        }
+    }
+
+    /// Keeps the bytes of the device.
+    fn keep(&mut self, rt: &HostRuntime) -> Result<Answer, AllocError> {
+        let bytes = match &mut self.bench {
+            Bench::Memory(stand) => stand.bytes(rt.alloc())?,
+            Bench::System(stand) => stand.bytes(rt.alloc())?,
+        };
+        Ok(match bytes {
+            Some(bytes) => {
+                self.kept = Kept { bytes };
+                Answer::Done
+            }
+            None => Answer::NotAsked(Obstacle::NoDevice),
+        })
+    }
+
+    /// Prints a line, and what its call answers.
+    fn print(&mut self, rt: &HostRuntime, text: &str) -> io::Result<()> {
+        let start = text.trim_start();
+        if start.is_empty() || start.starts_with(';') {
+            return println!(rt; "{text}");
+        }
+        let answer = match Line::read(text) {
+            Some(line) => self.answer(rt, &line)?,
+            None => Answer::NotACall,
+        };
+        println!(rt; "{text} -> {answer}")
     }
 }
 
-/// Makes a file on a device in memory.
-fn create(alloc: Global) -> Result<VmFile<MemoryDevice>, Refusal> {
-    let device = MemoryDevice::new(alloc, LEN)?;
-    if device.len() < LEN {
-        return Err(Refusal::Elsewhere);
-    }
-    match VmFile::create(alloc, device, AREA) {
-        Ok(file) => Ok(file),
-        Err((_, why)) => Err(why.into()),
-    }
-}
-
-/// A directory with the block as its map block.
-fn one_block() -> Directory {
-    let mut directory = Directory::new();
-    directory.entries.push(Entry {
-        h: 1,
-        uid: 5,
-        len: SIZE,
-    });
-    directory.map_block = 1;
-    directory
-}
-
-/// Commits the block, from where the source has it.
-fn commit(file: &mut VmFile<MemoryDevice>, how: How, source: &InMemory<'_>) -> Result<(), Refusal> {
-    let cur = one_block();
-    if !file.may_commit(&cur, source) {
-        return Err(Refusal::Elsewhere);
-    }
-    Ok(file.commit(how, &cur, source)?)
-}
-
-/// Opens the file again.
-fn open(alloc: Global, file: VmFile<MemoryDevice>) -> Result<VmFile<MemoryDevice>, Refusal> {
-    match VmFile::open(alloc, file.into_device()) {
-        Ok(file) => Ok(file),
-        Err((_, why)) => Err(why.into()),
-    }
-}
-
-/// The saved block.
-fn saved_block(file: &mut VmFile<MemoryDevice>) -> Result<[u8; SIZE as usize], Refusal> {
-    let mut block = [0u8; SIZE as usize];
-    match file.saved().entry(1) {
-        Some(entry) if entry.len == SIZE => {}
-        _ => return Err(Refusal::Elsewhere),
-    }
-    file.saved_block(1, &mut block)?;
-    Ok(block)
-}
-
-/// All calls, one after the other.
-fn trial(rt: &HostRuntime) -> Result<(), Refusal> {
-    let mut file = create(rt.alloc())?;
-    println!(rt; "created")?;
-    let mut block = [0u8; SIZE as usize];
-    init(&mut block, 1);
-    commit(
-        &mut file,
-        How::Update,
-        &InMemory {
-            h: 1,
-            bytes: &block,
+/// Carries out all lines.
+fn run(rt: &HostRuntime) -> io::Result<()> {
+    let mut trial = Trial {
+        bench: Bench::Memory(Stand::Nothing),
+        kept: Kept {
+            bytes: Vec::new(rt.alloc()),
         },
-    )?;
-    println!(rt; "updated")?;
-    commit(&mut file, How::Save, &InMemory { h: 0, bytes: &[] })?;
-    println!(rt; "saved")?;
-    let mut file = open(rt.alloc(), file)?;
-    println!(rt; "opened")?;
-    if saved_block(&mut file)? != block {
-        return Err(Refusal::Elsewhere);
+        draft: Draft::new(),
+    };
+    for line in rt.lines(rt.alloc()) {
+        trial.print(rt, line?.as_str())?;
     }
-    println!(rt; "read")?;
     Ok(())
 }
 
 fn main(rt: HostRuntime) -> io::Result<ExitCode> {
-    match trial(&rt) {
+    match run(&rt) {
         Ok(()) => Ok(ExitCode::SUCCESS),
-        Err(why) => {
-            eprintln!(rt; "{why}")?;
+        Err(why) if why.kind() == ErrorKind::OutOfMemory => {
+            eprintln!(rt; "memory")?;
             Ok(ExitCode::FAILURE)
         }
+        Err(why) => Err(why),
     }
 }
