@@ -4,10 +4,13 @@ ghost use Rattle.std.specs.Prelude.{◌+◌, ◌≤◌, IfOk};
 ghost use Rattle.block_handles.specs.Names.{slot_of};
 ghost use Rattle.block_handles.specs.Store.{IsThere, region_len};
 
-use crate::answer::{Answer, Obstacle};
-use crate::byte_at;
+use crate::Answer;
 use block_handles::{Blocks, Name, Owner};
-use trial_lines::Line;
+use std::alloc::{AllocError, Global};
+use trial_lines::{Line, Runs, told};
+
+/// What keeps a call from being made that would go past the end of the region.
+pub(crate) const PAST_THE_END: &str = "past the end";
 
 /// The blocks of a trial.
 #[derive(Drop)]
@@ -19,61 +22,79 @@ pub(crate) struct BlockTrial {
 
 /// The owner that a line names, and the word of its call: `vm_` before the word is for a block of a VM file.
 fn owner_of<'a>(line: &Line<'a>) -> (Owner, &'a str) {
-    match line.word.strip_prefix("vm_") {
+    match line.word_behind("vm_") {
         Some(word) => (Owner::Vm, word),
         None => (Owner::Mem, line.word),
     }
 }
 
 /// Makes the call of a line.
-pub(crate) fn answer(trial: &mut BlockTrial, line: &Line<'_>) -> Answer {
+pub(crate) fn answer(
+    alloc: Global,
+    trial: &mut BlockTrial,
+    line: &Line<'_>,
+) -> Result<Answer, AllocError> {
     let (owner, word) = owner_of(line);
     let h = line.word_at(0);
     let name = Name { owner, h };
+    if word == "bytes" && trial.blocks.has(name) {
+        return told(alloc, Runs(trial.blocks.bytes(name)));
+    }
+    Ok(named_call(trial, name, word, line))
+}
+
+/// Makes a call on a name of a block.
+fn named_call(trial: &mut BlockTrial, name: Name, word: &str, line: &Line<'_>) -> Answer {
     let blocks = &mut trial.blocks;
     match word {
-        "lowest" => blocks
-            .lowest(owner)
-            .map_or(Answer::Nothing, |h| Answer::Number(u32::from(h))),
-        "has" => Answer::Truth(blocks.has(name)),
+        "lowest" => lowest(blocks, name.owner),
+        "has" => blocks.has(name).into(),
         "locks" => Answer::Number(u32::from(blocks.locks(name))),
         "lock" => blocks.lock(name).into(),
         "unlock" => unlock(blocks, name).into(),
         "free" => blocks.free(name).into(),
         "make" => make(blocks, name, line.numbers[1]).into(),
-        "make_lowest" => make_lowest(blocks, owner, line.numbers[0]).into(),
-        _ if !blocks.has(name) => Answer::NotAsked(Obstacle::NotThere),
+        "make_lowest" => make_lowest(blocks, name.owner, line.numbers[0]).into(),
+        _ if !blocks.has(name) => Answer::NotAsked("no such block"),
         _ => block_call(trial, name, word, line).into(),
     }
 }
 
+/// The lowest handle of an owner that no block has.
+fn lowest(blocks: &Blocks, owner: Owner) -> Answer {
+    match blocks.lowest(owner) {
+        Some(h) => Answer::Number(u32::from(h)),
+        None => Answer::Said("none"),
+    }
+}
+
 /// Takes back a lock of a block that has one.
-fn unlock(blocks: &mut Blocks, name: Name) -> Result<Answer, Obstacle> {
+fn unlock(blocks: &mut Blocks, name: Name) -> Result<Answer, &'static str> {
     if blocks.locks(name) == 0 {
-        return Err(Obstacle::NotLocked);
+        return Err("not locked");
     }
     blocks.unlock(name);
     Ok(Answer::Done)
 }
 
 /// Makes a block under a name that is free.
-fn make(blocks: &mut Blocks, name: Name, size: u32) -> Result<Answer, Obstacle> {
+fn make(blocks: &mut Blocks, name: Name, size: u32) -> Result<Answer, &'static str> {
     if name.h < 1 || name.h > Name::HANDLES {
-        return Err(Obstacle::NoHandle);
+        return Err("no handle");
     }
     if blocks.has(name) {
-        return Err(Obstacle::InUse);
+        return Err("in use");
     }
     if size < 64 || size % 16 != 0 {
-        return Err(Obstacle::NoSize);
+        return Err("no size of a block");
     }
     Ok(blocks.make(name, size).into())
 }
 
 /// Makes a block under the lowest handle of an owner, and tells the handle.
-fn make_lowest(blocks: &mut Blocks, owner: Owner, size: u32) -> Result<Answer, Obstacle> {
+fn make_lowest(blocks: &mut Blocks, owner: Owner, size: u32) -> Result<Answer, &'static str> {
     let Some(h) = blocks.lowest(owner) else {
-        return Ok(Answer::Nothing);
+        return Ok(Answer::Said("none"));
     };
     match make(blocks, Name { owner, h }, size)? {
         Answer::Done => Ok(Answer::Number(u32::from(h))),
@@ -87,7 +108,7 @@ fn block_call(
     name: Name,
     word: &str,
     line: &Line<'_>,
-) -> Result<Answer, Obstacle>
+) -> Result<Answer, &'static str>
     requires { IsThere trial.old.blocks (slot_of name) }
 {
     let blocks = &mut trial.blocks;
@@ -96,9 +117,9 @@ fn block_call(
         "place" => return Ok(Answer::Number(blocks.place(name))),
         "size" => return Ok(Answer::Number(blocks.size(name))),
         "filler" => return Ok(filler(blocks.bytes(name))),
-        "at_mark" => return Ok(Answer::Truth(blocks.place(name) == trial.mark)),
+        "at_mark" => return Ok((blocks.place(name) == trial.mark).into()),
         "mark" => trial.mark = blocks.place(name),
-        "fill" => blocks.bytes_mut(name).fill(byte_at(line, 1)),
+        "fill" => blocks.bytes_mut(name).fill(line.byte_at(1)),
         "stamp" => blocks.bytes_mut(name).fill((name.h % 251) as u8),
         _ => return offset_call(blocks, name, word, line),
     }
@@ -106,14 +127,14 @@ fn block_call(
 }
 
 /// Grows a block that is there.
-fn grow(blocks: &mut Blocks, name: Name, size: u32) -> Result<Answer, Obstacle>
+fn grow(blocks: &mut Blocks, name: Name, size: u32) -> Result<Answer, &'static str>
     requires { IsThere blocks.old (slot_of name) }
 {
     if size % 16 != 0 {
-        return Err(Obstacle::NoSize);
+        return Err("no size of a block");
     }
     if blocks.size(name) > size {
-        return Err(Obstacle::Larger);
+        return Err("the block is larger");
     }
     Ok(blocks.grow(name, size).into())
 }
@@ -124,7 +145,7 @@ fn filler(bytes: &[u8]) -> Answer {
         Some((first, others)) if others.iter().all(|other| *other == *first) => Answer::Number(
             u32::from(*first),
         ),
-        _ => Answer::Mixed,
+        _ => Answer::Said("mixed"),
     }
 }
 
@@ -134,7 +155,7 @@ fn offset_call(
     name: Name,
     word: &str,
     line: &Line<'_>,
-) -> Result<Answer, Obstacle>
+) -> Result<Answer, &'static str>
     requires { IsThere blocks.old (slot_of name) }
 {
     match word {
@@ -146,7 +167,7 @@ fn offset_call(
 }
 
 /// Reads a byte or a word.
-fn read(blocks: &Blocks, name: Name, word: &str, at: u32) -> Result<Answer, Obstacle>
+fn read(blocks: &Blocks, name: Name, word: &str, at: u32) -> Result<Answer, &'static str>
     requires { IsThere blocks.now (slot_of name) }
 {
     let number = match word {
@@ -157,14 +178,19 @@ fn read(blocks: &Blocks, name: Name, word: &str, at: u32) -> Result<Answer, Obst
 }
 
 /// Writes a byte or a word.
-fn write(blocks: &mut Blocks, name: Name, word: &str, line: &Line<'_>) -> Result<Answer, Obstacle>
+fn write(
+    blocks: &mut Blocks,
+    name: Name,
+    word: &str,
+    line: &Line<'_>,
+) -> Result<Answer, &'static str>
     requires { IsThere blocks.old (slot_of name) }
 {
     let at = line.numbers[1];
     match word {
         "write8" => {
             let at = offset(blocks, name, at, 1)?;
-            blocks.write8(at, byte_at(line, 2));
+            blocks.write8(at, line.byte_at(2));
         }
         _ => {
             let at = offset(blocks, name, at, 2)?;
@@ -175,7 +201,7 @@ fn write(blocks: &mut Blocks, name: Name, word: &str, line: &Line<'_>) -> Result
 }
 
 /// Copies bytes from one offset to another.
-fn copy(blocks: &mut Blocks, name: Name, line: &Line<'_>) -> Result<Answer, Obstacle>
+fn copy(blocks: &mut Blocks, name: Name, line: &Line<'_>) -> Result<Answer, &'static str>
     requires { IsThere blocks.old (slot_of name) }
 {
     let [_, from, to, n, ..] = line.numbers;
@@ -186,29 +212,14 @@ fn copy(blocks: &mut Blocks, name: Name, line: &Line<'_>) -> Result<Answer, Obst
 }
 
 /// The offset of the region that lies so far behind the place of a block, and has `n` bytes from there on.
-fn offset(blocks: &Blocks, name: Name, at: u32, n: u32) -> Result<u32, Obstacle>
+fn offset(blocks: &Blocks, name: Name, at: u32, n: u32) -> Result<u32, &'static str>
     requires { IsThere blocks.now (slot_of name) }
     ensures { IfOk result (λ offset. offset + n ≤ region_len blocks.now) }
 {
     let len = blocks.region().len() as u64;
-    let offset = blocks
-        .place(name)
-        .checked_add(at)
-        .ok_or(Obstacle::PastTheEnd)?;
+    let offset = blocks.place(name).checked_add(at).ok_or(PAST_THE_END)?;
     if u64::from(offset) + u64::from(n) > len {
-        return Err(Obstacle::PastTheEnd);
+        return Err(PAST_THE_END);
     }
     Ok(offset)
-}
-
-/// The bytes of a line `bytes H`.
-pub(crate) fn bytes<'a>(blocks: &'a Blocks, line: &Line<'_>) -> Result<&'a [u8], Obstacle> {
-    let (owner, _) = owner_of(line);
-    let h = line.word_at(0);
-    let name = Name { owner, h };
-    if blocks.has(name) {
-        Ok(blocks.bytes(name))
-    } else {
-        Err(Obstacle::NotThere)
-    }
 }

@@ -2,10 +2,11 @@
 
 ghost use Rattle.std.specs.Prelude.{◌+◌, ◌≤◌, IsTrue, length};
 
-use crate::answer::{Answer, Obstacle};
-use crate::byte_at;
+use crate::Answer;
+use crate::block_calls::PAST_THE_END;
 use lmem_raw::Region;
-use trial_lines::Line;
+use std::alloc::{AllocError, Global};
+use trial_lines::{Line, Runs, told};
 
 /// Whether the `n` bytes from an offset on lie in the region.
 fn has_range(region: &Region, at: u32, n: u32) -> bool
@@ -16,8 +17,22 @@ fn has_range(region: &Region, at: u32, n: u32) -> bool
 }
 
 /// Makes the call of a line.
-pub(crate) fn answer(region: &mut Region, line: &Line<'_>) -> Answer {
+pub(crate) fn answer(
+    alloc: Global,
+    region: &mut Region,
+    line: &Line<'_>,
+) -> Result<Answer, AllocError> {
+    let [at, n, ..] = line.numbers;
+    if line.word == "slice" && has_range(region, at, n) {
+        return told(alloc, Runs(region.slice(at, n)));
+    }
+    Ok(other_call(region, line))
+}
+
+/// Makes the call of a line that does not read many bytes, or that asks for bytes past the end.
+fn other_call(region: &mut Region, line: &Line<'_>) -> Answer {
     match line.word {
+        "slice" => Answer::NotAsked(PAST_THE_END),
         "len" => Answer::Number(region.len()),
         "get8" | "get16" => read(region, line).into(),
         "put8" | "put16" => write(region, line).into(),
@@ -27,47 +42,37 @@ pub(crate) fn answer(region: &mut Region, line: &Line<'_>) -> Answer {
 }
 
 /// Reads a byte or a word.
-fn read(region: &Region, line: &Line<'_>) -> Result<Answer, Obstacle> {
+fn read(region: &Region, line: &Line<'_>) -> Result<Answer, &'static str> {
     let at = line.numbers[0];
     match line.word {
         "get8" if has_range(region, at, 1) => Ok(Answer::Number(u32::from(region.get8(at)))),
         "get16" if has_range(region, at, 2) => Ok(Answer::Number(u32::from(region.get16(at)))),
-        _ => Err(Obstacle::PastTheEnd),
+        _ => Err(PAST_THE_END),
     }
 }
 
 /// Writes a byte or a word.
-fn write(region: &mut Region, line: &Line<'_>) -> Result<Answer, Obstacle> {
+fn write(region: &mut Region, line: &Line<'_>) -> Result<Answer, &'static str> {
     let at = line.numbers[0];
     match line.word {
-        "put8" if has_range(region, at, 1) => region.put8(at, byte_at(line, 1)),
+        "put8" if has_range(region, at, 1) => region.put8(at, line.byte_at(1)),
         "put16" if has_range(region, at, 2) => region.put16(at, line.word_at(1)),
-        _ => return Err(Obstacle::PastTheEnd),
+        _ => return Err(PAST_THE_END),
     }
     Ok(Answer::Done)
 }
 
 /// Writes many bytes.
-fn write_range(region: &mut Region, line: &Line<'_>) -> Result<Answer, Obstacle> {
+fn write_range(region: &mut Region, line: &Line<'_>) -> Result<Answer, &'static str> {
     let [at, second, third, ..] = line.numbers;
     match line.word {
-        "fill" if has_range(region, at, second) => region.fill(at, second, byte_at(line, 2)),
+        "fill" if has_range(region, at, second) => region.fill(at, second, line.byte_at(2)),
         "fill_slice" if has_range(region, at, second) => region
             .slice_mut(at, second)
-            .fill(byte_at(line, 2)),
+            .fill(line.byte_at(2)),
         "move" if has_range(region, at, third) && has_range(region, second, third) =>
             region.move_bytes(at, second, third),
-        _ => return Err(Obstacle::PastTheEnd),
+        _ => return Err(PAST_THE_END),
     }
     Ok(Answer::Done)
-}
-
-/// The bytes of a line `slice AT N`.
-pub(crate) fn slice<'a>(region: &'a Region, line: &Line<'_>) -> Result<&'a [u8], Obstacle> {
-    let [at, n, ..] = line.numbers;
-    if has_range(region, at, n) {
-        Ok(region.slice(at, n))
-    } else {
-        Err(Obstacle::PastTheEnd)
-    }
 }

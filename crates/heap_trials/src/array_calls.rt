@@ -2,37 +2,37 @@
 
 ghost use Rattle.geos_model.specs.Heap.{IsHeap};
 
-use crate::answer::{done, said, told};
+use crate::Answer;
 use crate::heap_calls::count_up;
 use chunk_array::{
     ElementError, append, clear, count, create, element, insert, remove, resize_element,
 };
 use lmem_heap::place;
 use std::alloc::{AllocError, Global};
-use trial_lines::Line;
+use trial_lines::{Line, shown_done, shown_result};
 
 /// What a call on an array is answered.
 pub(crate) fn answer(
     global: Global,
     block: &mut [u8],
     line: &Line<'_>,
-) -> Result<String, AllocError>
+) -> Result<Answer, AllocError>
     requires { IsHeap block.old }
 {
     let c = line.word_at(0);
     let i = line.word_at(1);
     let n = line.word_at(2);
     match line.word {
-        "create" => told(global, create(block, line.word_at(0))),
-        "count" => told(global, count(block, c)),
-        "element" => told(global, part(block, c, i)),
-        "append" => done(global, append(block, c, line.word_at(1))),
-        "insert_element" => done(global, insert(block, c, i, n)),
-        "resize_element" => done(global, resize_element(block, c, i, n)),
-        "remove" => done(global, remove(block, c, i)),
-        "clear" => done(global, clear(block, c)),
-        "count_into_element" => done(global, count_into_element(block, c, i, n)),
-        _ => said(global, "not a call"),
+        "create" => shown_result(global, create(block, c)),
+        "count" => shown_result(global, count(block, c)),
+        "element" => shown_result(global, part(block, c, i)),
+        "append" => shown_done(global, append(block, c, i)),
+        "insert_element" => shown_done(global, insert(block, c, i, n)),
+        "resize_element" => shown_done(global, resize_element(block, c, i, n)),
+        "remove" => shown_done(global, remove(block, c, i)),
+        "clear" => shown_done(global, clear(block, c)),
+        "count_into_element" => shown_done(global, count_into_element(block, c, i, n)),
+        _ => Ok(Answer::NotACall),
     }
 }
 

@@ -3,11 +3,10 @@
 ghost use Rattle.std.specs.Prelude.{◌≤◌, ◌↔◌, IsTrue, length, take};
 ghost use Rattle.geos_model.specs.Heap.{IsBlockSize, IsHeap};
 
-use crate::answer::{said, shown};
-use crate::heap_calls;
+use crate::{Answer, heap_calls};
 use lmem_heap::{check, enlarged, init};
 use std::alloc::{AllocError, Global};
-use trial_lines::Line;
+use trial_lines::{Line, shown};
 
 /// The block that the lines speak of, and a copy of it.
 #[derive(Drop)]
@@ -25,42 +24,22 @@ impl Trial {
         }
     }
 
-    /// What a line is answered.
-    pub(crate) fn answer(&mut self, alloc: Global, line: &Line<'_>) -> Result<String, AllocError> {
-        match line.word {
-            "block" => {
-                self.make(line)?;
-                said(alloc, "ok")
-            }
-            "put" => said(alloc, self.put(line)),
-            "words" => shown(alloc, self.words(alloc, line)?),
-            "copy" => {
-                self.take_copy()?;
-                said(alloc, "ok")
-            }
-            "is_copy" => shown(alloc, self.block.as_slice() == self.copy.as_slice()),
-            "init" => said(alloc, init_block(&mut self.block[..], line.word_at(0))),
-            "check" => shown(alloc, check(&self.block[..])),
-            "enlarged" => said(alloc, self.enlarge(line)?),
-            _ => heap_calls::answer(alloc, &mut self.block[..], line),
-        }
-    }
-
     /// Gives the block this size, and all its bytes one value.
-    fn make(&mut self, line: &Line<'_>) -> Result<(), AllocError> {
+    fn make(&mut self, line: &Line<'_>) -> Result<Answer, AllocError> {
         self.block.clear();
         self.block
-            .resize(line.word_at(0) as usize, byte_at(line, 1))
+            .resize(line.word_at(0) as usize, line.byte_at(1))?;
+        Ok(Answer::Done)
     }
 
     /// Writes a byte of the block.
-    fn put(&mut self, line: &Line<'_>) -> &'static str {
+    fn put(&mut self, line: &Line<'_>) -> Answer {
         match self.block.get_mut(line.word_at(0) as usize) {
             Some(place) => {
-                *place = byte_at(line, 1);
-                "ok"
+                *place = line.byte_at(1);
+                Answer::Done
             }
-            None => "not asked: the block has no such byte",
+            None => Answer::NotAsked("the block has no such byte"),
         }
     }
 
@@ -77,26 +56,40 @@ impl Trial {
     }
 
     /// Takes a copy of the block as it is.
-    fn take_copy(&mut self) -> Result<(), AllocError> {
+    fn take_copy(&mut self) -> Result<Answer, AllocError> {
         self.copy.clear();
-        self.copy.extend_from_slice(&self.block[..])
+        self.copy.extend_from_slice(&self.block[..])?;
+        Ok(Answer::Done)
     }
 
     /// Gives the block more bytes, and makes the heap in its first ones a heap of all.
-    fn enlarge(&mut self, line: &Line<'_>) -> Result<&'static str, AllocError> {
+    fn enlarge(&mut self, line: &Line<'_>) -> Result<Answer, AllocError> {
         let size = line.word_at(0);
         let old_size = self.block.len();
         if !is_block_size(size as usize) || old_size > size as usize {
-            return Ok("not asked: no larger size of a block");
+            return Ok(Answer::NotAsked("no larger size of a block"));
         }
-        self.block.resize(size as usize, byte_at(line, 1))?;
+        self.block.resize(size as usize, line.byte_at(1))?;
         Ok(enlarge_heap(&mut self.block[..], old_size as u16))
     }
 }
 
-/// A byte among a line's numbers.
-fn byte_at(line: &Line<'_>, place: usize) -> u8 {
-    (line.word_at(place) % 256) as u8
+impl trial_lines::Trial for Trial {
+    type Refusal = String;
+
+    fn answer(&mut self, alloc: Global, line: &Line<'_>) -> Result<Answer, AllocError> {
+        match line.word {
+            "block" => self.make(line),
+            "put" => Ok(self.put(line)),
+            "words" => shown(alloc, self.words(alloc, line)?),
+            "copy" => self.take_copy(),
+            "is_copy" => Ok((self.block.as_slice() == self.copy.as_slice()).into()),
+            "init" => Ok(init_block(&mut self.block[..], line.word_at(0))),
+            "check" => Ok(check(&self.block[..]).into()),
+            "enlarged" => self.enlarge(line),
+            _ => heap_calls::answer(alloc, &mut self.block[..], line),
+        }
+    }
 }
 
 /// Whether a block may have this size.
@@ -107,12 +100,12 @@ fn is_block_size(size: usize) -> bool
 }
 
 /// Makes a heap without a chunk.
-fn init_block(block: &mut [u8], handle: u16) -> &'static str {
+fn init_block(block: &mut [u8], handle: u16) -> Answer {
     if !is_block_size(block.len()) {
-        return "not asked: no size of a block";
+        return Answer::NotAsked("no size of a block");
     }
     init(block, handle);
-    "ok"
+    Answer::Done
 }
 
 /// Whether the first bytes of a block are a heap.
@@ -124,13 +117,13 @@ fn begins_with_a_heap(block: &[u8], size: usize) -> bool
 }
 
 /// Makes the heap in a block's first bytes one of the whole block.
-fn enlarge_heap(block: &mut [u8], old_size: u16) -> &'static str
+fn enlarge_heap(block: &mut [u8], old_size: u16) -> Answer
     requires within { old_size ≤ length block.old }
     requires size { IsBlockSize (length block.old) }
 {
     if !begins_with_a_heap(block, old_size as usize) {
-        return "no heap";
+        return Answer::Said("no heap");
     }
     enlarged(block, old_size);
-    "ok"
+    Answer::Done
 }

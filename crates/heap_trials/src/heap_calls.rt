@@ -2,52 +2,51 @@
 
 ghost use Rattle.geos_model.specs.Heap.{IsHeap};
 
-use crate::answer::{done, said, shown, told};
-use crate::array_calls;
+use crate::{Answer, array_calls};
 use lmem_heap::{
     BadChunk, alloc, check, contract, delete, free, insert, next, place, realloc, size, total_free,
 };
 use std::alloc::{AllocError, Global};
-use trial_lines::Line;
+use trial_lines::{Line, shown, shown_done, shown_result};
 
 /// What a call on the heap is answered.
 pub(crate) fn answer(
     global: Global,
     block: &mut [u8],
     line: &Line<'_>,
-) -> Result<String, AllocError> {
+) -> Result<Answer, AllocError> {
     if !check(block) {
-        return said(global, "no heap");
+        return Ok(Answer::Said("no heap"));
     }
     let c = line.word_at(0);
     match line.word {
-        "size" => told(global, size(block, c)),
-        "place" => told(global, place(block, c)),
+        "size" => shown_result(global, size(block, c)),
+        "place" => shown_result(global, place(block, c)),
         "next" => shown(global, next(block, c)),
         "total_free" => shown(global, total_free(block)),
-        "bytes" => told(global, chunk(block, c)),
+        "bytes" => shown_result(global, chunk(block, c)),
         _ => change(global, block, line),
     }
 }
 
 /// What a call that changes the heap's chunks is answered.
-fn change(global: Global, block: &mut [u8], line: &Line<'_>) -> Result<String, AllocError>
+fn change(global: Global, block: &mut [u8], line: &Line<'_>) -> Result<Answer, AllocError>
     requires { IsHeap block.old }
 {
     let c = line.word_at(0);
     let at = line.word_at(1);
     let n = line.word_at(2);
     match line.word {
-        "alloc" => told(global, alloc(block, line.word_at(0))),
-        "free" => done(global, free(block, c)),
-        "realloc" => done(global, realloc(block, c, line.word_at(1))),
-        "insert" => done(global, insert(block, c, at, n)),
-        "delete" => done(global, delete(block, c, at, n)),
+        "alloc" => shown_result(global, alloc(block, c)),
+        "free" => shown_done(global, free(block, c)),
+        "realloc" => shown_done(global, realloc(block, c, at)),
+        "insert" => shown_done(global, insert(block, c, at, n)),
+        "delete" => shown_done(global, delete(block, c, at, n)),
         "contract" => {
             contract(block);
-            said(global, "ok")
+            Ok(Answer::Done)
         }
-        "count_into" => done(global, count_into(block, c, line.word_at(1))),
+        "count_into" => shown_done(global, count_into(block, c, at)),
         _ => array_calls::answer(global, block, line),
     }
 }

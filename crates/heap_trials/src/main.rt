@@ -15,34 +15,18 @@
 //!     count_into_element C I FIRST    writes them into an element
 #![tactic(auto)]
 
-mod answer;
 mod array_calls;
 mod block_calls;
 mod heap_calls;
 
 use block_calls::Trial;
 use std::io;
-use trial_lines::Line;
+use trial_lines::run;
 
-/// Whether a line is blank or only a comment.
-fn has_no_call(line: &str) -> bool {
-    let text = line.trim_start();
-    text.is_empty() || text.starts_with(';')
-}
+/// What a call answers.
+type Answer = trial_lines::Answer<String>;
 
 fn main(rt: HostRuntime) -> io::Result<()> {
     let mut trial = Trial::new(rt.alloc());
-    for line in rt.lines(rt.alloc()) {
-        let line = line?;
-        let text = line.as_str();
-        if has_no_call(text) {
-            println!(rt; "{text}")?;
-        } else if let Some(call) = Line::read(text) {
-            let answer = trial.answer(rt.alloc(), &call)?;
-            println!(rt; "{text} -> {answer}")?;
-        } else {
-            println!(rt; "{text} -> not a call")?;
-        }
-    }
-    Ok(())
+    run(&rt, rt.alloc(), &mut trial)
 }

@@ -2,42 +2,21 @@
 
 ghost use Rattle.geos_calls.specs.View.{IsLocked};
 
-use crate::answer::{Answer, Obstacle, Series};
-use crate::spans::span_call;
-use geos_calls::Kernel;
+use crate::Answer;
+use crate::lists::block_call_of;
+use crate::spans::{is_span_call, length, span_call};
+use geos_calls::{ArrayCall, BlockCall, Kernel};
 use geos_model::{Name, Owner};
 use std::alloc::{AllocError, Global};
-use trial_lines::Line;
+use trial_lines::{Line, Series};
 
-/// The calls that want a locked block, by what they are about.
-#[derive(Clone, Copy)]
-enum Group {
-    Block,
-    Chunk,
-    Array,
-    Span,
-}
-
-impl Group {
-    /// The group that a word is of.
-    fn of(word: &str) -> Option<Group> {
-        match word {
-            "munlock" | "lcontract" => Some(Group::Block),
-            "lalloc" | "lfree" | "lrealloc" | "lins" | "ldel" | "lsize" => Some(Group::Chunk),
-            "canew" | "caadd" | "cains" | "cadel" => Some(Group::Array),
-            "cacount" | "cazero" | "caresize" => Some(Group::Array),
-            "deref" | "load8" | "load16" | "store8" | "store16" | "copy" => Some(Group::Span),
-            "caelt" | "caelt_load8" | "caelt_load16" => Some(Group::Span),
-            "caelt_store8" | "caelt_store16" => Some(Group::Span),
-            _ => None,
-        }
-    }
-}
+/// What keeps a call from being made on a block that is not locked.
+pub(crate) const NOT_LOCKED: &str = "not locked";
 
 /// The name of the block of a line, and the word of its call: `vm_` before the word is for a block of a VM file.
 pub(crate) fn block_of<'a>(line: &Line<'a>) -> (Name, &'a str) {
     let h = line.word_at(0);
-    match line.word.strip_prefix("vm_") {
+    match line.word_behind("vm_") {
         Some(word) => {
             let owner = Owner::Vm;
             (Name { owner, h }, word)
@@ -62,81 +41,54 @@ pub(crate) fn answer(kernel: &mut Kernel, line: &Line<'_>) -> Answer {
 /// Makes a call on a named block.
 fn named_call(kernel: &mut Kernel, name: Name, word: &str, line: &Line<'_>) -> Answer {
     if word == "locks" {
-        return Answer::Number(kernel.locks(name));
+        return Answer::Number(u32::from(kernel.locks(name)));
     }
-    let Some(group) = Group::of(word) else {
+    let call = block_call_of(word, line);
+    if call.is_none() && !is_span_call(word) {
         return Answer::NotACall;
-    };
-    if kernel.locks(name) == 0 {
-        return Answer::NotAsked(Obstacle::NotLocked);
     }
-    match group {
-        Group::Block => block_call(kernel, name, word),
-        Group::Chunk => chunk_call(kernel, name, word, line),
-        Group::Array => array_call(kernel, name, word, line),
-        Group::Span => span_call(kernel, name, word, line),
+    if kernel.locks(name) == 0 {
+        return Answer::NotAsked(NOT_LOCKED);
+    }
+    match call {
+        Some(call) => block_call(kernel, name, call),
+        None => span_call(kernel, name, word, line),
     }
 }
 
-/// Makes a call on a locked block as a whole.
-fn block_call(kernel: &mut Kernel, name: Name, word: &str) -> Answer
+/// Makes a call on a locked block.
+fn block_call(kernel: &mut Kernel, name: Name, call: BlockCall) -> Answer
     requires { IsLocked kernel.old name }
 {
-    match word {
-        "munlock" => kernel.munlock(name),
-        "lcontract" => kernel.lcontract(name),
-        _ => return Answer::NotACall,
+    match call {
+        BlockCall::Unlock => kernel.munlock(name),
+        BlockCall::Lcontract => kernel.lcontract(name),
+        BlockCall::Lalloc { n } => return kernel.lalloc(name, n).into(),
+        BlockCall::Lfree { c } => return kernel.lfree(name, c).into(),
+        BlockCall::Lrealloc { c, n } => return kernel.lrealloc(name, c, n).into(),
+        BlockCall::Lins { c, at, n } => return kernel.lins(name, c, at, n).into(),
+        BlockCall::Ldel { c, at, n } => return kernel.ldel(name, c, at, n).into(),
+        BlockCall::Lsize { c } => return kernel.lsize(name, c).into(),
+        BlockCall::Deref { c, n, place: _ } => return length(kernel.deref(name, c, n)),
+        BlockCall::Array(call) => return array_call(kernel, name, call),
     }
     Answer::Done
 }
 
-/// Makes a call on the chunks of a locked block.
-fn chunk_call(kernel: &mut Kernel, name: Name, word: &str, line: &Line<'_>) -> Answer
+/// Makes a call on an array of a locked block.
+fn array_call(kernel: &mut Kernel, name: Name, call: ArrayCall) -> Answer
     requires { IsLocked kernel.old name }
 {
-    let c = line.word_at(1);
-    let [second, third] = [line.word_at(2), line.word_at(3)];
-    match word {
-        "lalloc" => kernel.lalloc(name, c).into(),
-        "lfree" => kernel.lfree(name, c).into(),
-        "lrealloc" => kernel.lrealloc(name, c, second).into(),
-        "lins" => kernel.lins(name, c, second, third).into(),
-        "ldel" => kernel.ldel(name, c, second, third).into(),
-        "lsize" => kernel.lsize(name, c).into(),
-        _ => Answer::NotACall,
+    match call {
+        ArrayCall::Canew { element_size } => kernel.canew(name, element_size).into(),
+        ArrayCall::Caadd { c, n } => kernel.caadd(name, c, n).into(),
+        ArrayCall::Cains { c, i, n } => kernel.cains(name, c, i, n).into(),
+        ArrayCall::Cadel { c, i } => kernel.cadel(name, c, i).into(),
+        ArrayCall::Cacount { c } => kernel.cacount(name, c).into(),
+        ArrayCall::Caelt { c, i, n, place: _ } => length(kernel.caelt(name, c, i, n)),
+        ArrayCall::Cazero { c } => kernel.cazero(name, c).into(),
+        ArrayCall::Caresize { c, i, n } => kernel.caresize(name, c, i, n).into(),
     }
-}
-
-/// Makes a call on the arrays of a locked block.
-fn array_call(kernel: &mut Kernel, name: Name, word: &str, line: &Line<'_>) -> Answer
-    requires { IsLocked kernel.old name }
-{
-    let c = line.word_at(1);
-    let [second, third] = [line.word_at(2), line.word_at(3)];
-    match word {
-        "canew" => kernel.canew(name, c).into(),
-        "caadd" => kernel.caadd(name, c, second).into(),
-        "cains" => kernel.cains(name, c, second, third).into(),
-        "cadel" => kernel.cadel(name, c, second).into(),
-        "cacount" => kernel.cacount(name, c).into(),
-        "cazero" => kernel.cazero(name, c).into(),
-        "caresize" => kernel.caresize(name, c, second, third).into(),
-        _ => Answer::NotACall,
-    }
-}
-
-/// Makes the call of a line so often, and tells how the answers run.
-pub(crate) fn repeat(
-    alloc: Global,
-    kernel: &mut Kernel,
-    times: u32,
-    line: &Line<'_>,
-) -> Result<Series, AllocError> {
-    let mut answers = Series::new(alloc);
-    for _ in 0..times {
-        answers.add(answer(kernel, line))?;
-    }
-    Ok(answers)
 }
 
 /// Makes blocks, which should get the handles `from` to `to`, and a chunk of `n` bytes in each block of these handles. Tells how the
@@ -145,7 +97,7 @@ pub(crate) fn fill(
     alloc: Global,
     kernel: &mut Kernel,
     line: &Line<'_>,
-) -> Result<(Series, Series), AllocError> {
+) -> Result<Answer, AllocError> {
     let [from, to, n] = [line.word_at(0), line.word_at(1), line.word_at(2)];
     let mut handles = Series::new(alloc);
     let mut chunks = Series::new(alloc);
@@ -153,13 +105,14 @@ pub(crate) fn fill(
         handles.add(kernel.mnew().into())?;
         chunks.add(alloc_in(kernel, Name::mem(h), n))?;
     }
-    Ok((handles, chunks))
+    let text = format!(in alloc; "handles {handles}; chunks {chunks}")?;
+    Ok(Answer::Text(text))
 }
 
 /// Makes a chunk in a block, where it is locked.
 fn alloc_in(kernel: &mut Kernel, name: Name, n: u16) -> Answer {
     if kernel.locks(name) == 0 {
-        return Answer::NotAsked(Obstacle::NotLocked);
+        return Answer::NotAsked(NOT_LOCKED);
     }
     kernel.lalloc(name, n).into()
 }

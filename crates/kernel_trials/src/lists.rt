@@ -1,11 +1,12 @@
 //! Lists of calls that the kernel answers all at once. Accesses go by the places of the list.
 
-use crate::answer::{Answer, Obstacle, Series, print_other};
-use crate::calls::block_of;
+use crate::Answer;
+use crate::calls::{NOT_LOCKED, block_of};
 use geos_calls::{ArrayCall, BlockCall, Call, Kernel, Reply};
+use geos_model::Refusal;
 use std::alloc::{AllocError, Global};
 use std::io;
-use trial_lines::Line;
+use trial_lines::{Line, Reading, Series, print_other};
 
 /// The lines of a list, and how often it is to be answered.
 #[derive(Drop)]
@@ -34,18 +35,21 @@ impl List {
         let answers = self.answers(rt.alloc(), kernel)?;
         let mut answers = answers.iter();
         for line in &self.lines {
-            match call_of(line.as_str()) {
-                None => print_other(rt, line.as_str())?,
-                Some(_) => if let Some(series) = answers.next() {
-                    println!(rt; "{line} -> {series}")?;
-                }
+            if call_of(line.as_str()).is_none() {
+                print_other(rt, line.as_str())?;
+            } else if let Some(series) = answers.next() {
+                println!(rt; "{line} -> {series}")?;
             }
         }
         Ok(())
     }
 
     /// The replies to each call.
-    fn answers(&self, alloc: Global, kernel: &mut Kernel) -> Result<Vec<Series>, AllocError> {
+    fn answers(
+        &self,
+        alloc: Global,
+        kernel: &mut Kernel,
+    ) -> Result<Vec<Series<Refusal>>, AllocError> {
         let calls: Vec<Call> = self
             .lines
             .iter()
@@ -70,35 +74,37 @@ impl List {
 fn answer_of(reply: Reply) -> Answer {
     match reply {
         Reply::Done => Answer::Done,
-        Reply::Number(number) => Answer::Number(number),
+        Reply::Number(number) => Answer::Number(u32::from(number)),
         Reply::Refused(refusal) => Answer::Refused(refusal),
-        Reply::NotLocked => Answer::NotAsked(Obstacle::NotLocked),
-        Reply::Stale => Answer::NotAsked(Obstacle::Stale),
-        Reply::TooShort => Answer::NotAsked(Obstacle::TooShort),
+        Reply::NotLocked => Answer::NotAsked(NOT_LOCKED),
+        Reply::Stale => Answer::NotAsked("stale"),
+        Reply::TooShort => Answer::NotAsked("too short"),
     }
 }
 
 /// The call of a line.
 fn call_of(text: &str) -> Option<Call> {
-    let line = Line::read(text)?;
+    let Reading::Call(line) = Reading::of(text) else {
+        return None;
+    };
     let h = line.word_at(0);
     match line.word {
         "mnew" => Some(Call::Mnew),
         "mlock" => Some(Call::Mlock(h)),
         "mfree" => Some(Call::Mfree(h)),
-        _ => match access_of(&line) {
-            Some(call) => Some(call),
-            None => {
-                let (name, word) = block_of(&line);
-                Some(Call::Within(name, block_call_of(word, &line)?))
-            }
-        }
+        _ => access_of(&line).or_else(|| within_of(&line)),
     }
+}
+
+/// The call of a line on a named block.
+fn within_of(line: &Line<'_>) -> Option<Call> {
+    let (name, word) = block_of(line);
+    Some(Call::Within(name, block_call_of(word, line)?))
 }
 
 /// The access of a line, by the place that its first number says.
 fn access_of(line: &Line<'_>) -> Option<Call> {
-    let [to, from] = [byte_at(line, 0), byte_at(line, 0)];
+    let [to, from] = [line.byte_at(0), line.byte_at(0)];
     let at = line.word_at(1);
     match line.word {
         "load8" => Some(Call::Load8 { from, at }),
@@ -106,7 +112,7 @@ fn access_of(line: &Line<'_>) -> Option<Call> {
         "store8" => Some(Call::Store8 {
             to,
             at,
-            byte: byte_at(line, 2),
+            byte: line.byte_at(2),
         }),
         "store16" => Some(Call::Store16 {
             to,
@@ -115,7 +121,7 @@ fn access_of(line: &Line<'_>) -> Option<Call> {
         }),
         "copy" => Some(Call::Copy {
             to,
-            from: byte_at(line, 1),
+            from: line.byte_at(1),
             n: line.word_at(2),
         }),
         _ => None,
@@ -123,7 +129,7 @@ fn access_of(line: &Line<'_>) -> Option<Call> {
 }
 
 /// The call of a line on a locked block.
-fn block_call_of(word: &str, line: &Line<'_>) -> Option<BlockCall> {
+pub(crate) fn block_call_of(word: &str, line: &Line<'_>) -> Option<BlockCall> {
     let c = line.word_at(1);
     let n = line.word_at(2);
     match word {
@@ -146,7 +152,7 @@ fn block_call_of(word: &str, line: &Line<'_>) -> Option<BlockCall> {
         "deref" => Some(BlockCall::Deref {
             c,
             n,
-            place: byte_at(line, 3),
+            place: line.byte_at(3),
         }),
         _ => Some(BlockCall::Array(array_call_of(word, line)?)),
     }
@@ -167,15 +173,10 @@ fn array_call_of(word: &str, line: &Line<'_>) -> Option<ArrayCall> {
             c,
             i,
             n,
-            place: byte_at(line, 4),
+            place: line.byte_at(4),
         }),
         "cazero" => Some(ArrayCall::Cazero { c }),
         "caresize" => Some(ArrayCall::Caresize { c, i, n }),
         _ => None,
     }
-}
-
-/// The number at a place of a line, or 255 where it is greater.
-fn byte_at(line: &Line<'_>, place: usize) -> u8 {
-    line.word_at(place).min(255) as u8
 }

@@ -10,17 +10,19 @@
 //! each of these handles. The calls between `list` and `end` are answered all at once; after `list N` so often.
 #![tactic(auto)]
 
-mod answer;
 mod calls;
 mod lists;
 mod spans;
 
-use crate::answer::{Answer, Obstacle, print_other};
 use crate::lists::List;
 use geos_calls::Kernel;
+use geos_model::Refusal;
 use std::alloc::{AllocError, Global};
 use std::io;
-use trial_lines::Line;
+use trial_lines::{Line, Reading, carry_out};
+
+/// What a call answers.
+type Answer = trial_lines::Answer<Refusal>;
 
 /// The length of the smallest region that a kernel has.
 const LEAST: u32 = 65_536;
@@ -36,10 +38,10 @@ struct Trial {
 }
 
 impl Trial {
-    /// Takes a line: it belongs to the list, ends it, or is carried out.
+    /// Takes a line: it belongs to the list, ends it, begins one, or is carried out.
     fn take(&mut self, rt: &HostRuntime, text: String) -> io::Result<()> {
         match self.list.take() {
-            None => self.carry_out(rt, text.as_str()),
+            None => self.take_outside(rt, text.as_str()),
             Some(list) if text.trim() == "end" => {
                 list.answer(rt, &mut self.kernel)?;
                 println!(rt; "{text}")
@@ -52,51 +54,38 @@ impl Trial {
         }
     }
 
-    /// Carries a line out that is in no list, and prints it with the answer.
-    fn carry_out(&mut self, rt: &HostRuntime, text: &str) -> io::Result<()> {
-        if let Some((times, line)) = repeated(text) {
-            let answers = calls::repeat(rt.alloc(), &mut self.kernel, times, &line)?;
-            return println!(rt; "{text} -> {answers}");
-        }
-        let Some(line) = Line::read(text) else {
-            return print_other(rt, text);
-        };
-        match line.word {
-            "kernel" => {
-                let answer = self.renew(rt.alloc(), line.numbers[0])?;
-                println!(rt; "{text} -> {answer}")
-            }
-            "list" => {
+    /// Takes a line that stands in no list.
+    fn take_outside(&mut self, rt: &HostRuntime, text: &str) -> io::Result<()> {
+        match Reading::of(text) {
+            Reading::Call(line) if line.word == "list" => {
                 self.list = Some(List::new(rt.alloc(), line.numbers[0].max(1)));
                 println!(rt; "{text}")
             }
-            "fill" => {
-                let (handles, chunks) = calls::fill(rt.alloc(), &mut self.kernel, &line)?;
-                println!(rt; "{text} -> handles {handles}; chunks {chunks}")
-            }
-            "bytes" => spans::print_bytes(rt, &self.kernel, text, &line),
-            _ => {
-                let answer = calls::answer(&mut self.kernel, &line);
-                println!(rt; "{text} -> {answer}")
-            }
+            _ => carry_out(rt, rt.alloc(), self, text),
         }
     }
 
     /// Makes the kernel anew, with a region of so many bytes.
     fn renew(&mut self, alloc: Global, region: u32) -> Result<Answer, AllocError> {
         if region < LEAST || region > MOST {
-            return Ok(Answer::NotAsked(Obstacle::NoRegion));
+            return Ok(Answer::NotAsked("no region of this size"));
         }
         self.kernel = Kernel::new(alloc, region)?;
         Ok(Answer::Done)
     }
 }
 
-/// The call of a line `times N CALL`, and how often it is to be made.
-fn repeated(text: &str) -> Option<(u32, Line<'_>)> {
-    let rest = text.trim_start().strip_prefix("times ")?;
-    let (times, call) = rest.trim_start().split_once(' ')?;
-    Some((times.parse().ok()?, Line::read(call)?))
+impl trial_lines::Trial for Trial {
+    type Refusal = Refusal;
+
+    fn answer(&mut self, alloc: Global, line: &Line<'_>) -> Result<Answer, AllocError> {
+        match line.word {
+            "kernel" => self.renew(alloc, line.numbers[0]),
+            "fill" => calls::fill(alloc, &mut self.kernel, line),
+            "bytes" => spans::bytes(alloc, &self.kernel, line),
+            _ => Ok(calls::answer(&mut self.kernel, line)),
+        }
+    }
 }
 
 fn main(rt: HostRuntime) -> io::Result<()> {

@@ -4,11 +4,22 @@ ghost use Rattle.std.specs.Prelude.{IfOk};
 ghost use Rattle.geos_calls.specs.Spans.{IsStanding};
 ghost use Rattle.geos_calls.specs.View.{IsLocked};
 
-use crate::answer::{Answer, Obstacle};
+use crate::Answer;
+use crate::calls::NOT_LOCKED;
 use geos_calls::{Kernel, Span};
 use geos_model::{Name, Refusal};
-use std::io;
+use std::alloc::{AllocError, Global};
+use std::fmt::Write;
 use trial_lines::Line;
+
+/// Whether a word is of a call that begins with a span.
+pub(crate) fn is_span_call(word: &str) -> bool {
+    match word {
+        "copy" | "load8" | "load16" | "store8" | "store16" => true,
+        "caelt_load8" | "caelt_load16" | "caelt_store8" | "caelt_store16" => true,
+        _ => false,
+    }
+}
 
 /// Makes a call that begins with a span of a locked block.
 pub(crate) fn span_call(kernel: &mut Kernel, name: Name, word: &str, line: &Line<'_>) -> Answer
@@ -21,8 +32,6 @@ pub(crate) fn span_call(kernel: &mut Kernel, name: Name, word: &str, line: &Line
         line.word_at(4),
     ];
     match word {
-        "deref" => length(kernel.deref(name, c, second)),
-        "caelt" => length(kernel.caelt(name, c, second, third)),
         "copy" => copy(kernel, name, c, second, third).into(),
         _ => match word.strip_prefix("caelt_") {
             Some(word) => {
@@ -38,8 +47,11 @@ pub(crate) fn span_call(kernel: &mut Kernel, name: Name, word: &str, line: &Line
 }
 
 /// How many bytes a span has.
-fn length(given: Result<Span, Refusal>) -> Answer {
-    given.map(|span| span.len).into()
+pub(crate) fn length(given: Result<Span, Refusal>) -> Answer {
+    match given {
+        Ok(span) => Answer::Number(u32::from(span.len)),
+        Err(refusal) => Answer::Refused(refusal),
+    }
 }
 
 /// Copies the first bytes of the chunk `from` to the beginning of the chunk `to`.
@@ -69,8 +81,8 @@ fn access(
     let has_byte = at < span.len;
     let has_word = has_byte && span.len - at > 1;
     match word {
-        "load8" if has_byte => Answer::Number(u16::from(kernel.load8(span, at))),
-        "load16" if has_word => Answer::Number(kernel.load16(span, at)),
+        "load8" if has_byte => Answer::Number(u32::from(kernel.load8(span, at))),
+        "load16" if has_word => Answer::Number(u32::from(kernel.load16(span, at))),
         "store8" if has_byte => {
             kernel.store8(span, at, value.min(255) as u8);
             Answer::Done
@@ -79,28 +91,32 @@ fn access(
             kernel.store16(span, at, value);
             Answer::Done
         }
-        _ => Answer::NotAsked(Obstacle::PastTheSpan),
+        _ => Answer::NotAsked("past the span"),
     }
 }
 
-/// Prints all bytes of a chunk.
-pub(crate) fn print_bytes(
-    rt: &HostRuntime,
-    kernel: &Kernel,
-    text: &str,
-    line: &Line<'_>,
-) -> io::Result<()> {
+/// All bytes of a chunk.
+pub(crate) fn bytes(alloc: Global, kernel: &Kernel, line: &Line<'_>) -> Result<Answer, AllocError> {
     let name = Name::mem(line.word_at(0));
     if kernel.locks(name) == 0 {
-        return println!(rt; "{text} -> {}", Answer::NotAsked(Obstacle::NotLocked));
+        return Ok(Answer::NotAsked(NOT_LOCKED));
     }
-    let span = match kernel.deref(name, line.word_at(1), 0) {
-        Ok(span) => span,
-        Err(refusal) => return println!(rt; "{text} -> {refusal}"),
-    };
-    print!(rt; "{text} ->")?;
+    match kernel.deref(name, line.word_at(1), 0) {
+        Ok(span) => Ok(Answer::Text(text_of(alloc, kernel, span)?)),
+        Err(refusal) => Ok(Answer::Refused(refusal)),
+    }
+}
+
+/// The bytes of a span, with a space between each two.
+fn text_of(alloc: Global, kernel: &Kernel, span: Span) -> Result<String, AllocError>
+    requires { IsStanding kernel.now span }
+{
+    let mut text = String::new(alloc);
     for at in 0..span.len {
-        print!(rt; " {}", kernel.load8(span, at))?;
+        if at > 0 {
+            text.push(' ')?;
+        }
+        write!(text, "{}", kernel.load8(span, at))?;
     }
-    println!(rt; "")
+    Ok(text)
 }

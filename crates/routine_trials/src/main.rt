@@ -14,65 +14,29 @@ use geos_calls::Kernel;
 use geos_image::{Image, read, write};
 use geos_machine::{Machine, Outcome, admits};
 use geos_verify::{Checked, check};
+use std::alloc::{AllocError, Global};
+use std::fmt::Write;
 use std::{io, str};
-use trial_lines::Line;
+use trial_lines::{Line, Runs, before_comment, carry_out, refused};
+
+/// What a call answers.
+type Answer = trial_lines::Answer<String>;
 
 /// The size of a kernel's region in bytes.
 const REGION: u32 = 65_536;
 
-/// Equal words that were put out one behind the other.
-#[derive(Clone, Copy)]
-struct Repeated {
-    word: u16,
-    times: u32,
-}
-
-impl Repeated {
-    /// Takes the next word that was put out: prints these words where it is another one.
-    fn followed_by(self, rt: &HostRuntime, word: u16) -> io::Result<Repeated> {
-        if word == self.word {
-            let times = self.times.saturating_add(1);
-            return Ok(Repeated { word, times });
-        }
-        self.print(rt)?;
-        Ok(Repeated { word, times: 1 })
-    }
-
-    /// Prints the word, and how often it came where that is more than once.
-    fn print(self, rt: &HostRuntime) -> io::Result<()> {
-        print!(rt; " {}", self.word)?;
-        if self.times > 1 {
-            print!(rt; " {} times", self.times)?;
-        }
-        Ok(())
-    }
-}
-
-/// Prints the words that were put out, and ends the line.
-fn print_output(rt: &HostRuntime, output: &[u16]) -> io::Result<()> {
-    let Some((first, others)) = output.split_first() else {
-        return println!(rt; "no output");
-    };
-    print!(rt; "output")?;
-    let mut last = Repeated {
-        word: *first,
-        times: 1,
-    };
-    for word in others {
-        last = last.followed_by(rt, *word)?;
-    }
-    last.print(rt)?;
-    println!(rt; "")
-}
-
-/// Prints how a run ended.
-fn print_outcome(rt: &HostRuntime, outcome: &Outcome) -> io::Result<()> {
+/// How a run ended.
+fn text_of(alloc: Global, outcome: &Outcome) -> Result<String, AllocError> {
+    let steps = outcome.steps;
     let [w0, w1, w2, w3, w4, w5, w6, w7] = outcome.words;
-    print!(rt;
-        "steps {}, words {w0} {w1} {w2} {w3} {w4} {w5} {w6} {w7}, ",
-        outcome.steps
+    let mut text = format!(in alloc;
+        "steps {steps}, words {w0} {w1} {w2} {w3} {w4} {w5} {w6} {w7}, "
     )?;
-    print_output(rt, outcome.output.as_slice())
+    match outcome.output.as_slice() {
+        [] => text.push_str("no output")?,
+        output => write!(text, "output {}", Runs(output))?,
+    }
+    Ok(text)
 }
 
 /// An image that is tried.
@@ -88,23 +52,19 @@ struct Trial {
 }
 
 impl Trial {
-    /// Answers a line.
-    fn answer(&mut self, rt: &HostRuntime, text: &str) -> io::Result<()> {
-        match Line::read(text) {
-            Some(line) if !self.is_reading || line.word == "end" => {
-                print!(rt; "{text} -> ")?;
-                self.carry_out(rt, &line)
-            }
-            _ if self.is_reading => self.take_digits(rt, text),
-            Some(_) => Ok(()),
-            None if digits_of(text).trim().is_empty() => println!(rt; "{text}"),
-            None => println!(rt; "{text} -> not a call"),
+    /// Takes a line: digits of an image, or a call.
+    fn take(&mut self, rt: &HostRuntime, text: &str) -> io::Result<()> {
+        let call = before_comment(text);
+        if self.is_reading && call.trim() != "end" {
+            self.take_digits(rt, call)
+        } else {
+            carry_out(rt, rt.alloc(), self, text)
         }
     }
 
     /// Takes the bytes that a line spells.
     fn take_digits(&mut self, rt: &HostRuntime, text: &str) -> io::Result<()> {
-        for digits in digits_of(text).split_whitespace() {
+        for digits in text.split_whitespace() {
             match hex::decode(rt.alloc(), digits) {
                 Ok(bytes) => self.bytes.extend_from_slice(&bytes)?,
                 Err(why) => return println!(rt; "{text} -> {why}"),
@@ -113,101 +73,96 @@ impl Trial {
         Ok(())
     }
 
-    /// Carries out a call, and prints its answer.
-    fn carry_out(&mut self, rt: &HostRuntime, line: &Line<'_>) -> io::Result<()> {
-        match line.word {
-            "image" => {
-                self.bytes.clear();
-                self.is_reading = true;
-                println!(rt; "its digits follow")
-            }
-            "end" | "check" => self.check(rt),
-            "byte" => self.change(rt, line),
-            "routine" => self.choose(rt, line.word_at(0)),
-            "call" => self.call(rt, line),
-            _ => println!(rt; "not a call"),
-        }
-    }
-
-    /// Reads the image, and writes it again.
-    fn check(&mut self, rt: &HostRuntime) -> io::Result<()> {
+    /// Reads the image, writes it again and checks it.
+    fn check(&mut self, alloc: Global) -> Result<Answer, AllocError> {
         self.is_reading = false;
         self.accepted = None;
-        let image = match read(rt.alloc(), &self.bytes) {
+        let image = match read(alloc, &self.bytes) {
             Ok(image) => image,
-            Err(why) => return println!(rt; "{why}"),
+            Err(why) => return refused(alloc, why),
         };
-        if write(rt.alloc(), &image)? == self.bytes {
-            self.verify(rt, image)
+        if write(alloc, &image)? == self.bytes {
+            self.verify(alloc, image)
         } else {
-            println!(rt; "written again with other bytes")
+            Ok(Answer::Said("written again with other bytes"))
         }
     }
 
     /// Checks an image that was written again as it was read.
-    fn verify(&mut self, rt: &HostRuntime, image: Image) -> io::Result<()> {
+    fn verify(&mut self, alloc: Global, image: Image) -> Result<Answer, AllocError> {
         let bytes = self.bytes.len();
         let (routines, instrs) = (image.count(), image.len());
         match check(image) {
             Ok(checked) => self.accepted = Some(checked),
-            Err((_, reject)) => return println!(rt; "{reject}"),
+            Err((_, reject)) => return refused(alloc, reject),
         }
-        println!(rt;
+        let text = format!(in alloc;
             "accepted, written again as it was read: bytes {bytes}, routines {routines}, instructions {instrs}"
-        )
+        )?;
+        Ok(Answer::Text(text))
     }
 
     /// Changes a byte.
-    fn change(&mut self, rt: &HostRuntime, line: &Line<'_>) -> io::Result<()> {
+    fn change(&mut self, alloc: Global, line: &Line<'_>) -> Result<Answer, AllocError> {
         self.accepted = None;
-        match self.bytes.get_mut(usize::from(line.word_at(0))) {
-            Some(byte) => {
-                let before = *byte;
-                *byte = line.word_at(1).min(255) as u8;
-                println!(rt; "was {before}")
-            }
-            None => println!(rt; "not asked: there is no such byte"),
-        }
+        let Some(byte) = self.bytes.get_mut(usize::from(line.word_at(0))) else {
+            return Ok(Answer::NotAsked("there is no such byte"));
+        };
+        let before = *byte;
+        *byte = line.byte_at(1);
+        Ok(Answer::Text(format!(in alloc; "was {before}")?))
     }
 
     /// Chooses the routine that is called, and says what the image has under that index.
-    fn choose(&mut self, rt: &HostRuntime, index: u16) -> io::Result<()> {
+    fn choose(&mut self, alloc: Global, index: u16) -> Result<Answer, AllocError> {
         self.routine = index;
         let Some(checked) = &self.accepted else {
-            return println!(rt; "not asked: no image is accepted");
+            return Ok(Answer::NotAsked("no image is accepted"));
         };
         if index >= checked.image().count() {
-            return println!(rt; "not asked: there is no such routine");
+            return Ok(Answer::NotAsked("there is no such routine"));
         }
         let routine = checked.image().routine(index);
         let name = str::from_utf8(routine.name_text()).unwrap_or("no text");
         let access = if routine.public { "public" } else { "private" };
-        println!(rt;
+        let text = format!(in alloc;
             "{name}, {access}, instructions {}, budget {}",
             routine.count, routine.budget
-        )
+        )?;
+        Ok(Answer::Text(text))
     }
 
     /// Runs the routine on the words of a line, where it may be called with them.
-    fn call(&self, rt: &HostRuntime, line: &Line<'_>) -> io::Result<()> {
+    fn call(&self, alloc: Global, line: &Line<'_>) -> Result<Answer, AllocError> {
         let Some(checked) = &self.accepted else {
-            return println!(rt; "not asked: no image is accepted");
+            return Ok(Answer::NotAsked("no image is accepted"));
         };
-        let words = std::array::from_fn(|place| line.word_at(place));
-        let mut kernel = Kernel::new(rt.alloc(), REGION)?;
+        let words = line.words();
+        let mut kernel = Kernel::new(alloc, REGION)?;
         if !admits(checked, self.routine, &words, &kernel) {
-            return println!(rt; "not admitted");
+            return Ok(Answer::Said("not admitted"));
         }
         let outcome = Machine::new().run(checked, self.routine, &words, &mut kernel);
-        print_outcome(rt, &outcome)
+        Ok(Answer::Text(text_of(alloc, &outcome)?))
     }
 }
 
-/// What stands in a line before a comment.
-fn digits_of(text: &str) -> &str {
-    match text.split_once(';') {
-        Some((digits, _)) => digits,
-        None => text,
+impl trial_lines::Trial for Trial {
+    type Refusal = String;
+
+    fn answer(&mut self, alloc: Global, line: &Line<'_>) -> Result<Answer, AllocError> {
+        match line.word {
+            "image" => {
+                self.bytes.clear();
+                self.is_reading = true;
+                Ok(Answer::Said("its digits follow"))
+            }
+            "end" | "check" => self.check(alloc),
+            "byte" => self.change(alloc, line),
+            "routine" => self.choose(alloc, line.word_at(0)),
+            "call" => self.call(alloc, line),
+            _ => Ok(Answer::NotACall),
+        }
     }
 }
 
@@ -219,7 +174,7 @@ fn main(rt: HostRuntime) -> io::Result<()> {
         routine: 0,
     };
     for line in rt.lines(rt.alloc()) {
-        trial.answer(&rt, line?.as_str())?;
+        trial.take(&rt, line?.as_str())?;
     }
     Ok(())
 }

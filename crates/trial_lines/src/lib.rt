@@ -1,42 +1,20 @@
-//! Lines of a trial: a text of calls, each a word and numbers, that a program carries out one after the other. It prints each line
-//! again, and what the call answers behind it.
+//! What trials share. A trial reads lines of calls, each a word and numbers, and carries them out one after the other. It prints each
+//! line again, and what the call answers behind it; lines that are blank or only a comment are printed as they are.
+//!
+//! `times N WORD ..` makes a call so often, and `WORD_each FROM TO ..` makes the call `WORD HANDLE ..` for each handle from one to
+//! another. Both tell how the answers run.
 #![tactic(auto)]
 
-/// The most numbers of a line.
-pub const MOST_NUMBERS: usize = 8;
+mod answer;
+mod line;
+mod runs;
+mod series;
+mod texts;
+mod trial;
 
-/// A line with a call.
-#[derive(Clone, Copy, Debug, PartialEq, Eq)]
-pub struct Line<'a> {
-    /// The word that names the call.
-    pub word: &'a str,
-    /// The numbers behind it; those that are missing are 0.
-    pub numbers: [u32; MOST_NUMBERS],
-}
-
-impl<'a> Line<'a> {
-    /// The call of a line. `None` where the line has no word before a `;`, or has a word behind the first one that is no number in
-    /// decimal digits, or more than eight of them.
-    pub fn read(line: &'a str) -> Option<Line<'a>> {
-        let text = match line.split_once(';') {
-            Some((text, _)) => text,
-            None => line,
-        };
-        let mut words = text.split_whitespace();
-        let word = words.next()?;
-        let mut numbers = [0; MOST_NUMBERS];
-        let mut places = numbers.iter_mut();
-        for digits in words {
-            *places.next()? = digits.parse().ok()?;
-        }
-        Some(Line { word, numbers })
-    }
-
-    /// The number at this place, or 65,535 where it is greater.
-    pub fn word_at(&self, place: usize) -> u16 {
-        match self.numbers.get(place) {
-            Some(number) => *number.min(&65_535) as u16,
-            None => 0,
-        }
-    }
-}
+pub use answer::Answer;
+pub use line::{Line, MOST_NUMBERS, Reading, before_comment};
+pub use runs::Runs;
+pub use series::Series;
+pub use texts::{refused, shown, shown_done, shown_result, told};
+pub use trial::{Trial, carry_out, print_other, run};

@@ -1,0 +1,47 @@
+//! Answers that tell values or refusals as text.
+
+use crate::answer::Answer;
+use std::alloc::{AllocError, Global};
+use std::fmt::{Debug, Display};
+
+/// That a call is done, and tells this.
+pub fn told<R, T: Display + Drop>(alloc: Global, value: T) -> Result<Answer<R>, AllocError> {
+    Ok(Answer::Text(value.to_string(alloc)?))
+}
+
+/// That a call refuses, and why.
+pub fn refused<E: Display + Drop>(alloc: Global, why: E) -> Result<Answer<String>, AllocError> {
+    Ok(Answer::Refused(why.to_string(alloc)?))
+}
+
+/// That a call is done, and tells this as it is written in code.
+pub fn shown<R, T: Debug + Drop>(alloc: Global, value: T) -> Result<Answer<R>, AllocError> {
+    Ok(Answer::Text(format!(in alloc; "{value:?}")?))
+}
+
+/// A call's value, or why it refuses, as they are written in code.
+pub fn shown_result<T: Debug + Drop, E: Debug + Drop>(
+    alloc: Global,
+    answer: Result<T, E>,
+) -> Result<Answer<String>, AllocError> {
+    match answer {
+        Ok(value) => shown(alloc, value),
+        Err(why) => shown_refusal(alloc, why),
+    }
+}
+
+/// That a call is done, or why it refuses, as it is written in code.
+pub fn shown_done<E: Debug + Drop>(
+    alloc: Global,
+    answer: Result<(), E>,
+) -> Result<Answer<String>, AllocError> {
+    match answer {
+        Ok(()) => Ok(Answer::Done),
+        Err(why) => shown_refusal(alloc, why),
+    }
+}
+
+/// Why a call refuses, as it is written in code.
+fn shown_refusal<E: Debug + Drop>(alloc: Global, why: E) -> Result<Answer<String>, AllocError> {
+    Ok(Answer::Refused(format!(in alloc; "{why:?}")?))
+}
