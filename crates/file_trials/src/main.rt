@@ -29,7 +29,7 @@ use std::alloc::AllocError;
 use std::io::ErrorKind;
 use std::process::ExitCode;
 use std::{fs, io};
-use trial_lines::Line;
+use trial_lines::{Line, Reading, print_other};
 use vm_file::{Device, Disk, FileDevice, MemoryDevice};
 
 /// The file of the system.
@@ -116,14 +116,10 @@ impl Trial {
 
     /// Prints a line, and what its call answers.
     fn print(&mut self, rt: &HostRuntime, text: &str) -> io::Result<()> {
-        let start = text.trim_start();
-        if start.is_empty() || start.starts_with(';') {
-            return println!(rt; "{text}");
-        }
-        let answer = match Line::read(text) {
-            Some(line) => self.answer(rt, &line)?,
-            None => Answer::NotACall,
+        let Reading::Call(line) = Reading::of(text) else {
+            return print_other(rt, text);
         };
+        let answer = self.answer(rt, &line)?;
         println!(rt; "{text} -> {answer}")
     }
 }
