@@ -1,4 +1,4 @@
--- The table of uses: what an instruction does with slots and pointers.
+-- What an instruction does with slots and pointers: how wide it is, and that they are ones that there are.
 use Rattle.std.specs.Prelude.{◌<◌, ℕ, Bool, true, false}
 use Rattle.geos_image.specs.declared.instr.Instr.{Instr}
 use Rattle.geos_opcodes.specs.declared.uses.Kind.{Kind}
