@@ -6,13 +6,12 @@ use Rattle.std.specs.List.{list_any}
 use Rattle.std.proofs.lemmas.Bool.{eq-eqb, ltb-true, ltb-false}
 use Rattle.geos_image.specs.declared.row.Row.{Row}
 use Rattle.geos_image.specs.declared.routine.Routine.{Routine}
-use Rattle.geos_image.specs.Opcodes.{limit}
+use Rattle.geos_opcodes.specs.Facts.{limit, word_of}
 use Rattle.geos_image.specs.Parts.{Parts, Point, start_of}
 use Rattle.geos_image.proofs.Instrs.{is_below}
 use Rattle.geos_image.proofs.Starts.{start_of-next, start_of-all}
 use Rattle.geos_listing.specs.Instrs.{name_of as name_text, is_target, is_at, target_of, target_if}
 use Rattle.geos_listing.proofs.Limits.{item_at}
-use Rattle.geos_spelling.specs.Words.{word_of}
 use Rattle.geos_text.specs.Words.{is_empty}
 use Rattle.geos_source.specs.Faults.{first, at_line}
 use Rattle.geos_source.specs.Names.{Table, Names, name_of, meant, defined, with_name}

@@ -10,7 +10,7 @@ use Rattle.geos_image.specs.Parts.{Parts, Point}
 use Rattle.geos_infer.specs.Code.{instrs_of, instr_of}
 use Rattle.geos_listing.specs.Instrs.{is_target}
 use Rattle.geos_listing.proofs.Limits.{item_at}
-use Rattle.geos_spelling.specs.Words.{word_of}
+use Rattle.geos_opcodes.specs.Facts.{word_of}
 use Rattle.geos_text.specs.Words.{is_empty}
 use Rattle.geos_source.specs.declared.fault.Why.TheVariants.{TooMany}
 use Rattle.geos_source.specs.declared.progress.TextRoutine.{TextRoutine}

@@ -5,18 +5,17 @@ use Rattle.std.specs.Option.{option_map_or}
 use Rattle.std.specs.List.{All, list_all}
 use Rattle.std.proofs.lemmas.Bool.{and_from}
 use Rattle.geos_image.specs.declared.instr.Instr.{Instr}
-use Rattle.geos_image.specs.declared.opcode.Opcode.{Opcode}
-use Rattle.geos_image.specs.declared.opcode.Opcode.TheVariants.{Ldi}
-use Rattle.geos_image.specs.declared.opcode.Operand.{Operand}
-use Rattle.geos_image.specs.declared.opcode.Operand.TheVariants.{Unused, Word, Counter, Slot, Pointer, Number, Shift, Routine, Label}
+use Rattle.geos_opcodes.specs.declared.opcode.Opcode.{Opcode}
+use Rattle.geos_opcodes.specs.declared.opcode.Opcode.TheVariants.{Ldi}
+use Rattle.geos_opcodes.specs.declared.opcode.Operand.{Operand}
+use Rattle.geos_opcodes.specs.declared.opcode.Operand.TheVariants.{Unused, Word, Counter, Slot, Pointer, Number, Shift, Routine, Label}
 use Rattle.geos_image.specs.declared.routine.Routine as routine
-use Rattle.geos_image.specs.Opcodes.{operands_of, limit}
+use Rattle.geos_opcodes.specs.Facts.{operands_of, limit, word_of}
 use Rattle.geos_image.specs.Legal.{is_name, is_instr}
 use Rattle.geos_image.proofs.Instrs.{is_below}
 use Rattle.geos_listing.specs.Instrs.{name_of as name_text, instr_line}
 use Rattle.geos_listing.proofs.Limits.{item_at, get_or-at}
-use Rattle.geos_spelling.specs.Fields.{is_written}
-use Rattle.geos_spelling.specs.Words.{word_of}
+use Rattle.geos_opcodes.specs.Fields.{is_written}
 use Rattle.geos_source.specs.Names.{label_of}
 use Rattle.geos_source.specs.Lines.{said, parted, behind_label}
 use Rattle.geos_asm.proofs.Spaced.{is_word, spaced, said-indented}

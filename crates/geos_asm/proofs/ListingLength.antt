@@ -5,19 +5,18 @@ use Rattle.std.specs.Option.{option_map_or}
 use Rattle.std.proofs.lemmas.Fmt.{length-decimal-le}
 use Rattle.std.proofs.lemmas.List.{length-append, length-take}
 use Rattle.geos_image.specs.declared.instr.Instr.{Instr}
-use Rattle.geos_image.specs.declared.opcode.Opcode.{Opcode}
-use Rattle.geos_image.specs.declared.opcode.Opcode.TheVariants.{Ldi}
-use Rattle.geos_image.specs.declared.opcode.Operand.{Operand}
-use Rattle.geos_image.specs.declared.opcode.Operand.TheVariants.{Unused, Word, Counter, Slot, Pointer, Number, Shift, Routine, Label}
+use Rattle.geos_opcodes.specs.declared.opcode.Opcode.{Opcode}
+use Rattle.geos_opcodes.specs.declared.opcode.Opcode.TheVariants.{Ldi}
+use Rattle.geos_opcodes.specs.declared.opcode.Operand.{Operand}
+use Rattle.geos_opcodes.specs.declared.opcode.Operand.TheVariants.{Unused, Word, Counter, Slot, Pointer, Number, Shift, Routine, Label}
 use Rattle.geos_image.specs.declared.routine.Routine as routine
-use Rattle.geos_image.specs.Opcodes.{operands_of, limit}
+use Rattle.geos_opcodes.specs.Facts.{operands_of, limit, word_of}
 use Rattle.geos_image.specs.Legal.{text_end, is_instr}
 use Rattle.geos_image.specs.Parts.{Parts, Point}
 use Rattle.geos_image.proofs.Instrs.{is_below}
 use Rattle.geos_listing.specs.Instrs.{name_of as name_text}
 use Rattle.geos_listing.proofs.Limits.{item_at}
-use Rattle.geos_spelling.specs.Fields.{is_written}
-use Rattle.geos_spelling.specs.Words.{word_of}
+use Rattle.geos_opcodes.specs.Fields.{is_written}
 use Rattle.geos_asm.proofs.Spaced.{spaced}
 use Rattle.geos_asm.proofs.InstrLines.{instr_text}
 use Rattle.geos_asm.proofs.OperandsAgain.{operand_word, in_front, operand_words}

@@ -14,7 +14,7 @@ use Rattle.geos_listing.specs.Rows.{texts_below, row_line}
 use Rattle.geos_listing.specs.Instrs.{is_target, label_of as label_text, label_line, instr_line}
 use Rattle.geos_listing.specs.Listing.{place_text, routine_text, listing}
 use Rattle.geos_listing.proofs.Limits.{item_at}
-use Rattle.geos_spelling.specs.Words.{word_of}
+use Rattle.geos_opcodes.specs.Facts.{word_of}
 use Rattle.geos_text.specs.Words.{is_empty}
 use Rattle.geos_asm.proofs.Spaced.{is_said, is_word, line-said}
 use Rattle.geos_asm.proofs.InstrLines.{instr_text, instr_line-text, operands-words, word_of-is}

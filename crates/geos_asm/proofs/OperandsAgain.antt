@@ -3,19 +3,18 @@ use Rattle.std.proofs.Common.{◌≡◌, ◌∙◌, ◌<◌, ℕ, Bool, true, fa
 use Rattle.std.specs.Prelude.{codes, decimal, if◌then◌else◌}
 use Rattle.std.specs.Option.{option_map_or, ok_or}
 use Rattle.geos_image.specs.declared.instr.Instr.{Instr}
-use Rattle.geos_image.specs.declared.opcode.Opcode.{Opcode}
-use Rattle.geos_image.specs.declared.opcode.Opcode.TheVariants.{Ldi}
-use Rattle.geos_image.specs.declared.opcode.Operand.{Operand}
-use Rattle.geos_image.specs.declared.opcode.Operand.TheVariants.{Unused, Word, Counter, Slot, Pointer, Number, Shift, Routine, Label}
-use Rattle.geos_image.specs.declared.opcode.Operands.{Operands}
+use Rattle.geos_opcodes.specs.declared.opcode.Opcode.{Opcode}
+use Rattle.geos_opcodes.specs.declared.opcode.Opcode.TheVariants.{Ldi}
+use Rattle.geos_opcodes.specs.declared.opcode.Operand.{Operand}
+use Rattle.geos_opcodes.specs.declared.opcode.Operand.TheVariants.{Unused, Word, Counter, Slot, Pointer, Number, Shift, Routine, Label}
+use Rattle.geos_opcodes.specs.declared.opcode.Operands.{Operands}
 use Rattle.geos_image.specs.declared.routine.Routine as routine
-use Rattle.geos_image.specs.Opcodes.{operands_of, limit}
+use Rattle.geos_opcodes.specs.Facts.{operands_of, limit, word_of}
 use Rattle.geos_image.specs.Legal.{is_instr}
 use Rattle.geos_image.proofs.Instrs.{is_below}
 use Rattle.geos_listing.specs.Instrs.{name_of as name_text, label_of as label_text, operand_text, operands_text}
-use Rattle.geos_spelling.specs.Fields.{is_written}
-use Rattle.geos_spelling.specs.Words.{word_of}
-use Rattle.geos_spelling.proofs.WordLaws.{opcode_of_word-word_of}
+use Rattle.geos_opcodes.specs.Fields.{is_written}
+use Rattle.geos_opcodes.proofs.Laws.{word_again}
 use Rattle.geos_source.specs.declared.fault.Why.{Why}
 use Rattle.geos_source.specs.declared.fault.Why.TheVariants.{WrongOperands}
 use Rattle.geos_source.specs.Faults.{least}
@@ -220,4 +219,4 @@ pub instruction-again : (instrs : ℕ) (routines : List routine.Routine) (is_lab
     → is_instr (length routines) instrs i ≡ true → HasLabel is_label i → instruction names (word_of i.opcode) (operand_words routines i) ≡ Ok i
 unfolding instruction
 instruction-again instrs routines is_label names i stands legal label =
-    ap (λ o. instr_by names o (operand_words routines i)) (opcode_of_word-word_of i.opcode) ∙ instr_of-again instrs routines is_label names i stands legal label
+    ap (λ o. instr_by names o (operand_words routines i)) (word_again i.opcode) ∙ instr_of-again instrs routines is_label names i stands legal label

@@ -4,10 +4,9 @@ use Rattle.std.specs.Option.{option_map_or}
 use Rattle.geos_image.specs.declared.instr.Instr.{Instr}
 use Rattle.geos_image.specs.declared.row.Row.{Row}
 use Rattle.geos_image.specs.Parts.{Parts, Point, start_of}
-use Rattle.geos_spelling.specs.Words.{word_of}
-use Rattle.geos_verify.specs.declared.uses.PointerUse.{PointerUse}
-use Rattle.geos_verify.specs.declared.uses.PointerUse.TheVariants.{Copies}
-use Rattle.geos_verify.specs.Uses.{uses_of}
+use Rattle.geos_opcodes.specs.Facts.{word_of, uses_of}
+use Rattle.geos_opcodes.specs.declared.uses.PointerUse.{PointerUse}
+use Rattle.geos_opcodes.specs.declared.uses.PointerUse.TheVariants.{Copies}
 use Rattle.geos_verify.specs.Rows.{falls_through, pointer_at, is_stale, after}
 use Rattle.geos_explain.specs.Places.{Place}
 

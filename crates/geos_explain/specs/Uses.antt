@@ -7,12 +7,12 @@ use Rattle.geos_image.specs.declared.row.SlotState.{SlotState}
 use Rattle.geos_image.specs.declared.row.SlotState.TheVariants.{Empty, Mem, Vm, VmMarked, Db, DbMarked}
 use Rattle.geos_image.specs.Open.{open_row}
 use Rattle.geos_listing.specs.Rows.{row_items}
-use Rattle.geos_verify.specs.declared.uses.Kind.{Kind}
-use Rattle.geos_verify.specs.declared.uses.Kind.TheVariants.{MemBlock, VmBlock, DbGroup}
-use Rattle.geos_verify.specs.declared.uses.SlotUse.{SlotUse}
-use Rattle.geos_verify.specs.declared.uses.SlotUse.TheVariants.{Unlocks, Compares}
-use Rattle.geos_verify.specs.declared.uses.PointerUse.{PointerUse}
-use Rattle.geos_verify.specs.declared.uses.PointerUse.TheVariants.{Loads, Stores, Copies}
+use Rattle.geos_opcodes.specs.declared.uses.Kind.{Kind}
+use Rattle.geos_opcodes.specs.declared.uses.Kind.TheVariants.{MemBlock, VmBlock, DbGroup}
+use Rattle.geos_opcodes.specs.declared.uses.SlotUse.{SlotUse}
+use Rattle.geos_opcodes.specs.declared.uses.SlotUse.TheVariants.{Unlocks, Compares}
+use Rattle.geos_opcodes.specs.declared.uses.PointerUse.{PointerUse}
+use Rattle.geos_opcodes.specs.declared.uses.PointerUse.TheVariants.{Loads, Stores, Copies}
 use Rattle.geos_verify.specs.Rows.{slot_state, pointer_at, leads_nowhere}
 use Rattle.geos_verify.specs.Rules.{reach, least_at}
 

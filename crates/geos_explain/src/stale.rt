@@ -7,10 +7,10 @@ ghost use Rattle.geos_explain.specs.Stale.{if_stale, stale_used, pointer_item, m
 
 use crate::numbers::put_numbered;
 use crate::place::Place;
-use crate::uses::{pointer_at, uses_at};
+use crate::uses::pointer_at;
 use geos_image::{Image, Instr, Potential, Row};
-use geos_spelling::word_of;
-use geos_verify::{PointerUse, after, falls_through};
+use geos_opcodes::PointerUse;
+use geos_verify::{after, falls_through, uses_at};
 use std::alloc::AllocError;
 
 /// Whether nothing is known of a pointer.
@@ -99,7 +99,7 @@ fn put_word_at(out: &mut Vec<u8>, image: &Image, pc: u16) -> Result<(), AllocErr
     ensures { OnOk result (out.new.items ≡ out.old.items ++ word_at image.now pc) }
 {
     match image.points().get(usize::from(pc)) {
-        Some(point) => out.extend_from_slice(word_of(point.0.opcode).as_bytes()),
+        Some(point) => out.extend_from_slice(point.0.opcode.word().as_bytes()),
         None => Ok(()),
     }
 }

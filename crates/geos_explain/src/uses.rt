@@ -1,26 +1,17 @@
 //! What is wrong with the slots and pointers that an instruction uses.
 
 ghost use Rattle.std.specs.Prelude.{◌≡◌, ◌<◌, ◌++◌, OnOk, map};
-ghost use Rattle.geos_image.specs.Fields.{FieldsFit};
 ghost use Rattle.geos_verify.specs.Rows.{slot_state, pointer_at};
 ghost use Rattle.geos_verify.specs.Rules.{least_at};
-ghost use Rattle.geos_verify.specs.Uses.{uses_of, PointerFits, UsesFit};
+ghost use Rattle.geos_verify.specs.Uses.{PointerFits};
 ghost use Rattle.geos_explain.specs.Uses.{state_word, state_item, nowhere_only, leading_nowhere, nowhere_words, wanted_bytes, short_words, past_words, slot_behind, changed_slot, unmarked_words, held_words, kind_wish, slot_wish, other_item, slot_words};
 
 use crate::numbers::put_numbered;
 use geos_image::{Instr, Pointer, Row, SlotState};
 use geos_listing::put_items;
-use geos_verify::{Kind, PointerUse, SlotUse, Uses, leads_nowhere, reach, uses_of};
+use geos_opcodes::{Kind, PointerUse, SlotUse};
+use geos_verify::{leads_nowhere, reach};
 use std::alloc::AllocError;
-
-/// What an instruction does with slots and pointers: it names ones that there are.
-pub(crate) fn uses_at(i: &Instr) -> Uses
-    requires { FieldsFit i.now.opcode i.now }
-    ensures value { result ≡ uses_of i.now.opcode }
-    ensures fit { UsesFit result i.now }
-{
-    uses_of(i.opcode)
-}
 
 fn slot_state(row: &Row, a: u8) -> SlotState
     ensures { result ≡ slot_state row.now a }

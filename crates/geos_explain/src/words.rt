@@ -12,9 +12,9 @@ use crate::numbers::{put_numbered, verb};
 use crate::place::Place;
 use crate::stale::put_stale;
 use crate::steps::put_unpaid;
-use crate::uses::{put_held, put_nowhere, put_past, put_slot, put_unmarked, uses_at};
+use crate::uses::{put_held, put_nowhere, put_past, put_slot, put_unmarked};
 use geos_image::{Image, Instr, Opcode, Potential, Routine, Row};
-use geos_verify::{Rule, after, branches, falls_through};
+use geos_verify::{Rule, after, branches, falls_through, uses_at};
 use std::alloc::{AllocError, Global};
 
 /// Whether the pc is one of the routine's, which begins at `start`.

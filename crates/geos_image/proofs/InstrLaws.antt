@@ -1,15 +1,16 @@
 -- Instructions: what is read is spelled there, and what is spelled there is read.
 use Rattle.std.proofs.Common.{◌≡◌, ℕ, ◌+◌, ◌^◌, ◌<◌, ◌≤◌, true, List, [], ◌∷◌, ◌++◌, Ok, refl, sym, subst, ◌∙◌, arith}
-use Rattle.geos_image.specs.declared.opcode.Operand.{Operand}
-use Rattle.geos_image.specs.declared.opcode.Operand.TheVariants.{Unused, Word, Counter, Slot, Pointer, Number, Shift, Routine, Label}
-use Rattle.geos_image.specs.declared.opcode.Operands.{Operands}
+use Rattle.geos_opcodes.specs.declared.opcode.Operand.{Operand}
+use Rattle.geos_opcodes.specs.declared.opcode.Operand.TheVariants.{Unused, Word, Counter, Slot, Pointer, Number, Shift, Routine, Label}
+use Rattle.geos_opcodes.specs.declared.opcode.Operands.{Operands}
 use Rattle.geos_image.specs.declared.instr.Instr.{Instr}
-use Rattle.geos_image.specs.Opcodes.{code_of, opcode_of, operands_of, limit}
+use Rattle.geos_opcodes.specs.Facts.{code_of, opcode_of, operands_of, limit}
 use Rattle.geos_image.specs.Legal.{is_instr}
 use Rattle.geos_image.specs.Spelling.{word, instr}
 use Rattle.geos_image.specs.Reading.{or_fault, byte_at, byte_below, word_below, instr_at}
 use Rattle.geos_image.proofs.Steps.{ok_is, after, or_fault_ok}
-use Rattle.geos_image.proofs.Codes.{code_found, opcode_again}
+use Rattle.geos_opcodes.proofs.Laws.{opcode_again}
+use Rattle.geos_image.proofs.Codes.{code_found}
 use Rattle.geos_image.proofs.Places.{plus, IsBytes, Takes, Takes-then, Left}
 use Rattle.geos_image.proofs.NumberLaws.{byte_found, byte_below_found, word_below_found, unused_found, byte_again, byte_below_again, word_below_again}
 use Rattle.geos_image.proofs.Instrs.{is_below}

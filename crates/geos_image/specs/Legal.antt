@@ -7,7 +7,7 @@ use Rattle.geos_image.specs.declared.instr.Instr.{Instr}
 use Rattle.geos_image.specs.declared.row.Row.{Row}
 use Rattle.geos_image.specs.declared.row.Pointer.{Pointer}
 use Rattle.geos_image.specs.declared.routine.Routine.{Routine}
-use Rattle.geos_image.specs.Opcodes.{operands_of, limit}
+use Rattle.geos_opcodes.specs.Facts.{operands_of, limit}
 use Rattle.geos_image.specs.Parts.{Point, Parts, total_count}
 
 -- letters, digits and the underscore

@@ -1,4 +1,3 @@
-pub mod Opcodes
 pub mod Parts
 pub mod Open
 pub mod Legal

@@ -11,7 +11,7 @@ use Rattle.geos_image.specs.declared.row.SlotState.{SlotState}
 use Rattle.geos_image.specs.declared.row.SlotState.TheVariants.{Empty, Mem, Vm, VmMarked, Db, DbMarked}
 use Rattle.geos_image.specs.declared.potential.Potential.{Potential}
 use Rattle.geos_image.specs.declared.routine.Routine.{Routine}
-use Rattle.geos_image.specs.Opcodes.{opcode_of, operands_of, limit}
+use Rattle.geos_opcodes.specs.Facts.{opcode_of, operands_of, limit}
 use Rattle.geos_image.specs.Parts.{Point, Parts, total_count}
 use Rattle.geos_image.specs.Legal.{is_name, is_named}
 use Rattle.geos_image.specs.Spelling.{magic, slot_code}

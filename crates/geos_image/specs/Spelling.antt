@@ -9,7 +9,7 @@ use Rattle.geos_image.specs.declared.row.SlotState.{SlotState}
 use Rattle.geos_image.specs.declared.row.SlotState.TheVariants.{Empty, Mem, Vm, VmMarked, Db, DbMarked}
 use Rattle.geos_image.specs.declared.potential.Potential.{Potential}
 use Rattle.geos_image.specs.declared.routine.Routine.{Routine}
-use Rattle.geos_image.specs.Opcodes.{code_of}
+use Rattle.geos_opcodes.specs.Facts.{code_of}
 use Rattle.geos_image.specs.Parts.{Parts}
 
 -- `GRT1`

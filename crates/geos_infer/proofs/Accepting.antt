@@ -4,8 +4,8 @@ use Rattle.std.specs.Prelude.{◌&&◌, ◌||◌, ◌==◌, nat_le, nat_lt, if�
 use Rattle.std.specs.List.{list_any}
 use Rattle.std.proofs.lemmas.Bool.{and_parts, or_parts, leb-true, le-leb, eqb-true, not-false}
 use Rattle.geos_model.specs.Refusals.{first_refusal}
-use Rattle.geos_image.specs.declared.opcode.Opcode.{Opcode}
-use Rattle.geos_image.specs.declared.opcode.Opcode.TheVariants.{Setk, Setkw, Loop, Call}
+use Rattle.geos_opcodes.specs.declared.opcode.Opcode.{Opcode}
+use Rattle.geos_opcodes.specs.declared.opcode.Opcode.TheVariants.{Setk, Setkw, Loop, Call}
 use Rattle.geos_image.specs.declared.instr.Instr.{Instr}
 use Rattle.geos_image.specs.declared.row.Row.{Row}
 use Rattle.geos_image.specs.declared.potential.Potential.{Potential}

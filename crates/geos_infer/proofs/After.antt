@@ -4,26 +4,27 @@ use Rattle.std.specs.Prelude.{◌&&◌, ◌||◌, ◌==◌, nat_le, min, if◌th
 use Rattle.std.proofs.lemmas.Bool.{and_parts, leb-true, le-leb, eqb-true}
 use Rattle.std.proofs.Math.Nat.{mul-le-mul_right, div-mul-le_self}
 use Rattle.std.proofs.lemmas.Nat.{le-div, pow_pos}
-use Rattle.geos_image.specs.declared.opcode.Opcode.{Opcode}
-use Rattle.geos_image.specs.declared.opcode.Opcode.TheVariants.{Ldi, Mov, Add, Sub, And, Shr, Muli, Chk, Call, Mnew, Lalloc, Lsize, Ldb, Ldw, Ldxb, Ldxw, Ldcb, Ldcw, Plen, Canew, Cacount}
+use Rattle.geos_opcodes.specs.declared.opcode.Opcode.{Opcode}
+use Rattle.geos_opcodes.specs.declared.opcode.Opcode.TheVariants.{Ldi, Mov, Add, Sub, And, Shr, Muli, Chk, Call}
+use Rattle.geos_opcodes.specs.declared.facts.Yields.{Yields}
+use Rattle.geos_opcodes.specs.declared.facts.Yields.TheVariants.{Nothing, Computed, ByteInA, WordInA, WordInB}
 use Rattle.geos_image.specs.declared.instr.Instr.{Instr}
 use Rattle.geos_image.specs.declared.row.Row.{Row}
 use Rattle.geos_image.specs.declared.row.Pointer.{Pointer}
 use Rattle.geos_image.specs.declared.row.SlotState.{SlotState}
 use Rattle.geos_image.specs.declared.row.SlotState.TheVariants.{Empty, Mem, Vm, VmMarked, Db, DbMarked}
 use Rattle.geos_image.specs.declared.routine.Routine.{Routine}
-use Rattle.geos_image.specs.Opcodes.{operands_of}
+use Rattle.geos_opcodes.specs.Facts.{facts, operands_of, uses_of}
 use Rattle.geos_image.specs.Parts.{Parts}
-use Rattle.geos_verify.specs.declared.uses.Kind.{Kind}
-use Rattle.geos_verify.specs.declared.uses.SlotUse.{SlotUse}
-use Rattle.geos_verify.specs.declared.uses.SlotUse.TheVariants.{LocksNew, Locks, Unlocks, Compares, Moves}
-use Rattle.geos_verify.specs.declared.uses.PointerUse.{PointerUse}
-use Rattle.geos_verify.specs.declared.uses.PointerUse.TheVariants.{Sets, Duplicates}
-use Rattle.geos_verify.specs.declared.uses.Uses.{Uses}
+use Rattle.geos_opcodes.specs.declared.uses.Kind.{Kind}
+use Rattle.geos_opcodes.specs.declared.uses.SlotUse.{SlotUse}
+use Rattle.geos_opcodes.specs.declared.uses.SlotUse.TheVariants.{LocksNew, Locks, Unlocks, Compares, Moves}
+use Rattle.geos_opcodes.specs.declared.uses.PointerUse.{PointerUse}
+use Rattle.geos_opcodes.specs.declared.uses.PointerUse.TheVariants.{Sets, Duplicates}
+use Rattle.geos_opcodes.specs.declared.uses.Uses.{Uses}
 use Rattle.geos_verify.specs.Lists.{all2}
 use Rattle.geos_verify.specs.Pairs.{slot_pairs, is_pair, has_slot, each_pair, without_slot, has_pair, are_apart}
-use Rattle.geos_verify.specs.Uses.{uses_of}
-use Rattle.geos_verify.specs.Rows.{bound, with_bound, or_any, bounded, slot_state, kind_in, are_alike, holds_kind, new_state, locked_state, slots_after, pairs_after, pointer_at, may_be_same, stale_where, pointers_kept, with_pointer, used, refused, exit_row, row_along, row_branching, slot_fits, pointer_fits, pair_fits, fits}
+use Rattle.geos_verify.specs.Rows.{bound, with_bound, or_any, computed, with_result, bounded, slot_state, kind_in, are_alike, holds_kind, new_state, locked_state, slots_after, pairs_after, pointer_at, may_be_same, stale_where, pointers_kept, with_pointer, used, refused, exit_row, row_along, row_branching, slot_fits, pointer_fits, pair_fits, fits}
 use Rattle.geos_verify.specs.Touched.{calls}
 use Rattle.geos_verify.proofs.Along.{row_along-used}
 use Rattle.geos_infer.proofs.Pairwise.{both, all2-set, all2-get}
@@ -55,35 +56,33 @@ module _ (i : Instr) (r s : Row) (h : fits r s ≡ true) where
   fixed : (a n : ℕ) → fits (with_bound a n r) (with_bound a n s) ≡ true
   fixed a n = with_bound-mono r s a n n h (omega arith)
 
-  bounded-mono : (opcode : Opcode) → fits (bounded i opcode r) (bounded i opcode s) ≡ true
-  bounded-mono Ldi = fixed i.a i.imm
-  bounded-mono Add =
+  computed-mono : (opcode : Opcode) → fits (computed i opcode r) (computed i opcode s) ≡ true
+  computed-mono Ldi = fixed i.a i.imm
+  computed-mono Add =
       let b = bound-mono r s i.b h in
       let c = bound-mono r s i.c h in
       with_bound-mono r s i.a (or_any (bound r i.b + bound r i.c)) (or_any (bound s i.b + bound s i.c)) h (omega arith)
-  bounded-mono Mov = with_bound-mono r s i.a (bound r i.b) (bound s i.b) h (bound-mono r s i.b h)
-  bounded-mono Sub = fixed i.a 65535
-  bounded-mono And =
+  computed-mono Mov = with_bound-mono r s i.a (bound r i.b) (bound s i.b) h (bound-mono r s i.b h)
+  computed-mono Sub = fixed i.a 65535
+  computed-mono And =
       let b = bound-mono r s i.b h in
       with_bound-mono r s i.a (min (bound r i.b) i.imm) (min (bound s i.b) i.imm) h (omega arith)
-  bounded-mono Shr = with_bound-mono r s i.a (bound r i.b / 2 ^ i.imm) (bound s i.b / 2 ^ i.imm) h (shift-mono (bound r i.b) (bound s i.b) i.imm (bound-mono r s i.b h))
-  bounded-mono Muli = with_bound-mono r s i.a (or_any (bound r i.b * i.imm)) (or_any (bound s i.b * i.imm)) h (product-mono (bound r i.b) (bound s i.b) i.imm (bound-mono r s i.b h))
-  bounded-mono Chk =
+  computed-mono Shr = with_bound-mono r s i.a (bound r i.b / 2 ^ i.imm) (bound s i.b / 2 ^ i.imm) h (shift-mono (bound r i.b) (bound s i.b) i.imm (bound-mono r s i.b h))
+  computed-mono Muli = with_bound-mono r s i.a (or_any (bound r i.b * i.imm)) (or_any (bound s i.b * i.imm)) h (product-mono (bound r i.b) (bound s i.b) i.imm (bound-mono r s i.b h))
+  computed-mono Chk =
       let a = bound-mono r s i.a h in
       with_bound-mono r s i.a (min (bound r i.a) i.imm) (min (bound s i.a) i.imm) h (omega arith)
-  bounded-mono Mnew = fixed i.b 65535
-  bounded-mono Lalloc = fixed i.b 65535
-  bounded-mono Lsize = fixed i.b 65535
-  bounded-mono Canew = fixed i.b 65535
-  bounded-mono Cacount = fixed i.b 65535
-  bounded-mono Ldb = fixed i.a 255
-  bounded-mono Ldw = fixed i.a 65535
-  bounded-mono Ldxb = fixed i.a 255
-  bounded-mono Ldxw = fixed i.a 65535
-  bounded-mono Ldcb = fixed i.a 255
-  bounded-mono Ldcw = fixed i.a 65535
-  bounded-mono Plen = fixed i.a 65535
-  bounded-mono _ = h
+  computed-mono _ = h
+
+  result-mono : (opcode : Opcode) (yields : Yields) → fits (with_result i opcode yields r) (with_result i opcode yields s) ≡ true
+  result-mono opcode Nothing = h
+  result-mono opcode Computed = computed-mono opcode
+  result-mono opcode ByteInA = fixed i.a 255
+  result-mono opcode WordInA = fixed i.a 65535
+  result-mono opcode WordInB = fixed i.b 65535
+
+  bounded-mono : (opcode : Opcode) → fits (bounded i opcode r) (bounded i opcode s) ≡ true
+  bounded-mono opcode = result-mono opcode (facts opcode).yields
 
 -- Slots
 

@@ -3,7 +3,7 @@ use Rattle.std.proofs.Common.{◌≡◌, ◌≢◌, ℕ, ◌+◌, ◌<◌, Bool,
 use Rattle.std.specs.Prelude.{◌&&◌, nat_lt, IfSome}
 use Rattle.std.proofs.lemmas.Bool.{and_parts, ltb-true}
 use Rattle.std.proofs.lemmas.Option.{same_Some, none-some}
-use Rattle.geos_image.specs.declared.opcode.Opcode.TheVariants.{Loop}
+use Rattle.geos_opcodes.specs.declared.opcode.Opcode.TheVariants.{Loop}
 use Rattle.geos_image.specs.declared.instr.Instr.{Instr}
 use Rattle.geos_image.specs.Parts.{Parts, Point}
 use Rattle.geos_verify.proofs.Places.{item_at, if_some}

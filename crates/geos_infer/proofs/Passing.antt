@@ -9,14 +9,14 @@ use Rattle.geos_image.specs.declared.row.SlotState.{SlotState}
 use Rattle.geos_image.specs.declared.row.SlotState.TheVariants.{Empty, Mem, Vm, VmMarked, Db, DbMarked}
 use Rattle.geos_image.specs.declared.routine.Routine.{Routine}
 use Rattle.geos_image.specs.Parts.{Parts}
-use Rattle.geos_verify.specs.declared.uses.Width.{Width}
-use Rattle.geos_verify.specs.declared.uses.Offset.{Offset}
-use Rattle.geos_verify.specs.declared.uses.Offset.TheVariants.{Fixed, Indexed, Tested}
-use Rattle.geos_verify.specs.declared.uses.SlotUse.{SlotUse}
-use Rattle.geos_verify.specs.declared.uses.SlotUse.TheVariants.{LocksNew, Locks, Unlocks, Compares, Moves, LooksAt}
-use Rattle.geos_verify.specs.declared.uses.PointerUse.{PointerUse}
-use Rattle.geos_verify.specs.declared.uses.PointerUse.TheVariants.{Loads, Stores, Copies, Duplicates, Measures}
-use Rattle.geos_verify.specs.Uses.{uses_of}
+use Rattle.geos_opcodes.specs.declared.uses.Width.{Width}
+use Rattle.geos_opcodes.specs.declared.uses.Offset.{Offset}
+use Rattle.geos_opcodes.specs.declared.uses.Offset.TheVariants.{Fixed, Indexed, Tested}
+use Rattle.geos_opcodes.specs.declared.uses.SlotUse.{SlotUse}
+use Rattle.geos_opcodes.specs.declared.uses.SlotUse.TheVariants.{LocksNew, Locks, Unlocks, Compares, Moves, LooksAt}
+use Rattle.geos_opcodes.specs.declared.uses.PointerUse.{PointerUse}
+use Rattle.geos_opcodes.specs.declared.uses.PointerUse.TheVariants.{Loads, Stores, Copies, Duplicates, Measures}
+use Rattle.geos_opcodes.specs.Facts.{uses_of}
 use Rattle.geos_verify.specs.Rows.{slot_state, pointer_at, slot_fits, pointer_fits, fits, is_empty, is_stale}
 use Rattle.geos_verify.specs.Touched.{calls}
 use Rattle.geos_verify.specs.Rules.{returns, uses_stale, stale_pointer, reach, least_at, reaches_past, passes_end, is_unmarked, pointed_state, writes_unmarked, moves_unmarked, changes_unmarked, locks_held, locks_into_held, misuses_slot, wrong_slot, at_routine, call_misfits, exit_misfits}

@@ -5,8 +5,8 @@ use Rattle.std.proofs.lemmas.Bool.{and_parts, leb-true, cases_lt}
 use Rattle.std.proofs.lemmas.List.{length-map}
 use Rattle.std.proofs.lemmas.List.Sums.{sum_by-cons}
 use Rattle.std.proofs.lemmas.Option.{slice_get-map, slice_get_within, get_or_from_slice_get, same_Some}
-use Rattle.geos_image.specs.declared.opcode.Opcode.{Opcode}
-use Rattle.geos_image.specs.declared.opcode.Opcode.TheVariants.{Setk, Setkw, Loop, Call}
+use Rattle.geos_opcodes.specs.declared.opcode.Opcode.{Opcode}
+use Rattle.geos_opcodes.specs.declared.opcode.Opcode.TheVariants.{Setk, Setkw, Loop, Call}
 use Rattle.geos_image.specs.declared.instr.Instr.{Instr}
 use Rattle.geos_image.specs.declared.row.Row.{Row}
 use Rattle.geos_image.specs.declared.potential.Potential.{Potential}

@@ -1,6 +1,6 @@
 -- The code of an image, and where control goes in it.
 use Rattle.std.specs.Prelude.{◌≡◌, ◌<◌, ◌≤◌, ◌≢◌, ◌⊎◌, ℕ, ◌+◌, Bool, true, false, List, map, Some, slice_get}
-use Rattle.geos_image.specs.declared.opcode.Opcode.TheVariants.{Loop}
+use Rattle.geos_opcodes.specs.declared.opcode.Opcode.TheVariants.{Loop}
 use Rattle.geos_image.specs.declared.instr.Instr.{Instr}
 use Rattle.geos_image.specs.declared.row.Row.{Row}
 use Rattle.geos_image.specs.declared.routine.Routine.{Routine}

@@ -9,7 +9,7 @@ use Rattle.geos_image.specs.Parts.{Parts, Point}
 use Rattle.geos_image.specs.declared.instr.Instr.{Instr}
 use Rattle.geos_image.specs.Legal.{is_image, is_instr, is_row, is_point}
 use Rattle.geos_image.proofs.Instrs.{is_below, image_parts}
-use Rattle.geos_spelling.specs.declared.fields.Field.TheVariants.{A, B, C, D, Imm, Target}
+use Rattle.geos_opcodes.specs.declared.fields.Field.TheVariants.{A, B, C, D, Imm, Target}
 use Rattle.geos_listing.specs.Instrs.{KeepsLimits}
 
 -- a legal instruction's fields are below the limits of what they hold

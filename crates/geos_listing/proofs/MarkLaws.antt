@@ -5,10 +5,10 @@ use Rattle.std.proofs.lemmas.Bool.{cases_eq, ne_eqb}
 use Rattle.std.proofs.lemmas.List.{get_or-set_same, get_or-set_other}
 use Rattle.std.proofs.lemmas.List.Folds.{list_any_more}
 use Rattle.geos_image.specs.declared.instr.Instr.{Instr}
-use Rattle.geos_image.specs.declared.opcode.Operand.{Operand}
-use Rattle.geos_image.specs.declared.opcode.Operand.TheVariants.{Unused, Word, Counter, Slot, Pointer, Number, Shift, Routine, Label}
+use Rattle.geos_opcodes.specs.declared.opcode.Operand.{Operand}
+use Rattle.geos_opcodes.specs.declared.opcode.Operand.TheVariants.{Unused, Word, Counter, Slot, Pointer, Number, Shift, Routine, Label}
 use Rattle.geos_image.specs.Fields.{TargetFits}
-use Rattle.geos_image.specs.Opcodes.{operands_of}
+use Rattle.geos_opcodes.specs.Facts.{operands_of}
 use Rattle.geos_image.specs.Parts.{Point}
 use Rattle.geos_listing.specs.Instrs.{target_if, target_of, is_at, is_target}
 use Rattle.geos_listing.proofs.Limits.{item_at, get_or-at}

@@ -3,16 +3,17 @@
 use Rattle.std.specs.Prelude.{◌≡◌, ◌<◌, ℕ, Bool, false, ◌==◌, if◌then◌else◌, List, [], ◌++◌, length, Option, Some, None, take, unwrap_or, slice_get, slice_index_or, flat_map, codes, decimal}
 use Rattle.std.specs.List.{list_any}
 use Rattle.std.specs.Option.{option_map_or}
-use Rattle.geos_image.specs.declared.opcode.Operand.{Operand}
-use Rattle.geos_image.specs.declared.opcode.Operand.TheVariants.{Unused, Word, Counter, Slot, Pointer, Number, Shift, Routine, Label}
+use Rattle.geos_opcodes.specs.declared.opcode.Operand.{Operand}
+use Rattle.geos_opcodes.specs.declared.opcode.Operand.TheVariants.{Unused, Word, Counter, Slot, Pointer, Number, Shift, Routine, Label}
 use Rattle.geos_image.specs.declared.instr.Instr.{Instr}
 use Rattle.geos_image.specs.declared.routine.Routine as routine
 use Rattle.geos_image.specs.Parts.{Point, Parts}
 use Rattle.geos_image.specs.Legal.{text_end}
-use Rattle.geos_image.specs.Opcodes.{operands_of, limit}
-use Rattle.geos_spelling.specs.Words.{word_of}
-use Rattle.geos_spelling.specs.declared.fields.Field.{Field}
-use Rattle.geos_spelling.specs.Fields.{fields, operand_at, value_at}
+use Rattle.geos_opcodes.specs.Facts.{operands_of, limit, word_of}
+use Rattle.geos_opcodes.specs.Facts.{word_of}
+use Rattle.geos_opcodes.specs.declared.fields.Field.{Field}
+use Rattle.geos_opcodes.specs.Fields.{fields, operand_at}
+use Rattle.geos_image.specs.Fields.{value_at}
 
 -- a routine's name without the zeros behind it
 abbrev pub name_of : routine.Routine → List ℕ

@@ -1,12 +1,12 @@
 //! The lines of instructions.
 
 ghost use Rattle.std.specs.Prelude.{◌≡◌, ◌<◌, ◌++◌, OnOk, length, codes, decimal};
-ghost use Rattle.geos_image.specs.Opcodes.{limit};
+ghost use Rattle.geos_opcodes.specs.Facts.{limit};
 ghost use Rattle.geos_listing.specs.Instrs.{KeepsLimits, operand_text, operands_text, instr_code, instr_line};
 
 use crate::numbers::put_number;
-use geos_image::{Image, Instr, Operand};
-use geos_spelling::{FIELDS, operand_at, value_at, word_of};
+use geos_image::{Image, Instr, value_at};
+use geos_opcodes::{FIELDS, Operand, operand_at};
 use std::alloc::AllocError;
 
 /// A sign and a number.
@@ -60,7 +60,7 @@ pub fn put_code(out: &mut Vec<u8>, image: &Image, instr: &Instr) -> Result<(), A
     ensures { OnOk result (out.new.items ≡ out.old.items ++ instr_code image.now.routines instr.now) }
 {
     out.extend_from_slice(b"    ")?;
-    out.extend_from_slice(word_of(instr.opcode).as_bytes())?;
+    out.extend_from_slice(instr.opcode.word().as_bytes())?;
     put_operands(out, image, instr)
 }
 

@@ -3,8 +3,8 @@
 ghost use Rattle.std.specs.Prelude.{◌≡◌};
 ghost use Rattle.geos_listing.specs.Instrs.{target_of, MarksTargets};
 
-use geos_image::{Image, Instr, Operand};
-use geos_spelling::{Field, operand_at};
+use geos_image::{Image, Instr};
+use geos_opcodes::{Field, Operand, operand_at};
 
 /// For each pc of an image, of which there are at most so many, whether a label names it.
 pub type Targets = [bool; 4096];

@@ -5,8 +5,8 @@ use Rattle.std.proofs.lemmas.Bool.{and_parts, or_parts, eqb-true, eqb-false, not
 use Rattle.std.proofs.lemmas.List.{get_or-set_other}
 use Rattle.geos_model.specs.declared.name.Name.{Name}
 use Rattle.geos_image.specs.declared.row.Row.{Row}
-use Rattle.geos_verify.specs.declared.uses.Kind.{Kind}
-use Rattle.geos_verify.specs.declared.uses.Kind.TheVariants.{MemBlock, VmBlock, DbGroup}
+use Rattle.geos_opcodes.specs.declared.uses.Kind.{Kind}
+use Rattle.geos_opcodes.specs.declared.uses.Kind.TheVariants.{MemBlock, VmBlock, DbGroup}
 use Rattle.geos_verify.specs.Pairs.{slot_pairs, is_pair, has_slot, each_pair, without_slot, with_pair, with_pairs, has_pair, are_apart}
 use Rattle.geos_verify.specs.Rows.{slot_state, are_alike, may_be_same}
 use Rattle.geos_semantics.specs.Lists.{Each, Each2}

@@ -4,8 +4,8 @@ use Rattle.geos_model.specs.Memory.{chunks_at}
 use Rattle.geos_model.specs.ArrayEdits.{create_array, append_element, insert_element, remove_element, clear_array, resize_element}
 use Rattle.geos_model.specs.ArrayCalls.{canew, caadd, cains, cadel, cacount, caelt, cazero, caresize}
 use Rattle.geos_model.proofs.Keeps.{rows_keep_memory}
-use Rattle.geos_image.specs.declared.opcode.Opcode.TheVariants as op
-use Rattle.geos_verify.specs.declared.uses.SlotUse.TheVariants.{LooksAt}
+use Rattle.geos_opcodes.specs.declared.opcode.Opcode.TheVariants as op
+use Rattle.geos_opcodes.specs.declared.uses.SlotUse.TheVariants.{LooksAt}
 use Rattle.geos_semantics.specs.State.{word, name_at}
 use Rattle.geos_semantics.proofs.ArrayAnswers.{array-handle-most, count-most, element-led}
 use Rattle.geos_semantics.proofs.Moments.{Moment, StepsWell, unfaulted-here, fields-here, along_edge, branch_edge}
@@ -18,7 +18,7 @@ module _ (moment : Moment) where
   canew-well is choice =
       let i = G.point.0 in
       let name = name_at s i.a in
-      making-well moment (unfaulted-here moment op.Canew is).right (along_edge moment op.Canew is refl) (branch_edge moment op.Canew is refl) (canew name i.imm) ((create_array i.imm (chunks_at s.memory name)).chunks) (rows_keep_memory.by_canew name i.imm (fields-here moment op.Canew is).2) (λ choice. (refl, refl, λ r. refl)) choice
+      making-well moment (unfaulted-here moment op.Canew is).right (along_edge moment op.Canew is refl) (branch_edge moment op.Canew is refl) (canew name i.imm) ((create_array i.imm (chunks_at s.memory name)).chunks) (rows_keep_memory.by_canew name i.imm (fields-here moment op.Canew is).4) (λ choice. (refl, refl, λ r. refl)) choice
       (array-handle-most choice s.memory name i.imm)
 
   pub caadd-well : StepsWell moment op.Caadd

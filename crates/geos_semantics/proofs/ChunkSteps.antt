@@ -7,8 +7,8 @@ use Rattle.geos_model.specs.Chunks.{chunk_of, bytes_of, with_new, without, with_
 use Rattle.geos_model.specs.Memory.{Memory, chunks_at}
 use Rattle.geos_model.specs.Calls.{lalloc, lfree, lrealloc, lins, ldel, lsize, deref, lcontract}
 use Rattle.geos_model.proofs.Keeps.{rows_keep_memory}
-use Rattle.geos_image.specs.declared.opcode.Opcode.TheVariants as op
-use Rattle.geos_verify.specs.declared.uses.SlotUse.TheVariants.{LooksAt}
+use Rattle.geos_opcodes.specs.declared.opcode.Opcode.TheVariants as op
+use Rattle.geos_opcodes.specs.declared.uses.SlotUse.TheVariants.{LooksAt}
 use Rattle.geos_verify.proofs.Passed.{passed}
 use Rattle.geos_semantics.specs.State.{word, name_at}
 use Rattle.geos_semantics.specs.Meets.{IsInChunk}

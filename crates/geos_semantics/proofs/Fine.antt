@@ -13,7 +13,7 @@ use Rattle.geos_model.specs.Effects.{Reference, Nothing, InBlock, Effect, come_t
 use Rattle.geos_image.specs.declared.instr.Instr.{Instr}
 use Rattle.geos_image.specs.declared.row.Row.{Row}
 use Rattle.geos_image.specs.declared.row.Pointer.{Pointer}
-use Rattle.geos_verify.specs.declared.uses.SlotUse.TheVariants.{Moves}
+use Rattle.geos_opcodes.specs.declared.uses.SlotUse.TheVariants.{Moves}
 use Rattle.geos_verify.specs.Rows.{with_bound, may_be_same, pointers_kept, stale_where}
 use Rattle.geos_semantics.specs.Lists.{Each2}
 use Rattle.geos_semantics.specs.State.{SlotReference, State, with_word, slot, with_pointer, kept_pointer, kept_pointers}

@@ -11,9 +11,9 @@ use Rattle.geos_image.specs.declared.instr.Instr.{Instr}
 use Rattle.geos_image.specs.declared.row.Row.{Row}
 use Rattle.geos_image.specs.declared.row.Pointer.{Pointer}
 use Rattle.geos_image.specs.declared.row.SlotState.TheVariants.{Empty, Mem}
-use Rattle.geos_verify.specs.declared.uses.Kind.{Kind}
-use Rattle.geos_verify.specs.declared.uses.Kind.TheVariants.{MemBlock, VmBlock, DbGroup}
-use Rattle.geos_verify.specs.declared.uses.SlotUse.TheVariants.{LocksNew, Locks, Unlocks}
+use Rattle.geos_opcodes.specs.declared.uses.Kind.{Kind}
+use Rattle.geos_opcodes.specs.declared.uses.Kind.TheVariants.{MemBlock, VmBlock, DbGroup}
+use Rattle.geos_opcodes.specs.declared.uses.SlotUse.TheVariants.{LocksNew, Locks, Unlocks}
 use Rattle.geos_verify.specs.Rows.{pairs_after, pointers_kept, slots_after, stale_where, slot_state, holds_kind}
 use Rattle.geos_semantics.specs.Lists.{Each2}
 use Rattle.geos_semantics.specs.State.{Held, name_of, SlotReference, State, slot, same_name, kept_pointer, kept_pointers}

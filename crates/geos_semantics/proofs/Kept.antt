@@ -8,8 +8,8 @@ use Rattle.geos_model.specs.Effects.{Staleness, Nothing}
 use Rattle.geos_image.specs.declared.row.Pointer.{Pointer}
 use Rattle.geos_image.specs.declared.row.SlotState.{SlotState}
 use Rattle.geos_image.specs.declared.row.SlotState.TheVariants.{Empty, Mem, Vm, VmMarked, Db, DbMarked}
-use Rattle.geos_verify.specs.declared.uses.Kind.{Kind}
-use Rattle.geos_verify.specs.declared.uses.Kind.TheVariants.{MemBlock, VmBlock, DbGroup}
+use Rattle.geos_opcodes.specs.declared.uses.Kind.{Kind}
+use Rattle.geos_opcodes.specs.declared.uses.Kind.TheVariants.{MemBlock, VmBlock, DbGroup}
 use Rattle.geos_verify.specs.Rows.{stale_where}
 use Rattle.geos_semantics.specs.Lists.{Each, Each2}
 use Rattle.geos_semantics.specs.State.{Held, name_of, SlotReference, State, is_made_stale, kept_pointer, kept_pointers}

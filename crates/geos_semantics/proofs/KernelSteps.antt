@@ -11,8 +11,8 @@ use Rattle.geos_model.specs.Keeping.{Keeps}
 use Rattle.geos_model.specs.Calls.{written}
 use Rattle.geos_model.proofs.Keeps.{rows_keep_memory}
 use Rattle.geos_image.specs.declared.row.Row.{Row}
-use Rattle.geos_verify.specs.declared.uses.SlotUse.{SlotUse}
-use Rattle.geos_verify.specs.declared.uses.SlotUse.TheVariants.{Moves, LooksAt}
+use Rattle.geos_opcodes.specs.declared.uses.SlotUse.{SlotUse}
+use Rattle.geos_opcodes.specs.declared.uses.SlotUse.TheVariants.{Moves, LooksAt}
 use Rattle.geos_verify.specs.Rows.{with_bound, pointers_kept}
 use Rattle.geos_verify.specs.Rows as rows
 use Rattle.geos_verify.specs.Potentials.{pays}

@@ -10,8 +10,8 @@ use Rattle.geos_model.specs.Chunks.{chunk_of}
 use Rattle.geos_model.specs.Memory.{Block, Memory, block_of, with_block, locks_in, chunks_in, locks_of}
 use Rattle.geos_model.specs.Legal.{IsMemory}
 use Rattle.geos_model.specs.Effects.{Reference, Nothing, OfLock}
-use Rattle.geos_verify.specs.declared.uses.Kind.{Kind}
-use Rattle.geos_verify.specs.declared.uses.Kind.TheVariants.{MemBlock, VmBlock, DbGroup}
+use Rattle.geos_opcodes.specs.declared.uses.Kind.{Kind}
+use Rattle.geos_opcodes.specs.declared.uses.Kind.TheVariants.{MemBlock, VmBlock, DbGroup}
 use Rattle.geos_semantics.specs.Lists.{Each}
 use Rattle.geos_semantics.specs.State.{Held, name_of, SlotReference, State, slot, same_name, kept_pointer, kept_pointers}
 use Rattle.geos_semantics.specs.Meets.{name_held, IsOfKind, SlotIsSound, IsInChunk, PointerIsSound, holds_once, holds, Sound}

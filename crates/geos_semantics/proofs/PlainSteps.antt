@@ -6,8 +6,8 @@ use Rattle.std.proofs.lemmas.List.{set-get_or}
 use Rattle.geos_model.specs.declared.refusal.Refusal.{Refusal}
 use Rattle.geos_model.specs.declared.refusal.Refusal.TheVariants.{Full}
 use Rattle.geos_model.specs.Refusals.{refusal_number, first_refusal}
-use Rattle.geos_image.specs.declared.opcode.Opcode.{Opcode}
-use Rattle.geos_image.specs.declared.opcode.Opcode.TheVariants as op
+use Rattle.geos_opcodes.specs.declared.opcode.Opcode.{Opcode}
+use Rattle.geos_opcodes.specs.declared.opcode.Opcode.TheVariants as op
 use Rattle.geos_image.specs.declared.potential.Potential.{Potential}
 use Rattle.geos_verify.specs.Rows.{bound, with_bound, or_any}
 use Rattle.geos_verify.specs.Touched.{counts, touches}
@@ -96,9 +96,9 @@ module _ (moment : Moment) where
   own_counter opcode is counting = (few opcode is counting, touches-own image s.routine s.pc G.routine G.point G.has (rw is counting))
     where
       few : (opcode : Opcode) → G.point.0.opcode ≡ opcode → counts opcode ≡ true → G.point.0.a < 4
-      few op.Setk is counting = fields-here moment op.Setk is
+      few op.Setk is counting = (fields-here moment op.Setk is).0
       few op.Setkw is counting = (fields-here moment op.Setkw is).0
-      few op.Loop is counting = fields-here moment op.Loop is
+      few op.Loop is counting = (fields-here moment op.Loop is).0
       few _ is counting = absurd cc
 
   -- it was set, and what is owed is less

@@ -8,10 +8,10 @@ use Rattle.geos_model.specs.Legal.{AreBytes, IsMemory}
 use Rattle.geos_model.specs.Effects.{Choice, Reference, Nothing}
 use Rattle.geos_model.specs.Calls.{store, named_bytes, written}
 use Rattle.geos_model.proofs.Keeps.{named_bytes-legal}
-use Rattle.geos_image.specs.declared.opcode.Opcode.TheVariants as op
-use Rattle.geos_verify.specs.declared.uses.Width.{Width}
-use Rattle.geos_verify.specs.declared.uses.Width.TheVariants.{Byte, Word}
-use Rattle.geos_verify.specs.declared.uses.SlotUse.TheVariants.{NoSlot}
+use Rattle.geos_opcodes.specs.declared.opcode.Opcode.TheVariants as op
+use Rattle.geos_opcodes.specs.declared.uses.Width.{Width}
+use Rattle.geos_opcodes.specs.declared.uses.Width.TheVariants.{Byte, Both}
+use Rattle.geos_opcodes.specs.declared.uses.SlotUse.TheVariants.{NoSlot}
 use Rattle.geos_verify.specs.Rows.{with_bound, pointer_at}
 use Rattle.geos_verify.specs.Rows as rows
 use Rattle.geos_verify.specs.Potentials.{pays}
@@ -31,22 +31,22 @@ use Rattle.geos_semantics.proofs.KernelSteps.{LeavesAll, fine-unchanged, calls-w
 low-bytes : (width : Width) (n : ℕ) → AreBytes (low_bytes width n)
 low-bytes Byte n zero d lt = omega arith
 low-bytes Byte n (suc k) d lt = absurd (omega (arith, lt))
-low-bytes Word n zero d lt = omega arith
-low-bytes Word n (suc zero) d lt = omega arith
-low-bytes Word n (suc (suc k)) d lt = absurd (omega (arith, lt))
+low-bytes Both n zero d lt = omega arith
+low-bytes Both n (suc zero) d lt = omega arith
+low-bytes Both n (suc (suc k)) d lt = absurd (omega (arith, lt))
 
 -- the greatest number in so many bytes
 abbrev most_in : Width → ℕ
 most_in Byte = 255
-most_in Word = 65535
+most_in Both = 65535
 
 load-leaves : (width : Width) (ref : Reference) (at : ℕ) (choice : Choice) (m : Memory) → LeavesAll (load width ref at choice m) m
 load-leaves Byte ref at choice m = (refl, refl, λ r. refl)
-load-leaves Word ref at choice m = (refl, refl, λ r. refl)
+load-leaves Both ref at choice m = (refl, refl, λ r. refl)
 
 load-most : (width : Width) (ref : Reference) (at : ℕ) (choice : Choice) (m : Memory) → IsMemory m → (load width ref at choice m).answer ≤ most_in width
 load-most Byte ref at choice m legal = byte-most (named_bytes m ref) at (named_bytes-legal m ref legal)
-load-most Word ref at choice m legal = word-most (named_bytes m ref) at (named_bytes-legal m ref legal)
+load-most Both ref at choice m legal = word-most (named_bytes m ref) at (named_bytes-legal m ref legal)
 
 module _ (moment : Moment) where
   open moment use {image, base, state as s, good as G}
@@ -58,19 +58,19 @@ module _ (moment : Moment) where
     where
       go : (width : Width) → Leads image s.routine G.routine (s.pc + 1) (with_bound G.point.0.a (most_in width) G.point.1) (pays G.point.2) → Well moment (reads width at choice G.point.0 s)
       go Byte L = fine-goes moment _ (s.pc + 1) _ L (fine-word base s _ G.point.1 G.point.0.a _ 255 (fine-unchanged moment) (load-most Byte (reference_at s G.point.0.b) at choice s.memory G.sound.memory))
-      go Word L = fine-goes moment _ (s.pc + 1) _ L (fine-word base s _ G.point.1 G.point.0.a _ 65535 (fine-unchanged moment) (load-most Word (reference_at s G.point.0.b) at choice s.memory G.sound.memory))
+      go Both L = fine-goes moment _ (s.pc + 1) _ L (fine-word base s _ G.point.1 G.point.0.a _ 65535 (fine-unchanged moment) (load-most Both (reference_at s G.point.0.b) at choice s.memory G.sound.memory))
 
   pub ldb-well : StepsWell moment op.Ldb
   ldb-well is choice = read-well Byte G.point.0.imm choice (along_edge moment op.Ldb is refl)
 
   pub ldw-well : StepsWell moment op.Ldw
-  ldw-well is choice = read-well Word G.point.0.imm choice (along_edge moment op.Ldw is refl)
+  ldw-well is choice = read-well Both G.point.0.imm choice (along_edge moment op.Ldw is refl)
 
   pub ldxb-well : StepsWell moment op.Ldxb
   ldxb-well is choice = read-well Byte (word s G.point.0.c) choice (along_edge moment op.Ldxb is refl)
 
   pub ldxw-well : StepsWell moment op.Ldxw
-  ldxw-well is choice = read-well Word (word s G.point.0.c) choice (along_edge moment op.Ldxw is refl)
+  ldxw-well is choice = read-well Both (word s G.point.0.c) choice (along_edge moment op.Ldxw is refl)
 
   -- the low bytes of a word go where a pointer leads
   stored-fine : (width : Width) (at : ℕ) → is_none (pointer s G.point.0.b) ≡ false
@@ -84,13 +84,13 @@ module _ (moment : Moment) where
   stb-well is choice = write-well Byte G.point.0.imm choice (unfaulted-here moment op.Stb is).fresh (along_edge moment op.Stb is refl)
 
   pub stw-well : StepsWell moment op.Stw
-  stw-well is choice = write-well Word G.point.0.imm choice (unfaulted-here moment op.Stw is).fresh (along_edge moment op.Stw is refl)
+  stw-well is choice = write-well Both G.point.0.imm choice (unfaulted-here moment op.Stw is).fresh (along_edge moment op.Stw is refl)
 
   pub stxb-well : StepsWell moment op.Stxb
   stxb-well is choice = write-well Byte (word s G.point.0.c) choice (unfaulted-here moment op.Stxb is).fresh (along_edge moment op.Stxb is refl)
 
   pub stxw-well : StepsWell moment op.Stxw
-  stxw-well is choice = write-well Word (word s G.point.0.c) choice (unfaulted-here moment op.Stxw is).fresh (along_edge moment op.Stxw is refl)
+  stxw-well is choice = write-well Both (word s G.point.0.c) choice (unfaulted-here moment op.Stxw is).fresh (along_edge moment op.Stxw is refl)
 
   -- Reads and writes whose offset is tested
 
@@ -105,7 +105,7 @@ module _ (moment : Moment) where
   ldcb-well is choice = tested-read-well Byte choice (along_edge moment op.Ldcb is refl) (branch_edge moment op.Ldcb is refl)
 
   pub ldcw-well : StepsWell moment op.Ldcw
-  ldcw-well is choice = tested-read-well Word choice (along_edge moment op.Ldcw is refl) (branch_edge moment op.Ldcw is refl)
+  ldcw-well is choice = tested-read-well Both choice (along_edge moment op.Ldcw is refl) (branch_edge moment op.Ldcw is refl)
 
   tested-write-well : (width : Width) (choice : Choice) → is_none (pointer s G.point.0.b) ≡ false → Leads image s.routine G.routine (s.pc + 1) G.point.1 (pays G.point.2)
       → Leads image s.routine G.routine G.point.0.target (rows.refused G.point.0 NoSlot G.point.1) (pays G.point.2) → Well moment (writes_within width (word s G.point.0.c) choice G.point.0 s)
@@ -118,7 +118,7 @@ module _ (moment : Moment) where
   stcb-well is choice = tested-write-well Byte choice (unfaulted-here moment op.Stcb is).fresh (along_edge moment op.Stcb is refl) (branch_edge moment op.Stcb is refl)
 
   pub stcw-well : StepsWell moment op.Stcw
-  stcw-well is choice = tested-write-well Word choice (unfaulted-here moment op.Stcw is).fresh (along_edge moment op.Stcw is refl) (branch_edge moment op.Stcw is refl)
+  stcw-well is choice = tested-write-well Both choice (unfaulted-here moment op.Stcw is).fresh (along_edge moment op.Stcw is refl) (branch_edge moment op.Stcw is refl)
 
   -- Pointers as a whole
 

@@ -2,7 +2,7 @@
 use Rattle.std.proofs.Common.{◌≡◌, ℕ, List, [], ◌∷◌, ◌++◌, Option, Some, None, refl, true, false, Ok, Err}
 use Rattle.std.specs.Prelude.{codes}
 use Rattle.geos_image.specs.declared.row.SlotState.TheVariants.{Empty, VmMarked}
-use Rattle.geos_image.specs.declared.opcode.Opcode.TheVariants.{Ldi, Add, Ret, Out}
+use Rattle.geos_opcodes.specs.declared.opcode.Opcode.TheVariants.{Ldi, Add, Ret, Out}
 use Rattle.geos_image.specs.Open.{open_row}
 use Rattle.geos_source.specs.declared.fault.Why.{Why}
 use Rattle.geos_source.specs.declared.fault.Why.TheVariants.{UnknownWord, WrongOperands, OutOfRange, Undefined, UsedTwice, OutOfPlace}

@@ -4,13 +4,12 @@ use Rattle.std.proofs.Common.{◌≡◌, ◌<◌, ℕ, true, nat_lt, ◌&&◌, L
 use Rattle.std.specs.Option.{ok_or}
 use Rattle.std.proofs.lemmas.Bool.{and_from, lt-ltb}
 use Rattle.geos_image.specs.declared.instr.Instr.{Instr}
-use Rattle.geos_image.specs.declared.opcode.Opcode.{Opcode}
-use Rattle.geos_image.specs.declared.opcode.Operand.{Operand}
-use Rattle.geos_image.specs.declared.opcode.Operand.TheVariants.{Unused, Word, Counter, Slot, Pointer, Number, Shift, Routine, Label}
-use Rattle.geos_image.specs.declared.opcode.Operands.{Operands}
-use Rattle.geos_image.specs.Opcodes.{operands_of, limit}
+use Rattle.geos_opcodes.specs.declared.opcode.Opcode.{Opcode}
+use Rattle.geos_opcodes.specs.declared.opcode.Operand.{Operand}
+use Rattle.geos_opcodes.specs.declared.opcode.Operand.TheVariants.{Unused, Word, Counter, Slot, Pointer, Number, Shift, Routine, Label}
+use Rattle.geos_opcodes.specs.declared.opcode.Operands.{Operands}
+use Rattle.geos_opcodes.specs.Facts.{operands_of, limit, opcode_of_word}
 use Rattle.geos_image.specs.Legal.{is_instr}
-use Rattle.geos_spelling.specs.Words.{opcode_of_word}
 use Rattle.geos_text.specs.Registers.{register_of}
 use Rattle.geos_source.specs.declared.fault.Why.{Why}
 use Rattle.geos_source.specs.declared.fault.Why.TheVariants.{WrongOperands}

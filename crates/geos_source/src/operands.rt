@@ -2,7 +2,7 @@
 
 ghost use Rattle.std.specs.Prelude.{◌≡◌, ◌≤◌, IfOk};
 ghost use Rattle.std.specs.Option.{ok_or};
-ghost use Rattle.geos_spelling.specs.Fields.{is_written};
+ghost use Rattle.geos_opcodes.specs.Fields.{is_written};
 ghost use Rattle.geos_text.specs.Words.{words};
 ghost use Rattle.geos_source.specs.declared.fault.Why.TheVariants.{WrongOperands};
 ghost use Rattle.geos_source.specs.Faults.{least};
@@ -11,8 +11,8 @@ ghost use Rattle.geos_source.specs.Readings.{reading_of, names_of};
 
 use crate::fault::{Why, least};
 use crate::names::Table;
-use geos_image::{Instr, Opcode, Operand};
-use geos_spelling::{opcode_of_word, register_letter};
+use geos_image::Instr;
+use geos_opcodes::{Opcode, Operand};
 use geos_text::{NumberError, first_word, number_up_to, register};
 
 /// The names of a text: labels and routines are two sets of names.
@@ -191,7 +191,7 @@ fn instr_of(names: &Names, opcode: Opcode, operands: &[u8]) -> Result<Instr, Why
 pub(crate) fn instruction(names: &Names, word: &[u8], operands: &[u8]) -> Result<Instr, Why>
     ensures { result ≡ instruction (names_of names.now) word.now (words operands.now) }
 {
-    match opcode_of_word(word) {
+    match Opcode::from_word(word) {
         None => Err(Why::UnknownWord),
         Some(opcode) => instr_of(names, opcode, operands),
     }

@@ -1,11 +1,11 @@
 -- The row after an instruction that is no call.
 use Rattle.std.proofs.Common.{◌≡◌, refl}
-use Rattle.geos_image.specs.declared.opcode.Opcode.{Opcode}
-use Rattle.geos_image.specs.declared.opcode.Opcode.TheVariants.{Call}
+use Rattle.geos_opcodes.specs.declared.opcode.Opcode.{Opcode}
+use Rattle.geos_opcodes.specs.declared.opcode.Opcode.TheVariants.{Call}
 use Rattle.geos_image.specs.declared.instr.Instr.{Instr}
 use Rattle.geos_image.specs.declared.row.Row.{Row}
 use Rattle.geos_image.specs.Parts.{Parts}
-use Rattle.geos_verify.specs.Uses.{uses_of}
+use Rattle.geos_opcodes.specs.Facts.{uses_of}
 use Rattle.geos_verify.specs.Rows.{bounded, used, row_along}
 
 -- where no routine is called, the row goes by the table of uses

@@ -1,3 +1,4 @@
+pub mod Fitting
 pub mod Along
 pub mod Four
 pub mod Noted

@@ -3,7 +3,7 @@ use Rattle.std.proofs.Common.{◌≡◌, ℕ, Bool, true, false, None, List, [],
 use Rattle.geos_model.specs.Refusals.{first_refusal}
 use Rattle.geos_image.specs.declared.routine.Routine.{Routine}
 use Rattle.geos_image.specs.Parts.{Point, Parts}
-use Rattle.geos_verify.specs.Rules.{leaves_routine, names_empty_slot, entry_misfits, stale_pointer, passes_end, changes_unmarked, locks_into_held, wrong_slot, call_misfits, exit_misfits, edge_misfits, edge_unpaid, over_budget, tests, refusal}
+use Rattle.geos_verify.specs.Rules.{leaves_routine, entry_misfits, stale_pointer, passes_end, changes_unmarked, locks_into_held, wrong_slot, call_misfits, exit_misfits, edge_misfits, edge_unpaid, over_budget, tests, refusal}
 
 -- every test is false
 abbrev pub Passed : {R : Type 0} → List (Bool × R) → Type 0

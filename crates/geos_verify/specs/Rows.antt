@@ -1,27 +1,31 @@
 -- What is known after an instruction, and whether an entry state fits another.
-use Rattle.std.specs.Prelude.{◌≡◌, ℕ, ◌+◌, ◌*◌, ◌/◌, ◌^◌, min, Bool, true, false, ◌&&◌, ◌||◌, not, nat_le, ◌==◌, if◌then◌else◌, List, map, Option, Some, None, slice_index, slice_index_or, slice_set, slice_get}
+use Rattle.std.specs.Prelude.{◌≡◌, ◌<◌, ℕ, ◌+◌, ◌*◌, ◌/◌, ◌^◌, min, Bool, true, false, ◌&&◌, ◌||◌, not, nat_le, ◌==◌, if◌then◌else◌, List, map, Option, Some, None, slice_index, slice_index_or, slice_set, slice_get}
 use Rattle.std.specs.List.{list_all}
-use Rattle.geos_image.specs.declared.opcode.Opcode.{Opcode}
-use Rattle.geos_image.specs.declared.opcode.Opcode.TheVariants.{Ldi, Mov, Add, Sub, And, Shr, Muli, Chk, Jmp, Call, Ret, Mnew, Lalloc, Lsize, Ldb, Ldw, Ldxb, Ldxw, Ldcb, Ldcw, Plen, Canew, Cacount}
-use Rattle.geos_image.specs.declared.opcode.Operand.{Operand}
-use Rattle.geos_image.specs.declared.opcode.Operand.TheVariants.{Label}
+use Rattle.geos_opcodes.specs.declared.opcode.Opcode.{Opcode}
+use Rattle.geos_opcodes.specs.declared.opcode.Opcode.TheVariants.{Ldi, Mov, Add, Sub, And, Shr, Muli, Chk, Call}
+use Rattle.geos_opcodes.specs.declared.opcode.Operand.{Operand}
+use Rattle.geos_opcodes.specs.declared.opcode.Operand.TheVariants.{Label}
 use Rattle.geos_image.specs.declared.instr.Instr.{Instr}
 use Rattle.geos_image.specs.declared.row.Row.{Row}
 use Rattle.geos_image.specs.declared.row.Pointer.{Pointer}
 use Rattle.geos_image.specs.declared.row.SlotState.{SlotState}
 use Rattle.geos_image.specs.declared.row.SlotState.TheVariants.{Empty, Mem, Vm, VmMarked, Db, DbMarked}
-use Rattle.geos_image.specs.Opcodes.{operands_of}
+use Rattle.geos_opcodes.specs.Facts.{facts, operands_of, uses_of}
+use Rattle.geos_opcodes.specs.declared.facts.Flow.{Flow}
+use Rattle.geos_opcodes.specs.declared.facts.Flow.TheVariants.{Jumps, Returns}
+use Rattle.geos_opcodes.specs.declared.facts.Yields.{Yields}
+use Rattle.geos_opcodes.specs.declared.facts.Yields.TheVariants.{Nothing, Computed, ByteInA, WordInA, WordInB}
 use Rattle.geos_image.specs.Parts.{Point, Parts}
-use Rattle.geos_verify.specs.declared.uses.Kind.{Kind}
-use Rattle.geos_verify.specs.declared.uses.Kind.TheVariants.{MemBlock, VmBlock, DbGroup}
-use Rattle.geos_verify.specs.declared.uses.SlotUse.{SlotUse}
-use Rattle.geos_verify.specs.declared.uses.SlotUse.TheVariants.{LocksNew, Locks, Unlocks, Compares, Moves}
-use Rattle.geos_verify.specs.declared.uses.PointerUse.{PointerUse}
-use Rattle.geos_verify.specs.declared.uses.PointerUse.TheVariants.{Sets, Duplicates}
-use Rattle.geos_verify.specs.declared.uses.Uses.{Uses}
+use Rattle.geos_opcodes.specs.declared.uses.Kind.{Kind}
+use Rattle.geos_opcodes.specs.declared.uses.Kind.TheVariants.{MemBlock, VmBlock, DbGroup}
+use Rattle.geos_opcodes.specs.declared.uses.SlotUse.{SlotUse}
+use Rattle.geos_opcodes.specs.declared.uses.SlotUse.TheVariants.{LocksNew, Locks, Unlocks, Compares, Moves}
+use Rattle.geos_opcodes.specs.declared.uses.PointerUse.{PointerUse}
+use Rattle.geos_opcodes.specs.declared.uses.PointerUse.TheVariants.{Sets, Duplicates}
+use Rattle.geos_opcodes.specs.declared.uses.Uses.{Uses}
 use Rattle.geos_verify.specs.Lists.{all2}
 use Rattle.geos_verify.specs.Pairs.{without_slot, with_pair, with_pairs, are_apart}
-use Rattle.geos_verify.specs.Uses.{uses_of, same_kind}
+use Rattle.geos_verify.specs.Uses.{same_kind}
 
 -- Edges
 
@@ -30,10 +34,14 @@ abbrev pub at_point : Parts → ℕ → (Point → Bool) → Bool
 at_point image pc test = elim (slice_get image.points pc) [ None ↦ true | Some point ↦ test point ]
 
 -- control may go on to the next instruction
+abbrev pub goes_on : Flow → Bool
+goes_on Jumps = false
+goes_on Returns = false
+goes_on _ = true
+
+-- control may go on to the next instruction
 abbrev pub falls_through : Opcode → Bool
-falls_through Jmp = false
-falls_through Ret = false
-falls_through _ = true
+falls_through opcode = goes_on (facts opcode).flow
 
 -- the operand is the pc of an instruction
 abbrev pub is_label : Operand → Bool
@@ -63,30 +71,36 @@ with_bound a n row = record row { bounds = slice_set row.bounds a n }
 abbrev pub or_any : ℕ → ℕ
 or_any n = min n 65535
 
--- the row with the bound of the word that is the instruction's result, where it goes on to the
--- next instruction
+-- the row with the bound of the word that an instruction computes
+abbrev pub computed : Instr → Opcode → Row → Row
+computed i Ldi row = with_bound i.a i.imm row
+computed i Mov row = with_bound i.a (bound row i.b) row
+computed i Add row = with_bound i.a (or_any (bound row i.b + bound row i.c)) row
+computed i Sub row = with_bound i.a 65535 row
+computed i And row = with_bound i.a (min (bound row i.b) i.imm) row
+computed i Shr row = with_bound i.a (bound row i.b / 2 ^ i.imm) row
+computed i Muli row = with_bound i.a (or_any (bound row i.b * i.imm)) row
+computed i Chk row = with_bound i.a (min (bound row i.a) i.imm) row
+computed i _ row = row
+
+-- the row with the bound of the word that is the instruction's result
+abbrev pub with_result : Instr → Opcode → Yields → Row → Row
+with_result i opcode Nothing row = row
+with_result i opcode Computed row = computed i opcode row
+with_result i opcode ByteInA row = with_bound i.a 255 row
+with_result i opcode WordInA row = with_bound i.a 65535 row
+with_result i opcode WordInB row = with_bound i.b 65535 row
+
+-- the same where it goes on to the next instruction
 abbrev pub bounded : Instr → Opcode → Row → Row
-bounded i Ldi row = with_bound i.a i.imm row
-bounded i Mov row = with_bound i.a (bound row i.b) row
-bounded i Add row = with_bound i.a (or_any (bound row i.b + bound row i.c)) row
-bounded i Sub row = with_bound i.a 65535 row
-bounded i And row = with_bound i.a (min (bound row i.b) i.imm) row
-bounded i Shr row = with_bound i.a (bound row i.b / 2 ^ i.imm) row
-bounded i Muli row = with_bound i.a (or_any (bound row i.b * i.imm)) row
-bounded i Chk row = with_bound i.a (min (bound row i.a) i.imm) row
-bounded i Mnew row = with_bound i.b 65535 row
-bounded i Lalloc row = with_bound i.b 65535 row
-bounded i Lsize row = with_bound i.b 65535 row
-bounded i Ldb row = with_bound i.a 255 row
-bounded i Ldw row = with_bound i.a 65535 row
-bounded i Ldxb row = with_bound i.a 255 row
-bounded i Ldxw row = with_bound i.a 65535 row
-bounded i Ldcb row = with_bound i.a 255 row
-bounded i Ldcw row = with_bound i.a 65535 row
-bounded i Plen row = with_bound i.a 65535 row
-bounded i Canew row = with_bound i.b 65535 row
-bounded i Cacount row = with_bound i.b 65535 row
-bounded i _ row = row
+bounded i opcode row = with_result i opcode (facts opcode).yields row
+
+-- the word that a result comes to is one that there is
+abbrev pub YieldsFit : Yields → Instr → Type 0
+YieldsFit ByteInA i = i.a < 8
+YieldsFit WordInA i = i.a < 8
+YieldsFit WordInB i = i.b < 8
+YieldsFit _ i = Unit {0}
 
 -- Slots
 

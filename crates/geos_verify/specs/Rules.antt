@@ -2,8 +2,8 @@
 use Rattle.std.specs.Prelude.{◌≡◌, ◌<◌, ◌≤◌, ℕ, ◌+◌, Bool, true, false, ◌&&◌, ◌||◌, not, nat_lt, nat_le, ◌==◌, List, [], ◌∷◌, Option, Some, None, IfSome, slice_get}
 use Rattle.std.specs.List.{list_any}
 use Rattle.geos_model.specs.Refusals.{first_refusal}
-use Rattle.geos_image.specs.declared.opcode.Opcode.{Opcode}
-use Rattle.geos_image.specs.declared.opcode.Opcode.TheVariants.{Ret}
+use Rattle.geos_opcodes.specs.declared.opcode.Opcode.{Opcode}
+use Rattle.geos_opcodes.specs.declared.opcode.Opcode.TheVariants.{Ret}
 use Rattle.geos_image.specs.declared.instr.Instr.{Instr}
 use Rattle.geos_image.specs.declared.row.Row.{Row}
 use Rattle.geos_image.specs.declared.potential.Potential.{Potential}
@@ -15,14 +15,15 @@ use Rattle.geos_verify.specs.declared.rule.Rule.TheVariants.{LeavesRoutine, Name
 use Rattle.geos_verify.specs.declared.rule.Reject.{Reject}
 use Rattle.geos_image.specs.declared.row.SlotState.{SlotState}
 use Rattle.geos_image.specs.declared.row.SlotState.TheVariants.{Empty, Vm, Db}
-use Rattle.geos_verify.specs.declared.uses.Width.{Width}
-use Rattle.geos_verify.specs.declared.uses.Offset.{Offset}
-use Rattle.geos_verify.specs.declared.uses.Offset.TheVariants.{Fixed, Indexed, Tested}
-use Rattle.geos_verify.specs.declared.uses.SlotUse.{SlotUse}
-use Rattle.geos_verify.specs.declared.uses.SlotUse.TheVariants.{LocksNew, Locks, Unlocks, Compares, Moves, LooksAt}
-use Rattle.geos_verify.specs.declared.uses.PointerUse.{PointerUse}
-use Rattle.geos_verify.specs.declared.uses.PointerUse.TheVariants.{Loads, Stores, Copies, Duplicates, Measures}
-use Rattle.geos_verify.specs.Uses.{uses_of, bytes_in}
+use Rattle.geos_opcodes.specs.declared.uses.Width.{Width}
+use Rattle.geos_opcodes.specs.declared.uses.Offset.{Offset}
+use Rattle.geos_opcodes.specs.declared.uses.Offset.TheVariants.{Fixed, Indexed, Tested}
+use Rattle.geos_opcodes.specs.declared.uses.SlotUse.{SlotUse}
+use Rattle.geos_opcodes.specs.declared.uses.SlotUse.TheVariants.{LocksNew, Locks, Unlocks, Compares, Moves, LooksAt}
+use Rattle.geos_opcodes.specs.declared.uses.PointerUse.{PointerUse}
+use Rattle.geos_opcodes.specs.declared.uses.PointerUse.TheVariants.{Loads, Stores, Copies, Duplicates, Measures}
+use Rattle.geos_opcodes.specs.Facts.{uses_of}
+use Rattle.geos_verify.specs.Uses.{bytes_in}
 use Rattle.geos_verify.specs.Rows.{falls_through, branches, at_point, bound, slot_state, pointer_at, are_alike, holds_kind, row_along, row_branching, fits, is_empty, is_stale, is_plain, leads_nowhere}
 use Rattle.geos_verify.specs.Touched.{calls}
 use Rattle.geos_verify.specs.Potentials.{pays_along, pays_branching, is_within}

@@ -2,17 +2,22 @@
 -- calls touch.
 use Rattle.std.specs.Prelude.{◌≡◌, ◌<◌, ℕ, zero, suc, Bool, true, false, ◌&&◌, ◌||◌, ◌==◌, List, [], ◌∷◌, Some, None, length, take, drop, slice_get, slice_index_or}
 use Rattle.std.specs.List.{list_any}
-use Rattle.geos_image.specs.declared.opcode.Opcode.{Opcode}
-use Rattle.geos_image.specs.declared.opcode.Opcode.TheVariants.{Setk, Setkw, Loop, Call}
+use Rattle.geos_opcodes.specs.declared.opcode.Opcode.{Opcode}
+use Rattle.geos_opcodes.specs.declared.opcode.Opcode.TheVariants.{Call}
+use Rattle.geos_opcodes.specs.declared.facts.CounterUse.{CounterUse}
+use Rattle.geos_opcodes.specs.declared.facts.CounterUse.TheVariants.{Untouched}
+use Rattle.geos_opcodes.specs.Facts.{facts}
 use Rattle.geos_image.specs.declared.instr.Instr.{Instr}
 use Rattle.geos_image.specs.Parts.{Point, Parts, start_of}
 
+-- a counter is set, or taken from
+abbrev pub is_touched : CounterUse → Bool
+is_touched Untouched = false
+is_touched _ = true
+
 -- the instruction sets a counter, or takes from it
 abbrev pub counts : Opcode → Bool
-counts Setk = true
-counts Setkw = true
-counts Loop = true
-counts _ = false
+counts opcode = is_touched (facts opcode).counter
 
 -- the instruction calls a routine
 abbrev pub calls : Opcode → Bool

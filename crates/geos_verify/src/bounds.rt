@@ -2,9 +2,11 @@
 
 ghost use Rattle.std.specs.Prelude.{◌≡◌, ◌<◌};
 ghost use Rattle.geos_image.specs.Fields.{FieldsFit};
-ghost use Rattle.geos_verify.specs.Rows.{with_bound, bounded};
+ghost use Rattle.geos_verify.specs.Rows.{with_bound, computed, bounded, YieldsFit};
+ghost use Rattle.geos_opcodes.specs.Facts.{facts};
 
 use geos_image::{Instr, Opcode, Row};
+use geos_opcodes::Yields;
 
 /// Bounds a word by n.
 pub(crate) fn set_bound(row: &mut Row, a: u8, n: u16)
@@ -14,10 +16,19 @@ pub(crate) fn set_bound(row: &mut Row, a: u8, n: u16)
     row.bounds[a as usize] = n;
 }
 
-/// Bounds the word that is the instruction's result, where it goes on to the next instruction.
-pub(crate) fn bound_result(i: &Instr, row: &mut Row)
+/// What an instruction leaves in a word: one that there is.
+fn result_at(i: &Instr) -> Yields
     requires { FieldsFit i.now.opcode i.now }
-    ensures { row.new ≡ bounded i.now i.now.opcode row.old }
+    ensures value { result ≡ (facts i.now.opcode).yields }
+    ensures fit { YieldsFit result i.now }
+{
+    i.opcode.facts().yields
+}
+
+/// Bounds the word that an instruction computes.
+fn bound_computed(i: &Instr, row: &mut Row)
+    requires { FieldsFit i.now.opcode i.now }
+    ensures { row.new ≡ computed i.now i.now.opcode row.old }
 {
     match i.opcode {
         Opcode::Ldi => set_bound(row, i.a, i.imm),
@@ -31,11 +42,20 @@ pub(crate) fn bound_result(i: &Instr, row: &mut Row)
         Opcode::Shr => set_bound(row, i.a, row.bounds[i.b as usize] >> i.imm),
         Opcode::Muli => set_bound(row, i.a, row.bounds[i.b as usize].saturating_mul(i.imm)),
         Opcode::Chk => set_bound(row, i.a, row.bounds[i.a as usize].min(i.imm)),
-        Opcode::Mnew | Opcode::Lalloc | Opcode::Lsize => set_bound(row, i.b, u16::MAX),
-        Opcode::Ldb | Opcode::Ldxb | Opcode::Ldcb => set_bound(row, i.a, 255),
-        Opcode::Ldw | Opcode::Ldxw | Opcode::Ldcw => set_bound(row, i.a, u16::MAX),
-        Opcode::Plen => set_bound(row, i.a, u16::MAX),
-        Opcode::Canew | Opcode::Cacount => set_bound(row, i.b, u16::MAX),
         _ => (),
+    }
+}
+
+/// Bounds the word that is the instruction's result, where it goes on to the next instruction.
+pub(crate) fn bound_result(i: &Instr, row: &mut Row)
+    requires { FieldsFit i.now.opcode i.now }
+    ensures { row.new ≡ bounded i.now i.now.opcode row.old }
+{
+    match result_at(i) {
+        Yields::Nothing => (),
+        Yields::Computed => bound_computed(i, row),
+        Yields::ByteInA => set_bound(row, i.a, 255),
+        Yields::WordInA => set_bound(row, i.a, u16::MAX),
+        Yields::WordInB => set_bound(row, i.b, u16::MAX),
     }
 }

@@ -2,22 +2,24 @@
 
 ghost use Rattle.std.specs.Prelude.{◌≡◌, ◌<◌, length};
 ghost use Rattle.geos_image.specs.Fields.{FieldsFit, CalleeFits};
-ghost use Rattle.geos_verify.specs.Uses.{uses_of, UsesFit};
+ghost use Rattle.geos_opcodes.specs.Facts.{uses_of};
+ghost use Rattle.geos_verify.specs.Uses.{UsesFit};
 ghost use Rattle.geos_verify.specs.Rows.{falls_through, branches, pairs_after, used, row_along, row_branching, after, HasEdge};
 
 use crate::bounds::{bound_result, set_bound};
 use crate::pairs::{with_new, with_pair, without_slot};
 use crate::pointers::{drop_pointers, set_pointer};
 use crate::slots::set_slots;
-use crate::uses::{SlotUse, Uses, uses_at};
+use crate::uses::uses_at;
 use geos_image::{Image, Instr, Opcode, Operand, Row};
+use geos_opcodes::{Flow, SlotUse, Uses};
 
 /// Whether control may go on to the next instruction.
 pub fn falls_through(opcode: Opcode) -> bool
     ensures { result ≡ falls_through opcode }
 {
-    match opcode {
-        Opcode::Jmp | Opcode::Ret => false,
+    match opcode.facts().flow {
+        Flow::Jumps | Flow::Returns => false,
         _ => true,
     }
 }

@@ -22,4 +22,4 @@ pub use edges::{after, branches, falls_through};
 pub use fits::{leads_nowhere, slot_fits, within_bounds};
 pub use misuse::reach;
 pub use rule::{Reject, Rule};
-pub use uses::{Kind, Offset, PointerUse, SlotUse, Uses, Width, uses_of};
+pub use uses::uses_at;

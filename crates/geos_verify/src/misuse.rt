@@ -1,14 +1,15 @@
 //! The rules on what an instruction does with slots and pointers.
 
 ghost use Rattle.std.specs.Prelude.{◌≡◌, ◌<◌};
-ghost use Rattle.geos_verify.specs.Uses.{uses_of, bytes_in, OffsetFits, PointerFits};
+ghost use Rattle.geos_opcodes.specs.Facts.{uses_of};
+ghost use Rattle.geos_verify.specs.Uses.{bytes_in, OffsetFits, PointerFits};
 ghost use Rattle.geos_verify.specs.Rules.{reach, least_at, pointed_state, is_unmarked, writes_unmarked, moves_unmarked, stale_pointer, passes_end, changes_unmarked, locks_into_held, wrong_slot};
 
 use crate::fits::{is_empty, is_stale};
 use crate::pointers::pointer_at;
 use crate::slots::{are_alike, holds_kind, slot_state};
-use crate::uses::{Offset, PointerUse, SlotUse, Uses, Width};
 use geos_image::{Instr, Row, SlotState};
+use geos_opcodes::{Offset, PointerUse, SlotUse, Uses, Width};
 
 /// Whether the row knows nothing of a pointer that the instruction uses.
 #[tactic(auto, unfolding(crate::specs::Rules::stale_pointer))]
@@ -32,7 +33,7 @@ fn bytes_in(width: Width) -> u32
 {
     match width {
         Width::Byte => 1,
-        Width::Word => 2,
+        Width::Both => 2,
     }
 }
 

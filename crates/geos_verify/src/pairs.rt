@@ -6,8 +6,8 @@ ghost use Rattle.geos_verify.specs.Rows.{holds_kind};
 ghost use Rattle.geos_image.specs.declared.row.SlotState.TheVariants.{Empty};
 
 use crate::slots::holds_kind;
-use crate::uses::Kind;
 use geos_image::SlotState;
+use geos_opcodes::Kind;
 
 /// Whether the pair is of these two slots.
 fn is_pair(a: u8, b: u8, pair: (u8, u8)) -> bool

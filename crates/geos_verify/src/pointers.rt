@@ -6,8 +6,8 @@ ghost use Rattle.geos_verify.specs.Rows.{pointer_at, may_be_same, stale_where, p
 
 use crate::pairs::are_apart;
 use crate::slots::{are_alike, slot_state};
-use crate::uses::{PointerUse, SlotUse};
 use geos_image::{Instr, Pointer, Row};
+use geos_opcodes::{PointerUse, SlotUse};
 
 /// What the row says of a pointer.
 pub(crate) fn pointer_at(row: &Row, p: u8) -> Option<Pointer>

@@ -6,7 +6,8 @@ ghost use Rattle.geos_image.specs.Fields.{FieldsFit, TargetFits, CalleeFits};
 ghost use Rattle.geos_verify.specs.Rows.{falls_through, branches, row_along, row_branching};
 ghost use Rattle.geos_verify.specs.Rules.{has_place, returns, leaves_routine, entry_misfits, call_misfits, exit_misfits, misfits_at, edge_misfits, unpaid_along, unpaid_branching, edge_unpaid, over_budget, refusal};
 ghost use Rattle.geos_verify.specs.Touched.{calls, NotesBelow};
-ghost use Rattle.geos_verify.specs.Uses.{uses_of, UsesFit};
+ghost use Rattle.geos_opcodes.specs.Facts.{uses_of};
+ghost use Rattle.geos_verify.specs.Uses.{UsesFit};
 
 use crate::edges::{branches, falls_through, go_along, go_to_target};
 use crate::fits::{fits, is_plain, names_empty_slot};
@@ -14,8 +15,9 @@ use crate::misuse::{changes_unmarked, locks_into_held, passes_end, stale_pointer
 use crate::potentials::{is_within, pays_along, pays_branching};
 use crate::rule::Rule;
 use crate::touched::{Touched, calls};
-use crate::uses::{Uses, uses_at};
+use crate::uses::uses_at;
 use geos_image::{Image, Instr, Opcode, Potential, Routine, Row};
+use geos_opcodes::Uses;
 
 fn has_place(start: u32, routine: &Routine, pc: u32) -> bool
     requires { start ≤ 4096 }

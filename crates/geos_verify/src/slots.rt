@@ -4,8 +4,8 @@ ghost use Rattle.std.specs.Prelude.{◌≡◌};
 ghost use Rattle.geos_verify.specs.Uses.{same_kind, SlotFits};
 ghost use Rattle.geos_verify.specs.Rows.{slot_state, kind_in, alike, are_alike, holds_kind, new_state, locked_state, slots_after};
 
-use crate::uses::{Kind, SlotUse};
 use geos_image::{Instr, Row, SlotState};
+use geos_opcodes::{Kind, SlotUse};
 
 /// What the row says of a slot; one that there is not is empty.
 pub(crate) fn slot_state(row: &Row, a: u8) -> SlotState

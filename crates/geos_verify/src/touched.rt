@@ -5,6 +5,7 @@ ghost use Rattle.std.specs.List.{list_any};
 ghost use Rattle.geos_verify.specs.Touched.{counts, calls, points_of, touches_here, touched_by, noted, noted_by, NotesBelow};
 
 use geos_image::{Image, Instr, Opcode, Potential, Row};
+use geos_opcodes::CounterUse;
 
 /// For each routine, which of the counters k0 to k3 it touches.
 pub(crate) type Touched = [[bool; 4]; 32];
@@ -23,9 +24,9 @@ pub(crate) fn calls(opcode: Opcode) -> bool
 fn counts(opcode: Opcode) -> bool
     ensures { result ≡ counts opcode }
 {
-    match opcode {
-        Opcode::Setk | Opcode::Setkw | Opcode::Loop => true,
-        _ => false,
+    match opcode.facts().counter {
+        CounterUse::Untouched => false,
+        _ => true,
     }
 }
 

@@ -1,6 +1,6 @@
 -- The images of the worked examples on arrays.
 use Rattle.std.proofs.Common.{ℕ, [], ◌∷◌}
-use Rattle.geos_image.specs.declared.opcode.Opcode.TheVariants.{Caadd, Cacount, Cadel, Caelt, Cains, Canew, Caresize, Deref, Jmp, Ldi, Ldw, Lsize, Mnew, Munlock, Out, Plen, Ret, Stw}
+use Rattle.geos_opcodes.specs.declared.opcode.Opcode.TheVariants.{Caadd, Cacount, Cadel, Caelt, Cains, Canew, Caresize, Deref, Jmp, Ldi, Ldw, Lsize, Mnew, Munlock, Out, Plen, Ret, Stw}
 use Rattle.geos_image.specs.declared.row.SlotState.TheVariants.{Mem}
 use Rattle.geos_image.specs.Open.{open_row}
 use Rattle.geos_image.specs.Parts.{Parts}

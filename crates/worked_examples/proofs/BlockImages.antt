@@ -1,6 +1,6 @@
 -- The images of the worked examples on blocks, chunks and pointers.
 use Rattle.std.proofs.Common.{ℕ, ◌-◌, true, false, List, [], ◌∷◌, replicate, length, Some, None}
-use Rattle.geos_image.specs.declared.opcode.Opcode.TheVariants.{Ldi, Jmp, Ret, Out, Mnew, Mlock, Munlock, Sne, Lalloc, Deref, Ldw}
+use Rattle.geos_opcodes.specs.declared.opcode.Opcode.TheVariants.{Ldi, Jmp, Ret, Out, Mnew, Mlock, Munlock, Sne, Lalloc, Deref, Ldw}
 use Rattle.geos_image.specs.declared.instr.Instr.{Instr}
 use Rattle.geos_image.specs.declared.row.Row.{Row}
 use Rattle.geos_image.specs.declared.row.SlotState.{SlotState}

@@ -1,7 +1,7 @@
 -- The images of the worked examples, by the definitions.
 use Rattle.std.proofs.Common.{ℕ, true, false, List, [], ◌∷◌, replicate}
-use Rattle.geos_image.specs.declared.opcode.Opcode.{Opcode}
-use Rattle.geos_image.specs.declared.opcode.Opcode.TheVariants.{Ldi, Add, Setk, Loop, Call, Ret, Out}
+use Rattle.geos_opcodes.specs.declared.opcode.Opcode.{Opcode}
+use Rattle.geos_opcodes.specs.declared.opcode.Opcode.TheVariants.{Ldi, Add, Setk, Loop, Call, Ret, Out}
 use Rattle.geos_image.specs.declared.instr.Instr.{Instr}
 use Rattle.geos_image.specs.declared.potential.Potential.{Potential}
 use Rattle.geos_image.specs.declared.routine.Routine.{Routine}

@@ -3,7 +3,7 @@
 use Rattle.std.proofs.Common.{◌≡◌, refl, ℕ, List, [], ◌∷◌, Some, None}
 use Rattle.geos_model.specs.Chunks.{cost}
 use Rattle.geos_model.specs.Bytes.{word}
-use Rattle.geos_image.specs.declared.opcode.Opcode.TheVariants.{Ldb, Ldw, Stb, Stw, Ldxb, Ldxw, Stxb, Stxw, Ldcb, Ldcw, Stcb, Stcw, Movp, Copy, Plen}
+use Rattle.geos_opcodes.specs.declared.opcode.Opcode.TheVariants.{Ldb, Ldw, Stb, Stw, Ldxb, Ldxw, Stxb, Stxw, Ldcb, Ldcw, Stcb, Stcw, Movp, Copy, Plen}
 use Rattle.geos_semantics.specs.State.{State}
 use Rattle.geos_semantics.specs.Model.{step}
 use Rattle.worked_examples.proofs.Images.{instr}

@@ -8,7 +8,7 @@ use Rattle.geos_model.specs.Effects.{Choice}
 use Rattle.geos_image.specs.declared.instr.Instr.{Instr}
 use Rattle.geos_image.specs.Open.{open_row}
 use Rattle.geos_image.specs.Parts.{Parts}
-use Rattle.geos_verify.specs.declared.uses.Kind.TheVariants.{MemBlock, VmBlock}
+use Rattle.geos_opcodes.specs.declared.uses.Kind.TheVariants.{MemBlock, VmBlock}
 use Rattle.geos_semantics.specs.State.{Held, SlotReference, State}
 use Rattle.geos_semantics.specs.Model.{Outcome, Next, step}
 use Rattle.worked_examples.proofs.Images.{potential, routine}

@@ -8,11 +8,11 @@ ghost use Rattle.geos_image.specs.Reading.{instr_at, items_at, points_at, Gives}
 use crate::error::ReadError;
 use crate::instr::Instr;
 use crate::legal::MOST_INSTRS;
-use crate::opcode::Opcode;
 use crate::potential::Potential;
 use crate::reader::numbers::{Fault, byte_at, byte_below, word_below};
 use crate::reader::rows::entry_at;
 use crate::row::Row;
+use geos_opcodes::Opcode;
 use std::alloc::Global;
 
 #[tactic(auto, unfolding(crate::specs::Reading::instr_at))]

@@ -1,7 +1,8 @@
 use Rattle.std.proofs.Common.{refl, List, ℕ}
-use Rattle.geos_spelling.specs.declared.fields.Field.{Field}
-use Rattle.geos_spelling.specs.declared.fields.Field.TheVariants.{A}
-use Rattle.geos_spelling.specs.Fields.{fields, operand_at, value_at}
+use Rattle.geos_opcodes.specs.declared.fields.Field.{Field}
+use Rattle.geos_opcodes.specs.declared.fields.Field.TheVariants.{A}
+use Rattle.geos_opcodes.specs.Fields.{fields, operand_at}
+use Rattle.geos_image.specs.Fields.{value_at}
 use Rattle.geos_listing.specs.Instrs.{operand_text}
 use Rattle.geos_listing.proofs.Texts.{flat_map-step}
 use Rattle.geos_listing.proofs.instrs.put_operands.Goals as goal

@@ -1,6 +1,7 @@
 use Rattle.std.specs.Prelude.{◌≡◌, ◌++◌, take, flat_map}
-use Rattle.geos_spelling.specs.declared.fields.Field.{Field}
-use Rattle.geos_spelling.specs.Fields.{operand_at, value_at}
+use Rattle.geos_opcodes.specs.declared.fields.Field.{Field}
+use Rattle.geos_opcodes.specs.Fields.{operand_at}
+use Rattle.geos_image.specs.Fields.{value_at}
 use Rattle.geos_listing.specs.Instrs.{operand_text}
 use Rattle.geos_listing.proofs.instrs.put_operands.Given as goal
 

@@ -1,8 +1,8 @@
 use Rattle.std.specs.Prelude.{nat_lt}
 use Rattle.std.proofs.lemmas.Bool.{not-false, not-true}
 use Rattle.std.proofs.Common.{false, ◌≡◌, ◌+◌, refl, get_or, sym, subst, ◌∙◌}
-use Rattle.geos_verify.specs.declared.uses.Width.TheVariants.{Byte}
-use Rattle.geos_verify.specs.declared.uses.Offset.TheVariants.{Tested}
+use Rattle.geos_opcodes.specs.declared.uses.Width.TheVariants.{Byte}
+use Rattle.geos_opcodes.specs.declared.uses.Offset.TheVariants.{Tested}
 use Rattle.geos_semantics.specs.State.{with_word}
 use Rattle.geos_semantics.specs.Model.{load, within}
 use Rattle.geos_machine.proofs.Through.{pointer-stands, through-done, within-done, tested}

@@ -1,6 +1,6 @@
 use Rattle.std.proofs.Common.{◌+◌, refl, get_or, arith}
-use Rattle.geos_verify.specs.declared.uses.Width.TheVariants.{Byte}
-use Rattle.geos_verify.specs.declared.uses.Offset.TheVariants.{Indexed}
+use Rattle.geos_opcodes.specs.declared.uses.Width.TheVariants.{Byte}
+use Rattle.geos_opcodes.specs.declared.uses.Offset.TheVariants.{Indexed}
 use Rattle.geos_semantics.specs.State.{with_word}
 use Rattle.geos_semantics.specs.Model.{load}
 use Rattle.geos_machine.proofs.Through.{pointer-stands, pointer-long, through-done}

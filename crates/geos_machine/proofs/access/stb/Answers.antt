@@ -2,8 +2,8 @@ use Rattle.std.proofs.Common.{◌+◌, refl, get_or, subst, ◌∙◌, arith, []
 use Rattle.std.specs.Prelude.{Ok}
 use Rattle.geos_calls.specs.Kernel.{Calls}
 use Rattle.geos_model.specs.Calls.{store}
-use Rattle.geos_verify.specs.declared.uses.Width.TheVariants.{Byte}
-use Rattle.geos_verify.specs.declared.uses.Offset.TheVariants.{Fixed}
+use Rattle.geos_opcodes.specs.declared.uses.Width.TheVariants.{Byte}
+use Rattle.geos_opcodes.specs.declared.uses.Offset.TheVariants.{Fixed}
 use Rattle.geos_semantics.specs.Model.{nowhere, low_bytes}
 use Rattle.geos_machine.proofs.Through.{pointer-stands, pointer-long, through-done}
 use Rattle.geos_machine.proofs.Safe.{stores-safe}

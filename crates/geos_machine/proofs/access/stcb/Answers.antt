@@ -4,8 +4,8 @@ use Rattle.std.proofs.Common.{false, ◌≡◌, ◌+◌, refl, get_or, sym, subs
 use Rattle.std.specs.Prelude.{Ok}
 use Rattle.geos_calls.specs.Kernel.{Calls}
 use Rattle.geos_model.specs.Calls.{store}
-use Rattle.geos_verify.specs.declared.uses.Width.TheVariants.{Byte}
-use Rattle.geos_verify.specs.declared.uses.Offset.TheVariants.{Tested}
+use Rattle.geos_opcodes.specs.declared.uses.Width.TheVariants.{Byte}
+use Rattle.geos_opcodes.specs.declared.uses.Offset.TheVariants.{Tested}
 use Rattle.geos_semantics.specs.Model.{nowhere, low_bytes, within}
 use Rattle.geos_machine.proofs.Through.{pointer-stands, through-done, within-done, tested}
 use Rattle.geos_machine.proofs.Safe.{stores-safe}

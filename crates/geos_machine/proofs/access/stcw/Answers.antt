@@ -4,8 +4,8 @@ use Rattle.std.proofs.Common.{rules, false, ◌≡◌, ◌+◌, refl, get_or, sy
 use Rattle.std.specs.Prelude.{Ok}
 use Rattle.geos_calls.specs.Kernel.{Calls}
 use Rattle.geos_model.specs.Calls.{store}
-use Rattle.geos_verify.specs.declared.uses.Width.TheVariants.{Word}
-use Rattle.geos_verify.specs.declared.uses.Offset.TheVariants.{Tested}
+use Rattle.geos_opcodes.specs.declared.uses.Width.TheVariants.{Both}
+use Rattle.geos_opcodes.specs.declared.uses.Offset.TheVariants.{Tested}
 use Rattle.geos_semantics.specs.Model.{nowhere, low_bytes, within}
 use Rattle.geos_machine.proofs.Through.{pointer-stands, through-done, within-done, tested, stored-bytes}
 use Rattle.geos_machine.proofs.Safe.{stores-safe}
@@ -14,16 +14,16 @@ use Rattle.geos_machine.proofs.access.stcw.Goals as goal
 pub store16-requires-clause-stands : goal.store16-requires-clause-stands
 store16-requires-clause-stands c =
     let i = c.args.i.now in
-    pointer-stands i c.args.kernel.now c.args.m.now i.b (record { at = 0; len = 0 }) c.requires.ready (λ beside pc safe. (stores-safe i _ Word Tested (rw c.requires.instr.is refl) safe).0)
+    pointer-stands i c.args.kernel.now c.args.m.now i.b (record { at = 0; len = 0 }) c.requires.ready (λ beside pc safe. (stores-safe i _ Both Tested (rw c.requires.instr.is refl) safe).0)
 
 pub returns-then-not-reaches : goal.returns-then-not-reaches
 returns-then-not-reaches c =
     let i = c.args.i.now in
-    rw c.refuse.ensures.goes (tested i c.args.kernel.now c.args.m.now _ (record { at = 0; len = 0 }) (get_or c.args.m.now.words i.c 0) Word (λ ref. store ref (get_or c.args.m.now.words i.c 0) (low_bytes Word (get_or c.args.m.now.words i.a 0))) nowhere (λ ref choice memory. refl) (λ ref choice. refl) (λ beside pc safe. (stores-safe i _ Word Tested (rw c.requires.instr.is refl) safe).0) (λ image choice beside pc. rw c.requires.instr.is refl)
+    rw c.refuse.ensures.goes (tested i c.args.kernel.now c.args.m.now _ (record { at = 0; len = 0 }) (get_or c.args.m.now.words i.c 0) Both (λ ref. store ref (get_or c.args.m.now.words i.c 0) (low_bytes Both (get_or c.args.m.now.words i.a 0))) nowhere (λ ref choice memory. refl) (λ ref choice. refl) (λ beside pc safe. (stores-safe i _ Both Tested (rw c.requires.instr.is refl) safe).0) (λ image choice beside pc. rw c.requires.instr.is refl)
     (not-false _ (sym c.reaches.ensures ∙ c.if-not-reaches.true)) c.refuse.ensures.registers)
 
 pub returns : goal.returns
 returns c =
     let i = c.args.i.now in
-    through-done i c.args.kernel.now c.store16.new.self c.args.m.now _ (record { at = 0; len = 0 }) i.b (λ ref. within ref (get_or c.args.m.now.words i.c 0) Word (store ref (get_or c.args.m.now.words i.c 0) (low_bytes Word (get_or c.args.m.now.words i.a 0)))) nowhere tt (λ ref choice memory. refl) (λ beside pc safe. (stores-safe i _ Word Tested (rw c.requires.instr.is refl) safe).0) (λ image choice beside pc. rw c.requires.instr.is refl)
-    (λ ref stands. within-done c.args.kernel.now c.store16.new.self ref (get_or c.args.m.now.words i.c 0) Word (store ref (get_or c.args.m.now.words i.c 0) (low_bytes Word (get_or c.args.m.now.words i.a 0))) _ (subst (λ n. nat_lt n (get_or c.args.m.now.words i.c 0 + 2) ≡ false) stands.len (not-true _ (sym c.reaches.ensures ∙ c.if-not-reaches.false))) (let done : Calls (store ref (get_or c.args.m.now.words i.c 0) (low_bytes Word (get_or c.args.m.now.words i.a 0))) (Ok tt) c.args.kernel.now c.store16.new.self = subst (λ ws. Calls (store ref (get_or c.args.m.now.words i.c 0) ws) (Ok tt) c.args.kernel.now c.store16.new.self) (stored-bytes _ (search rules) ∙ rw c.requires.instr.a_is refl) (c.store16.ensures.row ref stands) in done)) (λ beside pc. refl) refl refl
+    through-done i c.args.kernel.now c.store16.new.self c.args.m.now _ (record { at = 0; len = 0 }) i.b (λ ref. within ref (get_or c.args.m.now.words i.c 0) Both (store ref (get_or c.args.m.now.words i.c 0) (low_bytes Both (get_or c.args.m.now.words i.a 0)))) nowhere tt (λ ref choice memory. refl) (λ beside pc safe. (stores-safe i _ Both Tested (rw c.requires.instr.is refl) safe).0) (λ image choice beside pc. rw c.requires.instr.is refl)
+    (λ ref stands. within-done c.args.kernel.now c.store16.new.self ref (get_or c.args.m.now.words i.c 0) Both (store ref (get_or c.args.m.now.words i.c 0) (low_bytes Both (get_or c.args.m.now.words i.a 0))) _ (subst (λ n. nat_lt n (get_or c.args.m.now.words i.c 0 + 2) ≡ false) stands.len (not-true _ (sym c.reaches.ensures ∙ c.if-not-reaches.false))) (let done : Calls (store ref (get_or c.args.m.now.words i.c 0) (low_bytes Both (get_or c.args.m.now.words i.a 0))) (Ok tt) c.args.kernel.now c.store16.new.self = subst (λ ws. Calls (store ref (get_or c.args.m.now.words i.c 0) ws) (Ok tt) c.args.kernel.now c.store16.new.self) (stored-bytes _ (search rules) ∙ rw c.requires.instr.a_is refl) (c.store16.ensures.row ref stands) in done)) (λ beside pc. refl) refl refl

@@ -1,11 +1,11 @@
 use Rattle.std.proofs.Common.{refl, get_or}
 use Rattle.geos_model.specs.Names.{mem}
 use Rattle.geos_model.specs.ArrayCalls.{caelt}
-use Rattle.geos_verify.specs.Uses.{uses_of}
+use Rattle.geos_opcodes.specs.Facts.{uses_of}
 use Rattle.geos_machine.proofs.Works.{slot-locked}
 use Rattle.geos_machine.proofs.Through.{pointer-set, pointer-refused}
 use Rattle.geos_machine.proofs.Safe.{looks-held}
-use Rattle.geos_image.specs.declared.opcode.Opcode.TheVariants.{Caelt}
+use Rattle.geos_opcodes.specs.declared.opcode.Opcode.TheVariants.{Caelt}
 use Rattle.geos_machine.proofs.arrays.caelt.Goals as goal
 
 pub caelt-requires : goal.caelt-requires

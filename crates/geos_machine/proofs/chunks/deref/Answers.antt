@@ -1,11 +1,11 @@
 use Rattle.std.proofs.Common.{refl, get_or}
 use Rattle.geos_model.specs.Names.{mem}
 use Rattle.geos_model.specs.Calls.{deref}
-use Rattle.geos_verify.specs.Uses.{uses_of}
+use Rattle.geos_opcodes.specs.Facts.{uses_of}
 use Rattle.geos_machine.proofs.Works.{slot-locked, on-past}
 use Rattle.geos_machine.proofs.Through.{pointer-set, pointer-refused}
 use Rattle.geos_machine.proofs.Safe.{looks-held}
-use Rattle.geos_image.specs.declared.opcode.Opcode.TheVariants.{Deref}
+use Rattle.geos_opcodes.specs.declared.opcode.Opcode.TheVariants.{Deref}
 use Rattle.geos_machine.proofs.chunks.deref.Goals as goal
 
 pub deref-requires : goal.deref-requires

@@ -2,7 +2,7 @@ use Rattle.std.proofs.Common.{sym, arith}
 use Rattle.std.proofs.lemmas.Result.{err_from_is_err_and}
 use Rattle.geos_image.proofs.Items.{points-more, points-fault, points-end}
 use Rattle.geos_image.proofs.Pushes.{points-push}
-use Rattle.geos_image.specs.declared.opcode.Opcode.TheVariants.{Ldi}
+use Rattle.geos_opcodes.specs.declared.opcode.Opcode.TheVariants.{Ldi}
 use Rattle.geos_image.proofs.reader.points.points_at.Goals as goal
 
 pub returns-in_err-row-clause-exact : goal.returns-in_err-row-clause-exact

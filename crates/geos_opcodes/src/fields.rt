@@ -2,9 +2,9 @@
 //! the fields a, b, c, d, imm and target, in this order, without those of unused fields.
 
 ghost use Rattle.std.specs.Prelude.{◌≡◌};
-ghost use Rattle.geos_spelling.specs.Fields.{operand_at, value_at, register_letter};
+ghost use Rattle.geos_opcodes.specs.Fields.{operand_at, register_letter};
 
-use geos_image::{Instr, Opcode, Operand};
+use crate::opcode::{Opcode, Operand};
 
 /// A field of an instruction.
 #[derive(Clone, Copy, Debug, PartialEq, Eq)]
@@ -40,20 +40,6 @@ pub fn operand_at(opcode: Opcode, field: Field) -> Operand
         Field::D => operands.d,
         Field::Imm => operands.imm,
         Field::Target => operands.target,
-    }
-}
-
-/// The number in a field.
-pub fn value_at(instr: &Instr, field: Field) -> u16
-    ensures { result ≡ value_at instr.now field }
-{
-    match field {
-        Field::A => u16::from(instr.a),
-        Field::B => u16::from(instr.b),
-        Field::C => u16::from(instr.c),
-        Field::D => u16::from(instr.d),
-        Field::Imm => instr.imm,
-        Field::Target => instr.target,
     }
 }
 

@@ -1,13 +1,12 @@
 -- The operands of an instruction in a text: which fields they are of, in which order, and in
 -- which form.
 use Rattle.std.specs.Prelude.{ℕ, Bool, true, false, List, [], ◌∷◌, Option, Some, None}
-use Rattle.geos_image.specs.declared.opcode.Opcode.{Opcode}
-use Rattle.geos_image.specs.declared.opcode.Operand.{Operand}
-use Rattle.geos_image.specs.declared.opcode.Operand.TheVariants.{Unused, Word, Counter, Slot, Pointer, Number, Shift, Routine, Label}
-use Rattle.geos_image.specs.declared.instr.Instr.{Instr}
-use Rattle.geos_image.specs.Opcodes.{operands_of}
-use Rattle.geos_spelling.specs.declared.fields.Field.{Field}
-use Rattle.geos_spelling.specs.declared.fields.Field.TheVariants.{A, B, C, D, Imm, Target}
+use Rattle.geos_opcodes.specs.declared.opcode.Opcode.{Opcode}
+use Rattle.geos_opcodes.specs.declared.opcode.Operand.{Operand}
+use Rattle.geos_opcodes.specs.declared.opcode.Operand.TheVariants.{Unused, Word, Counter, Slot, Pointer, Number, Shift, Routine, Label}
+use Rattle.geos_opcodes.specs.Facts.{operands_of}
+use Rattle.geos_opcodes.specs.declared.fields.Field.{Field}
+use Rattle.geos_opcodes.specs.declared.fields.Field.TheVariants.{A, B, C, D, Imm, Target}
 
 -- the fields in the order of their operands in a text
 abbrev pub fields : List Field
@@ -33,15 +32,6 @@ is_written Number = true
 is_written Shift = true
 is_written Routine = true
 is_written Label = true
-
--- the number in a field
-abbrev pub value_at : Instr → Field → ℕ
-value_at i A = i.a
-value_at i B = i.b
-value_at i C = i.c
-value_at i D = i.d
-value_at i Imm = i.imm
-value_at i Target = i.target
 
 -- registers are written as a letter and a digit: w, k, s and p; other operands have no letter
 abbrev pub register_letter : Operand → Option ℕ

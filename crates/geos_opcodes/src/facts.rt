@@ -1,0 +1,510 @@
+//! The table of opcodes: what there is to know of each.
+
+ghost use Rattle.std.specs.Prelude.{◌≡◌, IfSome, Some};
+ghost use Rattle.geos_opcodes.specs.Facts as table;
+
+use crate::opcode::{Opcode, Operand, Operands};
+use crate::uses::{Kind, Offset, PointerUse, SlotUse, Uses, Width};
+
+/// Where an instruction leaves a word, and what is known of it.
+#[derive(Clone, Copy, Debug, PartialEq, Eq)]
+pub enum Yields {
+    /// Nowhere.
+    Nothing,
+    /// In word a, by what the operands are.
+    Computed,
+    /// A byte in word a.
+    ByteInA,
+    /// Any word in word a.
+    WordInA,
+    /// Any word in word b.
+    WordInB,
+}
+
+/// Where control goes.
+#[derive(Clone, Copy, Debug, PartialEq, Eq)]
+pub enum Flow {
+    /// On, and where the target is a label, there too.
+    Along,
+    /// To the target alone.
+    Jumps,
+    /// To a routine, and then on.
+    Calls,
+    /// Back.
+    Returns,
+}
+
+/// What becomes of counter a.
+#[derive(Clone, Copy, Debug, PartialEq, Eq)]
+pub enum CounterUse {
+    /// Nothing.
+    Untouched,
+    /// It is set to imm.
+    SetTo,
+    /// It is set to word b.
+    SetToWord,
+    /// One is taken from it on the way to the target.
+    CountsDown,
+}
+
+/// What there is to know of an opcode.
+#[derive(Clone, Copy, Debug, PartialEq, Eq)]
+pub struct Facts {
+    /// The byte that spells it.
+    pub code: u8,
+    pub operands: Operands,
+    pub uses: Uses,
+    pub yields: Yields,
+    pub flow: Flow,
+    pub counter: CounterUse,
+}
+
+/// Uses of a slot alone.
+fn slot_uses(slot: SlotUse) -> Uses
+    ensures { result ≡ table.slot_uses slot }
+{
+    Uses {
+        slot,
+        pointer: PointerUse::NoPointer,
+    }
+}
+
+/// Uses of pointers alone.
+fn pointer_uses(pointer: PointerUse) -> Uses
+    ensures { result ≡ table.pointer_uses pointer }
+{
+    Uses {
+        slot: SlotUse::NoSlot,
+        pointer,
+    }
+}
+
+/// An instruction that goes on, and is never refused.
+fn plain(code: u8, a: Operand, b: Operand, c: Operand, imm: Operand) -> Facts
+    ensures { result ≡ table.plain code a b c imm }
+{
+    Facts {
+        code,
+        operands: Operands {
+            a,
+            b,
+            c,
+            d: Operand::Unused,
+            imm,
+            target: Operand::Unused,
+            refusable: false,
+        },
+        uses: slot_uses(SlotUse::NoSlot),
+        yields: Yields::Nothing,
+        flow: Flow::Along,
+        counter: CounterUse::Untouched,
+    }
+}
+
+/// One that computes word a.
+fn computes(code: u8, a: Operand, b: Operand, c: Operand, imm: Operand) -> Facts
+    ensures { result ≡ table.computes code a b c imm }
+{
+    Facts {
+        yields: Yields::Computed,
+        ..plain(code, a, b, c, imm)
+    }
+}
+
+/// One that may go to its target.
+fn branch(code: u8, a: Operand, b: Operand, imm: Operand) -> Facts
+    ensures { result ≡ table.branch code a b imm }
+{
+    let facts = plain(code, a, b, Operand::Unused, imm);
+    Facts {
+        operands: Operands {
+            target: Operand::Label,
+            ..facts.operands
+        },
+        ..facts
+    }
+}
+
+/// One that can be refused.
+fn refusable(code: u8, a: Operand, b: Operand, c: Operand, d: Operand, imm: Operand) -> Facts
+    ensures { result ≡ table.refusable code a b c d imm }
+{
+    let facts = plain(code, a, b, c, imm);
+    Facts {
+        operands: Operands {
+            d,
+            target: Operand::Label,
+            refusable: true,
+            ..facts.operands
+        },
+        ..facts
+    }
+}
+
+/// One on a slot, which is never refused.
+fn on_slot(code: u8, b: Operand, slot: SlotUse) -> Facts
+    ensures { result ≡ table.on_slot code b slot }
+{
+    Facts {
+        uses: slot_uses(slot),
+        ..plain(code, Operand::Slot, b, Operand::Unused, Operand::Unused)
+    }
+}
+
+/// A call of the kernel on the block of a slot.
+fn block_call(
+    code: u8,
+    b: Operand,
+    c: Operand,
+    d: Operand,
+    imm: Operand,
+    slot: SlotUse,
+    yields: Yields,
+) -> Facts
+    ensures { result ≡ table.block_call code b c d imm slot yields }
+{
+    Facts {
+        uses: slot_uses(slot),
+        yields,
+        ..refusable(code, Operand::Slot, b, c, d, imm)
+    }
+}
+
+/// One that gives a reference into it.
+fn refers(code: u8, d: Operand) -> Facts
+    ensures { result ≡ table.refers code d }
+{
+    Facts {
+        uses: Uses {
+            slot: SlotUse::LooksAt,
+            pointer: PointerUse::Sets,
+        },
+        ..refusable(
+            code,
+            Operand::Slot,
+            Operand::Pointer,
+            Operand::Word,
+            d,
+            Operand::Number,
+        )
+    }
+}
+
+/// One through pointer b.
+fn accesses(code: u8, offset: Offset) -> Facts
+    ensures { result ≡ table.accesses code offset }
+{
+    use Operand::{Number, Pointer, Unused, Word};
+    match offset {
+        Offset::Fixed => plain(code, Word, Pointer, Unused, Number),
+        Offset::Indexed => plain(code, Word, Pointer, Word, Unused),
+        Offset::Tested => refusable(code, Word, Pointer, Word, Unused, Unused),
+    }
+}
+
+/// One that reads through it.
+fn load(code: u8, width: Width, offset: Offset) -> Facts
+    ensures { result ≡ table.load code width offset }
+{
+    Facts {
+        uses: pointer_uses(PointerUse::Loads(width, offset)),
+        yields: match width {
+            Width::Byte => Yields::ByteInA,
+            Width::Both => Yields::WordInA,
+        },
+        ..accesses(code, offset)
+    }
+}
+
+/// One that writes through it.
+fn store(code: u8, width: Width, offset: Offset) -> Facts
+    ensures { result ≡ table.store code width offset }
+{
+    Facts {
+        uses: pointer_uses(PointerUse::Stores(width, offset)),
+        ..accesses(code, offset)
+    }
+}
+
+/// Another one on pointer b.
+fn pointing(code: u8, a: Operand, imm: Operand, pointer: PointerUse, yields: Yields) -> Facts
+    ensures { result ≡ table.pointing code a imm pointer yields }
+{
+    Facts {
+        uses: pointer_uses(pointer),
+        yields,
+        ..plain(code, a, Operand::Pointer, Operand::Unused, imm)
+    }
+}
+
+/// Every opcode, in the order of the codes.
+pub const OPCODES: [Opcode; 53] = [
+    Opcode::Ldi,
+    Opcode::Mov,
+    Opcode::Add,
+    Opcode::Sub,
+    Opcode::And,
+    Opcode::Shr,
+    Opcode::Muli,
+    Opcode::Chk,
+    Opcode::Jmp,
+    Opcode::Beq,
+    Opcode::Blt,
+    Opcode::Setk,
+    Opcode::Setkw,
+    Opcode::Loop,
+    Opcode::Call,
+    Opcode::Ret,
+    Opcode::Out,
+    Opcode::Mnew,
+    Opcode::Mlock,
+    Opcode::Munlock,
+    Opcode::Mfree,
+    Opcode::Sne,
+    Opcode::Lalloc,
+    Opcode::Lfree,
+    Opcode::Lrealloc,
+    Opcode::Lins,
+    Opcode::Ldel,
+    Opcode::Lsize,
+    Opcode::Deref,
+    Opcode::Lcontract,
+    Opcode::Ldb,
+    Opcode::Ldw,
+    Opcode::Stb,
+    Opcode::Stw,
+    Opcode::Ldxb,
+    Opcode::Ldxw,
+    Opcode::Stxb,
+    Opcode::Stxw,
+    Opcode::Ldcb,
+    Opcode::Ldcw,
+    Opcode::Stcb,
+    Opcode::Stcw,
+    Opcode::Movp,
+    Opcode::Copy,
+    Opcode::Plen,
+    Opcode::Canew,
+    Opcode::Caadd,
+    Opcode::Cains,
+    Opcode::Cadel,
+    Opcode::Cacount,
+    Opcode::Caelt,
+    Opcode::Cazero,
+    Opcode::Caresize,
+];
+
+impl Opcode {
+    /// What there is to know of the opcode.
+    pub fn facts(self) -> Facts
+        ensures { result ≡ table.facts self }
+    {
+        use CounterUse::{CountsDown, SetTo, SetToWord};
+        use Flow::{Calls, Jumps, Returns};
+        use Kind::MemBlock;
+        use Offset::{Fixed, Indexed, Tested};
+        use Operand::{Counter, Number, Pointer, Routine, Shift, Slot, Unused, Word};
+        use PointerUse::{Copies, Duplicates, Measures};
+        use SlotUse::{Compares, Locks, LocksNew, LooksAt, Moves, Unlocks};
+        use Width::{Both, Byte};
+        use Yields::{Computed, Nothing, WordInA, WordInB};
+        match self {
+            Opcode::Ldi => computes(0x01, Word, Unused, Unused, Number),
+            Opcode::Mov => computes(0x02, Word, Word, Unused, Unused),
+            Opcode::Add => computes(0x03, Word, Word, Word, Unused),
+            Opcode::Sub => computes(0x04, Word, Word, Word, Unused),
+            Opcode::And => computes(0x05, Word, Word, Unused, Number),
+            Opcode::Shr => computes(0x06, Word, Word, Unused, Shift),
+            Opcode::Muli => computes(0x07, Word, Word, Unused, Number),
+            Opcode::Chk => Facts {
+                yields: Computed,
+                ..branch(0x08, Word, Unused, Number)
+            },
+            Opcode::Jmp => Facts {
+                flow: Jumps,
+                ..branch(0x09, Unused, Unused, Unused)
+            },
+            Opcode::Beq => branch(0x0a, Word, Word, Unused),
+            Opcode::Blt => branch(0x0b, Word, Word, Unused),
+            Opcode::Setk => Facts {
+                counter: SetTo,
+                ..plain(0x0c, Counter, Unused, Unused, Number)
+            },
+            Opcode::Setkw => Facts {
+                counter: SetToWord,
+                ..plain(0x0d, Counter, Word, Unused, Unused)
+            },
+            Opcode::Loop => Facts {
+                counter: CountsDown,
+                ..branch(0x0e, Counter, Unused, Unused)
+            },
+            Opcode::Call => Facts {
+                flow: Calls,
+                ..plain(0x0f, Unused, Unused, Unused, Routine)
+            },
+            Opcode::Ret => Facts {
+                flow: Returns,
+                ..plain(0x10, Unused, Unused, Unused, Unused)
+            },
+            Opcode::Out => refusable(0x11, Word, Unused, Unused, Unused, Unused),
+            Opcode::Mnew => block_call(
+                0x12,
+                Word,
+                Unused,
+                Unused,
+                Unused,
+                LocksNew(MemBlock),
+                WordInB,
+            ),
+            Opcode::Mlock => block_call(
+                0x13,
+                Word,
+                Unused,
+                Unused,
+                Unused,
+                Locks(MemBlock),
+                Nothing,
+            ),
+            Opcode::Munlock => on_slot(0x14, Unused, Unlocks(MemBlock)),
+            Opcode::Mfree => refusable(0x15, Word, Unused, Unused, Unused, Unused),
+            Opcode::Sne => Facts {
+                uses: slot_uses(Compares),
+                ..branch(0x16, Slot, Slot, Unused)
+            },
+            Opcode::Lalloc => block_call(0x17, Word, Word, Unused, Unused, Moves, WordInB),
+            Opcode::Lfree => block_call(0x18, Word, Unused, Unused, Unused, Moves, Nothing),
+            Opcode::Lrealloc => block_call(0x19, Word, Word, Unused, Unused, Moves, Nothing),
+            Opcode::Lins => block_call(0x1a, Word, Word, Word, Unused, Moves, Nothing),
+            Opcode::Ldel => block_call(0x1b, Word, Word, Word, Unused, Moves, Nothing),
+            Opcode::Lsize => block_call(0x1c, Word, Word, Unused, Unused, LooksAt, WordInB),
+            Opcode::Deref => refers(0x1d, Unused),
+            Opcode::Lcontract => on_slot(0x1e, Unused, Moves),
+            Opcode::Ldb => load(0x1f, Byte, Fixed),
+            Opcode::Ldw => load(0x20, Both, Fixed),
+            Opcode::Stb => store(0x21, Byte, Fixed),
+            Opcode::Stw => store(0x22, Both, Fixed),
+            Opcode::Ldxb => load(0x23, Byte, Indexed),
+            Opcode::Ldxw => load(0x24, Both, Indexed),
+            Opcode::Stxb => store(0x25, Byte, Indexed),
+            Opcode::Stxw => store(0x26, Both, Indexed),
+            Opcode::Ldcb => load(0x27, Byte, Tested),
+            Opcode::Ldcw => load(0x28, Both, Tested),
+            Opcode::Stcb => store(0x29, Byte, Tested),
+            Opcode::Stcw => store(0x2a, Both, Tested),
+            Opcode::Movp => pointing(0x2b, Pointer, Unused, Duplicates, Nothing),
+            Opcode::Copy => pointing(0x2c, Pointer, Number, Copies, Nothing),
+            Opcode::Plen => pointing(0x2d, Word, Unused, Measures, WordInA),
+            Opcode::Canew => block_call(0x2e, Word, Unused, Unused, Number, Moves, WordInB),
+            Opcode::Caadd => block_call(0x2f, Word, Word, Unused, Unused, Moves, Nothing),
+            Opcode::Cains => block_call(0x30, Word, Word, Word, Unused, Moves, Nothing),
+            Opcode::Cadel => block_call(0x31, Word, Word, Unused, Unused, Moves, Nothing),
+            Opcode::Cacount => block_call(0x32, Word, Word, Unused, Unused, LooksAt, WordInB),
+            Opcode::Caelt => refers(0x33, Word),
+            Opcode::Cazero => block_call(0x34, Word, Unused, Unused, Unused, Moves, Nothing),
+            Opcode::Caresize => block_call(0x35, Word, Word, Word, Unused, Moves, Nothing),
+        }
+    }
+
+    /// The byte that spells the opcode. No two opcodes have one byte.
+    #[tactic(auto, using(crate::proofs::Laws::opcode_again))]
+    pub fn code(self) -> u8
+        ensures value { result ≡ table.code_of self }
+        ensures own { table.opcode_of (table.code_of self) ≡ Some self }
+    {
+        self.facts().code
+    }
+
+    /// The word that a text writes for the opcode. No two opcodes have one word.
+    pub fn word(self) -> &'static str
+        ensures word { result.now ≡ table.word_of self }
+        ensures own { table.opcode_of_word (table.word_of self) ≡ Some self }
+    {
+        match self {
+            Opcode::Ldi => "LDI",
+            Opcode::Mov => "MOV",
+            Opcode::Add => "ADD",
+            Opcode::Sub => "SUB",
+            Opcode::And => "AND",
+            Opcode::Shr => "SHR",
+            Opcode::Muli => "MULI",
+            Opcode::Chk => "CHK",
+            Opcode::Jmp => "JMP",
+            Opcode::Beq => "BEQ",
+            Opcode::Blt => "BLT",
+            Opcode::Setk => "SETK",
+            Opcode::Setkw => "SETKW",
+            Opcode::Loop => "LOOP",
+            Opcode::Call => "CALL",
+            Opcode::Ret => "RET",
+            Opcode::Out => "OUT",
+            Opcode::Mnew => "MNEW",
+            Opcode::Mlock => "MLOCK",
+            Opcode::Munlock => "MUNLOCK",
+            Opcode::Mfree => "MFREE",
+            Opcode::Sne => "SNE",
+            Opcode::Lalloc => "LALLOC",
+            Opcode::Lfree => "LFREE",
+            Opcode::Lrealloc => "LREALLOC",
+            Opcode::Lins => "LINS",
+            Opcode::Ldel => "LDEL",
+            Opcode::Lsize => "LSIZE",
+            Opcode::Deref => "DEREF",
+            Opcode::Lcontract => "LCONTRACT",
+            Opcode::Ldb => "LDB",
+            Opcode::Ldw => "LDW",
+            Opcode::Stb => "STB",
+            Opcode::Stw => "STW",
+            Opcode::Ldxb => "LDXB",
+            Opcode::Ldxw => "LDXW",
+            Opcode::Stxb => "STXB",
+            Opcode::Stxw => "STXW",
+            Opcode::Ldcb => "LDCB",
+            Opcode::Ldcw => "LDCW",
+            Opcode::Stcb => "STCB",
+            Opcode::Stcw => "STCW",
+            Opcode::Movp => "MOVP",
+            Opcode::Copy => "COPY",
+            Opcode::Plen => "PLEN",
+            Opcode::Canew => "CANEW",
+            Opcode::Caadd => "CAADD",
+            Opcode::Cains => "CAINS",
+            Opcode::Cadel => "CADEL",
+            Opcode::Cacount => "CACOUNT",
+            Opcode::Caelt => "CAELT",
+            Opcode::Cazero => "CAZERO",
+            Opcode::Caresize => "CARESIZE",
+        }
+    }
+
+    /// What its fields hold.
+    pub fn operands(self) -> Operands
+        ensures { result ≡ table.operands_of self }
+    {
+        self.facts().operands
+    }
+
+    /// What it does with slots and pointers.
+    pub fn uses(self) -> Uses
+        ensures { result ≡ table.uses_of self }
+    {
+        self.facts().uses
+    }
+
+    /// The opcode that the byte spells, if one does.
+    pub fn from_code(code: u8) -> Option<Opcode>
+        ensures { result ≡ table.opcode_of code }
+    {
+        OPCODES.iter().copied().find(|opcode| opcode.code() == code)
+    }
+
+    /// The opcode whose word it is; `None` where it is no opcode's.
+    pub fn from_word(word: &[u8]) -> Option<Opcode>
+        ensures value { result ≡ table.opcode_of_word word.now }
+        ensures some { IfSome result (λ opcode. table.word_of opcode ≡ word.now) }
+    {
+        OPCODES
+            .iter()
+            .copied()
+            .find(|opcode| opcode.word().as_bytes() == word)
+    }
+}
