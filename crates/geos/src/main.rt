@@ -97,11 +97,13 @@ fn program<'a>(alloc: Global) -> Result<Command<'a>, AllocError> {
         .no_binary_name(true)
         .version("0.1.0")
         .bin_name("geos")?;
-    Ok(program
-        .about(ABOUT)
-        .override_usage(USAGES)
-        .after_help(SESSION)
-        .disable_help_subcommand(true))
+    Ok(
+        program
+            .about(ABOUT)
+            .override_usage(USAGES)
+            .after_help(SESSION)
+            .disable_help_subcommand(true),
+    )
 }
 
 /// The program with its commands.
