@@ -7,7 +7,7 @@
 //! | `end`, `check` | what reading, writing and the verifier say of the bytes |
 //! | `byte AT VALUE` | what the byte was that this value takes the place of; the image is to be checked again |
 //! | `routine R` | what the image says of the routine, which is now the one that is called |
-//! | `call W0 .. W7` | how the routine's run ends on these words, over a kernel with no block |
+//! | `call WORD ..` | how the routine's run ends on these words, over a kernel with no block |
 #![tactic(auto)]
 
 use geos_calls::Kernel;
