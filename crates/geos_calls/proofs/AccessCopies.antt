@@ -7,8 +7,8 @@ use Rattle.block_handles.specs.Store as store
 use Rattle.block_handles.specs.Change.{with_bytes}
 use Rattle.block_handles.specs.Offsets.{WritesCovered, CopiesCovered}
 use Rattle.block_handles.proofs.Laws.{with_own}
-use Rattle.geos_model.specs.Effects.{Reference}
-use Rattle.geos_model.specs.Calls as table
+use Rattle.geos_table.specs.Effects.{Reference}
+use Rattle.geos_table.specs.Calls as table
 use Rattle.geos_model.proofs.Words.{with_nothing}
 use Rattle.geos_calls.specs.declared.span.Span.{Span}
 use Rattle.geos_calls.specs.View.{KernelState, memory_of}

@@ -12,15 +12,15 @@ use Rattle.block_handles.proofs.Writes.{part-part}
 use Rattle.geos_model.specs.Block as block
 use Rattle.geos_model.specs.Bytes.{word}
 use Rattle.geos_model.specs.Chunks.{bytes_of}
-use Rattle.geos_model.specs.Memory as model
-use Rattle.geos_model.specs.Effects.{Reference}
-use Rattle.geos_model.specs.Calls as table
+use Rattle.geos_table.specs.Memory as model
+use Rattle.geos_table.specs.Effects.{Reference}
+use Rattle.geos_table.specs.Calls as table
 use Rattle.geos_model.proofs.Places.{chunk-place}
 use Rattle.geos_calls.specs.declared.span.Span.{Span}
 use Rattle.geos_calls.specs.View.{KernelState, memory_of}
 use Rattle.geos_calls.specs.Spans.{Stands, IsStanding}
 use Rattle.geos_calls.specs.Kernel.{IsKernel, Calls}
-use Rattle.geos_model.proofs.Laws.{willing}
+use Rattle.geos_table.proofs.Laws.{willing}
 use Rattle.geos_calls.proofs.Views.{there_of_locks, chunks-known}
 
 -- a span stands for some reference, and n bytes at an offset lie in it

@@ -18,9 +18,9 @@ use Rattle.block_handles.proofs.Writes.{blocks_with_bytes-set}
 use Rattle.geos_model.specs.Block as block
 use Rattle.geos_model.specs.Chunks as chunks
 use Rattle.geos_model.specs.Heap.{IsHeap}
-use Rattle.geos_model.specs.Memory as model
-use Rattle.geos_model.specs.Effects.{Reference, Nothing}
-use Rattle.geos_model.specs.Calls as table
+use Rattle.geos_table.specs.Memory as model
+use Rattle.geos_table.specs.Effects.{Reference, Nothing}
+use Rattle.geos_table.specs.Calls as table
 use Rattle.geos_model.specs.Writes.{ChangesChunk}
 use Rattle.geos_model.proofs.Fits.{need-fits}
 use Rattle.geos_model.proofs.Places.{chunk-place}
@@ -30,7 +30,7 @@ use Rattle.geos_calls.specs.View.{KernelState, memory_of}
 use Rattle.geos_calls.specs.Spans.{Stands, SpansStay}
 use Rattle.geos_calls.specs.Kernel.{IsKernel, Calls}
 use Rattle.geos_calls.proofs.AccessReads.{HasPlace, Lies, chunk-placed, lies, stands-there}
-use Rattle.geos_model.proofs.Laws.{willing}
+use Rattle.geos_table.proofs.Laws.{willing}
 use Rattle.geos_calls.proofs.Locks.{with_store}
 use Rattle.geos_calls.proofs.Stays.{stands-on}
 use Rattle.geos_calls.proofs.Views.{memory_of-set, there-view, owner-there, handle_of-there}

@@ -7,13 +7,13 @@ use Rattle.geos_model.specs.declared.refusal.Refusal.{Refusal}
 use Rattle.geos_model.specs.declared.refusal.Refusal.TheVariants.{Short}
 use Rattle.geos_model.specs.Refusals.{first_refusal}
 use Rattle.geos_model.specs.Block as block
-use Rattle.geos_model.specs.Memory as model
-use Rattle.geos_model.specs.Effects.{Reference}
+use Rattle.geos_table.specs.Memory as model
+use Rattle.geos_table.specs.Effects.{Reference}
 use Rattle.geos_model.specs.Edits.{Edit, Part}
 use Rattle.geos_model.specs.ArrayEdits.{element_of, no_element, refer_element}
-use Rattle.geos_model.specs.Calls as table
-use Rattle.geos_model.specs.ArrayCalls as arrays
-use Rattle.geos_model.proofs.Laws.{first_refusal-came, first_refusal-passed, reads-ok, reads-refused, refers-ok, refers-refused}
+use Rattle.geos_table.specs.Calls as table
+use Rattle.geos_table.specs.ArrayCalls as arrays
+use Rattle.geos_table.proofs.Laws.{first_refusal-came, first_refusal-passed, reads-ok, reads-refused, refers-ok, refers-refused}
 use Rattle.geos_model.proofs.Places.{chunk-place}
 use Rattle.block_handles.specs.Names.{slot_of}
 use Rattle.block_handles.specs.Store as store

@@ -5,12 +5,12 @@ use Rattle.geos_model.specs.declared.name.Name.{Name}
 use Rattle.geos_model.specs.declared.refusal.Refusal.{Refusal}
 use Rattle.geos_model.specs.declared.refusal.Refusal.TheVariants.{BadChunk, BadArray, BadElement, NoRoom}
 use Rattle.geos_model.specs.Refusals.{first_refusal}
-use Rattle.geos_model.specs.Memory as model
+use Rattle.geos_table.specs.Memory as model
 use Rattle.geos_model.specs.Chunks.{bytes_of}
 use Rattle.geos_model.specs.Arrays.{arr}
 use Rattle.geos_model.specs.Edits.{Edit, no_chunk}
 use Rattle.geos_model.specs.ArrayEdits.{no_array, is_fixed, is_past, count_of, create_array, append_element, insert_element, resize_element}
-use Rattle.geos_model.specs.Calls as table
+use Rattle.geos_table.specs.Calls as table
 use Rattle.block_handles.specs.Names.{slot_of}
 use Rattle.block_handles.specs.Store.{Store, IsThere}
 use Rattle.geos_calls.specs.Arrays.{Changes, Comes}

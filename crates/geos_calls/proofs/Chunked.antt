@@ -9,8 +9,8 @@ use Rattle.geos_model.specs.Names.{named}
 use Rattle.geos_model.specs.Block as block
 use Rattle.geos_model.specs.Chunks.{need}
 use Rattle.geos_model.specs.Heap.{IsHeap}
-use Rattle.geos_model.specs.Memory as model
-use Rattle.geos_model.specs.Effects.{InBlock}
+use Rattle.geos_table.specs.Memory as model
+use Rattle.geos_table.specs.Effects.{InBlock}
 use Rattle.geos_model.proofs.Fits.{need-fits}
 use Rattle.block_handles.specs.Names.{slot_of}
 use Rattle.block_handles.specs.Store.{Store, block_at, IsBlock, IsThere, bytes_in, locks_in, bytes_of, locks_of}

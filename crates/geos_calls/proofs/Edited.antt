@@ -7,11 +7,11 @@ use Rattle.geos_model.specs.declared.refusal.Refusal.{Refusal}
 use Rattle.geos_model.specs.declared.refusal.Refusal.TheVariants as refusal
 use Rattle.geos_model.specs.Refusals.{first_refusal}
 use Rattle.geos_model.specs.Chunks.{need, chunk_of, bytes_of, with_new, with_resized, with_inserted}
-use Rattle.geos_model.specs.Memory as model
-use Rattle.geos_model.specs.Effects.{Answers, InBlock}
+use Rattle.geos_table.specs.Memory as model
+use Rattle.geos_table.specs.Effects.{Answers, InBlock}
 use Rattle.geos_model.specs.Edits as edits
-use Rattle.geos_model.specs.Calls as table
-use Rattle.geos_model.proofs.Laws.{enlarges-ok, enlarges-refused, enlarges-big, enlarges-tight, changes-ok, changes-refused}
+use Rattle.geos_table.specs.Calls as table
+use Rattle.geos_table.proofs.Laws.{enlarges-ok, enlarges-refused, enlarges-big, enlarges-tight, changes-ok, changes-refused}
 use Rattle.block_handles.specs.Names.{slot_of}
 use Rattle.block_handles.specs.Store.{Store, IsThere}
 use Rattle.lmem_heap.specs.declared.error.BadChunk as heap

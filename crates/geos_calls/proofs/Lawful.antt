@@ -4,10 +4,10 @@ use Rattle.std.specs.Prelude.{IfSome}
 use Rattle.std.proofs.lemmas.List.{length-map}
 use Rattle.geos_model.specs.declared.name.Name.{Name}
 use Rattle.geos_model.specs.Heap.{IsHeap}
-use Rattle.geos_model.specs.Memory as model
-use Rattle.geos_model.specs.Legal.{AreBytes, IsLegalBlock, IsMemory}
-use Rattle.geos_model.proofs.LegalBytes.{bytes-part}
-use Rattle.geos_model.proofs.LegalHeaps.{heap-legal}
+use Rattle.geos_table.specs.Memory as model
+use Rattle.geos_table.specs.Legal.{AreBytes, IsLegalBlock, IsMemory}
+use Rattle.geos_table.proofs.LegalBytes.{bytes-part}
+use Rattle.geos_table.proofs.LegalHeaps.{heap-legal}
 use Rattle.block_handles.specs.Names.{slot_of}
 use Rattle.block_handles.specs.Layout.{IsRegion}
 use Rattle.block_handles.specs.Store as store

@@ -4,7 +4,7 @@ use Rattle.std.specs.Prelude.{map, replicate}
 use Rattle.geos_model.specs.Bytes.{word}
 use Rattle.geos_model.specs.Chunks.{cost}
 use Rattle.geos_model.specs.Names.{mem}
-use Rattle.geos_model.proofs.Laws.{willing}
+use Rattle.geos_table.proofs.Laws.{willing}
 use Rattle.geos_model.specs.declared.refusal.Refusal.TheVariants.{BadChunk, Short}
 use Rattle.geos_calls.specs.declared.call.Call.{Call}
 use Rattle.geos_calls.specs.declared.call.Call.TheVariants.{Mnew, Mlock, Within, Load8, Load16, Store8, Store16, Copy}

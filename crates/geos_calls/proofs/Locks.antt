@@ -6,9 +6,9 @@ use Rattle.std.proofs.lemmas.Bool.Decides.{nat_tests}
 use Rattle.std.proofs.lemmas.List.{get_or-set_same, get_or-set_other}
 use Rattle.geos_model.specs.declared.name.Name.{Name}
 use Rattle.geos_model.specs.Names.{mem}
-use Rattle.geos_model.specs.Memory as model
-use Rattle.geos_model.specs.Effects.{Reference, Nothing, InBlock, OfLock}
-use Rattle.geos_model.specs.Calls as table
+use Rattle.geos_table.specs.Memory as model
+use Rattle.geos_table.specs.Effects.{Reference, Nothing, InBlock, OfLock}
+use Rattle.geos_table.specs.Calls as table
 use Rattle.block_handles.specs.declared.error.HandleError.{HandleError}
 use Rattle.block_handles.specs.declared.error.HandleError.TheVariants as handle
 use Rattle.block_handles.specs.Names.{slot_of}

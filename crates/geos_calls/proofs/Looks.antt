@@ -7,11 +7,11 @@ use Rattle.geos_model.specs.declared.refusal.Refusal.TheVariants.{BadChunk, Shor
 use Rattle.geos_model.specs.Refusals.{first_refusal}
 use Rattle.geos_model.specs.Block as block
 use Rattle.geos_model.specs.Chunks.{chunk_of}
-use Rattle.geos_model.specs.Memory as model
-use Rattle.geos_model.specs.Effects.{Reference, Call, Answers}
+use Rattle.geos_table.specs.Memory as model
+use Rattle.geos_table.specs.Effects.{Reference, Call, Answers}
 use Rattle.geos_model.specs.Edits as edits
-use Rattle.geos_model.specs.Calls as table
-use Rattle.geos_model.proofs.Laws.{reads-ok, reads-refused, refers-ok, refers-refused}
+use Rattle.geos_table.specs.Calls as table
+use Rattle.geos_table.proofs.Laws.{reads-ok, reads-refused, refers-ok, refers-refused}
 use Rattle.block_handles.specs.Names.{slot_of}
 use Rattle.block_handles.specs.Store as store
 use Rattle.geos_calls.specs.declared.span.Span.{Span}

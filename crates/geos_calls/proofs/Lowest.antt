@@ -7,7 +7,7 @@ use Rattle.std.proofs.lemmas.List.Sums.{position_or_len_is}
 use Rattle.geos_model.specs.declared.name.Owner.TheVariants.{Mem}
 use Rattle.block_handles.specs.Store as store
 use Rattle.block_handles.specs.Used.{IsLowest, AllInUse}
-use Rattle.geos_model.specs.Memory as model
+use Rattle.geos_table.specs.Memory as model
 use Rattle.block_handles.specs.Names.{slot_of}
 use Rattle.geos_model.specs.Names.{mem}
 use Rattle.geos_calls.specs.View.{KernelState, block_in, memory_of}

@@ -9,9 +9,9 @@ use Rattle.geos_model.specs.declared.refusal.Refusal.TheVariants.{NoHandle, NoRo
 use Rattle.geos_model.specs.Names.{named, mem}
 use Rattle.geos_model.specs.Block as block
 use Rattle.geos_model.specs.Heap.{IsHeap}
-use Rattle.geos_model.specs.Memory as model
-use Rattle.geos_model.specs.Effects.{Nothing}
-use Rattle.geos_model.specs.Calls as table
+use Rattle.geos_table.specs.Memory as model
+use Rattle.geos_table.specs.Effects.{Nothing}
+use Rattle.geos_table.specs.Calls as table
 use Rattle.block_handles.specs.Names.{slot_of}
 use Rattle.block_handles.specs.Store as store
 use Rattle.block_handles.specs.Used.{IsLowest, AllInUse}

@@ -5,11 +5,11 @@ use Rattle.geos_model.specs.declared.name.Name.{Name}
 use Rattle.geos_model.specs.declared.refusal.Refusal.{Refusal}
 use Rattle.geos_model.specs.Refusals.{first_refusal}
 use Rattle.geos_model.specs.Edits.{Edit, Part}
-use Rattle.geos_model.specs.Memory.{Memory, locks_of, chunks_at}
-use Rattle.geos_model.specs.Effects.{Choice, Effect, Reference, Answers, outcome, come_to, unchanged}
-use Rattle.geos_model.specs.Effects as effects
-use Rattle.geos_model.specs.Calls as table
-use Rattle.geos_model.proofs.Laws.{willing}
+use Rattle.geos_table.specs.Memory.{Memory, locks_of, chunks_at}
+use Rattle.geos_table.specs.Effects.{Choice, Effect, Reference, Answers, outcome, come_to, unchanged}
+use Rattle.geos_table.specs.Effects as effects
+use Rattle.geos_table.specs.Calls as table
+use Rattle.geos_table.proofs.Laws.{willing}
 use Rattle.geos_calls.specs.declared.call.Call.TheVariants.{Within}
 use Rattle.geos_calls.specs.declared.call.BlockCall.{BlockCall}
 use Rattle.geos_calls.specs.declared.call.Reply.{Reply}

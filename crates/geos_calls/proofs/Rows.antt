@@ -5,11 +5,11 @@ use Rattle.geos_model.specs.declared.name.Name.{Name}
 use Rattle.geos_model.specs.declared.name.Owner.TheVariants.{Mem}
 use Rattle.geos_model.specs.declared.refusal.Refusal.TheVariants.{BadHandle, Locked, NoHandle, NoRoom}
 use Rattle.geos_model.specs.Names.{mem}
-use Rattle.geos_model.specs.Memory.{Block, Memory, new_heap, block_of, with_block, lowest_handle}
-use Rattle.geos_model.specs.Tight.{is_tight}
-use Rattle.geos_model.specs.Effects.{Answers}
-use Rattle.geos_model.specs.Calls.{mnew, mlock, unlock, mfree}
-use Rattle.geos_model.proofs.Laws.{willing, unwilling}
+use Rattle.geos_table.specs.Memory.{Block, Memory, new_heap, block_of, with_block, lowest_handle}
+use Rattle.geos_table.specs.Tight.{is_tight}
+use Rattle.geos_table.specs.Effects.{Answers}
+use Rattle.geos_table.specs.Calls.{mnew, mlock, unlock, mfree}
+use Rattle.geos_table.proofs.Laws.{willing, unwilling}
 
 module _ (before after : Memory) (h : ℕ) where
   pub mlock-ok : (b : Block) → block_of before (mem h) ≡ Some b → (b.locks == 65535) ≡ false → after ≡ with_block before (mem h) (Some (record b { locks = b.locks + 1 }))

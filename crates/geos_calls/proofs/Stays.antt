@@ -4,7 +4,7 @@ use Rattle.geos_model.specs.declared.name.Name.{Name}
 use Rattle.geos_model.specs.declared.name.Owner.TheVariants.{Vm}
 use Rattle.geos_model.specs.Names.{named}
 use Rattle.geos_model.specs.Block as block
-use Rattle.geos_model.specs.Effects.{Reference, Staleness}
+use Rattle.geos_table.specs.Effects.{Reference, Staleness}
 use Rattle.geos_model.specs.Heap.{IsHeap}
 use Rattle.block_handles.specs.Names.{slot_of}
 use Rattle.block_handles.specs.Layout.{IsLaidOut}

@@ -1,7 +1,7 @@
 -- Calls answered one after another, and one more.
 use Rattle.std.proofs.Common.{◌≡◌, ℕ, ◌+◌, ◌<◌, List, [], ◌∷◌, ◌++◌, length, map, take, set, get_or, Option, refl, ap, ◌∙◌, subst, arith}
 use Rattle.std.proofs.lemmas.List.{take_more, take_more_set}
-use Rattle.geos_model.specs.Effects.{Reference}
+use Rattle.geos_table.specs.Effects.{Reference}
 use Rattle.geos_calls.specs.declared.call.Call.{Call}
 use Rattle.geos_calls.specs.declared.call.Call.TheVariants.{Mnew}
 use Rattle.geos_calls.specs.declared.call.Reply.{Reply}

@@ -2,9 +2,9 @@
 use Rattle.std.proofs.Common.{◌≡◌, ℕ, ◌≤◌, false, List, Option, Some, None, get_or, refl, ◌∙◌}
 use Rattle.std.specs.Prelude.{Result, Ok, Err, nat_lt}
 use Rattle.geos_model.specs.declared.refusal.Refusal.{Refusal}
-use Rattle.geos_model.specs.Effects.{Choice, Reference}
-use Rattle.geos_model.specs.Effects as effects
-use Rattle.geos_model.specs.Calls as table
+use Rattle.geos_table.specs.Effects.{Choice, Reference}
+use Rattle.geos_table.specs.Effects as effects
+use Rattle.geos_table.specs.Calls as table
 use Rattle.geos_calls.specs.declared.call.Call.TheVariants.{Copy}
 use Rattle.geos_calls.specs.declared.call.Reply.{Reply}
 use Rattle.geos_calls.specs.declared.call.Reply.TheVariants.{Done}

@@ -4,7 +4,7 @@ use Rattle.std.specs.Prelude.{Result, Ok, Err, IfSome, ◌==◌, nat_lt}
 use Rattle.geos_model.specs.declared.name.Name.{Name}
 use Rattle.geos_model.specs.declared.name.Owner.{Owner}
 use Rattle.geos_model.specs.declared.name.Owner.TheVariants.{Mem, Vm}
-use Rattle.geos_model.specs.Effects.{Choice, Reference}
+use Rattle.geos_table.specs.Effects.{Choice, Reference}
 use Rattle.geos_calls.specs.declared.call.Reply.{Reply}
 use Rattle.geos_calls.specs.declared.call.Reply.TheVariants.{Stale, TooShort}
 use Rattle.geos_calls.specs.declared.places.Held.{Held}

@@ -13,8 +13,8 @@ use Rattle.geos_model.specs.declared.name.Name.{Name}
 use Rattle.geos_model.specs.declared.name.Owner.{Owner}
 use Rattle.geos_model.specs.declared.name.Owner.TheVariants.{Mem, Vm}
 use Rattle.geos_model.specs.Names.{named, mem}
-use Rattle.geos_model.specs.Memory as model
-use Rattle.geos_model.specs.Tight as tight
+use Rattle.geos_table.specs.Memory as model
+use Rattle.geos_table.specs.Tight as tight
 use Rattle.geos_calls.specs.View.{KernelState, block_in, memory_of}
 use Rattle.geos_calls.specs.Kernel.{IsKernel}
 use Rattle.geos_calls.proofs.Views.{slot_of-mem, high-absent, get_or-view}

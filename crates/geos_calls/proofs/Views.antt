@@ -9,7 +9,7 @@ use Rattle.geos_model.specs.declared.name.Owner.{Owner}
 use Rattle.geos_model.specs.declared.name.Owner.TheVariants.{Mem, Vm}
 use Rattle.geos_model.specs.Names.{named, mem}
 use Rattle.geos_model.specs.Block as block
-use Rattle.geos_model.specs.Memory as model
+use Rattle.geos_table.specs.Memory as model
 use Rattle.block_handles.specs.Names.{IsHandle, slot_of}
 use Rattle.block_handles.specs.Layout.{IsEmpty}
 use Rattle.block_handles.specs.Store as store

@@ -5,11 +5,11 @@ use Rattle.geos_model.specs.declared.refusal.Refusal.{Refusal}
 use Rattle.geos_model.specs.declared.refusal.Refusal.TheVariants.{NoRoom}
 use Rattle.geos_model.specs.Bytes.{word_bytes}
 use Rattle.geos_model.specs.Chunks.{with_new, with_resized, with_inserted}
-use Rattle.geos_model.specs.Memory.{Memory, locks_of, chunks_at}
-use Rattle.geos_model.specs.Effects.{Choice, Effect, Staleness, Reference, Nothing, outcome}
+use Rattle.geos_table.specs.Memory.{Memory, locks_of, chunks_at}
+use Rattle.geos_table.specs.Effects.{Choice, Effect, Staleness, Reference, Nothing, outcome}
 use Rattle.geos_model.specs.ArrayEdits.{create_array, append_element, insert_element, resize_element}
-use Rattle.geos_model.specs.Calls as table
-use Rattle.geos_model.specs.ArrayCalls as arrays
+use Rattle.geos_table.specs.Calls as table
+use Rattle.geos_table.specs.ArrayCalls as arrays
 use Rattle.geos_calls.specs.declared.call.Call.{Call}
 use Rattle.geos_calls.specs.declared.call.Call.TheVariants.{Mnew, Mlock, Mfree, Within, Load8, Load16, Store8, Store16, Copy}
 use Rattle.geos_calls.specs.declared.call.BlockCall.{BlockCall}

@@ -13,7 +13,7 @@ use Rattle.geos_model.specs.Block as block
 use Rattle.geos_model.specs.Chunks.{need}
 use Rattle.geos_model.specs.Heap.{IsHeap}
 use Rattle.geos_model.specs.declared.refusal.Refusal.{Refusal}
-use Rattle.geos_model.specs.Effects.{Choice, Call, Answers, Reference}
+use Rattle.geos_table.specs.Effects.{Choice, Call, Answers, Reference}
 use Rattle.geos_calls.specs.declared.span.Span.{Span}
 use Rattle.geos_calls.specs.View.{KernelState, memory_of}
 use Rattle.geos_calls.specs.Spans.{Stands, SpansStay}

@@ -5,8 +5,8 @@ use Rattle.block_handles.specs.Names.{slot_of}
 use Rattle.block_handles.specs.Store.{bytes_of, locks_of, place_of}
 use Rattle.geos_model.specs.Block as block
 use Rattle.geos_model.specs.Chunks.{chunk_of}
-use Rattle.geos_model.specs.Memory as model
-use Rattle.geos_model.specs.Effects.{Reference, Staleness, Nothing, InBlock, OfLock}
+use Rattle.geos_table.specs.Memory as model
+use Rattle.geos_table.specs.Effects.{Reference, Staleness, Nothing, InBlock, OfLock}
 use Rattle.geos_calls.specs.declared.span.Span.{Span}
 use Rattle.geos_calls.specs.View.{KernelState, memory_of, chunks_at}
 

@@ -4,7 +4,7 @@ use Rattle.geos_model.specs.declared.name.Name.{Name}
 use Rattle.block_handles.specs.Names.{slot_of}
 use Rattle.block_handles.specs.Store as store
 use Rattle.geos_model.specs.Block as block
-use Rattle.geos_model.specs.Memory as model
+use Rattle.geos_table.specs.Memory as model
 
 -- a kernel, as its calls see it: the blocks in its region
 pub record KernelState : Type 0 where

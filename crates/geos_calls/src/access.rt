@@ -10,8 +10,8 @@ use crate::span::Span;
 
 impl Kernel {
     ghost use Rattle.geos_model.specs.Bytes.{word_bytes};
-    ghost use Rattle.geos_model.specs.Calls as table;
-    ghost use Rattle.geos_model.specs.Effects.{Reference, Nothing};
+    ghost use Rattle.geos_table.specs.Calls as table;
+    ghost use Rattle.geos_table.specs.Effects.{Reference, Nothing};
     ghost use Rattle.geos_calls.specs.Kernel.{Calls};
     ghost use Rattle.geos_calls.specs.Spans.{Stands, IsStanding, SpansStay};
 

@@ -10,9 +10,9 @@ use geos_model::{Name, Refusal};
 
 impl Kernel {
     ghost use Rattle.geos_model.specs.declared.refusal.Refusal.TheVariants.{NoRoom};
-    ghost use Rattle.geos_model.specs.ArrayCalls as table;
+    ghost use Rattle.geos_table.specs.ArrayCalls as table;
     ghost use Rattle.geos_model.specs.ArrayEdits.{create_array, append_element, insert_element, resize_element};
-    ghost use Rattle.geos_model.specs.Memory.{chunks_at};
+    ghost use Rattle.geos_table.specs.Memory.{chunks_at};
     ghost use Rattle.geos_calls.specs.Kernel.{Calls, GivesSpan, HasNoRoomFor};
     ghost use Rattle.geos_calls.specs.Spans.{IsStanding};
     ghost use Rattle.geos_calls.specs.View.{IsLocked, memory_of};

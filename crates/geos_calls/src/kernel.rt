@@ -42,11 +42,11 @@ impl Kernel {
     ghost use Rattle.block_handles.specs.Names.{slot_of};
     ghost use Rattle.block_handles.specs.Store.{bytes_of};
     ghost use Rattle.geos_model.specs.declared.refusal.Refusal.TheVariants.{NoRoom};
-    ghost use Rattle.geos_model.specs.Calls as table;
+    ghost use Rattle.geos_table.specs.Calls as table;
     ghost use Rattle.geos_model.specs.Chunks.{with_new, with_resized, with_inserted};
     ghost use Rattle.geos_model.specs.Heap.{IsCompact};
-    ghost use Rattle.geos_model.specs.Legal.{IsMemory};
-    ghost use Rattle.geos_model.specs.Memory.{chunks_at, locks_of};
+    ghost use Rattle.geos_table.specs.Legal.{IsMemory};
+    ghost use Rattle.geos_table.specs.Memory.{chunks_at, locks_of};
     ghost use Rattle.geos_model.specs.Names.{mem};
     ghost use Rattle.geos_calls.specs.Kernel.{Calls, GivesSpan, HasNoRoomFor, NewHasNoRoom};
     ghost use Rattle.geos_calls.specs.Spans.{IsStanding};

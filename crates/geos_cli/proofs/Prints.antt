@@ -1,6 +1,6 @@
 -- What calls print, one after another.
 use Rattle.std.proofs.Common.{ℕ, List, [], ◌∷◌, ◌++◌, refl, sym, ap, ◌∙◌, subst, append_assoc, append-nil}
-use Rattle.geos_model.specs.Memory.{Memory}
+use Rattle.geos_table.specs.Memory.{Memory}
 use Rattle.geos_image.specs.Parts.{Parts}
 use Rattle.geos_machine.specs.declared.outcome.Outcome.{Outcome}
 use Rattle.geos_machine.specs.Runs.{Ran}

@@ -4,7 +4,7 @@ use Rattle.std.specs.Prelude.{Result, Ok, Err, IfErr, IsErrAnd}
 use Rattle.std.specs.Str.Lines.{lines}
 use Rattle.std.specs.Io.KnownBytes.{Keeps}
 use Rattle.std.proofs.KnownBytes.{Appends-kept}
-use Rattle.geos_model.specs.Memory.{Memory}
+use Rattle.geos_table.specs.Memory.{Memory}
 use Rattle.geos_cli.specs.Hex.{hex_fault, image_bytes, script_lines}
 use Rattle.geos_cli.specs.Script.{most_bytes, Runs, Stops, RanScript, StoppedScript}
 use Rattle.geos_cli.specs.Session.{Reads, no_blocks, RanSession, StoppedSession}

@@ -15,10 +15,9 @@ pub mod Entered
 pub mod FreePieces
 pub mod Resizes
 pub mod Lowest
+pub mod Needs
 pub mod Fits
 pub mod Examples
-pub mod CallExamples
-pub mod ArrayExamples
 pub mod Joined
 pub mod JoinedEdits
 pub mod ArraySpells
@@ -27,11 +26,3 @@ pub mod ArrayPlaces
 pub mod ArrayRound
 pub mod ChunkItems
 pub mod ArrayTests
-pub mod Laws
-pub mod Passing
-pub mod LegalBytes
-pub mod LegalChunks
-pub mod LegalHeaps
-pub mod LegalArrays
-pub mod LegalBlocks
-pub mod Keeps

@@ -5,13 +5,6 @@ pub mod Block
 pub mod Heap
 pub mod Writes
 pub mod Refusals
-pub mod Memory
-pub mod Tight
-pub mod Effects
 pub mod Arrays
 pub mod Edits
 pub mod ArrayEdits
-pub mod Calls
-pub mod ArrayCalls
-pub mod Legal
-pub mod Keeping

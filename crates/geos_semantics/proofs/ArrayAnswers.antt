@@ -6,15 +6,15 @@ use Rattle.std.proofs.lemmas.List.{length-set}
 use Rattle.geos_model.specs.declared.name.Name.{Name}
 use Rattle.geos_model.specs.Refusals.{first_refusal}
 use Rattle.geos_model.specs.Chunks.{entry_of, chunk_of, bytes_of, with_new, new_handle}
-use Rattle.geos_model.specs.Memory.{Memory, chunks_at}
+use Rattle.geos_table.specs.Memory.{Memory, chunks_at}
 use Rattle.geos_model.specs.Arrays.{arr, spelled, empty}
 use Rattle.geos_model.specs.ArrayEdits.{array_of, count_of, element_of, create_array}
-use Rattle.geos_model.specs.ArrayCalls.{canew, cacount, caelt}
-use Rattle.geos_model.specs.Legal.{IsMemory}
-use Rattle.geos_model.specs.Effects.{Choice}
-use Rattle.geos_model.proofs.Keeps.{grown-small}
-use Rattle.geos_model.proofs.LegalChunks.{bytes_of-legal}
-use Rattle.geos_model.proofs.LegalBlocks.{chunks-bytes}
+use Rattle.geos_table.specs.ArrayCalls.{canew, cacount, caelt}
+use Rattle.geos_table.specs.Legal.{IsMemory}
+use Rattle.geos_table.specs.Effects.{Choice}
+use Rattle.geos_table.proofs.Keeps.{grown-small}
+use Rattle.geos_table.proofs.LegalChunks.{bytes_of-legal}
+use Rattle.geos_table.proofs.LegalBlocks.{chunks-bytes}
 use Rattle.geos_model.proofs.ArrayReads.{Reads, reads}
 use Rattle.geos_model.proofs.ArrayPlaces.{element-bounds, element-ends}
 use Rattle.geos_verify.proofs.Passed.{passed}

@@ -1,9 +1,9 @@
 -- Each step of an instruction that works on an array goes well.
 use Rattle.std.proofs.Common.{refl}
-use Rattle.geos_model.specs.Memory.{chunks_at}
+use Rattle.geos_table.specs.Memory.{chunks_at}
 use Rattle.geos_model.specs.ArrayEdits.{create_array, append_element, insert_element, remove_element, clear_array, resize_element}
-use Rattle.geos_model.specs.ArrayCalls.{canew, caadd, cains, cadel, cacount, caelt, cazero, caresize}
-use Rattle.geos_model.proofs.Keeps.{rows_keep_memory}
+use Rattle.geos_table.specs.ArrayCalls.{canew, caadd, cains, cadel, cacount, caelt, cazero, caresize}
+use Rattle.geos_table.proofs.Keeps.{rows_keep_memory}
 use Rattle.geos_opcodes.specs.declared.opcode.Opcode.TheVariants as op
 use Rattle.geos_opcodes.specs.declared.uses.SlotUse.TheVariants.{LooksAt}
 use Rattle.geos_semantics.specs.State.{word, name_at}

@@ -4,9 +4,9 @@ use Rattle.std.specs.Prelude.{is_none, unwrap_or}
 use Rattle.std.proofs.lemmas.Bool.{ltb-false}
 use Rattle.geos_model.specs.declared.name.Name.{Name}
 use Rattle.geos_model.specs.Chunks.{chunk_of, bytes_of, with_new, without, with_resized, with_inserted, with_deleted}
-use Rattle.geos_model.specs.Memory.{Memory, chunks_at}
-use Rattle.geos_model.specs.Calls.{lalloc, lfree, lrealloc, lins, ldel, lsize, deref, lcontract}
-use Rattle.geos_model.proofs.Keeps.{rows_keep_memory}
+use Rattle.geos_table.specs.Memory.{Memory, chunks_at}
+use Rattle.geos_table.specs.Calls.{lalloc, lfree, lrealloc, lins, ldel, lsize, deref, lcontract}
+use Rattle.geos_table.proofs.Keeps.{rows_keep_memory}
 use Rattle.geos_opcodes.specs.declared.opcode.Opcode.TheVariants as op
 use Rattle.geos_opcodes.specs.declared.uses.SlotUse.TheVariants.{LooksAt}
 use Rattle.geos_verify.proofs.Passed.{passed}

@@ -6,10 +6,10 @@ use Rattle.lmem_raw.proofs.Parts.{length-with_part}
 use Rattle.geos_model.specs.declared.name.Name.{Name}
 use Rattle.geos_model.specs.Refusals.{first_refusal}
 use Rattle.geos_model.specs.Chunks.{chunk_of, bytes_of, with_bytes}
-use Rattle.geos_model.specs.Memory.{Memory, chunks_at, with_chunks}
-use Rattle.geos_model.specs.Legal.{IsMemory}
-use Rattle.geos_model.specs.Calls.{written}
-use Rattle.geos_model.specs.Effects.{Reference, Nothing, InBlock, Effect, come_to, outcome}
+use Rattle.geos_table.specs.Memory.{Memory, chunks_at, with_chunks}
+use Rattle.geos_table.specs.Legal.{IsMemory}
+use Rattle.geos_table.specs.Calls.{written}
+use Rattle.geos_table.specs.Effects.{Reference, Nothing, InBlock, Effect, come_to, outcome}
 use Rattle.geos_image.specs.declared.instr.Instr.{Instr}
 use Rattle.geos_image.specs.declared.row.Row.{Row}
 use Rattle.geos_image.specs.declared.row.Pointer.{Pointer}

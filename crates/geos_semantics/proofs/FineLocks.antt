@@ -4,9 +4,9 @@ use Rattle.std.specs.Prelude.{◌==◌, map, is_none, IsSome}
 use Rattle.geos_model.specs.declared.name.Name.{Name}
 use Rattle.geos_model.specs.declared.name.Owner.TheVariants as owner
 use Rattle.geos_model.specs.Names.{mem}
-use Rattle.geos_model.specs.Memory.{Memory, Block, new_heap, block_of, with_block, locks_in, chunks_in, locks_of, with_locks, lowest_handle}
-use Rattle.geos_model.specs.Legal.{IsMemory}
-use Rattle.geos_model.specs.Effects.{Nothing, OfLock}
+use Rattle.geos_table.specs.Memory.{Memory, Block, new_heap, block_of, with_block, locks_in, chunks_in, locks_of, with_locks, lowest_handle}
+use Rattle.geos_table.specs.Legal.{IsMemory}
+use Rattle.geos_table.specs.Effects.{Nothing, OfLock}
 use Rattle.geos_image.specs.declared.instr.Instr.{Instr}
 use Rattle.geos_image.specs.declared.row.Row.{Row}
 use Rattle.geos_image.specs.declared.row.Pointer.{Pointer}

@@ -2,9 +2,9 @@
 use Rattle.std.proofs.Common.{◌≡◌, ℕ, Bool, true, false, Option, Some, None, List, [], ◌∷◌, refl, sym, ◌∙◌}
 use Rattle.std.specs.Prelude.{map, cond, IsSome, is_none}
 use Rattle.geos_model.specs.declared.name.Name.{Name}
-use Rattle.geos_model.specs.Memory.{Memory, block_of, locks_of}
-use Rattle.geos_model.specs.Legal.{IsMemory}
-use Rattle.geos_model.specs.Effects.{Staleness, Nothing}
+use Rattle.geos_table.specs.Memory.{Memory, block_of, locks_of}
+use Rattle.geos_table.specs.Legal.{IsMemory}
+use Rattle.geos_table.specs.Effects.{Staleness, Nothing}
 use Rattle.geos_image.specs.declared.row.Pointer.{Pointer}
 use Rattle.geos_image.specs.declared.row.SlotState.{SlotState}
 use Rattle.geos_image.specs.declared.row.SlotState.TheVariants.{Empty, Mem, Vm, VmMarked, Db, DbMarked}

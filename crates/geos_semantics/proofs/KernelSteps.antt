@@ -4,12 +4,12 @@ use Rattle.std.specs.Prelude.{is_none}
 use Rattle.geos_model.specs.declared.name.Name.{Name}
 use Rattle.geos_model.specs.declared.refusal.Refusal.{Refusal}
 use Rattle.geos_model.specs.Refusals.{refusal_number, first_refusal}
-use Rattle.geos_model.specs.Memory.{Memory, with_chunks}
-use Rattle.geos_model.specs.Legal.{AreBytes, IsMemory}
-use Rattle.geos_model.specs.Effects.{Choice, Reference, Nothing, InBlock, Effect, Call, come_to}
-use Rattle.geos_model.specs.Keeping.{Keeps}
-use Rattle.geos_model.specs.Calls.{written}
-use Rattle.geos_model.proofs.Keeps.{rows_keep_memory}
+use Rattle.geos_table.specs.Memory.{Memory, with_chunks}
+use Rattle.geos_table.specs.Legal.{AreBytes, IsMemory}
+use Rattle.geos_table.specs.Effects.{Choice, Reference, Nothing, InBlock, Effect, Call, come_to}
+use Rattle.geos_table.specs.Keeping.{Keeps}
+use Rattle.geos_table.specs.Calls.{written}
+use Rattle.geos_table.proofs.Keeps.{rows_keep_memory}
 use Rattle.geos_image.specs.declared.row.Row.{Row}
 use Rattle.geos_opcodes.specs.declared.uses.SlotUse.{SlotUse}
 use Rattle.geos_opcodes.specs.declared.uses.SlotUse.TheVariants.{Moves, LooksAt}

@@ -7,9 +7,9 @@ use Rattle.std.proofs.lemmas.List.Sums.{sum_by-set, sum_by-cons}
 use Rattle.geos_model.specs.declared.name.Name.{Name}
 use Rattle.geos_model.specs.Names.{mem}
 use Rattle.geos_model.specs.Chunks.{chunk_of}
-use Rattle.geos_model.specs.Memory.{Block, Memory, block_of, with_block, locks_in, chunks_in, locks_of}
-use Rattle.geos_model.specs.Legal.{IsMemory}
-use Rattle.geos_model.specs.Effects.{Reference, Nothing, OfLock}
+use Rattle.geos_table.specs.Memory.{Block, Memory, block_of, with_block, locks_in, chunks_in, locks_of}
+use Rattle.geos_table.specs.Legal.{IsMemory}
+use Rattle.geos_table.specs.Effects.{Reference, Nothing, OfLock}
 use Rattle.geos_opcodes.specs.declared.uses.Kind.{Kind}
 use Rattle.geos_opcodes.specs.declared.uses.Kind.TheVariants.{MemBlock, VmBlock, DbGroup}
 use Rattle.geos_semantics.specs.Lists.{Each}

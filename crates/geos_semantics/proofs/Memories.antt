@@ -10,10 +10,10 @@ use Rattle.geos_model.specs.declared.name.Owner.{Owner}
 use Rattle.geos_model.specs.declared.name.Owner.TheVariants.{Mem, Vm}
 use Rattle.geos_model.specs.Names.{mem}
 use Rattle.geos_model.specs.Chunks.{cost, cost_of, entry_of, chunk_of, with_bytes}
-use Rattle.geos_model.specs.Memory.{Block, Memory, at_handle, with_entry_at, owned_block, with_owned_block, block_of, with_block, locks_in, chunks_in, locks_of, chunks_at, lowest_handle, locked_block, rechunked_block, with_locks, with_chunks}
-use Rattle.geos_model.specs.Legal.{IsMemory}
+use Rattle.geos_table.specs.Memory.{Block, Memory, at_handle, with_entry_at, owned_block, with_owned_block, block_of, with_block, locks_in, chunks_in, locks_of, chunks_at, lowest_handle, locked_block, rechunked_block, with_locks, with_chunks}
+use Rattle.geos_table.specs.Legal.{IsMemory}
 use Rattle.geos_model.proofs.Costs.{cost-over}
-use Rattle.geos_model.proofs.LegalBlocks.{chunks-need}
+use Rattle.geos_table.proofs.LegalBlocks.{chunks-need}
 use Rattle.geos_semantics.specs.State.{same_owner, same_name}
 
 -- Names

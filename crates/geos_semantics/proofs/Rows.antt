@@ -11,7 +11,7 @@ use Rattle.geos_image.specs.declared.row.SlotState.{SlotState}
 use Rattle.geos_image.specs.declared.row.SlotState.TheVariants.{Empty, Mem, Vm, VmMarked, Db, DbMarked}
 use Rattle.geos_verify.specs.Lists.{all2}
 use Rattle.geos_verify.specs.Rows.{bound, with_bound, or_any, slot_fits, pointer_fits, pair_fits, fits}
-use Rattle.geos_model.specs.Memory.{Memory}
+use Rattle.geos_table.specs.Memory.{Memory}
 use Rattle.geos_verify.specs.Pairs.{slot_pairs}
 use Rattle.geos_semantics.specs.State.{Held, SlotReference, State, word, with_word}
 use Rattle.geos_semantics.specs.Meets.{SlotMeets, PointerMeets, PairMeets, Meets}

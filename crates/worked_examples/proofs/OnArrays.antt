@@ -4,7 +4,7 @@ use Rattle.geos_model.specs.Names.{mem}
 use Rattle.geos_model.specs.Bytes.{word}
 use Rattle.geos_model.specs.Chunks.{cost}
 use Rattle.geos_model.specs.Arrays.{arr, spelled}
-use Rattle.geos_model.specs.Memory.{Memory}
+use Rattle.geos_table.specs.Memory.{Memory}
 use Rattle.geos_opcodes.specs.declared.opcode.Opcode.{Opcode}
 use Rattle.geos_opcodes.specs.declared.opcode.Opcode.TheVariants.{Canew, Caadd, Cains, Cadel, Cacount, Caelt, Cazero, Caresize}
 use Rattle.geos_image.specs.declared.instr.Instr.{Instr}

@@ -2,7 +2,7 @@
 -- would show itself at.
 use Rattle.std.proofs.Common.{◌≡◌, refl, ℕ, List, [], ◌∷◌, Option, Some, None}
 use Rattle.geos_model.specs.Chunks.{cost}
-use Rattle.geos_model.specs.Memory.{Memory, new_heap}
+use Rattle.geos_table.specs.Memory.{Memory, new_heap}
 use Rattle.geos_opcodes.specs.declared.opcode.Opcode.TheVariants.{Mnew, Mlock, Munlock, Mfree, Sne, Lalloc, Lfree, Lrealloc, Lins, Ldel, Lsize, Deref, Lcontract}
 use Rattle.geos_image.specs.declared.instr.Instr.{Instr}
 use Rattle.geos_opcodes.specs.declared.opcode.Opcode.{Opcode}

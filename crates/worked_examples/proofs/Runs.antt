@@ -2,8 +2,8 @@
 use Rattle.std.proofs.Common.{◌≡◌, refl, ℕ, List, [], ◌∷◌, replicate, Option, Some, None}
 use Rattle.geos_model.specs.Bytes.{word}
 use Rattle.geos_model.specs.Chunks.{cost}
-use Rattle.geos_model.specs.Memory.{Block}
-use Rattle.geos_model.specs.Effects.{Choice}
+use Rattle.geos_table.specs.Memory.{Block}
+use Rattle.geos_table.specs.Effects.{Choice}
 use Rattle.geos_opcodes.specs.declared.opcode.Opcode.TheVariants.{Plen}
 use Rattle.geos_image.specs.Parts.{Parts}
 use Rattle.geos_semantics.specs.Model.{Ending, Faulted, Running, Returned, run}

@@ -3,8 +3,8 @@
 use Rattle.std.proofs.Common.{ℕ, true, false, List, [], ◌∷◌, Option, Some, None}
 use Rattle.geos_model.specs.Names.{named, mem}
 use Rattle.geos_model.specs.declared.name.Owner.TheVariants.{Vm}
-use Rattle.geos_model.specs.Memory.{Block, Memory}
-use Rattle.geos_model.specs.Effects.{Choice}
+use Rattle.geos_table.specs.Memory.{Block, Memory}
+use Rattle.geos_table.specs.Effects.{Choice}
 use Rattle.geos_image.specs.declared.instr.Instr.{Instr}
 use Rattle.geos_image.specs.Open.{open_row}
 use Rattle.geos_image.specs.Parts.{Parts}

@@ -2,7 +2,7 @@ use Rattle.std.proofs.Common.{ap, ◌∙◌, arith}
 use Rattle.geos_model.specs.Block.{chunks}
 use Rattle.geos_model.specs.Chunks.{bytes_of, with_bytes, with_resized_part}
 use Rattle.geos_model.proofs.JoinedEdits.{resized-grows, resized-shrinks, length-resized_part}
-use Rattle.geos_model.proofs.LegalChunks.{need-with_bytes}
+use Rattle.geos_model.proofs.Needs.{need-with_bytes}
 use Rattle.geos_model.proofs.Lowest.{block-used}
 use Rattle.chunk_array.proofs.resize.resize_part.Goals as goal
 

@@ -3,7 +3,7 @@ use Rattle.std.proofs.lemmas.Bool.{not-false, not-true}
 use Rattle.std.proofs.Common.{false, ◌≡◌, ◌+◌, refl, get_or, sym, subst, ◌∙◌, [], ◌∷◌}
 use Rattle.std.specs.Prelude.{Ok}
 use Rattle.geos_calls.specs.Kernel.{Calls}
-use Rattle.geos_model.specs.Calls.{store}
+use Rattle.geos_table.specs.Calls.{store}
 use Rattle.geos_opcodes.specs.declared.uses.Width.TheVariants.{Byte}
 use Rattle.geos_opcodes.specs.declared.uses.Offset.TheVariants.{Tested}
 use Rattle.geos_semantics.specs.Model.{nowhere, low_bytes, within}

@@ -1,7 +1,7 @@
 use Rattle.std.proofs.Common.{rules, ◌+◌, refl, get_or, subst, ◌∙◌}
 use Rattle.std.specs.Prelude.{Ok}
 use Rattle.geos_calls.specs.Kernel.{Calls}
-use Rattle.geos_model.specs.Calls.{store}
+use Rattle.geos_table.specs.Calls.{store}
 use Rattle.geos_opcodes.specs.declared.uses.Width.TheVariants.{Both}
 use Rattle.geos_opcodes.specs.declared.uses.Offset.TheVariants.{Fixed}
 use Rattle.geos_semantics.specs.Model.{nowhere, low_bytes}

@@ -1,7 +1,7 @@
 use Rattle.std.proofs.Common.{◌+◌, refl, get_or, subst, ◌∙◌, arith, [], ◌∷◌}
 use Rattle.std.specs.Prelude.{Ok}
 use Rattle.geos_calls.specs.Kernel.{Calls}
-use Rattle.geos_model.specs.Calls.{store}
+use Rattle.geos_table.specs.Calls.{store}
 use Rattle.geos_opcodes.specs.declared.uses.Width.TheVariants.{Byte}
 use Rattle.geos_opcodes.specs.declared.uses.Offset.TheVariants.{Indexed}
 use Rattle.geos_semantics.specs.Model.{nowhere, low_bytes}

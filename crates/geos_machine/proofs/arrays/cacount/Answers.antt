@@ -1,6 +1,6 @@
 use Rattle.std.proofs.Common.{refl, get_or}
 use Rattle.geos_model.specs.Names.{mem}
-use Rattle.geos_model.specs.ArrayCalls.{cacount}
+use Rattle.geos_table.specs.ArrayCalls.{cacount}
 use Rattle.geos_semantics.specs.State.{with_word}
 use Rattle.geos_machine.proofs.Works.{slot-done, slot-refused, slot-locked}
 use Rattle.geos_machine.proofs.Safe.{looks-held}

@@ -1,5 +1,5 @@
 use Rattle.std.proofs.Common.{refl, get_or}
-use Rattle.geos_model.specs.Calls.{mlock}
+use Rattle.geos_table.specs.Calls.{mlock}
 use Rattle.geos_semantics.specs.Model.{holding}
 use Rattle.geos_machine.proofs.Works.{call-refused, on-past, slot-locked-into}
 use Rattle.geos_machine.proofs.blocks.mlock.Goals as goal

@@ -1,5 +1,5 @@
 use Rattle.std.proofs.Common.{refl}
-use Rattle.geos_model.specs.Calls.{mnew}
+use Rattle.geos_table.specs.Calls.{mnew}
 use Rattle.geos_semantics.specs.State.{with_word}
 use Rattle.geos_semantics.specs.Model.{holding}
 use Rattle.geos_machine.proofs.Works.{call-refused, slot-locked-into}

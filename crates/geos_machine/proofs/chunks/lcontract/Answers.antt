@@ -1,6 +1,6 @@
 use Rattle.std.proofs.Common.{refl}
 use Rattle.geos_model.specs.Names.{mem}
-use Rattle.geos_model.specs.Calls.{lcontract}
+use Rattle.geos_table.specs.Calls.{lcontract}
 use Rattle.geos_semantics.specs.Model.{nowhere}
 use Rattle.geos_machine.proofs.Works.{slot-done, slot-locked}
 use Rattle.geos_machine.proofs.Safe.{moves-held}

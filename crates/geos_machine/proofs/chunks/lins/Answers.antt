@@ -1,6 +1,6 @@
 use Rattle.std.proofs.Common.{refl, get_or}
 use Rattle.geos_model.specs.Names.{mem}
-use Rattle.geos_model.specs.Calls.{lins}
+use Rattle.geos_table.specs.Calls.{lins}
 use Rattle.geos_semantics.specs.Model.{nowhere}
 use Rattle.geos_machine.proofs.Works.{slot-done, slot-refused, slot-locked}
 use Rattle.geos_machine.proofs.Safe.{moves-held}

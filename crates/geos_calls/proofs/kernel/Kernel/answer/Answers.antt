@@ -1,5 +1,5 @@
 use Rattle.std.proofs.Common.{◌∙◌, refl, sym, subst}
-use Rattle.geos_model.specs.Calls.{mnew, mlock, mfree}
+use Rattle.geos_table.specs.Calls.{mnew, mlock, mfree}
 use Rattle.geos_calls.specs.declared.call.Call.TheVariants.{Mnew, Mlock, Mfree}
 use Rattle.geos_calls.specs.declared.call.Reply.TheVariants.{NotLocked}
 use Rattle.geos_calls.specs.Answer.{number, done, answer, Meets}

@@ -1,5 +1,5 @@
 use Rattle.std.proofs.Common.{refl, sym, subst}
-use Rattle.geos_model.specs.ArrayCalls as table
+use Rattle.geos_table.specs.ArrayCalls as table
 use Rattle.geos_calls.specs.declared.call.ArrayCall.TheVariants.{Canew, Caadd, Cains, Cadel, Cazero, Caresize}
 use Rattle.geos_calls.specs.Answer.{number, done, array_answer, Meets}
 use Rattle.geos_calls.proofs.Replies.{moved}

@@ -1,6 +1,6 @@
 use Rattle.std.proofs.Common.{◌≡◌, ◌+◌, None, get_or, refl, subst, ap}
 use Rattle.std.specs.Prelude.{Ok, Err}
-use Rattle.geos_model.specs.Calls as table
+use Rattle.geos_table.specs.Calls as table
 use Rattle.geos_calls.specs.declared.call.Call.TheVariants.{Load8}
 use Rattle.geos_calls.specs.declared.call.Reply.TheVariants.{Number}
 use Rattle.geos_calls.specs.Answer.{number, answer, loads8}

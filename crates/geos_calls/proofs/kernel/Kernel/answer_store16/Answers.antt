@@ -1,7 +1,7 @@
 use Rattle.std.proofs.Common.{◌≡◌, ◌+◌, None, get_or, refl, subst}
 use Rattle.std.specs.Prelude.{Ok, Err}
 use Rattle.geos_model.specs.Bytes.{word_bytes}
-use Rattle.geos_model.specs.Calls as table
+use Rattle.geos_table.specs.Calls as table
 use Rattle.geos_calls.specs.declared.call.Call.TheVariants.{Store16}
 use Rattle.geos_calls.specs.declared.call.Reply.TheVariants.{Done}
 use Rattle.geos_calls.specs.Answer.{done, answer, stores}

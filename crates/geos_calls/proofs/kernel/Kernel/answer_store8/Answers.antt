@@ -1,6 +1,6 @@
 use Rattle.std.proofs.Common.{◌≡◌, ◌+◌, None, get_or, refl, subst, [], ◌∷◌}
 use Rattle.std.specs.Prelude.{Ok, Err}
-use Rattle.geos_model.specs.Calls as table
+use Rattle.geos_table.specs.Calls as table
 use Rattle.geos_calls.specs.declared.call.Call.TheVariants.{Store8}
 use Rattle.geos_calls.specs.declared.call.Reply.TheVariants.{Done}
 use Rattle.geos_calls.specs.Answer.{done, answer, stores}

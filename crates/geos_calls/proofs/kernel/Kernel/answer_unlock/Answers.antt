@@ -1,7 +1,7 @@
 use Rattle.std.proofs.Common.{◌≡◌, ◌≢◌, ℕ, false, Some, None, refl, sym, ap, ◌∙◌, arith}
 use Rattle.std.specs.Prelude.{Ok, ◌==◌}
-use Rattle.geos_model.specs.Calls as table
-use Rattle.geos_model.specs.Memory.{locks_of}
+use Rattle.geos_table.specs.Calls as table
+use Rattle.geos_table.specs.Memory.{locks_of}
 use Rattle.geos_calls.specs.declared.call.BlockCall.TheVariants.{Unlock}
 use Rattle.geos_calls.specs.declared.call.Reply.TheVariants.{Done}
 use Rattle.geos_calls.specs.Answer.{done, block_answer}

@@ -1,6 +1,6 @@
 use Rattle.std.proofs.Common.{refl, sym, subst}
 use Rattle.std.specs.Prelude.{Ok}
-use Rattle.geos_model.specs.Calls as table
+use Rattle.geos_table.specs.Calls as table
 use Rattle.geos_calls.specs.declared.call.BlockCall.TheVariants.{Lalloc, Lfree, Lrealloc, Lins, Ldel, Lcontract}
 use Rattle.geos_calls.specs.declared.call.Reply.TheVariants.{Done}
 use Rattle.geos_calls.specs.Answer.{number, done, block_answer, Meets}

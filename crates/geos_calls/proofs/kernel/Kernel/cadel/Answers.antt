@@ -1,5 +1,5 @@
 use Rattle.std.proofs.Common.{sym, subst}
-use Rattle.geos_model.specs.ArrayCalls as table
+use Rattle.geos_table.specs.ArrayCalls as table
 use Rattle.geos_model.specs.ArrayEdits.{remove_element}
 use Rattle.geos_calls.specs.View.{IsLocked}
 use Rattle.geos_calls.specs.Kernel.{Calls}

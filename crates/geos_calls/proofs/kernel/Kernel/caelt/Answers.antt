@@ -4,7 +4,7 @@ use Rattle.geos_model.specs.Block.{chunks}
 use Rattle.geos_model.specs.Heap.{IsHeap}
 use Rattle.geos_model.specs.Refusals.{first_refusal}
 use Rattle.geos_model.specs.ArrayEdits.{no_element}
-use Rattle.geos_model.specs.ArrayCalls as table
+use Rattle.geos_table.specs.ArrayCalls as table
 use Rattle.chunk_array.specs.Elements.{HasElement}
 use Rattle.chunk_array.specs.ElementErrors.{IsElementError}
 use Rattle.geos_calls.specs.declared.span.Span.{Span}

@@ -1,7 +1,7 @@
 use Rattle.std.proofs.Common.{sym, subst}
-use Rattle.geos_model.specs.ArrayCalls as table
+use Rattle.geos_table.specs.ArrayCalls as table
 use Rattle.geos_model.specs.ArrayEdits.{insert_element}
-use Rattle.geos_model.specs.Memory.{chunks_at}
+use Rattle.geos_table.specs.Memory.{chunks_at}
 use Rattle.geos_calls.specs.View.{IsLocked, memory_of}
 use Rattle.geos_calls.specs.Kernel.{Calls, HasNoRoomFor}
 use Rattle.geos_calls.proofs.ArrayRows.{comes-calls, comes-kernel, comes-no_room, insert-asks}

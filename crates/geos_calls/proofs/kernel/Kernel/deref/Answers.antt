@@ -4,7 +4,7 @@ use Rattle.lmem_raw.specs.Bytes.{part}
 use Rattle.geos_model.specs.Block.{chunks, IsPlaced}
 use Rattle.geos_model.specs.Chunks.{chunk_of}
 use Rattle.geos_model.specs.Heap.{IsHeap}
-use Rattle.geos_model.specs.Calls as table
+use Rattle.geos_table.specs.Calls as table
 use Rattle.geos_calls.specs.declared.span.Span.{Span}
 use Rattle.geos_calls.specs.View.{IsLocked}
 use Rattle.geos_calls.specs.Kernel.{GivesSpan}

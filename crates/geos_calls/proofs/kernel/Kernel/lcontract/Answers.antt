@@ -1,5 +1,5 @@
 use Rattle.std.proofs.Common.{Ok, sym, subst}
-use Rattle.geos_model.specs.Calls as table
+use Rattle.geos_table.specs.Calls as table
 use Rattle.geos_calls.specs.View.{IsLocked}
 use Rattle.geos_calls.specs.Kernel.{Calls}
 use Rattle.geos_calls.proofs.Edited.{lcontract-calls, lcontract-kernel}

@@ -1,7 +1,7 @@
 use Rattle.std.proofs.Common.{sym, subst}
-use Rattle.geos_model.specs.Calls as table
+use Rattle.geos_table.specs.Calls as table
 use Rattle.geos_model.specs.Chunks.{with_inserted}
-use Rattle.geos_model.specs.Memory.{chunks_at}
+use Rattle.geos_table.specs.Memory.{chunks_at}
 use Rattle.geos_calls.specs.View.{IsLocked, memory_of}
 use Rattle.geos_calls.specs.Kernel.{Calls, HasNoRoomFor}
 use Rattle.geos_calls.proofs.Edited.{lins-calls, lins-kernel, lins-no_room}

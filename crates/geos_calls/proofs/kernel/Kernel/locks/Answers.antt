@@ -1,5 +1,5 @@
 use Rattle.std.proofs.Common.{◌∙◌, ap}
-use Rattle.geos_model.specs.Memory.{locks_of}
+use Rattle.geos_table.specs.Memory.{locks_of}
 use Rattle.geos_calls.specs.View.{memory_of}
 use Rattle.geos_calls.proofs.Locks.{with_store}
 use Rattle.geos_calls.proofs.Views.{locks-view}

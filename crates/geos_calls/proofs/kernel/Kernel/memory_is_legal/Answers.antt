@@ -1,5 +1,5 @@
 use Rattle.std.proofs.Common.{subst}
-use Rattle.geos_model.specs.Legal.{IsMemory}
+use Rattle.geos_table.specs.Legal.{IsMemory}
 use Rattle.geos_calls.specs.View.{memory_of}
 use Rattle.geos_calls.proofs.Lawful.{memory-legal}
 use Rattle.geos_calls.proofs.Locks.{with_store}

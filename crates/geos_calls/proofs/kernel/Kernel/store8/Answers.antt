@@ -1,6 +1,6 @@
 use Rattle.std.proofs.Common.{◌+◌, [], ◌∷◌, Ok, ap, subst, arith}
-use Rattle.geos_model.specs.Effects.{Reference}
-use Rattle.geos_model.specs.Calls as table
+use Rattle.geos_table.specs.Effects.{Reference}
+use Rattle.geos_table.specs.Calls as table
 use Rattle.geos_calls.specs.Kernel.{Calls}
 use Rattle.geos_calls.specs.Spans.{Stands}
 use Rattle.geos_calls.proofs.Locks.{with_store}

@@ -11,18 +11,19 @@ use Rattle.geos_model.specs.declared.refusal.Refusal.TheVariants.{BadHandle, NoR
 use Rattle.geos_model.specs.Names.{mem}
 use Rattle.geos_model.specs.Refusals.{first_refusal}
 use Rattle.geos_model.specs.Chunks.{need, bytes_of, with_bytes}
-use Rattle.geos_model.specs.Memory.{Memory, new_heap, block_of, locks_of, lowest_handle, chunks_at}
-use Rattle.geos_model.specs.Effects.{Choice, Reference, Effect, come_to, outcome, most_size, most_locks, cannot_grow, growing}
+use Rattle.geos_table.specs.Memory.{Memory, new_heap, block_of, locks_of, lowest_handle, chunks_at}
+use Rattle.geos_table.specs.Effects.{Choice, Reference, Effect, come_to, outcome, most_size, most_locks, cannot_grow, growing}
 use Rattle.geos_model.specs.Edits.{Edit, Part, alloc, free, realloc, insert_bytes, delete_bytes, size, refer, contract}
 use Rattle.geos_model.specs.ArrayEdits.{create_array, append_element, insert_element, remove_element, count_elements, refer_element, clear_array, resize_element}
-use Rattle.geos_model.specs.Calls.{changes, enlarges, reads, refers, locks_full, mnew, mlock, unlock, mfree, named_bytes, store, copy}
-use Rattle.geos_model.specs.Legal.{AreBytes, IsMemory}
-use Rattle.geos_model.specs.Keeping.{Keeps, RowsKeepMemory}
-use Rattle.geos_model.proofs.LegalBytes.{bytes-part}
-use Rattle.geos_model.proofs.Passing.{none-here, none-behind, none-before}
-use Rattle.geos_model.proofs.LegalArrays.{create-kept, append-kept, insert-kept, remove-kept, remove-less, clear-kept, clear-less, resize-kept}
-use Rattle.geos_model.proofs.LegalChunks.{KeepsChunks, NeedsNoMore, bytes_of-legal, with_new-legal, without-legal, with_resized-legal, with_inserted-legal, with_deleted-legal, with_written-legal, need-without, need-with_deleted, need-with_written}
-use Rattle.geos_model.proofs.LegalBlocks.{new_heap-legal, with_block-legal, with_locks-legal, with_chunks-legal, chunks-need, chunks-bytes, locks-most}
+use Rattle.geos_table.specs.Calls.{changes, enlarges, reads, refers, locks_full, mnew, mlock, unlock, mfree, named_bytes, store, copy}
+use Rattle.geos_table.specs.Legal.{AreBytes, IsMemory}
+use Rattle.geos_table.specs.Keeping.{Keeps, RowsKeepMemory}
+use Rattle.geos_table.proofs.LegalBytes.{bytes-part}
+use Rattle.geos_table.proofs.Passing.{none-here, none-behind, none-before}
+use Rattle.geos_table.proofs.LegalArrays.{create-kept, append-kept, insert-kept, remove-kept, remove-less, clear-kept, clear-less, resize-kept}
+use Rattle.geos_table.proofs.LegalChunks.{KeepsChunks, NeedsNoMore, bytes_of-legal, with_new-legal, without-legal, with_resized-legal, with_inserted-legal, with_deleted-legal, with_written-legal}
+use Rattle.geos_model.proofs.Needs.{need-without, need-with_deleted, need-with_written}
+use Rattle.geos_table.proofs.LegalBlocks.{new_heap-legal, with_block-legal, with_locks-legal, with_chunks-legal, chunks-need, chunks-bytes, locks-most}
 
 -- chunks that are not refused need no more than a block can have
 pub grown-small : (choice : Choice) (memory : Memory) (name : Name) (front : List (Bool × Refusal)) (chunks : List (Option (List ℕ))) →

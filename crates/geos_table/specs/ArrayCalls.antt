@@ -1,9 +1,9 @@
 -- The rows of the calls on arrays in the table of the kernel's calls.
 use Rattle.std.specs.Prelude.{ℕ}
 use Rattle.geos_model.specs.declared.name.Name.{Name}
-use Rattle.geos_model.specs.Effects.{Reference, Call}
+use Rattle.geos_table.specs.Effects.{Reference, Call}
 use Rattle.geos_model.specs.ArrayEdits.{create_array, append_element, insert_element, remove_element, count_elements, refer_element, clear_array, resize_element}
-use Rattle.geos_model.specs.Calls.{changes, enlarges, reads, refers}
+use Rattle.geos_table.specs.Calls.{changes, enlarges, reads, refers}
 
 -- makes an empty array
 abbrev pub canew : Name → ℕ → Call ℕ

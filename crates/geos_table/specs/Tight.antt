@@ -1,7 +1,7 @@
 -- Where room may be wanting.
 use Rattle.std.specs.Prelude.{ℕ, ◌+◌, ◌*◌, Bool, nat_lt, List, sum_by, count_by, Option, None}
 use Rattle.geos_model.specs.declared.name.Name.{Name}
-use Rattle.geos_model.specs.Memory.{Block, Memory, locks_in, size_in, with_block}
+use Rattle.geos_table.specs.Memory.{Block, Memory, locks_in, size_in, with_block}
 
 -- a block is locked
 abbrev pub is_locked : Option Block → Bool

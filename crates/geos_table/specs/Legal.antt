@@ -2,8 +2,8 @@
 use Rattle.std.specs.Prelude.{◌≡◌, ℕ, ◌%◌, ◌<◌, ◌≤◌, List, length, Option, Some, None, All, IfSome}
 use Rattle.geos_model.specs.declared.name.Name.{Name}
 use Rattle.geos_model.specs.Chunks.{need}
-use Rattle.geos_model.specs.Memory.{Heap, Block, Memory, block_of}
-use Rattle.geos_model.specs.Effects.{most_size, most_locks}
+use Rattle.geos_table.specs.Memory.{Heap, Block, Memory, block_of}
+use Rattle.geos_table.specs.Effects.{most_size, most_locks}
 
 -- the numbers are bytes
 abbrev pub AreBytes : List ℕ → Type 0

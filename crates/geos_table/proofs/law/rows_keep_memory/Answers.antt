@@ -1,4 +1,4 @@
-use Rattle.geos_model.proofs.Keeps.{rows_keep_memory}
+use Rattle.geos_table.proofs.Keeps.{rows_keep_memory}
 use Rattle.geos_model.proofs.law.rows_keep_memory.Goals as goal
 
 pub returns : goal.returns

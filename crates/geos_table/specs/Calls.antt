@@ -9,8 +9,8 @@ use Rattle.geos_model.specs.declared.refusal.Refusal.TheVariants.{BadHandle, NoH
 use Rattle.geos_model.specs.Names.{mem}
 use Rattle.geos_model.specs.Bytes.{word}
 use Rattle.geos_model.specs.Chunks.{bytes_of, with_bytes}
-use Rattle.geos_model.specs.Memory.{Memory, new_heap, block_of, with_block, locks_of, with_locks, chunks_at, with_chunks, lowest_handle}
-use Rattle.geos_model.specs.Effects.{Reference, Call, Nothing, InBlock, OfLock, unchanged, tells, most_locks, cannot_make, growing}
+use Rattle.geos_table.specs.Memory.{Memory, new_heap, block_of, with_block, locks_of, with_locks, chunks_at, with_chunks, lowest_handle}
+use Rattle.geos_table.specs.Effects.{Reference, Call, Nothing, InBlock, OfLock, unchanged, tells, most_locks, cannot_make, growing}
 use Rattle.geos_model.specs.Edits.{Edit, Part, alloc, free, realloc, insert_bytes, delete_bytes, size, refer, contract}
 
 -- Calls on the chunks of one locked block, which are edits of a list of chunks

@@ -14,7 +14,7 @@ use Rattle.geos_model.specs.Bytes.{word, word_bytes}
 use Rattle.geos_model.specs.Chunks.{need, chunk_of, bytes_of, with_new, new_handle, resized}
 use Rattle.geos_model.specs.Arrays.{Array, arr, first_at, element_at, element, offsets, table, head_words, spelled, empty, new_length, with_element, without_element, with_element_bytes}
 use Rattle.geos_model.specs.ArrayEdits.{array_of, count_of, element_of, no_array, is_fixed, is_past, with_array, create_array, append_element, insert_element, remove_element, clear_array, resize_element}
-use Rattle.geos_model.specs.Legal.{AreBytes, IsChunk, AreChunks}
+use Rattle.geos_table.specs.Legal.{AreBytes, IsChunk, AreChunks}
 use Rattle.geos_model.proofs.ArrayPlaces.{length-spelled, join-le, part-element}
 use Rattle.geos_model.proofs.ArrayReads.{Reads, reads}
 use Rattle.geos_model.proofs.ArraySpells.{first-varying, first-fixed, element-at, table-varying, table-fixed, length-head}
@@ -22,9 +22,10 @@ use Rattle.geos_model.proofs.ArrayTests.{array-of}
 use Rattle.geos_model.proofs.ChunkItems.{known-bytes, need-least}
 use Rattle.geos_model.proofs.Joined.{join, join-split, take-join, drop-join}
 use Rattle.geos_model.proofs.JoinedEdits.{join-insert, join-remove, join-set}
-use Rattle.geos_model.proofs.LegalBytes.{bytes-zeros, bytes-part, bytes-resized}
-use Rattle.geos_model.proofs.LegalChunks.{KeepsChunks, NeedsNoMore, bytes_of-legal, with_new-legal, with_bytes-legal, need-with_bytes}
-use Rattle.geos_model.proofs.Passing.{none-here, some-known}
+use Rattle.geos_table.proofs.LegalBytes.{bytes-zeros, bytes-part, bytes-resized}
+use Rattle.geos_table.proofs.LegalChunks.{KeepsChunks, NeedsNoMore, bytes_of-legal, with_new-legal, with_bytes-legal}
+use Rattle.geos_model.proofs.Needs.{need-with_bytes}
+use Rattle.geos_table.proofs.Passing.{none-here, some-known}
 
 -- a number is a word
 abbrev IsWord : ℕ → Type 0

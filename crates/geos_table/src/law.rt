@@ -1,6 +1,6 @@
 //! The law of the table of calls.
 
-ghost use Rattle.geos_model.specs.Keeping.{RowsKeepMemory};
+ghost use Rattle.geos_table.specs.Keeping.{RowsKeepMemory};
 
 /// Each row of the table of calls keeps memory legal, where the call succeeds and where it is
 /// refused, whatever is refused from outside. Legal memory has 1,024 handles; the size of each

@@ -7,10 +7,10 @@ use Rattle.geos_model.specs.Bytes.{word}
 use Rattle.geos_model.specs.Chunks.{cost}
 use Rattle.geos_model.specs.declared.name.Owner.TheVariants.{Vm}
 use Rattle.geos_model.specs.Names.{named, mem}
-use Rattle.geos_model.specs.Memory.{Block, Memory, new_heap, block_of, with_block}
-use Rattle.geos_model.specs.Tight.{is_tight}
-use Rattle.geos_model.specs.Effects.{Choice, Reference, Effect, Staleness, Nothing, InBlock, OfLock, outcome}
-use Rattle.geos_model.specs.Calls.{mnew, mlock, unlock, mfree, lalloc, lfree, lrealloc, lins, ldel, lsize, deref, lcontract, load8, load16, store, copy}
+use Rattle.geos_table.specs.Memory.{Block, Memory, new_heap, block_of, with_block}
+use Rattle.geos_table.specs.Tight.{is_tight}
+use Rattle.geos_table.specs.Effects.{Choice, Reference, Effect, Staleness, Nothing, InBlock, OfLock, outcome}
+use Rattle.geos_table.specs.Calls.{mnew, mlock, unlock, mfree, lalloc, lfree, lrealloc, lins, ldel, lsize, deref, lcontract, load8, load16, store, copy}
 
 -- nothing is refused from outside
 abbrev pub willing : Choice

@@ -1,5 +1,4 @@
--- What edits do to legal chunks: they stay legal, and to free, to delete and to write need no
--- more.
+-- What edits do to legal chunks: they stay legal.
 use Rattle.std.proofs.Common.{◌≡◌, ℕ, ◌+◌, ◌%◌, ◌<◌, ◌≤◌, Bool, true, false, ◌&&◌, ◌==◌, if◌then◌else◌, List, [], ◌∷◌, ◌++◌, Option, Some, None, length, get_or, set, take, drop, replicate, unwrap_or, ap, sym, subst, inl, inr, arith, length-append, length-take, length-drop, length-set}
 use Rattle.std.specs.Prelude.{All, nat_le}
 use Rattle.std.proofs.lemmas.Bool.{cases_lt}
@@ -10,11 +9,11 @@ use Rattle.lmem_raw.proofs.Parts.{length-with_part}
 use Rattle.geos_model.specs.Chunks.{cost, cost_of, used_bytes, sixteens, need, entry_of, chunk_of, bytes_of, lowest_entry, with_entry, with_new, with_bytes, without, resized, with_zeros, without_part, with_resized, with_inserted, with_deleted}
 use Rattle.geos_model.specs.Refusals.{first_refusal}
 use Rattle.geos_model.specs.Edits.{Edit}
-use Rattle.geos_model.specs.Legal.{AreBytes, IsChunk, AreChunks}
+use Rattle.geos_table.specs.Legal.{AreBytes, IsChunk, AreChunks}
 use Rattle.geos_model.proofs.Costs.{cost-mono}
 use Rattle.geos_model.proofs.Sums.{cost-zero}
 use Rattle.geos_model.proofs.Lowest.{used-set}
-use Rattle.geos_model.proofs.LegalBytes.{bytes-zeros, bytes-with_part, bytes-resized, bytes-with_zeros, bytes-without_part}
+use Rattle.geos_table.proofs.LegalBytes.{bytes-zeros, bytes-with_part, bytes-resized, bytes-with_zeros, bytes-without_part}
 
 -- Legal chunks
 
@@ -76,45 +75,6 @@ with_deleted-legal cs c at n h = with_bytes-legal cs c (without_part (bytes_of c
 
 pub with_written-legal : (cs : List (Option (List ℕ))) (c at : ℕ) (ws : List ℕ) → AreBytes ws → AreChunks cs → AreChunks (with_bytes cs c (with_part (bytes_of cs c) at ws))
 with_written-legal cs c at ws are h = with_bytes-legal cs c (with_part (bytes_of cs c) at ws) (bytes-with_part (bytes_of cs c) at ws (bytes_of-legal cs c h.bytes) are) h
-
--- Need
-
-pub sixteens-mono : (m n : ℕ) → m ≤ n → sixteens m ≤ sixteens n
-sixteens-mono m n h = omega arith
-
-pub need-sixteens : (cs : List (Option (List ℕ))) → need cs % 16 ≡ 0
-need-sixteens cs = omega arith
-
--- an entry whose chunk takes less than the one before
-pub used-less : (cs : List (Option (List ℕ))) (i : ℕ) (x : Option (List ℕ)) → cost_of x ≤ cost_of (get_or cs i None) → used_bytes (set cs i x) ≤ used_bytes cs
-used-less cs i x h = elim (cases_lt i (length cs)) [
-  | inl l ↦ (let s = used-set cs i x l in omega (arith, s))
-  | inr l ↦ (let s = ap used_bytes (set_past cs i x l) in omega (arith, s))
-]
-
--- and with other bytes for the chunk of a handle, so many at most as it has
-cost-if : (b : Bool) (x : Option (List ℕ)) → cost (length (unwrap_or (if b then x else None) [])) ≤ cost_of x
-cost-if true None = omega (arith, cost-zero)
-cost-if true (Some bytes) = omega arith
-cost-if false x = omega (arith, cost-zero)
-
-pub need-with_bytes : (cs : List (Option (List ℕ))) (c : ℕ) (bytes : List ℕ) → length bytes ≤ length (bytes_of cs c) → need (with_bytes cs c bytes) ≤ need cs
-need-with_bytes cs c bytes h =
-    let old = cost-if (nat_le 16 c && (c % 2 == 0)) (get_or cs (entry_of c) None) in
-    let new = cost-mono (length bytes) (length (bytes_of cs c)) h in
-    sixteens-mono (used_bytes (with_bytes cs c bytes)) (used_bytes cs) (used-less cs (entry_of c) (Some bytes) (omega (arith, old, new)))
-
-pub need-without : (cs : List (Option (List ℕ))) (c : ℕ) → need (without cs c) ≤ need cs
-need-without cs c = sixteens-mono (used_bytes (without cs c)) (used_bytes cs) (used-less cs (entry_of c) None (omega arith))
-
-pub length-without_part : (bs : List ℕ) (at n : ℕ) → length (without_part bs at n) ≤ length bs
-length-without_part bs at n = omega (arith, length-append (take at bs) (drop (at + n) bs), length-take at bs, length-drop (at + n) bs)
-
-pub need-with_deleted : (cs : List (Option (List ℕ))) (c at n : ℕ) → need (with_deleted cs c at n) ≤ need cs
-need-with_deleted cs c at n = need-with_bytes cs c (without_part (bytes_of cs c) at n) (length-without_part (bytes_of cs c) at n)
-
-pub need-with_written : (cs : List (Option (List ℕ))) (c at : ℕ) (ws : List ℕ) → need (with_bytes cs c (with_part (bytes_of cs c) at ws)) ≤ need cs
-need-with_written cs c at ws = need-with_bytes cs c (with_part (bytes_of cs c) at ws) (omega (arith, length-with_part (bytes_of cs c) at ws))
 
 -- Edits of chunks
 

@@ -5,12 +5,12 @@ use Rattle.geos_model.specs.declared.refusal.Refusal.TheVariants.{BadChunk, BadA
 use Rattle.geos_model.specs.Names.{mem}
 use Rattle.geos_model.specs.Bytes.{word}
 use Rattle.geos_model.specs.Chunks.{cost}
-use Rattle.geos_model.specs.Memory.{Memory, chunks_at}
-use Rattle.geos_model.specs.Effects.{Reference, InBlock}
+use Rattle.geos_table.specs.Memory.{Memory, chunks_at}
+use Rattle.geos_table.specs.Effects.{Reference, InBlock}
 use Rattle.geos_model.specs.Arrays.{arr, spelled, empty}
-use Rattle.geos_model.specs.Calls.{load16, store}
-use Rattle.geos_model.specs.ArrayCalls.{canew, caadd, cains, cadel, cacount, caelt, cazero, caresize}
-use Rattle.geos_model.proofs.CallExamples.{willing, one, after, answer}
+use Rattle.geos_table.specs.Calls.{load16, store}
+use Rattle.geos_table.specs.ArrayCalls.{canew, caadd, cains, cadel, cacount, caelt, cazero, caresize}
+use Rattle.geos_table.proofs.CallExamples.{willing, one, after, answer}
 
 -- an array whose sizes vary, with elements of 3, 0 and 5 bytes
 abbrev pub three : Memory

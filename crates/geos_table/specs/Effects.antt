@@ -5,8 +5,8 @@ use Rattle.geos_model.specs.declared.refusal.Refusal.{Refusal}
 use Rattle.geos_model.specs.declared.refusal.Refusal.TheVariants.{NoRoom, TooBig}
 use Rattle.geos_model.specs.Refusals.{first_refusal}
 use Rattle.geos_model.specs.Chunks.{need}
-use Rattle.geos_model.specs.Memory.{Memory, size_of}
-use Rattle.geos_model.specs.Tight.{is_tight}
+use Rattle.geos_table.specs.Memory.{Memory, size_of}
+use Rattle.geos_table.specs.Tight.{is_tight}
 
 -- what may be refused from outside at a call: room at the first test for it, which brings a
 -- block into memory; room at the last, for which a block is made or grows; the device, and

@@ -8,11 +8,11 @@ use Rattle.geos_model.specs.declared.refusal.Refusal.{Refusal}
 use Rattle.geos_model.specs.declared.refusal.Refusal.TheVariants.{TooBig, NoRoom}
 use Rattle.geos_model.specs.Chunks.{need}
 use Rattle.geos_model.specs.Refusals.{first_refusal}
-use Rattle.geos_model.specs.Memory.{Memory, at_handle, with_entry_at, size_of, chunks_at, with_chunks}
-use Rattle.geos_model.specs.Tight.{is_tight}
-use Rattle.geos_model.specs.Effects.{Choice, Answers, growing}
+use Rattle.geos_table.specs.Memory.{Memory, at_handle, with_entry_at, size_of, chunks_at, with_chunks}
+use Rattle.geos_table.specs.Tight.{is_tight}
+use Rattle.geos_table.specs.Effects.{Choice, Answers, growing}
 use Rattle.geos_model.specs.Edits.{Edit, Part}
-use Rattle.geos_model.specs.Calls.{changes, enlarges, reads, refers, in_block}
+use Rattle.geos_table.specs.Calls.{changes, enlarges, reads, refers, in_block}
 
 -- nothing is refused from outside
 abbrev pub willing : Choice

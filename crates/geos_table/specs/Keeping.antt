@@ -1,11 +1,11 @@
 -- Each row of the table of calls keeps memory legal.
 use Rattle.std.specs.Prelude.{ℕ, ◌<◌, List}
 use Rattle.geos_model.specs.declared.name.Name.{Name}
-use Rattle.geos_model.specs.Legal.{AreBytes, IsMemory}
-use Rattle.geos_model.specs.Memory.{Memory}
-use Rattle.geos_model.specs.Effects.{Choice, Reference, Call, outcome}
-use Rattle.geos_model.specs.Calls.{mnew, mlock, unlock, mfree, lalloc, lfree, lrealloc, lins, ldel, lsize, deref, lcontract, load8, load16, store, copy}
-use Rattle.geos_model.specs.ArrayCalls.{canew, caadd, cains, cadel, cacount, caelt, cazero, caresize}
+use Rattle.geos_table.specs.Legal.{AreBytes, IsMemory}
+use Rattle.geos_table.specs.Memory.{Memory}
+use Rattle.geos_table.specs.Effects.{Choice, Reference, Call, outcome}
+use Rattle.geos_table.specs.Calls.{mnew, mlock, unlock, mfree, lalloc, lfree, lrealloc, lins, ldel, lsize, deref, lcontract, load8, load16, store, copy}
+use Rattle.geos_table.specs.ArrayCalls.{canew, caadd, cains, cadel, cacount, caelt, cazero, caresize}
 
 -- whatever is refused from outside, the call leaves legal memory legal, where it succeeds and
 -- where it is refused

@@ -3,7 +3,7 @@ use Rattle.std.proofs.Common.{ℕ, zero, suc, ◌+◌, ◌-◌, ◌<◌, List, [
 use Rattle.std.proofs.lemmas.List.Elements.{All-cons, All-head, All-tail, All-replicate, All-append, All-take, All-drop}
 use Rattle.lmem_raw.specs.Bytes.{part, with_part}
 use Rattle.geos_model.specs.Chunks.{resized, with_zeros, without_part}
-use Rattle.geos_model.specs.Legal.{AreBytes}
+use Rattle.geos_table.specs.Legal.{AreBytes}
 
 -- a number is a byte
 abbrev IsByte : ℕ → Type 0

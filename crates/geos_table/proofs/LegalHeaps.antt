@@ -5,10 +5,10 @@ use Rattle.std.specs.List.{range_with_len}
 use Rattle.std.proofs.lemmas.List.Elements.{All-map}
 use Rattle.geos_model.specs.Block.{Place, entry, entries, place_at, bytes_at, chunk_at, chunks}
 use Rattle.geos_model.specs.Heap.{IsHeap}
-use Rattle.geos_model.specs.Legal.{AreBytes, IsChunk, IsLegalHeap}
+use Rattle.geos_table.specs.Legal.{AreBytes, IsChunk, IsLegalHeap}
 use Rattle.geos_model.proofs.Fits.{need-fits}
 use Rattle.geos_model.proofs.Sums.{count-chunks}
-use Rattle.geos_model.proofs.LegalBytes.{bytes-part}
+use Rattle.geos_table.proofs.LegalBytes.{bytes-part}
 
 placed-legal : (b : List ℕ) (place : Option Place) → AreBytes b → IsChunk (option_map (bytes_at b) place)
 placed-legal b None h = tt

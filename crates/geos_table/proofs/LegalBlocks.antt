@@ -8,10 +8,10 @@ use Rattle.geos_model.specs.declared.name.Owner.{Owner}
 use Rattle.geos_model.specs.declared.name.Owner.TheVariants.{Mem, Vm}
 use Rattle.geos_model.specs.declared.name.Name.{Name}
 use Rattle.geos_model.specs.Chunks.{need}
-use Rattle.geos_model.specs.Memory.{Block, Memory, at_handle, with_entry_at, owned_block, with_owned_block, block_of, with_block, locks_in, chunks_in, locks_of, chunks_at, new_heap, locked_block, rechunked_block, with_locks, with_chunks}
-use Rattle.geos_model.specs.Effects.{most_size, most_locks}
-use Rattle.geos_model.specs.Legal.{IsChunk, AreChunks, IsLegalHeap, IsLegalBlock, IsMemory}
-use Rattle.geos_model.proofs.LegalChunks.{need-sixteens}
+use Rattle.geos_table.specs.Memory.{Block, Memory, at_handle, with_entry_at, owned_block, with_owned_block, block_of, with_block, locks_in, chunks_in, locks_of, chunks_at, new_heap, locked_block, rechunked_block, with_locks, with_chunks}
+use Rattle.geos_table.specs.Effects.{most_size, most_locks}
+use Rattle.geos_table.specs.Legal.{IsChunk, AreChunks, IsLegalHeap, IsLegalBlock, IsMemory}
+use Rattle.geos_model.proofs.Needs.{need-sixteens}
 
 -- One block
 

@@ -1,0 +1,10 @@
+pub mod CallExamples
+pub mod ArrayExamples
+pub mod Laws
+pub mod Passing
+pub mod LegalBytes
+pub mod LegalChunks
+pub mod LegalHeaps
+pub mod LegalArrays
+pub mod LegalBlocks
+pub mod Keeps

@@ -1,0 +1,7 @@
+pub mod Memory
+pub mod Tight
+pub mod Effects
+pub mod Calls
+pub mod ArrayCalls
+pub mod Legal
+pub mod Keeping

@@ -1,0 +1,11 @@
+//! Memory as the model knows it, the table of the kernel's calls, and their law.
+//!
+//! `specs/Memory.antt` has blocks by their names; `specs/Effects.antt` what a call comes to;
+//! `specs/Calls.antt` and `specs/ArrayCalls.antt` a row for each call; `specs/Tight.antt` where
+//! room may be wanting; `specs/Legal.antt` what every memory of a kernel is. docs/MODEL.md says
+//! all of it in words. (GEOS SDK Concepts Book, chapters Memory Management and Local Memory.)
+#![tactic(auto)]
+
+mod law;
+
+pub use law::rows_keep_memory;
