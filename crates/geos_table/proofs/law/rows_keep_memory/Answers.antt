@@ -1,5 +1,5 @@
 use Rattle.geos_table.proofs.Keeps.{rows_keep_memory}
-use Rattle.geos_model.proofs.law.rows_keep_memory.Goals as goal
+use Rattle.geos_table.proofs.law.rows_keep_memory.Goals as goal
 
 pub returns : goal.returns
 returns c = rows_keep_memory
