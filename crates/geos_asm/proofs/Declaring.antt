@@ -7,7 +7,8 @@ use Rattle.std.proofs.lemmas.Bool.{eq-eqb, ltb-true, ltb-false}
 use Rattle.geos_image.specs.declared.row.Row.{Row}
 use Rattle.geos_image.specs.declared.routine.Routine.{Routine}
 use Rattle.geos_opcodes.specs.Facts.{limit, word_of}
-use Rattle.geos_image.specs.Parts.{Parts, Point, start_of}
+use Rattle.geos_image.specs.declared.point.Point.{Point}
+use Rattle.geos_image.specs.Parts.{Parts, start_of}
 use Rattle.geos_image.proofs.Instrs.{is_below}
 use Rattle.geos_image.proofs.Starts.{start_of-next, start_of-all}
 use Rattle.geos_listing.specs.Instrs.{name_of as name_text, is_target, is_at, target_of, target_if}
@@ -69,13 +70,13 @@ row-line n word row d is no_routine is_row sound =
     ∙ ap (λ b. cond b d (one_more_instr d)) is_row
 
 instr-line : (n : ℕ) (image : Parts) (pc : ℕ) (point : Point) (d : Declared) → Facts image → slice_get image.points pc ≡ Some point
-    → with_line n (instr_text image.routines point.0) d ≡ one_more_instr d
+    → with_line n (instr_text image.routines point.instr) d ≡ one_more_instr d
 unfolding with_line
 instr-line n image pc point d facts e =
-    let word = word_of point.0.opcode in
-    let words = operand_words image.routines point.0 in
-    let is = word_of-is point.0.opcode in
-    ap (λ p. with_statement n p.statement (with_labels n p.labels d)) (instr-said (length image.points) image.routines point.0 facts.named facts.short (facts.instr pc point e))
+    let word = word_of point.instr.opcode in
+    let words = operand_words image.routines point.instr in
+    let is = word_of-is point.instr.opcode in
+    ap (λ p. with_statement n p.statement (with_labels n p.labels d)) (instr-said (length image.points) image.routines point.instr facts.named facts.short (facts.instr pc point e))
     ∙ ap (λ b. declared_by b (bytes_eq word (codes "in")) (bytes_eq word (codes "out")) n words d) is.no_routine
     ∙ ap (λ b. declared_by false b (bytes_eq word (codes "out")) n words d) is.no_in
     ∙ ap (λ b. declared_by false false b n words d) is.no_out
@@ -103,7 +104,7 @@ instr-makes image is n pc table facts lt k =
     let at = item_at image.points pc lt in
     let before = labelled image is n pc table in
     let more : min (pc + 1) 4096 ≡ suc pc = omega (arith, lt, facts.short) in
-    ap (λ o. with_lines k (option_map_or (λ (p : Point). instr_text image.routines p.0 ∷ []) o []) before) at.1
+    ap (λ o. with_lines k (option_map_or (λ (p : Point). instr_text image.routines p.instr ∷ []) o []) before) at.1
     ∙ instr-line k image pc at.0 before facts at.1
     ∙ ap (λ m. record before { instrs = m }) more
 
@@ -240,10 +241,10 @@ any_at test (y ∷ xs) (suc k) x e h = or_later (test y) (list_any test xs) (any
     or_later false b e = e
 
 -- the label that an instruction leads to is one
-pub has_label : (image : Parts) (pc : ℕ) (point : Point) → Facts image → slice_get image.points pc ≡ Some point → HasLabel (IsLabel image) point.0
+pub has_label : (image : Parts) (pc : ℕ) (point : Point) → Facts image → slice_get image.points pc ≡ Some point → HasLabel (IsLabel image) point.instr
 has_label image pc point facts e is =
-    let i = point.0 in
+    let i = point.instr in
     let below = (is_below (length image.routines) (length image.points) i (facts.instr pc point e)).target in
     let leads : is_at i.target (target_of i) ≡ true = ap (λ kind. is_at i.target (target_if kind i.target)) is ∙ eq-eqb i.target i.target refl in
     let within : i.target < length image.points = subst (λ kind. i.target < limit (length image.routines) (length image.points) kind) is below in
-    (any_at (λ (p : Point). is_at i.target (target_of p.0)) image.points pc point e leads, within)
+    (any_at (λ (p : Point). is_at i.target (target_of p.instr)) image.points pc point e leads, within)

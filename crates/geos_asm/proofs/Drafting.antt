@@ -6,7 +6,8 @@ use Rattle.geos_image.specs.declared.instr.Instr.{Instr}
 use Rattle.geos_image.specs.declared.row.Row.{Row}
 use Rattle.geos_image.specs.declared.routine.Routine.{Routine}
 use Rattle.geos_image.specs.Open.{open_row}
-use Rattle.geos_image.specs.Parts.{Parts, Point}
+use Rattle.geos_image.specs.declared.point.Point.{Point}
+use Rattle.geos_image.specs.Parts.{Parts}
 use Rattle.geos_infer.specs.Code.{instrs_of, instr_of}
 use Rattle.geos_listing.specs.Instrs.{is_target}
 use Rattle.geos_listing.proofs.Limits.{item_at}
@@ -61,13 +62,13 @@ module _ (image : Parts) (facts : Facts image) where
 
   instr-taken : (n pc : ℕ) (point : Point) (routines : List TextRoutine) (code : List Instr) (part : TextPart) (line : ℕ) (r : Routine) (waiting : Option ℕ)
       → slice_get image.points pc ≡ Some point → outside part ≡ None → length code < 4096
-      → take_line (names_in image) n (instr_text image.routines point.0) (awaited routines code part line r waiting)
-      ≡ drafted routines (code ++ point.0 ∷ []) (in_body part) line (record r { count = min (r.count + 1) 4096 })
+      → take_line (names_in image) n (instr_text image.routines point.instr) (awaited routines code part line r waiting)
+      ≡ drafted routines (code ++ point.instr ∷ []) (in_body part) line (record r { count = min (r.count + 1) 4096 })
   unfolding take_line
   instr-taken n pc point routines code part line r waiting e inside room =
       let names = names_in image in
       let t = awaited routines code part line r waiting in
-      let i = point.0 in
+      let i = point.instr in
       let word = word_of i.opcode in
       let words = operand_words image.routines i in
       let is = word_of-is i.opcode in
@@ -88,11 +89,11 @@ module _ (image : Parts) (facts : Facts image) where
       let t = drafted routines code part line r in
       ap (λ p. take_statement (names_in image) n p.statement (record t { progress = take_labels n (not (is_empty p.labels)) t.progress })) (label-said pc lt)
 
-  instr-there : (n pc : ℕ) (point : Point) (t : Draft) → slice_get image.points pc ≡ Some point → take_lines (names_in image) n (instr_lines image pc) t ≡ take_line (names_in image) n (instr_text image.routines point.0) t
-  instr-there n pc point t e = ap (λ o. take_lines (names_in image) n (option_map_or (λ (p : Point). instr_text image.routines p.0 ∷ []) o []) t) e
+  instr-there : (n pc : ℕ) (point : Point) (t : Draft) → slice_get image.points pc ≡ Some point → take_lines (names_in image) n (instr_lines image pc) t ≡ take_line (names_in image) n (instr_text image.routines point.instr) t
+  instr-there n pc point t e = ap (λ o. take_lines (names_in image) n (option_map_or (λ (p : Point). instr_text image.routines p.instr ∷ []) o []) t) e
 
   place-taken : (is : Bool) (pc : ℕ) (point : Point) (routines : List TextRoutine) (code : List Instr) (part : TextPart) (line : ℕ) (r : Routine) → slice_get image.points pc ≡ Some point → pc < 4096 → outside part ≡ None → length code < 4096
-      → Takes (label_lines is pc ++ instr_lines image pc) (drafted routines code part line r) (drafted routines (code ++ point.0 ∷ []) (in_body part) line (record r { count = min (r.count + 1) 4096 }))
+      → Takes (label_lines is pc ++ instr_lines image pc) (drafted routines code part line r) (drafted routines (code ++ point.instr ∷ []) (in_body part) line (record r { count = min (r.count + 1) 4096 }))
   place-taken false pc point routines code part line r e lt inside room n =
       instr-there n pc point (drafted routines code part line r) e ∙ instr-taken n pc point routines code part line r None e inside room
   place-taken true pc point routines code part line r e lt inside room n =
@@ -109,9 +110,9 @@ module _ (image : Parts) (facts : Facts image) where
   inside_behind part zero e = e
   inside_behind part (suc k) e = refl
 
-  one_more : (xs : List Point) (k : ℕ) (x : Point) → slice_get xs k ≡ Some x → take k (map instr_of xs) ++ x.0 ∷ [] ≡ take (suc k) (map instr_of xs)
+  one_more : (xs : List Point) (k : ℕ) (x : Point) → slice_get xs k ≡ Some x → take k (map instr_of xs) ++ x.instr ∷ [] ≡ take (suc k) (map instr_of xs)
   one_more [] k x e = absurd cc
-  one_more (y ∷ xs) zero x e = let same : x ≡ y = cc in ap (λ (p : Point). p.0 ∷ []) same
+  one_more (y ∷ xs) zero x e = let same : x ≡ y = cc in ap (λ (p : Point). p.instr ∷ []) same
   one_more (y ∷ xs) (suc k) x e = ap (λ (is : List Instr). y.0 ∷ is) (one_more xs k x e)
 
   so_many : (xs : List Point) (k : ℕ) (x : Point) → slice_get xs k ≡ Some x → length (take k (map instr_of xs)) ≡ k
@@ -136,7 +137,7 @@ module _ (image : Parts) (facts : Facts image) where
       let next : suc pc ≡ start + suc count = omega arith in
       let more : min (count + 1) 4096 ≡ suc count = omega (arith, within, short) in
       let before = behind routines part line r start count in
-      let made = drafted routines (take pc (instrs_of image) ++ at.0.0 ∷ []) (in_body (part_behind part count)) line (record r { count = min (count + 1) 4096 }) in
+      let made = drafted routines (take pc (instrs_of image) ++ at.0.instr ∷ []) (in_body (part_behind part count)) line (record r { count = min (count + 1) 4096 }) in
       one_by_one (lines_below count (λ k. place_lines image (start + k))) (place_lines image pc) (behind routines part line r start 0) before made
       (places-taken routines part line r start count inside (omega (arith, within)))
       (place-taken is pc at.0 routines (take pc (instrs_of image)) (part_behind part count) line (record r { count = count }) at.1 (omega (arith, within, short)) there (omega (arith, long, within, short))) n

@@ -4,7 +4,8 @@ use Rattle.std.specs.Prelude.{bytes_eq}
 use Rattle.std.specs.List.{All, list_all}
 use Rattle.std.proofs.lemmas.Bool.{and_parts, ltb-true}
 use Rattle.geos_image.specs.declared.routine.Routine.{Routine}
-use Rattle.geos_image.specs.Parts.{Parts, Point, total_count}
+use Rattle.geos_image.specs.declared.point.Point.{Point}
+use Rattle.geos_image.specs.Parts.{Parts, total_count}
 use Rattle.geos_image.specs.Legal.{is_name, is_named, is_row, is_instr, is_point, is_routine, are_routines, is_image}
 use Rattle.geos_image.specs.Ranges.{RoutineFits}
 use Rattle.geos_image.proofs.Instrs.{image_parts}
@@ -117,7 +118,7 @@ pub record Facts (image : Parts) : Type 0 where
   pub named : All IsNamed image.routines
   pub routine : (n : ℕ) (r : Routine) → slice_get image.routines n ≡ Some r → IsListed r
   pub apart : (i j : ℕ) (x r : Routine) → i < j → slice_get image.routines i ≡ Some x → slice_get image.routines j ≡ Some r → bytes_eq x.name r.name ≡ false
-  pub instr : (pc : ℕ) (point : Point) → slice_get image.points pc ≡ Some point → is_instr (length image.routines) (length image.points) point.0 ≡ true
+  pub instr : (pc : ℕ) (point : Point) → slice_get image.points pc ≡ Some point → is_instr (length image.routines) (length image.points) point.instr ≡ true
 
 within : {A : Type 0} (xs : List A) (k : ℕ) (x : A) → slice_get xs k ≡ Some x → k < length xs
 within [] k x e = absurd cc
@@ -145,5 +146,5 @@ facts image legal fits =
           subst IsNamed (sym (get_or-at image.routines k at.0 d at.1)) (is.name, is.long);
       routine = here;
       apart = λ i j x s lt e f. lack_at [] image.routines i j x s parts.routines lt e f;
-      instr = λ pc point e. (and_parts (is_instr r n point.0) (is_row point.1) (test_at (is_point r n) image.points pc point parts.points e)).0;
+      instr = λ pc point e. (and_parts (is_instr r n point.instr) (is_row point.row) (test_at (is_point r n) image.points pc point parts.points e)).0;
     }

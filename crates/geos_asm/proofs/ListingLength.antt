@@ -12,7 +12,8 @@ use Rattle.geos_opcodes.specs.declared.opcode.Operand.TheVariants.{Unused, Word,
 use Rattle.geos_image.specs.declared.routine.Routine as routine
 use Rattle.geos_opcodes.specs.Facts.{operands_of, limit, word_of}
 use Rattle.geos_image.specs.Legal.{text_end, is_instr}
-use Rattle.geos_image.specs.Parts.{Parts, Point}
+use Rattle.geos_image.specs.declared.point.Point.{Point}
+use Rattle.geos_image.specs.Parts.{Parts}
 use Rattle.geos_image.proofs.Instrs.{is_below}
 use Rattle.geos_listing.specs.Instrs.{name_of as name_text}
 use Rattle.geos_listing.proofs.Limits.{item_at}
@@ -63,9 +64,9 @@ word-short Ldi = omega arith
 word-short _ = omega arith
 
 -- an instruction's line has at most 115 bytes
-pub instr-short : (image : Parts) → Facts image → (pc : ℕ) (point : Point) → slice_get image.points pc ≡ Some point → length (instr_text image.routines point.0) ≤ 115
+pub instr-short : (image : Parts) → Facts image → (pc : ℕ) (point : Point) → slice_get image.points pc ≡ Some point → length (instr_text image.routines point.instr) ≤ 115
 instr-short image facts pc point e =
-    let i = point.0 in
+    let i = point.instr in
     let words = operands-short image facts i (facts.instr pc point e) in
     let word = word-short i.opcode in
     let sum = length-append (word_of i.opcode) (spaced (operand_words image.routines i)) in

@@ -8,7 +8,8 @@ use Rattle.std.proofs.lemmas.Bool.{and_from}
 use Rattle.std.proofs.lemmas.List.Folds.{list_all-append}
 use Rattle.geos_image.specs.declared.row.Row.{Row}
 use Rattle.geos_image.specs.declared.routine.Routine.{Routine}
-use Rattle.geos_image.specs.Parts.{Parts, Point, start_of}
+use Rattle.geos_image.specs.declared.point.Point.{Point}
+use Rattle.geos_image.specs.Parts.{Parts, start_of}
 use Rattle.geos_image.proofs.Starts.{start_of-end}
 use Rattle.geos_listing.specs.Rows.{texts_below, row_line}
 use Rattle.geos_listing.specs.Instrs.{is_target, label_of as label_text, label_line, instr_line}
@@ -32,7 +33,7 @@ label_lines is pc = cond is (label_line_text pc ∷ []) []
 
 -- the line of the instruction at a pc
 abbrev pub instr_lines : Parts → ℕ → List (List ℕ)
-instr_lines image pc = option_map_or (λ (point : Point). instr_text image.routines point.0 ∷ []) (slice_get image.points pc) []
+instr_lines image pc = option_map_or (λ (point : Point). instr_text image.routines point.instr ∷ []) (slice_get image.points pc) []
 
 -- the lines of the instruction at a pc
 abbrev pub place_lines : Parts → ℕ → List (List ℕ)
@@ -74,11 +75,11 @@ place-ended image pc lt =
     let point = at.0 in
     let label = label_line image.points pc in
     let front = label_lines (is_target image.points pc) pc in
-    ap (λ o. label ++ option_map_or (λ (p : Point). instr_line image.routines p.0) o []) at.1
-    ∙ ap (λ (t : List ℕ). t ++ instr_line image.routines point.0) (label_line-ended (is_target image.points pc) pc)
-    ∙ ap (λ (t : List ℕ). ended front ++ t) (instr_line-text image.routines point.0 ∙ one_ended (instr_text image.routines point.0))
-    ∙ sym (ended-append front (instr_text image.routines point.0 ∷ []))
-    ∙ ap (λ o. ended (front ++ option_map_or (λ (p : Point). instr_text image.routines p.0 ∷ []) o [])) (sym at.1)
+    ap (λ o. label ++ option_map_or (λ (p : Point). instr_line image.routines p.instr) o []) at.1
+    ∙ ap (λ (t : List ℕ). t ++ instr_line image.routines point.instr) (label_line-ended (is_target image.points pc) pc)
+    ∙ ap (λ (t : List ℕ). ended front ++ t) (instr_line-text image.routines point.instr ∙ one_ended (instr_text image.routines point.instr))
+    ∙ sym (ended-append front (instr_text image.routines point.instr ∷ []))
+    ∙ ap (λ o. ended (front ++ option_map_or (λ (p : Point). instr_text image.routines p.instr ∷ []) o [])) (sym at.1)
 
 routine-ended : (image : Parts) (start : ℕ) (r : Routine) → IsListed r → start + r.count ≤ length image.points → routine_text image start r ≡ ended (routine_lines image start r)
 routine-ended image start r is room =
@@ -133,11 +134,11 @@ said-row false word row is sound = said-one (row_text word row) (line-said word 
 said-place : (image : Parts) (pc : ℕ) → Facts image → pc < length image.points → are_said (place_lines image pc) ≡ true
 said-place image pc known lt =
     let at = item_at image.points pc lt in
-    let i = at.0.0 in
+    let i = at.0.instr in
     let words = operands-words (length image.points) image.routines i known.named known.short (known.instr pc at.0 at.1) in
     let line : list_all is_said (instr_text image.routines i) ≡ true = line-said (word_of i.opcode) (operand_words image.routines i) (word_of-is i.opcode).word words in
     let front = label_lines (is_target image.points pc) pc in
-    ap (λ o. are_said (front ++ option_map_or (λ (p : Point). instr_text image.routines p.0 ∷ []) o [])) at.1
+    ap (λ o. are_said (front ++ option_map_or (λ (p : Point). instr_text image.routines p.instr ∷ []) o [])) at.1
     ∙ said-both front (instr_text image.routines i ∷ []) (said-label (is_target image.points pc) pc (omega (arith, lt, known.short))) (said-one (instr_text image.routines i) line)
 
 said-routine : (image : Parts) (start : ℕ) (r : Routine) → Facts image → IsListed r → start + r.count ≤ length image.points → are_said (routine_lines image start r) ≡ true

@@ -9,7 +9,8 @@ use Rattle.geos_image.specs.declared.row.Pointer.{Pointer}
 use Rattle.geos_image.specs.declared.row.SlotState.{SlotState}
 use Rattle.geos_image.specs.declared.row.SlotState.TheVariants.{Empty, Mem, Vm, VmMarked, Db, DbMarked}
 use Rattle.geos_image.specs.declared.routine.Routine.{Routine}
-use Rattle.geos_image.specs.Parts.{Parts, Point, start_of}
+use Rattle.geos_image.specs.declared.point.Point.{Point}
+use Rattle.geos_image.specs.Parts.{Parts, start_of}
 use Rattle.geos_image.specs.Ranges.{PointerFits}
 use Rattle.geos_image.proofs.Starts.{start_of-next, start_of-all}
 use Rattle.geos_listing.specs.Rows.{pair_slots}
@@ -113,11 +114,11 @@ place-short image pc facts lt =
     let front = label_lines (is_target image.points pc) pc in
     let most = facts.short in
     let label = label_lines-short (is_target image.points pc) pc (omega (arith, lt, most)) in
-    let line = one-short (instr_text image.routines at.0.0) in
+    let line = one-short (instr_text image.routines at.0.instr) in
     let short = instr-short image facts pc at.0 at.1 in
-    let sum = both-short front (instr_text image.routines at.0.0 ∷ []) in
-    let all : length (ended (front ++ instr_text image.routines at.0.0 ∷ [])) ≤ 128 = omega (arith, label, line, short, sum) in
-    subst (λ o. length (ended (front ++ option_map_or (λ (p : Point). instr_text image.routines p.0 ∷ []) o [])) ≤ 128) (sym at.1) all
+    let sum = both-short front (instr_text image.routines at.0.instr ∷ []) in
+    let all : length (ended (front ++ instr_text image.routines at.0.instr ∷ [])) ≤ 128 = omega (arith, label, line, short, sum) in
+    subst (λ o. length (ended (front ++ option_map_or (λ (p : Point). instr_text image.routines p.instr ∷ []) o [])) ≤ 128) (sym at.1) all
 
 places-short : (image : Parts) (start count : ℕ) → Facts image → start + count ≤ length image.points → length (ended (lines_below count (λ k. place_lines image (start + k)))) ≤ count * 128
 places-short image start zero facts within = omega arith

@@ -5,19 +5,19 @@ use Rattle.std.specs.Option.{option_map_or}
 use Rattle.geos_image.specs.declared.instr.Instr.{Instr}
 use Rattle.geos_image.specs.declared.row.Row.{Row}
 use Rattle.geos_image.specs.declared.potential.Potential.{Potential}
-use Rattle.geos_image.specs.Parts.{Point}
+use Rattle.geos_image.specs.declared.point.Point.{Point}
 use Rattle.geos_listing.specs.Rows.{texts_below}
 use Rattle.geos_listing.proofs.Limits.{item_at}
 
 -- its instruction, its row and its potential
 pub point-at : (f : Instr → Row → Potential → List ℕ) (points : List Point) (pc : ℕ) (i : Instr) (row : Row) (p : Potential) → pc < length points
-    → IfSome (slice_get points pc) (λ point. i ≡ point.0) → IfSome (slice_get points pc) (λ point. row ≡ point.1) → IfSome (slice_get points pc) (λ point. p ≡ point.2)
-    → option_map_or (λ point. f point.0 point.1 point.2) (slice_get points pc) [] ≡ f i row p
+    → IfSome (slice_get points pc) (λ point. i ≡ point.instr) → IfSome (slice_get points pc) (λ point. row ≡ point.row) → IfSome (slice_get points pc) (λ point. p ≡ point.potential)
+    → option_map_or (λ point. f point.instr point.row point.potential) (slice_get points pc) [] ≡ f i row p
 point-at f points pc i row p lt is_i is_row is_p =
     let at = item_at points pc lt in
-    let same_i : i ≡ at.0.0 = rw at.1 at is_i in
-    let same_row : row ≡ at.0.1 = rw at.1 at is_row in
-    let same_p : p ≡ at.0.2 = rw at.1 at is_p in
+    let same_i : i ≡ at.0.instr = rw at.1 at is_i in
+    let same_row : row ≡ at.0.row = rw at.1 at is_row in
+    let same_p : p ≡ at.0.potential = rw at.1 at is_p in
     rw (at.1, same_i, same_row, same_p) refl
 
 -- one more text was written

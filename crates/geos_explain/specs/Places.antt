@@ -6,7 +6,8 @@ use Rattle.geos_image.specs.declared.potential.Potential.{Potential}
 use Rattle.geos_image.specs.declared.routine.Routine.{Routine}
 use Rattle.geos_image.specs.Fields.{FieldsFit, CalleeFits}
 use Rattle.geos_image.specs.Legal.{is_image}
-use Rattle.geos_image.specs.Parts.{Parts, Point, start_of}
+use Rattle.geos_image.specs.declared.point.Point.{Point}
+use Rattle.geos_image.specs.Parts.{Parts, start_of}
 use Rattle.geos_listing.specs.Instrs.{KeepsLimits}
 use Rattle.geos_explain.specs.declared.place.Place as code
 
@@ -22,7 +23,7 @@ pub record Place : Type 0 where
 
 -- the place of a point
 abbrev pub place_at : Parts → ℕ → Routine → ℕ → Point → Place
-place_at image r routine pc point = record { image = image; r = r; routine = routine; pc = pc; i = point.0; row = point.1; potential = point.2 }
+place_at image r routine pc point = record { image = image; r = r; routine = routine; pc = pc; i = point.instr; row = point.row; potential = point.potential }
 
 -- the place that the code has
 abbrev pub place_of : code.Place → Place
@@ -49,7 +50,7 @@ pub record IsPlace (place : Place) : Type 0 where
   pub start : start_of place.image.routines place.r ≤ 4096
   pub there : place.pc < length place.image.points
   pub short : length place.image.points ≤ 4096
-  pub here : IfSome (slice_get place.image.points place.pc) (λ point. place.i ≡ point.0)
+  pub here : IfSome (slice_get place.image.points place.pc) (λ point. place.i ≡ point.instr)
   pub fields : FieldsFit place.i.opcode place.i
   pub callee : CalleeFits (length place.image.routines) place.i
   pub limits : KeepsLimits place.image place.i

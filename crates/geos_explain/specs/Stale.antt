@@ -3,7 +3,8 @@ use Rattle.std.specs.Prelude.{ℕ, zero, suc, ◌+◌, ◌-◌, Bool, false, ◌
 use Rattle.std.specs.Option.{option_map_or}
 use Rattle.geos_image.specs.declared.instr.Instr.{Instr}
 use Rattle.geos_image.specs.declared.row.Row.{Row}
-use Rattle.geos_image.specs.Parts.{Parts, Point, start_of}
+use Rattle.geos_image.specs.declared.point.Point.{Point}
+use Rattle.geos_image.specs.Parts.{Parts, start_of}
 use Rattle.geos_opcodes.specs.Facts.{word_of, uses_of}
 use Rattle.geos_opcodes.specs.declared.uses.PointerUse.{PointerUse}
 use Rattle.geos_opcodes.specs.declared.uses.PointerUse.TheVariants.{Copies}
@@ -27,7 +28,7 @@ pointer_item (Some p) = codes " p" ++ decimal p
 -- an instruction makes a pointer stale: its row knows the pointer, and the row after it does not
 abbrev pub makes_stale : Parts → ℕ → ℕ → Point → Bool
 makes_stale image p pc point =
-    falls_through point.0.opcode && not (is_stale (pointer_at point.1 p)) && is_stale (pointer_at (after image pc point.1 false) p)
+    falls_through point.instr.opcode && not (is_stale (pointer_at point.row p)) && is_stale (pointer_at (after image pc point.row false) p)
 
 -- the same of the instruction at a pc
 unfoldable pub makes_stale_at : Parts → ℕ → ℕ → Bool
@@ -44,7 +45,7 @@ mover place p = let start = start_of place.image.routines place.r in last_making
 
 -- the word of the instruction at a pc
 unfoldable pub word_at : Parts → ℕ → List ℕ
-word_at image pc = elim (slice_get image.points pc) [ None ↦ [] | Some point ↦ word_of point.0.opcode ]
+word_at image pc = elim (slice_get image.points pc) [ None ↦ [] | Some point ↦ word_of point.instr.opcode ]
 
 -- what is behind a pointer may have moved
 unfoldable pub moved_words : ℕ → List ℕ

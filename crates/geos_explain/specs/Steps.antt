@@ -70,7 +70,7 @@ asks_along place =
     if falls_through place.i.opcode
     then elim (slice_get place.image.points (place.pc + 1)) [
       | None ↦ None
-      | Some next ↦ Some (asked_along place.image place.i place.i.opcode place.row place.potential next.2)
+      | Some next ↦ Some (asked_along place.image place.i place.i.opcode place.row place.potential next.potential)
     ]
     else None
 
@@ -80,7 +80,7 @@ asks_branching place =
     if branches place.i.opcode
     then elim (slice_get place.image.points place.i.target) [
       | None ↦ None
-      | Some next ↦ Some (asked_branching place.i place.i.opcode place.potential next.2)
+      | Some next ↦ Some (asked_branching place.i place.i.opcode place.potential next.potential)
     ]
     else None
 
@@ -100,7 +100,7 @@ touched_words callee q = codes " " ++ name_of callee ++ codes " touches a counte
 abbrev pub touched_here : Place → List ℕ
 touched_here place = elim (slice_get place.image.points (place.pc + 1)) [
   | None ↦ []
-  | Some next ↦ option_map_or (λ callee. touched_words callee next.2) (slice_get place.image.routines place.i.imm) []
+  | Some next ↦ option_map_or (λ callee. touched_words callee next.potential) (slice_get place.image.routines place.i.imm) []
 ]
 
 -- what is said of an instruction whose edges leave nothing to pay but this: a return wants a step; a

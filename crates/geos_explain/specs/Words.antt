@@ -70,7 +70,7 @@ exit_words routine row = lacking_items row routine.exit ++ codes " is wanted by 
 
 -- what the row at a pc wants and another does not say
 unfoldable pub wanted_at : Parts → ℕ → Row → List ℕ
-wanted_at image to row = elim (slice_get image.points to) [ None ↦ [] | Some next ↦ lacking_items row (next.1) ]
+wanted_at image to row = elim (slice_get image.points to) [ None ↦ [] | Some next ↦ lacking_items row next.row ]
 
 -- the same at the end of the edge to the next instruction; nothing where there is no such edge
 unfoldable pub wanted_along : Place → List ℕ

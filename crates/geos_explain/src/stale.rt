@@ -8,7 +8,7 @@ ghost use Rattle.geos_explain.specs.Stale.{if_stale, stale_used, pointer_item, m
 use crate::numbers::put_numbered;
 use crate::place::Place;
 use crate::uses::pointer_at;
-use geos_image::{Image, Instr, Potential, Row};
+use geos_image::{Image, Instr, Point, Row};
 use geos_opcodes::PointerUse;
 use geos_verify::{after, falls_through, uses_at};
 use std::alloc::AllocError;
@@ -49,13 +49,13 @@ fn put_pointer(out: &mut Vec<u8>, pointer: Option<u8>) -> Result<(), AllocError>
 
 /// Whether the instruction at a pc makes the pointer stale: its row knows the pointer, and the row
 /// after it does not.
-fn makes_stale(image: &Image, p: u8, pc: u16, point: &(Instr, Row, Potential)) -> bool
+fn makes_stale(image: &Image, p: u8, pc: u16, point: &Point) -> bool
     requires { slice_get image.now.points pc ≡ Some point.now }
     ensures { result ≡ makes_stale image.now p pc point.now }
 {
-    falls_through(point.0.opcode)
-        && !is_stale(&point.1, p)
-        && is_stale(&after(image, pc, &point.1, false), p)
+    falls_through(point.instr.opcode)
+        && !is_stale(&point.row, p)
+        && is_stale(&after(image, pc, &point.row, false), p)
 }
 
 /// The same of the instruction at a pc.
@@ -99,7 +99,7 @@ fn put_word_at(out: &mut Vec<u8>, image: &Image, pc: u16) -> Result<(), AllocErr
     ensures { OnOk result (out.new.items ≡ out.old.items ++ word_at image.now pc) }
 {
     match image.points().get(usize::from(pc)) {
-        Some(point) => out.extend_from_slice(point.0.opcode.word().as_bytes()),
+        Some(point) => out.extend_from_slice(point.instr.opcode.word().as_bytes()),
         None => Ok(()),
     }
 }

@@ -143,7 +143,13 @@ fn asks_along(place: &Place) -> Option<Asked>
         return None;
     }
     match place.image.points().get(usize::from(place.pc + 1)) {
-        Some(next) => Some(asked_along(place.image, place.i, place.row, place.potential, &next.2)),
+        Some(next) => Some(asked_along(
+            place.image,
+            place.i,
+            place.row,
+            place.potential,
+            &next.potential,
+        )),
         None => None,
     }
 }
@@ -157,7 +163,7 @@ fn asks_branching(place: &Place) -> Option<Asked>
         return None;
     }
     match place.image.points().get(usize::from(place.i.target)) {
-        Some(next) => Some(asked_branching(place.i, place.potential, &next.2)),
+        Some(next) => Some(asked_branching(place.i, place.potential, &next.potential)),
         None => None,
     }
 }
@@ -200,7 +206,7 @@ fn put_touched_here(out: &mut Vec<u8>, place: &Place) -> Result<(), AllocError>
     ensures { OnOk result (out.new.items ≡ out.old.items ++ touched_here (place_of place.now)) }
 {
     match place.image.points().get(usize::from(place.pc + 1)) {
-        Some(next) => put_touched(out, place.image.routine(place.i.imm), &next.2),
+        Some(next) => put_touched(out, place.image.routine(place.i.imm), &next.potential),
         None => Ok(()),
     }
 }

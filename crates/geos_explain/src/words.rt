@@ -141,7 +141,7 @@ fn put_wanted_at(out: &mut Vec<u8>, image: &Image, to: u16, row: &Row) -> Result
     ensures { OnOk result (out.new.items ≡ out.old.items ++ wanted_at image.now to row.now) }
 {
     match image.points().get(usize::from(to)) {
-        Some(next) => put_lacking(out, row, &next.1),
+        Some(next) => put_lacking(out, row, &next.row),
         None => Ok(()),
     }
 }

@@ -10,7 +10,8 @@ use Rattle.std.proofs.lemmas.List.Folds.{flat_map-map}
 use Rattle.std.proofs.lemmas.List.Elements.{All-nil, All-cons}
 use Rattle.geos_image.specs.declared.instr.Instr.{Instr}
 use Rattle.geos_image.specs.declared.routine.Routine.{Routine}
-use Rattle.geos_image.specs.Parts.{Point, Parts, total_count}
+use Rattle.geos_image.specs.declared.point.Point.{Point}
+use Rattle.geos_image.specs.Parts.{Parts, total_count}
 use Rattle.geos_image.specs.Legal.{is_row, is_image, is_instr, is_point}
 use Rattle.geos_image.specs.Ranges.{ImageFits}
 use Rattle.geos_image.specs.Spelling.{magic, word, instr, routine, spelling}
@@ -45,8 +46,8 @@ header_found bytes fits n h =
     subst (λ (k : ℕ). Takes bytes 0 (header k) 8) (ok_is count n h) (Takes-then (Takes-then takes-magic takes-version) takes-count))))))
 
 -- the instructions of points, spelled
-instrs_text : (points : List Point) → flat_map instr (instrs_of points) ≡ flat_map (λ (point : Point). instr point.0) points
-instrs_text points = flat_map-map instr (λ (point : Point). point.0) points
+instrs_text : (points : List Point) → flat_map instr (instrs_of points) ≡ flat_map (λ (point : Point). instr point.instr) points
+instrs_text points = flat_map-map instr (λ (point : Point). point.instr) points
 
 end_is : (count total instrs : ℕ) → instrs ≡ total → 8 + 100 * count + 68 * total ≡ 8 + 100 * count + 10 * total + 58 * instrs
 end_is count total instrs e = omega arith
@@ -96,8 +97,8 @@ instrs_legal : (routines instrs : ℕ) (points : List Point) → list_all (is_po
 instrs_legal routines instrs [] h = All-nil (λ i. is_instr routines instrs i ≡ true)
 instrs_legal routines instrs (point ∷ points) h =
     let parts = and_parts (is_point routines instrs point) (list_all (is_point routines instrs) points) h in
-    let here = and_parts (is_instr routines instrs point.0) (is_row point.1) parts.0 in
-    All-cons (λ i. is_instr routines instrs i ≡ true) point.0 (instrs_of points) here.0 (instrs_legal routines instrs points parts.1)
+    let here = and_parts (is_instr routines instrs point.instr) (is_row point.row) parts.0 in
+    All-cons (λ i. is_instr routines instrs i ≡ true) point.instr (instrs_of points) here.0 (instrs_legal routines instrs points parts.1)
 
 -- bytes end where nothing is left of them
 ends : (bytes : List ℕ) (at : ℕ) → Left bytes at [] → length bytes ≡ at
@@ -119,12 +120,12 @@ image_again bytes image legal fits e =
     let short : total ≤ 2 ^ 16 = omega (arith, parts.short, parts.counts) in
     let points-legal : list_all (is_point count total) image.points ≡ true = subst (λ (n : ℕ). list_all (is_point count n) image.points ≡ true) (sym parts.counts) parts.points in
     let same-instrs = ap (λ (t : List ℕ). header count ++ (routines-text ++ (t ++ (points-text ++ [])))) (sym (instrs_text image.points)) in
-    let texts = e ∙ sym (append-nil (spelling image)) ∙ four_texts (header count) routines-text (flat_map (λ (point : Point). instr point.0) image.points) points-text [] ∙ same-instrs in
+    let texts = e ∙ sym (append-nil (spelling image)) ∙ four_texts (header count) routines-text (flat_map (λ (point : Point). instr point.instr) image.points) points-text [] ∙ same-instrs in
     let left : Left bytes 0 (header count ++ (routines-text ++ (flat_map instr (instrs_of image.points) ++ (points-text ++ [])))) = record { within = omega arith; parts = texts } in
     let head = header_again bytes count _ parts.some parts.few left in
     let routines = routines_again bytes image.routines count 8 code [] _ refl refl parts.routines (omega (arith, parts.short, parts.counts)) fits.routines head.1 in
     let legal-instr = λ (i : Instr). is_instr count total i ≡ true in
     let again = λ (at next : ℕ) (i : Instr) (rest : List ℕ) (place : next ≡ at + 10) (h : legal-instr i) (l : Left bytes at (instr i ++ rest)). instr_again count total bytes at next i rest few short place h l in
-    let instrs = items_again bytes (instr_at count total bytes) instr 10 legal-instr again (instrs_of image.points) total code entries _ (length-map image.points (λ (point : Point). point.0) ∙ sym parts.counts) refl (instrs_legal count total image.points points-legal) routines.1 in
+    let instrs = items_again bytes (instr_at count total bytes) instr 10 legal-instr again (instrs_of image.points) total code entries _ (length-map image.points (λ (point : Point). point.instr) ∙ sym parts.counts) refl (instrs_legal count total image.points points-legal) routines.1 in
     let points = points_again count total bytes image.points entries end [] (end_is count total (length image.points) (sym parts.counts)) points-legal fits.points instrs.1 in
     rw (head.0, routines.0, instrs.0, points.0, eq-eqb (length bytes) end (ends bytes end points.1)) refl

@@ -7,7 +7,7 @@ use Rattle.geos_image.specs.declared.instr.Instr.{Instr}
 use Rattle.geos_image.specs.declared.row.Row.{Row}
 use Rattle.geos_image.specs.declared.potential.Potential.{Potential}
 use Rattle.geos_image.specs.declared.routine.Routine.{Routine}
-use Rattle.geos_image.specs.Parts.{Point}
+use Rattle.geos_image.specs.declared.point.Point.{Point}
 use Rattle.geos_image.specs.Reading.{◌>>=◌, items_at, routine_at, routines_at, entry_at, points_at}
 
 -- four of them
@@ -71,11 +71,11 @@ module _ (bytes : List ℕ) (count : ℕ) (total : Result (List Routine) ℕ) wh
 
 module _ (bytes : List ℕ) (code : List Instr) (total : Result (List Point) ℕ) where
   pub points-more : (front : List Point) (k at : ℕ) (d : Instr) (row : Row) (potential : Potential) → k < length code → entry_at bytes at ≡ Ok (row, potential)
-      → with_front front (points_at bytes (drop k code) at) ≡ total → with_front (front ++ (get_or code k d, row, potential) ∷ []) (points_at bytes (drop (k + 1) code) (at + 58)) ≡ total
+      → with_front front (points_at bytes (drop k code) at) ≡ total → with_front (front ++ record { instr = get_or code k d; row = row; potential = potential } ∷ []) (points_at bytes (drop (k + 1) code) (at + 58)) ≡ total
   unfolding points_at
   points-more front k at d row potential lt h so_far =
       let rest = points_at bytes (drop (suc k) code) (at + 58) in
-      let one : with_front front (points_at bytes (drop k code) at) ≡ with_front (front ++ (get_or code k d, row, potential) ∷ []) rest = rw (drop-cons code k d lt, h) (regroup front (get_or code k d, row, potential) rest) in
+      let one : with_front front (points_at bytes (drop k code) at) ≡ with_front (front ++ record { instr = get_or code k d; row = row; potential = potential } ∷ []) rest = rw (drop-cons code k d lt, h) (regroup front (record { instr = get_or code k d; row = row; potential = potential }) rest) in
       rw add-one (sym one ∙ so_far)
 
   pub points-fault : (front : List Point) (k at fault : ℕ) (d : Instr) → k < length code → entry_at bytes at ≡ Err fault

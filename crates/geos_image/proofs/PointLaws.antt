@@ -7,7 +7,7 @@ use Rattle.std.proofs.lemmas.List.Elements.{All-head, All-tail}
 use Rattle.geos_image.specs.declared.instr.Instr.{Instr}
 use Rattle.geos_image.specs.declared.row.Row.{Row}
 use Rattle.geos_image.specs.declared.potential.Potential.{Potential}
-use Rattle.geos_image.specs.Parts.{Point}
+use Rattle.geos_image.specs.declared.point.Point.{Point}
 use Rattle.geos_image.specs.Legal.{is_row, is_instr, is_point}
 use Rattle.geos_image.specs.Ranges.{IsLong, RowFits, PotentialFits, PointFits}
 use Rattle.geos_image.specs.Spelling.{long, row, potential}
@@ -65,11 +65,11 @@ entry_again bytes at next r p rest e legal row-fits potential-fits l =
 
 -- the instructions of points
 abbrev pub instrs_of : List Point → List Instr
-instrs_of points = map (λ (point : Point). point.0) points
+instrs_of points = map (λ (point : Point). point.instr) points
 
 -- what is told at a point
 abbrev pub told : Point → List ℕ
-told point = row point.1 ++ potential point.2
+told point = row point.row ++ potential point.potential
 
 -- points that were read stand there, and have the instructions
 pub points_found : (bytes : List ℕ) → IsBytes bytes → (instrs : List Instr) (at next : ℕ) (points : List Point) → next ≡ at + 58 * length instrs → points_at bytes instrs at ≡ Ok points
@@ -81,7 +81,7 @@ points_found bytes fits [] at next points e h =
 points_found bytes fits (i ∷ instrs) at next points e h =
     after (entry_at bytes at) _ points h (λ first read-first h.
     after (points_at bytes instrs (at + 58)) _ points h (λ others read-others h.
-    let point : Point = (i, first.0, first.1) in
+    let point : Point = record { instr = i; row = first.0; potential = first.1 } in
     let place = behind_first at 58 (length instrs) next e in
     let p = entry_found bytes fits at (at + 58) first refl read-first in
     let q = points_found bytes fits instrs (at + 58) next others place read-others in
@@ -96,9 +96,9 @@ points_again routines instrs bytes [] at next rest e legal fits l =
     (refl, subst (λ (k : ℕ). Left bytes k rest) same l)
 points_again routines instrs bytes (point ∷ points) at next rest e legal fits l =
     let parts = and_parts (is_point routines instrs point) (list_all (is_point routines instrs) points) legal in
-    let rows = and_parts (is_instr routines instrs point.0) (is_row point.1) parts.0 in
+    let rows = and_parts (is_instr routines instrs point.instr) (is_row point.row) parts.0 in
     let here = All-head PointFits point points fits in
     let place = behind_first at 58 (length points) next e in
-    let p = entry_again bytes at (at + 58) point.1 point.2 (flat_map told points ++ rest) refl rows.1 here.row here.potential (left_more told point points rest l) in
+    let p = entry_again bytes at (at + 58) point.row point.potential (flat_map told points ++ rest) refl rows.1 here.row here.potential (left_more told point points rest l) in
     let q = points_again routines instrs bytes points (at + 58) next rest place parts.1 (All-tail PointFits point points fits) p.1 in
     (rw (p.0, q.0) refl, q.1)

@@ -11,7 +11,8 @@ use Rattle.geos_image.specs.declared.instr.Instr.{Instr}
 use Rattle.geos_image.specs.declared.row.Row.{Row}
 use Rattle.geos_image.specs.declared.potential.Potential.{Potential}
 use Rattle.geos_image.specs.declared.routine.Routine.{Routine}
-use Rattle.geos_image.specs.Parts.{Point, total_count}
+use Rattle.geos_image.specs.declared.point.Point.{Point}
+use Rattle.geos_image.specs.Parts.{total_count}
 use Rattle.geos_image.specs.Legal.{is_instr, is_row, is_point, is_routine, are_routines}
 
 both : (a b : Bool) → a ≡ true → b ≡ true → (a && b) ≡ true
@@ -39,10 +40,10 @@ total_count-push routines r = sum_by_push (λ (x : Routine). x.count) routines r
 -- one more instruction and its entry
 pub points-push : (routines instrs : ℕ) (code : List Instr) (front : List Point) (k : ℕ) (d : Instr) (row : Row) (potential : Potential) → k < length code
     → (list_all (is_instr routines instrs) (take k code) ≡ true → list_all (is_point routines instrs) front ≡ true) → is_row row ≡ true
-    → list_all (is_instr routines instrs) (take (k + 1) code) ≡ true → list_all (is_point routines instrs) (front ++ (get_or code k d, row, potential) ∷ []) ≡ true
+    → list_all (is_instr routines instrs) (take (k + 1) code) ≡ true → list_all (is_point routines instrs) (front ++ record { instr = get_or code k d; row = row; potential = potential } ∷ []) ≡ true
 points-push routines instrs code front k d row potential lt so_far legal h =
     let p = is_instr routines instrs in
     let parts : (list_all p (take k code) && list_all p (get_or code k d ∷ [])) ≡ true = sym (list_all-append p (take k code) (get_or code k d ∷ [])) ∙ ap (list_all p) (sym (take_more code k d lt)) ∙ h in
     let two = and_parts (list_all p (take k code)) (list_all p (get_or code k d ∷ [])) parts in
     let here = and_parts (p (get_or code k d)) true two.1 in
-    list_all-push (is_point routines instrs) front (get_or code k d, row, potential) (so_far two.0) (both (p (get_or code k d)) (is_row row) here.0 legal)
+    list_all-push (is_point routines instrs) front (record { instr = get_or code k d; row = row; potential = potential }) (so_far two.0) (both (p (get_or code k d)) (is_row row) here.0 legal)

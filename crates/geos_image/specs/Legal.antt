@@ -8,7 +8,8 @@ use Rattle.geos_image.specs.declared.row.Row.{Row}
 use Rattle.geos_image.specs.declared.row.Pointer.{Pointer}
 use Rattle.geos_image.specs.declared.routine.Routine.{Routine}
 use Rattle.geos_opcodes.specs.Facts.{operands_of, limit}
-use Rattle.geos_image.specs.Parts.{Point, Parts, total_count}
+use Rattle.geos_image.specs.declared.point.Point.{Point}
+use Rattle.geos_image.specs.Parts.{Parts, total_count}
 
 -- letters, digits and the underscore
 unfoldable pub is_name_byte : ℕ → Bool
@@ -51,7 +52,7 @@ is_instr routines instrs i =
 
 -- an instruction and a row that may stand in such an image
 abbrev pub is_point : ℕ → ℕ → Point → Bool
-is_point routines instrs point = is_instr routines instrs point.0 && is_row point.1
+is_point routines instrs point = is_instr routines instrs point.instr && is_row point.row
 
 -- the points are legal in each image in which the instructions are
 abbrev pub LegalWhere : List Instr → List Point → Type 0

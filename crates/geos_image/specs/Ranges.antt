@@ -5,7 +5,8 @@ use Rattle.geos_image.specs.declared.row.Row.{Row}
 use Rattle.geos_image.specs.declared.row.Pointer.{Pointer}
 use Rattle.geos_image.specs.declared.potential.Potential.{Potential}
 use Rattle.geos_image.specs.declared.routine.Routine.{Routine}
-use Rattle.geos_image.specs.Parts.{Point, Parts}
+use Rattle.geos_image.specs.declared.point.Point.{Point}
+use Rattle.geos_image.specs.Parts.{Parts}
 
 -- a number that a word holds
 abbrev pub IsWord : ℕ → Type 0
@@ -40,8 +41,8 @@ pub record RoutineFits (r : Routine) : Type 0 where
 
 -- an instruction's row and potential fit
 pub record PointFits (point : Point) : Type 0 where
-  pub row : RowFits point.1
-  pub potential : PotentialFits point.2
+  pub row : RowFits point.row
+  pub potential : PotentialFits point.potential
 
 -- each routine and each point fits
 pub record ImageFits (image : Parts) : Type 0 where

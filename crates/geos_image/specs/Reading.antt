@@ -12,7 +12,8 @@ use Rattle.geos_image.specs.declared.row.SlotState.TheVariants.{Empty, Mem, Vm, 
 use Rattle.geos_image.specs.declared.potential.Potential.{Potential}
 use Rattle.geos_image.specs.declared.routine.Routine.{Routine}
 use Rattle.geos_opcodes.specs.Facts.{opcode_of, operands_of, limit}
-use Rattle.geos_image.specs.Parts.{Point, Parts, total_count}
+use Rattle.geos_image.specs.declared.point.Point.{Point}
+use Rattle.geos_image.specs.Parts.{Parts, total_count}
 use Rattle.geos_image.specs.Legal.{is_name, is_named}
 use Rattle.geos_image.specs.Spelling.{magic, slot_code}
 
@@ -187,7 +188,7 @@ points_at bytes [] at = Ok []
 points_at bytes (i ∷ instrs) at = do
   entry ← entry_at bytes at
   others ← points_at bytes instrs (at + 58)
-  Ok ((i, entry.0, entry.1) ∷ others)
+  Ok (record { instr = i; row = entry.0; potential = entry.1 } ∷ others)
 
 -- the image that the bytes spell
 unfoldable pub image_at : List ℕ → Result Parts ℕ

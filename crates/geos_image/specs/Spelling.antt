@@ -70,5 +70,5 @@ abbrev pub spelling : Parts → List ℕ
 spelling image =
     magic ++ word 1 ++ word (length image.routines)
     ++ flat_map routine image.routines
-    ++ flat_map (λ point. instr point.0) image.points
-    ++ flat_map (λ point. row point.1 ++ potential point.2) image.points
+    ++ flat_map (λ point. instr point.instr) image.points
+    ++ flat_map (λ point. row point.row ++ potential point.potential) image.points

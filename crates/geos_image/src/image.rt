@@ -2,12 +2,14 @@
 
 ghost use Rattle.std.specs.Prelude.{◌≡◌, ◌<◌, ◌≤◌, ◌+◌, ◌↔◌, IsTrue, IsSome, IfSome, true, [], length, slice_get, Some};
 ghost use Rattle.std.specs.List.{list_all};
-ghost use Rattle.geos_image.specs.Parts.{Parts, Point, start_of};
+ghost use Rattle.geos_image.specs.declared.point.Point.{Point};
+ghost use Rattle.geos_image.specs.Parts.{Parts, start_of};
 ghost use Rattle.geos_image.specs.Legal.{is_image, are_routines, is_point};
 ghost use Rattle.geos_image.specs.Fields.{FieldsFit, TargetFits, CalleeFits};
 
 use crate::instr::Instr;
 use crate::legal::{MOST_INSTRS, MOST_ROUTINES, is_point, is_routine, total_count};
+use crate::point::Point;
 use crate::potential::Potential;
 use crate::routine::Routine;
 use crate::row::Row;
@@ -18,7 +20,7 @@ use std::marker::Model;
 #[derive(Drop)]
 pub struct Image {
     pub(crate) routines: Vec<Routine>,
-    pub(crate) points: Vec<(Instr, Row, Potential)>,
+    pub(crate) points: Vec<Point>,
 }
 
 impl Model for Image {
@@ -45,7 +47,7 @@ fn are_routines(routines: &[Routine]) -> bool
     true
 }
 
-fn are_points(routines: u32, points: &[(Instr, Row, Potential)]) -> bool
+fn are_points(routines: u32, points: &[Point]) -> bool
     requires { length points.now ≤ MOST_INSTRS }
     ensures { result ≡ list_all (is_point routines (length points.now)) points.now }
 {
@@ -53,7 +55,7 @@ fn are_points(routines: u32, points: &[(Instr, Row, Potential)]) -> bool
     points.iter().all(|point| is_point(routines, instrs, point))
 }
 
-fn is_image(routines: &[Routine], points: &[(Instr, Row, Potential)]) -> bool
+fn is_image(routines: &[Routine], points: &[Point]) -> bool
     ensures { result ≡ is_image (record { routines = routines.now; points = points.now }) }
 {
     !routines.is_empty()
@@ -67,7 +69,7 @@ fn is_image(routines: &[Routine], points: &[(Instr, Row, Potential)]) -> bool
 impl Image {
     /// The image of these routines and points; `None` exactly where the format allows none. It
     /// takes no memory.
-    pub fn new(routines: Vec<Routine>, points: Vec<(Instr, Row, Potential)>) -> Option<Image>
+    pub fn new(routines: Vec<Routine>, points: Vec<Point>) -> Option<Image>
         ensures some { IsSome result ↔ IsTrue (is_image (record { routines = routines.items; points = points.items })) }
         ensures value { IfSome result (λ image. image ≡ record { routines = routines.items; points = points.items }) }
     {
@@ -114,7 +116,7 @@ impl Image {
     }
 
     /// Every instruction with its entry state and potential, by pc.
-    pub fn points(&self) -> &[(Instr, Row, Potential)]
+    pub fn points(&self) -> &[Point]
         ensures points { result.now ≡ self.now.points }
         ensures legal { is_image self.now ≡ true }
     {
@@ -124,27 +126,27 @@ impl Image {
     /// The instruction at a pc.
     pub fn instr(&self, pc: u16) -> &Instr
         requires { pc < length self.now.points }
-        ensures there { IfSome (slice_get self.now.points pc) (λ point. result.now ≡ point.0) }
+        ensures there { IfSome (slice_get self.now.points pc) (λ point. result.now ≡ point.instr) }
         ensures fields { FieldsFit result.now.opcode result.now }
         ensures target { TargetFits (length self.now.points) result.now }
         ensures callee { CalleeFits (length self.now.routines) result.now }
     {
-        &self.points[pc as usize].0
+        &self.points[pc as usize].instr
     }
 
     /// The entry state at a pc.
     pub fn row(&self, pc: u16) -> &Row
         requires { pc < length self.now.points }
-        ensures { IfSome (slice_get self.now.points pc) (λ point. result.now ≡ point.1) }
+        ensures { IfSome (slice_get self.now.points pc) (λ point. result.now ≡ point.row) }
     {
-        &self.points[pc as usize].1
+        &self.points[pc as usize].row
     }
 
     /// The potential at a pc.
     pub fn potential(&self, pc: u16) -> &Potential
         requires { pc < length self.now.points }
-        ensures { IfSome (slice_get self.now.points pc) (λ point. result.now ≡ point.2) }
+        ensures { IfSome (slice_get self.now.points pc) (λ point. result.now ≡ point.potential) }
     {
-        &self.points[pc as usize].2
+        &self.points[pc as usize].potential
     }
 }

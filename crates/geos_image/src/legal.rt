@@ -3,10 +3,11 @@
 ghost use Rattle.std.specs.Prelude.{◌≡◌, ◌<◌, ◌≤◌, ◌^◌, length, not, ◌==◌, IfSome};
 ghost use Rattle.std.specs.List.{list_all};
 ghost use Rattle.geos_image.specs.Legal.{is_name_byte, text_end, is_name, is_pointer, is_row, is_instr, is_point, is_named, is_routine};
-ghost use Rattle.geos_image.specs.Parts.{total_count, Point};
+ghost use Rattle.geos_image.specs.declared.point.Point.{Point};
+ghost use Rattle.geos_image.specs.Parts.{total_count};
 
 use crate::instr::Instr;
-use crate::potential::Potential;
+use crate::point::Point;
 use crate::routine::Routine;
 use crate::row::{Pointer, Row};
 
@@ -104,10 +105,10 @@ fn is_instr(routines: u32, instrs: u32, instr: &Instr) -> bool
 }
 
 /// Whether a point may stand in an image with so many routines and instructions.
-pub(crate) fn is_point(routines: u32, instrs: u32, point: &(Instr, Row, Potential)) -> bool
+pub(crate) fn is_point(routines: u32, instrs: u32, point: &Point) -> bool
     ensures { result ≡ is_point routines instrs point.now }
 {
-    is_instr(routines, instrs, &point.0) && is_row(&point.1)
+    is_instr(routines, instrs, &point.instr) && is_row(&point.row)
 }
 
 /// Whether a routine may stand behind the earlier ones.

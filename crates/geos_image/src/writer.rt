@@ -8,6 +8,7 @@ ghost use Rattle.geos_image.specs.Reading.{image_at};
 
 use crate::image::Image;
 use crate::instr::Instr;
+use crate::point::Point;
 use crate::potential::Potential;
 use crate::routine::Routine;
 use crate::row::{Pointer, Row, SlotState};
@@ -139,25 +140,25 @@ fn put_routines(out: &mut Vec<u8>, routines: &[Routine]) -> Result<(), AllocErro
     Ok(())
 }
 
-fn put_instrs(out: &mut Vec<u8>, points: &[(Instr, Row, Potential)]) -> Result<(), AllocError>
-    ensures { OnOk result (out.new.items ≡ out.old.items ++ flat_map (λ point. instr point.0) points.now) }
+fn put_instrs(out: &mut Vec<u8>, points: &[Point]) -> Result<(), AllocError>
+    ensures { OnOk result (out.new.items ≡ out.old.items ++ flat_map (λ point. instr point.instr) points.now) }
 {
     for point in points {
-        put_instr(out, &point.0)?;
+        put_instr(out, &point.instr)?;
     }
     Ok(())
 }
 
-fn put_entry(out: &mut Vec<u8>, point: &(Instr, Row, Potential)) -> Result<(), AllocError>
-    ensures value { OnOk result (out.new.items ≡ out.old.items ++ (row point.now.1 ++ potential point.now.2)) }
+fn put_entry(out: &mut Vec<u8>, point: &Point) -> Result<(), AllocError>
+    ensures value { OnOk result (out.new.items ≡ out.old.items ++ (row point.now.row ++ potential point.now.potential)) }
     ensures fits { OnOk result (PointFits point.now) }
 {
-    put_row(out, &point.1)?;
-    put_potential(out, &point.2)
+    put_row(out, &point.row)?;
+    put_potential(out, &point.potential)
 }
 
-fn put_entries(out: &mut Vec<u8>, points: &[(Instr, Row, Potential)]) -> Result<(), AllocError>
-    ensures value { OnOk result (out.new.items ≡ out.old.items ++ flat_map (λ point. row point.1 ++ potential point.2) points.now) }
+fn put_entries(out: &mut Vec<u8>, points: &[Point]) -> Result<(), AllocError>
+    ensures value { OnOk result (out.new.items ≡ out.old.items ++ flat_map (λ point. row point.row ++ potential point.potential) points.now) }
     ensures fits { OnOk result (All PointFits points.now) }
 {
     for point in points {

@@ -10,7 +10,8 @@ use Rattle.geos_image.specs.declared.instr.Instr.{Instr}
 use Rattle.geos_image.specs.declared.row.Row.{Row}
 use Rattle.geos_image.specs.declared.potential.Potential.{Potential}
 use Rattle.geos_image.specs.declared.routine.Routine.{Routine}
-use Rattle.geos_image.specs.Parts.{Point, Parts}
+use Rattle.geos_image.specs.declared.point.Point.{Point}
+use Rattle.geos_image.specs.Parts.{Parts}
 use Rattle.geos_verify.specs.Lists.{all2}
 use Rattle.geos_verify.specs.Rows.{falls_through, branches, at_point, bound, fits, is_plain, row_along, row_branching}
 use Rattle.geos_verify.specs.Touched.{calls, touches}
@@ -93,9 +94,9 @@ pub record Beside (found : Parts) (routine : Routine) (start pc : ℕ) (i : Inst
   pub clean : names_empty_slot row ≡ false
   pub entry : pc ≡ start → fits routine.entry row ≡ true
   pub along : (next : Point) → falls_through i.opcode ≡ true → slice_get found.points (pc + 1) ≡ Some next
-      → (fits (row_along found i i.opcode row) next.1 ≡ true) × ((n : ℕ) × (next.2 ≡ potential_of n) × (n + 1 + call_steps found i ≤ steps))
+      → (fits (row_along found i i.opcode row) next.row ≡ true) × ((n : ℕ) × (next.potential ≡ potential_of n) × (n + 1 + call_steps found i ≤ steps))
   pub branch : (next : Point) → branches i.opcode ≡ true → slice_get found.points i.target ≡ Some next
-      → (fits (row_branching i i.opcode row) next.1 ≡ true) × ((n : ℕ) × (next.2 ≡ potential_of n) × (n + 1 + call_steps found i ≤ steps))
+      → (fits (row_branching i i.opcode row) next.row ≡ true) × ((n : ℕ) × (next.potential ≡ potential_of n) × (n + 1 + call_steps found i ≤ steps))
   pub return : returns i.opcode ≡ true → 1 ≤ steps
 
 at-point-true : (image : Parts) (pc : ℕ) (test : Point → Bool) (o : Option Point) → slice_get image.points pc ≡ o → ((point : Point) → slice_get image.points pc ≡ Some point → test point ≡ true) → at_point image pc test ≡ true
@@ -109,10 +110,10 @@ same-call image other same r i row =
     ap (λ (routines : List Routine). calls i.opcode && (not (nat_lt i.imm r) || not (elim (slice_get routines i.imm) [ None ↦ true | Some routine ↦ fits row routine.entry ]))) same
 
 pub accepts : (o found : Parts) → o.routines ≡ found.routines → (r : ℕ) (routine : Routine) (start pc : ℕ) (i : Instr) (row wanted : Row) (steps : ℕ) (potential : Potential) → steps ≤ potential.constant
-    → refusal o r routine start pc (i, wanted, potential) ≡ None → Beside found routine start pc i row wanted steps → refusal found r routine start pc (i, row, potential_of steps) ≡ None
+    → refusal o r routine start pc (record { instr = i; row = wanted; potential = potential }) ≡ None → Beside found routine start pc i row wanted steps → refusal found r routine start pc (record { instr = i; row = row; potential = potential_of steps }) ≡ None
 unfolding leaves_routine entry_misfits misfits_at edge_misfits unpaid_along unpaid_branching edge_unpaid over_budget
 accepts o found same r routine start pc i row wanted steps potential le accepted B =
-    let all = none-refuses o r routine start pc (i, wanted, potential) accepted in
+    let all = none-refuses o r routine start pc (record { instr = i; row = wanted; potential = potential }) accepted in
     let may : MayStand o r routine i wanted = record {
       fresh = all.fresh;
       within = all.within;
@@ -124,7 +125,7 @@ accepts o found same r routine start pc i row wanted steps potential le accepted
     } in
     let here = may_stand-mono o r routine i row wanted B.below may in
     let call = sym (same-call found o same r i row) ∙ here.call in
-    all-pass (tests found r routine start pc (i, row, potential_of steps)) (
+    all-pass (tests found r routine start pc (record { instr = i; row = row; potential = potential_of steps })) (
       all.stays,
       (B.clean, (entry all.entry, (here.fresh, (here.within, (here.marked, (here.unheld, (here.held, (call, (here.exit, (edges, (paid, (budget all.budget, tt)))))))))))),
     )
@@ -138,19 +139,19 @@ accepts o found same r routine start pc i row wanted steps potential le accepted
     edges : edge_misfits found pc i row ≡ false
     edges = neither (falls_through i.opcode && misfits_at found (pc + 1) (row_along found i i.opcode row)) (branches i.opcode && misfits_at found i.target (row_branching i i.opcode row))
         (not-both (falls_through i.opcode) (misfits_at found (pc + 1) (row_along found i i.opcode row)) (λ falls.
-        true-not (at_point found (pc + 1) (λ next. fits (row_along found i i.opcode row) next.1))
-        (at-point-true found (pc + 1) (λ next. fits (row_along found i i.opcode row) next.1) (slice_get found.points (pc + 1)) refl (λ next e. (B.along next falls e).0))))
+        true-not (at_point found (pc + 1) (λ next. fits (row_along found i i.opcode row) next.row))
+        (at-point-true found (pc + 1) (λ next. fits (row_along found i i.opcode row) next.row) (slice_get found.points (pc + 1)) refl (λ next e. (B.along next falls e).0))))
         (not-both (branches i.opcode) (misfits_at found i.target (row_branching i i.opcode row)) (λ goes.
-        true-not (at_point found i.target (λ next. fits (row_branching i i.opcode row) next.1))
-        (at-point-true found i.target (λ next. fits (row_branching i i.opcode row) next.1) (slice_get found.points i.target) refl (λ next e. (B.branch next goes e).0))))
+        true-not (at_point found i.target (λ next. fits (row_branching i i.opcode row) next.row))
+        (at-point-true found i.target (λ next. fits (row_branching i i.opcode row) next.row) (slice_get found.points i.target) refl (λ next e. (B.branch next goes e).0))))
 
-    paid-along : (next : Point) → falls_through i.opcode ≡ true → slice_get found.points (pc + 1) ≡ Some next → pays_along found i i.opcode row (potential_of steps) next.2 ≡ true
+    paid-along : (next : Point) → falls_through i.opcode ≡ true → slice_get found.points (pc + 1) ≡ Some next → pays_along found i i.opcode row (potential_of steps) next.potential ≡ true
     paid-along next falls e =
         let next_pays = (B.along next falls e).1 in
         let P : Potential → Type 0 = λ q. pays_along found i i.opcode row (potential_of steps) q ≡ true in
         subst P (sym next_pays.1) (along-zero found i i.opcode row steps next_pays.0 next_pays.2)
 
-    paid-branching : (next : Point) → branches i.opcode ≡ true → slice_get found.points i.target ≡ Some next → pays_branching i i.opcode (potential_of steps) next.2 ≡ true
+    paid-branching : (next : Point) → branches i.opcode ≡ true → slice_get found.points i.target ≡ Some next → pays_branching i i.opcode (potential_of steps) next.potential ≡ true
     paid-branching next goes e =
         let next_pays = (B.branch next goes e).1 in
         let P : Potential → Type 0 = λ q. pays_branching i i.opcode (potential_of steps) q ≡ true in
@@ -167,11 +168,11 @@ accepts o found same r routine start pc i row wanted steps potential le accepted
     paid = neither ((falls_through i.opcode && unpaid_along found pc i row (potential_of steps)) || (branches i.opcode && unpaid_branching found i (potential_of steps))) (returns i.opcode && steps == 0)
         (neither (falls_through i.opcode && unpaid_along found pc i row (potential_of steps)) (branches i.opcode && unpaid_branching found i (potential_of steps))
         (not-both (falls_through i.opcode) (unpaid_along found pc i row (potential_of steps)) (λ falls.
-        true-not (at_point found (pc + 1) (λ next. pays_along found i i.opcode row (potential_of steps) next.2))
-        (at-point-true found (pc + 1) (λ next. pays_along found i i.opcode row (potential_of steps) next.2) (slice_get found.points (pc + 1)) refl (λ next e. paid-along next falls e))))
+        true-not (at_point found (pc + 1) (λ next. pays_along found i i.opcode row (potential_of steps) next.potential))
+        (at-point-true found (pc + 1) (λ next. pays_along found i i.opcode row (potential_of steps) next.potential) (slice_get found.points (pc + 1)) refl (λ next e. paid-along next falls e))))
         (not-both (branches i.opcode) (unpaid_branching found i (potential_of steps)) (λ goes.
-        true-not (at_point found i.target (λ next. pays_branching i i.opcode (potential_of steps) next.2))
-        (at-point-true found i.target (λ next. pays_branching i i.opcode (potential_of steps) next.2) (slice_get found.points i.target) refl (λ next e. paid-branching next goes e)))))
+        true-not (at_point found i.target (λ next. pays_branching i i.opcode (potential_of steps) next.potential))
+        (at-point-true found i.target (λ next. pays_branching i i.opcode (potential_of steps) next.potential) (slice_get found.points i.target) refl (λ next e. paid-branching next goes e)))))
         (not-both (returns i.opcode) (steps == 0) (λ is. some-steps steps (B.return is)))
 
     budget : over_budget routine start pc potential ≡ false → over_budget routine start pc (potential_of steps) ≡ false

@@ -134,17 +134,17 @@ counts-none image want steps n len end = record {
 -- the same at a pc of a routine, where the instruction is given by its point; and the number is
 -- one that a potential can say
 pub counted : (image : Parts) → Forward image → (want steps : List ℕ) → StepsHold image want → (r start limit pc more value : ℕ) → Spans image.routines r start limit → limit ≤ length image.points → start ≤ pc → pc < limit
-    → more ≡ pc + 1 → IfSome (slice_get image.points pc) (λ point. value ≡ steps_at image limit pc point.0 steps) → Counting image want steps more
+    → more ≡ pc + 1 → IfSome (slice_get image.points pc) (λ point. value ≡ steps_at image limit pc point.instr steps) → Counting image want steps more
     → Counting image want (set steps pc value) pc × (value ≤ most_steps)
 counted image forward want steps holds r start limit pc more value spans small from lt more_is there C =
     let len = code-length image in
     let found = item_at image.points pc (omega arith) in
-    let value_is = if_some (λ point. value ≡ steps_at image limit pc point.0 steps) (slice_get image.points pc) found.0 found.1 there in
-    let read : slice_get (instrs_of image) pc ≡ Some found.0.0 = code-at image pc found.0 found.1 in
+    let value_is = if_some (λ point. value ≡ steps_at image limit pc point.instr steps) (slice_get image.points pc) found.0 found.1 there in
+    let read : slice_get (instrs_of image) pc ≡ Some found.0.instr = code-at image pc found.0 found.1 in
     let before = subst (λ k. Counting image want steps k) more_is C in
     let inside : (to : ℕ) (j : Instr) (branch : Bool) → Edge (instrs_of image) pc branch to j → to < limit = (λ to j branch edge. holds.closed r start limit pc to branch j spans from lt edge) in
-    let next = counts-more image forward want steps holds pc found.0.0 read before (omega arith) limit (omega arith) inside in
-    let below = at-below image forward want steps holds pc found.0.0 read before (omega arith) limit (omega arith) inside in
+    let next = counts-more image forward want steps holds pc found.0.instr read before (omega arith) limit (omega arith) inside in
+    let below = at-below image forward want steps holds pc found.0.instr read before (omega arith) limit (omega arith) inside in
     let long = holds.long pc in
     let P : ℕ → Type 0 = λ v. v ≤ get_or want pc 0 in
     let value_below : value ≤ get_or want pc 0 = subst P (sym value_is) below in

@@ -8,7 +8,8 @@ use Rattle.geos_opcodes.specs.declared.opcode.Opcode.TheVariants.{Call}
 use Rattle.geos_image.specs.declared.instr.Instr.{Instr}
 use Rattle.geos_image.specs.declared.row.Row.{Row}
 use Rattle.geos_image.specs.declared.routine.Routine.{Routine}
-use Rattle.geos_image.specs.Parts.{Parts, Point}
+use Rattle.geos_image.specs.declared.point.Point.{Point}
+use Rattle.geos_image.specs.Parts.{Parts}
 use Rattle.geos_verify.specs.Rows.{exit_row, row_along, fits}
 use Rattle.geos_verify.specs.Touched.{calls}
 use Rattle.geos_verify.proofs.Along.{row_along-used}
@@ -38,7 +39,7 @@ pub same-edge : (image other : Parts) → other.routines ≡ image.routines → 
 same-edge image other same i true row = refl
 same-edge image other same i false row = same-along image other same i i.opcode row
 
-pub code-at : (image : Parts) (pc : ℕ) (point : Point) → slice_get image.points pc ≡ Some point → slice_get (instrs_of image) pc ≡ Some point.0
+pub code-at : (image : Parts) (pc : ℕ) (point : Point) → slice_get image.points pc ≡ Some point → slice_get (instrs_of image) pc ≡ Some point.instr
 code-at image pc point e = slice_get-map instr_of image.points pc ∙ ap (option_map instr_of) e
 
 pub code-length : (image : Parts) → length (instrs_of image) ≡ length image.points

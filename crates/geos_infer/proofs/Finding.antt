@@ -8,7 +8,8 @@ use Rattle.std.proofs.lemmas.Option.{slice_get-map, slice_get_within, get_or_fro
 use Rattle.geos_image.specs.declared.instr.Instr.{Instr}
 use Rattle.geos_image.specs.declared.row.Row.{Row}
 use Rattle.geos_image.specs.declared.routine.Routine.{Routine}
-use Rattle.geos_image.specs.Parts.{Point, Parts, start_of, total_count}
+use Rattle.geos_image.specs.declared.point.Point.{Point}
+use Rattle.geos_image.specs.Parts.{Parts, start_of, total_count}
 use Rattle.geos_image.specs.Legal.{is_row, is_instr, is_point, are_routines, is_image}
 use Rattle.geos_image.proofs.Instrs.{image_parts}
 use Rattle.geos_verify.specs.Rows.{fits}
@@ -67,10 +68,14 @@ list_all-get test [] k x h e = absurd cc
 list_all-get test (y ∷ xs) zero x h e = let same : y ≡ x = cc in subst (λ v. test v ≡ true) same ((and_parts (test y) (list_all test xs) h).0)
 list_all-get test (y ∷ xs) (suc k) x h e = list_all-get test xs k x ((and_parts (test y) (list_all test xs) h).1) e
 
+-- the point of an instruction, where the potential is the same whatever the counters are
+abbrev found_point : List (Option Row) → List ℕ → ℕ → Instr → Point
+found_point known steps pc i = record { instr = i; row = row_of (known_at known pc); potential = potential_of (get_or steps pc 0) }
+
 -- points whose potentials are the same whatever the counters are
 pub record Plain (image : Parts) (known : List (Option Row)) (steps : List ℕ) (points : List Point) : Type 0 where
   pub len : length points ≡ length image.points
-  pub each : (pc : ℕ) (old : Point) → slice_get image.points pc ≡ Some old → slice_get points pc ≡ Some (old.0, row_of (known_at known pc), potential_of (get_or steps pc 0))
+  pub each : (pc : ℕ) (old : Point) → slice_get image.points pc ≡ Some old → slice_get points pc ≡ Some (found_point known steps pc old.instr)
 
 plain : (image : Parts) (known : List (Option Row)) (steps : List ℕ) (coefficients : List (List ℕ)) (points : List Point) → length coefficients ≡ length image.points → ZerosFrom 0 coefficients
     → PointsOf image known steps coefficients points → Plain image known steps points
@@ -79,7 +84,7 @@ plain image known steps coefficients points len none P = record {
   each = λ pc old read.
       let lt = slice_get_within image.points pc old read in
       let is = none pc (omega arith) (omega arith) in
-      subst (λ (k : List ℕ). slice_get points pc ≡ Some (old.0, row_of (known_at known pc), record { constant = get_or steps pc 0; coefficients = k })) is (P.each pc old read);
+      subst (λ (k : List ℕ). slice_get points pc ≡ Some (record { instr = old.instr; row = row_of (known_at known pc); potential = record { constant = get_or steps pc 0; coefficients = k } })) is (P.each pc old read);
 }
 
 module _ (image : Parts) (legal : is_image image ≡ true) (forward : Forward image) (o : Parts) (A : Alike image o) (known : List (Option Row)) (steps : List ℕ) (points : List Point)
@@ -91,29 +96,29 @@ module _ (image : Parts) (legal : is_image image ≡ true) (forward : Forward im
       let lt = slice_get_within (instrs_of image) pc i read in
       all-reached image forward (map row_at o.points) known (2 * length image.points) F (length image.points) (omega arith) pc (omega arith) (let known_len = F.len in omega arith)
 
-  found-at : (pc : ℕ) (old : Point) → slice_get image.points pc ≡ Some old → slice_get points pc ≡ Some (old.0, row_of (known_at known pc), potential_of (get_or steps pc 0))
+  found-at : (pc : ℕ) (old : Point) → slice_get image.points pc ≡ Some old → slice_get points pc ≡ Some (found_point known steps pc old.instr)
   found-at pc old read = P.each pc old read
 
   -- the point of the other image
-  other-at : (pc : ℕ) (old : Point) → slice_get image.points pc ≡ Some old → (point : Point) × (slice_get o.points pc ≡ Some point) × (point.0 ≡ old.0)
+  other-at : (pc : ℕ) (old : Point) → slice_get image.points pc ≡ Some old → (point : Point) × (slice_get o.points pc ≡ Some point) × (point.instr ≡ old.instr)
   other-at pc old read =
-      let there : slice_get (instrs_of o) pc ≡ Some old.0 = ap (λ (code : List Instr). slice_get code pc) A.same.instrs ∙ code-at image pc old read in
-      map-get instr_of o.points pc old.0 there
+      let there : slice_get (instrs_of o) pc ≡ Some old.instr = ap (λ (code : List Instr). slice_get code pc) A.same.instrs ∙ code-at image pc old read in
+      map-get instr_of o.points pc old.instr there
 
-  want-row : (pc : ℕ) (point : Point) → slice_get o.points pc ≡ Some point → slice_get (map row_at o.points) pc ≡ Some point.1
+  want-row : (pc : ℕ) (point : Point) → slice_get o.points pc ≡ Some point → slice_get (map row_at o.points) pc ≡ Some point.row
   want-row pc point read = slice_get-map row_at o.points pc ∙ ap (option_map row_at) read
 
-  want-steps : (pc : ℕ) (point : Point) → slice_get o.points pc ≡ Some point → get_or (map constant_at o.points) pc 0 ≡ point.2.constant
-  want-steps pc point read = get_or_from_slice_get (map constant_at o.points) pc point.2.constant 0 (slice_get-map constant_at o.points pc ∙ ap (option_map constant_at) read)
+  want-steps : (pc : ℕ) (point : Point) → slice_get o.points pc ≡ Some point → get_or (map constant_at o.points) pc 0 ≡ point.potential.constant
+  want-steps pc point read = get_or_from_slice_get (map constant_at o.points) pc point.potential.constant 0 (slice_get-map constant_at o.points pc ∙ ap (option_map constant_at) read)
 
   row-is : (pc : ℕ) (old : Point) → slice_get image.points pc ≡ Some old → (row : Row) × (known_at known pc ≡ Some row) × (row_of (known_at known pc) ≡ clean row)
-  row-is pc old read = let r = reached pc old.0 (code-at image pc old read) in (r.0, r.1, ap row_of r.1)
+  row-is pc old read = let r = reached pc old.instr (code-at image pc old read) in (r.0, r.1, ap row_of r.1)
 
-  row-below : (pc : ℕ) (old point : Point) → slice_get image.points pc ≡ Some old → slice_get o.points pc ≡ Some point → fits (row_of (known_at known pc)) point.1 ≡ true
+  row-below : (pc : ℕ) (old point : Point) → slice_get image.points pc ≡ Some old → slice_get o.points pc ≡ Some point → fits (row_of (known_at known pc)) point.row ≡ true
   row-below pc old point read at =
       let r = row-is pc old read in
-      let below = F.below pc r.0 point.1 r.1 (want-row pc point at) in
-      subst (λ (x : Row). fits x point.1 ≡ true) (sym r.2) ((clean-least r.0).least point.1 below (A.rows.clean pc point.1 (want-row pc point at)))
+      let below = F.below pc r.0 point.row r.1 (want-row pc point at) in
+      subst (λ (x : Row). fits x point.row ≡ true) (sym r.2) ((clean-least r.0).least point.row below (A.rows.clean pc point.row (want-row pc point at)))
 
   row-clean : (pc : ℕ) (old : Point) → slice_get image.points pc ≡ Some old → names_empty_slot (row_of (known_at known pc)) ≡ false
   row-clean pc old read = let r = row-is pc old read in subst (λ (x : Row). names_empty_slot x ≡ false) (sym r.2) ((clean-least r.0).clean)
@@ -125,32 +130,32 @@ module _ (image : Parts) (legal : is_image image ≡ true) (forward : Forward im
       subst (λ (x : Row). fits row x ≡ true) (sym is) (fits-trans row K.known_row (clean K.known_row) K.fits ((clean-least K.known_row).weaker))
 
   -- where an edge leads
-  edge-found : (pc to : ℕ) (branch : Bool) (old next : Point) → slice_get image.points pc ≡ Some old → has_edge old.0 branch ≡ true → edge_end pc old.0 branch ≡ to → slice_get points to ≡ Some next
-      → (fits (edge_row image old.0 branch (row_of (known_at known pc))) next.1 ≡ true) × ((n : ℕ) × (next.2 ≡ potential_of n) × (n + 1 + call_steps image old.0 ≤ get_or steps pc 0))
+  edge-found : (pc to : ℕ) (branch : Bool) (old next : Point) → slice_get image.points pc ≡ Some old → has_edge old.instr branch ≡ true → edge_end pc old.instr branch ≡ to → slice_get points to ≡ Some next
+      → (fits (edge_row image old.instr branch (row_of (known_at known pc))) next.row ≡ true) × ((n : ℕ) × (next.potential ≡ potential_of n) × (n + 1 + call_steps image old.instr ≤ get_or steps pc 0))
   edge-found pc to branch old next read has leads at =
-      let edge : Edge (instrs_of image) pc branch to old.0 = record { read = code-at image pc old read; has = has; leads = leads } in
+      let edge : Edge (instrs_of image) pc branch to old.instr = record { read = code-at image pc old read; has = has; leads = leads } in
       let lt = slice_get_within points to next at in
       let from = slice_get_within image.points pc old read in
       let len = code-length image in
       let points_len = P.len in
       let there = item_at image.points to (omega arith) in
-      let is : (there.0.0, row_of (known_at known to), potential_of (get_or steps to 0)) ≡ next = same_Some (there.0.0, row_of (known_at known to), potential_of (get_or steps to 0)) next (sym (found-at to there.0 there.1) ∙ at) in
+      let is : found_point known steps to there.0.instr ≡ next = same_Some (found_point known steps to there.0.instr) next (sym (found-at to there.0 there.1) ∙ at) in
       let row = row-is pc old read in
-      let K = F.edges pc to branch old.0 row.0 (number-last pc (length image.points) branch from) edge (omega arith) row.1 in
-      let fit : fits (edge_row image old.0 branch (row_of (known_at known pc))) (row_of (known_at known to)) ≡ true =
-      subst (λ (x : Row). fits (edge_row image old.0 branch x) (row_of (known_at known to)) ≡ true) (sym row.2) (known-fits to (edge_row image old.0 branch (clean row.0)) K) in
-      let paid = C.edges pc to branch old.0 (omega arith) edge (omega arith) in
-      (subst (λ (x : Point). fits (edge_row image old.0 branch (row_of (known_at known pc))) x.1 ≡ true) is fit, (get_or steps to 0, ap (λ (x : Point). x.2) (sym is), paid))
+      let K = F.edges pc to branch old.instr row.0 (number-last pc (length image.points) branch from) edge (omega arith) row.1 in
+      let fit : fits (edge_row image old.instr branch (row_of (known_at known pc))) (row_of (known_at known to)) ≡ true =
+      subst (λ (x : Row). fits (edge_row image old.instr branch x) (row_of (known_at known to)) ≡ true) (sym row.2) (known-fits to (edge_row image old.instr branch (clean row.0)) K) in
+      let paid = C.edges pc to branch old.instr (omega arith) edge (omega arith) in
+      (subst (λ (x : Point). fits (edge_row image old.instr branch (row_of (known_at known pc))) x.row ≡ true) is fit, (get_or steps to 0, ap (λ (x : Point). x.potential) (sym is), paid))
 
   beside : (r pc : ℕ) (routine : Routine) (old point : Point) → slice_get image.routines r ≡ Some routine → slice_get image.points pc ≡ Some old → slice_get o.points pc ≡ Some point
-      → Beside (with_points image points) routine (start_of image.routines r) pc old.0 (row_of (known_at known pc)) point.1 (get_or steps pc 0)
+      → Beside (with_points image points) routine (start_of image.routines r) pc old.instr (row_of (known_at known pc)) point.row (get_or steps pc 0)
   beside r pc routine old point there read at = record {
     below = row-below pc old point read at;
     clean = row-clean pc old read;
     entry = λ start. known-fits pc routine.entry (F.entries pc routine.entry (record { r = r; routine = routine; there = there; start = start; entry_is = refl }));
-    along = λ next falls e. (let f = edge-found pc (pc + 1) false old next read falls refl e in (subst (λ (x : Row). fits x next.1 ≡ true) (sym (same-edge image (with_points image points) refl old.0 false (row_of (known_at known pc)))) f.0, f.1));
-    branch = λ next goes e. edge-found pc old.0.target true old next read goes refl e;
-    return = λ is. C.returns pc old.0 (omega arith) (code-at image pc old read) is;
+    along = λ next falls e. (let f = edge-found pc (pc + 1) false old next read falls refl e in (subst (λ (x : Row). fits x next.row ≡ true) (sym (same-edge image (with_points image points) refl old.instr false (row_of (known_at known pc)))) f.0, f.1));
+    branch = λ next goes e. edge-found pc old.instr.target true old next read goes refl e;
+    return = λ is. C.returns pc old.instr (omega arith) (code-at image pc old read) is;
   }
 
   -- no rule refuses
@@ -159,18 +164,18 @@ module _ (image : Parts) (legal : is_image image ≡ true) (forward : Forward im
       let lt = slice_get_within points pc point has.read in
       let points_len = P.len in
       let old = item_at image.points pc (omega arith) in
-      let is : (old.0.0, row_of (known_at known pc), potential_of (get_or steps pc 0)) ≡ point = same_Some (old.0.0, row_of (known_at known pc), potential_of (get_or steps pc 0)) point (sym (found-at pc old.0 old.1) ∙ has.read) in
+      let is : found_point known steps pc old.0.instr ≡ point = same_Some (found_point known steps pc old.0.instr) point (sym (found-at pc old.0 old.1) ∙ has.read) in
       let other = other-at pc old.0 old.1 in
       let there : slice_get o.routines r ≡ Some routine = ap (λ (rs : List Routine). slice_get rs r) A.same.routines ∙ has.there in
       let within = subst (λ (rs : List Routine). has_place (start_of rs r) routine.count pc ≡ true) (sym A.same.routines) has.within in
       let accepted : refusal o r routine (start_of o.routines r) pc other.0 ≡ None = A.checked.1 r pc routine other.0 (record { there = there; within = within; read = other.1 }) in
-      let here : refusal o r routine (start_of image.routines r) pc (old.0.0, other.0.1, other.0.2) ≡ None =
-      subst (λ (rs : List Routine). refusal o r routine (start_of rs r) pc (old.0.0, other.0.1, other.0.2) ≡ None) A.same.routines
-      (subst (λ (i : Instr). refusal o r routine (start_of o.routines r) pc (i, other.0.1, other.0.2) ≡ None) other.2 accepted) in
+      let here : refusal o r routine (start_of image.routines r) pc (record other.0 { instr = old.0.instr }) ≡ None =
+      subst (λ (rs : List Routine). refusal o r routine (start_of rs r) pc (record other.0 { instr = old.0.instr }) ≡ None) A.same.routines
+      (subst (λ (i : Instr). refusal o r routine (start_of o.routines r) pc (record other.0 { instr = i }) ≡ None) other.2 accepted) in
       let below = C.below pc (omega arith) (let len = code-length image in omega arith) in
       let want = want-steps pc other.0 other.1 in
       subst (λ (x : Point). refusal (with_points image points) r routine (start_of image.routines r) pc x ≡ None) is
-      (accepts o (with_points image points) A.same.routines r routine (start_of image.routines r) pc old.0.0 (row_of (known_at known pc)) other.0.1 (get_or steps pc 0) other.0.2 (omega arith) here
+      (accepts o (with_points image points) A.same.routines r routine (start_of image.routines r) pc old.0.instr (row_of (known_at known pc)) other.0.row (get_or steps pc 0) other.0.potential (omega arith) here
       (beside r pc routine old.0 other.0 has.there old.1 other.1))
 
 -- the format allows what is found
@@ -195,13 +200,13 @@ found-legal image known steps coefficients points legal P =
         let lt = slice_get_within points k point at in
         let points_len = P.len in
         let old = item_at image.points k (omega arith) in
-        let made : Point = (old.0.0, row_of (known_at known k), record { constant = get_or steps k 0; coefficients = get_or coefficients k [] }) in
+        let made : Point = record { instr = old.0.instr; row = row_of (known_at known k); potential = record { constant = get_or steps k 0; coefficients = get_or coefficients k [] } } in
         let is : made ≡ point = same_Some made point (sym (P.each k old.0 old.1) ∙ at) in
         let old_legal = list_all-get (is_point (length image.routines) (length image.points)) image.points k old.0 (image_parts image legal).points old.1 in
-        let instr = (and_parts (is_instr (length image.routines) (length image.points) old.0.0) (is_row old.0.1) old_legal).0 in
-        let here : is_instr (length image.routines) (length points) old.0.0 ≡ true = subst (λ (m : ℕ). is_instr (length image.routines) m old.0.0 ≡ true) (sym points_len) instr in
+        let instr = (and_parts (is_instr (length image.routines) (length image.points) old.0.instr) (is_row old.0.row) old_legal).0 in
+        let here : is_instr (length image.routines) (length points) old.0.instr ≡ true = subst (λ (m : ℕ). is_instr (length image.routines) m old.0.instr ≡ true) (sym points_len) instr in
         subst (λ (x : Point). is_point (length image.routines) (length points) x ≡ true) is
-        (both (is_instr (length image.routines) (length points) old.0.0) (is_row (row_of (known_at known k))) here (P.legal k old.0 old.1))
+        (both (is_instr (length image.routines) (length points) old.0.instr) (is_row (row_of (known_at known k))) here (P.legal k old.0 old.1))
 
 -- the code of the image stays
 pub found-code : (image : Parts) (known : List (Option Row)) (steps : List ℕ) (coefficients : List (List ℕ)) (points : List Point) → PointsOf image known steps coefficients points → instrs_of (with_points image points) ≡ instrs_of image

@@ -233,14 +233,14 @@ module _ (image : Parts) (forward : Forward image) (want : List Row) (holds : Ro
 -- the same at a pc of a routine, where the instruction is given by its point
 pub flows-on : (image : Parts) → Forward image → (want : List Row) → RowsHold image want → (known new : List (Option Row)) (r start limit pc : ℕ) (branch ok : Bool) (done more : ℕ)
     → Spans image.routines r start limit → limit ≤ length image.points → start ≤ pc → pc < limit → done ≡ edge_number pc branch → more ≡ done + 1 → Flowing image want known done
-    → IfSome (slice_get image.points pc) (λ point. let next = spread image limit pc point.0 branch (known_at known pc) known in MatchBool ok (next ≡ Some new) (next ≡ None))
+    → IfSome (slice_get image.points pc) (λ point. let next = spread image limit pc point.instr branch (known_at known pc) known in MatchBool ok (next ≡ Some new) (next ≡ None))
     → (ok ≡ true) × Flowing image want new more
 flows-on image forward want holds known new r start limit pc branch ok done more spans small from lt done_is more_is F h =
     let found = item_at image.points pc (omega arith) in
     let read = code-at image pc found.0 found.1 in
     let D : ℕ → Type 0 = λ n. Flowing image want known n in
-    let here = if_some (λ point. let next = spread image limit pc point.0 branch (known_at known pc) known in MatchBool ok (next ≡ Some new) (next ≡ None)) (slice_get image.points pc) found.0 found.1 h in
-    let step = spread-flows image forward want holds known pc branch found.0.0 (subst D done_is F) read limit (let len = code-length image in omega arith)
+    let here = if_some (λ point. let next = spread image limit pc point.instr branch (known_at known pc) known in MatchBool ok (next ≡ Some new) (next ≡ None)) (slice_get image.points pc) found.0 found.1 h in
+    let step = spread-flows image forward want holds known pc branch found.0.instr (subst D done_is F) read limit (let len = code-length image in omega arith)
     (λ to j edge. holds.closed r start limit pc to branch j spans from lt edge) ok new here in
     let count : suc (edge_number pc branch) ≡ more = (let a = done_is in let b = more_is in omega arith) in
     (step.0, subst (λ n. Flowing image want new n) count step.1)

@@ -11,7 +11,8 @@ use Rattle.geos_image.specs.declared.instr.Instr.{Instr}
 use Rattle.geos_image.specs.declared.row.Row.{Row}
 use Rattle.geos_image.specs.declared.potential.Potential.{Potential}
 use Rattle.geos_image.specs.declared.routine.Routine.{Routine}
-use Rattle.geos_image.specs.Parts.{Point, Parts, start_of, total_count}
+use Rattle.geos_image.specs.declared.point.Point.{Point}
+use Rattle.geos_image.specs.Parts.{Parts, start_of, total_count}
 use Rattle.geos_image.specs.Legal.{is_image}
 use Rattle.geos_image.specs.Ranges.{ImageFits, PointFits}
 use Rattle.geos_image.proofs.Instrs.{image_parts}
@@ -28,10 +29,10 @@ use Rattle.geos_infer.specs.Solutions.{RowsHold, StepsHold, call_steps}
 use Rattle.geos_infer.proofs.Ends.{code-length, same-edge}
 
 abbrev pub row_at : Point → Row
-row_at point = point.1
+row_at point = point.row
 
 abbrev pub constant_at : Point → ℕ
-constant_at point = point.2.constant
+constant_at point = point.potential.constant
 
 -- what was mapped
 pub map-get : {X Y : Type 0} (f : X → Y) (xs : List X) (k : ℕ) (y : Y) → slice_get (map f xs) k ≡ Some y → (x : X) × (slice_get xs k ≡ Some x) × (f x ≡ y)
@@ -93,37 +94,37 @@ branching-steps image i _ p q ne b h = pays-steps p q h
 
 module _ (o : Parts) (checked : IsChecked o) where
   -- where an edge leads, by the rules
-  row-fits : (pc : ℕ) (branch : Bool) (point next : Point) → slice_get o.points pc ≡ Some point → (to : ℕ) → Edge (instrs_of o) pc branch to point.0 → slice_get o.points to ≡ Some next
-      → fits (edge_row o point.0 branch point.1) next.1 ≡ true
+  row-fits : (pc : ℕ) (branch : Bool) (point next : Point) → slice_get o.points pc ≡ Some point → (to : ℕ) → Edge (instrs_of o) pc branch to point.instr → slice_get o.points to ≡ Some next
+      → fits (edge_row o point.instr branch point.row) next.row ≡ true
   row-fits pc true point next read to edge at =
       let has = has-point o checked.0 pc point read in
-      let L = leads-branching o checked.0 checked.1 has.0 pc has.1 point has.2 point.0.opcode refl edge.has in
+      let L = leads-branching o checked.0 checked.1 has.0 pc has.1 point has.2 point.instr.opcode refl edge.has in
       let same : L.point ≡ next = same_Some L.point next (sym L.has.read ∙ ap (slice_get o.points) edge.leads ∙ at) in
-      subst (λ (x : Point). fits (row_branching point.0 point.0.opcode point.1) x.1 ≡ true) same L.fits
+      subst (λ (x : Point). fits (row_branching point.instr point.instr.opcode point.row) x.row ≡ true) same L.fits
   row-fits pc false point next read to edge at =
       let has = has-point o checked.0 pc point read in
-      let L = leads-along o checked.0 checked.1 has.0 pc has.1 point has.2 point.0.opcode refl edge.has in
+      let L = leads-along o checked.0 checked.1 has.0 pc has.1 point has.2 point.instr.opcode refl edge.has in
       let same : L.point ≡ next = same_Some L.point next (sym L.has.read ∙ ap (slice_get o.points) edge.leads ∙ at) in
-      subst (λ (x : Point). fits (row_along o point.0 point.0.opcode point.1) x.1 ≡ true) same L.fits
+      subst (λ (x : Point). fits (row_along o point.instr point.instr.opcode point.row) x.row ≡ true) same L.fits
 
-  step-paid : (pc : ℕ) (branch : Bool) (point next : Point) → slice_get o.points pc ≡ Some point → (to : ℕ) → Edge (instrs_of o) pc branch to point.0 → slice_get o.points to ≡ Some next
-      → point.0.opcode ≢ Loop → next.2.constant + 1 + call_steps o point.0 ≤ point.2.constant
+  step-paid : (pc : ℕ) (branch : Bool) (point next : Point) → slice_get o.points pc ≡ Some point → (to : ℕ) → Edge (instrs_of o) pc branch to point.instr → slice_get o.points to ≡ Some next
+      → point.instr.opcode ≢ Loop → next.potential.constant + 1 + call_steps o point.instr ≤ point.potential.constant
   step-paid pc true point next read to edge at ne =
       let has = has-point o checked.0 pc point read in
-      let L = leads-branching o checked.0 checked.1 has.0 pc has.1 point has.2 point.0.opcode refl edge.has in
+      let L = leads-branching o checked.0 checked.1 has.0 pc has.1 point has.2 point.instr.opcode refl edge.has in
       let same : L.point ≡ next = same_Some L.point next (sym L.has.read ∙ ap (slice_get o.points) edge.leads ∙ at) in
-      subst (λ (x : Point). x.2.constant + 1 + call_steps o point.0 ≤ point.2.constant) same (branching-steps o point.0 point.0.opcode point.2 L.point.2 ne edge.has L.pays)
+      subst (λ (x : Point). x.potential.constant + 1 + call_steps o point.instr ≤ point.potential.constant) same (branching-steps o point.instr point.instr.opcode point.potential L.point.potential ne edge.has L.pays)
   step-paid pc false point next read to edge at ne =
       let has = has-point o checked.0 pc point read in
-      let L = leads-along o checked.0 checked.1 has.0 pc has.1 point has.2 point.0.opcode refl edge.has in
+      let L = leads-along o checked.0 checked.1 has.0 pc has.1 point has.2 point.instr.opcode refl edge.has in
       let same : L.point ≡ next = same_Some L.point next (sym L.has.read ∙ ap (slice_get o.points) edge.leads ∙ at) in
-      subst (λ (x : Point). x.2.constant + 1 + call_steps o point.0 ≤ point.2.constant) same (along-steps o point.0 point.0.opcode point.1 point.2 L.point.2 L.pays)
+      subst (λ (x : Point). x.potential.constant + 1 + call_steps o point.instr ≤ point.potential.constant) same (along-steps o point.instr point.instr.opcode point.row point.potential L.point.potential L.pays)
 
   -- the edge of the instruction of a point
-  edge-of : (pc to : ℕ) (branch : Bool) (i : Instr) (point : Point) → slice_get o.points pc ≡ Some point → Edge (instrs_of o) pc branch to i → (i ≡ point.0) × Edge (instrs_of o) pc branch to point.0
+  edge-of : (pc to : ℕ) (branch : Bool) (i : Instr) (point : Point) → slice_get o.points pc ≡ Some point → Edge (instrs_of o) pc branch to i → (i ≡ point.instr) × Edge (instrs_of o) pc branch to point.instr
   edge-of pc to branch i point read edge =
-      let here : slice_get (instrs_of o) pc ≡ Some point.0 = slice_get-map instr_of o.points pc ∙ ap (option_map instr_of) read in
-      let same : i ≡ point.0 = same_Some i point.0 (sym edge.read ∙ here) in
+      let here : slice_get (instrs_of o) pc ≡ Some point.instr = slice_get-map instr_of o.points pc ∙ ap (option_map instr_of) read in
+      let same : i ≡ point.instr = same_Some i point.instr (sym edge.read ∙ here) in
       (same, subst (λ x. Edge (instrs_of o) pc branch to x) same edge)
 
   -- no edge leaves a routine
@@ -138,13 +139,13 @@ module _ (o : Parts) (checked : IsChecked o) where
       let place = place_bounds (start_of o.routines r) spans.routine.count to (leads branch point.0 spans.routine has e.1) in
       omega (arith, place.1)
     where
-      leads : (branch : Bool) (point : Point) (routine : Routine) → HasPoint o r routine pc point → Edge (instrs_of o) pc branch to point.0 → has_place (start_of o.routines r) routine.count to ≡ true
+      leads : (branch : Bool) (point : Point) (routine : Routine) → HasPoint o r routine pc point → Edge (instrs_of o) pc branch to point.instr → has_place (start_of o.routines r) routine.count to ≡ true
       leads true point routine has e =
-          let L = leads-branching o checked.0 checked.1 r pc routine point has point.0.opcode refl e.has in
+          let L = leads-branching o checked.0 checked.1 r pc routine point has point.instr.opcode refl e.has in
           let P : ℕ → Type 0 = λ n. has_place (start_of o.routines r) routine.count n ≡ true in
           subst P e.leads L.has.within
       leads false point routine has e =
-          let L = leads-along o checked.0 checked.1 r pc routine point has point.0.opcode refl e.has in
+          let L = leads-along o checked.0 checked.1 r pc routine point has point.instr.opcode refl e.has in
           let P : ℕ → Type 0 = λ n. has_place (start_of o.routines r) routine.count n ≡ true in
           subst P e.leads L.has.within
 
@@ -170,7 +171,7 @@ module _ (o : Parts) (checked : IsChecked o) where
           let e = edge-of pc to branch i point read edge in
           let k = row-fits pc branch point other read to e.1 at in
           subst (λ (x : Instr). fits (edge_row o x branch row) next ≡ true) (sym e.0)
-          (subst (λ (x : Row). fits (edge_row o point.0 branch x) next ≡ true) is (subst (λ (x : Row). fits (edge_row o point.0 branch point.1) x ≡ true) next_is k))
+          (subst (λ (x : Row). fits (edge_row o point.instr branch x) next ≡ true) is (subst (λ (x : Row). fits (edge_row o point.instr branch point.row) x ≡ true) next_is k))
 
       clean_ : (pc : ℕ) (row : Row) → (point : Point) × (slice_get o.points pc ≡ Some point) × (row_at point ≡ row) → names_empty_slot row ≡ false
       clean_ pc row (point, read, is) =
@@ -178,8 +179,8 @@ module _ (o : Parts) (checked : IsChecked o) where
           let all = passed (tests o has.0 has.1 (start_of o.routines has.0) pc point) (checked.1 has.0 pc has.1 point has.2) in
           subst (λ (x : Row). names_empty_slot x ≡ false) is all.1.0
 
-  constant-at : (pc : ℕ) (point : Point) → slice_get o.points pc ≡ Some point → get_or (map constant_at o.points) pc 0 ≡ point.2.constant
-  constant-at pc point read = get_or_from_slice_get (map constant_at o.points) pc point.2.constant 0 (slice_get-map constant_at o.points pc ∙ ap (option_map constant_at) read)
+  constant-at : (pc : ℕ) (point : Point) → slice_get o.points pc ≡ Some point → get_or (map constant_at o.points) pc 0 ≡ point.potential.constant
+  constant-at pc point read = get_or_from_slice_get (map constant_at o.points) pc point.potential.constant 0 (slice_get-map constant_at o.points pc ∙ ap (option_map constant_at) read)
 
   steps-hold : ((pc : ℕ) (i : Instr) → slice_get (instrs_of o) pc ≡ Some i → i.opcode ≢ Loop) → ImageFits o → StepsHold o (map constant_at o.points)
   steps-hold no_loop fit = record {
@@ -188,9 +189,9 @@ module _ (o : Parts) (checked : IsChecked o) where
         let from = map-get instr_of o.points pc i edge.read in
         let next = item_at o.points to (let len = code-length o in omega arith) in
         let e = edge-of pc to branch i from.0 from.1 edge in
-        let ne : from.0.0.opcode ≢ Loop = no_loop pc from.0.0 e.1.read in
+        let ne : from.0.instr.opcode ≢ Loop = no_loop pc from.0.instr e.1.read in
         let paid = step-paid pc branch from.0 next.0 from.1 to e.1 next.1 ne in
-        let paid_here : next.0.2.constant + 1 + call_steps o i ≤ from.0.2.constant = subst (λ (x : Instr). next.0.2.constant + 1 + call_steps o x ≤ from.0.2.constant) (sym e.0) paid in
+        let paid_here : next.0.potential.constant + 1 + call_steps o i ≤ from.0.potential.constant = subst (λ (x : Instr). next.0.potential.constant + 1 + call_steps o x ≤ from.0.potential.constant) (sym e.0) paid in
         rw (constant-at pc from.0 from.1, constant-at to next.0 next.1) paid_here
         );
     returns = λ pc i there is. (

@@ -4,12 +4,13 @@ use Rattle.geos_opcodes.specs.declared.opcode.Opcode.TheVariants.{Loop}
 use Rattle.geos_image.specs.declared.instr.Instr.{Instr}
 use Rattle.geos_image.specs.declared.row.Row.{Row}
 use Rattle.geos_image.specs.declared.routine.Routine.{Routine}
-use Rattle.geos_image.specs.Parts.{Point, Parts, start_of}
+use Rattle.geos_image.specs.declared.point.Point.{Point}
+use Rattle.geos_image.specs.Parts.{Parts, start_of}
 use Rattle.geos_verify.specs.Rows.{falls_through, branches, row_along, row_branching}
 
 -- the instruction of a point
 abbrev pub instr_of : Point → Instr
-instr_of point = point.0
+instr_of point = point.instr
 
 -- the instructions, by pc
 abbrev pub instrs_of : Parts → List Instr

@@ -42,7 +42,7 @@ target_ahead limit pc i branch = if leads_ahead limit pc i branch then Some (edg
 
 -- this is what the rule says of the instruction at the pc, where no counter counts behind it
 abbrev pub IsAskedAt : Parts → ℕ → List (List ℕ) → (Instr → ℕ) → ℕ → Type 0
-IsAskedAt image pc coefficients rule asked = Forward image → ZerosFrom (pc + 1) coefficients → IfSome (slice_get image.points pc) (λ point. asked ≡ rule point.0)
+IsAskedAt image pc coefficients rule asked = Forward image → ZerosFrom (pc + 1) coefficients → IfSome (slice_get image.points pc) (λ point. asked ≡ rule point.instr)
 
 -- from the numbers from the end of routine r on, those from its start on are counted
 abbrev pub CountsOn : Parts → ℕ → List ℕ → List (List ℕ) → List ℕ → List (List ℕ) → Bool → Type 0

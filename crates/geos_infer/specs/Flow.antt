@@ -88,7 +88,7 @@ leads_back limit pc i branch = has_edge i branch && nat_le limit (edge_end pc i 
 -- what is known next is what is known after the row at the pc has gone along the edge, or there is no join
 abbrev pub Spreads : Parts → ℕ → ℕ → Bool → List (Option Row) → List (Option Row) → Bool → Type 0
 Spreads image limit pc branch known next done =
-    IfSome (slice_get image.points pc) (λ point. let after = spread image limit pc point.0 branch (known_at known pc) known in MatchBool done (after ≡ Some next) (after ≡ None))
+    IfSome (slice_get image.points pc) (λ point. let after = spread image limit pc point.instr branch (known_at known pc) known in MatchBool done (after ≡ Some next) (after ≡ None))
 
 -- where rows have flowed up to routine r, they have flowed through it next; of code without loops
 abbrev pub FlowsOn : Parts → ℕ → List (Option Row) → List (Option Row) → Bool → Type 0

@@ -3,7 +3,8 @@ use Rattle.std.specs.Prelude.{◌≡◌, ℕ, List, [], ◌∷◌, length, Optio
 use Rattle.geos_image.specs.declared.row.Row.{Row}
 use Rattle.geos_image.specs.declared.potential.Potential.{Potential}
 use Rattle.geos_image.specs.declared.routine.Routine.{Routine}
-use Rattle.geos_image.specs.Parts.{Point, Parts}
+use Rattle.geos_image.specs.declared.point.Point.{Point}
+use Rattle.geos_image.specs.Parts.{Parts}
 use Rattle.geos_image.specs.Legal.{is_row}
 use Rattle.geos_infer.specs.Flow.{row_of, known_at}
 
@@ -16,7 +17,7 @@ potential_of n = record { constant = n; coefficients = 0 ∷ 0 ∷ 0 ∷ 0 ∷ [
 pub record PointsOf (image : Parts) (known : List (Option Row)) (steps : List ℕ) (coefficients : List (List ℕ)) (points : List Point) : Type 0 where
   pub len : length points ≡ length image.points
   pub each : (pc : ℕ) (old : Point) → slice_get image.points pc ≡ Some old
-      → slice_get points pc ≡ Some (old.0, row_of (known_at known pc), record { constant = slice_index steps pc; coefficients = slice_index_or coefficients pc [] })
+      → slice_get points pc ≡ Some (record { instr = old.instr; row = row_of (known_at known pc); potential = record { constant = slice_index steps pc; coefficients = slice_index_or coefficients pc [] } })
   pub legal : (pc : ℕ) (old : Point) → slice_get image.points pc ≡ Some old → is_row (row_of (known_at known pc)) ≡ true
 
 -- the routines of the image

@@ -1,7 +1,8 @@
 -- The rows and potentials that are found are enough wherever some are.
 use Rattle.std.specs.Prelude.{◌<◌, ℕ, List, length}
 use Rattle.geos_image.specs.declared.row.Row.{Row}
-use Rattle.geos_image.specs.Parts.{Point, Parts}
+use Rattle.geos_image.specs.declared.point.Point.{Point}
+use Rattle.geos_image.specs.Parts.{Parts}
 use Rattle.geos_image.specs.Ranges.{ImageFits}
 use Rattle.geos_verify.specs.Rules.{IsChecked}
 use Rattle.geos_infer.specs.declared.error.InferError.{InferError}

@@ -16,7 +16,7 @@ pub(crate) fn target(image: &Image, span: Span, pc: u16, branch: bool) -> Option
     requires short { length image.now.points ≤ 4096 }
     requires room { span.end ≤ length image.now.points }
     ensures within { IfSome result (λ to. to < length image.now.points) }
-    ensures ahead { Forward image.now → IfSome (slice_get image.now.points pc) (λ point. result ≡ target_ahead span.end pc point.0 branch) }
+    ensures ahead { Forward image.now → IfSome (slice_get image.now.points pc) (λ point. result ≡ target_ahead span.end pc point.instr branch) }
 {
     let i = image.instr(pc);
     if leads_ahead(span.end, pc, i, branch) {

@@ -65,7 +65,7 @@ pub(crate) fn leads_ahead(limit: u16, pc: u16, i: &Instr, branch: bool) -> bool
 pub(crate) fn leads_back(image: &Image, limit: u16, pc: u16, branch: bool) -> bool
     requires there { pc < length image.now.points }
     requires short { length image.now.points ≤ 4096 }
-    ensures test { IfSome (slice_get image.now.points pc) (λ point. result ≡ leads_back limit pc point.0 branch) }
+    ensures test { IfSome (slice_get image.now.points pc) (λ point. result ≡ leads_back limit pc point.instr branch) }
     ensures never { Forward image.now → result ≡ false }
 {
     let i = image.instr(pc);

@@ -10,7 +10,7 @@ use crate::count::count;
 use crate::error::InferError;
 use crate::flow::row_of;
 use crate::rounds::find_rows;
-use geos_image::{Image, Instr, Potential, Routine, Row};
+use geos_image::{Image, Point, Potential, Routine, Row};
 use std::alloc::{AllocError, Global};
 
 /// The instructions of the image, with the rows and potentials that were found.
@@ -20,7 +20,7 @@ fn points_of(
     known: &[Option<Row>],
     steps: &[u32],
     coefficients: &[[u32; 4]],
-) -> Result<Vec<(Instr, Row, Potential)>, AllocError>
+) -> Result<Vec<Point>, AllocError>
     requires known { length known.now ≡ length image.now.points }
     requires steps { length steps.now ≡ length image.now.points }
     requires coefficients { length coefficients.now ≡ length image.now.points }
@@ -32,7 +32,11 @@ fn points_of(
             constant: steps[pc as usize],
             coefficients: coefficients[pc as usize],
         };
-        points.push((*image.instr(pc), row_of(&known[pc as usize]), potential))?;
+        points.push(Point {
+            instr: *image.instr(pc),
+            row: row_of(&known[pc as usize]),
+            potential,
+        })?;
     }
     Ok(points)
 }

@@ -47,7 +47,7 @@ fn fed_by(
     requires short { length image.now.points ≤ 4096 }
     requires known { length known.now ≡ length image.now.points }
     requires from { length from.old ≡ length image.now.points }
-    requires back { IfSome (slice_get image.now.points pc) (λ point. leads_back limit pc point.0 branch ≡ true) }
+    requires back { IfSome (slice_get image.now.points pc) (λ point. leads_back limit pc point.instr branch ≡ true) }
 {
     let Some(row) = known[pc as usize] else {
         return Feedback::Nothing;

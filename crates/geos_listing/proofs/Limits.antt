@@ -5,7 +5,8 @@ use Rattle.std.specs.List.{All, list_all}
 use Rattle.std.specs.Option.{option_map_or}
 use Rattle.std.proofs.lemmas.Bool.{and_parts}
 use Rattle.std.proofs.lemmas.List.Elements.{All-more}
-use Rattle.geos_image.specs.Parts.{Parts, Point}
+use Rattle.geos_image.specs.declared.point.Point.{Point}
+use Rattle.geos_image.specs.Parts.{Parts}
 use Rattle.geos_image.specs.declared.instr.Instr.{Instr}
 use Rattle.geos_image.specs.Legal.{is_image, is_instr, is_row, is_point}
 use Rattle.geos_image.proofs.Instrs.{is_below, image_parts}
@@ -47,19 +48,19 @@ All-one_more P xs k lt before there =
     All-more P xs k at.0 lt before (subst P (sym (get_or-at xs k at.0 at.0 at.1)) here)
 
 -- an instruction of a legal image keeps the limits
-pub KeepsLimits-at : (image : Parts) (pc : ℕ) (i : Instr) → is_image image ≡ true → pc < length image.points → IfSome (slice_get image.points pc) (λ point. i ≡ point.0) → KeepsLimits image i
+pub KeepsLimits-at : (image : Parts) (pc : ℕ) (i : Instr) → is_image image ≡ true → pc < length image.points → IfSome (slice_get image.points pc) (λ point. i ≡ point.instr) → KeepsLimits image i
 KeepsLimits-at image pc i legal lt there =
     let n = length image.points in
     let r = length image.routines in
     let at = item_at image.points pc lt in
-    let same : i ≡ at.0.0 = rw at.1 at there in
+    let same : i ≡ at.0.instr = rw at.1 at there in
     let point = list_all-get (is_point r n) image.points pc at.0 (image_parts image legal).points at.1 in
-    rw same (keeps_limits image at.0.0 ((and_parts (is_instr r n at.0.0) (is_row at.0.1) point).0))
+    rw same (keeps_limits image at.0.instr ((and_parts (is_instr r n at.0.instr) (is_row at.0.row) point).0))
 
 -- what is said of the instruction at a pc
-pub instr-at : (f : Instr → List ℕ) (points : List Point) (pc : ℕ) (i : Instr) → pc < length points → IfSome (slice_get points pc) (λ point. i ≡ point.0)
-    → option_map_or (λ point. f point.0) (slice_get points pc) [] ≡ f i
+pub instr-at : (f : Instr → List ℕ) (points : List Point) (pc : ℕ) (i : Instr) → pc < length points → IfSome (slice_get points pc) (λ point. i ≡ point.instr)
+    → option_map_or (λ point. f point.instr) (slice_get points pc) [] ≡ f i
 instr-at f points pc i lt there =
     let at = item_at points pc lt in
-    let same : i ≡ at.0.0 = rw at.1 at there in
+    let same : i ≡ at.0.instr = rw at.1 at there in
     rw (at.1, same) refl

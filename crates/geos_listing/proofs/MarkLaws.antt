@@ -9,7 +9,7 @@ use Rattle.geos_opcodes.specs.declared.opcode.Operand.{Operand}
 use Rattle.geos_opcodes.specs.declared.opcode.Operand.TheVariants.{Unused, Word, Counter, Slot, Pointer, Number, Shift, Routine, Label}
 use Rattle.geos_image.specs.Fields.{TargetFits}
 use Rattle.geos_opcodes.specs.Facts.{operands_of}
-use Rattle.geos_image.specs.Parts.{Point}
+use Rattle.geos_image.specs.declared.point.Point.{Point}
 use Rattle.geos_listing.specs.Instrs.{target_if, target_of, is_at, is_target}
 use Rattle.geos_listing.proofs.Limits.{item_at, get_or-at}
 
@@ -22,25 +22,25 @@ or-true true = refl
 or-true false = refl
 
 -- one more instruction, and where it may lead
-is_target-more : (points : List Point) (k pc : ℕ) (i : Instr) (target : Option ℕ) → k < length points → IfSome (slice_get points k) (λ point. i ≡ point.0) → target ≡ target_of i
+is_target-more : (points : List Point) (k pc : ℕ) (i : Instr) (target : Option ℕ) → k < length points → IfSome (slice_get points k) (λ point. i ≡ point.instr) → target ≡ target_of i
     → is_target (take (k + 1) points) pc ≡ (is_target (take k points) pc || is_at pc target)
 is_target-more points k pc i target lt there leads =
     let at = item_at points k lt in
-    let same : i ≡ at.0.0 = rw at.1 at there in
+    let same : i ≡ at.0.instr = rw at.1 at there in
     let here : get_or points k at.0 ≡ at.0 = get_or-at points k at.0 at.0 at.1 in
-    list_any_more (λ (point : Point). is_at pc (target_of point.0)) points k at.0 lt
-    ∙ ap (λ (point : Point). is_target (take k points) pc || is_at pc (target_of point.0)) here
+    list_any_more (λ (point : Point). is_at pc (target_of point.instr)) points k at.0 lt
+    ∙ ap (λ (point : Point). is_target (take k points) pc || is_at pc (target_of point.instr)) here
     ∙ ap (λ (j : Instr). is_target (take k points) pc || is_at pc (target_of j)) (sym same)
     ∙ ap (λ (t : Option ℕ). is_target (take k points) pc || is_at pc t) (sym leads)
 
 -- an instruction without a label
-pub is_target-none : (points : List Point) (k pc : ℕ) (i : Instr) (mark : Bool) → k < length points → IfSome (slice_get points k) (λ point. i ≡ point.0) → None ≡ target_of i
+pub is_target-none : (points : List Point) (k pc : ℕ) (i : Instr) (mark : Bool) → k < length points → IfSome (slice_get points k) (λ point. i ≡ point.instr) → None ≡ target_of i
     → mark ≡ is_target (take k points) pc → mark ≡ is_target (take (k + 1) points) pc
 is_target-none points k pc i mark lt there leads so_far =
     so_far ∙ or-false (is_target (take k points) pc) ∙ sym (is_target-more points k pc i None lt there leads)
 
 -- an instruction whose label is marked
-pub is_target-some : (points : List Point) (k pc : ℕ) (i : Instr) (target : ℕ) (marks : List Bool) → k < length points → IfSome (slice_get points k) (λ point. i ≡ point.0) → Some target ≡ target_of i
+pub is_target-some : (points : List Point) (k pc : ℕ) (i : Instr) (target : ℕ) (marks : List Bool) → k < length points → IfSome (slice_get points k) (λ point. i ≡ point.instr) → Some target ≡ target_of i
     → target < length marks → get_or marks pc false ≡ is_target (take k points) pc → get_or (set marks target true) pc false ≡ is_target (take (k + 1) points) pc
 is_target-some points k pc i target marks lt there leads within so_far =
     let before = is_target (take k points) pc in

@@ -7,7 +7,8 @@ use Rattle.geos_opcodes.specs.declared.opcode.Operand.{Operand}
 use Rattle.geos_opcodes.specs.declared.opcode.Operand.TheVariants.{Unused, Word, Counter, Slot, Pointer, Number, Shift, Routine, Label}
 use Rattle.geos_image.specs.declared.instr.Instr.{Instr}
 use Rattle.geos_image.specs.declared.routine.Routine as routine
-use Rattle.geos_image.specs.Parts.{Point, Parts}
+use Rattle.geos_image.specs.declared.point.Point.{Point}
+use Rattle.geos_image.specs.Parts.{Parts}
 use Rattle.geos_image.specs.Legal.{text_end}
 use Rattle.geos_opcodes.specs.Facts.{operands_of, limit, word_of}
 use Rattle.geos_opcodes.specs.Facts.{word_of}
@@ -74,7 +75,7 @@ is_at pc (Some n) = n == pc
 
 -- whether some instruction may lead to the pc by its label
 abbrev pub is_target : List Point → ℕ → Bool
-is_target points pc = list_any (λ point. is_at pc (target_of point.0)) points
+is_target points pc = list_any (λ point. is_at pc (target_of point.instr)) points
 
 -- a mark for each pc: whether some instruction may lead to it by its label
 abbrev pub MarksTargets : List Point → List Bool → Type 0

@@ -17,7 +17,7 @@ routine_line r = codes "routine " ++ name_of r ++ public_text r.public ++ codes 
 
 -- the instruction at a pc, behind its label where another leads to it
 abbrev pub place_text : Parts → ℕ → List ℕ
-place_text image pc = label_line image.points pc ++ option_map_or (λ point. instr_line image.routines point.0) (slice_get image.points pc) []
+place_text image pc = label_line image.points pc ++ option_map_or (λ point. instr_line image.routines point.instr) (slice_get image.points pc) []
 
 -- a routine: its line, its entry row and its exit row, and its instructions from a pc
 abbrev pub routine_text : Parts → ℕ → Routine → List ℕ

@@ -16,14 +16,14 @@ module _ (moment : Moment) where
 
   pub canew-well : StepsWell moment op.Canew
   canew-well is choice =
-      let i = G.point.0 in
+      let i = G.point.instr in
       let name = name_at s i.a in
       making-well moment (unfaulted-here moment op.Canew is).right (along_edge moment op.Canew is refl) (branch_edge moment op.Canew is refl) (canew name i.imm) ((create_array i.imm (chunks_at s.memory name)).chunks) (rows_keep_memory.by_canew name i.imm (fields-here moment op.Canew is).4) (λ choice. (refl, refl, λ r. refl)) choice
       (array-handle-most choice s.memory name i.imm)
 
   pub caadd-well : StepsWell moment op.Caadd
   caadd-well is choice =
-      let i = G.point.0 in
+      let i = G.point.instr in
       let name = name_at s i.a in
       let c = word s i.b in
       let n = word s i.c in
@@ -31,7 +31,7 @@ module _ (moment : Moment) where
 
   pub cains-well : StepsWell moment op.Cains
   cains-well is choice =
-      let i = G.point.0 in
+      let i = G.point.instr in
       let name = name_at s i.a in
       let c = word s i.b in
       let index = word s i.c in
@@ -40,7 +40,7 @@ module _ (moment : Moment) where
 
   pub cadel-well : StepsWell moment op.Cadel
   cadel-well is choice =
-      let i = G.point.0 in
+      let i = G.point.instr in
       let name = name_at s i.a in
       let c = word s i.b in
       let index = word s i.c in
@@ -48,14 +48,14 @@ module _ (moment : Moment) where
 
   pub cacount-well : StepsWell moment op.Cacount
   cacount-well is choice =
-      let i = G.point.0 in
+      let i = G.point.instr in
       let name = name_at s i.a in
       let c = word s i.c in
       telling-well moment LooksAt refl i.b 65535 (along_edge moment op.Cacount is refl) (branch_edge moment op.Cacount is refl) (cacount name c) choice (refl, refl, λ r. refl) (count-most choice s.memory name c G.sound.memory)
 
   pub caelt-well : StepsWell moment op.Caelt
   caelt-well is choice =
-      let i = G.point.0 in
+      let i = G.point.instr in
       let name = name_at s i.a in
       let c = word s i.c in
       let index = word s i.d in
@@ -64,14 +64,14 @@ module _ (moment : Moment) where
 
   pub cazero-well : StepsWell moment op.Cazero
   cazero-well is choice =
-      let i = G.point.0 in
+      let i = G.point.instr in
       let name = name_at s i.a in
       let c = word s i.b in
       rechunking-well moment (unfaulted-here moment op.Cazero is).right (along_edge moment op.Cazero is refl) (branch_edge moment op.Cazero is refl) (cazero name c) ((clear_array c (chunks_at s.memory name)).chunks) (rows_keep_memory.by_cazero name c) (λ choice. (refl, refl, λ r. refl)) choice
 
   pub caresize-well : StepsWell moment op.Caresize
   caresize-well is choice =
-      let i = G.point.0 in
+      let i = G.point.instr in
       let name = name_at s i.a in
       let c = word s i.b in
       let index = word s i.c in

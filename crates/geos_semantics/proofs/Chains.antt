@@ -1,6 +1,7 @@
 -- What is kept for the routines that are to be returned to, and how many they may be.
 use Rattle.std.proofs.Common.{◌≡◌, ℕ, zero, suc, ◌+◌, ◌*◌, ◌≤◌, ◌<◌, true, Some, List, [], ◌∷◌, ◌++◌, length, slice_get, refl, ap, arith, set, get_or}
-use Rattle.geos_image.specs.Parts.{Point, Parts}
+use Rattle.geos_image.specs.declared.point.Point.{Point}
+use Rattle.geos_image.specs.Parts.{Parts}
 use Rattle.geos_verify.specs.Touched.{touches}
 use Rattle.geos_semantics.specs.Lists.{dot}
 use Rattle.geos_semantics.specs.State.{Frame}
@@ -14,7 +15,7 @@ dot-spent (c ∷ cs) (k ∷ ks) zero v e = rw e (let a : 0 * v + dot cs ks ≡ 0
 dot-spent (c ∷ cs) (k ∷ ks) (suc i) v e = ap (λ n. c * k + n) (dot-spent cs ks i v e)
 
 -- what the potential at a point is
-pub value_at-is : (image : Parts) (pc : ℕ) (counters : List ℕ) (point : Point) → slice_get image.points pc ≡ Some point → value_at image pc counters ≡ value point.2 counters
+pub value_at-is : (image : Parts) (pc : ℕ) (counters : List ℕ) (point : Point) → slice_get image.points pc ≡ Some point → value_at image pc counters ≡ value point.potential counters
 value_at-is image pc counters point e = rw (e, value_at) refl
 
 -- a counter that routine r touches is counted on by none of those that it returns to
@@ -25,7 +26,7 @@ kept-set image root r (frame ∷ frames) counters k v chain few touched =
     let back = chain.0 in
     let same : value_at image frame.pc (set counters k v) ≡ value_at image frame.pc counters =
     rw (value_at-is image frame.pc (set counters k v) back.point back.has.read, value_at-is image frame.pc counters back.point back.has.read)
-    (ap (λ n. back.point.2.constant + n) (dot-spent back.point.2.coefficients counters k v (back.spent k few touched))) in
+    (ap (λ n. back.point.potential.constant + n) (dot-spent back.point.potential.coefficients counters k v (back.spent k few touched))) in
     omega (arith, same, kept-set image root frame.routine frames counters k v chain.1 few (back.told k few touched))
 
 -- each call goes to a lower routine, so no more are under way than there are below the root

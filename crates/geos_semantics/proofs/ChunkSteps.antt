@@ -29,7 +29,7 @@ module _ (moment : Moment) where
 
   pub lalloc-well : StepsWell moment op.Lalloc
   lalloc-well is choice =
-      let i = G.point.0 in
+      let i = G.point.instr in
       let name = name_at s i.a in
       let n = word s i.c in
       making-well moment (unfaulted-here moment op.Lalloc is).right (along_edge moment op.Lalloc is refl) (branch_edge moment op.Lalloc is refl) (lalloc name n) (with_new (chunks_at s.memory name) n) (rows_keep_memory.by_lalloc name n) (λ choice. (refl, refl, λ r. refl)) choice
@@ -37,14 +37,14 @@ module _ (moment : Moment) where
 
   pub lfree-well : StepsWell moment op.Lfree
   lfree-well is choice =
-      let i = G.point.0 in
+      let i = G.point.instr in
       let name = name_at s i.a in
       let c = word s i.b in
       rechunking-well moment (unfaulted-here moment op.Lfree is).right (along_edge moment op.Lfree is refl) (branch_edge moment op.Lfree is refl) (lfree name c) (without (chunks_at s.memory name) c) (rows_keep_memory.by_lfree name c) (λ choice. (refl, refl, λ r. refl)) choice
 
   pub lrealloc-well : StepsWell moment op.Lrealloc
   lrealloc-well is choice =
-      let i = G.point.0 in
+      let i = G.point.instr in
       let name = name_at s i.a in
       let c = word s i.b in
       let n = word s i.c in
@@ -52,7 +52,7 @@ module _ (moment : Moment) where
 
   pub lins-well : StepsWell moment op.Lins
   lins-well is choice =
-      let i = G.point.0 in
+      let i = G.point.instr in
       let name = name_at s i.a in
       let c = word s i.b in
       let at = word s i.c in
@@ -61,7 +61,7 @@ module _ (moment : Moment) where
 
   pub ldel-well : StepsWell moment op.Ldel
   ldel-well is choice =
-      let i = G.point.0 in
+      let i = G.point.instr in
       let name = name_at s i.a in
       let c = word s i.b in
       let at = word s i.c in
@@ -71,20 +71,20 @@ module _ (moment : Moment) where
   -- no contraction is refused
   pub lcontract-well : StepsWell moment op.Lcontract
   lcontract-well is choice =
-      let name = name_at s G.point.0.a in
+      let name = name_at s G.point.instr.a in
       let F = fine-rechunked moment (unfaulted-here moment op.Lcontract is).right (lcontract name) (chunks_at s.memory name) (rows_keep_memory.by_lcontract name) (λ choice. (refl, refl, λ r. refl)) choice in
       fine-goes moment _ (s.pc + 1) _ (along_edge moment op.Lcontract is refl) (F.1 refl)
 
   pub lsize-well : StepsWell moment op.Lsize
   lsize-well is choice =
-      let i = G.point.0 in
+      let i = G.point.instr in
       let name = name_at s i.a in
       let c = word s i.c in
       telling-well moment LooksAt refl i.b 65535 (along_edge moment op.Lsize is refl) (branch_edge moment op.Lsize is refl) (lsize name c) choice (refl, refl, λ r. refl) (λ e. length-most s.memory name c G.sound.memory)
 
   pub deref-well : StepsWell moment op.Deref
   deref-well is choice =
-      let i = G.point.0 in
+      let i = G.point.instr in
       let name = name_at s i.a in
       let c = word s i.c in
       pointing-well moment (unfaulted-here moment op.Deref is).right (along_edge moment op.Deref is refl) (branch_edge moment op.Deref is refl) (deref name c i.imm) choice (refl, refl, λ r. refl) refl

@@ -47,105 +47,105 @@ module _ (moment : Moment) where
 
   -- the row where a call is done that may have moved chunks of the block in slot a
   abbrev pub moved_row : Row
-  moved_row = record G.point.1 { pointers = pointers_kept G.point.0 Moves G.point.1 }
+  moved_row = record G.point.row { pointers = pointers_kept G.point.instr Moves G.point.row }
 
   -- a call that changes nothing leaves a state that is fine
-  pub fine-unchanged : Fine base s (record s { memory = s.memory; pointers = kept_pointers G.point.0.a Nothing s.pointers }) G.point.1
-  fine-unchanged = fine-same base s G.point.1 G.sound G.meets G.point.0.a
+  pub fine-unchanged : Fine base s (record s { memory = s.memory; pointers = kept_pointers G.point.instr.a Nothing s.pointers }) G.point.row
+  fine-unchanged = fine-same base s G.point.row G.sound G.meets G.point.instr.a
 
   -- where one is refused, its number is in w7
-  refused-goes : (t : State) (slot : SlotUse) → Leads image s.routine G.routine G.point.0.target (rows.refused G.point.0 slot G.point.1) (pays G.point.2) → (r : Refusal)
-      → Fine base s t (record G.point.1 { pointers = pointers_kept G.point.0 slot G.point.1 }) → Well moment (Next (goto G.point.0.target (with_word 7 (refusal_number r) t)))
+  refused-goes : (t : State) (slot : SlotUse) → Leads image s.routine G.routine G.point.instr.target (rows.refused G.point.instr slot G.point.row) (pays G.point.potential) → (r : Refusal)
+      → Fine base s t (record G.point.row { pointers = pointers_kept G.point.instr slot G.point.row }) → Well moment (Next (goto G.point.instr.target (with_word 7 (refusal_number r) t)))
   refused-goes t slot L r F =
-      fine-goes moment (with_word 7 (refusal_number r) t) G.point.0.target (rows.refused G.point.0 slot G.point.1) L
-      (fine-word base s t (record G.point.1 { pointers = pointers_kept G.point.0 slot G.point.1 }) 7 (refusal_number r) 15 F (refusal_number-le r))
+      fine-goes moment (with_word 7 (refusal_number r) t) G.point.instr.target (rows.refused G.point.instr slot G.point.row) L
+      (fine-word base s t (record G.point.row { pointers = pointers_kept G.point.instr slot G.point.row }) 7 (refusal_number r) 15 F (refusal_number-le r))
 
   -- a call, from what it does where it is refused and where it is done
   pub calls-well : {A : Type 0} (slot : SlotUse) (next : Row) (row : Call A) (put : A → State → State) (choice : Choice)
-      → Leads image s.routine G.routine (s.pc + 1) next (pays G.point.2)
-      → Leads image s.routine G.routine G.point.0.target (rows.refused G.point.0 slot G.point.1) (pays G.point.2)
-      → ((r : Refusal) → Fine base s (after_call (row choice s.memory) G.point.0.a ((row choice s.memory).left r) s) (record G.point.1 { pointers = pointers_kept G.point.0 slot G.point.1 }))
-      → (first_refusal (row choice s.memory).refusals ≡ None → Fine base s (put (row choice s.memory).answer (after_call (row choice s.memory) G.point.0.a (row choice s.memory).after s)) next)
-      → (put (row choice s.memory).answer (after_call (row choice s.memory) G.point.0.a (row choice s.memory).after s)).pc ≡ s.pc
-      → Well moment (calls row put choice G.point.0 s)
+      → Leads image s.routine G.routine (s.pc + 1) next (pays G.point.potential)
+      → Leads image s.routine G.routine G.point.instr.target (rows.refused G.point.instr slot G.point.row) (pays G.point.potential)
+      → ((r : Refusal) → Fine base s (after_call (row choice s.memory) G.point.instr.a ((row choice s.memory).left r) s) (record G.point.row { pointers = pointers_kept G.point.instr slot G.point.row }))
+      → (first_refusal (row choice s.memory).refusals ≡ None → Fine base s (put (row choice s.memory).answer (after_call (row choice s.memory) G.point.instr.a (row choice s.memory).after s)) next)
+      → (put (row choice s.memory).answer (after_call (row choice s.memory) G.point.instr.a (row choice s.memory).after s)).pc ≡ s.pc
+      → Well moment (calls row put choice G.point.instr s)
   calls-well slot next row put choice L B on_refusal on_done same_pc = go (first_refusal (row choice s.memory).refusals) refl
     where
       go : (o : Option Refusal) → first_refusal (row choice s.memory).refusals ≡ o
-          → Well moment (answered G.point.0 put (record s { pointers = kept_pointers G.point.0.a (row choice s.memory).stale s.pointers }) (come_to o (row choice s.memory).left (row choice s.memory).answer (row choice s.memory).after))
+          → Well moment (answered G.point.instr put (record s { pointers = kept_pointers G.point.instr.a (row choice s.memory).stale s.pointers }) (come_to o (row choice s.memory).left (row choice s.memory).answer (row choice s.memory).after))
       go None e =
-          let t = put (row choice s.memory).answer (after_call (row choice s.memory) G.point.0.a (row choice s.memory).after s) in
+          let t = put (row choice s.memory).answer (after_call (row choice s.memory) G.point.instr.a (row choice s.memory).after s) in
           subst (λ n. Well moment (Next (goto (n + 1) t))) (sym same_pc) (fine-goes moment t (s.pc + 1) next L (on_done e))
-      go (Some r) e = refused-goes (after_call (row choice s.memory) G.point.0.a ((row choice s.memory).left r) s) slot B r (on_refusal r)
+      go (Some r) e = refused-goes (after_call (row choice s.memory) G.point.instr.a ((row choice s.memory).left r) s) slot B r (on_refusal r)
 
   -- Calls that change nothing
 
   -- one that tells a number, which a word gets
-  pub telling-well : (slot : SlotUse) → pointers_kept G.point.0 slot G.point.1 ≡ G.point.1.pointers → (k most : ℕ) → Leads image s.routine G.routine (s.pc + 1) (with_bound k most G.point.1) (pays G.point.2)
-      → Leads image s.routine G.routine G.point.0.target (rows.refused G.point.0 slot G.point.1) (pays G.point.2)
+  pub telling-well : (slot : SlotUse) → pointers_kept G.point.instr slot G.point.row ≡ G.point.row.pointers → (k most : ℕ) → Leads image s.routine G.routine (s.pc + 1) (with_bound k most G.point.row) (pays G.point.potential)
+      → Leads image s.routine G.routine G.point.instr.target (rows.refused G.point.instr slot G.point.row) (pays G.point.potential)
       → (row : Call ℕ) (choice : Choice) → LeavesAll (row choice s.memory) s.memory → (first_refusal (row choice s.memory).refusals ≡ None → (row choice s.memory).answer ≤ most)
-      → Well moment (calls row (with_word k) choice G.point.0 s)
+      → Well moment (calls row (with_word k) choice G.point.instr s)
   telling-well slot keeps k most L B row choice all le =
-      calls-well slot (with_bound k most G.point.1) row (with_word k) choice L B
+      calls-well slot (with_bound k most G.point.row) row (with_word k) choice L B
       (λ r. rw (keeps, all.1, all.2 r) fine-unchanged)
-      (λ e. rw (all.1, all.0) (fine-word base s _ G.point.1 k (row choice s.memory).answer most fine-unchanged (le e)))
+      (λ e. rw (all.1, all.0) (fine-word base s _ G.point.row k (row choice s.memory).answer most fine-unchanged (le e)))
       refl
 
   -- the row where pointer b is set to bytes of the block in slot a
   abbrev pub pointing_row : Row
-  pointing_row = record G.point.1 { pointers = set G.point.1.pointers G.point.0.b (Some (record { slot = G.point.0.a; least = G.point.0.imm })) }
+  pointing_row = record G.point.row { pointers = set G.point.row.pointers G.point.instr.b (Some (record { slot = G.point.instr.a; least = G.point.instr.imm })) }
 
   -- one that refers to bytes of that block, which the pointer gets
-  pub pointing-well : is_none (kind_at s G.point.0.a) ≡ false → Leads image s.routine G.routine (s.pc + 1) pointing_row (pays G.point.2)
-      → Leads image s.routine G.routine G.point.0.target (rows.refused G.point.0 LooksAt G.point.1) (pays G.point.2)
-      → (row : Call Reference) (choice : Choice) → LeavesAll (row choice s.memory) s.memory → (row choice s.memory).answer.name ≡ name_at s G.point.0.a
-      → (first_refusal (row choice s.memory).refusals ≡ None → IsInChunk s.memory (row choice s.memory).answer × (G.point.0.imm ≤ (row choice s.memory).answer.len))
-      → Well moment (calls row (leading G.point.0.b G.point.0.a) choice G.point.0 s)
+  pub pointing-well : is_none (kind_at s G.point.instr.a) ≡ false → Leads image s.routine G.routine (s.pc + 1) pointing_row (pays G.point.potential)
+      → Leads image s.routine G.routine G.point.instr.target (rows.refused G.point.instr LooksAt G.point.row) (pays G.point.potential)
+      → (row : Call Reference) (choice : Choice) → LeavesAll (row choice s.memory) s.memory → (row choice s.memory).answer.name ≡ name_at s G.point.instr.a
+      → (first_refusal (row choice s.memory).refusals ≡ None → IsInChunk s.memory (row choice s.memory).answer × (G.point.instr.imm ≤ (row choice s.memory).answer.len))
+      → Well moment (calls row (leading G.point.instr.b G.point.instr.a) choice G.point.instr s)
   pointing-well full L B row choice all named led =
-      let i = G.point.0 in
+      let i = G.point.instr in
       let held = held-at s i.a full in
       let target : SlotReference = record { slot = i.a; reference = (row choice s.memory).answer } in
       calls-well LooksAt pointing_row row (leading i.b i.a) choice L B
       (λ r. rw (all.1, all.2 r) fine-unchanged)
-      (λ e. rw (all.1, all.0) (fine-pointing base s G.point.1 G.sound G.meets _ i.b target i.imm fine-unchanged (held ∙ ap Some (sym named), (led e).0) (led e).1))
+      (λ e. rw (all.1, all.0) (fine-pointing base s G.point.row G.sound G.meets _ i.b target i.imm fine-unchanged (held ∙ ap Some (sym named), (led e).0) (led e).1))
       refl
 
   -- Calls that change chunks of the block in slot a
 
   -- what such a call leaves is fine, where it is refused and where it is done
-  pub fine-rechunked : {A : Type 0} → is_none (kind_at s G.point.0.a) ≡ false → (row : Call A) (chunks : List (Option (List ℕ))) → Keeps row → Rechunks row (name_at s G.point.0.a) chunks s.memory → (choice : Choice)
-      → ((r : Refusal) → Fine base s (after_call (row choice s.memory) G.point.0.a ((row choice s.memory).left r) s) moved_row)
-      × (first_refusal (row choice s.memory).refusals ≡ None → Fine base s (after_call (row choice s.memory) G.point.0.a (row choice s.memory).after s) moved_row)
+  pub fine-rechunked : {A : Type 0} → is_none (kind_at s G.point.instr.a) ≡ false → (row : Call A) (chunks : List (Option (List ℕ))) → Keeps row → Rechunks row (name_at s G.point.instr.a) chunks s.memory → (choice : Choice)
+      → ((r : Refusal) → Fine base s (after_call (row choice s.memory) G.point.instr.a ((row choice s.memory).left r) s) moved_row)
+      × (first_refusal (row choice s.memory).refusals ≡ None → Fine base s (after_call (row choice s.memory) G.point.instr.a (row choice s.memory).after s) moved_row)
   fine-rechunked full row chunks keeps rechunks choice =
       let shape = rechunks choice in
-      let i = G.point.0 in
+      let i = G.point.instr in
       let name = name_at s i.a in
       let held = held-at s i.a full in (
-        (λ r. rw (shape.1, shape.2 r) (fine-moved base s G.point.1 G.sound G.meets i name s.memory held (leaves-all i.a (InBlock name) s.memory G.sound.memory))),
+        (λ r. rw (shape.1, shape.2 r) (fine-moved base s G.point.row G.sound G.meets i name s.memory held (leaves-all i.a (InBlock name) s.memory G.sound.memory))),
         (λ e.
             let legal_after = after-legal (row choice s.memory) (keeps choice s.memory G.sound.memory) e in
             let legal_chunks = subst IsMemory shape.0 legal_after in
-            rw (shape.1, shape.0) (fine-moved base s G.point.1 G.sound G.meets i name (with_chunks s.memory name chunks) held (leaves-chunks base s G.point.1 G.sound G.meets i.a name chunks legal_chunks))),
+            rw (shape.1, shape.0) (fine-moved base s G.point.row G.sound G.meets i name (with_chunks s.memory name chunks) held (leaves-chunks base s G.point.row G.sound G.meets i.a name chunks legal_chunks))),
       )
 
   -- one that puts no answer anywhere
-  pub rechunking-well : {A : Type 0} → is_none (kind_at s G.point.0.a) ≡ false → Leads image s.routine G.routine (s.pc + 1) moved_row (pays G.point.2)
-      → Leads image s.routine G.routine G.point.0.target (rows.refused G.point.0 Moves G.point.1) (pays G.point.2)
-      → (row : Call A) (chunks : List (Option (List ℕ))) → Keeps row → Rechunks row (name_at s G.point.0.a) chunks s.memory → (choice : Choice) → Well moment (calls row nowhere choice G.point.0 s)
+  pub rechunking-well : {A : Type 0} → is_none (kind_at s G.point.instr.a) ≡ false → Leads image s.routine G.routine (s.pc + 1) moved_row (pays G.point.potential)
+      → Leads image s.routine G.routine G.point.instr.target (rows.refused G.point.instr Moves G.point.row) (pays G.point.potential)
+      → (row : Call A) (chunks : List (Option (List ℕ))) → Keeps row → Rechunks row (name_at s G.point.instr.a) chunks s.memory → (choice : Choice) → Well moment (calls row nowhere choice G.point.instr s)
   rechunking-well full L B row chunks keeps rechunks choice = let F = fine-rechunked full row chunks keeps rechunks choice in calls-well Moves moved_row row nowhere choice L B F.0 F.1 refl
 
   -- one that tells the handle of a new chunk
-  pub making-well : is_none (kind_at s G.point.0.a) ≡ false → Leads image s.routine G.routine (s.pc + 1) (with_bound G.point.0.b 65535 moved_row) (pays G.point.2)
-      → Leads image s.routine G.routine G.point.0.target (rows.refused G.point.0 Moves G.point.1) (pays G.point.2)
-      → (row : Call ℕ) (chunks : List (Option (List ℕ))) → Keeps row → Rechunks row (name_at s G.point.0.a) chunks s.memory → (choice : Choice)
-      → (first_refusal (row choice s.memory).refusals ≡ None → (row choice s.memory).answer ≤ 65535) → Well moment (calls row (with_word G.point.0.b) choice G.point.0 s)
+  pub making-well : is_none (kind_at s G.point.instr.a) ≡ false → Leads image s.routine G.routine (s.pc + 1) (with_bound G.point.instr.b 65535 moved_row) (pays G.point.potential)
+      → Leads image s.routine G.routine G.point.instr.target (rows.refused G.point.instr Moves G.point.row) (pays G.point.potential)
+      → (row : Call ℕ) (chunks : List (Option (List ℕ))) → Keeps row → Rechunks row (name_at s G.point.instr.a) chunks s.memory → (choice : Choice)
+      → (first_refusal (row choice s.memory).refusals ≡ None → (row choice s.memory).answer ≤ 65535) → Well moment (calls row (with_word G.point.instr.b) choice G.point.instr s)
   making-well full L B row chunks keeps rechunks choice most =
       let F = fine-rechunked full row chunks keeps rechunks choice in
-      calls-well Moves (with_bound G.point.0.b 65535 moved_row) row (with_word G.point.0.b) choice L B F.0
-      (λ e. fine-word base s _ moved_row G.point.0.b (row choice s.memory).answer 65535 (F.1 e) (most e))
+      calls-well Moves (with_bound G.point.instr.b 65535 moved_row) row (with_word G.point.instr.b) choice L B F.0
+      (λ e. fine-word base s _ moved_row G.point.instr.b (row choice s.memory).answer 65535 (F.1 e) (most e))
       refl
 
   -- bytes are written into a chunk that a pointer leads into
-  pub fine-written : (ref : Reference) (at : ℕ) (ws : List ℕ) → IsInChunk s.memory ref → AreBytes ws → Fine base s (record s { memory = written s.memory ref at ws; pointers = kept_pointers G.point.0.a Nothing s.pointers }) G.point.1
+  pub fine-written : (ref : Reference) (at : ℕ) (ws : List ℕ) → IsInChunk s.memory ref → AreBytes ws → Fine base s (record s { memory = written s.memory ref at ws; pointers = kept_pointers G.point.instr.a Nothing s.pointers }) G.point.row
   fine-written ref at ws here are =
       let legal_after = rows_keep_memory.by_store ref at ws are quiet s.memory G.sound.memory in
-      fine-nothing base s G.point.1 G.sound G.meets G.point.0.a (written s.memory ref at ws) (leaves-written base s G.point.1 G.sound G.meets G.point.0.a ref at ws here legal_after)
+      fine-nothing base s G.point.row G.sound G.meets G.point.instr.a (written s.memory ref at ws) (leaves-written base s G.point.row G.sound G.meets G.point.instr.a ref at ws here legal_after)

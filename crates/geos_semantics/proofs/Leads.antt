@@ -7,7 +7,8 @@ use Rattle.geos_opcodes.specs.declared.opcode.Opcode.TheVariants.{Call}
 use Rattle.geos_image.specs.declared.row.Row.{Row}
 use Rattle.geos_image.specs.declared.potential.Potential.{Potential}
 use Rattle.geos_image.specs.declared.routine.Routine.{Routine}
-use Rattle.geos_image.specs.Parts.{Point, Parts, start_of}
+use Rattle.geos_image.specs.declared.point.Point.{Point}
+use Rattle.geos_image.specs.Parts.{Parts, start_of}
 use Rattle.geos_image.specs.Legal.{is_name, is_named, is_row, is_routine, are_routines, is_image}
 use Rattle.geos_image.proofs.Instrs.{image_parts, instr_fits}
 use Rattle.geos_verify.specs.Rows.{falls_through, branches, at_point, row_along, row_branching, fits, is_plain}
@@ -23,8 +24,8 @@ use Rattle.geos_verify.proofs.Places.{place_bounds, place_true, item_at}
 pub record Leads (image : Parts) (r : ℕ) (routine : Routine) (to : ℕ) (row : Row) (paid : Potential → Bool) : Type 0 where
   pub point : Point
   pub has : HasPoint image r routine to point
-  pub fits : fits row point.1 ≡ true
-  pub pays : paid point.2 ≡ true
+  pub fits : fits row point.row ≡ true
+  pub pays : paid point.potential ≡ true
 
 -- a part of a test that is false, where the other part is true
 and-false : (a b : Bool) → (a && b) ≡ false → a ≡ true → b ≡ false
@@ -70,78 +71,78 @@ module _ (image : Parts) (legal : is_image image ≡ true) (accepted : Accepted 
   rules_pass = none-refuses image r routine (start_of image.routines r) pc point (accepted r pc routine point has)
 
   -- the edge to the next instruction
-  pub leads-along : (opcode : Opcode) → point.0.opcode ≡ opcode → falls_through opcode ≡ true → Leads image r routine (pc + 1) (row_along image point.0 opcode point.1) (pays_along image point.0 opcode point.1 point.2)
+  pub leads-along : (opcode : Opcode) → point.instr.opcode ≡ opcode → falls_through opcode ≡ true → Leads image r routine (pc + 1) (row_along image point.instr opcode point.row) (pays_along image point.instr opcode point.row point.potential)
   unfolding leaves_routine edge_misfits misfits_at edge_unpaid unpaid_along
   leads-along opcode is falls =
-      let i = point.0 in
+      let i = point.instr in
       let falls_here : falls_through i.opcode ≡ true = ap falls_through is ∙ falls in
       let stays = or_parts (falls_through i.opcode && not (has_place (start_of image.routines r) routine.count (pc + 1))) _ rules_pass.stays in
       let within = not-false _ (and-false (falls_through i.opcode) _ stays.0 falls_here) in
       let next = point_at image r routine (pc + 1) legal has.there within in
-      let fit = or_parts (falls_through i.opcode && not (at_point image (pc + 1) (λ q. fits (row_along image i i.opcode point.1) q.1))) _ rules_pass.edge in
+      let fit = or_parts (falls_through i.opcode && not (at_point image (pc + 1) (λ q. fits (row_along image i i.opcode point.row) q.row))) _ rules_pass.edge in
       let fit_here = not-false _ (and-false (falls_through i.opcode) _ fit.0 falls_here) in
-      let pay = or_parts _ (returns i.opcode && point.2.constant == 0) rules_pass.paid in
-      let pay_along = or_parts (falls_through i.opcode && not (at_point image (pc + 1) (λ q. pays_along image i i.opcode point.1 point.2 q.2))) _ pay.0 in
+      let pay = or_parts _ (returns i.opcode && point.potential.constant == 0) rules_pass.paid in
+      let pay_along = or_parts (falls_through i.opcode && not (at_point image (pc + 1) (λ q. pays_along image i i.opcode point.row point.potential q.potential))) _ pay.0 in
       let pay_here = not-false _ (and-false (falls_through i.opcode) _ pay_along.0 falls_here) in
-      let P : Opcode → Type 0 = λ o. Leads image r routine (pc + 1) (row_along image i o point.1) (pays_along image i o point.1 point.2) in
+      let P : Opcode → Type 0 = λ o. Leads image r routine (pc + 1) (row_along image i o point.row) (pays_along image i o point.row point.potential) in
       subst P is (record {
         point = next.0;
         has = next.1;
-        fits = sym (at_point-is image (pc + 1) next.0 (λ q. fits (row_along image i i.opcode point.1) q.1) next.1.read) ∙ fit_here;
-        pays = sym (at_point-is image (pc + 1) next.0 (λ q. pays_along image i i.opcode point.1 point.2 q.2) next.1.read) ∙ pay_here;
+        fits = sym (at_point-is image (pc + 1) next.0 (λ q. fits (row_along image i i.opcode point.row) q.row) next.1.read) ∙ fit_here;
+        pays = sym (at_point-is image (pc + 1) next.0 (λ q. pays_along image i i.opcode point.row point.potential q.potential) next.1.read) ∙ pay_here;
       })
 
   -- the edge to the target
-  pub leads-branching : (opcode : Opcode) → point.0.opcode ≡ opcode → branches opcode ≡ true → Leads image r routine point.0.target (row_branching point.0 opcode point.1) (pays_branching point.0 opcode point.2)
+  pub leads-branching : (opcode : Opcode) → point.instr.opcode ≡ opcode → branches opcode ≡ true → Leads image r routine point.instr.target (row_branching point.instr opcode point.row) (pays_branching point.instr opcode point.potential)
   unfolding leaves_routine edge_misfits misfits_at edge_unpaid unpaid_branching
   leads-branching opcode is branch =
-      let i = point.0 in
+      let i = point.instr in
       let branch_here : branches i.opcode ≡ true = ap branches is ∙ branch in
       let stays = or_parts _ (branches i.opcode && not (has_place (start_of image.routines r) routine.count i.target)) rules_pass.stays in
       let within = not-false _ (and-false (branches i.opcode) _ stays.1 branch_here) in
       let next = point_at image r routine i.target legal has.there within in
-      let fit = or_parts _ (branches i.opcode && not (at_point image i.target (λ q. fits (row_branching i i.opcode point.1) q.1))) rules_pass.edge in
+      let fit = or_parts _ (branches i.opcode && not (at_point image i.target (λ q. fits (row_branching i i.opcode point.row) q.row))) rules_pass.edge in
       let fit_here = not-false _ (and-false (branches i.opcode) _ fit.1 branch_here) in
-      let pay = or_parts _ (returns i.opcode && point.2.constant == 0) rules_pass.paid in
-      let pay_branch = or_parts _ (branches i.opcode && not (at_point image i.target (λ q. pays_branching i i.opcode point.2 q.2))) pay.0 in
+      let pay = or_parts _ (returns i.opcode && point.potential.constant == 0) rules_pass.paid in
+      let pay_branch = or_parts _ (branches i.opcode && not (at_point image i.target (λ q. pays_branching i i.opcode point.potential q.potential))) pay.0 in
       let pay_here = not-false _ (and-false (branches i.opcode) _ pay_branch.1 branch_here) in
-      let P : Opcode → Type 0 = λ o. Leads image r routine i.target (row_branching i o point.1) (pays_branching i o point.2) in
+      let P : Opcode → Type 0 = λ o. Leads image r routine i.target (row_branching i o point.row) (pays_branching i o point.potential) in
       subst P is (record {
         point = next.0;
         has = next.1;
-        fits = sym (at_point-is image i.target next.0 (λ q. fits (row_branching i i.opcode point.1) q.1) next.1.read) ∙ fit_here;
-        pays = sym (at_point-is image i.target next.0 (λ q. pays_branching i i.opcode point.2 q.2) next.1.read) ∙ pay_here;
+        fits = sym (at_point-is image i.target next.0 (λ q. fits (row_branching i i.opcode point.row) q.row) next.1.read) ∙ fit_here;
+        pays = sym (at_point-is image i.target next.0 (λ q. pays_branching i i.opcode point.potential q.potential) next.1.read) ∙ pay_here;
       })
 
   -- a routine that is called is there, and lower, and the row fits its entry row
-  pub may_call : calls point.0.opcode ≡ true → (callee : Routine) × (slice_get image.routines point.0.imm ≡ Some callee) × (point.0.imm < r) × (fits point.1 callee.entry ≡ true)
+  pub may_call : calls point.instr.opcode ≡ true → (callee : Routine) × (slice_get image.routines point.instr.imm ≡ Some callee) × (point.instr.imm < r) × (fits point.row callee.entry ≡ true)
   unfolding call_misfits
   may_call is =
-      let i = point.0 in
+      let i = point.instr in
       let misfits = or_parts (not (nat_lt i.imm r)) _ (and-false (calls i.opcode) _ rules_pass.call is) in
       let here = not-false _ misfits.1 in
       let found = item_at image.routines i.imm (called-there i.opcode refl is) in
-      (found.0, found.1, ltb-true i.imm r (not-false _ misfits.0), sym (at_routine-is image i.imm found.0 (λ callee. fits point.1 callee.entry) found.1) ∙ here)
+      (found.0, found.1, ltb-true i.imm r (not-false _ misfits.0), sym (at_routine-is image i.imm found.0 (λ callee. fits point.row callee.entry) found.1) ∙ here)
     where
-      called-there : (opcode : Opcode) → point.0.opcode ≡ opcode → calls opcode ≡ true → point.0.imm < length image.routines
+      called-there : (opcode : Opcode) → point.instr.opcode ≡ opcode → calls opcode ≡ true → point.instr.imm < length image.routines
       called-there Call same is = (instr_fits image pc point legal has.read).2 (rw same refl)
       called-there _ same is = absurd cc
 
   -- a return is as the exit row says, and is paid for
-  pub may_return : returns point.0.opcode ≡ true → (fits point.1 routine.exit ≡ true) × (1 ≤ point.2.constant)
+  pub may_return : returns point.instr.opcode ≡ true → (fits point.row routine.exit ≡ true) × (1 ≤ point.potential.constant)
   unfolding exit_misfits edge_unpaid
   may_return is =
-      let fit = not-false _ (and-false (returns point.0.opcode) _ rules_pass.exit is) in
-      let pay = or_parts _ (returns point.0.opcode && point.2.constant == 0) rules_pass.paid in
-      let some = eqb-false point.2.constant 0 (and-false (returns point.0.opcode) _ pay.1 is) in
+      let fit = not-false _ (and-false (returns point.instr.opcode) _ rules_pass.exit is) in
+      let pay = or_parts _ (returns point.instr.opcode && point.potential.constant == 0) rules_pass.paid in
+      let some = eqb-false point.potential.constant 0 (and-false (returns point.instr.opcode) _ pay.1 is) in
       (fit, omega (arith, some))
 
   -- where a routine begins, its entry row fits the row, and its budget pays
-  pub may_begin : pc ≡ start_of image.routines r → (fits routine.entry point.1 ≡ true) × (is_within routine.budget point.2 ≡ true) × (routine.public ≡ true → (is_plain routine.entry ≡ true) × (is_plain routine.exit ≡ true))
+  pub may_begin : pc ≡ start_of image.routines r → (fits routine.entry point.row ≡ true) × (is_within routine.budget point.potential ≡ true) × (routine.public ≡ true → (is_plain routine.entry ≡ true) × (is_plain routine.exit ≡ true))
   unfolding entry_misfits over_budget
   may_begin is =
       let here : (pc == start_of image.routines r) ≡ true = eq-eqb pc (start_of image.routines r) is in
-      let entry = or_parts (not (fits routine.entry point.1)) _ (and-false (pc == start_of image.routines r) _ rules_pass.entry here) in
+      let entry = or_parts (not (fits routine.entry point.row)) _ (and-false (pc == start_of image.routines r) _ rules_pass.entry here) in
       (not-false _ entry.0, not-false _ (and-false (pc == start_of image.routines r) _ rules_pass.budget here), λ public. and_parts (is_plain routine.entry) (is_plain routine.exit) (not-false _ (and-false routine.public _ entry.1 public)))
 
 -- a routine has an instruction where it begins

@@ -53,53 +53,53 @@ module _ (moment : Moment) where
 
   -- Reads and writes whose offset the verifier knows of
 
-  read-well : (width : Width) (at : ℕ) (choice : Choice) → Leads image s.routine G.routine (s.pc + 1) (with_bound G.point.0.a (most_in width) G.point.1) (pays G.point.2) → Well moment (reads width at choice G.point.0 s)
+  read-well : (width : Width) (at : ℕ) (choice : Choice) → Leads image s.routine G.routine (s.pc + 1) (with_bound G.point.instr.a (most_in width) G.point.row) (pays G.point.potential) → Well moment (reads width at choice G.point.instr s)
   read-well width at choice L = go width L
     where
-      go : (width : Width) → Leads image s.routine G.routine (s.pc + 1) (with_bound G.point.0.a (most_in width) G.point.1) (pays G.point.2) → Well moment (reads width at choice G.point.0 s)
-      go Byte L = fine-goes moment _ (s.pc + 1) _ L (fine-word base s _ G.point.1 G.point.0.a _ 255 (fine-unchanged moment) (load-most Byte (reference_at s G.point.0.b) at choice s.memory G.sound.memory))
-      go Both L = fine-goes moment _ (s.pc + 1) _ L (fine-word base s _ G.point.1 G.point.0.a _ 65535 (fine-unchanged moment) (load-most Both (reference_at s G.point.0.b) at choice s.memory G.sound.memory))
+      go : (width : Width) → Leads image s.routine G.routine (s.pc + 1) (with_bound G.point.instr.a (most_in width) G.point.row) (pays G.point.potential) → Well moment (reads width at choice G.point.instr s)
+      go Byte L = fine-goes moment _ (s.pc + 1) _ L (fine-word base s _ G.point.row G.point.instr.a _ 255 (fine-unchanged moment) (load-most Byte (reference_at s G.point.instr.b) at choice s.memory G.sound.memory))
+      go Both L = fine-goes moment _ (s.pc + 1) _ L (fine-word base s _ G.point.row G.point.instr.a _ 65535 (fine-unchanged moment) (load-most Both (reference_at s G.point.instr.b) at choice s.memory G.sound.memory))
 
   pub ldb-well : StepsWell moment op.Ldb
-  ldb-well is choice = read-well Byte G.point.0.imm choice (along_edge moment op.Ldb is refl)
+  ldb-well is choice = read-well Byte G.point.instr.imm choice (along_edge moment op.Ldb is refl)
 
   pub ldw-well : StepsWell moment op.Ldw
-  ldw-well is choice = read-well Both G.point.0.imm choice (along_edge moment op.Ldw is refl)
+  ldw-well is choice = read-well Both G.point.instr.imm choice (along_edge moment op.Ldw is refl)
 
   pub ldxb-well : StepsWell moment op.Ldxb
-  ldxb-well is choice = read-well Byte (word s G.point.0.c) choice (along_edge moment op.Ldxb is refl)
+  ldxb-well is choice = read-well Byte (word s G.point.instr.c) choice (along_edge moment op.Ldxb is refl)
 
   pub ldxw-well : StepsWell moment op.Ldxw
-  ldxw-well is choice = read-well Both (word s G.point.0.c) choice (along_edge moment op.Ldxw is refl)
+  ldxw-well is choice = read-well Both (word s G.point.instr.c) choice (along_edge moment op.Ldxw is refl)
 
   -- the low bytes of a word go where a pointer leads
-  stored-fine : (width : Width) (at : ℕ) → is_none (pointer s G.point.0.b) ≡ false
-      → Fine base s (record s { memory = written s.memory (reference_at s G.point.0.b) at (low_bytes width (word s G.point.0.a)); pointers = kept_pointers G.point.0.a Nothing s.pointers }) G.point.1
-  stored-fine width at fresh = fine-written moment (reference_at s G.point.0.b) at (low_bytes width (word s G.point.0.a)) (led-at base s G.point.0.b G.sound fresh) (low-bytes width (word s G.point.0.a))
+  stored-fine : (width : Width) (at : ℕ) → is_none (pointer s G.point.instr.b) ≡ false
+      → Fine base s (record s { memory = written s.memory (reference_at s G.point.instr.b) at (low_bytes width (word s G.point.instr.a)); pointers = kept_pointers G.point.instr.a Nothing s.pointers }) G.point.row
+  stored-fine width at fresh = fine-written moment (reference_at s G.point.instr.b) at (low_bytes width (word s G.point.instr.a)) (led-at base s G.point.instr.b G.sound fresh) (low-bytes width (word s G.point.instr.a))
 
-  write-well : (width : Width) (at : ℕ) (choice : Choice) → is_none (pointer s G.point.0.b) ≡ false → Leads image s.routine G.routine (s.pc + 1) G.point.1 (pays G.point.2) → Well moment (writes width at choice G.point.0 s)
-  write-well width at choice fresh L = fine-goes moment _ (s.pc + 1) G.point.1 L (stored-fine width at fresh)
+  write-well : (width : Width) (at : ℕ) (choice : Choice) → is_none (pointer s G.point.instr.b) ≡ false → Leads image s.routine G.routine (s.pc + 1) G.point.row (pays G.point.potential) → Well moment (writes width at choice G.point.instr s)
+  write-well width at choice fresh L = fine-goes moment _ (s.pc + 1) G.point.row L (stored-fine width at fresh)
 
   pub stb-well : StepsWell moment op.Stb
-  stb-well is choice = write-well Byte G.point.0.imm choice (unfaulted-here moment op.Stb is).fresh (along_edge moment op.Stb is refl)
+  stb-well is choice = write-well Byte G.point.instr.imm choice (unfaulted-here moment op.Stb is).fresh (along_edge moment op.Stb is refl)
 
   pub stw-well : StepsWell moment op.Stw
-  stw-well is choice = write-well Both G.point.0.imm choice (unfaulted-here moment op.Stw is).fresh (along_edge moment op.Stw is refl)
+  stw-well is choice = write-well Both G.point.instr.imm choice (unfaulted-here moment op.Stw is).fresh (along_edge moment op.Stw is refl)
 
   pub stxb-well : StepsWell moment op.Stxb
-  stxb-well is choice = write-well Byte (word s G.point.0.c) choice (unfaulted-here moment op.Stxb is).fresh (along_edge moment op.Stxb is refl)
+  stxb-well is choice = write-well Byte (word s G.point.instr.c) choice (unfaulted-here moment op.Stxb is).fresh (along_edge moment op.Stxb is refl)
 
   pub stxw-well : StepsWell moment op.Stxw
-  stxw-well is choice = write-well Both (word s G.point.0.c) choice (unfaulted-here moment op.Stxw is).fresh (along_edge moment op.Stxw is refl)
+  stxw-well is choice = write-well Both (word s G.point.instr.c) choice (unfaulted-here moment op.Stxw is).fresh (along_edge moment op.Stxw is refl)
 
   -- Reads and writes whose offset is tested
 
-  tested-read-well : (width : Width) (choice : Choice) → Leads image s.routine G.routine (s.pc + 1) (with_bound G.point.0.a (most_in width) G.point.1) (pays G.point.2)
-      → Leads image s.routine G.routine G.point.0.target (rows.refused G.point.0 NoSlot G.point.1) (pays G.point.2) → Well moment (reads_within width (word s G.point.0.c) choice G.point.0 s)
+  tested-read-well : (width : Width) (choice : Choice) → Leads image s.routine G.routine (s.pc + 1) (with_bound G.point.instr.a (most_in width) G.point.row) (pays G.point.potential)
+      → Leads image s.routine G.routine G.point.instr.target (rows.refused G.point.instr NoSlot G.point.row) (pays G.point.potential) → Well moment (reads_within width (word s G.point.instr.c) choice G.point.instr s)
   tested-read-well width choice L B =
-      let ref = reference_at s G.point.0.b in
-      let at = word s G.point.0.c in
-      telling-well moment NoSlot refl G.point.0.a (most_in width) L B (within ref at width (load width ref at)) choice (load-leaves width ref at choice s.memory) (λ e. load-most width ref at choice s.memory G.sound.memory)
+      let ref = reference_at s G.point.instr.b in
+      let at = word s G.point.instr.c in
+      telling-well moment NoSlot refl G.point.instr.a (most_in width) L B (within ref at width (load width ref at)) choice (load-leaves width ref at choice s.memory) (λ e. load-most width ref at choice s.memory G.sound.memory)
 
   pub ldcb-well : StepsWell moment op.Ldcb
   ldcb-well is choice = tested-read-well Byte choice (along_edge moment op.Ldcb is refl) (branch_edge moment op.Ldcb is refl)
@@ -107,12 +107,12 @@ module _ (moment : Moment) where
   pub ldcw-well : StepsWell moment op.Ldcw
   ldcw-well is choice = tested-read-well Both choice (along_edge moment op.Ldcw is refl) (branch_edge moment op.Ldcw is refl)
 
-  tested-write-well : (width : Width) (choice : Choice) → is_none (pointer s G.point.0.b) ≡ false → Leads image s.routine G.routine (s.pc + 1) G.point.1 (pays G.point.2)
-      → Leads image s.routine G.routine G.point.0.target (rows.refused G.point.0 NoSlot G.point.1) (pays G.point.2) → Well moment (writes_within width (word s G.point.0.c) choice G.point.0 s)
+  tested-write-well : (width : Width) (choice : Choice) → is_none (pointer s G.point.instr.b) ≡ false → Leads image s.routine G.routine (s.pc + 1) G.point.row (pays G.point.potential)
+      → Leads image s.routine G.routine G.point.instr.target (rows.refused G.point.instr NoSlot G.point.row) (pays G.point.potential) → Well moment (writes_within width (word s G.point.instr.c) choice G.point.instr s)
   tested-write-well width choice fresh L B =
-      let ref = reference_at s G.point.0.b in
-      let at = word s G.point.0.c in
-      calls-well moment NoSlot G.point.1 (within ref at width (store ref at (low_bytes width (word s G.point.0.a)))) nowhere choice L B (λ r. fine-unchanged moment) (λ e. stored-fine width at fresh) refl
+      let ref = reference_at s G.point.instr.b in
+      let at = word s G.point.instr.c in
+      calls-well moment NoSlot G.point.row (within ref at width (store ref at (low_bytes width (word s G.point.instr.a)))) nowhere choice L B (λ r. fine-unchanged moment) (λ e. stored-fine width at fresh) refl
 
   pub stcb-well : StepsWell moment op.Stcb
   stcb-well is choice = tested-write-well Byte choice (unfaulted-here moment op.Stcb is).fresh (along_edge moment op.Stcb is refl) (branch_edge moment op.Stcb is refl)
@@ -124,7 +124,7 @@ module _ (moment : Moment) where
 
   pub movp-well : StepsWell moment op.Movp
   movp-well is choice =
-      let i = G.point.0 in
+      let i = G.point.instr in
       fine-goes moment (with_pointer i.a (pointer s i.b) s) (s.pc + 1) _ (along_edge moment op.Movp is refl) (record {
         sound = record {
           memory = G.sound.memory;
@@ -136,7 +136,7 @@ module _ (moment : Moment) where
         meets = record {
           words = G.meets.words;
           slots = G.meets.slots;
-          pointers = each2-set PointerMeets s.pointers G.point.1.pointers i.a (pointer s i.b) (pointer_at G.point.1 i.b) G.meets.pointers (pointer-known s G.point.1 i.b G.meets);
+          pointers = each2-set PointerMeets s.pointers G.point.row.pointers i.a (pointer s i.b) (pointer_at G.point.row i.b) G.meets.pointers (pointer-known s G.point.row i.b G.meets);
           pairs = G.meets.pairs;
         };
         routine = refl;
@@ -146,15 +146,15 @@ module _ (moment : Moment) where
 
   pub copy-well : StepsWell moment op.Copy
   copy-well is choice =
-      let i = G.point.0 in
+      let i = G.point.instr in
       let fresh = (or_parts (is_none (pointer s i.a)) (is_none (pointer s i.b)) (unfaulted-here moment op.Copy is).fresh).0 in
       let from = reference_at s i.b in
       let ws = take i.imm (named_bytes s.memory from) in
-      fine-goes moment _ (s.pc + 1) G.point.1 (along_edge moment op.Copy is refl)
+      fine-goes moment _ (s.pc + 1) G.point.row (along_edge moment op.Copy is refl)
       (fine-written moment (reference_at s i.a) 0 ws (led-at base s i.a G.sound fresh) (All-take (λ b. b < 256) i.imm (named_bytes s.memory from) (named_bytes-legal s.memory from G.sound.memory)))
 
   pub plen-well : StepsWell moment op.Plen
   plen-well is choice =
-      let i = G.point.0 in
+      let i = G.point.instr in
       let led = led-at base s i.b G.sound (unfaulted-here moment op.Plen is).fresh in
-      fine-goes moment _ (s.pc + 1) _ (along_edge moment op.Plen is refl) (fine-word base s s G.point.1 i.a (reference_at s i.b).len 65535 (fine-here moment) (led-most s.memory (reference_at s i.b) G.sound.memory led))
+      fine-goes moment _ (s.pc + 1) _ (along_edge moment op.Plen is refl) (fine-word base s s G.point.row i.a (reference_at s i.b).len 65535 (fine-here moment) (led-most s.memory (reference_at s i.b) G.sound.memory led))

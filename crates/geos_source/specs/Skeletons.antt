@@ -3,7 +3,8 @@ use Rattle.std.specs.Prelude.{[], ◌∷◌, map}
 use Rattle.geos_image.specs.declared.instr.Instr.{Instr}
 use Rattle.geos_image.specs.declared.routine.Routine.{Routine}
 use Rattle.geos_image.specs.Open.{open_row}
-use Rattle.geos_image.specs.Parts.{Point, Parts}
+use Rattle.geos_image.specs.declared.point.Point.{Point}
+use Rattle.geos_image.specs.Parts.{Parts}
 use Rattle.geos_source.specs.declared.progress.TextRoutine.{TextRoutine}
 use Rattle.geos_source.specs.Texts.{Code}
 
@@ -13,7 +14,7 @@ routine_of r = r.routine
 
 -- an instruction where nothing is known and nothing is to be paid
 abbrev pub blank_point : Instr → Point
-blank_point i = (i, open_row, record { constant = 0; coefficients = 0 ∷ 0 ∷ 0 ∷ 0 ∷ [] })
+blank_point i = record { instr = i; row = open_row; potential = record { constant = 0; coefficients = 0 ∷ 0 ∷ 0 ∷ 0 ∷ [] } }
 
 -- the code as an image, with such a point for each instruction
 abbrev pub skeleton : Code → Parts

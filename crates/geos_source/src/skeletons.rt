@@ -7,7 +7,7 @@ ghost use Rattle.geos_source.specs.Skeletons.{routine_of, blank_point, skeleton}
 
 use crate::parser::Parsed;
 use crate::progress::TextRoutine;
-use geos_image::{Image, Instr, Potential, Routine, Row};
+use geos_image::{Image, Instr, Point, Potential, Routine, Row};
 use std::alloc::{AllocError, Global};
 
 /// The routines without their lines.
@@ -22,7 +22,7 @@ fn routines_of(alloc: Global, routines: &[TextRoutine]) -> Result<Vec<Routine>, 
 }
 
 /// A point for each instruction, with the open row and no potential.
-fn points_of(alloc: Global, instrs: &[Instr]) -> Result<Vec<(Instr, Row, Potential)>, AllocError>
+fn points_of(alloc: Global, instrs: &[Instr]) -> Result<Vec<Point>, AllocError>
     ensures { IfOk result (λ points. points.items ≡ map blank_point instrs.now) }
 {
     let mut points = Vec::new(alloc);
@@ -31,7 +31,11 @@ fn points_of(alloc: Global, instrs: &[Instr]) -> Result<Vec<(Instr, Row, Potenti
             constant: 0,
             coefficients: [0; 4],
         };
-        points.push((*instr, Row::open(), potential))?;
+        points.push(Point {
+            instr: *instr,
+            row: Row::open(),
+            potential,
+        })?;
     }
     Ok(points)
 }

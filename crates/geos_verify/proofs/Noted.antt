@@ -7,7 +7,8 @@ use Rattle.std.proofs.lemmas.Bool.{or_parts, not-false, ltb-true, cases_lt, eq-e
 use Rattle.std.proofs.lemmas.Option.{slice_get_within}
 use Rattle.geos_image.specs.declared.instr.Instr.{Instr}
 use Rattle.geos_image.specs.declared.routine.Routine.{Routine}
-use Rattle.geos_image.specs.Parts.{Point, Parts, start_of}
+use Rattle.geos_image.specs.declared.point.Point.{Point}
+use Rattle.geos_image.specs.Parts.{Parts, start_of}
 use Rattle.geos_image.proofs.Starts.{start_of-next, start_of-le}
 use Rattle.geos_verify.specs.Rules.{HasPoint, AcceptedBelow, call_misfits}
 use Rattle.geos_verify.specs.Touched.{calls, points_of, touches_here, touches_within, touches, touched_by, counts, noted, NotesBelow, touches_by, noted_by}
@@ -53,7 +54,7 @@ points_of-has image r j routine point there e =
 
 -- the calls of the routines below a limit go to lower routines
 abbrev pub CallsGoDown : Parts → ℕ → Type 0
-CallsGoDown image limit = (c pc : ℕ) (routine : Routine) (point : Point) → c < limit → HasPoint image c routine pc point → calls point.0.opcode ≡ true → point.0.imm < c
+CallsGoDown image limit = (c pc : ℕ) (routine : Routine) (point : Point) → c < limit → HasPoint image c routine pc point → calls point.instr.opcode ≡ true → point.instr.imm < c
 
 -- each point of a routine is one that some routine by this number has
 point-has : (image : Parts) (r j : ℕ) (point : Point) → slice_get (points_of image r) j ≡ Some point → (routine : Routine) × (pc : ℕ) × HasPoint image r routine pc point
@@ -75,25 +76,25 @@ module _ (image : Parts) (limit : ℕ) (down : CallsGoDown image limit) (k : ℕ
     where
       each : (c : ℕ) → c < limit → ((b : ℕ) → b < c → touches_within d image k b ≡ touches_within e image k b) → touches_within (suc d) image k c ≡ touches_within (suc e) image k c
       each c lt below =
-          list_any-same (λ point. touches_here (touches_within d image k) k point.0) (λ point. touches_here (touches_within e image k) k point.0) (points_of image c)
+          list_any-same (λ point. touches_here (touches_within d image k) k point.instr) (λ point. touches_here (touches_within e image k) k point.instr) (points_of image c)
           (λ j point there.
           let has = point-has image c j point there in
-          touches_here-same (touches_within d image k) (touches_within e image k) k point.0 (λ is. below point.0.imm (down c has.1 has.0 point lt has.2 is)))
+          touches_here-same (touches_within d image k) (touches_within e image k) k point.instr (λ is. below point.instr.imm (down c has.1 has.0 point lt has.2 is)))
 
   -- what a routine touches, by what the routines that it calls do
-  pub touches-step : (r : ℕ) → r < limit → r < length image.routines → touches image k r ≡ list_any (λ point. touches_here (touches image k) k point.0) (points_of image r)
+  pub touches-step : (r : ℕ) → r < limit → r < length image.routines → touches image k r ≡ list_any (λ point. touches_here (touches image k) k point.instr) (points_of image r)
   touches-step r lt within = by_depth (length image.routines) within refl
     where
-      by_depth : (n : ℕ) → r < n → length image.routines ≡ n → touches_within n image k r ≡ list_any (λ point. touches_here (touches_within n image k) k point.0) (points_of image r)
+      by_depth : (n : ℕ) → r < n → length image.routines ≡ n → touches_within n image k r ≡ list_any (λ point. touches_here (touches_within n image k) k point.instr) (points_of image r)
       by_depth zero le is = absurd (omega arith)
       by_depth (suc n) le is =
-          list_any-same (λ point. touches_here (touches_within n image k) k point.0) (λ point. touches_here (touches_within (suc n) image k) k point.0) (points_of image r) at_point
+          list_any-same (λ point. touches_here (touches_within n image k) k point.instr) (λ point. touches_here (touches_within (suc n) image k) k point.instr) (points_of image r) at_point
         where
-          at_point : (j : ℕ) (point : Point) → slice_get (points_of image r) j ≡ Some point → touches_here (touches_within n image k) k point.0 ≡ touches_here (touches_within (suc n) image k) k point.0
+          at_point : (j : ℕ) (point : Point) → slice_get (points_of image r) j ≡ Some point → touches_here (touches_within n image k) k point.instr ≡ touches_here (touches_within (suc n) image k) k point.instr
           at_point j point there =
               let has = point-has image r j point there in
-              touches_here-same (touches_within n image k) (touches_within (suc n) image k) k point.0
-              (λ is. let lower = down r has.1 has.0 point lt has.2 is in stable n (suc n) point.0.imm (omega (arith, lower)) (omega (arith, lower)) (omega (arith, lower)))
+              touches_here-same (touches_within n image k) (touches_within (suc n) image k) k point.instr
+              (λ is. let lower = down r has.1 has.0 point lt has.2 is in stable n (suc n) point.instr.imm (omega (arith, lower)) (omega (arith, lower)) (omega (arith, lower)))
 
 -- where nothing is refused, calls go down
 pub calls-go_down : (image : Parts) (r limit : ℕ) → AcceptedBelow image limit → ((c : ℕ) (routine : Routine) → c < r → slice_get image.routines c ≡ Some routine → start_of image.routines c + routine.count ≤ limit)
@@ -103,20 +104,20 @@ calls-go_down image r limit accepted ends c pc routine point lt has is =
     let place = place_bounds (start_of image.routines c) routine.count pc has.within in
     let end = ends c routine lt has.there in
     let pass = none-refuses image c routine (start_of image.routines c) pc point (accepted c pc routine point (omega (arith, place.1, end)) has) in
-    let misfit = and-false (calls point.0.opcode) (not (nat_lt point.0.imm c) || _) pass.call is in
-    ltb-true point.0.imm c (not-false (nat_lt point.0.imm c) (or_parts (not (nat_lt point.0.imm c)) _ misfit).0)
+    let misfit = and-false (calls point.instr.opcode) (not (nat_lt point.instr.imm c) || _) pass.call is in
+    ltb-true point.instr.imm c (not-false (nat_lt point.instr.imm c) (or_parts (not (nat_lt point.instr.imm c)) _ misfit).0)
 
 -- a table that says what the routines below r touch says it of r too, once r's own is noted by it
 pub notes-more : (image : Parts) (table : List (List Bool)) (r : ℕ) → CallsGoDown image (suc r) → r < length image.routines → NotesBelow image table r
     → (k : ℕ) → k < 4 → touches_by image table k r ≡ touches image k r
 notes-more image table r down within notes k few =
-    list_any-same (λ point. touches_here (noted table k) k point.0) (λ point. touches_here (touches image k) k point.0) (points_of image r) at_point
+    list_any-same (λ point. touches_here (noted table k) k point.instr) (λ point. touches_here (touches image k) k point.instr) (points_of image r) at_point
     ∙ sym (touches-step image (suc r) down k r (omega arith) within)
   where
-    at_point : (j : ℕ) (point : Point) → slice_get (points_of image r) j ≡ Some point → touches_here (noted table k) k point.0 ≡ touches_here (touches image k) k point.0
+    at_point : (j : ℕ) (point : Point) → slice_get (points_of image r) j ≡ Some point → touches_here (noted table k) k point.instr ≡ touches_here (touches image k) k point.instr
     at_point j point there =
         let has = point-has image r j point there in
-        touches_here-same (noted table k) (touches image k) k point.0 (λ is. notes point.0.imm k (down r has.1 has.0 point (omega arith) has.2 is) few)
+        touches_here-same (noted table k) (touches image k) k point.instr (λ is. notes point.instr.imm k (down r has.1 has.0 point (omega arith) has.2 is) few)
 
 -- what is noted of a routine, as a list
 pub noted-all : (image : Parts) (table : List (List Bool)) (r c : ℕ) → NotesBelow image table r → c < r
@@ -176,19 +177,19 @@ list_any-found test (y ∷ xs) zero x e h = let same : y ≡ x = cc in rw (same,
 list_any-found test (y ∷ xs) (suc j) x e h = rw (list_any-found test xs j x e h) (or-true (test y))
 
 -- a routine touches the counters that it names
-pub touches-own : (image : Parts) (r pc : ℕ) (routine : Routine) (point : Point) → HasPoint image r routine pc point → counts point.0.opcode ≡ true → touches image point.0.a r ≡ true
+pub touches-own : (image : Parts) (r pc : ℕ) (routine : Routine) (point : Point) → HasPoint image r routine pc point → counts point.instr.opcode ≡ true → touches image point.instr.a r ≡ true
 touches-own image r pc routine point has is = by_depth (length image.routines) (slice_get_within image.routines r routine has.there)
   where
-    by_depth : (n : ℕ) → r < n → touches_within n image point.0.a r ≡ true
+    by_depth : (n : ℕ) → r < n → touches_within n image point.instr.a r ≡ true
     by_depth zero lt = absurd (omega arith)
     by_depth (suc n) lt =
-        list_any-found (λ point2. touches_here (touches_within n image point.0.a) point.0.a point2.0) (points_of image r) (pc - start_of image.routines r) point (has-points_of image r pc routine point has)
-        (rw (is, eq-eqb point.0.a point.0.a refl) refl)
+        list_any-found (λ other. touches_here (touches_within n image point.instr.a) point.instr.a other.instr) (points_of image r) (pc - start_of image.routines r) point (has-points_of image r pc routine point has)
+        (rw (is, eq-eqb point.instr.a point.instr.a refl) refl)
 
 -- and those that a routine touches that it calls
-pub touches-called : (image : Parts) → CallsGoDown image (length image.routines) → (r pc : ℕ) (routine : Routine) (point : Point) → HasPoint image r routine pc point → calls point.0.opcode ≡ true
-    → (k : ℕ) → touches image k point.0.imm ≡ true → touches image k r ≡ true
+pub touches-called : (image : Parts) → CallsGoDown image (length image.routines) → (r pc : ℕ) (routine : Routine) (point : Point) → HasPoint image r routine pc point → calls point.instr.opcode ≡ true
+    → (k : ℕ) → touches image k point.instr.imm ≡ true → touches image k r ≡ true
 touches-called image down r pc routine point has is k touched =
     let within = slice_get_within image.routines r routine has.there in
     touches-step image (length image.routines) down k r within within
-    ∙ list_any-found (λ point. touches_here (touches image k) k point.0) (points_of image r) (pc - start_of image.routines r) point (has-points_of image r pc routine point has) (rw (is, touched) (or-true _))
+    ∙ list_any-found (λ point. touches_here (touches image k) k point.instr) (points_of image r) (pc - start_of image.routines r) point (has-points_of image r pc routine point has) (rw (is, touched) (or-true _))

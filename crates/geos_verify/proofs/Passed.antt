@@ -2,7 +2,8 @@
 use Rattle.std.proofs.Common.{◌≡◌, ℕ, Bool, true, false, None, List, [], ◌∷◌, refl}
 use Rattle.geos_model.specs.Refusals.{first_refusal}
 use Rattle.geos_image.specs.declared.routine.Routine.{Routine}
-use Rattle.geos_image.specs.Parts.{Point, Parts}
+use Rattle.geos_image.specs.declared.point.Point.{Point}
+use Rattle.geos_image.specs.Parts.{Parts}
 use Rattle.geos_verify.specs.Rules.{leaves_routine, entry_misfits, stale_pointer, passes_end, changes_unmarked, locks_into_held, wrong_slot, call_misfits, exit_misfits, edge_misfits, edge_unpaid, over_budget, tests, refusal}
 
 -- every test is false
@@ -17,18 +18,18 @@ passed ((false, rule) ∷ tests) e = (refl, passed tests e)
 
 -- no rule refuses the point at a pc of routine r, which begins at start
 pub record NoneRefuses (image : Parts) (r : ℕ) (routine : Routine) (start pc : ℕ) (point : Point) : Type 0 where
-  pub stays : leaves_routine routine start pc point.0 ≡ false
-  pub entry : entry_misfits routine start pc point.1 ≡ false
-  pub fresh : stale_pointer point.0 point.1 ≡ false
-  pub within : passes_end point.0 point.1 ≡ false
-  pub marked : changes_unmarked point.0 point.1 ≡ false
-  pub unheld : locks_into_held point.0 point.1 ≡ false
-  pub held : wrong_slot point.0 point.1 ≡ false
-  pub call : call_misfits image r point.0 point.1 ≡ false
-  pub exit : exit_misfits routine point.0 point.1 ≡ false
-  pub edge : edge_misfits image pc point.0 point.1 ≡ false
-  pub paid : edge_unpaid image pc point.0 point.1 point.2 ≡ false
-  pub budget : over_budget routine start pc point.2 ≡ false
+  pub stays : leaves_routine routine start pc point.instr ≡ false
+  pub entry : entry_misfits routine start pc point.row ≡ false
+  pub fresh : stale_pointer point.instr point.row ≡ false
+  pub within : passes_end point.instr point.row ≡ false
+  pub marked : changes_unmarked point.instr point.row ≡ false
+  pub unheld : locks_into_held point.instr point.row ≡ false
+  pub held : wrong_slot point.instr point.row ≡ false
+  pub call : call_misfits image r point.instr point.row ≡ false
+  pub exit : exit_misfits routine point.instr point.row ≡ false
+  pub edge : edge_misfits image pc point.instr point.row ≡ false
+  pub paid : edge_unpaid image pc point.instr point.row point.potential ≡ false
+  pub budget : over_budget routine start pc point.potential ≡ false
 
 pub none-refuses : (image : Parts) (r : ℕ) (routine : Routine) (start pc : ℕ) (point : Point) → refusal image r routine start pc point ≡ None → NoneRefuses image r routine start pc point
 none-refuses image r routine start pc point e =

@@ -15,7 +15,8 @@ use Rattle.geos_opcodes.specs.declared.facts.Flow.{Flow}
 use Rattle.geos_opcodes.specs.declared.facts.Flow.TheVariants.{Jumps, Returns}
 use Rattle.geos_opcodes.specs.declared.facts.Yields.{Yields}
 use Rattle.geos_opcodes.specs.declared.facts.Yields.TheVariants.{Nothing, Computed, ByteInA, WordInA, WordInB}
-use Rattle.geos_image.specs.Parts.{Point, Parts}
+use Rattle.geos_image.specs.declared.point.Point.{Point}
+use Rattle.geos_image.specs.Parts.{Parts}
 use Rattle.geos_opcodes.specs.declared.uses.Kind.{Kind}
 use Rattle.geos_opcodes.specs.declared.uses.Kind.TheVariants.{MemBlock, VmBlock, DbGroup}
 use Rattle.geos_opcodes.specs.declared.uses.SlotUse.{SlotUse}
@@ -55,7 +56,7 @@ branches opcode = is_label (operands_of opcode).target
 -- the instruction at a pc, if there is one, has the edge: to its target, or else to the next
 -- instruction
 abbrev pub HasEdge : Parts → ℕ → Bool → Type 0
-HasEdge image pc branch = at_point image pc (λ point. if branch then branches point.0.opcode else falls_through point.0.opcode) ≡ true
+HasEdge image pc branch = at_point image pc (λ point. if branch then branches point.instr.opcode else falls_through point.instr.opcode) ≡ true
 
 -- Bounds
 
@@ -224,7 +225,7 @@ row_branching i opcode row = if (operands_of opcode).refusable then refused i (u
 abbrev pub after : Parts → ℕ → Row → Bool → Row
 after image pc row branch = elim (slice_get image.points pc) [
   | None ↦ row
-  | Some point ↦ if branch then row_branching point.0 point.0.opcode row else row_along image point.0 point.0.opcode row
+  | Some point ↦ if branch then row_branching point.instr point.instr.opcode row else row_along image point.instr point.instr.opcode row
 ]
 
 -- Fits

@@ -8,7 +8,8 @@ use Rattle.geos_image.specs.declared.instr.Instr.{Instr}
 use Rattle.geos_image.specs.declared.row.Row.{Row}
 use Rattle.geos_image.specs.declared.potential.Potential.{Potential}
 use Rattle.geos_image.specs.declared.routine.Routine.{Routine}
-use Rattle.geos_image.specs.Parts.{Point, Parts, start_of}
+use Rattle.geos_image.specs.declared.point.Point.{Point}
+use Rattle.geos_image.specs.Parts.{Parts, start_of}
 use Rattle.geos_image.specs.Legal.{is_image}
 use Rattle.geos_verify.specs.declared.rule.Rule.{Rule}
 use Rattle.geos_verify.specs.declared.rule.Rule.TheVariants.{LeavesRoutine, NamesEmptySlot, EntryMisfit, StalePointer, PassesEnd, ChangesUnmarked, LocksIntoHeld, WrongSlot, CallMisfit, ExitMisfit, EdgeMisfit, EdgeUnpaid, OverBudget}
@@ -153,7 +154,7 @@ exit_misfits routine i row = returns i.opcode && not (fits row routine.exit)
 
 -- a row does not fit the row of the point at a pc
 unfoldable pub misfits_at : Parts → ℕ → Row → Bool
-misfits_at image to row = not (at_point image to (λ next. fits row next.1))
+misfits_at image to row = not (at_point image to (λ next. fits row next.row))
 
 -- the row after an edge does not fit the row there
 unfoldable pub edge_misfits : Parts → ℕ → Instr → Row → Bool
@@ -163,11 +164,11 @@ edge_misfits image pc i row =
 
 -- the potential does not pay for the edge to the next instruction
 unfoldable pub unpaid_along : Parts → ℕ → Instr → Row → Potential → Bool
-unpaid_along image pc i row potential = not (at_point image (pc + 1) (λ next. pays_along image i i.opcode row potential next.2))
+unpaid_along image pc i row potential = not (at_point image (pc + 1) (λ next. pays_along image i i.opcode row potential next.potential))
 
 -- the potential does not pay for the edge to the target
 unfoldable pub unpaid_branching : Parts → Instr → Potential → Bool
-unpaid_branching image i potential = not (at_point image i.target (λ next. pays_branching i i.opcode potential next.2))
+unpaid_branching image i potential = not (at_point image i.target (λ next. pays_branching i i.opcode potential next.potential))
 
 -- the potential does not pay for an edge, or for the return
 unfoldable pub edge_unpaid : Parts → ℕ → Instr → Row → Potential → Bool
@@ -183,9 +184,9 @@ over_budget routine start pc potential = pc == start && not (is_within routine.b
 -- the rules in the order of their numbers
 abbrev pub tests : Parts → ℕ → Routine → ℕ → ℕ → Point → List (Bool × Rule)
 tests image r routine start pc point =
-    let i = point.0 in
-    let row = point.1 in
-    let potential = point.2 in
+    let i = point.instr in
+    let row = point.row in
+    let potential = point.potential in
     (leaves_routine routine start pc i, LeavesRoutine)
     ∷ (names_empty_slot row, NamesEmptySlot)
     ∷ (entry_misfits routine start pc row, EntryMisfit)

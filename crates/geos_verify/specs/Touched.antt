@@ -8,7 +8,8 @@ use Rattle.geos_opcodes.specs.declared.facts.CounterUse.{CounterUse}
 use Rattle.geos_opcodes.specs.declared.facts.CounterUse.TheVariants.{Untouched}
 use Rattle.geos_opcodes.specs.Facts.{facts}
 use Rattle.geos_image.specs.declared.instr.Instr.{Instr}
-use Rattle.geos_image.specs.Parts.{Point, Parts, start_of}
+use Rattle.geos_image.specs.declared.point.Point.{Point}
+use Rattle.geos_image.specs.Parts.{Parts, start_of}
 
 -- a counter is set, or taken from
 abbrev pub is_touched : CounterUse → Bool
@@ -36,7 +37,7 @@ touches_here touched k i = (counts i.opcode && i.a == k) || (calls i.opcode && t
 -- routines, r among them
 abbrev pub touches_within : ℕ → Parts → ℕ → ℕ → Bool
 touches_within zero image k r = false
-touches_within (suc depth) image k r = list_any (λ point. touches_here (touches_within depth image k) k point.0) (points_of image r)
+touches_within (suc depth) image k r = list_any (λ point. touches_here (touches_within depth image k) k point.instr) (points_of image r)
 
 -- routine r touches counter k: a chain of calls that comes to no routine twice is no longer
 -- than there are routines
@@ -57,7 +58,7 @@ NotesBelow image table r = (c k : ℕ) → c < r → k < 4 → noted table k c �
 
 -- routine r touches counter k, by what a table says of the routines that it calls
 abbrev pub touches_by : Parts → List (List Bool) → ℕ → ℕ → Bool
-touches_by image table k r = list_any (λ point. touches_here (noted table k) k point.0) (points_of image r)
+touches_by image table k r = list_any (λ point. touches_here (noted table k) k point.instr) (points_of image r)
 
 -- which counters routine r touches, by the table
 abbrev pub noted_by : Parts → List (List Bool) → ℕ → List Bool

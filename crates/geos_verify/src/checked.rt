@@ -2,7 +2,8 @@
 
 ghost use Rattle.std.specs.Prelude.{◌≡◌, ◌<◌, ◌≤◌, ◌+◌, ℕ, length, true, Some, None, slice_get, IfSome, IfNone, IfOk, IfErr};
 ghost use Rattle.geos_image.specs.declared.routine.Routine.{Routine};
-ghost use Rattle.geos_image.specs.Parts.{Point, start_of};
+ghost use Rattle.geos_image.specs.declared.point.Point.{Point};
+ghost use Rattle.geos_image.specs.Parts.{start_of};
 ghost use Rattle.geos_image.specs.Legal.{is_image};
 ghost use Rattle.geos_verify.specs.Rules.{RefusesNone, Refuses, Accepted, IsChecked, FirstRefusal};
 ghost use Rattle.geos_verify.specs.Touched.{NotesBelow};

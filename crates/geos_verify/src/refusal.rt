@@ -1,7 +1,8 @@
 //! The rules at one point.
 
 ghost use Rattle.std.specs.Prelude.{◌≡◌, ◌<◌, ◌≤◌, ◌+◌, ◌||◌, ◌&&◌, length, true, false, slice_get, Some, IfSome};
-ghost use Rattle.geos_image.specs.Parts.{start_of, Point};
+ghost use Rattle.geos_image.specs.declared.point.Point.{Point};
+ghost use Rattle.geos_image.specs.Parts.{start_of};
 ghost use Rattle.geos_image.specs.Fields.{FieldsFit, TargetFits, CalleeFits};
 ghost use Rattle.geos_verify.specs.Rows.{falls_through, branches, row_along, row_branching};
 ghost use Rattle.geos_verify.specs.Rules.{has_place, returns, leaves_routine, entry_misfits, call_misfits, exit_misfits, misfits_at, edge_misfits, unpaid_along, unpaid_branching, edge_unpaid, over_budget, refusal};

@@ -4,7 +4,7 @@ ghost use Rattle.std.specs.Prelude.{◌≡◌, ◌<◌, length, slice_index_or, 
 ghost use Rattle.std.specs.List.{list_any};
 ghost use Rattle.geos_verify.specs.Touched.{counts, calls, points_of, touches_here, touched_by, noted, noted_by, NotesBelow};
 
-use geos_image::{Image, Instr, Opcode, Potential, Row};
+use geos_image::{Image, Instr, Opcode, Point};
 use geos_opcodes::CounterUse;
 
 /// For each routine, which of the counters k0 to k3 it touches.
@@ -64,15 +64,17 @@ fn touches_here(table: &Touched, k: u8, i: &Instr) -> bool
 }
 
 /// Whether one of these instructions does.
-fn touches(table: &Touched, k: u8, points: &[(Instr, Row, Potential)]) -> bool
+fn touches(table: &Touched, k: u8, points: &[Point]) -> bool
     requires { k < 4 }
-    ensures { result ≡ list_any (λ point. touches_here (noted table.now k) k point.0) points.now }
+    ensures { result ≡ list_any (λ point. touches_here (noted table.now k) k point.instr) points.now }
 {
-    points.iter().any(|point| touches_here(table, k, &point.0))
+    points
+        .iter()
+        .any(|point| touches_here(table, k, &point.instr))
 }
 
 /// The points of a routine.
-fn points_of(image: &Image, r: u16) -> &[(Instr, Row, Potential)]
+fn points_of(image: &Image, r: u16) -> &[Point]
     requires { r < length image.now.routines }
     ensures { result.now ≡ points_of image.now r }
 {

@@ -6,8 +6,9 @@ use Rattle.geos_image.specs.declared.row.Row.{Row}
 use Rattle.geos_image.specs.declared.row.SlotState.{SlotState}
 use Rattle.geos_image.specs.declared.row.SlotState.TheVariants.{Empty, Mem}
 use Rattle.geos_image.specs.Open.{open_row}
-use Rattle.geos_image.specs.Parts.{Point, Parts}
-use Rattle.worked_examples.proofs.Images.{potential, routine, instr}
+use Rattle.geos_image.specs.declared.point.Point.{Point}
+use Rattle.geos_image.specs.Parts.{Parts}
+use Rattle.worked_examples.proofs.Images.{potential, routine, instr, point}
 
 -- s0 holds such a block
 abbrev pub s0 : SlotState → Row
@@ -32,7 +33,7 @@ apart_p1 = record s0_s1_p1 { pairs = true ∷ replicate 5 false }
 -- points with n steps left at the first, and one less at each next
 abbrev pub counted_from : ℕ → List (Instr × Row) → List Point
 counted_from n [] = []
-counted_from n (line ∷ lines) = (line.0, line.1, potential n 0) ∷ counted_from (n - 1) lines
+counted_from n (line ∷ lines) = point line.0 line.1 (potential n 0) ∷ counted_from (n - 1) lines
 
 -- a public routine that takes each instruction once at most
 abbrev pub once : List (Instr × Row) → Parts

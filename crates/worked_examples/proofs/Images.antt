@@ -3,8 +3,10 @@ use Rattle.std.proofs.Common.{ℕ, true, false, List, [], ◌∷◌, replicate}
 use Rattle.geos_opcodes.specs.declared.opcode.Opcode.{Opcode}
 use Rattle.geos_opcodes.specs.declared.opcode.Opcode.TheVariants.{Ldi, Add, Setk, Loop, Call, Ret, Out}
 use Rattle.geos_image.specs.declared.instr.Instr.{Instr}
+use Rattle.geos_image.specs.declared.point.Point.{Point}
 use Rattle.geos_image.specs.declared.potential.Potential.{Potential}
 use Rattle.geos_image.specs.declared.routine.Routine.{Routine}
+use Rattle.geos_image.specs.declared.row.Row.{Row}
 use Rattle.geos_image.specs.Parts.{Parts}
 use Rattle.geos_image.specs.Open.{open_row}
 
@@ -20,16 +22,20 @@ routine name count budget = record { name = name; public = true; count = count; 
 abbrev pub instr : Opcode → ℕ → ℕ → ℕ → ℕ → ℕ → Instr
 instr opcode a b c imm target = record { opcode = opcode; a = a; b = b; c = c; d = 0; imm = imm; target = target }
 
+-- an instruction, its row and its potential
+abbrev pub point : Instr → Row → Potential → Point
+point i row potential = record { instr = i; row = row; potential = potential }
+
 -- `LDI w0 2`, `LDI w1 3`, `ADD w0 w0 w1`, `OUT w0 x`, `x: RET`, with a budget
 abbrev pub add : ℕ → Parts
 add budget = record {
   routines = routine (97 ∷ 100 ∷ 100 ∷ replicate 13 0) 5 budget ∷ [];
   points =
-      (instr Ldi 0 0 0 2 0, open_row, potential 5 0)
-      ∷ (instr Ldi 1 0 0 3 0, open_row, potential 4 0)
-      ∷ (instr Add 0 0 1 0 0, open_row, potential 3 0)
-      ∷ (instr Out 0 0 0 0 4, open_row, potential 2 0)
-      ∷ (instr Ret 0 0 0 0 0, open_row, potential 1 0)
+      point (instr Ldi 0 0 0 2 0) open_row (potential 5 0)
+      ∷ point (instr Ldi 1 0 0 3 0) open_row (potential 4 0)
+      ∷ point (instr Add 0 0 1 0 0) open_row (potential 3 0)
+      ∷ point (instr Out 0 0 0 0 4) open_row (potential 2 0)
+      ∷ point (instr Ret 0 0 0 0 0) open_row (potential 1 0)
       ∷ [];
 }
 
@@ -39,10 +45,10 @@ abbrev pub outputs : ℕ → ℕ → ℕ → Parts
 outputs budget constant k0 = record {
   routines = routine (111 ∷ replicate 15 0) 4 budget ∷ [];
   points =
-      (instr Setk 0 0 0 1024 0, open_row, potential 2052 0)
-      ∷ (instr Out 0 0 0 0 3, open_row, potential 3 k0)
-      ∷ (instr Loop 0 0 0 0 1, open_row, potential constant k0)
-      ∷ (instr Ret 0 0 0 0 0, open_row, potential 1 0)
+      point (instr Setk 0 0 0 1024 0) open_row (potential 2052 0)
+      ∷ point (instr Out 0 0 0 0 3) open_row (potential 3 k0)
+      ∷ point (instr Loop 0 0 0 0 1) open_row (potential constant k0)
+      ∷ point (instr Ret 0 0 0 0 0) open_row (potential 1 0)
       ∷ [];
 }
 
@@ -52,11 +58,11 @@ abbrev pub two_and_main : ℕ → ℕ → Parts
 two_and_main of_two of_main = record {
   routines = record (routine (116 ∷ replicate 15 0) 2 of_two) { public = false } ∷ routine (109 ∷ replicate 15 0) 3 of_main ∷ [];
   points =
-      (instr Ldi 0 0 0 2 0, open_row, potential 2 0)
-      ∷ (instr Ret 0 0 0 0 0, open_row, potential 1 0)
-      ∷ (instr Call 0 0 0 0 0, open_row, potential 5 0)
-      ∷ (instr Out 0 0 0 0 4, open_row, potential 2 0)
-      ∷ (instr Ret 0 0 0 0 0, open_row, potential 1 0)
+      point (instr Ldi 0 0 0 2 0) open_row (potential 2 0)
+      ∷ point (instr Ret 0 0 0 0 0) open_row (potential 1 0)
+      ∷ point (instr Call 0 0 0 0 0) open_row (potential 5 0)
+      ∷ point (instr Out 0 0 0 0 4) open_row (potential 2 0)
+      ∷ point (instr Ret 0 0 0 0 0) open_row (potential 1 0)
       ∷ [];
 }
 
@@ -65,11 +71,11 @@ abbrev pub main_and_two : Parts
 main_and_two = record {
   routines = routine (109 ∷ replicate 15 0) 3 5 ∷ record (routine (116 ∷ replicate 15 0) 2 2) { public = false } ∷ [];
   points =
-      (instr Call 0 0 0 1 0, open_row, potential 5 0)
-      ∷ (instr Out 0 0 0 0 2, open_row, potential 2 0)
-      ∷ (instr Ret 0 0 0 0 0, open_row, potential 1 0)
-      ∷ (instr Ldi 0 0 0 2 0, open_row, potential 2 0)
-      ∷ (instr Ret 0 0 0 0 0, open_row, potential 1 0)
+      point (instr Call 0 0 0 1 0) open_row (potential 5 0)
+      ∷ point (instr Out 0 0 0 0 2) open_row (potential 2 0)
+      ∷ point (instr Ret 0 0 0 0 0) open_row (potential 1 0)
+      ∷ point (instr Ldi 0 0 0 2 0) open_row (potential 2 0)
+      ∷ point (instr Ret 0 0 0 0 0) open_row (potential 1 0)
       ∷ [];
 }
 
@@ -80,14 +86,14 @@ abbrev pub loop_of_calls : ℕ → (ℕ → ℕ → Potential) → Parts
 loop_of_calls k counting = record {
   routines = routine (99 ∷ replicate 15 0) 2 2 ∷ routine (98 ∷ replicate 15 0) 2 4 ∷ routine (109 ∷ replicate 15 0) 4 26 ∷ [];
   points =
-      (instr Setk 0 0 0 0 0, open_row, potential 2 0)
-      ∷ (instr Ret 0 0 0 0 0, open_row, potential 1 0)
-      ∷ (instr Call 0 0 0 0 0, open_row, potential 4 0)
-      ∷ (instr Ret 0 0 0 0 0, open_row, potential 1 0)
-      ∷ (instr Setk k 0 0 3 0, open_row, potential 26 0)
-      ∷ (instr Call 0 0 0 1 0, open_row, counting 7 6)
-      ∷ (instr Loop k 0 0 0 5, open_row, counting 2 6)
-      ∷ (instr Ret 0 0 0 0 0, open_row, potential 1 0)
+      point (instr Setk 0 0 0 0 0) open_row (potential 2 0)
+      ∷ point (instr Ret 0 0 0 0 0) open_row (potential 1 0)
+      ∷ point (instr Call 0 0 0 0 0) open_row (potential 4 0)
+      ∷ point (instr Ret 0 0 0 0 0) open_row (potential 1 0)
+      ∷ point (instr Setk k 0 0 3 0) open_row (potential 26 0)
+      ∷ point (instr Call 0 0 0 1 0) open_row (counting 7 6)
+      ∷ point (instr Loop k 0 0 0 5) open_row (counting 2 6)
+      ∷ point (instr Ret 0 0 0 0 0) open_row (potential 1 0)
       ∷ [];
 }
 

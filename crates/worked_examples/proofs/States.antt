@@ -11,7 +11,7 @@ use Rattle.geos_image.specs.Parts.{Parts}
 use Rattle.geos_opcodes.specs.declared.uses.Kind.TheVariants.{MemBlock, VmBlock}
 use Rattle.geos_semantics.specs.State.{Held, SlotReference, State}
 use Rattle.geos_semantics.specs.Model.{Outcome, Next, step}
-use Rattle.worked_examples.proofs.Images.{potential, routine}
+use Rattle.worked_examples.proofs.Images.{point, potential, routine}
 
 -- nothing is refused from outside
 abbrev pub willing : Choice
@@ -23,7 +23,7 @@ unwilling = record { first_room = true; last_room = true; device = true; unsure 
 
 -- the instruction at pc 0 of a routine of nine, of which there is no other
 abbrev pub alone : Instr → Parts
-alone i = record { routines = routine [] 9 9 ∷ []; points = (i, open_row, potential 9 0) ∷ [] }
+alone i = record { routines = routine [] 9 9 ∷ []; points = point i open_row (potential 9 0) ∷ [] }
 
 -- no block, and no handle for one
 abbrev pub no_blocks : Memory

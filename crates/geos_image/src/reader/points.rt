@@ -8,10 +8,9 @@ ghost use Rattle.geos_image.specs.Reading.{instr_at, items_at, points_at, Gives}
 use crate::error::ReadError;
 use crate::instr::Instr;
 use crate::legal::MOST_INSTRS;
-use crate::potential::Potential;
+use crate::point::Point;
 use crate::reader::numbers::{Fault, byte_at, byte_below, word_below};
 use crate::reader::rows::entry_at;
-use crate::row::Row;
 use geos_opcodes::Opcode;
 use std::alloc::Global;
 
@@ -69,7 +68,7 @@ pub(crate) fn points_at(
     bytes: &[u8],
     code: &[Instr],
     start: usize,
-) -> Result<Vec<(Instr, Row, Potential)>, ReadError>
+) -> Result<Vec<Point>, ReadError>
     requires place { start < 2 ^ 20 }
     requires short { length code.now ≤ MOST_INSTRS }
     ensures exact { Gives (λ v. v.items) result (points_at bytes.now code.now start) }
@@ -80,7 +79,11 @@ pub(crate) fn points_at(
     let mut at = start;
     for instr in code {
         let (row, potential) = entry_at(bytes, at)?;
-        points.push((*instr, row, potential))?;
+        points.push(Point {
+            instr: *instr,
+            row,
+            potential,
+        })?;
         at += 58;
     }
     Ok(points)

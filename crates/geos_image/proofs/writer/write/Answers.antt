@@ -1,7 +1,8 @@
 use Rattle.std.proofs.Common.{◌≡◌, List, subst, rules}
 use Rattle.std.specs.List.{All}
 use Rattle.geos_image.specs.declared.routine.Routine.{Routine}
-use Rattle.geos_image.specs.Parts.{Point, Parts}
+use Rattle.geos_image.specs.declared.point.Point.{Point}
+use Rattle.geos_image.specs.Parts.{Parts}
 use Rattle.geos_image.specs.Ranges.{RoutineFits, PointFits, ImageFits}
 use Rattle.geos_image.specs.Spelling.{spelling}
 use Rattle.geos_image.proofs.ImageLaws.{image_again}

@@ -1,0 +1,15 @@
+//! Program points.
+
+use crate::instr::Instr;
+use crate::potential::Potential;
+use crate::row::Row;
+
+/// A program point: an instruction, and what the verifier is told at it.
+#[derive(Clone, Copy, Debug, PartialEq, Eq)]
+pub struct Point {
+    pub instr: Instr,
+    /// What is known of the registers before the instruction.
+    pub row: Row,
+    /// A bound on the steps that are left before the instruction.
+    pub potential: Potential,
+}
