@@ -1,6 +1,6 @@
 -- The calls that look at arrays.
 use Rattle.std.proofs.Common.{◌≡◌, ℕ, ◌+◌, ◌<◌, List, [], ◌∷◌, length, drop, Option, Some, None, refl, ap, ◌∙◌, arith, subst, length-take, length-drop}
-use Rattle.std.specs.Prelude.{Ok, Err, Bool, nat_lt, true, false, option_map}
+use Rattle.std.specs.Prelude.{Result, Ok, Err, Bool, nat_lt, true, false, option_map}
 use Rattle.lmem_raw.specs.Bytes.{part}
 use Rattle.geos_model.specs.declared.name.Name.{Name}
 use Rattle.geos_model.specs.declared.refusal.Refusal.{Refusal}
@@ -27,16 +27,17 @@ use Rattle.chunk_array.specs.Elements.{HasElement}
 use Rattle.geos_calls.specs.declared.span.Span.{Span}
 use Rattle.geos_calls.specs.View.{KernelState, memory_of, chunks_at, IsLocked}
 use Rattle.geos_calls.specs.Spans.{Stands}
+use Rattle.geos_calls.specs.Edits.{Tells}
 use Rattle.geos_calls.specs.Kernel.{IsKernel, Calls, GivesSpan}
-use Rattle.geos_calls.specs.Refused.{of_array, of_element}
+use Rattle.geos_calls.specs.Refused.{why_no_array, why_no_element}
 use Rattle.geos_calls.proofs.Views.{chunks-known, locked-there, locks-view}
 
 -- of tests the first that holds is the error's, as the kernel says it
-pub array-refuses : (why : ArrayError) (tests : List (Bool × Refusal)) → IsArrayError why tests → first_refusal tests ≡ Some (of_array why)
+pub array-refuses : (why : ArrayError) (tests : List (Bool × Refusal)) → IsArrayError why tests → first_refusal tests ≡ Some (why_no_array why)
 array-refuses array.BadChunk tests h = h
 array-refuses array.BadArray tests h = h
 
-pub element-refuses : (why : ElementError) (tests : List (Bool × Refusal)) → IsElementError why tests → first_refusal tests ≡ Some (of_element why)
+pub element-refuses : (why : ElementError) (tests : List (Bool × Refusal)) → IsElementError why tests → first_refusal tests ≡ Some (why_no_element why)
 element-refuses element.BadChunk tests h = h
 element-refuses element.BadArray tests h = h
 element-refuses element.BadElement tests h = h
@@ -68,6 +69,10 @@ module _ (s : KernelState) (name : Name) (k : IsKernel s) (locked : IsLocked s n
     spans = λ choice span ref t fresh. t;
   }
 
+  pub told : {A : Type 0} (edit : List (Option (List ℕ)) → Edit A) (r : Result A Refusal) → Tells edit cs r → Calls (table.reads edit name) r s s
+  told edit (Ok answer) h = tells edit answer h.1 h.0
+  told edit (Err why) h = tells-not edit why h
+
   -- a call that gives a reference
   pub refers : (edit : List (Option (List ℕ)) → Edit Part) (span : Span) → first_refusal (edit cs).refusals ≡ None → Stands s span (table.in_block name (edit cs).answer) → GivesSpan (table.refers edit name) (Ok span) s
   refers edit span passed stands = (
@@ -86,8 +91,8 @@ module _ (s : KernelState) (name : Name) (k : IsKernel s) (locked : IsLocked s n
     abbrev short : List (Bool × Refusal)
     short = (nat_lt (length (element_of cs c i)) n, Short) ∷ []
 
-    pub caelt-none : (why : ElementError) → IsElementError why (no_element cs c i) → GivesSpan (arrays.caelt name c i n) (Err (of_element why)) s
-    caelt-none why h = refers-not (refer_element c i n) (of_element why) (first_refusal-came (no_element cs c i) short (of_element why) (element-refuses why (no_element cs c i) h))
+    pub caelt-none : (why : ElementError) → IsElementError why (no_element cs c i) → GivesSpan (arrays.caelt name c i n) (Err (why_no_element why)) s
+    caelt-none why h = refers-not (refer_element c i n) (why_no_element why) (first_refusal-came (no_element cs c i) short (why_no_element why) (element-refuses why (no_element cs c i) h))
 
     module _ (at len : ℕ) (passed : first_refusal (no_element cs c i) ≡ None) (h : HasElement bytes c i at len) where
       pub caelt-few : len < n → GivesSpan (arrays.caelt name c i n) (Err Short) s

@@ -11,16 +11,13 @@ pub mod Regrown
 pub mod Room
 pub mod Chunked
 pub mod Edited
-pub mod ArrayRoom
-pub mod ArrayRows
 pub mod Looks
 pub mod ArrayLooks
+pub mod Lending
+pub mod Coming
+pub mod ChunkRows
 pub mod AccessReads
 pub mod AccessWrites
 pub mod AccessCopies
 pub mod Lawful
-pub mod Tied
-pub mod Replies
-pub mod Through
-pub mod Steps
-mod ListExamples
+pub mod Turns

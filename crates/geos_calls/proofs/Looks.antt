@@ -11,19 +11,27 @@ use Rattle.geos_table.specs.Memory as model
 use Rattle.geos_table.specs.Effects.{Reference, Call, Answers}
 use Rattle.geos_model.specs.Edits as edits
 use Rattle.geos_table.specs.Calls as table
-use Rattle.geos_table.proofs.Laws.{reads-ok, reads-refused, refers-ok, refers-refused}
+use Rattle.geos_table.proofs.Laws.{refers-ok, refers-refused}
 use Rattle.block_handles.specs.Names.{slot_of}
 use Rattle.block_handles.specs.Store as store
 use Rattle.geos_calls.specs.declared.span.Span.{Span}
 use Rattle.geos_calls.specs.View.{KernelState, memory_of, chunks_at, IsLocked}
 use Rattle.geos_calls.specs.Spans.{Stands, IsStanding}
-use Rattle.geos_calls.specs.Kernel.{IsKernel, Calls, GivesSpan}
+use Rattle.geos_calls.specs.Edits.{Tells}
+use Rattle.geos_calls.specs.Kernel.{IsKernel, GivesSpan}
 use Rattle.geos_calls.proofs.Views.{chunks-known, locked-there, locks-view}
 
 -- what there is, and what holds of it
-some_of : (o : Option (List ℕ)) (P : List ℕ → Type 0) → IsSomeAnd o P → (bytes : List ℕ) × (o ≡ Some bytes) × P bytes
+pub some_of : (o : Option (List ℕ)) (P : List ℕ → Type 0) → IsSomeAnd o P → (bytes : List ℕ) × (o ≡ Some bytes) × P bytes
 some_of None P h = absurd h
 some_of (Some bytes) P h = (bytes, refl, h)
+
+-- a length that was found is told, and is refused where there is no chunk
+pub size-tells : (cs : List (Option (List ℕ))) (c n : ℕ) → IsSomeAnd (chunk_of cs c) (λ bytes. length bytes ≡ n) → Tells (edits.size c) cs (Ok n)
+size-tells cs c n h = let found = some_of (chunk_of cs c) (λ bytes. length bytes ≡ n) h in rw found.1 (sym found.2, refl)
+
+pub size-refuses : (cs : List (Option (List ℕ))) (c : ℕ) → chunk_of cs c ≡ None → Tells (edits.size c) cs (Err BadChunk)
+size-refuses cs c none = rw none refl
 
 -- a span that a row gives stands for some reference
 pub gives-standing : (call : Call Reference) (span : Span) (s : KernelState) → GivesSpan call (Ok span) s → IsStanding s span
@@ -40,20 +48,6 @@ module _ (s : KernelState) (name : Name) (c : ℕ) (k : IsKernel s) (locked : Is
   -- a chunk that the block's bytes spell is one that the model knows
   spells : (o : Option (List ℕ)) → chunk_of (chunks_at s.blocks name) c ≡ o → chunk_of (model.chunks_at memory name) c ≡ o
   spells o e = subst (λ cs. chunk_of cs c ≡ o) (chunks-known s name k there) e
-
-  pub lsize-some : (n : ℕ) → IsSomeAnd (chunk_of (chunks_at s.blocks name) c) (λ bytes. length bytes ≡ n) → Calls (table.lsize name c) (Ok n) s s
-  lsize-some n h =
-      let found = some_of (chunk_of (chunks_at s.blocks name) c) (λ bytes. length bytes ≡ n) h in
-      let known = spells (Some found.0) found.1 in
-      let passes : first_refusal (edits.size c (model.chunks_at memory name)).refusals ≡ None = rw known refl in
-      let tells : edits.length_of (model.chunks_at memory name) c ≡ n = rw known found.2 in
-      record { answers = subst (λ m. Answers (table.lsize name c) (Ok m) memory memory) tells (reads-ok (edits.size c) name memory passes); spans = λ choice span ref t fresh. t }
-
-  pub lsize-none : chunk_of (chunks_at s.blocks name) c ≡ None → Calls (table.lsize name c) (Err BadChunk) s s
-  lsize-none none =
-      let known = spells None none in
-      let refuses : first_refusal (edits.size c (model.chunks_at memory name)).refusals ≡ Some BadChunk = rw known refl in
-      record { answers = reads-refused (edits.size c) name memory BadChunk refuses; spans = λ choice span ref t fresh. t }
 
   pub deref-none : (n : ℕ) → chunk_of (chunks_at s.blocks name) c ≡ None → GivesSpan (table.deref name c n) (Err BadChunk) s
   deref-none n none =

@@ -1,14 +1,10 @@
 -- Changes of a heap for which room was made first.
-use Rattle.std.proofs.Common.{◌≡◌, ℕ, ◌<◌, ◌≤◌, List, length, Option, Some, None, ◌∙◌, arith, subst}
-use Rattle.std.specs.Prelude.{max, Ok, IsSome}
+use Rattle.std.proofs.Common.{◌≡◌, ℕ, ◌<◌, ◌≤◌, List, Option, ◌∙◌, arith, subst}
+use Rattle.std.specs.Prelude.{max, Ok}
 use Rattle.geos_model.specs.declared.name.Name.{Name}
-use Rattle.geos_model.specs.Chunks as model
-use Rattle.geos_model.specs.Chunks.{need, chunk_of, with_inserted}
+use Rattle.geos_model.specs.Chunks.{need}
 use Rattle.block_handles.specs.Names.{slot_of}
 use Rattle.block_handles.specs.Store.{Store, IsThere}
-use Rattle.lmem_heap.specs.declared.error.InsertError.{InsertError}
-use Rattle.lmem_heap.specs.declared.error.InsertError.TheVariants.{BadChunk, Range, Room}
-use Rattle.lmem_heap.specs.InsertErrors.{IsInsertError}
 use Rattle.lmem_heap.specs.declared.error.RoomError.{RoomError}
 use Rattle.lmem_heap.specs.declared.error.RoomError.TheVariants as room
 use Rattle.lmem_heap.specs.Refusals.{IsRoomError}
@@ -58,20 +54,3 @@ module _ (f : List (Option (List ℕ)) → List (Option (List ℕ))) (r : RoomEr
     where
       larger : (n m : ℕ) → n < m → m ≡ max n m
       larger n m less = omega (arith, less)
-
--- where room was made for inserted bytes, they are inserted
-pub insert-comes : (c at n : ℕ) (r : RoomError) (done : Unit {0}) (old was mid : Store) (name : Name) → IsThere old (slot_of name) → IsInsertError (Room r) (chunks_at old name) (size_at old name) c at n → was ≡ old
-    → MakesRoom r (Ok done) was mid name → (e : InsertError) → IsInsertError e (chunks_at mid name) (size_at mid name) c at n → ⊥
-insert-comes c at n r done old was mid name there first same m e again = never e again
-  where
-    chunks : chunks_at mid name ≡ chunks_at old name
-    chunks = room-chunks (λ (cs : List (Option (List ℕ))). with_inserted cs c at n) r done old was mid name there first.2 same m
-
-    some_none : {A : Type 0} (o : Option A) → IsSome o → o ≡ None → ⊥
-    some_none None h e = absurd cc
-    some_none (Some x) h e = absurd cc
-
-    never : (e : InsertError) → IsInsertError e (chunks_at mid name) (size_at mid name) c at n → ⊥
-    never BadChunk a = some_none (chunk_of (chunks_at old name) c) first.0 (subst (λ cs. chunk_of cs c ≡ None) chunks a)
-    never Range a = omega (arith, first.1, subst (λ cs. length (model.bytes_of cs c) < at) chunks a.1)
-    never (Room r2) a = asks-once (λ (cs : List (Option (List ℕ))). with_inserted cs c at n) r done old was mid name there first.2 same m r2 a.2

@@ -1,8 +1,7 @@
 pub mod View
 pub mod Spans
 pub mod Kernel
-pub mod Refused
 pub mod Heaps
-pub mod Arrays
-pub mod Places
-pub mod Answer
+pub mod Edits
+pub mod Refused
+pub mod Turns

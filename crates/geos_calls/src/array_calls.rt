@@ -1,12 +1,13 @@
-//! The kernel's calls on arrays in chunks.
+//! The kernel's calls on arrays in chunks, by their names.
 
 ghost use Rattle.std.specs.Prelude.{◌≡◌, ◌≤◌, IfOk, Err};
 
-use crate::arrays::{self, ArrayGrowth, of_array, of_element};
 use crate::kernel::Kernel;
+use crate::obstacle::why_no_element;
 use crate::span::Span;
-use chunk_array::{count, element};
+use chunk_array::element;
 use geos_model::{Name, Refusal};
+use geos_table::{Ask, Change, Make};
 
 impl Kernel {
     ghost use Rattle.geos_model.specs.declared.refusal.Refusal.TheVariants.{NoRoom};
@@ -26,7 +27,7 @@ impl Kernel {
         ensures calls { Calls (table.canew name element_size) result self.old self.new }
         ensures no_room { result ≡ Err NoRoom → HasNoRoomFor self.new name (create_array element_size (chunks_at (memory_of self.old) name)).chunks }
     {
-        arrays::create(&mut self.blocks, name, element_size)
+        self.make(name, Make::Canew { element_size })
     }
 
     /// Puts an element of zeros behind the others, of `n` bytes where sizes vary. `BadChunk`
@@ -38,7 +39,7 @@ impl Kernel {
         ensures calls { Calls (table.caadd name c n) result self.old self.new }
         ensures no_room { result ≡ Err NoRoom → HasNoRoomFor self.new name (append_element c n (chunks_at (memory_of self.old) name)).chunks }
     {
-        arrays::change(&mut self.blocks, name, ArrayGrowth::Append { c, n })
+        self.change(name, Change::Caadd { c, n })
     }
 
     /// Puts an element of zeros at an index, which may be the count, of `n` bytes where sizes
@@ -49,7 +50,7 @@ impl Kernel {
         ensures calls { Calls (table.cains name c i n) result self.old self.new }
         ensures no_room { result ≡ Err NoRoom → HasNoRoomFor self.new name (insert_element c i n (chunks_at (memory_of self.old) name)).chunks }
     {
-        arrays::change(&mut self.blocks, name, ArrayGrowth::Insert { c, i, n })
+        self.change(name, Change::Cains { c, i, n })
     }
 
     /// Takes an element out. `BadChunk` and `BadArray` as `caadd`, `BadElement` where no
@@ -58,7 +59,7 @@ impl Kernel {
         requires { IsLocked self.old name }
         ensures { Calls (table.cadel name c i) result self.old self.new }
     {
-        arrays::remove(&mut self.blocks, name, c, i)
+        self.change(name, Change::Cadel { c, i })
     }
 
     /// The count of an array's elements. `BadChunk` where no chunk of the block has this
@@ -67,10 +68,7 @@ impl Kernel {
         requires { IsLocked self.now name }
         ensures { Calls (table.cacount name c) result self.now self.now }
     {
-        match count(self.blocks.bytes(name), c) {
-            Ok(n) => Ok(n),
-            Err(why) => Err(of_array(why)),
-        }
+        self.ask(name, Ask::Cacount { c })
     }
 
     /// Where an element's bytes lie, which must be `n` at least. `BadChunk` where no chunk of
@@ -84,7 +82,7 @@ impl Kernel {
     {
         let (at, len) = match element(self.blocks.bytes(name), c, i) {
             Ok(place) => place,
-            Err(why) => return Err(of_element(why)),
+            Err(why) => return Err(why_no_element(why)),
         };
         if len < n {
             return Err(Refusal::Short);
@@ -101,7 +99,7 @@ impl Kernel {
         requires { IsLocked self.old name }
         ensures { Calls (table.cazero name c) result self.old self.new }
     {
-        arrays::clear(&mut self.blocks, name, c)
+        self.change(name, Change::Cazero { c })
     }
 
     /// Gives an element of an array whose sizes vary `n` bytes: its first ones that fit, and
@@ -113,6 +111,6 @@ impl Kernel {
         ensures calls { Calls (table.caresize name c i n) result self.old self.new }
         ensures no_room { result ≡ Err NoRoom → HasNoRoomFor self.new name (resize_element c i n (chunks_at (memory_of self.old) name)).chunks }
     {
-        arrays::change(&mut self.blocks, name, ArrayGrowth::Resize { c, i, n })
+        self.change(name, Change::Caresize { c, i, n })
     }
 }

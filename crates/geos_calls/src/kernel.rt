@@ -5,13 +5,15 @@ ghost use Rattle.block_handles.specs.Names.{IsHandle, slot_of};
 ghost use Rattle.block_handles.specs.Store.{IsThere};
 ghost use Rattle.geos_calls.specs.Heaps.{FindsNoRoom};
 ghost use Rattle.geos_calls.specs.Kernel.{IsKernel, MakesHeap};
-ghost use Rattle.geos_calls.specs.Refused.{of_handle, of_free, of_delete};
+ghost use Rattle.geos_calls.specs.Refused.{of_handle};
 
+use crate::asks::tell;
 use crate::span::Span;
-use crate::{growth, heaps};
-use block_handles::{Blocks, HandleError, RoomError};
+use crate::{changes, makes};
+use block_handles::{Blocks, HandleError};
 use geos_model::{Name, Owner, Refusal};
-use lmem_heap::{BadChunk, DeleteError, init, locate, size};
+use geos_table::{Ask, Change, Make, Refer};
+use lmem_heap::{contract, init, locate};
 use std::alloc::{AllocError, Global};
 use std::marker::Model;
 
@@ -43,7 +45,7 @@ impl Kernel {
     ghost use Rattle.block_handles.specs.Store.{bytes_of};
     ghost use Rattle.geos_model.specs.declared.refusal.Refusal.TheVariants.{NoRoom};
     ghost use Rattle.geos_table.specs.Calls as table;
-    ghost use Rattle.geos_model.specs.Chunks.{with_new, with_resized, with_inserted};
+    ghost use Rattle.geos_table.specs.ChunkCalls.{change_edit, change_row, make_edit, make_row, ask_row, refer_row, least};
     ghost use Rattle.geos_model.specs.Heap.{IsCompact};
     ghost use Rattle.geos_table.specs.Legal.{IsMemory};
     ghost use Rattle.geos_table.specs.Memory.{chunks_at, locks_of};
@@ -142,59 +144,50 @@ impl Kernel {
         })
     }
 
-    /// Makes a chunk of `n` zero bytes in a locked block, and answers its handle: the lowest
-    /// one of the block that is free. `TooBig` where the block would need more than 65,520
-    /// bytes, `NoRoom` where it must grow and no stretch of the region has room for it. Spans
-    /// into the block are stale after it, also where it is refused.
-    pub fn lalloc(&mut self, name: Name, n: u16) -> Result<u16, Refusal>
+    /// Changes the chunks of a locked block, as the value says. `BadChunk`, `BadArray`,
+    /// `BadElement` and `Range` as the named calls say; `TooBig` where the block would need more
+    /// than 65,520 bytes, `NoRoom` where it must grow and no stretch of the region has room for
+    /// it. Spans into the block are stale after it, also where it is refused.
+    pub fn change(&mut self, name: Name, change: Change) -> Result<(), Refusal>
         requires { IsLocked self.old name }
-        ensures calls { Calls (table.lalloc name n) result self.old self.new }
-        ensures no_room { result ≡ Err NoRoom → HasNoRoomFor self.new name (with_new (chunks_at (memory_of self.old) name) n) }
+        ensures calls { Calls (change_row name change) result self.old self.new }
+        ensures no_room { result ≡ Err NoRoom → HasNoRoomFor self.new name (change_edit change (chunks_at (memory_of self.old) name)).chunks }
     {
-        growth::alloc(&mut self.blocks, name, n)
+        changes::change(&mut self.blocks, name, change)
     }
 
-    /// Frees a chunk of a locked block. `BadChunk` where no chunk of the block has this
-    /// handle. Spans into the block are stale after it, also where it is refused.
-    pub fn lfree(&mut self, name: Name, c: u16) -> Result<(), Refusal>
+    /// Makes a chunk in a locked block, as the value says, and answers its handle: the lowest
+    /// one of the block that is free. `TooBig` and `NoRoom` as `change`. Spans into the block
+    /// are stale after it, also where it is refused.
+    pub fn make(&mut self, name: Name, make: Make) -> Result<u16, Refusal>
         requires { IsLocked self.old name }
-        ensures { Calls (table.lfree name c) result self.old self.new }
+        ensures calls { Calls (make_row name make) result self.old self.new }
+        ensures no_room { result ≡ Err NoRoom → HasNoRoomFor self.new name (make_edit make (chunks_at (memory_of self.old) name)).chunks }
     {
-        let freed = heaps::free(&mut self.blocks, name, c);
-        of_free(freed)
+        makes::make(&mut self.blocks, name, make)
     }
 
-    /// Gives a chunk of a locked block `n` bytes: its first ones that fit, and zeros behind
-    /// them. `BadChunk` where no chunk of the block has this handle; else refused as `lalloc`
-    /// is, and makes stale what `lalloc` does.
-    pub fn lrealloc(&mut self, name: Name, c: u16, n: u16) -> Result<(), Refusal>
-        requires { IsLocked self.old name }
-        ensures calls { Calls (table.lrealloc name c n) result self.old self.new }
-        ensures no_room { result ≡ Err NoRoom → HasNoRoomFor self.new name (with_resized (chunks_at (memory_of self.old) name) c n) }
+    /// Tells a number of the chunks of a locked block, as the value says. `BadChunk` where no
+    /// chunk of the block has this handle, `BadArray` where its bytes are no array.
+    pub fn ask(&self, name: Name, ask: Ask) -> Result<u16, Refusal>
+        requires { IsLocked self.now name }
+        ensures { Calls (ask_row name ask) result self.now self.now }
     {
-        growth::realloc(&mut self.blocks, name, c, n)
+        tell(self.blocks.bytes(name), ask)
     }
 
-    /// Inserts `n` zero bytes at an offset of a chunk of a locked block. `BadChunk` where no
-    /// chunk of the block has this handle, `Range` where the offset is past its length; else
-    /// refused as `lalloc` is, and makes stale what `lalloc` does.
-    pub fn lins(&mut self, name: Name, c: u16, at: u16, n: u16) -> Result<(), Refusal>
-        requires { IsLocked self.old name }
-        ensures calls { Calls (table.lins name c at n) result self.old self.new }
-        ensures no_room { result ≡ Err NoRoom → HasNoRoomFor self.new name (with_inserted (chunks_at (memory_of self.old) name) c at n) }
+    /// Where the bytes lie that the value names, in a chunk of a locked block. `BadChunk`,
+    /// `BadArray`, `BadElement` and `Short` as `deref` and `caelt` say. The span stands until a
+    /// call makes the chunk's references stale.
+    pub fn refer(&self, name: Name, refer: Refer) -> Result<Span, Refusal>
+        requires { IsLocked self.now name }
+        ensures gives { GivesSpan (refer_row name refer) result self.now }
+        ensures stands { IfOk result (λ span. IsStanding self.now span × (least refer ≤ span.len)) }
     {
-        growth::insert(&mut self.blocks, name, c, at, n)
-    }
-
-    /// Deletes `n` bytes at an offset of a chunk of a locked block. `BadChunk` where no chunk
-    /// of the block has this handle, `Range` where they reach past its length. Makes stale
-    /// what `lalloc` does.
-    pub fn ldel(&mut self, name: Name, c: u16, at: u16, n: u16) -> Result<(), Refusal>
-        requires { IsLocked self.old name }
-        ensures { Calls (table.ldel name c at n) result self.old self.new }
-    {
-        let deleted = heaps::delete(&mut self.blocks, name, c, at, n);
-        of_delete(deleted)
+        match refer {
+            Refer::Deref { c, n } => self.deref(name, c, n),
+            Refer::Caelt { c, i, n } => self.caelt(name, c, i, n),
+        }
     }
 
     /// Moves the chunks of a locked block together, so that its free bytes are in one piece,
@@ -204,18 +197,7 @@ impl Kernel {
         ensures calls { Calls (table.lcontract name) (Ok tt) self.old self.new }
         ensures compact { IsCompact (bytes_of self.new.blocks (slot_of name)) }
     {
-        heaps::contract(&mut self.blocks, name);
-    }
-
-    /// The length of a chunk in bytes. `BadChunk` where no chunk of the block has this handle.
-    pub fn lsize(&self, name: Name, c: u16) -> Result<u16, Refusal>
-        requires { IsLocked self.now name }
-        ensures { Calls (table.lsize name c) result self.now self.now }
-    {
-        match size(self.blocks.bytes(name), c) {
-            Ok(n) => Ok(n),
-            Err(_) => Err(Refusal::BadChunk),
-        }
+        contract(self.blocks.bytes_mut(name));
     }
 }
 
@@ -227,27 +209,6 @@ fn of_handle(done: Result<(), HandleError>) -> Result<(), Refusal>
         Ok(()) => Ok(()),
         Err(HandleError::BadHandle) => Err(Refusal::BadHandle),
         Err(HandleError::Locked) => Err(Refusal::Locked),
-    }
-}
-
-/// Why a chunk was not freed, as the kernel says it.
-fn of_free(done: Result<(), BadChunk>) -> Result<(), Refusal>
-    ensures { result ≡ of_free done }
-{
-    match done {
-        Ok(()) => Ok(()),
-        Err(BadChunk) => Err(Refusal::BadChunk),
-    }
-}
-
-/// Why bytes of a chunk were not deleted, as the kernel says it.
-fn of_delete(done: Result<(), DeleteError>) -> Result<(), Refusal>
-    ensures { result ≡ of_delete done }
-{
-    match done {
-        Ok(()) => Ok(()),
-        Err(DeleteError::BadChunk) => Err(Refusal::BadChunk),
-        Err(DeleteError::Range) => Err(Refusal::Range),
     }
 }
 

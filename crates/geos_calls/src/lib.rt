@@ -6,17 +6,19 @@
 #![tactic(auto)]
 
 mod access;
-mod answer;
 mod array_calls;
-mod arrays;
-mod call;
+mod asks;
+mod changes;
+mod chunk_calls;
 mod growth;
-mod heaps;
 mod kernel;
-mod places;
+mod law;
+mod makes;
+mod obstacle;
 mod span;
 
-pub use call::{ArrayCall, BlockCall, Call, Reply};
 pub use geos_model::{Name, Owner, Refusal};
+pub use geos_table::{Ask, Change, Make, Refer};
 pub use kernel::Kernel;
+pub use law::calls_answer_in_turn;
 pub use span::Span;

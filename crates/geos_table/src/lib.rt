@@ -1,11 +1,15 @@
-//! Memory as the model knows it, the table of the kernel's calls, and their law.
+//! Memory as the model knows it, the table of the kernel's calls and its law, and calls on chunks
+//! as values.
 //!
 //! `specs/Memory.antt` has blocks by their names; `specs/Effects.antt` what a call comes to;
-//! `specs/Calls.antt` and `specs/ArrayCalls.antt` a row for each call; `specs/Tight.antt` where
-//! room may be wanting; `specs/Legal.antt` what every memory of a kernel is. docs/MODEL.md says
-//! all of it in words. (GEOS SDK Concepts Book, chapters Memory Management and Local Memory.)
+//! `specs/Calls.antt` and `specs/ArrayCalls.antt` a row for each call; `specs/ChunkCalls.antt`
+//! the edit and the row of each value; `specs/Tight.antt` where room may be wanting;
+//! `specs/Legal.antt` what every memory of a kernel is. docs/MODEL.md says all of it in words.
+//! (GEOS SDK Concepts Book, chapters Memory Management and Local Memory.)
 #![tactic(auto)]
 
+mod call;
 mod law;
 
+pub use call::{Ask, Change, Make, Refer};
 pub use law::rows_keep_memory;

@@ -1,11 +1,9 @@
-//! Lines with direct calls of the kernel.
-
-ghost use Rattle.geos_calls.specs.View.{IsLocked};
+//! Lines with calls of the kernel.
 
 use crate::Answer;
-use crate::lists::block_call_of;
-use crate::spans::{is_span_call, length, span_call};
-use geos_calls::{ArrayCall, BlockCall, Kernel};
+use crate::block_call::BlockCall;
+use crate::spans::{is_span_call, span_call};
+use geos_calls::Kernel;
 use geos_model::{Name, Owner};
 use std::alloc::{AllocError, Global};
 use trial_lines::{Line, Series};
@@ -43,7 +41,7 @@ fn named_call(kernel: &mut Kernel, name: Name, word: &str, line: &Line<'_>) -> A
     if word == "locks" {
         return Answer::Number(u32::from(kernel.locks(name)));
     }
-    let call = block_call_of(word, line);
+    let call = BlockCall::of(word, line);
     if call.is_none() && !is_span_call(word) {
         return Answer::NotACall;
     }
@@ -51,43 +49,8 @@ fn named_call(kernel: &mut Kernel, name: Name, word: &str, line: &Line<'_>) -> A
         return Answer::NotAsked(NOT_LOCKED);
     }
     match call {
-        Some(call) => block_call(kernel, name, call),
+        Some(call) => call.make(kernel, name),
         None => span_call(kernel, name, word, line),
-    }
-}
-
-/// Makes a call on a locked block.
-fn block_call(kernel: &mut Kernel, name: Name, call: BlockCall) -> Answer
-    requires { IsLocked kernel.old name }
-{
-    match call {
-        BlockCall::Unlock => kernel.munlock(name),
-        BlockCall::Lcontract => kernel.lcontract(name),
-        BlockCall::Lalloc { n } => return kernel.lalloc(name, n).into(),
-        BlockCall::Lfree { c } => return kernel.lfree(name, c).into(),
-        BlockCall::Lrealloc { c, n } => return kernel.lrealloc(name, c, n).into(),
-        BlockCall::Lins { c, at, n } => return kernel.lins(name, c, at, n).into(),
-        BlockCall::Ldel { c, at, n } => return kernel.ldel(name, c, at, n).into(),
-        BlockCall::Lsize { c } => return kernel.lsize(name, c).into(),
-        BlockCall::Deref { c, n, place: _ } => return length(kernel.deref(name, c, n)),
-        BlockCall::Array(call) => return array_call(kernel, name, call),
-    }
-    Answer::Done
-}
-
-/// Makes a call on an array of a locked block.
-fn array_call(kernel: &mut Kernel, name: Name, call: ArrayCall) -> Answer
-    requires { IsLocked kernel.old name }
-{
-    match call {
-        ArrayCall::Canew { element_size } => kernel.canew(name, element_size).into(),
-        ArrayCall::Caadd { c, n } => kernel.caadd(name, c, n).into(),
-        ArrayCall::Cains { c, i, n } => kernel.cains(name, c, i, n).into(),
-        ArrayCall::Cadel { c, i } => kernel.cadel(name, c, i).into(),
-        ArrayCall::Cacount { c } => kernel.cacount(name, c).into(),
-        ArrayCall::Caelt { c, i, n, place: _ } => length(kernel.caelt(name, c, i, n)),
-        ArrayCall::Cazero { c } => kernel.cazero(name, c).into(),
-        ArrayCall::Caresize { c, i, n } => kernel.caresize(name, c, i, n).into(),
     }
 }
 

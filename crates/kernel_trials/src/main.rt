@@ -7,19 +7,18 @@
 //! chunk. `copy H TO FROM N` copies from chunk to chunk, and `bytes H C` reads all bytes of a chunk.
 //!
 //! `times N CALL` makes a call so often and tells how the answers run, and `fill FROM TO N` makes a block and a chunk of `n` bytes for
-//! each of these handles. The calls between `list` and `end` are answered all at once; after `list N` so often.
+//! each of these handles.
 #![tactic(auto)]
 
+mod block_call;
 mod calls;
-mod lists;
 mod spans;
 
-use crate::lists::List;
 use geos_calls::Kernel;
 use geos_model::Refusal;
 use std::alloc::{AllocError, Global};
 use std::io;
-use trial_lines::{Line, Reading, carry_out};
+use trial_lines::{Line, run};
 
 /// What a call answers.
 type Answer = trial_lines::Answer<Refusal>;
@@ -30,41 +29,13 @@ const LEAST: u32 = 65_536;
 /// The length of the largest region that a kernel has.
 const MOST: u32 = 16_777_216;
 
-/// The kernel that calls are made on, and the list whose lines are being read.
+/// The kernel that calls are made on.
 #[derive(Drop)]
 struct Trial {
     kernel: Kernel,
-    list: Option<List>,
 }
 
 impl Trial {
-    /// Takes a line: it belongs to the list, ends it, begins one, or is carried out.
-    fn take(&mut self, rt: &HostRuntime, text: String) -> io::Result<()> {
-        match self.list.take() {
-            None => self.take_outside(rt, text.as_str()),
-            Some(list) if text.trim() == "end" => {
-                list.answer(rt, &mut self.kernel)?;
-                println!(rt; "{text}")
-            }
-            Some(mut list) => {
-                list.push(text)?;
-                self.list = Some(list);
-                Ok(())
-            }
-        }
-    }
-
-    /// Takes a line that stands in no list.
-    fn take_outside(&mut self, rt: &HostRuntime, text: &str) -> io::Result<()> {
-        match Reading::of(text) {
-            Reading::Call(line) if line.word == "list" => {
-                self.list = Some(List::new(rt.alloc(), line.numbers[0].max(1)));
-                println!(rt; "{text}")
-            }
-            _ => carry_out(rt, rt.alloc(), self, text),
-        }
-    }
-
     /// Makes the kernel anew, with a region of so many bytes.
     fn renew(&mut self, alloc: Global, region: u32) -> Result<Answer, AllocError> {
         if region < LEAST || region > MOST {
@@ -91,10 +62,6 @@ impl trial_lines::Trial for Trial {
 fn main(rt: HostRuntime) -> io::Result<()> {
     let mut trial = Trial {
         kernel: Kernel::new(rt.alloc(), LEAST)?,
-        list: None,
     };
-    for line in rt.lines(rt.alloc()) {
-        trial.take(&rt, line?)?;
-    }
-    Ok(())
+    run(&rt, rt.alloc(), &mut trial)
 }

@@ -8,7 +8,7 @@ use Rattle.geos_table.specs.ArrayCalls as table
 use Rattle.chunk_array.specs.Elements.{HasElement}
 use Rattle.chunk_array.specs.ElementErrors.{IsElementError}
 use Rattle.geos_calls.specs.declared.span.Span.{Span}
-use Rattle.geos_calls.specs.Refused.{of_element}
+use Rattle.geos_calls.specs.Refused.{why_no_element}
 use Rattle.geos_calls.specs.View.{IsLocked}
 use Rattle.geos_calls.specs.Kernel.{GivesSpan}
 use Rattle.geos_calls.proofs.ArrayLooks.{caelt-none, caelt-few, caelt-span}
@@ -41,10 +41,10 @@ returns-in-Err-clause-gives c =
     let s = with_store c.self.inside.blocks in
     let locked = subst (λ t. IsLocked t c.args.name) (sym c.self.view_is) c.requires in
     let none = subst (λ bytes. IsElementError c.in-Err.why (no_element (chunks bytes) c.args.c c.args.i)) c.bytes.ensures c.in-Err.ensures.refused in
-    let gives : GivesSpan (table.caelt c.args.name c.args.c c.args.i c.args.n) (Err (of_element c.in-Err.why)) s =
+    let gives : GivesSpan (table.caelt c.args.name c.args.c c.args.i c.args.n) (Err (why_no_element c.in-Err.why)) s =
     caelt-none s c.args.name c.self.invariant locked c.args.c c.args.i c.args.n c.in-Err.why none in
-    subst (λ why. GivesSpan (table.caelt c.args.name c.args.c c.args.i c.args.n) (Err why) c.args.self.now) (sym c.of_element.ensures)
-    (subst (GivesSpan (table.caelt c.args.name c.args.c c.args.i c.args.n) (Err (of_element c.in-Err.why))) c.self.view_is gives)
+    subst (λ why. GivesSpan (table.caelt c.args.name c.args.c c.args.i c.args.n) (Err why) c.args.self.now) (sym c.why_no_element.ensures)
+    (subst (GivesSpan (table.caelt c.args.name c.args.c c.args.i c.args.n) (Err (why_no_element c.in-Err.why))) c.self.view_is gives)
 
 pub returns-then-len-n-clause-gives : goal.returns-then-len-n-clause-gives
 returns-then-len-n-clause-gives c =

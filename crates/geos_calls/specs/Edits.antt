@@ -1,0 +1,55 @@
+-- What a call makes of the chunks of one block, by its edit, and when it refuses.
+use Rattle.std.specs.Prelude.{◌≡◌, ℕ, Bool, true, false, ◌⊎◌, List, Option, Some, None, Result, Ok, Err}
+use Rattle.geos_model.specs.declared.name.Name.{Name}
+use Rattle.geos_model.specs.declared.refusal.Refusal.{Refusal}
+use Rattle.geos_model.specs.Refusals.{first_refusal}
+use Rattle.geos_model.specs.Chunks.{need}
+use Rattle.geos_model.specs.Edits.{Edit}
+use Rattle.block_handles.specs.Store.{Store}
+use Rattle.lmem_heap.specs.Refusals.{IsRoomError}
+use Rattle.geos_calls.specs.declared.obstacle.Obstacle.{Obstacle}
+use Rattle.geos_calls.specs.declared.obstacle.Obstacle.TheVariants.{Refused, Room}
+use Rattle.geos_calls.specs.Heaps.{Edits, Regrows, LacksRoom}
+use Rattle.geos_calls.specs.View.{chunks_at, size_at}
+
+-- no test of an edit holds, and this is its answer
+abbrev pub Passes : {A : Type 0} → Edit A → A → Type 0
+Passes edit answer = (answer ≡ edit.answer) × (first_refusal edit.refusals ≡ None)
+
+-- tells what an edit of these chunks answers, or refuses it
+abbrev pub Tells : {A : Type 0} → (List (Option (List ℕ)) → Edit A) → List (Option (List ℕ)) → Result A Refusal → Type 0
+Tells edit chunks (Ok answer) = Passes (edit chunks) answer
+Tells edit chunks (Err why) = first_refusal (edit chunks).refusals ≡ Some why
+
+-- the edit's first test that holds has this refusal; or none holds, and its chunks need more
+-- room than a block of this size has
+abbrev pub IsObstacle : {A : Type 0} → Obstacle → Edit A → ℕ → Type 0
+IsObstacle (Refused why) edit size = first_refusal edit.refusals ≡ Some why
+IsObstacle (Room room) edit size = (first_refusal edit.refusals ≡ None) × IsRoomError room (need edit.chunks) size
+
+-- makes an edit of a block that stays as large as it is, or says what stands in its way
+abbrev pub Tries : {A : Type 0} → (List (Option (List ℕ)) → Edit A) → Store → Store → Name → Result A Obstacle → Type 0
+Tries edit old new name (Ok answer) = let e = edit (chunks_at old name) in Passes e answer × Edits old new name e.chunks
+Tries edit old new name (Err obstacle) = IsObstacle obstacle (edit (chunks_at old name)) (size_at old name) × (new ≡ old)
+
+-- makes an edit that wants no room, or refuses it
+abbrev pub Changes : {A : Type 0} → (List (Option (List ℕ)) → Edit A) → Store → Store → Name → Result A Refusal → Type 0
+Changes edit old new name (Ok answer) = let e = edit (chunks_at old name) in Passes e answer × Edits old new name e.chunks
+Changes edit old new name (Err why) = (first_refusal (edit (chunks_at old name)).refusals ≡ Some why) × (new ≡ old)
+
+-- makes an edit, for which the block may grow; or refuses it, or the room that it needs
+abbrev pub Comes : {A : Type 0} → (List (Option (List ℕ)) → Edit A) → Store → Store → Name → Result A Refusal → Type 0
+Comes edit old new name (Ok answer) = let e = edit (chunks_at old name) in Passes e answer × Regrows old new name e.chunks
+Comes edit old new name (Err why) =
+    let e = edit (chunks_at old name) in
+    ((first_refusal e.refusals ≡ Some why) ⊎ ((first_refusal e.refusals ≡ None) × LacksRoom why old name e.chunks)) × (new ≡ old)
+
+-- makes an edit, for which the block grows where it may
+abbrev pub Carries : {A : Type 0} → Bool → (List (Option (List ℕ)) → Edit A) → Store → Store → Name → Result A Refusal → Type 0
+Carries true edit = Comes edit
+Carries false edit = Changes edit
+
+-- room is wanted only where the block may grow
+abbrev pub IsOwn : Bool → Result (Unit {0}) Obstacle → Type 0
+IsOwn false (Err (Room room)) = ⊥
+IsOwn _ _ = Unit {0}

@@ -1,0 +1,77 @@
+//! Calls on locked blocks, by the words of lines.
+
+ghost use Rattle.geos_calls.specs.View.{IsLocked};
+
+use crate::Answer;
+use crate::spans::length;
+use geos_calls::{Ask, Change, Kernel, Make, Refer};
+use geos_model::Name;
+use trial_lines::Line;
+
+/// A call on a locked block.
+#[derive(Clone, Copy)]
+pub(crate) enum BlockCall {
+    Unlock,
+    Change(Change),
+    Make(Make),
+    Ask(Ask),
+    Refer(Refer),
+}
+
+impl BlockCall {
+    /// The call of a line whose word, without `vm_`, is this one.
+    pub(crate) fn of(word: &str, line: &Line<'_>) -> Option<BlockCall> {
+        let c = line.word_at(1);
+        let n = line.word_at(2);
+        let call = match word {
+            "munlock" => BlockCall::Unlock,
+            "lalloc" => BlockCall::Make(Make::Lalloc { n: c }),
+            "canew" => BlockCall::Make(Make::Canew { element_size: c }),
+            "lsize" => BlockCall::Ask(Ask::Lsize { c }),
+            "cacount" => BlockCall::Ask(Ask::Cacount { c }),
+            "deref" => BlockCall::Refer(Refer::Deref { c, n }),
+            "caelt" => BlockCall::Refer(Refer::Caelt {
+                c,
+                i: n,
+                n: line.word_at(3),
+            }),
+            _ => BlockCall::Change(change_of(word, line)?),
+        };
+        Some(call)
+    }
+
+    /// Makes the call.
+    pub(crate) fn make(self, kernel: &mut Kernel, name: Name) -> Answer
+        requires { IsLocked kernel.old name }
+    {
+        match self {
+            BlockCall::Unlock => {
+                kernel.munlock(name);
+                Answer::Done
+            }
+            BlockCall::Change(change) => kernel.change(name, change).into(),
+            BlockCall::Make(make) => kernel.make(name, make).into(),
+            BlockCall::Ask(ask) => kernel.ask(name, ask).into(),
+            BlockCall::Refer(refer) => length(kernel.refer(name, refer)),
+        }
+    }
+}
+
+/// The change of a line.
+fn change_of(word: &str, line: &Line<'_>) -> Option<Change> {
+    let [c, at, n] = [line.word_at(1), line.word_at(2), line.word_at(3)];
+    let i = at;
+    match word {
+        "lfree" => Some(Change::Lfree { c }),
+        "lrealloc" => Some(Change::Lrealloc { c, n: at }),
+        "lins" => Some(Change::Lins { c, at, n }),
+        "ldel" => Some(Change::Ldel { c, at, n }),
+        "lcontract" => Some(Change::Lcontract),
+        "caadd" => Some(Change::Caadd { c, n: at }),
+        "cains" => Some(Change::Cains { c, i, n }),
+        "cadel" => Some(Change::Cadel { c, i }),
+        "cazero" => Some(Change::Cazero { c }),
+        "caresize" => Some(Change::Caresize { c, i, n }),
+        _ => None,
+    }
+}
