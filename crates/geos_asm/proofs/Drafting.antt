@@ -113,7 +113,7 @@ module _ (image : Parts) (facts : Facts image) where
   one_more : (xs : List Point) (k : ℕ) (x : Point) → slice_get xs k ≡ Some x → take k (map instr_of xs) ++ x.instr ∷ [] ≡ take (suc k) (map instr_of xs)
   one_more [] k x e = absurd cc
   one_more (y ∷ xs) zero x e = let same : x ≡ y = cc in ap (λ (p : Point). p.instr ∷ []) same
-  one_more (y ∷ xs) (suc k) x e = ap (λ (is : List Instr). y.0 ∷ is) (one_more xs k x e)
+  one_more (y ∷ xs) (suc k) x e = ap (λ (is : List Instr). y.instr ∷ is) (one_more xs k x e)
 
   so_many : (xs : List Point) (k : ℕ) (x : Point) → slice_get xs k ≡ Some x → length (take k (map instr_of xs)) ≡ k
   so_many [] k x e = absurd cc
