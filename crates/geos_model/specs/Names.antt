@@ -1,7 +1,7 @@
 -- Names of blocks.
 use Rattle.std.specs.Prelude.{ℕ}
 use Rattle.geos_model.specs.declared.name.Owner.{Owner}
-use Rattle.geos_model.specs.declared.name.Owner.TheVariants.{Mem}
+use Rattle.geos_model.specs.declared.name.Owner.TheVariants.{Mem, Vm}
 use Rattle.geos_model.specs.declared.name.Name.{Name}
 
 -- the block with a handle of an owner
@@ -11,3 +11,7 @@ named owner h = record { owner = owner; h = h }
 -- the block of global memory with a handle
 abbrev pub mem : ℕ → Name
 mem h = named Mem h
+
+-- the block of the VM file with a handle
+abbrev pub vm : ℕ → Name
+vm h = named Vm h

@@ -1,7 +1,7 @@
 -- The refusals of calls, in order, and their numbers.
 use Rattle.std.specs.Prelude.{ℕ, Bool, List, [], ◌∷◌, Option, Some, None, if◌then◌else◌}
 use Rattle.geos_model.specs.declared.refusal.Refusal.{Refusal}
-use Rattle.geos_model.specs.declared.refusal.Refusal.TheVariants.{BadHandle, BadChunk, Short, NoRoom, NoHandle, TooBig, Locked, BadArray, BadElement, Full, Range}
+use Rattle.geos_model.specs.declared.refusal.Refusal.TheVariants.{BadHandle, BadChunk, Short, NoRoom, NoHandle, TooBig, Locked, BadArray, BadElement, Full, Disk, Unsure, Memory, Range, Reserved}
 
 -- the number that a routine sees
 abbrev pub refusal_number : Refusal → ℕ
@@ -15,7 +15,11 @@ refusal_number Locked = 7
 refusal_number BadArray = 8
 refusal_number BadElement = 9
 refusal_number Full = 10
+refusal_number Disk = 11
+refusal_number Unsure = 12
+refusal_number Memory = 13
 refusal_number Range = 14
+refusal_number Reserved = 15
 
 -- what stands beside the first test that holds: of refusals in the order in which they are
 -- tried, the one that comes

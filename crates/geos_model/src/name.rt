@@ -21,7 +21,7 @@ pub struct Name {
 }
 
 impl Name {
-    ghost use Rattle.geos_model.specs.Names.{mem};
+    ghost use Rattle.geos_model.specs.Names.{mem, vm};
 
     /// How many handles each owner has.
     pub const HANDLES: u16 = 1024;
@@ -32,6 +32,16 @@ impl Name {
     {
         Name {
             owner: Owner::Mem,
+            h,
+        }
+    }
+
+    /// The name of a block of a VM file.
+    pub fn vm(h: u16) -> Name
+        ensures { result ≡ vm h }
+    {
+        Name {
+            owner: Owner::Vm,
             h,
         }
     }

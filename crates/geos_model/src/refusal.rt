@@ -5,8 +5,9 @@ ghost use Rattle.std.specs.Prelude.{◌≡◌};
 use thiserror::Error;
 
 /// Why a call of the kernel, or an instruction, is refused. Every block keeps its chunks, its
-/// size and its count of locks; references may have become stale. Each refusal has a number,
-/// which a routine sees in w7.
+/// size, its count of locks and its mark; references may have become stale. After a `Disk` from
+/// a commit it may not be sure any more what the device holds. Each refusal has a number, which
+/// a routine sees in w7.
 #[derive(Clone, Copy, Debug, Drop, PartialEq, Eq, Error)]
 pub enum Refusal {
     /// No block has this handle.
@@ -39,9 +40,22 @@ pub enum Refusal {
     /// 1,024 words are put out.
     #[error("no more words can be put out")]
     Full,
+    /// The device failed.
+    #[error("the device failed")]
+    Disk,
+    /// It is not sure what the device holds, so that nothing more is written to it: the file is
+    /// to be opened again.
+    #[error("it is not sure what the device holds")]
+    Unsure,
+    /// An allocation was refused.
+    #[error("out of memory")]
+    Memory,
     /// The offset, or where the bytes end, is past the chunk's end.
     #[error("past the end of the chunk")]
     Range,
+    /// The user ID of groups is given, or a group is named, where a block is wanted.
+    #[error("a group stands in the place of a block")]
+    Reserved,
 }
 
 impl Refusal {
@@ -62,7 +76,11 @@ impl Refusal {
             Refusal::BadArray => 8,
             Refusal::BadElement => 9,
             Refusal::Full => 10,
+            Refusal::Disk => 11,
+            Refusal::Unsure => 12,
+            Refusal::Memory => 13,
             Refusal::Range => 14,
+            Refusal::Reserved => 15,
         }
     }
 }
