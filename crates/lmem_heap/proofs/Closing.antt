@@ -12,7 +12,7 @@ use Rattle.geos_model.proofs.Headers.{head-word, same-header}
 use Rattle.geos_model.proofs.FreePieces.{used-any, used-free}
 use Rattle.lmem_heap.specs.declared.compact.Gap.{Gap}
 use Rattle.lmem_heap.specs.Moves.{MovesRun}
-use Rattle.lmem_heap.specs.Gaps.{HasGap, ClosesGap}
+use Rattle.lmem_heap.specs.Gaps.{HasGap, ClosesGap, closing_words}
 use Rattle.lmem_heap.proofs.Movers.{moved-in, moved-low, moved-high}
 
 -- an entry of a chunk before the gap, behind it, and behind its end
@@ -96,11 +96,8 @@ closed-chunks b c gap header p k =
       ]
     ]))
 
--- the words that are written behind the moved chunks
-pub closing_words : List ℕ → Gap → List ℕ
-closing_words d gap = with_word (with_word (with_word d (gap.end - gap.size) (gap.size + gap.more)) (gap.end - gap.size + 2) gap.after) 12 (gap.end - gap.size)
-
-words-byte : (d : List ℕ) (gap : Gap) (k : ℕ) → (k < 12) ⊎ ((14 ≤ k) × (k < gap.end - gap.size)) ⊎ ((14 ≤ k) × (gap.end - gap.size + 4 ≤ k)) → 16 ≤ gap.end - gap.size → get_or (closing_words d gap) k 0 ≡ get_or d k 0
+-- a byte that those words leave
+pub words-byte : (d : List ℕ) (gap : Gap) (k : ℕ) → (k < 12) ⊎ ((14 ≤ k) × (k < gap.end - gap.size)) ⊎ ((14 ≤ k) × (gap.end - gap.size + 4 ≤ k)) → 16 ≤ gap.end - gap.size → get_or (closing_words d gap) k 0 ≡ get_or d k 0
 unfolding closing_words
 words-byte d gap k where_is low =
     let at = gap.end - gap.size in let d1 = with_word d at (gap.size + gap.more) in let d2 = with_word d1 (at + 2) gap.after in

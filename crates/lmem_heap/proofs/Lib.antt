@@ -3,6 +3,9 @@ pub mod Marking
 pub mod Walking
 pub mod Movers
 pub mod Closing
+pub mod Sliding
+pub mod Unwritten
+pub mod Batches
 pub mod Opening
 pub mod PackedHeaps
 pub mod Edits

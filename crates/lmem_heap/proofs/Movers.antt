@@ -8,7 +8,7 @@ use Rattle.lmem_raw.proofs.Parts.{length-with_part}
 use Rattle.geos_model.specs.Bytes.{word, with_word}
 use Rattle.geos_model.specs.Block.{entry, entries, table_end}
 use Rattle.geos_model.proofs.Words.{word-same, word-other, length-with_word, byte-other, word-bytes, get_or-with_part_before, get_or-with_part_behind, get_or-with_part_within}
-use Rattle.lmem_heap.specs.Moves.{entry_moved, MovesEntries, MovesRun}
+use Rattle.lmem_heap.specs.Moves.{entry_moved, MapsEntries, MovesRun}
 
 pub moved-in : (from end to e : ℕ) → from < e → e < end → entry_moved from end to e ≡ e - from + to
 moved-in from end to e h l = grind (arith, nat_tests)
@@ -19,32 +19,61 @@ moved-low from end to e h = grind (arith, nat_tests)
 pub moved-high : (from end to e : ℕ) → end ≤ e → entry_moved from end to e ≡ e
 moved-high from end to e h = grind (arith, nat_tests)
 
-pub entries-none : (old : List ℕ) (from end to : ℕ) → MovesEntries old old from end to 0
-entries-none old from end to = record { moved = (λ j h. absurd (omega arith)); rest = (λ j h l. refl); head = (λ k h. refl); behind = (λ k h. refl); long = refl }
+-- entries of which the function changes none
+pub entries-kept : (old : List ℕ) (f : ℕ → ℕ) (from end : ℕ) → ((j : ℕ) → from ≤ j → j < end → f (entry old j) ≡ entry old j) → MapsEntries old old f from end
+entries-kept old f from end same = record { mapped = (λ j g h. sym (same j g h)); rest = (λ j h l. refl); head = (λ k h. refl); behind = (λ k h. refl); long = refl }
 
-pub entries-more : (old b : List ℕ) (from end to i w : ℕ) → MovesEntries old b from end to i → i < entries old → table_end old ≤ length old →
-    w ≡ entry_moved from end to (word b (16 + 2 * i)) → w < 65536 → MovesEntries old (with_word b (16 + 2 * i) w) from end to (i + 1)
-entries-more old b from end to i w l h fits is small =
+pub entries-none : (old : List ℕ) (f : ℕ → ℕ) (from : ℕ) → MapsEntries old old f from from
+entries-none old f from = entries-kept old f from from (λ j g h. absurd (omega arith))
+
+pub entries-more : (old b : List ℕ) (f : ℕ → ℕ) (from i w : ℕ) → MapsEntries old b f from i → from ≤ i → i < entries old → table_end old ≤ length old →
+    w ≡ f (word b (16 + 2 * i)) → w < 65536 → MapsEntries old (with_word b (16 + 2 * i) w) f from (i + 1)
+entries-more old b f from i w l up h fits is small =
     let long = l.long in
-    let here : entry (with_word b (16 + 2 * i) w) i ≡ entry_moved from end to (entry old i) = word-same b (16 + 2 * i) w small (omega (arith, long)) ∙ is ∙ ap (entry_moved from end to) (l.rest i (omega arith) h) in
+    let here : entry (with_word b (16 + 2 * i) w) i ≡ f (entry old i) = word-same b (16 + 2 * i) w small (omega (arith, long)) ∙ is ∙ ap f (l.rest i (inr (omega arith)) h) in
     let other : (j : ℕ) → j ≢ i → entry (with_word b (16 + 2 * i) w) j ≡ entry b j = (λ j ne. elim (cases_lt j i) [
       | inl a ↦ word-other b (16 + 2 * i) w (16 + 2 * j) (inl (omega arith))
       | inr a ↦ word-other b (16 + 2 * i) w (16 + 2 * j) (inr (omega arith))
     ]) in
     record {
-      moved = (λ j g. elim (cases_eq j i) [
-        | inl e ↦ ap (λ x. entry (with_word b (16 + 2 * i) w) x) e ∙ here ∙ ap (λ x. entry_moved from end to (entry old x)) (sym e)
-        | inr ne ↦ other j ne ∙ l.moved j (omega arith)
+      mapped = (λ j a g. elim (cases_eq j i) [
+        | inl e ↦ ap (λ x. entry (with_word b (16 + 2 * i) w) x) e ∙ here ∙ ap (λ x. f (entry old x)) (sym e)
+        | inr ne ↦ other j ne ∙ l.mapped j a (omega arith)
       ]);
-      rest = (λ j g r. other j (λ e. absurd (omega arith)) ∙ l.rest j (omega arith) r);
+      rest = (λ j out r. elim out [
+        | inl a ↦ other j (λ e. absurd (omega arith)) ∙ l.rest j (inl a) r
+        | inr a ↦ other j (λ e. absurd (omega arith)) ∙ l.rest j (inr (omega arith)) r
+      ]);
       head = (λ k g. byte-other b (16 + 2 * i) w k (inl (omega arith)) ∙ l.head k g);
       behind = (λ k g. byte-other b (16 + 2 * i) w k (inr (omega arith)) ∙ l.behind k g);
       long = length-with_word b (16 + 2 * i) w ∙ long;
     }
 
+-- the table stays as long
+pub entries-count : (a b : List ℕ) (f : ℕ → ℕ) (from end : ℕ) → MapsEntries a b f from end → entries b ≡ entries a
+entries-count a b f from end x = word-bytes a b 10 10 (x.head 10 (omega arith)) (x.head 11 (omega arith))
+
+-- entries one run after the other
+pub entries-join : (a b c : List ℕ) (f : ℕ → ℕ) (from mid end : ℕ) → from ≤ mid → mid ≤ end → end ≤ entries a → MapsEntries a b f from mid → MapsEntries b c f mid end → MapsEntries a c f from end
+entries-join a b c f from mid end up up' fits x y =
+    let count = entries-count a b f from mid x in
+    record {
+      mapped = (λ j g h. elim (cases_lt j mid) [
+        | inl l ↦ y.rest j (inl l) (omega (arith, count)) ∙ x.mapped j g l
+        | inr l ↦ y.mapped j l h ∙ ap f (x.rest j (inr l) (omega arith))
+      ]);
+      rest = (λ j out r. elim out [
+        | inl l ↦ y.rest j (inl (omega arith)) (omega (arith, count)) ∙ x.rest j (inl l) r
+        | inr l ↦ y.rest j (inr l) (omega (arith, count)) ∙ x.rest j (inr (omega arith)) r
+      ]);
+      head = (λ k h. y.head k h ∙ x.head k h);
+      behind = (λ k h. y.behind k (omega (arith, count)) ∙ x.behind k h);
+      long = y.long ∙ x.long;
+    }
+
 -- the bytes first, and then the entries
 pub run-moved : (b c d : List ℕ) (from end to : ℕ) → table_end b ≤ from → table_end b ≤ to → from ≤ end → end ≤ length b → to + (end - from) ≤ length b →
-    c ≡ with_part b to (part b from (end - from)) → MovesEntries c d from end to (entries c) → MovesRun b d from end to
+    c ≡ with_part b to (part b from (end - from)) → MapsEntries c d (entry_moved from end to) 0 (entries c) → MovesRun b d from end to
 run-moved b c d from end to low low' ordered fits fits' is m =
     let ws = part b from (end - from) in
     let n : length ws ≡ end - from = omega (arith, length-take (end - from) (drop from b), length-drop from b) in
@@ -54,7 +83,7 @@ run-moved b c d from end to low low' ordered fits fits' is m =
     record {
       long = m.long ∙ ap length is ∙ length-with_part b to ws;
       head = (λ k h. m.head k h ∙ low_byte k (omega arith));
-      entries = (λ i h. m.moved i (omega (arith, count)) ∙ ap (entry_moved from end to) (word-bytes b c (16 + 2 * i) (16 + 2 * i) (low_byte (16 + 2 * i) (omega arith)) (low_byte (16 + 2 * i + 1) (omega arith))));
+      entries = (λ i h. m.mapped i (omega arith) (omega (arith, count)) ∙ ap (entry_moved from end to) (word-bytes b c (16 + 2 * i) (16 + 2 * i) (low_byte (16 + 2 * i) (omega arith)) (low_byte (16 + 2 * i + 1) (omega arith))));
       moved = (λ j k e g r. let place : from + (k - from) ≡ k = omega arith in
           m.behind j (omega (arith, count)) ∙ byte j ∙ get_or-with_part_within b to ws j (k - from) (omega arith) (omega (arith, n)) (omega arith)
           ∙ get_or-take (end - from) (drop from b) (k - from) 0 (omega arith) ∙ get_or-drop from b (k - from) 0 ∙ ap (λ x. get_or b x 0) place);

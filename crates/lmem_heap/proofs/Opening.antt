@@ -13,13 +13,13 @@ gap_of first size end more after = record { first = first; size = size; end = en
 
 -- the first free chunk of a heap that is not compact: it lies behind the table, and does not
 -- end the block
-pub record IsFirstGap (b : List ℕ) (f : ℕ) : Type 0 where
+pub record OpensAt (b : List ℕ) (f : ℕ) : Type 0 where
   pub some : f ≢ 0
   pub four : 4 ≤ word b f
   pub within : f + word b f ≤ length b
   pub inner : f + word b f ≢ length b
 
-pub first-gap : (b : List ℕ) (f : ℕ) → IsHeap b → (IsCompact b → ⊥) → f ≡ first_free b → IsFirstGap b f
+pub first-gap : (b : List ℕ) (f : ℕ) → IsHeap b → (IsCompact b → ⊥) → f ≡ first_free b → OpensAt b f
 first-gap b f heap open_still is =
     let some : f ≢ 0 = (λ e. open_still (inl (sym is ∙ e))) in let r = first-room b f heap is some in
     record { some = some; four = r.1; within = r.2; inner = (λ e. open_still (inr (ap (λ x. x + word b x) (sym is) ∙ e))) }

@@ -1,10 +1,13 @@
 -- Free chunks that go up past the chunks behind them.
-use Rattle.std.specs.Prelude.{◌≡◌, ◌≢◌, ℕ, ◌+◌, ◌-◌, ◌%◌, ◌<◌, ◌≤◌, ◌⊎◌, List, length, slice_index}
-use Rattle.geos_model.specs.Bytes.{word, IsShifted}
-use Rattle.geos_model.specs.Block.{entry, entries, table_end, first_free, total_free}
-use Rattle.geos_model.specs.Heap.{Piece, Tiles, HasChunk, IsOffset, AreUsed, free_bytes}
+use Rattle.std.specs.Prelude.{◌≡◌, ◌≢◌, ℕ, ◌+◌, ◌-◌, ◌%◌, ◌<◌, ◌≤◌, ◌⊎◌, List, [], length, slice_index}
+use Rattle.lmem_raw.specs.Bytes.{part, with_part}
+use Rattle.geos_model.specs.Bytes.{word, with_word, IsShifted}
+use Rattle.geos_model.specs.Block.{chunks, entry, entries, handle_word, table_end, first_free, total_free}
+use Rattle.geos_model.specs.Heap.{Piece, Tiles, HasChunk, IsHeap, IsOffset, AreUsed, free_bytes}
 use Rattle.lmem_heap.specs.Moves.{entry_moved}
+use Rattle.lmem_heap.specs.Slides.{AreInOrder, HasSlid, IsButForEntries}
 use Rattle.lmem_heap.specs.declared.compact.Gap.{Gap}
+use Rattle.lmem_heap.specs.declared.slides.Slide.{Slide}
 
 -- a gap of free bytes, the first one: chunks before it, chunks behind it up to its end, and
 -- there more free bytes, or none at the block's end
@@ -23,6 +26,13 @@ pub record HasGap (block : List ℕ) (gap : Gap) : Type 0 where
   pub total : total_free block ≡ gap.size + (gap.more + free_bytes post)
   pub places : (16 ≤ gap.first) × (gap.first + gap.size ≤ gap.end) × (gap.end + gap.more ≤ length block)
 
+-- the first gap, whatever heap these bytes are but for the entries of its table
+pub record IsFirstGap (block : List ℕ) (gap : Gap) : Type 0 where
+  pub has : (heap : List ℕ) → IsButForEntries block heap → HasGap heap gap
+  pub first : gap.first ≡ first_free block
+  pub size : gap.size ≡ word block gap.first
+  pub inner : gap.first + gap.size < gap.end
+
 -- the chunks behind the gap stand where it began, and behind them it is one free chunk with
 -- the free bytes there
 pub record ClosesGap (old new : List ℕ) (gap : Gap) : Type 0 where
@@ -36,3 +46,35 @@ pub record ClosesGap (old new : List ℕ) (gap : Gap) : Type 0 where
   pub size : word new (gap.end - gap.size) ≡ gap.size + gap.more
   pub next : word new (gap.end - gap.size + 2) ≡ gap.after
   pub behind : IsShifted old new 0 0 (gap.end + gap.more) (length old)
+
+-- the words of the free chunk behind the chunks that moved, and the header's word for it
+unfoldable pub closing_words : List ℕ → Gap → List ℕ
+closing_words block gap = with_word (with_word (with_word block (gap.end - gap.size) (gap.size + gap.more)) (gap.end - gap.size + 2) gap.after) 12 (gap.end - gap.size)
+
+-- the bytes of the chunks behind the gap stand where it began, and behind them the words of the
+-- free chunk; the table is as it was
+abbrev pub slid : List ℕ → Gap → List ℕ
+slid block gap = closing_words (with_part block gap.first (part block (gap.first + gap.size) (gap.end - (gap.first + gap.size)))) gap
+
+-- the chunks behind the gap, from where they stood to where it began
+abbrev pub slide_of : Gap → Slide
+slide_of gap = record { from = gap.first + gap.size; end = gap.end; to = gap.first }
+
+-- a heap with the same chunks, whose first free chunk stands further up
+pub record ClosesGaps (old new : List ℕ) : Type 0 where
+  pub heap : IsHeap new
+  pub chunks : chunks new ≡ chunks old
+  pub handle : handle_word new ≡ handle_word old
+  pub went : first_free old < first_free new
+  pub within : first_free old < length old
+
+-- these runs have moved on the way from one heap to another with the same chunks
+pub record SlidesGaps (old block : List ℕ) (slides : List Slide) : Type 0 where
+  pub heap : List ℕ
+  pub slid : HasSlid block heap slides
+  pub chunks : chunks heap ≡ chunks old
+  pub handle : handle_word heap ≡ handle_word old
+  pub high : ℕ
+  pub order : AreInOrder 0 slides high
+  pub below : high ≤ first_free block + word block (first_free block)
+  pub went : ((slides ≡ []) × (block ≡ old)) ⊎ ((0 < length slides) × (first_free old < first_free block))

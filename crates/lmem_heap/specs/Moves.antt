@@ -1,5 +1,5 @@
 -- Chunks that move, and their entries with them.
-use Rattle.std.specs.Prelude.{◌≡◌, ℕ, ◌+◌, ◌-◌, ◌<◌, ◌≤◌, ◌&&◌, nat_lt, if◌then◌else◌, List, length, slice_index}
+use Rattle.std.specs.Prelude.{◌≡◌, ℕ, ◌+◌, ◌-◌, ◌<◌, ◌≤◌, ◌⊎◌, ◌&&◌, nat_lt, if◌then◌else◌, List, length, slice_index}
 use Rattle.geos_model.specs.Bytes.{IsShifted}
 use Rattle.geos_model.specs.Block.{entry, entries, table_end}
 
@@ -7,10 +7,11 @@ use Rattle.geos_model.specs.Block.{entry, entries, table_end}
 abbrev pub entry_moved : ℕ → ℕ → ℕ → ℕ → ℕ
 entry_moved from end to e = if nat_lt from e && nat_lt e end then e - from + to else e
 
--- the first n entries are moved, and nothing else is changed
-pub record MovesEntries (old new : List ℕ) (from end to n : ℕ) : Type 0 where
-  pub moved : (j : ℕ) → j < n → entry new j ≡ entry_moved from end to (entry old j)
-  pub rest : (j : ℕ) → n ≤ j → j < entries old → entry new j ≡ entry old j
+-- the entries from one up to another are what a function makes of them, and nothing else is
+-- changed
+pub record MapsEntries (old new : List ℕ) (f : ℕ → ℕ) (from end : ℕ) : Type 0 where
+  pub mapped : (j : ℕ) → from ≤ j → j < end → entry new j ≡ f (entry old j)
+  pub rest : (j : ℕ) → (j < from) ⊎ (end ≤ j) → j < entries old → entry new j ≡ entry old j
   pub head : (k : ℕ) → k < 16 → slice_index new k ≡ slice_index old k
   pub behind : (k : ℕ) → table_end old ≤ k → slice_index new k ≡ slice_index old k
   pub long : length new ≡ length old

@@ -1,12 +1,16 @@
 //! Heaps with their free bytes at the end.
-ghost use Rattle.std.specs.Prelude.{◌≡◌, ◌≢◌, ℕ, ◌+◌, ◌-◌, ◌<◌, ◌≤◌, length, IsTrue, ◌↔◌};
+ghost use Rattle.std.specs.Prelude.{◌≡◌, ◌≢◌, ℕ, ◌+◌, ◌-◌, ◌<◌, ◌≤◌, List, length, IfSome, IsTrue, ◌↔◌};
 ghost use Rattle.geos_model.specs.Bytes.{word};
 ghost use Rattle.geos_model.specs.Block.{chunks, first_free, handle_word};
 ghost use Rattle.geos_model.specs.Heap.{IsHeader, IsHeap, IsCompact};
+ghost use Rattle.lmem_heap.specs.Slides.{IsButForEntries};
+ghost use Rattle.lmem_heap.specs.Gaps.{ClosesGaps, IsFirstGap};
 
 use crate::header::FIRST_FREE;
 use crate::runs::move_run;
-use crate::words::{get16, put16};
+use crate::slides::{MOST_SLIDES, Slide, write_entries};
+use crate::words::{get16, move_bytes, put16};
+use arrayvec::ArrayVec;
 
 /// Moves the chunks together, so that at most one free chunk is left, at the block's end.
 /// Every chunk keeps its handle and its bytes. Each byte moves at most once.
@@ -18,14 +22,66 @@ pub fn contract(block: &mut [u8])
     ensures compact { IsCompact block.new }
 {
     while !is_compact(block) {
-        let gap = Gap::first_of(block);
-        gap.close(block);
+        close_gaps(block);
     }
+}
+
+/// Closes the first gap, and where the run behind it is short also others, with one pass over the
+/// table for all of them.
+fn close_gaps(block: &mut [u8])
+    requires heap { IsHeap block.old }
+    requires not_compact { IsCompact block.old → ⊥ }
+    ensures { ClosesGaps block.old block.new }
+{
+    let gap = Gap::first_of(block);
+    if gap.is_long(block) {
+        gap.close(block);
+    } else {
+        slide_gaps(block, gap);
+    }
+}
+
+/// Moves the chunks behind one gap after the other, up to one with a long run, and then writes
+/// their entries. It has a table of runs on the stack, which is of no use for a single one.
+#[inline(never)]
+fn slide_gaps(block: &mut [u8], first: Gap)
+    requires heap { IsHeap block.old }
+    requires not_compact { IsCompact block.old → ⊥ }
+    requires first { IsFirstGap block.old first }
+    ensures { ClosesGaps block.old block.new }
+{
+    let mut slides: ArrayVec<Slide, MOST_SLIDES> = ArrayVec::new();
+    let mut next = Some(first);
+    while let Some(gap) = next {
+        let slide = gap.slide(block);
+        slides.push(slide);
+        next = if slides.is_full() {
+            None
+        } else {
+            short_gap(block)
+        };
+    }
+    write_entries(block, &slides);
+}
+
+/// The first gap, where the run behind it is short.
+fn short_gap(block: &[u8]) -> Option<Gap>
+    requires { (heap : List ℕ) × IsButForEntries block.now heap }
+    ensures { IfSome result (λ gap. IsFirstGap block.now gap) }
+{
+    if is_compact(block) {
+        return None;
+    }
+    let gap = Gap::first_of(block);
+    if gap.is_long(block) {
+        return None;
+    }
+    Some(gap)
 }
 
 /// Whether there is at most one free chunk, at the end.
 fn is_compact(block: &[u8]) -> bool
-    requires { IsHeap block.now }
+    requires { (heap : List ℕ) × IsButForEntries block.now heap }
     ensures { IsTrue result ↔ IsCompact block.now }
 {
     let first = get16(block, FIRST_FREE) as usize;
@@ -53,14 +109,12 @@ struct Gap {
 }
 
 impl Gap {
-    ghost use Rattle.lmem_heap.specs.Gaps.{HasGap, ClosesGap};
+    ghost use Rattle.lmem_heap.specs.Gaps.{HasGap, IsFirstGap, ClosesGap, slid, slide_of};
 
     fn first_of(block: &[u8]) -> Gap
-        requires heap { IsHeap block.now }
+        requires heap { (heap : List ℕ) × IsButForEntries block.now heap }
         requires not_compact { IsCompact block.now → ⊥ }
-        ensures gap { HasGap block.now result }
-        ensures first { result.first ≡ first_free block.now }
-        ensures some { result.first + result.size < result.end }
+        ensures { IsFirstGap block.now result }
     {
         let first = get16(block, FIRST_FREE);
         let size = get16(block, first as usize);
@@ -85,6 +139,15 @@ impl Gap {
         }
     }
 
+    /// Whether the run behind it is that long that a pass over the table for it alone takes less
+    /// than to look for each of its entries.
+    fn is_long(self, block: &[u8]) -> bool
+        requires { self.first + self.size ≤ self.end }
+    {
+        let run = self.end - (self.first + self.size);
+        64 * run as usize >= block.len()
+    }
+
     /// Moves the chunks behind the gap to where it begins, and joins it with the free chunk
     /// there.
     fn close(self, block: &mut [u8])
@@ -97,5 +160,22 @@ impl Gap {
         put16(block, end - size, self.size + self.more);
         put16(block, end - size + 2, self.after);
         put16(block, FIRST_FREE, self.end - self.size);
+    }
+    /// The same, but leaves the entries of the chunks as they are. The run that has moved.
+    fn slide(self, block: &mut [u8]) -> Slide
+        requires gap { (heap : List ℕ) × IsButForEntries block.old heap × HasGap heap self }
+        ensures run { result ≡ slide_of self }
+        ensures bytes { block.new ≡ slid block.old self }
+    {
+        let (first, size, end) = (self.first as usize, self.size as usize, self.end as usize);
+        move_bytes(block, first + size, first, end - (first + size));
+        put16(block, end - size, self.size + self.more);
+        put16(block, end - size + 2, self.after);
+        put16(block, FIRST_FREE, self.end - self.size);
+        Slide {
+            from: self.first + self.size,
+            end: self.end,
+            to: self.first,
+        }
     }
 }

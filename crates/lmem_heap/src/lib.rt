@@ -24,6 +24,7 @@ mod marks;
 mod resize;
 mod room;
 mod runs;
+mod slides;
 mod table;
 mod tail;
 mod words;

@@ -1,7 +1,7 @@
 //! Chunks that move within a block.
 ghost use Rattle.std.specs.Prelude.{◌≡◌, ℕ, ◌+◌, ◌-◌, ◌≤◌, length};
 ghost use Rattle.geos_model.specs.Block.{entries, table_end};
-ghost use Rattle.lmem_heap.specs.Moves.{entry_moved, MovesEntries, MovesRun};
+ghost use Rattle.lmem_heap.specs.Moves.{entry_moved, MapsEntries, MovesRun};
 
 use crate::header::{entries, entry, put_entry};
 use crate::words::move_bytes;
@@ -25,7 +25,7 @@ pub(crate) fn move_run(block: &mut [u8], from: usize, end: usize, to: usize)
 fn move_entries(block: &mut [u8], from: u16, end: u16, to: u16)
     requires table { table_end block.old ≤ length block.old }
     requires fits { (from ≤ end) × (to + (end - from) ≤ 65520) }
-    ensures { MovesEntries block.old block.new from end to (entries block.old) }
+    ensures { MapsEntries block.old block.new (entry_moved from end to) 0 (entries block.old) }
 {
     for i in 0..entries(block) {
         let moved = moved_entry(entry(block, i), from, end, to);

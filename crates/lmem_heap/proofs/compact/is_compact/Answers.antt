@@ -1,6 +1,13 @@
-use Rattle.std.proofs.Common.{arith}
+use Rattle.std.proofs.Common.{◌∙◌, arith}
 use Rattle.geos_model.proofs.FreePieces.{first-room}
+use Rattle.lmem_heap.proofs.Unwritten.{but-head}
 use Rattle.lmem_heap.proofs.compact.is_compact.Goals as goal
 
+pub get16-first-requires : goal.get16-first-requires
+get16-first-requires c = let but = c.requires.1 in omega (arith, but.long, but.is.0.least)
+
 pub get16-size-requires : goal.get16-size-requires
-get16-size-requires c = let r = first-room c.args.block.now c.get16-first.result c.requires c.get16-first.ensures c.if-first-eq0.false in omega (arith, r.1, r.2)
+get16-size-requires c =
+    let but = c.requires.1 in
+    let r = first-room c.requires.0 c.get16-first.result but.is (c.get16-first.ensures ∙ but-head c.args.block.now c.requires.0 12 but (omega arith)) c.if-first-eq0.false in
+    omega (arith, r.1, r.2, but.long)

@@ -1,0 +1,120 @@
+//! Runs of chunks that have moved, while the table still says where they stood.
+ghost use Rattle.std.specs.Prelude.{◌≡◌, ℕ, ◌+◌, ◌<◌, ◌≤◌, ◌⊎◌, false, length, IsTrue};
+ghost use Rattle.geos_model.specs.Block.{entries, entry, entry_offset, table_end};
+ghost use Rattle.lmem_heap.specs.Moves.{entry_moved, MapsEntries};
+ghost use Rattle.lmem_heap.specs.Slides.{AreInOrder, entry_slid, run_at};
+
+use crate::header::{entries, entry, put_entry};
+
+/// How many runs move before the table is written.
+pub(crate) const MOST_SLIDES: usize = 128;
+
+/// How many entries are compared together.
+const RUN: usize = 16;
+
+/// A run of chunks that stood from `from` to `end`, and stands at `to` now.
+#[derive(Clone, Copy, Default)]
+pub(crate) struct Slide {
+    pub(crate) from: u16,
+    pub(crate) end: u16,
+    pub(crate) to: u16,
+}
+
+impl Slide {
+    /// An entry, where this run has moved.
+    fn moved(self, entry: u16) -> u16
+        requires { self.to ≤ self.from }
+        ensures { result ≡ entry_moved self.from self.end self.to entry }
+    {
+        if self.from < entry && entry < self.end {
+            entry - self.from + self.to
+        } else {
+            entry
+        }
+    }
+}
+
+/// Writes where the chunks of these runs stand into the table. Runs of entries of which none is
+/// that of a chunk that moved are left out.
+pub(crate) fn write_entries(block: &mut [u8], slides: &[Slide])
+    requires table { table_end block.old ≤ length block.old }
+    requires order { (high : ℕ) × AreInOrder 0 slides.now high }
+    requires some { 0 < length slides.now }
+    ensures { MapsEntries block.old block.new (entry_slid slides.now) 0 (entries block.old) }
+{
+    let low = slides[0].from;
+    let high = slides[slides.len() - 1].end;
+    let n = entries(block);
+    let runs = n / RUN;
+    for run in 0..runs {
+        if !is_apart(block, RUN * run, low, high) {
+            write_run(block, slides, low, high, RUN * run, RUN * run + RUN);
+        }
+    }
+    write_run(block, slides, low, high, RUN * runs, n);
+}
+
+/// Whether no entry of the run that begins at this one lies between two offsets. It reads all of
+/// them, with no branch on the way, so that they can be compared together.
+fn is_apart(block: &[u8], from: usize, low: u16, high: u16) -> bool
+    requires { entry_offset (from + RUN) ≤ length block.now }
+    ensures { IsTrue result → (k : ℕ) → from ≤ k → k < from + RUN → (entry block.now k ≤ low) ⊎ (high ≤ entry block.now k) }
+{
+    let mut inside = false;
+    for i in from..from + RUN {
+        inside |= is_inside(entry(block, i), low, high);
+    }
+    !inside
+}
+
+fn is_inside(entry: u16, low: u16, high: u16) -> bool
+    ensures { result ≡ false → (entry ≤ low) ⊎ (high ≤ entry) }
+{
+    low < entry && entry < high
+}
+
+/// Writes the entries from one on up to another.
+fn write_run(block: &mut [u8], slides: &[Slide], low: u16, high: u16, from: usize, end: usize)
+    requires table { table_end block.old ≤ length block.old }
+    requires within { (from ≤ end) × (end ≤ entries block.old) }
+    requires order { AreInOrder low slides.now high }
+    requires some { 0 < length slides.now }
+    ensures { MapsEntries block.old block.new (entry_slid slides.now) from end }
+{
+    for i in from..end {
+        let slid = slid_entry(slides, low, high, entry(block, i));
+        put_entry(block, i, slid);
+    }
+}
+
+/// An entry, where these runs have moved, which stood from `low` to `high`.
+fn slid_entry(slides: &[Slide], low: u16, high: u16, entry: u16) -> u16
+    requires order { AreInOrder low slides.now high }
+    requires some { 0 < length slides.now }
+    ensures { result ≡ entry_slid slides.now entry }
+{
+    if entry <= low || high <= entry {
+        return entry;
+    }
+    slides[last_below(slides, entry)].moved(entry)
+}
+
+/// The last run that begins below an entry, by binary search; the first one where none does.
+fn last_below(slides: &[Slide], entry: u16) -> usize
+    requires { 0 < length slides.now }
+    ensures known { result < length slides.now }
+    ensures below { 0 < result → (run_at slides.now result).from < entry }
+    ensures next { result + 1 < length slides.now → entry ≤ (run_at slides.now (result + 1)).from }
+{
+    let mut last = 0;
+    let mut end = slides.len();
+    while end - last > 1 {
+        let middle = last + (end - last) / 2;
+        if slides[middle].from < entry {
+            last = middle;
+        } else {
+            end = middle;
+        }
+    }
+    last
+}
