@@ -1,5 +1,7 @@
 -- What a device whose calls fail on order holds.
-use Rattle.std.specs.Prelude.{ℕ, Bool, not, ◌&&◌, ◌||◌, ◌==◌, nat_lt}
+use Rattle.std.specs.Prelude.{◌≡◌, ◌⊎◌, ℕ, ◌/◌, Bool, not, ◌&&◌, ◌||◌, ◌==◌, nat_lt, List, length, take, Result, OnOk}
+use Rattle.lmem_raw.specs.Bytes.{with_part}
+use Rattle.vm_file.specs.Device.{Counts, Touched, one_more}
 use Rattle.vm_file.specs.declared.faulty.FaultDevice.{FaultDevice}
 
 -- the device below
@@ -25,3 +27,41 @@ rest_of device = device.rest
 -- whether a call of this number is to fail
 abbrev pub is_due : ℕ → ℕ → Bool → Bool
 is_due number call rest = not (call == 0) && (number == call || (rest && nat_lt call number))
+
+-- whether the next call is to fail
+abbrev pub is_next_due : {D : Type 0} → FaultDevice D → Bool
+is_next_due device = is_due (one_more (calls_of device)) (call_of device) (rest_of device)
+
+-- a call was counted, and what is to fail stays
+pub record CountsCall {D : Type 0} (old new : FaultDevice D) : Type 0 where
+  pub calls : calls_of new ≡ one_more (calls_of old)
+  pub call : call_of new ≡ call_of old
+  pub rest : rest_of new ≡ rest_of old
+
+-- a call went on to the device below: it fails where that does
+pub record PassesOn {D T E : Type 0} (failed : D → ℕ) (old new : FaultDevice D) (result : Result T E) : Type 0 where
+  pub counts : Counts (failed (inner_of old)) (failed (inner_of new)) result
+  pub own : own_of new ≡ own_of old
+
+-- a call failed on order, and nothing happened below
+pub record FailsAlone {D T E : Type 0} (old new : FaultDevice D) (result : Result T E) : Type 0 where
+  pub fails : OnOk result ⊥
+  pub inner : inner_of new ≡ inner_of old
+  pub own : own_of new ≡ one_more (own_of old)
+
+-- the first half of these bytes, rounded down, was written below
+pub record HalfWritten {D : Type 0} (image : D → List ℕ) (honest : D → Type 0) (failed : D → ℕ) (at : ℕ) (bytes : List ℕ) (old new : FaultDevice D) : Type 0 where
+  pub written : honest (inner_of old) → image (inner_of new) ≡ with_part (image (inner_of old)) at (take (length bytes / 2) bytes)
+  pub count : failed (inner_of new) ≡ failed (inner_of old)
+  pub own : own_of new ≡ one_more (own_of old)
+
+-- the device below failed when they were to be written: that counts once
+pub record HalfFailed {D : Type 0} (image : D → List ℕ) (honest : D → Type 0) (failed : D → ℕ) (at : ℕ) (bytes : List ℕ) (old new : FaultDevice D) : Type 0 where
+  pub torn : honest (inner_of old) → Touched at (length bytes / 2) (image (inner_of old)) (image (inner_of new))
+  pub count : failed (inner_of new) ≡ one_more (failed (inner_of old))
+  pub own : own_of new ≡ own_of old
+
+-- a write failed on order
+pub record FailsHalf {D T E : Type 0} (image : D → List ℕ) (honest : D → Type 0) (failed : D → ℕ) (at : ℕ) (bytes : List ℕ) (old new : FaultDevice D) (result : Result T E) : Type 0 where
+  pub fails : OnOk result ⊥
+  pub half : HalfWritten image honest failed at bytes old new ⊎ HalfFailed image honest failed at bytes old new

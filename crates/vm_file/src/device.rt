@@ -1,8 +1,8 @@
 //! What a file stands on: bytes that last.
 ghost use Rattle.std.specs.Prelude.{◌≡◌, ◌+◌, ◌≤◌, ℕ, List, length, OnOk};
 ghost use Rattle.lmem_raw.specs.Bytes.{part, with_part};
-ghost use Rattle.vm_file.specs.Device.{AfterWrite, Counts, Only, Passes, Touched, one_more};
-ghost use Rattle.vm_file.specs.Outcomes.{CausesDisk, WritesOnly};
+ghost use Rattle.vm_file.specs.Device.{Counts, Only, one_more};
+ghost use Rattle.vm_file.specs.Outcomes.{CausesDisk, ReadsOnly, WritesOnly};
 
 use thiserror::Error;
 
@@ -46,36 +46,23 @@ pub trait Device {
     fn read_at(&mut self, at: u64, into: &mut [u8]) -> Result<(), Disk>
         ensures within { OnOk result (at + length into.old ≤ length (image self.old)) }
         ensures bytes { honest self.old → OnOk result (into.new ≡ part (image self.old) at (length into.old)) }
-        ensures image { image self.new ≡ image self.old }
-        ensures honest { honest self.old → honest self.new }
-        ensures was_honest { honest self.new → honest self.old }
-        ensures stop { honest self.old → (c : List ℕ) → may_leave self.new c → may_leave self.old c }
-        ensures time { honest self.old → Passes may_have_left self.old self.new (may_leave self.old) }
+        ensures reads { ReadsOnly image honest may_leave may_have_left self.old self.new }
         ensures cause { Counts (failed self.old) (failed self.new) result };
 
     /// Writes bytes from an offset on. `Disk` where the device fails, as it does past its
     /// length: then any bytes may stand in that range, and the others stay. They last once a
     /// `sync` has succeeded; a stop before that may leave any bytes in the range.
     fn write_at(&mut self, at: u64, bytes: &[u8]) -> Result<(), Disk>
-        ensures len { length (image self.new) ≡ length (image self.old) }
         ensures within { OnOk result (at + length bytes.now ≤ length (image self.old)) }
         ensures written { honest self.old → OnOk result (image self.new ≡ with_part (image self.old) at bytes.now) }
-        ensures torn { honest self.old → Touched at (length bytes.now) (image self.old) (image self.new) }
-        ensures honest { honest self.old → honest self.new }
-        ensures was_honest { honest self.new → honest self.old }
-        ensures stop { honest self.old → (c : List ℕ) → may_leave self.new c → AfterWrite at (length bytes.now) (may_leave self.old) c }
-        ensures time { honest self.old → Passes may_have_left self.old self.new (AfterWrite at (length bytes.now) (may_leave self.old)) }
+        ensures writes { WritesOnly image honest may_leave may_have_left at (length bytes.now) self.old self.new }
         ensures cause { Counts (failed self.old) (failed self.new) result };
 
     /// Makes last what was written: after it a stop leaves what reads give. `Disk` where the
     /// device fails.
     fn sync(&mut self) -> Result<(), Disk>
         ensures durable { honest self.old → OnOk result (Only (image self.new) (may_leave self.new)) }
-        ensures image { image self.new ≡ image self.old }
-        ensures honest { honest self.old → honest self.new }
-        ensures was_honest { honest self.new → honest self.old }
-        ensures stop { honest self.old → (c : List ℕ) → may_leave self.new c → may_leave self.old c }
-        ensures time { honest self.old → Passes may_have_left self.old self.new (may_leave self.old) }
+        ensures reads { ReadsOnly image honest may_leave may_have_left self.old self.new }
         ensures cause { Counts (failed self.old) (failed self.new) result };
 
     /// What reads give is one of the images that a stop may leave.
@@ -83,6 +70,9 @@ pub trait Device {
 
     /// In no time a stop may leave what it may leave now.
     ghost at_once: { (d : Self) (c : List ℕ) → may_have_left d d c → may_leave d c };
+
+    /// What a stop now may leave, a stop at some moment up to now may have left.
+    ghost by_now: { (s d : Self) (c : List ℕ) → may_leave d c → may_have_left s d c };
 }
 
 /// One failure more; at the greatest number the count stays.

@@ -1,10 +1,11 @@
 //! A device on a file of the system.
-ghost use Rattle.std.specs.Prelude.{◌≡◌, ◌+◌, ◌≤◌, ◌<◌, ◌^◌, ℕ, length, replicate, IsTrue, IfOk};
-ghost use Rattle.vm_file.specs.Device.{Counts};
+ghost use Rattle.std.specs.Prelude.{◌≡◌, ◌+◌, ◌≤◌, true, false, length, IsTrue, IfOk, OnErr, OnOk};
+ghost use Rattle.vm_file.specs.Device.{Counts, Only};
+ghost use Rattle.vm_file.specs.Outcomes.{ReadsOnly, WritesOnly};
 
 use crate::device::{Device, Disk, count_failure};
 use std::alloc::Global;
-use std::fs::{File, OpenOptions};
+use std::fs::{self, File, OpenOptions};
 use std::io;
 use std::os::unix::fs::FileExt;
 use std::rt::Files;
@@ -12,18 +13,23 @@ use std::rt::Files;
 /// A device on a file of the system: positioned reads and writes, and `sync_data`. No clause
 /// can say what such a file gives, so the clauses on images say nothing of it; tests show
 /// them.
+///
+/// A system may report once that written bytes did not reach the disk, and then answer as if
+/// they had. So after a `sync` that failed each one fails, until something is written again.
 #[derive(Drop)]
 pub struct FileDevice {
     file: File,
     len: u64,
     failures: u64,
+    may_lack: bool,
 }
 
 impl FileDevice {
-    ghost use Rattle.vm_file.specs.DiskFile.{len_of, failures_of};
+    ghost use Rattle.vm_file.specs.DiskFile.{failures_of, len_of, may_lack};
 
-    /// Makes a file of so many zero bytes. `Disk` where the system refuses, as it does where
-    /// the path exists already: that file is not touched.
+    /// Makes a file of so many zero bytes, which lasts, as the folder's entry with its name
+    /// does. `Disk` where the system refuses, as it does where the path exists already: that
+    /// file is not touched, and no other is left behind.
     pub fn create<R: Files<File = File>>(
         rt: &R,
         _alloc: Global,
@@ -32,36 +38,69 @@ impl FileDevice {
     ) -> Result<FileDevice, Disk>
         ensures len { IfOk result (λ device. len_of device ≡ len) }
         ensures failures { IfOk result (λ device. failures_of device ≡ 0) }
+        ensures may_lack { IfOk result (λ device. may_lack device ≡ false) }
     {
         let mut how = OpenOptions::new();
         how.read(true).write(true).create_new(true);
         let file = how.open(rt, path).map_err(|_| Disk)?;
-        file.set_len(len).map_err(|_| Disk)?;
-        Ok(FileDevice {
-            file,
-            len,
-            failures: 0,
-        })
+        if make_last(rt, &file, path, len).is_err() {
+            let _ = fs::remove_file(rt, path);
+            return Err(Disk);
+        }
+        Ok(FileDevice::new(file, len))
     }
 
-    /// Opens a file that is there. `Disk` where the system refuses, as for a path that is
-    /// missing or a folder.
+    /// Opens a file that is there, to read and to write. `Disk` where the system refuses, as
+    /// for a path that is missing or a folder.
     pub fn open<R: Files<File = File>>(
         rt: &R,
         _alloc: Global,
         path: &str,
     ) -> Result<FileDevice, Disk>
-        ensures { IfOk result (λ device. failures_of device ≡ 0) }
+        ensures failures { IfOk result (λ device. failures_of device ≡ 0) }
+        ensures may_lack { IfOk result (λ device. may_lack device ≡ false) }
     {
         let mut how = OpenOptions::new();
         how.read(true).write(true);
         let file = how.open(rt, path).map_err(|_| Disk)?;
-        let len = file.metadata().map_err(|_| Disk)?.len();
-        Ok(FileDevice {
+        FileDevice::opened(file)
+    }
+
+    /// Opens a file that is there, to read alone: each write of it fails. `Disk` where the
+    /// system refuses, as for a path that is missing.
+    pub fn open_read_only<R: Files<File = File>>(
+        rt: &R,
+        _alloc: Global,
+        path: &str,
+    ) -> Result<FileDevice, Disk>
+        ensures failures { IfOk result (λ device. failures_of device ≡ 0) }
+        ensures may_lack { IfOk result (λ device. may_lack device ≡ false) }
+    {
+        let file = File::open(rt, path).map_err(|_| Disk)?;
+        FileDevice::opened(file)
+    }
+
+    /// A device on an open file of this length.
+    fn new(file: File, len: u64) -> FileDevice
+        ensures len { len_of result ≡ len }
+        ensures failures { failures_of result ≡ 0 }
+        ensures may_lack { may_lack result ≡ false }
+    {
+        FileDevice {
             file,
             len,
             failures: 0,
-        })
+            may_lack: false,
+        }
+    }
+
+    /// A device on an open file, of the length that the system tells.
+    fn opened(file: File) -> Result<FileDevice, Disk>
+        ensures failures { IfOk result (λ device. failures_of device ≡ 0) }
+        ensures may_lack { IfOk result (λ device. may_lack device ≡ false) }
+    {
+        let len = file.metadata().map_err(|_| Disk)?.len();
+        Ok(FileDevice::new(file, len))
     }
 
     /// Whether a range lies within the length.
@@ -69,6 +108,22 @@ impl FileDevice {
         ensures { IsTrue result → at + n ≤ len_of self.now }
     {
         n as u64 <= self.len && at <= self.len - n as u64
+    }
+}
+
+/// Gives a new file its length, and makes it and its name last.
+fn make_last<R: Files<File = File>>(rt: &R, file: &File, path: &str, len: u64) -> io::Result<()> {
+    file.set_len(len)?;
+    file.sync_all()?;
+    File::open(rt, folder_of(path))?.sync_all()
+}
+
+/// The folder whose entry names a file.
+fn folder_of(path: &str) -> &str {
+    match path.rsplit_once('/') {
+        Some(("", _)) => "/",
+        Some((folder, _)) => folder,
+        None => ".",
     }
 }
 
@@ -86,15 +141,17 @@ fn counted(failures: &mut u64, outcome: io::Result<()>) -> Result<(), Disk>
 }
 
 impl Device for FileDevice {
-    ghost image = { λ d. replicate d.len 0 };
+    ghost use Rattle.vm_file.specs.DiskFile.{IsHonest, MayHaveLeft, MayLeave, bytes_of, failures_of, len_of, may_lack};
 
-    ghost honest = { λ d. ⊥ };
+    ghost image = { bytes_of };
 
-    ghost failed = { λ d. d.failures };
+    ghost honest = { IsHonest };
 
-    ghost may_leave = { λ d c. Unit {0} };
+    ghost failed = { failures_of };
 
-    ghost may_have_left = { λ s d c. Unit {0} };
+    ghost may_leave = { MayLeave };
+
+    ghost may_have_left = { MayHaveLeft };
 
     fn len(&self) -> u64 {
         self.len
@@ -104,7 +161,13 @@ impl Device for FileDevice {
         self.failures
     }
 
-    fn read_at(&mut self, at: u64, into: &mut [u8]) -> Result<(), Disk> {
+    /// Reads the bytes from an offset on. `Disk` past the length, and where the system refuses.
+    fn read_at(&mut self, at: u64, into: &mut [u8]) -> Result<(), Disk>
+        ensures within { OnOk result (at + length into.old ≤ length (bytes_of self.old)) }
+        ensures reads { ReadsOnly bytes_of IsHonest MayLeave MayHaveLeft self.old self.new }
+        ensures cause { Counts (failures_of self.old) (failures_of self.new) result }
+        ensures may_lack { may_lack self.new ≡ may_lack self.old }
+    {
         if !self.has(at, into.len()) {
             count_failure(&mut self.failures);
             return Err(Disk);
@@ -112,19 +175,48 @@ impl Device for FileDevice {
         counted(&mut self.failures, self.file.read_exact_at(into, at))
     }
 
-    fn write_at(&mut self, at: u64, bytes: &[u8]) -> Result<(), Disk> {
+    /// Writes bytes from an offset on. `Disk` past the length, and where the system refuses.
+    fn write_at(&mut self, at: u64, bytes: &[u8]) -> Result<(), Disk>
+        ensures within { OnOk result (at + length bytes.now ≤ length (bytes_of self.old)) }
+        ensures writes { WritesOnly bytes_of IsHonest MayLeave MayHaveLeft at (length bytes.now) self.old self.new }
+        ensures cause { Counts (failures_of self.old) (failures_of self.new) result }
+        ensures written { OnOk result (may_lack self.new ≡ false) }
+        ensures refused { OnErr result (may_lack self.new ≡ may_lack self.old) }
+    {
         if !self.has(at, bytes.len()) {
             count_failure(&mut self.failures);
             return Err(Disk);
         }
-        counted(&mut self.failures, self.file.write_all_at(bytes, at))
+        counted(&mut self.failures, self.file.write_all_at(bytes, at))?;
+        self.may_lack = false;
+        Ok(())
     }
 
-    fn sync(&mut self) -> Result<(), Disk> {
-        counted(&mut self.failures, self.file.sync_data())
+    /// Makes last what was written. `Disk` where the system refuses, and from then on until
+    /// something is written.
+    fn sync(&mut self) -> Result<(), Disk>
+        ensures reads { ReadsOnly bytes_of IsHonest MayLeave MayHaveLeft self.old self.new }
+        ensures cause { Counts (failures_of self.old) (failures_of self.new) result }
+        ensures lacking { may_lack self.old ≡ true → OnOk result ⊥ }
+        ensures synced { OnOk result (may_lack self.new ≡ false) }
+        ensures refused { OnErr result (may_lack self.new ≡ true) }
+    {
+        if self.may_lack {
+            count_failure(&mut self.failures);
+            return Err(Disk);
+        }
+        match counted(&mut self.failures, self.file.sync_data()) {
+            Ok(()) => Ok(()),
+            Err(Disk) => {
+                self.may_lack = true;
+                Err(Disk)
+            }
+        }
     }
 
     ghost reads_now = { λ d. tt };
 
     ghost at_once = { λ d c h. h };
+
+    ghost by_now = { λ s d c h. h };
 }

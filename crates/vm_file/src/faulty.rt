@@ -1,7 +1,9 @@
 //! A device whose calls fail on order, for tests.
-ghost use Rattle.std.specs.Prelude.{◌≡◌, ◌+◌, ◌≤◌, ◌<◌, ◌-◌, ◌^◌, ℕ, List, length, min};
-ghost use Rattle.vm_file.specs.Device.{all_failures, one_more};
+ghost use Rattle.std.specs.Prelude.{◌≡◌, ◌+◌, ◌≤◌, length, true, false, OnOk};
+ghost use Rattle.lmem_raw.specs.Bytes.{part, with_part};
+ghost use Rattle.vm_file.specs.Device.{Counts, Only, all_failures, one_more};
 ghost use Rattle.vm_file.specs.Faulty.{is_due};
+ghost use Rattle.vm_file.specs.Outcomes.{ReadsOnly, WritesOnly};
 
 use crate::device::{Device, Disk, count_failure};
 
@@ -70,15 +72,17 @@ fn is_due(calls: &mut u64, call: u64, rest: bool) -> bool
 }
 
 impl<D: Device + Drop> Device for FaultDevice<D> {
-    ghost image = { λ d. D.image d.inner };
+    ghost use Rattle.vm_file.specs.Faulty.{CountsCall, FailsAlone, FailsHalf, PassesOn, inner_of, is_next_due, own_of};
 
-    ghost honest = { λ d. D.honest d.inner };
+    ghost image = { λ d. D.image (inner_of d) };
 
-    ghost failed = { λ d. all_failures (D.failed d.inner) d.own };
+    ghost honest = { λ d. D.honest (inner_of d) };
 
-    ghost may_leave = { λ d c. D.may_leave d.inner c };
+    ghost failed = { λ d. all_failures (D.failed (inner_of d)) (own_of d) };
 
-    ghost may_have_left = { λ s d c. D.may_have_left s.inner d.inner c };
+    ghost may_leave = { λ d. D.may_leave (inner_of d) };
+
+    ghost may_have_left = { λ s d. D.may_have_left (inner_of s) (inner_of d) };
 
     fn len(&self) -> u64 {
         self.inner.len()
@@ -88,7 +92,17 @@ impl<D: Device + Drop> Device for FaultDevice<D> {
         self.inner.failures().saturating_add(self.own)
     }
 
-    fn read_at(&mut self, at: u64, into: &mut [u8]) -> Result<(), Disk> {
+    /// Reads the bytes from an offset on, as the device below does; a call that fails on order gives nothing.
+    fn read_at(&mut self, at: u64, into: &mut [u8]) -> Result<(), Disk>
+        ensures within { OnOk result (at + length into.old ≤ length (D.image (inner_of self.old))) }
+        ensures bytes { D.honest (inner_of self.old) → OnOk result (into.new ≡ part (D.image (inner_of self.old)) at (length into.old)) }
+        ensures reads { ReadsOnly (λ d. D.image (inner_of d)) (λ d. D.honest (inner_of d)) (λ d. D.may_leave (inner_of d))
+            (λ s d. D.may_have_left (inner_of s) (inner_of d)) self.old self.new }
+        ensures cause { Counts (all_failures (D.failed (inner_of self.old)) (own_of self.old)) (all_failures (D.failed (inner_of self.new)) (own_of self.new)) result }
+        ensures counted { CountsCall self.old self.new }
+        ensures due { is_next_due self.old ≡ true → FailsAlone self.old self.new result × (into.new ≡ into.old) }
+        ensures passed { is_next_due self.old ≡ false → PassesOn D.failed self.old self.new result }
+    {
         if is_due(&mut self.calls, self.call, self.rest) {
             count_failure(&mut self.own);
             return Err(Disk);
@@ -96,7 +110,18 @@ impl<D: Device + Drop> Device for FaultDevice<D> {
         self.inner.read_at(at, into)
     }
 
-    fn write_at(&mut self, at: u64, bytes: &[u8]) -> Result<(), Disk> {
+    /// Writes bytes from an offset on, as the device below does; a call that fails on order
+    /// writes the first half of them, rounded down.
+    fn write_at(&mut self, at: u64, bytes: &[u8]) -> Result<(), Disk>
+        ensures within { OnOk result (at + length bytes.now ≤ length (D.image (inner_of self.old))) }
+        ensures written { D.honest (inner_of self.old) → OnOk result (D.image (inner_of self.new) ≡ with_part (D.image (inner_of self.old)) at bytes.now) }
+        ensures writes { WritesOnly (λ d. D.image (inner_of d)) (λ d. D.honest (inner_of d)) (λ d. D.may_leave (inner_of d))
+            (λ s d. D.may_have_left (inner_of s) (inner_of d)) at (length bytes.now) self.old self.new }
+        ensures cause { Counts (all_failures (D.failed (inner_of self.old)) (own_of self.old)) (all_failures (D.failed (inner_of self.new)) (own_of self.new)) result }
+        ensures counted { CountsCall self.old self.new }
+        ensures due { is_next_due self.old ≡ true → FailsHalf D.image D.honest D.failed at bytes.now self.old self.new result }
+        ensures passed { is_next_due self.old ≡ false → PassesOn D.failed self.old self.new result }
+    {
         if is_due(&mut self.calls, self.call, self.rest) {
             let half = bytes.len() / 2;
             // a call in which the device below failed too counts once
@@ -108,7 +133,17 @@ impl<D: Device + Drop> Device for FaultDevice<D> {
         self.inner.write_at(at, bytes)
     }
 
-    fn sync(&mut self) -> Result<(), Disk> {
+    /// Makes last what was written, as the device below does; a call that fails on order does
+    /// nothing.
+    fn sync(&mut self) -> Result<(), Disk>
+        ensures durable { D.honest (inner_of self.old) → OnOk result (Only (D.image (inner_of self.new)) (D.may_leave (inner_of self.new))) }
+        ensures reads { ReadsOnly (λ d. D.image (inner_of d)) (λ d. D.honest (inner_of d)) (λ d. D.may_leave (inner_of d))
+            (λ s d. D.may_have_left (inner_of s) (inner_of d)) self.old self.new }
+        ensures cause { Counts (all_failures (D.failed (inner_of self.old)) (own_of self.old)) (all_failures (D.failed (inner_of self.new)) (own_of self.new)) result }
+        ensures counted { CountsCall self.old self.new }
+        ensures due { is_next_due self.old ≡ true → FailsAlone self.old self.new result }
+        ensures passed { is_next_due self.old ≡ false → PassesOn D.failed self.old self.new result }
+    {
         if is_due(&mut self.calls, self.call, self.rest) {
             count_failure(&mut self.own);
             return Err(Disk);
@@ -116,7 +151,9 @@ impl<D: Device + Drop> Device for FaultDevice<D> {
         self.inner.sync()
     }
 
-    ghost reads_now = { λ d. D.reads_now d.inner };
+    ghost reads_now = { λ d. D.reads_now (inner_of d) };
 
-    ghost at_once = { λ d c h. D.at_once d.inner c h };
+    ghost at_once = { λ d c h. D.at_once (inner_of d) c h };
+
+    ghost by_now = { λ s d c h. D.by_now (inner_of s) (inner_of d) c h };
 }

@@ -1,6 +1,9 @@
 //! A device in memory.
-ghost use Rattle.std.specs.Prelude.{◌≡◌, ◌+◌, ◌≤◌, ◌^◌, ◌<◌, ℕ, length, replicate, IfOk, IsTrue, refl};
-ghost use Rattle.lmem_raw.specs.Bytes.{with_part};
+ghost use Rattle.std.proofs.Common.{inl, inr};
+ghost use Rattle.std.specs.Prelude.{◌≡◌, ◌+◌, ◌≤◌, ◌<◌, ◌↔◌, length, replicate, IfOk, IsTrue, OnErr, OnOk, refl};
+ghost use Rattle.lmem_raw.specs.Bytes.{part, with_part};
+ghost use Rattle.vm_file.specs.Device.{Counts, Only};
+ghost use Rattle.vm_file.specs.Outcomes.{ReadsOnly, WritesOnly};
 
 use crate::device::{Device, Disk, count_failure};
 use std::alloc::{AllocError, Global};
@@ -36,7 +39,7 @@ impl MemoryDevice {
 
     /// Whether a range lies within the length.
     fn has(&self, at: u64, n: usize) -> bool
-        ensures { IsTrue result → at + n ≤ length (bytes_of self.now) }
+        ensures { IsTrue result ↔ (at + n ≤ length (bytes_of self.now)) }
     {
         let len = self.bytes.len();
         n <= len && at <= (len - n) as u64
@@ -51,15 +54,17 @@ pub(crate) fn write_part(bytes: &mut [u8], at: usize, from: &[u8])
 }
 
 impl Device for MemoryDevice {
-    ghost image = { λ m. m.bytes.items };
+    ghost use Rattle.vm_file.specs.Memory.{IsHonest, MayHaveLeft, MayLeave, bytes_of, failures_of};
 
-    ghost honest = { λ m. Unit {0} };
+    ghost image = { bytes_of };
 
-    ghost failed = { λ m. m.failures };
+    ghost honest = { IsHonest };
 
-    ghost may_leave = { λ m c. c ≡ m.bytes.items };
+    ghost failed = { failures_of };
 
-    ghost may_have_left = { λ s m c. c ≡ m.bytes.items };
+    ghost may_leave = { MayLeave };
+
+    ghost may_have_left = { MayHaveLeft };
 
     fn len(&self) -> u64 {
         self.bytes.len() as u64
@@ -69,7 +74,14 @@ impl Device for MemoryDevice {
         self.failures
     }
 
-    fn read_at(&mut self, at: u64, into: &mut [u8]) -> Result<(), Disk> {
+    /// Reads the bytes from an offset on. `Disk` past the length, and there alone.
+    fn read_at(&mut self, at: u64, into: &mut [u8]) -> Result<(), Disk>
+        ensures within { OnOk result (at + length into.old ≤ length (bytes_of self.old)) }
+        ensures past { OnErr result (length (bytes_of self.old) < at + length into.old) }
+        ensures bytes { OnOk result (into.new ≡ part (bytes_of self.old) at (length into.old)) }
+        ensures reads { ReadsOnly bytes_of IsHonest MayLeave MayHaveLeft self.old self.new }
+        ensures cause { Counts (failures_of self.old) (failures_of self.new) result }
+    {
         if !self.has(at, into.len()) {
             count_failure(&mut self.failures);
             return Err(Disk);
@@ -79,7 +91,14 @@ impl Device for MemoryDevice {
         Ok(())
     }
 
-    fn write_at(&mut self, at: u64, bytes: &[u8]) -> Result<(), Disk> {
+    /// Writes bytes from an offset on. `Disk` past the length, and there alone.
+    fn write_at(&mut self, at: u64, bytes: &[u8]) -> Result<(), Disk>
+        ensures within { OnOk result (at + length bytes.now ≤ length (bytes_of self.old)) }
+        ensures past { OnErr result ((length (bytes_of self.old) < at + length bytes.now) × (bytes_of self.new ≡ bytes_of self.old)) }
+        ensures written { OnOk result (bytes_of self.new ≡ with_part (bytes_of self.old) at bytes.now) }
+        ensures writes { WritesOnly bytes_of IsHonest MayLeave MayHaveLeft at (length bytes.now) self.old self.new }
+        ensures cause { Counts (failures_of self.old) (failures_of self.new) result }
+    {
         if !self.has(at, bytes.len()) {
             count_failure(&mut self.failures);
             return Err(Disk);
@@ -88,11 +107,19 @@ impl Device for MemoryDevice {
         Ok(())
     }
 
-    fn sync(&mut self) -> Result<(), Disk> {
+    /// Nothing is left to be done: each write lasts at once.
+    fn sync(&mut self) -> Result<(), Disk>
+        ensures never { OnErr result ⊥ }
+        ensures durable { OnOk result (Only (bytes_of self.new) (MayLeave self.new)) }
+        ensures reads { ReadsOnly bytes_of IsHonest MayLeave MayHaveLeft self.old self.new }
+        ensures cause { Counts (failures_of self.old) (failures_of self.new) result }
+    {
         Ok(())
     }
 
     ghost reads_now = { λ d. refl };
 
-    ghost at_once = { λ d c h. h };
+    ghost at_once = { λ d c h. elim h [ inl before ↦ before | inr after ↦ after ] };
+
+    ghost by_now = { λ s d c h. inr h };
 }
