@@ -1,41 +1,31 @@
 -- The pair that a commit keeps.
-use Rattle.std.proofs.Common.{◌≡◌, ◌⊎◌, ℕ, Bool, true, not, List, Option, Result, Ok, ap, sym, ◌∙◌, subst, inl, inr}
+use Rattle.std.proofs.Common.{◌≡◌, ◌⊎◌, ℕ, Bool, true, false, cond, not, List, [], ◌∷◌, Result, Ok, refl, ap, sym, ◌∙◌, subst, inl, inr}
 use Rattle.std.specs.Prelude.{MatchBool}
+use Rattle.lmem_raw.specs.Bytes.{with_part}
 use Rattle.vm_file.specs.declared.commit.How.{How}
 use Rattle.vm_file.specs.declared.commit.How.TheVariants.{Update, Save, Revert}
 use Rattle.vm_file.specs.declared.directory.Directory.{Directory}
-use Rattle.vm_file.specs.Committing.{FindsOneOf, FindsOr, MayCommit, Spells, contents_from, current_after, kept_after, pair_after, saved_after}
-use Rattle.vm_file.specs.Contents.{Contents, Pair, is_contents, listed, pair_in, pair_spelling}
+use Rattle.vm_file.specs.declared.error.CommitError.TheVariants.{Disk}
+use Rattle.vm_file.specs.Committing.{FindsOneOf, FindsOr, IsContentsOf, KeepsAfter, Spells, current_after, image_after, pair_after, saved_after}
+use Rattle.vm_file.specs.Contents.{Contents, Pair, pair_in, pair_spelling}
+use Rattle.vm_file.specs.Kept.{FindsKept, SureOf, UnsureBetween, kept_of, or_empty, other_pair}
 use Rattle.vm_file.specs.Reading.{area_of, base_of, found, pair_at}
+use Rattle.vm_file.specs.Spelling.{selector_of}
 use Rattle.vm_file.specs.State.{FileState, Finds, IsOther, IsSound, pair_of}
 use Rattle.vm_file.proofs.CommitLaws.{pair_whole}
-use Rattle.vm_file.proofs.ReadLaws.{pair_ok}
-use Rattle.vm_file.proofs.Sources.{from_legal, from_listed, saved_listed}
 use Rattle.vm_file.proofs.StopLaws.{finds}
 
-spells_after : (how : How) (a : Contents) (p : Pair) (cur saved : Directory) (bytes : List ℕ) → is_contents a ≡ true → is_contents p.saved ≡ true → listed a ≡ cur → listed p.saved ≡ saved →
-    bytes ≡ pair_spelling (pair_after how a p) → Spells (current_after how cur saved) (saved_after how cur saved) (pair_after how a p) bytes
-spells_after Update a p cur saved bytes one two l1 l2 is = record { spelled = is; cur_legal = one; saved_legal = two; cur_listed = l1; saved_listed = l2 }
-spells_after Save a p cur saved bytes one two l1 l2 is = record { spelled = is; cur_legal = one; saved_legal = one; cur_listed = l1; saved_listed = l1 }
-spells_after Revert a p cur saved bytes one two l1 l2 is = record { spelled = is; cur_legal = two; saved_legal = two; cur_listed = l2; saved_listed = l2 }
+-- the bytes of the pair that a commit keeps
+pub spells_after : (how : How) (a : Contents) (p : Pair) (cur saved : Directory) (bytes : List ℕ) → IsContentsOf cur a → IsContentsOf saved p.saved → bytes ≡ pair_spelling (pair_after how a p) →
+    Spells (current_after how cur saved) (saved_after how cur saved) (pair_after how a p) bytes
+spells_after Update a p cur saved bytes one two is = record { spelled = is; cur_legal = one.legal; saved_legal = two.legal; cur_listed = one.lists; saved_listed = two.lists }
+spells_after Save a p cur saved bytes one two is = record { spelled = is; cur_legal = one.legal; saved_legal = one.legal; cur_listed = one.lists; saved_listed = one.lists }
+spells_after Revert a p cur saved bytes one two is = record { spelled = is; cur_legal = two.legal; saved_legal = two.legal; cur_listed = two.lists; saved_listed = two.lists }
 
 module _ {D : Type 0} (image : D → List ℕ) (honest : D → Type 0) (may_leave : D → List ℕ → Type 0) (f old : FileState D) (same : f ≡ old) (sound : IsSound image honest may_leave f) where
   -- what a stop before a call leaves
   pub finds_before : honest old.device → (c : List ℕ) → may_leave old.device c → Finds image old c
   finds_before = (let G : FileState D → Type 0 = λ g. honest g.device → (c : List ℕ) → may_leave g.device c → Finds image g c in subst G same (λ h c l. finds image may_leave f (sound.holds h) c l))
-
-  -- the bytes of the pair that is kept
-  pub kept_spells : (resident : ℕ → Option (List ℕ)) (cur : Directory) → MayCommit resident old.current cur → (how : How) → honest old.device → (bytes : List ℕ) → bytes ≡ pair_spelling (kept_after image resident how cur old) →
-      Spells (current_after how cur old.saved) (saved_after how cur old.saved) (kept_after image resident how cur old) bytes
-  kept_spells resident cur may how =
-      let M : FileState D → Type 0 = λ g. MayCommit resident g.current cur in
-      let K : FileState D → Type 0 = λ g. honest g.device → (bytes : List ℕ) → bytes ≡ pair_spelling (kept_after image resident how cur g) →
-      Spells (current_after how cur g.saved) (saved_after how cur g.saved) (kept_after image resident how cur g) bytes in
-      let legal = subst M (sym same) may in
-      subst K same (λ good bytes is.
-      spells_after how (contents_from resident (pair_of image f).cur.blocks cur) (pair_of image f) cur f.saved bytes (from_legal image honest may_leave f sound resident cur legal good)
-      (pair_ok (base_of f.area f.second) (area_of (image f.device) f.area f.second) (pair_of image f) (sound.holds good).pair).saved
-      (from_listed image honest may_leave f sound resident cur legal good) (saved_listed image honest may_leave f sound) is)
 
 -- cut from its bytes, where the saved directory is the same
 pub cut_is : (how : How) (cur saved mid : Directory) (q : Pair) (bytes : List ℕ) → mid ≡ saved → Spells (current_after how cur saved) (saved_after how cur saved) q bytes →
@@ -71,3 +61,48 @@ module _ {D : Type 0} (image : D → List ℕ) where
       ((found c ≡ Ok (pair_in f.current f.saved (area_of xs f.area f.second)))
       ⊎ ((q : Pair) × (pair_at (base_of f.area (not f.second)) (area_of xs f.area (not f.second)) ≡ Ok q) × (found c ≡ Ok q))) in
       subst P (sym same) (subst Q (sym alike) found_it)
+
+  -- it has the same saved directory
+  pub same_saved : (f m : FileState D) → m ≡ (let g : FileState D = record { device = m.device; area = f.area; second = f.second; sure = f.sure; current = f.current; saved = f.saved } in g) → m.saved ≡ f.saved
+  same_saved f m same = ap (λ g. g.saved) same
+
+  -- and a commit writes the same on it
+  pub written_alike : (bytes : List ℕ) (f m : FileState D) → m ≡ (let g : FileState D = record { device = m.device; area = f.area; second = f.second; sure = f.sure; current = f.current; saved = f.saved } in g) →
+      image m.device ≡ image f.device → image_after image bytes m ≡ image_after image bytes f
+  written_alike bytes f m same alike =
+      ap (image_after image bytes) same
+      ∙ ap (λ xs. with_part (with_part xs (base_of f.area (not f.second)) bytes) 512 (selector_of (not f.second) ∷ [])) alike
+
+  -- what the file keeps is told by the same
+  pub kept_alike : (f m : FileState D) → m ≡ (let g : FileState D = record { device = m.device; area = f.area; second = f.second; sure = f.sure; current = f.current; saved = f.saved } in g) →
+      image m.device ≡ image f.device → kept_of image m ≡ kept_of image f
+  kept_alike f m same alike =
+      ap (kept_of image) same
+      ∙ ap (λ xs. cond f.sure (SureOf (pair_in f.current f.saved (area_of xs f.area f.second)))
+      (UnsureBetween (pair_in f.current f.saved (area_of xs f.area f.second)) (or_empty (pair_at (base_of f.area (not f.second)) (area_of xs f.area (not f.second)))))) alike
+
+  pub kept_sure : (f : FileState D) (p : Pair) → f.sure ≡ true → pair_of image f ≡ p → kept_of image f ≡ SureOf p
+  kept_sure f p sure is = ap (λ b. cond b (SureOf (pair_of image f)) (UnsureBetween (pair_of image f) (other_pair image f))) sure ∙ ap SureOf is
+
+  pub kept_unsure : (f : FileState D) (p q : Pair) → f.sure ≡ false → pair_of image f ≡ p → IsOther image f q → kept_of image f ≡ UnsureBetween p q
+  kept_unsure f p q unsure is other =
+      ap (λ b. cond b (SureOf (pair_of image f)) (UnsureBetween (pair_of image f) (other_pair image f))) unsure
+      ∙ ap (λ x. UnsureBetween x (other_pair image f)) is ∙ ap (λ r. UnsureBetween p (or_empty r)) other
+
+  -- a sure file after a commit of which the device failed
+  pub kept_torn : (f m : FileState D) (q : Pair) → f.sure ≡ true → pair_of image m ≡ pair_of image f → (m.sure ≡ false → IsOther image m q) → KeepsAfter Disk q (kept_of image f) (kept_of image m)
+  kept_torn f m q sure is other = by m.sure refl
+    where
+      by : (b : Bool) → m.sure ≡ b → KeepsAfter Disk q (kept_of image f) (kept_of image m)
+      by true e = inl (kept_sure m (pair_of image f) e is ∙ sym (kept_sure f (pair_of image f) sure refl))
+      by false e = inr (pair_of image f, kept_sure f (pair_of image f) sure refl, kept_unsure m (pair_of image f) q e is (other e))
+
+  -- what `open` finds of a file is what it keeps
+  pub finds_kept : (f : FileState D) (c : List ℕ) → Finds image f c → FindsKept (kept_of image f) c
+  finds_kept f c = by f.sure
+    where
+      by : (b : Bool) → MatchBool b (found c ≡ Ok (pair_of image f)) ((found c ≡ Ok (pair_of image f)) ⊎ ((q : Pair) × IsOther image f q × (found c ≡ Ok q))) →
+          FindsKept (cond b (SureOf (pair_of image f)) (UnsureBetween (pair_of image f) (other_pair image f))) c
+      by true is = is
+      by false (inl is) = inl is
+      by false (inr o) = inr (o.2 ∙ ap (λ p. let r : Result Pair ℕ = Ok p in r) (ap or_empty (sym o.1)))

@@ -11,6 +11,7 @@ pub mod EntrySteps
 pub mod OpenSteps
 pub mod StateLaws
 pub mod StopLaws
+pub mod Listing
 pub mod BlockLaws
 pub mod NewFiles
 pub mod Filling

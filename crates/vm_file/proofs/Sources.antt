@@ -10,7 +10,7 @@ use Rattle.geos_model.specs.Block.{handle_word}
 use Rattle.geos_model.specs.Heap.{IsHeap}
 use Rattle.vm_file.specs.declared.directory.Entry.{Entry}
 use Rattle.vm_file.specs.declared.directory.Directory.{Directory}
-use Rattle.vm_file.specs.Committing.{block_from, block_read, contents_from, contents_read, HasLength, IsThere, MayCommit}
+use Rattle.vm_file.specs.Committing.{block_from, contents_from, contents_read, HasLength, IsThere, MayCommit}
 use Rattle.vm_file.specs.Contents.{Block, Contents, entry_of, listed, is_filled, is_contents, blocks_in}
 use Rattle.vm_file.specs.Directories.{is_directory, is_entry, are_entries, directory_length, may_be_map_block, may_be_map_group, may_be_map_item}
 use Rattle.vm_file.specs.Heaps.{is_block_size}
@@ -138,18 +138,3 @@ module _ {D : Type 0} (image : D → List ℕ) (honest : D → Type 0) (may_leav
       ap (λ x. let b : Block = record { h = e.h; uid = e.uid; bytes = x } in b)
       (saved_there image honest may_leave f sound e.h e.len (at + place_in es e.h) (there k d l) (ap (λ n. n + place_in es e.h) is)))
       ∙ own_from es 0 xs legal)
-
-  -- and lists the same
-  pub saved_listed : listed (pair_of image f).saved ≡ f.saved
-  saved_listed =
-      let es = f.saved.entries.items in let at = base_of f.area f.second + directory_length f.current + 2 in
-      let d1 = both (are_entries 0 es && may_be_map_block es f.saved.map_block && may_be_map_group es f.saved.map_item.0) (may_be_map_item f.saved.map_item.0 f.saved.map_item.1) sound.saved in
-      let d2 = both (are_entries 0 es && may_be_map_block es f.saved.map_block) (may_be_map_group es f.saved.map_item.0) d1.0 in
-      let there = own_there f.saved (both (are_entries 0 es) (may_be_map_block es f.saved.map_block) d2.0).0 in
-      let within = sound.within in
-      ap listed (sym (saved_contents at refl))
-      ∙ ap (λ xs. let d : Directory = record { entries = record { items = xs }; map_block = f.saved.map_block; map_item = f.saved.map_item } in d)
-      (all_listed (block_read nothing (image f.device) at es) es (λ k d l.
-      let e = get_or es k d in let place = block_there es [] e.h e.len (there k d l) in let from = at + place_in es e.h in
-      ap (λ n. let x : Entry = record { h = e.h; uid = e.uid; len = n } in x)
-      (length-take e.len (drop from (image f.device)) ∙ omega (arith, length-drop from (image f.device), place.1, within))))

@@ -1,15 +1,15 @@
 -- Files that are open: what `open` finds, and where blocks stand.
-use Rattle.std.proofs.Common.{◌≡◌, ℕ, ◌<◌, true, not, cond, List, length, take, get_or, Result, Ok, Err, refl, ap, sym, ◌∙◌, subst, arith}
-use Rattle.std.specs.Prelude.{IsOkAnd}
+use Rattle.std.proofs.Common.{◌≡◌, ℕ, ◌<◌, Bool, true, false, not, cond, List, length, take, get_or, Result, Ok, Err, refl, ap, sym, ◌∙◌, subst, arith}
+use Rattle.std.specs.Prelude.{IsOkAnd, MatchBool}
 use Rattle.std.proofs.Math.Dec.{ltb}
 use borrow.Author.Tests.{ltb-true}
 use Rattle.vm_file.specs.declared.opened.Opened.{Opened}
-use Rattle.vm_file.specs.Contents.{pair_in}
+use Rattle.vm_file.specs.Contents.{Pair, pair_in}
 use Rattle.vm_file.specs.Device.{Touched, Only}
 use Rattle.vm_file.specs.Outcomes.{ReadsOnly}
 use Rattle.vm_file.specs.Opening.{IsOpened, listed_file}
 use Rattle.vm_file.specs.Reading.{◌>>=◌, header_at, selector_at, pair_at, file_at, File, is_second, base_of, area_of}
-use Rattle.vm_file.specs.State.{FileState, IsSound, file_of}
+use Rattle.vm_file.specs.State.{FileState, IsOther, IsSound, Leaves, file_of}
 use Rattle.vm_file.proofs.HeapTests.{lt-ltb}
 use Rattle.vm_file.proofs.ReadLaws.{after, cond_ok, ok_is, pair_ok}
 use Rattle.vm_file.proofs.SpellLaws.{goes}
@@ -84,3 +84,39 @@ module _ {D : Type 0} (image : D → List ℕ) (honest : D → Type 0) (may_leav
           leaves = (parts.selector, (λ c l. subst (Touched (base_of o.area (not o.second)) o.area (image new)) (sym (durable was c l)) (touched_not _ _ (image new))));
         });
   }
+
+  -- a file whose device was only read is sound
+  module _ (f : FileState D) (new : D) (sound : IsSound image honest may_leave f) (reads : ReadsOnly image honest may_leave left f.device new) where
+    abbrev read_on : FileState D
+    read_on = record { device = new; area = f.area; second = f.second; sure = f.sure; current = f.current; saved = f.saved }
+
+    read_leaves : honest f.device → Leaves image may_leave f → Leaves image may_leave read_on
+    read_leaves h = by f.sure
+      where
+        by : (b : Bool) → MatchBool b ((is_second (get_or (image f.device) 512 0) ≡ f.second) × ((c : List ℕ) → may_leave f.device c → Touched (base_of f.area (not f.second)) f.area (image f.device) c))
+            (((q : Pair) × IsOther image f q) × ((c : List ℕ) → may_leave f.device c → Touched 512 1 (image f.device) c)) →
+            MatchBool b ((is_second (get_or (image new) 512 0) ≡ f.second) × ((c : List ℕ) → may_leave new c → Touched (base_of f.area (not f.second)) f.area (image new) c))
+            (((q : Pair) × IsOther image read_on q) × ((c : List ℕ) → may_leave new c → Touched 512 1 (image new) c))
+        by true s = (ap (λ xs. is_second (get_or xs 512 0)) reads.same ∙ s.0, (λ c l. subst (λ xs. Touched (base_of f.area (not f.second)) f.area xs c) (sym reads.same) (s.1 c (reads.stop h c l))))
+        by false s = (
+          (s.0.0, ap (λ xs. pair_at (base_of f.area (not f.second)) (area_of xs f.area (not f.second))) reads.same ∙ s.0.1),
+          (λ c l. subst (λ xs. Touched 512 1 xs c) (sym reads.same) (s.1 c (reads.stop h c l))),
+        )
+
+    pub read_sound : IsSound image honest may_leave read_on
+    read_sound = record {
+      area = sound.area;
+      current = sound.current;
+      saved = sound.saved;
+      fits = sound.fits;
+      within = (let n = ap length reads.same in let within = sound.within in omega (arith, within, n));
+      holds = (λ h.
+          let was = sound.holds (reads.was h) in
+          let cut = λ (xs : List ℕ). pair_in f.current f.saved (area_of xs f.area f.second) in
+          record {
+            long = (let n = ap length reads.same in let long = was.long in omega (arith, long, n));
+            header = ap (λ xs. header_at (take 512 xs)) reads.same ∙ was.header;
+            pair = ap (λ xs. pair_at (base_of f.area f.second) (area_of xs f.area f.second)) reads.same ∙ was.pair ∙ ap (λ xs. let r : Result Pair ℕ = Ok (cut xs) in r) (sym reads.same);
+            leaves = read_leaves (reads.was h) was.leaves;
+          });
+    }

@@ -1,7 +1,7 @@
 -- What a commit keeps, and what a stop during it leaves.
-use Rattle.std.specs.Prelude.{◌≡◌, ◌⊎◌, ℕ, ◌+◌, true, List, length, map, Option, Some, None, Ok, unwrap_or, All, MatchOption, IfSome}
+use Rattle.std.specs.Prelude.{◌≡◌, ◌⊎◌, ℕ, ◌+◌, true, not, List, [], ◌∷◌, length, map, Option, Some, None, Ok, unwrap_or, All, MatchOption, IfSome, IsSome}
 use Rattle.std.specs.Borrow.{Bor}
-use Rattle.lmem_raw.specs.Bytes.{part}
+use Rattle.lmem_raw.specs.Bytes.{part, with_part}
 use Rattle.geos_model.specs.Block.{handle_word}
 use Rattle.geos_model.specs.Heap.{IsHeap}
 use Rattle.vm_file.specs.declared.commit.How.{How}
@@ -10,7 +10,9 @@ use Rattle.vm_file.specs.declared.directory.Entry.{Entry}
 use Rattle.vm_file.specs.declared.directory.Directory.{Directory}
 use Rattle.vm_file.specs.Contents.{Block, Contents, Pair, listed, is_contents, pair_spelling}
 use Rattle.vm_file.specs.Directories.{is_directory, directory_length}
-use Rattle.vm_file.specs.Reading.{found}
+use Rattle.vm_file.specs.Kept.{Kept, SureOf, UnsureBetween}
+use Rattle.vm_file.specs.Reading.{base_of, found}
+use Rattle.vm_file.specs.Spelling.{selector_of}
 use Rattle.vm_file.specs.declared.error.CommitError.{CommitError}
 use Rattle.vm_file.specs.declared.error.CommitError.TheVariants.{Unsure, TooBig, Memory, Disk}
 use Rattle.vm_file.specs.State.{FileState, Finds, HasBlock, bytes_of_block, pair_of, place_in}
@@ -64,12 +66,33 @@ kept_after image resident how cur f = pair_after how (contents_from resident (pa
 abbrev pub length_after : How → Directory → Directory → ℕ
 length_after how cur saved = directory_length (current_after how cur saved) + directory_length (saved_after how cur saved)
 
+-- what a commit of these bytes writes: they stand at the front of the other area, its selector in place of the one that was, and nothing else changes
+abbrev pub image_after : {D : Type 0} → (D → List ℕ) → List ℕ → FileState D → List ℕ
+image_after image bytes f = with_part (with_part (image f.device) (base_of f.area (not f.second)) bytes) 512 (selector_of (not f.second) ∷ [])
+
+-- the blocks of these entries are resident
+abbrev pub AreResident : (ℕ → Option (List ℕ)) → List Entry → Type 0
+AreResident resident entries = All (λ e. IsSome (resident e.h)) entries
+
+-- no block has to be read for the pair that a commit keeps: those of the given directory are resident; those of the saved one never are
+abbrev pub NeedsNoRead : (ℕ → Option (List ℕ)) → How → Directory → Directory → Type 0
+NeedsNoRead resident Update cur saved = AreResident resident cur.entries.items × (saved.entries.items ≡ [])
+NeedsNoRead resident Save cur saved = AreResident resident cur.entries.items
+NeedsNoRead resident Revert cur saved = saved.entries.items ≡ []
+
 -- a file of which a commit was refused: where the device failed it may be unsure, and else nothing happened
 abbrev pub IsAfter : {D : Type 0} → CommitError → FileState D → FileState D → Type 0
 IsAfter Unsure old new = new ≡ old
 IsAfter TooBig old new = new ≡ old
 IsAfter Memory old new = new ≡ old
 IsAfter Disk old new = new ≡ record old { device = new.device; sure = new.sure }
+
+-- what is kept after a commit that was refused: what was or, where the device failed, it may be unsure between that pair and the new one
+abbrev pub KeepsAfter : CommitError → Pair → Kept → Kept → Type 0
+KeepsAfter Unsure after old new = new ≡ old
+KeepsAfter TooBig after old new = new ≡ old
+KeepsAfter Memory after old new = new ≡ old
+KeepsAfter Disk after old new = (new ≡ old) ⊎ ((pair : Pair) × (old ≡ SureOf pair) × (new ≡ UnsureBetween pair after))
 
 -- `open` finds what the file keeps, or this pair
 abbrev pub FindsOr : {D : Type 0} → (D → List ℕ) → FileState D → Pair → List ℕ → Type 0
@@ -91,6 +114,11 @@ contents_read resident image at kept d =
 -- a block that is resident has the length of its entry
 abbrev pub HasLength : (ℕ → Option (List ℕ)) → Entry → Type 0
 HasLength resident e = IfSome (resident e.h) (λ bytes. length bytes ≡ e.len)
+
+-- legal contents, which this directory lists
+pub record IsContentsOf (d : Directory) (contents : Contents) : Type 0 where
+  pub legal : is_contents contents ≡ true
+  pub lists : listed contents ≡ d
 
 -- the bytes spell this pair, a legal one, whose directories are these
 pub record Spells (cur saved : Directory) (pair : Pair) (bytes : List ℕ) : Type 0 where

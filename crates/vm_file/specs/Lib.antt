@@ -10,4 +10,5 @@ pub mod Spelling
 pub mod Outcomes
 pub mod Opening
 pub mod State
+pub mod Kept
 pub mod Committing

@@ -1,6 +1,8 @@
 -- How calls that read a device end.
-use Rattle.std.specs.Prelude.{◌≡◌, ℕ, List, length, Result, Ok, Err, IsOkAnd, MatchResult}
+use Rattle.std.specs.Prelude.{◌≡◌, ◌⊎◌, ℕ, List, length, Result, Ok, Err, OnErr, IsOkAnd, MatchResult}
 use Rattle.arrayvec.specs.ArrayVec.{ArrayVec}
+use Rattle.geos_model.specs.Block.{handle_word}
+use Rattle.geos_model.specs.Heap.{IsHeap}
 use Rattle.vm_file.specs.declared.error.OpenError.{OpenError}
 use Rattle.vm_file.specs.declared.error.OpenError.TheVariants.{BadFile, Disk, Memory}
 use Rattle.vm_file.specs.Device.{AfterWrite, Passes, Rose, Touched}
@@ -58,3 +60,11 @@ pub record WritesOnly {D : Type 0} (image : D → List ℕ) (honest : D → Type
   pub torn : honest old → Touched at n (image old) (image new)
   pub stop : honest old → (c : List ℕ) → may_leave new c → AfterWrite at n (may_leave old) c
   pub time : honest old → Passes left old new (AfterWrite at n (may_leave old))
+
+-- the bytes are a heap under this handle
+abbrev pub IsHeapUnder : ℕ → List ℕ → Type 0
+IsHeapUnder h bytes = IsHeap bytes × (handle_word bytes ≡ h)
+
+-- a block was not read only where a failure was counted, or these bytes came, which are no heap under its handle
+abbrev pub CausesNoBlock : {X E : Type 0} → ℕ → ℕ → ℕ → List ℕ → Result X E → Type 0
+CausesNoBlock h before now bytes result = OnErr result (Rose before now ⊎ (IsHeapUnder h bytes → ⊥))

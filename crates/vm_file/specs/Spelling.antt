@@ -1,5 +1,5 @@
 -- What is written in front of the areas.
-use Rattle.std.specs.Prelude.{ℕ, ◌%◌, ◌/◌, List, [], ◌∷◌, ◌++◌, replicate}
+use Rattle.std.specs.Prelude.{Bool, if◌then◌else◌, ℕ, ◌%◌, ◌/◌, List, [], ◌∷◌, ◌++◌, replicate}
 use Rattle.geos_model.specs.Bytes.{word_bytes}
 use Rattle.vm_file.specs.Contents.{Contents, Pair}
 use Rattle.vm_file.specs.Reading.{magic}
@@ -23,3 +23,7 @@ empty_contents = record { blocks = []; map_block = 0; map_item = (0, 0) }
 -- the pair of a new file
 abbrev pub empty_pair : Pair
 empty_pair = record { cur = empty_contents; saved = empty_contents }
+
+-- the selector that is written for an area
+abbrev pub selector_of : Bool → ℕ
+selector_of second = if second then 1 else 0

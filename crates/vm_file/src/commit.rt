@@ -2,6 +2,7 @@
 ghost use Rattle.std.specs.Prelude.{◌≡◌, ◌<◌, ◌^◌, ◌↔◌, ℕ, List, Option, All, IsTrue};
 ghost use Rattle.vm_file.specs.Committing.{IsThere, Shows, current_after, length_after, saved_after};
 ghost use Rattle.vm_file.specs.Reading.{is_second};
+ghost use Rattle.vm_file.specs.Spelling.{selector_of};
 
 use crate::directory::{Directory, Entry};
 use crate::fields::directory_length;
@@ -69,7 +70,8 @@ pub(crate) fn keep(current: &mut Directory, saved: &mut Directory, how: How, cur
 
 /// The selector of an area.
 pub(crate) fn selector_of(second: bool) -> u8
-    ensures { is_second result ≡ second }
+    ensures names { is_second result ≡ second }
+    ensures value { result ≡ selector_of second }
 {
     if second { 1 } else { 0 }
 }

@@ -1,8 +1,8 @@
 //! What a new file begins with.
-ghost use Rattle.std.specs.Prelude.{◌≡◌, ◌+◌, ◌*◌, ◌≤◌, ◌<◌, ◌^◌, ℕ, true, length, OnOk};
+ghost use Rattle.std.specs.Prelude.{◌≡◌, ◌+◌, ◌*◌, ◌≤◌, ◌<◌, ◌^◌, ℕ, OnOk};
 ghost use Rattle.lmem_raw.specs.Bytes.{with_part};
 ghost use Rattle.vm_file.specs.Device.{Only};
-ghost use Rattle.vm_file.specs.Outcomes.{CausesDisk};
+ghost use Rattle.vm_file.specs.Outcomes.{CausesDisk, WritesOnly};
 ghost use Rattle.vm_file.specs.Spelling.{new_file};
 
 use crate::device::{Device, Disk, write_durably};
@@ -28,9 +28,7 @@ fn new_file(area: u32) -> [u8; 1040]
 /// Writes what a new file begins with, and makes it last.
 pub(crate) fn write_new<D: Device>(device: &mut D, area: u32) -> Result<(), Disk>
     ensures bytes { D.honest device.old → OnOk result (D.image device.new ≡ with_part (D.image device.old) 0 (new_file area)) }
-    ensures len { length (D.image device.new) ≡ length (D.image device.old) }
-    ensures honest { D.honest device.old → D.honest device.new }
-    ensures was_honest { D.honest device.new → D.honest device.old }
+    ensures writes { WritesOnly D.image D.honest D.may_leave D.may_have_left 0 1040 device.old device.new }
     ensures durable { D.honest device.old → OnOk result (Only (D.image device.new) (D.may_leave device.new)) }
     ensures cause { CausesDisk (D.failed device.old) (D.failed device.new) result }
 {

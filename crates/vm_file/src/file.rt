@@ -1,10 +1,8 @@
 //! Files that are open.
 ghost use Rattle.std.specs.Prelude.{◌≡◌, ◌+◌, ◌*◌, ◌≤◌, ◌<◌, ◌↔◌, ◌++◌, ℕ, List, [], Ok, Err, true, false, not, MatchResult, IfOk, IfErr, OnOk, OnErr, IsTrue, length};
 ghost use Rattle.std.specs.Vec.{vec_len, vec_capacity};
-ghost use Rattle.geos_model.specs.Block.{handle_word};
-ghost use Rattle.geos_model.specs.Heap.{IsHeap};
 ghost use Rattle.vm_file.specs.Device.{Only, Passes, Rose};
-ghost use Rattle.vm_file.specs.Outcomes.{CausesDisk, IsCaused, IsRefused, ReadsOnly};
+ghost use Rattle.vm_file.specs.Outcomes.{CausesDisk, CausesNoBlock, IsCaused, IsHeapUnder, IsRefused, ReadsOnly, WritesOnly};
 ghost use Rattle.vm_file.specs.Reading.{file_at};
 
 use crate::commit::{How, Nothing, Source, are_there, keep, length_after, selector_of};
@@ -44,10 +42,11 @@ impl<D: Device + Drop> Model for VmFile<D> {
 
 impl<D: Device + Drop> VmFile<D> {
     ghost use Rattle.lmem_raw.specs.Bytes.{with_part};
-    ghost use Rattle.vm_file.specs.Committing.{FindsOneOf, FindsOr, IsAfter, MayCommit, Spells};
-    ghost use Rattle.vm_file.specs.Committing.{contents_from, current_after, kept_after, length_after, saved_after};
+    ghost use Rattle.vm_file.specs.Committing.{AreResident, FindsOneOf, FindsOr, IsAfter, IsContentsOf, KeepsAfter, MayCommit, NeedsNoRead, Spells};
+    ghost use Rattle.vm_file.specs.Committing.{contents_from, current_after, image_after, kept_after, length_after, saved_after};
     ghost use Rattle.vm_file.specs.Contents.{contents_spelling, listed, pair_in, pair_spelling};
     ghost use Rattle.vm_file.specs.Directories.{directory_length, is_directory};
+    ghost use Rattle.vm_file.specs.Kept.{SureOf, kept_of};
     ghost use Rattle.vm_file.specs.Spelling.{empty_contents, empty_pair, new_file};
     ghost use Rattle.vm_file.specs.Reading.{is_area};
     ghost use Rattle.vm_file.specs.State.{FileState, Finds, HasBlock, IsOther, bytes_of_block, file_of, pair_of};
@@ -55,7 +54,7 @@ impl<D: Device + Drop> VmFile<D> {
     /// Makes a file on a device: writes the header, the selector and two empty directories,
     /// and ends with a `sync`. `area` is a legal area size, and the device has room for two
     /// areas behind the first 1,024 bytes. The device comes back with each refusal: `Disk`
-    /// where it fails.
+    /// where it fails; then any bytes may stand in the first 1,040.
     pub fn create(alloc: Global, mut device: D, area: u32) -> Result<VmFile<D>, (D, CreateError)>
         requires area { is_area area ≡ true }
         requires room { 1024 + 2 * area ≤ length (D.image device) }
@@ -70,7 +69,10 @@ impl<D: Device + Drop> VmFile<D> {
         ensures bytes { D.honest device → IfOk result (λ file. D.image file.device ≡ with_part (D.image device) 0 (new_file area)) }
         ensures found { D.honest device → IfOk result
             (λ file. file_at (D.image file.device) ≡ Ok (record { area = area; second = false; pair = empty_pair })) }
-        ensures honest { D.honest device → IfOk result (λ file. D.honest file.device) }
+        // Whatever it answers, nothing but the first 1,040 bytes was written.
+        ensures writes { MatchResult result
+            (λ file. WritesOnly D.image D.honest D.may_leave D.may_have_left 0 1040 device file.device)
+            (λ e. WritesOnly D.image D.honest D.may_leave D.may_have_left 0 1040 device e.0) }
         ensures durable { D.honest device → IfOk result (λ file. Only (D.image file.device) (D.may_leave file.device)) }
         ensures cause { MatchResult result
             (λ file. D.failed file.device ≡ D.failed device)
@@ -130,29 +132,43 @@ impl<D: Device + Drop> VmFile<D> {
         }
     }
 
-    /// The current directory.
+    /// Whether it is sure of the pair that it keeps. Where it is not, a commit failed while the
+    /// selector was written: a stop leaves that pair or the new one. A file that is not sure takes
+    /// no commit.
+    pub fn is_sure(&self) -> bool
+        ensures sure { result ≡ self.now.sure }
+        // What `open` would find after a stop now.
+        ensures stop { D.honest self.now.device → (c : List ℕ) → D.may_leave self.now.device c → Finds D.image self.now c }
+    {
+        self.sure
+    }
+
+    /// The current directory of the pair that it keeps.
     pub fn current(&self) -> &Directory
         ensures same { result.now ≡ self.now.current }
+        ensures lists { listed (pair_of D.image self.now).cur ≡ result.now }
         ensures legal { is_directory result.now ≡ true }
     {
         &self.current
     }
 
-    /// The saved directory.
+    /// The saved directory of the pair that it keeps.
     pub fn saved(&self) -> &Directory
         ensures same { result.now ≡ self.now.saved }
+        ensures lists { listed (pair_of D.image self.now).saved ≡ result.now }
         ensures legal { is_directory result.now ≡ true }
     {
         &self.saved
     }
 
     /// Reads the bytes of a block of the current directory straight into `into`, which is as
-    /// long as its entry says. `Disk` where the device fails, or gives bytes that are no heap
-    /// with that handle; what `into` holds then is not said.
+    /// long as its entry says. `Disk` where the device fails, and then it is not said what `into`
+    /// holds, or where it gives bytes that are no heap with that handle.
     pub fn block(&mut self, h: u16, into: &mut [u8]) -> Result<(), Disk>
         requires { HasBlock self.old.current h (length into.old) }
         ensures bytes { D.honest self.old.device → OnOk result (into.new ≡ bytes_of_block (pair_of D.image self.old).cur.blocks h) }
-        ensures heap { OnOk result (IsHeap into.new × (handle_word into.new ≡ h)) }
+        ensures heap { OnOk result (IsHeapUnder h into.new) }
+        ensures no_block { CausesNoBlock h (D.failed self.old.device) (D.failed self.new.device) into.new result }
         ensures same { self.new ≡ record self.old { device = self.new.device } }
         ensures pair { pair_of D.image self.new ≡ pair_of D.image self.old }
         ensures ok { OnOk result (D.failed self.new.device ≡ D.failed self.old.device) }
@@ -174,7 +190,8 @@ impl<D: Device + Drop> VmFile<D> {
     pub fn saved_block(&mut self, h: u16, into: &mut [u8]) -> Result<(), Disk>
         requires { HasBlock self.old.saved h (length into.old) }
         ensures bytes { D.honest self.old.device → OnOk result (into.new ≡ bytes_of_block (pair_of D.image self.old).saved.blocks h) }
-        ensures heap { OnOk result (IsHeap into.new × (handle_word into.new ≡ h)) }
+        ensures heap { OnOk result (IsHeapUnder h into.new) }
+        ensures no_block { CausesNoBlock h (D.failed self.old.device) (D.failed self.new.device) into.new result }
         ensures same { self.new ≡ record self.old { device = self.new.device } }
         ensures pair { pair_of D.image self.new ≡ pair_of D.image self.old }
         ensures ok { OnOk result (D.failed self.new.device ≡ D.failed self.old.device) }
@@ -236,6 +253,14 @@ impl<D: Device + Drop> VmFile<D> {
         ensures pair { D.honest self.old.device → MatchResult result
             (λ _. pair_of D.image self.new ≡ kept_after D.image (S.resident_bytes source.now) how cur.now self.old)
             (λ _. pair_of D.image self.new ≡ pair_of D.image self.old) }
+        // What it keeps then: the new pair or, where it was refused, what it kept; where the
+        // device failed, it may be unsure between that and the new pair.
+        ensures kept { D.honest self.old.device → MatchResult result
+            (λ _. kept_of D.image self.new ≡ SureOf (kept_after D.image (S.resident_bytes source.now) how cur.now self.old))
+            (λ e. KeepsAfter e (kept_after D.image (S.resident_bytes source.now) how cur.now self.old) (kept_of D.image self.old) (kept_of D.image self.new)) }
+        // It has written the pair's bytes to the other area and its selector, and nothing else.
+        ensures bytes { D.honest self.old.device → OnOk result (D.image self.new.device
+            ≡ image_after D.image (pair_spelling (kept_after D.image (S.resident_bytes source.now) how cur.now self.old)) self.old) }
         // Where it turned unsure, the other area holds the new pair.
         ensures other { D.honest self.old.device → self.old.sure ≡ true → self.new.sure ≡ false
             → IsOther D.image self.new (kept_after D.image (S.resident_bytes source.now) how cur.now self.old) }
@@ -249,6 +274,8 @@ impl<D: Device + Drop> VmFile<D> {
         ensures was_honest { D.honest self.new.device → D.honest self.old.device }
         ensures ok { OnOk result (D.failed self.new.device ≡ D.failed self.old.device) }
         ensures cause { D.honest self.old.device → result ≡ Err CommitError.Disk → Rose (D.failed self.old.device) (D.failed self.new.device) }
+        ensures no_read { NeedsNoRead (S.resident_bytes source.now) how cur.now self.old.saved → result ≡ Err CommitError.Disk
+            → Rose (D.failed self.old.device) (D.failed self.new.device) }
     {
         if !self.sure {
             return Err(CommitError::Unsure);
@@ -283,12 +310,15 @@ impl<D: Device + Drop> VmFile<D> {
         requires room { vec_len into.old + directory_length cur.now ≤ vec_capacity into.old }
         ensures items { D.honest self.old.device → OnOk result (into.new.items ≡ into.old.items
             ++ contents_spelling (contents_from (S.resident_bytes source.now) (pair_of D.image self.old).cur.blocks cur.now)) }
+        ensures legal { D.honest self.old.device
+            → IsContentsOf cur.now (contents_from (S.resident_bytes source.now) (pair_of D.image self.old).cur.blocks cur.now) }
         ensures len { OnOk result (vec_len into.new ≡ vec_len into.old + directory_length cur.now) }
         ensures room { vec_capacity into.old ≤ vec_capacity into.new }
         ensures same { self.new ≡ record self.old { device = self.new.device } }
         ensures pair { pair_of D.image self.new ≡ pair_of D.image self.old }
         ensures ok { OnOk result (D.failed self.new.device ≡ D.failed self.old.device) }
         ensures cause { D.honest self.old.device → OnErr result (Rose (D.failed self.old.device) (D.failed self.new.device)) }
+        ensures resident { AreResident (S.resident_bytes source.now) cur.now.entries.items → OnErr result ⊥ }
         ensures reads { ReadsOnly D.image D.honest D.may_leave D.may_have_left self.old.device self.new.device }
     {
         let from = base_of(self.area, self.second) + 2;
@@ -300,12 +330,14 @@ impl<D: Device + Drop> VmFile<D> {
         requires room { vec_len into.old + directory_length self.old.saved ≤ vec_capacity into.old }
         ensures items { D.honest self.old.device → OnOk result (into.new.items ≡ into.old.items
             ++ contents_spelling (pair_of D.image self.old).saved) }
+        ensures legal { D.honest self.old.device → IsContentsOf self.old.saved (pair_of D.image self.old).saved }
         ensures len { OnOk result (vec_len into.new ≡ vec_len into.old + directory_length self.old.saved) }
         ensures room { vec_capacity into.old ≤ vec_capacity into.new }
         ensures same { self.new ≡ record self.old { device = self.new.device } }
         ensures pair { pair_of D.image self.new ≡ pair_of D.image self.old }
         ensures ok { OnOk result (D.failed self.new.device ≡ D.failed self.old.device) }
         ensures cause { D.honest self.old.device → OnErr result (Rose (D.failed self.old.device) (D.failed self.new.device)) }
+        ensures no_block { self.old.saved.entries.items ≡ [] → OnErr result ⊥ }
         ensures reads { ReadsOnly D.image D.honest D.may_leave D.may_have_left self.old.device self.new.device }
     {
         let first = u64::from(directory_length(&self.current));
@@ -332,12 +364,13 @@ impl<D: Device + Drop> VmFile<D> {
         requires empty { (into.old.items ≡ []) × (vec_len into.old ≡ 0) }
         requires room { length_after how cur.now self.old.saved ≤ vec_capacity into.old }
         ensures len { OnOk result (vec_len into.new ≡ length_after how cur.now self.old.saved) }
-        ensures spelled { D.honest self.old.device → OnOk result (into.new.items
-            ≡ pair_spelling (kept_after D.image (S.resident_bytes source.now) how cur.now self.old)) }
+        ensures spelled { D.honest self.old.device → OnOk result (Spells (current_after how cur.now self.old.saved) (saved_after how cur.now self.old.saved)
+            (kept_after D.image (S.resident_bytes source.now) how cur.now self.old) into.new.items) }
         ensures same { self.new ≡ record self.old { device = self.new.device } }
         ensures pair { pair_of D.image self.new ≡ pair_of D.image self.old }
         ensures ok { OnOk result (D.failed self.new.device ≡ D.failed self.old.device) }
         ensures cause { D.honest self.old.device → OnErr result (Rose (D.failed self.old.device) (D.failed self.new.device)) }
+        ensures no_read { NeedsNoRead (S.resident_bytes source.now) how cur.now self.old.saved → OnErr result ⊥ }
         ensures reads { ReadsOnly D.image D.honest D.may_leave D.may_have_left self.old.device self.new.device }
     {
         match how {
@@ -381,6 +414,7 @@ impl<D: Device + Drop> VmFile<D> {
         ensures pair { D.honest self.old.device → MatchResult result
             (λ _. pair_of D.image self.new ≡ pair_in (current_after how cur.now self.old.saved) (saved_after how cur.now self.old.saved) bytes.now)
             (λ _. pair_of D.image self.new ≡ pair_of D.image self.old) }
+        ensures bytes { D.honest self.old.device → OnOk result (D.image self.new.device ≡ image_after D.image bytes.now self.old) }
         ensures other { D.honest self.old.device → self.new.sure ≡ false
             → IsOther D.image self.new (pair_in (current_after how cur.now self.old.saved) (saved_after how cur.now self.old.saved) bytes.now) }
         ensures any_moment { D.honest self.old.device → Passes D.may_have_left self.old.device self.new.device

@@ -6,7 +6,7 @@ ghost use Rattle.lmem_raw.specs.Bytes.{part};
 ghost use Rattle.vm_file.specs.Contents.{entry_of, listed};
 ghost use Rattle.vm_file.specs.Directories.{AreMaps, are_entries, directory_length, entries_length, is_directory, is_entry};
 ghost use Rattle.vm_file.specs.Device.{Rose};
-ghost use Rattle.vm_file.specs.Outcomes.{Causes, CausesDisk, ReadsOnly, Tells, items_of};
+ghost use Rattle.vm_file.specs.Outcomes.{Causes, CausesDisk, CausesNoBlock, IsHeapUnder, ReadsOnly, Tells, items_of};
 ghost use Rattle.vm_file.specs.Reading.{block_at, blocks_at, contents_at, count_at, maps_at};
 
 use crate::device::{Device, Disk};
@@ -52,7 +52,7 @@ fn handle_of(block: &[u8]) -> u16
 
 /// Whether the bytes are a heap with this handle.
 pub(crate) fn is_heap_of(block: &[u8], h: u16) -> bool
-    ensures { IsTrue result ↔ IsHeap block.now × (handle_word block.now ≡ h) }
+    ensures { IsTrue result ↔ IsHeapUnder h block.now }
 {
     check(block) && handle_of(block) == h
 }
@@ -65,7 +65,8 @@ pub(crate) fn read_block<D: Device>(
     h: u16,
     into: &mut [u8],
 ) -> Result<(), Disk>
-    ensures heap { OnOk result (IsHeap into.new × (handle_word into.new ≡ h)) }
+    ensures heap { OnOk result (IsHeapUnder h into.new) }
+    ensures no_block { CausesNoBlock h (D.failed device.old) (D.failed device.new) into.new result }
     ensures bytes { D.honest device.old → OnOk result (into.new ≡ part (D.image device.old) at (length into.old)) }
     ensures reads { ReadsOnly D.image D.honest D.may_leave D.may_have_left device.old device.new }
     ensures ok { OnOk result (D.failed device.new ≡ D.failed device.old) }

@@ -1,13 +1,13 @@
 //! The bytes of an area, built in memory before they are written: each function appends, within the
 //! room that the buffer has.
-ghost use Rattle.std.specs.Prelude.{◌≡◌, ◌+◌, ◌-◌, ◌<◌, ◌≤◌, ◌^◌, ◌++◌, ℕ, true, length, map, take, All, OnOk, OnErr, IfOk};
+ghost use Rattle.std.specs.Prelude.{◌≡◌, ◌+◌, ◌-◌, ◌<◌, ◌≤◌, ◌^◌, ◌++◌, ℕ, true, length, map, take, All, IsSome, OnOk, OnErr, IfOk};
 ghost use Rattle.std.specs.List.{list_all, flat_map};
 ghost use Rattle.std.specs.Vec.{vec_len, vec_capacity};
 ghost use Rattle.geos_model.specs.Block.{handle_word};
 ghost use Rattle.geos_model.specs.Bytes.{word_bytes};
 ghost use Rattle.geos_model.specs.Heap.{IsHeap};
 ghost use Rattle.lmem_raw.specs.Bytes.{part};
-ghost use Rattle.vm_file.specs.Committing.{HasLength, block_read, contents_read};
+ghost use Rattle.vm_file.specs.Committing.{AreResident, HasLength, block_read, contents_read};
 ghost use Rattle.vm_file.specs.Contents.{block_spelling, contents_spelling, is_filled};
 ghost use Rattle.vm_file.specs.Device.{Rose};
 ghost use Rattle.vm_file.specs.Directories.{directory_length, entries_length};
@@ -109,6 +109,7 @@ fn spell_block<D: Device, S: Source>(
     ensures room { vec_capacity into.old ≤ vec_capacity into.new }
     ensures reads { ReadsOnly D.image D.honest D.may_leave D.may_have_left device.old device.new }
     ensures ok { OnOk result (D.failed device.new ≡ D.failed device.old) }
+    ensures resident { IsSome (S.resident_bytes source.now e.h) → OnErr result ⊥ }
     ensures cause { D.honest device.old
         → is_filled (block_read (S.resident_bytes source.now) (D.image device.old) from kept.now e) ≡ true
         → OnErr result (Rose (D.failed device.old) (D.failed device.new)) }
@@ -145,6 +146,7 @@ fn spell_blocks<D: Device, S: Source>(
     ensures room { vec_capacity into.old ≤ vec_capacity into.new }
     ensures reads { ReadsOnly D.image D.honest D.may_leave D.may_have_left device.old device.new }
     ensures ok { OnOk result (D.failed device.new ≡ D.failed device.old) }
+    ensures resident { AreResident (S.resident_bytes source.now) entries.now → OnErr result ⊥ }
     ensures cause { D.honest device.old
         → list_all is_filled (map (block_read (S.resident_bytes source.now) (D.image device.old) from kept.now) entries.now) ≡ true
         → OnErr result (Rose (D.failed device.old) (D.failed device.new)) }
@@ -176,6 +178,7 @@ pub(crate) fn spell_directory<D: Device, S: Source>(
     ensures room { vec_capacity into.old ≤ vec_capacity into.new }
     ensures reads { ReadsOnly D.image D.honest D.may_leave D.may_have_left device.old device.new }
     ensures ok { OnOk result (D.failed device.new ≡ D.failed device.old) }
+    ensures resident { AreResident (S.resident_bytes source.now) directory.now.entries.items → OnErr result ⊥ }
     ensures cause { D.honest device.old
         → list_all is_filled (contents_read (S.resident_bytes source.now) (D.image device.old) from kept.now.entries.items directory.now).blocks ≡ true
         → OnErr result (Rose (D.failed device.old) (D.failed device.new)) }

@@ -26,6 +26,9 @@ returns-in-Err-clause-cause g c = λ h filled.
     subst R i.count (c.in-Err.ensures.cause (i.reads.stays h)
     (subst F (sym i.reads.same) (filled_at (block_read resident (g.D.Device.image c.args.device.now) c.args.from c.args.kept.now) es c.loop-e.e-index blank c.loop-e-test.true filled)))
 
+pub returns-in-Err-clause-resident : goal.returns-in-Err-clause-resident
+returns-in-Err-clause-resident g c = λ all. c.in-Err.ensures.resident (all c.loop-e.e-index blank c.loop-e-test.true)
+
 pub loop-e-preserved : goal.loop-e-preserved
 loop-e-preserved g c =
     let i = c.loop-e.invariant in let d = g.D.Device in let es = c.args.entries.now in let k = c.loop-e.e-index in

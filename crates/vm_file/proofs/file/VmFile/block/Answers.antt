@@ -8,7 +8,11 @@ use Rattle.vm_file.specs.State.{FileState, Finds, HasBlock, bytes_of_block, pair
 use Rattle.vm_file.proofs.BlockLaws.{current_there, current_heap}
 use Rattle.vm_file.proofs.Moments.{at_any_moment}
 use Rattle.vm_file.proofs.StopLaws.{finds}
+use Rattle.vm_file.proofs.StateLaws.{read_sound}
 use Rattle.vm_file.proofs.file.VmFile.block.Goals as goal
+
+pub invariant_of-self : goal.invariant_of-self
+invariant_of-self g c = (let d = g.D.Device in read_sound d.image d.honest d.may_leave d.may_have_left _ c.read_block.new.device c.self.invariant c.read_block.ensures.reads)
 
 pub returns-clause-bytes : goal.returns-clause-bytes
 returns-clause-bytes g c =

@@ -1,10 +1,11 @@
-use Rattle.std.proofs.Common.{◌≡◌, ◌∙◌, ◌≤◌, ℕ, List, length, not, true, false, refl, ap, sym, subst, arith}
+use Rattle.std.proofs.Common.{◌≡◌, ◌∙◌, ◌≤◌, ℕ, List, [], ◌∷◌, length, not, true, false, refl, ap, sym, subst, arith}
 use Rattle.lmem_raw.specs.Bytes.{with_part}
 use Rattle.vm_file.specs.declared.directory.Directory.{Directory}
-use Rattle.vm_file.specs.Committing.{FindsOneOf, Spells, current_after, saved_after, length_after}
+use Rattle.vm_file.specs.Committing.{FindsOneOf, Spells, current_after, image_after, saved_after, length_after}
 use Rattle.vm_file.specs.Contents.{Pair, pair_in}
 use Rattle.vm_file.specs.Device.{Passes}
 use Rattle.vm_file.specs.Outcomes.{WritesOnly}
+use Rattle.vm_file.specs.Spelling.{selector_of}
 use Rattle.vm_file.specs.State.{FileState, Finds, IsOther, IsSound, pair_of}
 use Rattle.vm_file.proofs.CommitLaws.{TornFile, UnsureFile, SelectedFile, torn_file, unsure_file, selected_file, current_legal, saved_legal}
 use Rattle.vm_file.proofs.file.VmFile.select.Given.{Over}
@@ -110,7 +111,7 @@ selected g c =
     (subst W c.base_of-base.ensures.exact c.in-Ok.ensures.writes) c.args.bytes.now x y (pair_in x y c.args.bytes.now) refl (omega (arith, c.in-Ok.ensures.within, c.base_of-base.ensures.exact))
     (subst S (sym c.self.view_is) c.requires.spelled) (λ h. c.in-Ok.ensures.written h ∙ ap (λ k. with_part (d.image i.device) k c.args.bytes.now) c.base_of-base.ensures.exact) c.in-Ok.ensures.durable
     c.write_durably-2.new.device c.write_durably-2.ensures.writes
-    c.selector_of.result c.selector_of.ensures (λ h. r.written (on h)) (λ h. r.durable (on h)) (current_legal c.args.how c.args.cur.now i.saved c.requires.legal c.self.invariant.saved)
+    c.selector_of.result c.selector_of.ensures.names (λ h. r.written (on h)) (λ h. r.durable (on h)) (current_legal c.args.how c.args.cur.now i.saved c.requires.legal c.self.invariant.saved)
     (saved_legal c.args.how c.args.cur.now i.saved c.requires.legal c.self.invariant.saved) (sym (subst L (sym c.self.view_is) c.requires.fits.0))
 
 -- what holds with the directories to be kept holds with those that are kept
@@ -145,3 +146,11 @@ returns-in-Ok-write_durably-clause-stop g c =
     let now : Directory → Directory → FileState g.row.D.Denot = λ a b. record { device = c.write_durably-2.new.device; area = i.area; second = not i.second; sure = i.sure; current = a; saved = b } in
     let G : FileState g.row.D.Denot → Type 0 = λ f. d.honest f.device → (z : List ℕ) → d.may_leave c.write_durably-2.new.device z → Finds d.image (now c.keep.new.current c.keep.new.saved) z in
     subst G c.self.view_is (λ h z l. kept _ _ (λ a b. Finds d.image (now a b) z) c.keep.new.current c.keep.new.saved c.keep.ensures.current c.keep.ensures.saved ((selected g c).finds h z l))
+
+pub returns-in-Ok-write_durably-clause-bytes : goal.returns-in-Ok-write_durably-clause-bytes
+returns-in-Ok-write_durably-clause-bytes g c =
+    let d = g.D.Device in let i = c.self.inside in
+    let G : FileState g.row.D.Denot → Type 0 = λ f. d.honest f.device → d.image c.write_durably-2.new.device ≡ image_after d.image c.args.bytes.now f in
+    subst G c.self.view_is (λ h. c.in-Ok-write_durably.ensures.written (c.in-Ok.ensures.writes.stays h)
+    ∙ ap (λ k. with_part (d.image c.write_durably.new.device) 512 (k ∷ [])) c.selector_of.ensures.value
+    ∙ ap (λ l. with_part l 512 (selector_of (not i.second) ∷ [])) (c.in-Ok.ensures.written h ∙ ap (λ k. with_part (d.image i.device) k c.args.bytes.now) c.base_of-base.ensures.exact))

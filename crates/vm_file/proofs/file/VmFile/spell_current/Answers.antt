@@ -2,12 +2,16 @@ use Rattle.std.proofs.Common.{◌≡◌, ◌+◌, ◌++◌, true, ap, sym, subst
 use Rattle.std.specs.Prelude.{OnOk, OnErr}
 use Rattle.std.specs.List.{list_all}
 use Rattle.std.specs.Vec.{vec_items}
-use Rattle.vm_file.specs.Committing.{MayCommit, contents_from}
+use Rattle.vm_file.specs.Committing.{IsContentsOf, MayCommit, contents_from}
 use Rattle.vm_file.specs.Contents.{Contents, contents_spelling, is_filled}
 use Rattle.vm_file.specs.Device.{Rose}
 use Rattle.vm_file.specs.State.{FileState, pair_of}
-use Rattle.vm_file.proofs.Sources.{current_contents, from_filled}
+use Rattle.vm_file.proofs.Sources.{current_contents, from_filled, from_legal, from_listed}
+use Rattle.vm_file.proofs.StateLaws.{read_sound}
 use Rattle.vm_file.proofs.file.VmFile.spell_current.Goals as goal
+
+pub invariant_of-self : goal.invariant_of-self
+invariant_of-self g c = (let d = g.D.Device in read_sound d.image d.honest d.may_leave d.may_have_left _ c.spell_directory.new.device c.self.invariant c.spell_directory.ensures.reads)
 
 pub returns-clause-items : goal.returns-clause-items
 returns-clause-items g c =
@@ -27,3 +31,14 @@ returns-clause-cause g c =
     let may = subst M (sym c.self.view_is) c.requires.may in
     let same = current_contents d.image d.honest d.may_leave _ c.self.invariant resident cur may (c.base_of-from.result + 2) (ap (λ k. k + 2) c.base_of-from.ensures.exact) in
     subst G c.self.view_is (λ h. c.spell_directory.ensures.cause h (subst F (sym same) (from_filled d.image d.honest d.may_leave _ c.self.invariant resident cur may h)))
+
+pub returns-clause-legal : goal.returns-clause-legal
+returns-clause-legal g c =
+    let d = g.D.Device in let resident = g.S.Source.resident_bytes c.args.source.now in let cur = c.args.cur.now in
+    let M : FileState g.row.D.Denot → Type 0 = λ f. MayCommit resident f.current cur in
+    let may = subst M (sym c.self.view_is) c.requires.may in
+    let G : FileState g.row.D.Denot → Type 0 = λ f. d.honest f.device → IsContentsOf cur (contents_from resident (pair_of d.image f).cur.blocks cur) in
+    subst G c.self.view_is (λ h. record {
+      legal = from_legal d.image d.honest d.may_leave _ c.self.invariant resident cur may h;
+      lists = from_listed d.image d.honest d.may_leave _ c.self.invariant resident cur may h;
+    })

@@ -2,15 +2,21 @@ use Rattle.std.proofs.Common.{◌≡◌, ◌+◌, ◌++◌, true, sym, subst, ar
 use Rattle.std.specs.Prelude.{OnOk, OnErr}
 use Rattle.std.specs.List.{list_all}
 use Rattle.std.specs.Vec.{vec_items}
+use Rattle.vm_file.specs.Committing.{IsContentsOf}
 use Rattle.vm_file.specs.Contents.{Contents, contents_spelling, is_filled, listed}
 use Rattle.vm_file.specs.Device.{Rose}
 use Rattle.vm_file.specs.Directories.{is_directory}
 use Rattle.vm_file.specs.Reading.{area_of, base_of}
 use Rattle.vm_file.specs.State.{FileState, pair_of}
 use Rattle.vm_file.proofs.HeapTests.{both}
+use Rattle.vm_file.proofs.Listing.{pair_listed}
 use Rattle.vm_file.proofs.ReadLaws.{pair_ok}
 use Rattle.vm_file.proofs.Sources.{saved_contents}
+use Rattle.vm_file.proofs.StateLaws.{read_sound}
 use Rattle.vm_file.proofs.file.VmFile.spell_saved.Goals as goal
+
+pub invariant_of-self : goal.invariant_of-self
+invariant_of-self g c = (let d = g.D.Device in read_sound d.image d.honest d.may_leave d.may_have_left _ c.spell_directory.new.device c.self.invariant c.spell_directory.ensures.reads)
 
 pub returns-clause-items : goal.returns-clause-items
 returns-clause-items g c =
@@ -32,3 +38,14 @@ returns-clause-cause g c =
     subst G c.self.view_is (λ h.
     let legal = (pair_ok (base_of f.area f.second) (area_of (d.image f.device) f.area f.second) p (c.self.invariant.holds h).pair).saved in
     c.spell_directory.ensures.cause h (subst F (sym same) (both (is_directory (listed p.saved)) (list_all is_filled p.saved.blocks) legal).1))
+
+pub returns-clause-legal : goal.returns-clause-legal
+returns-clause-legal g c =
+    let d = g.D.Device in
+    let i = c.self.inside in
+    let f : FileState g.row.D.Denot = record { device = i.device; area = i.area; second = i.second; sure = i.sure; current = i.current; saved = i.saved } in
+    let G : FileState g.row.D.Denot → Type 0 = λ x. d.honest x.device → IsContentsOf x.saved (pair_of d.image x).saved in
+    subst G c.self.view_is (λ h. record {
+      legal = (pair_ok (base_of f.area f.second) (area_of (d.image f.device) f.area f.second) (pair_of d.image f) (c.self.invariant.holds h).pair).saved;
+      lists = (pair_listed d.image d.honest d.may_leave f c.self.invariant).1;
+    })
