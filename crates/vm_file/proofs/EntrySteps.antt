@@ -1,5 +1,5 @@
 -- Blocks read one after the other, and a directory.
-use Rattle.std.proofs.Common.{◌≡◌, ℕ, suc, ◌+◌, ◌-◌, ◌<◌, ◌≤◌, inl, inr, List, [], ◌∷◌, ◌++◌, length, drop, map, Result, Ok, Err, refl, ap, sym, ◌∙◌, subst, arith}
+use Rattle.std.proofs.Common.{◌≡◌, ℕ, suc, ◌+◌, ◌-◌, ◌<◌, ◌≤◌, List, [], ◌∷◌, ◌++◌, length, drop, map, Result, Ok, Err, refl, ap, sym, ◌∙◌, subst, arith}
 use Rattle.std.specs.Prelude.{IsOkAnd}
 use Rattle.std.proofs.lemmas.List.{append-nil}
 use Rattle.vm_file.specs.declared.directory.Entry.{Entry}
@@ -8,7 +8,7 @@ use Rattle.vm_file.specs.declared.error.OpenError.{OpenError}
 use Rattle.vm_file.specs.declared.error.OpenError.TheVariants.{BadFile, Disk, Memory}
 use Rattle.vm_file.specs.Directories.{entries_length}
 use Rattle.vm_file.specs.Contents.{Block, Contents, entry_of, listed}
-use Rattle.vm_file.specs.Outcomes.{Tells, Causes, ReadsOnly}
+use Rattle.vm_file.specs.Outcomes.{Tells, Causes}
 use Rattle.vm_file.specs.Reading.{◌>>=◌, block_at, blocks_at, count_at, maps_at, contents_at}
 use Rattle.vm_file.proofs.Lengths.{stretch, drop-stretch}
 use Rattle.vm_file.proofs.SpellLaws.{goes}
@@ -122,20 +122,6 @@ contents_read at n xs items m is read maps =
         let Q : Result Contents ℕ → Type 0 = λ r. IsOkAnd r (λ c. listed c ≡ (let d : Directory = record { entries = record { items = items }; map_block = m.0; map_item = m.1 } in d)) in
         let found = ap (λ es. maps_at es (at + 2 + entries_length es) (drop (2 + entries_length es) xs)) h ∙ maps in
         subst Q (sym (goes _ m _ _ found refl)) (ap (λ es. let d : Directory = record { entries = record { items = es }; map_block = m.0; map_item = m.1 } in d) h)
-
--- reads one after the other
-pub reads_then : {D : Type 0} (image : D → List ℕ) (honest : D → Type 0) (may_leave : D → List ℕ → Type 0) (left : D → D → List ℕ → Type 0) (a b c : D) →
-    ReadsOnly image honest may_leave left a b → ReadsOnly image honest may_leave left b c → ReadsOnly image honest may_leave left a c
-reads_then image honest may_leave left a b c r s = record {
-  same = s.same ∙ r.same;
-  stays = (λ h. s.stays (r.stays h));
-  was = (λ h. r.was (s.was h));
-  stop = (λ h x l. r.stop h x (s.stop (r.stays h) x l));
-  time = (λ h d x l. (elim (s.time (r.stays h) d x l) [ inl p ↦ r.time h d x p | inr n ↦ inr (r.stop h x n) ]));
-}
-
-pub reads_none : {D : Type 0} (image : D → List ℕ) (honest : D → Type 0) (may_leave : D → List ℕ → Type 0) (left : D → D → List ℕ → Type 0) (a : D) → ReadsOnly image honest may_leave left a a
-reads_none image honest may_leave left a = record { same = refl; stays = (λ h. h); was = (λ h. h); stop = (λ h x l. l); time = (λ h d x l. inl l) }
 
 pub causes_from : {X : Type 0} (a b c : ℕ) (r : Result X OpenError) → b ≡ a → Causes b c r → Causes a c r
 causes_from a b c r e h = let P : ℕ → Type 0 = λ n. Causes n c r in subst P e h

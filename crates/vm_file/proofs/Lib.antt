@@ -13,6 +13,8 @@ pub mod StateLaws
 pub mod StopLaws
 pub mod Listing
 pub mod BlockLaws
+pub mod DirectoryLaws
+pub mod OneSpelling
 pub mod NewFiles
 pub mod Filling
 pub mod Blocks

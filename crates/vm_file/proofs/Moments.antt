@@ -1,5 +1,5 @@
--- How a run of device calls goes on.
-use Rattle.std.proofs.Common.{inl, inr, ⊎_elim, ℕ, List, length, ap, sym, ◌∙◌, subst}
+-- How a run of device calls goes on, and what a stop at some moment of it leaves.
+use Rattle.std.proofs.Common.{inl, inr, ⊎_elim, ℕ, List, length, refl, ap, sym, ◌∙◌, subst}
 use Rattle.vm_file.specs.Device.{Passes, Touched}
 use Rattle.vm_file.specs.Outcomes.{ReadsOnly, WritesOnly}
 
@@ -25,3 +25,17 @@ module _ {D : Type 0} (left : D → D → List ℕ → Type 0) where
     stop = (λ h c l. one.stop h c (two.stop (one.stays h) c l));
     time = (λ h. goes_on old mid new _ (one.time h) (weaker mid new _ _ (one.stop h) (two.time (one.stays h))));
   }
+
+-- a call that makes none of the device, and calls that read one after the other
+pub reads_none : {D : Type 0} (image : D → List ℕ) (honest : D → Type 0) (may_leave : D → List ℕ → Type 0) (left : D → D → List ℕ → Type 0) (a : D) → ReadsOnly image honest may_leave left a a
+reads_none image honest may_leave left a = record { same = refl; stays = (λ h. h); was = (λ h. h); stop = (λ h x l. l); time = (λ h d x l. inl l) }
+
+pub reads_then : {D : Type 0} (image : D → List ℕ) (honest : D → Type 0) (may_leave : D → List ℕ → Type 0) (left : D → D → List ℕ → Type 0) (a b c : D) →
+    ReadsOnly image honest may_leave left a b → ReadsOnly image honest may_leave left b c → ReadsOnly image honest may_leave left a c
+reads_then image honest may_leave left a b c r s = record {
+  same = s.same ∙ r.same;
+  stays = (λ h. s.stays (r.stays h));
+  was = (λ h. r.was (s.was h));
+  stop = (λ h x l. r.stop h x (s.stop (r.stays h) x l));
+  time = (λ h d x l. (elim (s.time (r.stays h) d x l) [ inl p ↦ r.time h d x p | inr n ↦ inr (r.stop h x n) ]));
+}

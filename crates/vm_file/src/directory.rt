@@ -7,12 +7,15 @@ use arrayvec::ArrayVec;
 /// The greatest handle, and the greatest number of blocks.
 pub const MOST_BLOCKS: usize = 1024;
 
+/// The user ID of groups.
+pub const GROUP_UID: u16 = 0xff00;
+
 /// A block of a file, as its directory lists it.
 #[derive(Clone, Copy, Debug, Default, PartialEq, Eq)]
 pub struct Entry {
     /// The block's handle, from 1 to 1,024.
     pub h: u16,
-    /// Its user ID; that of a group is 65,280.
+    /// Its user ID; that of a group is `GROUP_UID`.
     pub uid: u16,
     /// Its length in bytes, a legal block size.
     pub len: u16,

@@ -7,10 +7,7 @@ ghost use Rattle.vm_file.specs.Heaps.{is_block_size};
 ghost use Rattle.vm_file.specs.State.{place_in};
 ghost use Rattle.vm_file.specs.Reading.{area_size_at, count_at, head_at, header_at, is_area, maps_at, word_at, zeros_at};
 
-use crate::directory::{Directory, Entry, MOST_BLOCKS};
-
-/// The user ID of groups.
-const GROUP_UID: u16 = 0xff00;
+use crate::directory::{Directory, Entry, GROUP_UID, MOST_BLOCKS};
 
 /// The offset of the first byte of a field that is cut or breaks its rule.
 pub(crate) type Fault = u64;

@@ -22,7 +22,7 @@ mod spell;
 
 pub use commit::{How, Source};
 pub use device::{Device, Disk};
-pub use directory::{Directory, Entry, MOST_BLOCKS};
+pub use directory::{Directory, Entry, GROUP_UID, MOST_BLOCKS};
 pub use disk_file::FileDevice;
 pub use error::{CommitError, CreateError, OpenError};
 pub use faulty::FaultDevice;

@@ -7,7 +7,7 @@ use Rattle.vm_file.specs.Directories.{directory_length}
 use Rattle.vm_file.specs.Outcomes.{Tells}
 use Rattle.vm_file.specs.Reading.{contents_at}
 use Rattle.vm_file.proofs.Lengths.{stretch, drop-stretch}
-use Rattle.vm_file.proofs.EntrySteps.{reads_then}
+use Rattle.vm_file.proofs.Moments.{reads_then}
 use Rattle.vm_file.proofs.OpenSteps.{pair_stop_first, pair_stop_second, pair_read}
 use Rattle.vm_file.proofs.opened.read_pair.Goals as goal
 

@@ -7,7 +7,8 @@ use Rattle.vm_file.specs.Contents.{entry_of}
 use Rattle.vm_file.specs.Outcomes.{Tells}
 use Rattle.vm_file.specs.Reading.{block_at}
 use Rattle.vm_file.proofs.Lengths.{stretch, last_handle, last_handle-push, are_entries-push, entries_length-append}
-use Rattle.vm_file.proofs.EntrySteps.{Told, told_more, told_stop, reads_then}
+use Rattle.vm_file.proofs.EntrySteps.{Told, told_more, told_stop}
+use Rattle.vm_file.proofs.Moments.{reads_then}
 use Rattle.vm_file.proofs.reader.read_entries.Goals as goal
 
 pub returns-in-Err-clause-exact : goal.returns-in-Err-clause-exact

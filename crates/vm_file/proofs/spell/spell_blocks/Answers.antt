@@ -5,7 +5,7 @@ use Rattle.vm_file.specs.Committing.{block_read}
 use Rattle.vm_file.specs.Contents.{block_spelling, is_filled}
 use Rattle.vm_file.specs.Device.{Rose}
 use Rattle.vm_file.proofs.Blocks.{entry_fits, blocks_appended, filled_at}
-use Rattle.vm_file.proofs.EntrySteps.{reads_then}
+use Rattle.vm_file.proofs.Moments.{reads_then}
 use Rattle.vm_file.proofs.Lengths.{entries_length-more}
 use Rattle.vm_file.proofs.spell.spell_blocks.Goals as goal
 
