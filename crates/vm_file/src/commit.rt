@@ -5,7 +5,7 @@ ghost use Rattle.vm_file.specs.Reading.{is_second};
 ghost use Rattle.vm_file.specs.Spelling.{selector_of};
 
 use crate::directory::{Directory, Entry};
-use crate::fields::directory_length;
+use crate::entries::directory_length;
 use crate::reader::is_heap_of;
 
 /// Which pair of directories a commit keeps.

@@ -1,7 +1,7 @@
 //! What a file lists.
 ghost use Rattle.std.specs.Prelude.{◌≡◌, ◌==◌, find};
 
-use crate::fields::is_directory;
+use crate::entries::is_directory;
 use arrayvec::ArrayVec;
 
 /// The greatest handle, and the greatest number of blocks.

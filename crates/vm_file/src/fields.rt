@@ -1,13 +1,10 @@
 //! The fields of a file, in bytes that were read.
 ghost use Rattle.std.specs.Prelude.{◌≡◌, ◌+◌, ◌<◌, ◌≤◌, ◌^◌, ◌%◌, true, IfOk, length, not, ◌==◌};
 ghost use Rattle.std.specs.List.{position_or_len};
-ghost use Rattle.vm_file.specs.Directories.{are_entries, directory_length, entries_length, has_block, has_group, is_directory, is_entry};
-ghost use Rattle.vm_file.specs.Directories.{may_be_map_block, may_be_map_group, may_be_map_item};
-ghost use Rattle.vm_file.specs.Heaps.{is_block_size};
-ghost use Rattle.vm_file.specs.State.{place_in};
 ghost use Rattle.vm_file.specs.Reading.{area_size_at, count_at, head_at, header_at, is_area, maps_at, word_at, zeros_at};
 
-use crate::directory::{Directory, Entry, GROUP_UID, MOST_BLOCKS};
+use crate::directory::{Entry, MOST_BLOCKS};
+use crate::entries::{has_block, has_group, is_block_size};
 
 /// The offset of the first byte of a field that is cut or breaks its rule.
 pub(crate) type Fault = u64;
@@ -23,12 +20,6 @@ pub(crate) fn word_at(bytes: &[u8], at: u64, k: usize) -> Result<u16, Fault>
     } else {
         Err(at + k as u64)
     }
-}
-
-fn is_block_size(size: u16) -> bool
-    ensures { result ≡ is_block_size size }
-{
-    size >= 64 && size <= 65520 && size % 16 == 0
 }
 
 /// Handle, user ID and length of a block behind one with handle `last`.
@@ -61,44 +52,6 @@ pub(crate) fn count_at(bytes: &[u8], at: u64) -> Result<u16, Fault>
     } else {
         Err(at)
     }
-}
-
-fn has_block(entries: &[Entry], h: u16) -> bool
-    ensures { result ≡ has_block entries.now h }
-{
-    entries.iter().any(|e| e.h == h && e.uid != GROUP_UID)
-}
-
-fn has_group(entries: &[Entry], h: u16) -> bool
-    ensures { result ≡ has_group entries.now h }
-{
-    entries.iter().any(|e| e.h == h && e.uid == GROUP_UID)
-}
-
-/// Whether handles ascend to 1,024 and lengths are legal block sizes.
-fn are_entries(entries: &[Entry]) -> bool
-    ensures { result ≡ are_entries 0 entries.now }
-{
-    let mut last = 0;
-    for e in entries {
-        if !(last < e.h && e.h <= 1024 && is_block_size(e.len)) {
-            return false;
-        }
-        last = e.h;
-    }
-    true
-}
-
-/// Whether it is a legal directory.
-pub(crate) fn is_directory(directory: &Directory) -> bool
-    ensures { result ≡ is_directory directory.now }
-{
-    let entries = directory.entries.as_slice();
-    let (group, item) = directory.map_item;
-    are_entries(entries)
-        && (directory.map_block == 0 || has_block(entries, directory.map_block))
-        && (group == 0 || has_group(entries, group))
-        && (group != 0 || item == 0)
 }
 
 /// The map block, and the group and chunk of the map item, behind these entries.
@@ -184,41 +137,4 @@ pub(crate) fn header_at(bytes: &[u8]) -> Result<u32, Fault>
     } else {
         Err(12 + zeros as u64)
     }
-}
-
-/// The bytes that entries take in an area, with their blocks.
-pub(crate) fn entries_length(entries: &[Entry]) -> u32
-    requires { length entries.now ≤ MOST_BLOCKS }
-    ensures exact { result ≡ entries_length entries.now }
-    ensures small { result < 2 ^ 27 }
-{
-    let mut length = 0;
-    for e in entries {
-        length += 6 + u32::from(e.len);
-    }
-    length
-}
-
-/// The bytes that a directory takes in an area.
-pub(crate) fn directory_length(directory: &Directory) -> u32
-    ensures exact { result ≡ directory_length directory.now }
-    ensures small { result < 2 ^ 28 }
-{
-    8 + entries_length(&directory.entries)
-}
-
-/// Where the bytes of the block with a handle stand, counted from the first entry.
-pub(crate) fn place_in(entries: &[Entry], h: u16) -> u32
-    requires { length entries.now ≤ MOST_BLOCKS }
-    ensures exact { result ≡ place_in entries.now h }
-    ensures small { result < 2 ^ 28 }
-{
-    let mut place = 0;
-    for e in entries {
-        if e.h == h {
-            return place + 6;
-        }
-        place += 6 + u32::from(e.len);
-    }
-    place
 }

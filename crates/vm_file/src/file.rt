@@ -9,8 +9,8 @@ use crate::commit::{How, Nothing, Source, are_there, keep, length_after, selecto
 use crate::create::write_new;
 use crate::device::{Device, Disk, write_durably};
 use crate::directory::Directory;
+use crate::entries::{directory_length, place_in};
 use crate::error::{CommitError, CreateError, OpenError};
-use crate::fields::{directory_length, place_in};
 use crate::opened::{Opened, base_of, read_file};
 use crate::reader::read_block;
 use crate::spell::{put_again, spell_directory};
@@ -223,15 +223,16 @@ impl<D: Device + Drop> VmFile<D> {
     /// current directory has at that handle.
     ///
     /// The memory for the pair is taken first, and given back at the end. What the pair needs
-    /// from the device is read. Then there are four device calls: the area that is not selected
-    /// is written, the pair's bytes and no more, and made to last; so is the selector. A stop
-    /// at any moment leaves a file in which `open` finds the pair from before or the new one.
+    /// from the device is read. Then the area that is not selected is written, the pair's bytes
+    /// and no more, and made to last; and so is the selector. A stop at any moment leaves a file
+    /// in which `open` finds the pair from before or the new one.
     ///
     /// `Unsure` where the file is unsure, `TooBig` where it is sure and the pair is longer than
     /// the area, `Memory` where an allocation is refused: nothing has happened. `Disk` where
-    /// the device fails, or gives bytes that are no heap with their entry's handle. The file is
-    /// then sure of the pair from before or, where one of the last two calls failed, unsure:
-    /// `open` finds the one or the other, and the file goes on with the pair from before.
+    /// the device fails, or a block that is read from a device which is not honest is no heap.
+    /// The file is then sure of the pair from before or, where it failed when the selector was
+    /// written, unsure: `open` finds the one or the other, and the file goes on with the pair
+    /// from before.
     pub fn commit<S: Source>(
         &mut self,
         how: How,

@@ -11,6 +11,7 @@ mod create;
 mod device;
 mod directory;
 mod disk_file;
+mod entries;
 mod error;
 mod faulty;
 mod fields;

@@ -9,8 +9,9 @@ ghost use Rattle.vm_file.specs.Reading.{base_of, file_at, header_at, is_area, pa
 
 use crate::device::{Device, Disk};
 use crate::directory::Directory;
+use crate::entries::directory_length;
 use crate::error::OpenError;
-use crate::fields::{directory_length, header_at};
+use crate::fields::header_at;
 use crate::reader::{MOST_BYTES, fill, read_directory};
 use std::alloc::Global;
 

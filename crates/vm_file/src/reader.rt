@@ -11,8 +11,9 @@ ghost use Rattle.vm_file.specs.Reading.{block_at, blocks_at, contents_at, count_
 
 use crate::device::{Device, Disk};
 use crate::directory::{Directory, Entry, MOST_BLOCKS};
+use crate::entries::entries_length;
 use crate::error::OpenError;
-use crate::fields::{count_at, entries_length, head_at, maps_at};
+use crate::fields::{count_at, head_at, maps_at};
 use arrayvec::ArrayVec;
 use lmem_heap::check;
 

@@ -16,7 +16,7 @@ ghost use Rattle.vm_file.specs.Outcomes.{ReadsOnly};
 use crate::commit::Source;
 use crate::device::{Device, Disk};
 use crate::directory::{Directory, Entry, MOST_BLOCKS};
-use crate::fields::place_in;
+use crate::entries::place_in;
 use crate::reader::read_block;
 
 /// Appends a word.

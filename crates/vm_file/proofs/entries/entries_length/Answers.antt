@@ -1,7 +1,7 @@
 use Rattle.std.proofs.Common.{arith}
 use Rattle.vm_file.specs.declared.directory.Entry.{Entry}
 use Rattle.vm_file.proofs.Lengths.{entries_length-more}
-use Rattle.vm_file.proofs.fields.entries_length.Goals as goal
+use Rattle.vm_file.proofs.entries.entries_length.Goals as goal
 
 pub loop-e-preserved : goal.loop-e-preserved
 loop-e-preserved c =
