@@ -1,0 +1,121 @@
+//! A device with a cache.
+ghost use Rattle.std.specs.Prelude.{◌≡◌, replicate, IfOk, OnOk};
+ghost use Rattle.vm_file.specs.Device.{one_more};
+
+use crate::event::Event;
+use crate::part::{Part, leave};
+use std::alloc::{AllocError, Global};
+use vm_file::{Device, Disk, MemoryDevice};
+
+/// A device with a cache. Reads give what was last written, and it lasts once a `sync` has succeeded. The device keeps what happened, so
+/// that it can say what a stop at any moment may have left. It fails past its length, and where it has no memory for that.
+#[derive(Drop)]
+pub struct CachedDevice {
+    alloc: Global,
+    /// What reads give.
+    cache: MemoryDevice,
+    /// What lasted at first.
+    start: Vec<u8>,
+    /// What happened, in order.
+    events: Vec<Event>,
+    failures: u64,
+}
+
+impl CachedDevice {
+    ghost use Rattle.cached_device.specs.History.{MayLeave, bytes_of};
+
+    /// A device of so many zero bytes, which last. `AllocError` where the allocator has no memory.
+    pub fn new(alloc: Global, len: u64) -> Result<CachedDevice, AllocError>
+        ensures { IfOk result (λ device. bytes_of device ≡ replicate len 0) }
+    {
+        Ok(CachedDevice {
+            alloc,
+            cache: MemoryDevice::new(alloc, len)?,
+            start: Vec::from_elem(alloc, 0u8, len as usize)?,
+            events: Vec::new(alloc),
+            failures: 0,
+        })
+    }
+
+    /// What a stop now leaves, where it makes this of the parts of 512 bytes that were written since the last `sync`, in the order
+    /// of the device. `AllocError` where the allocator has no memory.
+    pub fn after_stop(&self, parts: &[Part]) -> Result<Vec<u8>, AllocError>
+        ensures { IfOk result (λ bytes. MayLeave self.now bytes.items) }
+    {
+        let mut bytes = self.start.to_vec(self.alloc)?;
+        for event in &self.events {
+            match event {
+                Event::Written(at, n) => leave(&mut bytes, *at, *n, self.cache.as_slice(), parts),
+                Event::Synced(lasting) => bytes = lasting.to_vec(self.alloc)?,
+            }
+        }
+        Ok(bytes)
+    }
+}
+
+/// A call failed: it is counted; at the greatest number the count stays.
+fn fail(failures: &mut u64) -> Result<(), Disk>
+    ensures fails { OnOk result ⊥ }
+    ensures counted { failures.new ≡ one_more failures.old }
+{
+    *failures = failures.saturating_add(1);
+    Err(Disk)
+}
+
+impl Device for CachedDevice {
+    ghost use Rattle.cached_device.specs.History.{IsHonest, MayHaveLeft, MayLeave, at_once, by_now, bytes_of, failures_of, reads_now};
+
+    ghost image = { bytes_of };
+
+    ghost honest = { IsHonest };
+
+    ghost failed = { failures_of };
+
+    ghost may_leave = { MayLeave };
+
+    ghost may_have_left = { MayHaveLeft };
+
+    fn len(&self) -> u64 {
+        self.cache.len()
+    }
+
+    fn failures(&self) -> u64 {
+        self.failures
+    }
+
+    fn read_at(&mut self, at: u64, into: &mut [u8]) -> Result<(), Disk> {
+        match self.cache.read_at(at, into) {
+            Ok(()) => Ok(()),
+            Err(Disk) => fail(&mut self.failures),
+        }
+    }
+
+    fn write_at(&mut self, at: u64, bytes: &[u8]) -> Result<(), Disk> {
+        match self.events.push(Event::Written(at, bytes.len() as u64)) {
+            Ok(()) => {}
+            Err(_) => return fail(&mut self.failures),
+        }
+        match self.cache.write_at(at, bytes) {
+            Ok(()) => Ok(()),
+            Err(Disk) => fail(&mut self.failures),
+        }
+    }
+
+    fn sync(&mut self) -> Result<(), Disk> {
+        let bytes = match self.cache.as_slice().to_vec(self.alloc) {
+            Ok(bytes) => bytes,
+            Err(_) => return fail(&mut self.failures),
+        };
+        match self.events.push(Event::Synced(bytes)) {
+            Ok(()) => {}
+            Err(_) => return fail(&mut self.failures),
+        }
+        Ok(())
+    }
+
+    ghost reads_now = { reads_now };
+
+    ghost at_once = { at_once };
+
+    ghost by_now = { by_now };
+}

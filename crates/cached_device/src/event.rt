@@ -1,0 +1,10 @@
+//! What happened to a device.
+
+/// A call that changes what a stop may leave.
+#[derive(Drop)]
+pub(crate) enum Event {
+    /// So many bytes from an offset on were written, or were to be.
+    Written(u64, u64),
+    /// These bytes, all of the device's, were made to last.
+    Synced(Vec<u8>),
+}
