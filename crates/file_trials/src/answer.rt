@@ -19,6 +19,8 @@ pub(crate) enum Answer {
     Calls(u64, u64),
     /// The byte in the chunk of the current block 1, and of the saved one.
     Pair(Chunk, Chunk),
+    /// How many blocks the current directory has, and the saved one.
+    Blocks(usize, usize),
     /// The device failed.
     Disk,
     /// The device failed, and these bytes stand where those that are read belong.
@@ -128,6 +130,7 @@ impl fmt::Display for Answer {
             Answer::Bytes(bytes) => write!(f, "{}", Runs(bytes)),
             Answer::Calls(calls, failures) => write!(f, "{calls}, and {failures} of them failed"),
             Answer::Pair(current, saved) => write!(f, "current {current}, saved {saved}"),
+            Answer::Blocks(current, saved) => write!(f, "current {current}, saved {saved}"),
             Answer::Disk => write!(f, "{Disk}"),
             Answer::DiskAt(bytes) => write!(f, "{Disk}, and the bytes are {}", Runs(bytes)),
             Answer::Create(why) => write!(f, "{why}"),

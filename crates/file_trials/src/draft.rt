@@ -1,8 +1,9 @@
-//! What is to be committed: a directory, and a block in memory.
-ghost use Rattle.std.specs.Prelude.{◌==◌, if◌then◌else◌, Some, None};
+//! What is to be committed: a directory, and blocks in memory.
+ghost use Rattle.std.specs.Prelude.{◌-◌, nat_le, if◌then◌else◌, slice_get, None};
 
 use crate::answer::Answer;
 use lmem_heap::{alloc, init};
+use std::alloc::{AllocError, Global};
 use trial_lines::Line;
 use vm_file::{Directory, Entry, Source};
 
@@ -24,18 +25,43 @@ pub(crate) fn block_with(h: u16, byte: u8) -> Block {
     block
 }
 
-/// The block with a handle in memory, or none under handle 0.
+/// Blocks in memory, under the handles from one on.
 #[derive(Drop)]
 pub(crate) struct InMemory {
-    h: u16,
-    block: Block,
+    first: u16,
+    blocks: Vec<Block>,
+}
+
+impl InMemory {
+    /// No block.
+    fn new(alloc: Global) -> InMemory {
+        InMemory {
+            first: 0,
+            blocks: Vec::new(alloc),
+        }
+    }
+
+    /// A block for each handle from one to another, with this byte.
+    fn with_blocks(alloc: Global, first: u16, last: u16, byte: u8) -> Result<InMemory, AllocError> {
+        let mut blocks = Vec::new(alloc);
+        for h in first..=last {
+            blocks.push(block_with(h, byte))?;
+        }
+        Ok(InMemory { first, blocks })
+    }
 }
 
 impl Source for InMemory {
-    ghost resident_bytes = { λ s h. if h == s.h then Some s.block else None };
+    ghost resident_bytes = { λ s h. if nat_le s.first h then slice_get s.blocks.items (h - s.first) else None };
 
     fn resident(&self, h: u16) -> Option<&[u8]> {
-        if h == self.h { Some(&self.block) } else { None }
+        if h < self.first {
+            return None;
+        }
+        match self.blocks.get((h - self.first) as usize) {
+            Some(block) => Some(block),
+            None => None,
+        }
     }
 }
 
@@ -48,18 +74,15 @@ pub(crate) struct Draft {
 
 impl Draft {
     /// No block in the directory, and none in memory.
-    pub(crate) fn new() -> Draft {
+    pub(crate) fn new(alloc: Global) -> Draft {
         Draft {
             directory: Directory::new(),
-            memory: InMemory {
-                h: 0,
-                block: [0; SIZE],
-            },
+            memory: InMemory::new(alloc),
         }
     }
 
     /// Carries out a call on it.
-    pub(crate) fn answer(&mut self, line: &Line<'_>) -> Answer {
+    pub(crate) fn answer(&mut self, alloc: Global, line: &Line<'_>) -> Result<Answer, AllocError> {
         let [first, second, third] = [line.word_at(0), line.word_at(1), line.word_at(2)];
         match line.word {
             "no_block" => self.directory = Directory::new(),
@@ -68,18 +91,31 @@ impl Draft {
                 uid: second,
                 len: third,
             }),
+            "entries" => for h in first..=second {
+                self.add(Entry {
+                    h,
+                    uid: third,
+                    len: SIZE as u16,
+                });
+            },
             "map_block" => self.directory.map_block = first,
             "map_item" => self.directory.map_item = (first, second),
-            "resident" => {
-                self.memory = InMemory {
-                    h: first,
-                    block: block_with(first, second.min(255) as u8),
-                }
-            }
-            "absent" => self.memory.h = 0,
-            _ => return Answer::NotACall,
+            "resident" => self.memory = InMemory::with_blocks(
+                alloc,
+                first,
+                first,
+                line.byte_at(1),
+            )?,
+            "residents" => self.memory = InMemory::with_blocks(
+                alloc,
+                first,
+                second,
+                line.byte_at(2),
+            )?,
+            "absent" => self.memory = InMemory::new(alloc),
+            _ => return Ok(Answer::NotACall),
         }
-        Answer::Done
+        Ok(Answer::Done)
     }
 
     /// Puts an entry behind the others, where there is room for it.

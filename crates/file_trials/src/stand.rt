@@ -25,7 +25,7 @@ impl<D: Device + Drop> Stand<D> {
     }
 
     /// Takes the device away. A file is closed.
-    fn take(&mut self) -> Option<FaultDevice<D>> {
+    pub(crate) fn take(&mut self) -> Option<FaultDevice<D>> {
         match mem::replace(self, Stand::Nothing) {
             Stand::Nothing => None,
             Stand::Device(device) => Some(device),
@@ -51,6 +51,7 @@ impl<D: Device + Drop> Stand<D> {
             | "block"
             | "saved_block"
             | "pair"
+            | "blocks"
             | "take_current"
             | "update"
             | "save"
@@ -194,6 +195,7 @@ fn on_file<D: Device + Drop>(
             let current = chunk(block(file, 1));
             Ok(Answer::Pair(current, chunk(saved_block(file, 1))))
         }
+        "blocks" => Ok(Answer::Blocks(file.current().entries.len(), file.saved().entries.len())),
         "take_current" => {
             draft.directory.copy_from(file.current());
             Ok(Answer::Done)
