@@ -1,23 +1,127 @@
 //! Instructions on the chunks of a block that a slot holds.
 
-ghost use Rattle.std.specs.Prelude.{◌≡◌};
-ghost use Rattle.geos_machine.specs.Machine.{HasOperands, IsInstr, Ready, Works};
+ghost use Rattle.std.specs.Prelude.{◌≡◌, true};
+ghost use Rattle.geos_image.specs.Fields.{FieldsFit};
+ghost use Rattle.geos_semantics.specs.Model.{changing, making, asking};
+ghost use Rattle.geos_machine.specs.Machine.{asks_of_chunks, changes_chunks, Does, HasOperands, IsInstr, makes_chunks, Ready, Works};
 
 use crate::head::{index_a, index_b, index_c};
 use crate::machine::Machine;
 use crate::step::{Goes, refuse};
-use geos_calls::{Kernel, Span};
+use geos_calls::{Ask, Change, Kernel, Make, Span};
 use geos_image::{Instr, Opcode};
 
-/// Makes a chunk.
+/// The change that an instruction makes.
+fn change_at(m: &Machine, i: &Instr) -> Change
+    requires fields { FieldsFit i.now.opcode i.now }
+    requires changes { changes_chunks i.now.opcode ≡ true }
+    ensures { Does i.now m.now (changing result) }
+{
+    match i.opcode {
+        Opcode::Lfree => Change::Lfree {
+            c: m.words[i.b as usize],
+        },
+        Opcode::Lrealloc => Change::Lrealloc {
+            c: m.words[i.b as usize],
+            n: m.words[i.c as usize],
+        },
+        Opcode::Lins => Change::Lins {
+            c: m.words[i.b as usize],
+            at: m.words[i.c as usize],
+            n: m.words[i.d as usize],
+        },
+        Opcode::Ldel => Change::Ldel {
+            c: m.words[i.b as usize],
+            at: m.words[i.c as usize],
+            n: m.words[i.d as usize],
+        },
+        Opcode::Lcontract => Change::Lcontract,
+        Opcode::Caadd => Change::Caadd {
+            c: m.words[i.b as usize],
+            n: m.words[i.c as usize],
+        },
+        Opcode::Cains => Change::Cains {
+            c: m.words[i.b as usize],
+            i: m.words[i.c as usize],
+            n: m.words[i.d as usize],
+        },
+        Opcode::Cadel => Change::Cadel {
+            c: m.words[i.b as usize],
+            i: m.words[i.c as usize],
+        },
+        Opcode::Cazero => Change::Cazero {
+            c: m.words[i.b as usize],
+        },
+        Opcode::Caresize => Change::Caresize {
+            c: m.words[i.b as usize],
+            i: m.words[i.c as usize],
+            n: m.words[i.d as usize],
+        },
+        _ => unreachable!(),
+    }
+}
+
+/// The chunk that an instruction makes.
+fn make_at(m: &Machine, i: &Instr) -> Make
+    requires fields { FieldsFit i.now.opcode i.now }
+    requires makes { makes_chunks i.now.opcode ≡ true }
+    ensures { Does i.now m.now (making result) }
+{
+    match i.opcode {
+        Opcode::Lalloc => Make::Lalloc {
+            n: m.words[i.c as usize],
+        },
+        Opcode::Canew => Make::Canew {
+            element_size: i.imm,
+        },
+        _ => unreachable!(),
+    }
+}
+
+/// The number that an instruction asks for.
+fn ask_at(m: &Machine, i: &Instr) -> Ask
+    requires fields { FieldsFit i.now.opcode i.now }
+    requires asks { asks_of_chunks i.now.opcode ≡ true }
+    ensures { Does i.now m.now (asking result) }
+{
+    match i.opcode {
+        Opcode::Lsize => Ask::Lsize {
+            c: m.words[i.c as usize],
+        },
+        Opcode::Cacount => Ask::Cacount {
+            c: m.words[i.c as usize],
+        },
+        _ => unreachable!(),
+    }
+}
+
+/// Changes chunks.
 #[inline(never)]
-pub(crate) fn lalloc(m: &mut Machine, kernel: &mut Kernel, i: &Instr, a: usize) -> Goes
-    requires instr { IsInstr Opcode.Lalloc i.now a }
+pub(crate) fn change(m: &mut Machine, kernel: &mut Kernel, i: &Instr, a: usize) -> Goes
+    requires fields { FieldsFit i.now.opcode i.now }
+    requires a { a ≡ i.now.a }
+    requires changes { changes_chunks i.now.opcode ≡ true }
     requires ready { Ready i.now kernel.old m.old }
     ensures { Works i.now kernel.old m.old kernel.new m.new result }
 {
-    let n = m.words[i.c as usize];
-    match kernel.lalloc(m.slots[a], n) {
+    let change = change_at(m, i);
+    match kernel.change(m.slots[a], change) {
+        Ok(()) => Goes::Along,
+        Err(refusal) => refuse(m, i, refusal),
+    }
+}
+
+/// Makes a chunk.
+#[inline(never)]
+pub(crate) fn make(m: &mut Machine, kernel: &mut Kernel, i: &Instr, a: usize) -> Goes
+    requires fields { FieldsFit i.now.opcode i.now }
+    requires a { a ≡ i.now.a }
+    requires makes { makes_chunks i.now.opcode ≡ true }
+    requires ready { Ready i.now kernel.old m.old }
+    ensures { Works i.now kernel.old m.old kernel.new m.new result }
+{
+    let make = make_at(m, i);
+    match kernel.make(m.slots[a], make) {
         Ok(c) => {
             m.words[i.b as usize] = c;
             Goes::Along
@@ -26,79 +130,17 @@ pub(crate) fn lalloc(m: &mut Machine, kernel: &mut Kernel, i: &Instr, a: usize) 
     }
 }
 
-/// Frees a chunk.
+/// Tells a number.
 #[inline(never)]
-pub(crate) fn lfree(m: &mut Machine, kernel: &mut Kernel, i: &Instr, a: usize) -> Goes
-    requires instr { IsInstr Opcode.Lfree i.now a }
-    requires ready { Ready i.now kernel.old m.old }
-    ensures { Works i.now kernel.old m.old kernel.new m.new result }
-{
-    let c = m.words[i.b as usize];
-    match kernel.lfree(m.slots[a], c) {
-        Ok(()) => Goes::Along,
-        Err(refusal) => refuse(m, i, refusal),
-    }
-}
-
-/// Gives a chunk another length.
-#[inline(never)]
-pub(crate) fn lrealloc(m: &mut Machine, kernel: &mut Kernel, i: &Instr, a: usize) -> Goes
-    requires instr { IsInstr Opcode.Lrealloc i.now a }
-    requires ready { Ready i.now kernel.old m.old }
-    ensures { Works i.now kernel.old m.old kernel.new m.new result }
-{
-    let (c, n) = (m.words[i.b as usize], m.words[i.c as usize]);
-    match kernel.lrealloc(m.slots[a], c, n) {
-        Ok(()) => Goes::Along,
-        Err(refusal) => refuse(m, i, refusal),
-    }
-}
-
-/// Inserts zero bytes into a chunk.
-#[inline(never)]
-pub(crate) fn lins(m: &mut Machine, kernel: &mut Kernel, i: &Instr, a: usize) -> Goes
-    requires instr { IsInstr Opcode.Lins i.now a }
-    requires ready { Ready i.now kernel.old m.old }
-    ensures { Works i.now kernel.old m.old kernel.new m.new result }
-{
-    let (c, at, n) = (
-        m.words[i.b as usize],
-        m.words[i.c as usize],
-        m.words[i.d as usize],
-    );
-    match kernel.lins(m.slots[a], c, at, n) {
-        Ok(()) => Goes::Along,
-        Err(refusal) => refuse(m, i, refusal),
-    }
-}
-
-/// Deletes bytes of a chunk.
-#[inline(never)]
-pub(crate) fn ldel(m: &mut Machine, kernel: &mut Kernel, i: &Instr, a: usize) -> Goes
-    requires instr { IsInstr Opcode.Ldel i.now a }
-    requires ready { Ready i.now kernel.old m.old }
-    ensures { Works i.now kernel.old m.old kernel.new m.new result }
-{
-    let (c, at, n) = (
-        m.words[i.b as usize],
-        m.words[i.c as usize],
-        m.words[i.d as usize],
-    );
-    match kernel.ldel(m.slots[a], c, at, n) {
-        Ok(()) => Goes::Along,
-        Err(refusal) => refuse(m, i, refusal),
-    }
-}
-
-/// Tells the length of a chunk.
-#[inline(never)]
-pub(crate) fn lsize(m: &mut Machine, kernel: &Kernel, i: &Instr, a: usize) -> Goes
-    requires instr { IsInstr Opcode.Lsize i.now a }
+pub(crate) fn ask(m: &mut Machine, kernel: &Kernel, i: &Instr, a: usize) -> Goes
+    requires fields { FieldsFit i.now.opcode i.now }
+    requires a { a ≡ i.now.a }
+    requires asks { asks_of_chunks i.now.opcode ≡ true }
     requires ready { Ready i.now kernel.now m.old }
     ensures { Works i.now kernel.now m.old kernel.now m.new result }
 {
-    let c = m.words[i.c as usize];
-    match kernel.lsize(m.slots[a], c) {
+    let ask = ask_at(m, i);
+    match kernel.ask(m.slots[a], ask) {
         Ok(n) => {
             m.words[i.b as usize] = n;
             Goes::Along
@@ -129,13 +171,19 @@ pub(crate) fn deref(m: &mut Machine, kernel: &Kernel, i: &Instr, operands: usize
     }
 }
 
-/// Moves the chunks of a block together.
+/// Sets a pointer to an element.
 #[inline(never)]
-pub(crate) fn lcontract(m: &Machine, kernel: &mut Kernel, i: &Instr, a: usize) -> Goes
-    requires instr { IsInstr Opcode.Lcontract i.now a }
-    requires ready { Ready i.now kernel.old m.now }
-    ensures { Works i.now kernel.old m.now kernel.new m.now result }
+pub(crate) fn caelt(m: &mut Machine, kernel: &Kernel, i: &Instr, a: usize) -> Goes
+    requires instr { IsInstr Opcode.Caelt i.now a }
+    requires ready { Ready i.now kernel.now m.old }
+    ensures { Works i.now kernel.now m.old kernel.now m.new result }
 {
-    kernel.lcontract(m.slots[a]);
-    Goes::Along
+    let (c, index) = (m.words[i.c as usize], m.words[i.d as usize]);
+    match kernel.caelt(m.slots[a], c, index, i.imm) {
+        Ok(span) => {
+            m.pointers[i.b as usize] = span;
+            Goes::Along
+        }
+        Err(refusal) => refuse(m, i, refusal),
+    }
 }

@@ -4,7 +4,6 @@
 #![tactic(auto)]
 
 mod access;
-mod arrays;
 mod blocks;
 mod chunks;
 mod head;

@@ -1,91 +1,63 @@
 -- Each step of an instruction that works on chunks of a block goes well.
-use Rattle.std.proofs.Common.{◌≡◌, ℕ, ◌+◌, false, Option, Some, None, List, [], length, refl, ap, arith}
-use Rattle.std.specs.Prelude.{is_none, unwrap_or}
-use Rattle.std.proofs.lemmas.Bool.{ltb-false}
-use Rattle.geos_model.specs.declared.name.Name.{Name}
-use Rattle.geos_model.specs.Chunks.{chunk_of, bytes_of, with_new, without, with_resized, with_inserted, with_deleted}
-use Rattle.geos_table.specs.Memory.{Memory, chunks_at}
-use Rattle.geos_table.specs.Calls.{lalloc, lfree, lrealloc, lins, ldel, lsize, deref, lcontract}
+use Rattle.std.proofs.Common.{◌≡◌, ◌+◌, false, refl, sym}
+use Rattle.std.specs.Prelude.{is_none}
+use Rattle.geos_table.specs.Memory.{chunks_at}
+use Rattle.geos_table.specs.declared.call.Change.{Change}
+use Rattle.geos_table.specs.declared.call.Change.TheVariants as change
+use Rattle.geos_table.specs.declared.call.Make.{Make}
+use Rattle.geos_table.specs.declared.call.Ask.{Ask}
+use Rattle.geos_table.specs.declared.call.Refer.{Refer}
+use Rattle.geos_table.specs.ChunkCalls.{change_edit, change_row, make_edit, make_row, ask_row, refer_row, least}
+use Rattle.geos_table.specs.Effects.{Choice}
+use Rattle.geos_table.specs.Keeping.{HasWordSize}
 use Rattle.geos_table.proofs.Keeps.{rows_keep_memory}
+use Rattle.geos_table.proofs.Laws.{change-shape}
 use Rattle.geos_opcodes.specs.declared.opcode.Opcode.TheVariants as op
-use Rattle.geos_opcodes.specs.declared.uses.SlotUse.TheVariants.{LooksAt}
-use Rattle.geos_verify.proofs.Passed.{passed}
-use Rattle.geos_semantics.specs.State.{word, name_at}
-use Rattle.geos_semantics.specs.Meets.{IsInChunk}
-use Rattle.geos_semantics.proofs.Bounds.{handle-most, length-most}
-use Rattle.geos_semantics.proofs.Moments.{Moment, StepsWell, unfaulted-here, along_edge, branch_edge, fine-goes}
-use Rattle.geos_semantics.proofs.KernelSteps.{telling-well, pointing-well, fine-rechunked, rechunking-well, making-well}
-
--- a chunk that is referred to whole
-in-chunk : (m : Memory) (name : Name) (c : ℕ) → is_none (chunk_of (chunks_at m name) c) ≡ false → IsInChunk m (record { name = name; chunk = c; start = 0; len = length (bytes_of (chunks_at m name) c) })
-in-chunk m name c h = go (chunk_of (chunks_at m name) c) refl h
-  where
-    go : (o : Option (List ℕ)) → chunk_of (chunks_at m name) c ≡ o → is_none o ≡ false → IsInChunk m (record { name = name; chunk = c; start = 0; len = length (bytes_of (chunks_at m name) c) })
-    go None e h = absurd cc
-    go (Some bytes) e h = record { bytes = bytes; there = e; fits = (let same : length (bytes_of (chunks_at m name) c) ≡ length bytes = ap (λ o. length (unwrap_or o [])) e in omega (arith, same)) }
+use Rattle.geos_opcodes.specs.declared.uses.SlotUse.TheVariants.{Moves, LooksAt}
+use Rattle.geos_verify.specs.Rows.{with_bound}
+use Rattle.geos_verify.specs.Rows as rows
+use Rattle.geos_verify.specs.Potentials.{pays}
+use Rattle.geos_semantics.specs.State.{kind_at, name_at}
+use Rattle.geos_semantics.specs.Model.{changing, making, asking, referring}
+use Rattle.geos_semantics.proofs.ChunkAnswers.{make-most, ask-most, refer-led}
+use Rattle.geos_semantics.proofs.Leads.{Leads}
+use Rattle.geos_semantics.proofs.Moments.{Moment, Well, StepsWell, unfaulted-here, along_edge, fine-goes}
+use Rattle.geos_semantics.proofs.KernelSteps.{moved_row, pointing_row, telling-well, pointing-well, fine-rechunked, rechunking-well, remaking-well}
 
 module _ (moment : Moment) where
   open moment use {image, state as s, good as G}
 
-  pub lalloc-well : StepsWell moment op.Lalloc
-  lalloc-well is choice =
-      let i = G.point.instr in
-      let name = name_at s i.a in
-      let n = word s i.c in
-      making-well moment (unfaulted-here moment op.Lalloc is).right (along_edge moment op.Lalloc is refl) (branch_edge moment op.Lalloc is refl) (lalloc name n) (with_new (chunks_at s.memory name) n) (rows_keep_memory.by_lalloc name n) (λ choice. (refl, refl, λ r. refl)) choice
-      (handle-most choice s.memory name n)
-
-  pub lfree-well : StepsWell moment op.Lfree
-  lfree-well is choice =
-      let i = G.point.instr in
-      let name = name_at s i.a in
-      let c = word s i.b in
-      rechunking-well moment (unfaulted-here moment op.Lfree is).right (along_edge moment op.Lfree is refl) (branch_edge moment op.Lfree is refl) (lfree name c) (without (chunks_at s.memory name) c) (rows_keep_memory.by_lfree name c) (λ choice. (refl, refl, λ r. refl)) choice
-
-  pub lrealloc-well : StepsWell moment op.Lrealloc
-  lrealloc-well is choice =
-      let i = G.point.instr in
-      let name = name_at s i.a in
-      let c = word s i.b in
-      let n = word s i.c in
-      rechunking-well moment (unfaulted-here moment op.Lrealloc is).right (along_edge moment op.Lrealloc is refl) (branch_edge moment op.Lrealloc is refl) (lrealloc name c n) (with_resized (chunks_at s.memory name) c n) (rows_keep_memory.by_lrealloc name c n) (λ choice. (refl, refl, λ r. refl)) choice
-
-  pub lins-well : StepsWell moment op.Lins
-  lins-well is choice =
-      let i = G.point.instr in
-      let name = name_at s i.a in
-      let c = word s i.b in
-      let at = word s i.c in
-      let n = word s i.d in
-      rechunking-well moment (unfaulted-here moment op.Lins is).right (along_edge moment op.Lins is refl) (branch_edge moment op.Lins is refl) (lins name c at n) (with_inserted (chunks_at s.memory name) c at n) (rows_keep_memory.by_lins name c at n) (λ choice. (refl, refl, λ r. refl)) choice
-
-  pub ldel-well : StepsWell moment op.Ldel
-  ldel-well is choice =
-      let i = G.point.instr in
-      let name = name_at s i.a in
-      let c = word s i.b in
-      let at = word s i.c in
-      let n = word s i.d in
-      rechunking-well moment (unfaulted-here moment op.Ldel is).right (along_edge moment op.Ldel is refl) (branch_edge moment op.Ldel is refl) (ldel name c at n) (with_deleted (chunks_at s.memory name) c at n) (rows_keep_memory.by_ldel name c at n) (λ choice. (refl, refl, λ r. refl)) choice
+  pub changing-well : is_none (kind_at s G.point.instr.a) ≡ false → Leads image s.routine G.routine (s.pc + 1) (moved_row moment) (pays G.point.potential)
+      → Leads image s.routine G.routine G.point.instr.target (rows.refused G.point.instr Moves G.point.row) (pays G.point.potential) → (change : Change) (choice : Choice) → Well moment (changing change choice G.point.instr s)
+  changing-well full L B change choice =
+      let name = name_at s G.point.instr.a in
+      rechunking-well moment full L B (change_row name change) (change_edit change (chunks_at s.memory name)).chunks (rows_keep_memory.by_change name change) (change-shape name change s.memory) choice
 
   -- no contraction is refused
   pub lcontract-well : StepsWell moment op.Lcontract
   lcontract-well is choice =
       let name = name_at s G.point.instr.a in
-      let F = fine-rechunked moment (unfaulted-here moment op.Lcontract is).right (lcontract name) (chunks_at s.memory name) (rows_keep_memory.by_lcontract name) (λ choice. (refl, refl, λ r. refl)) choice in
+      let F = fine-rechunked moment (unfaulted-here moment op.Lcontract is).right (change_row name change.Lcontract) (chunks_at s.memory name) (rows_keep_memory.by_change name change.Lcontract) (λ choice. (refl, refl, λ r. refl)) choice in
       fine-goes moment _ (s.pc + 1) _ (along_edge moment op.Lcontract is refl) (F.1 refl)
 
-  pub lsize-well : StepsWell moment op.Lsize
-  lsize-well is choice =
-      let i = G.point.instr in
-      let name = name_at s i.a in
-      let c = word s i.c in
-      telling-well moment LooksAt refl i.b 65535 (along_edge moment op.Lsize is refl) (branch_edge moment op.Lsize is refl) (lsize name c) choice (refl, refl, λ r. refl) (λ e. length-most s.memory name c G.sound.memory)
+  pub making-well : is_none (kind_at s G.point.instr.a) ≡ false → Leads image s.routine G.routine (s.pc + 1) (with_bound G.point.instr.b 65535 (moved_row moment)) (pays G.point.potential)
+      → Leads image s.routine G.routine G.point.instr.target (rows.refused G.point.instr Moves G.point.row) (pays G.point.potential)
+      → (make : Make) → HasWordSize make → (choice : Choice) → Well moment (making make choice G.point.instr s)
+  making-well full L B make word choice =
+      let name = name_at s G.point.instr.a in
+      remaking-well moment full L B (make_row name make) (make_edit make (chunks_at s.memory name)).chunks (rows_keep_memory.by_make name make word) (λ choice. (refl, refl, λ r. refl)) choice
+      (make-most choice s.memory name make)
 
-  pub deref-well : StepsWell moment op.Deref
-  deref-well is choice =
-      let i = G.point.instr in
-      let name = name_at s i.a in
-      let c = word s i.c in
-      pointing-well moment (unfaulted-here moment op.Deref is).right (along_edge moment op.Deref is refl) (branch_edge moment op.Deref is refl) (deref name c i.imm) choice (refl, refl, λ r. refl) refl
-      (λ e. let pass = passed (deref name c i.imm choice s.memory).refusals e in (in-chunk s.memory name c pass.0, ltb-false _ _ pass.1.0))
+  pub asking-well : Leads image s.routine G.routine (s.pc + 1) (with_bound G.point.instr.b 65535 G.point.row) (pays G.point.potential)
+      → Leads image s.routine G.routine G.point.instr.target (rows.refused G.point.instr LooksAt G.point.row) (pays G.point.potential) → (ask : Ask) (choice : Choice) → Well moment (asking ask choice G.point.instr s)
+  asking-well L B ask choice =
+      let name = name_at s G.point.instr.a in
+      telling-well moment LooksAt refl G.point.instr.b 65535 L B (ask_row name ask) choice (refl, refl, λ r. refl) (ask-most choice s.memory name ask G.sound.memory)
+
+  -- the verifier knows of as many bytes as are wanted
+  pub referring-well : is_none (kind_at s G.point.instr.a) ≡ false → Leads image s.routine G.routine (s.pc + 1) (pointing_row moment) (pays G.point.potential)
+      → Leads image s.routine G.routine G.point.instr.target (rows.refused G.point.instr LooksAt G.point.row) (pays G.point.potential)
+      → (refer : Refer) → least refer ≡ G.point.instr.imm → (choice : Choice) → Well moment (referring refer choice G.point.instr s)
+  referring-well full L B refer wanted choice =
+      let name = name_at s G.point.instr.a in
+      pointing-well moment full L B (refer_row name refer) choice (refl, refl, λ r. refl) refl (rw (sym wanted) (refer-led choice s.memory name refer G.sound.memory))

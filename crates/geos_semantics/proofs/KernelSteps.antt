@@ -134,11 +134,11 @@ module _ (moment : Moment) where
   rechunking-well full L B row chunks keeps rechunks choice = let F = fine-rechunked full row chunks keeps rechunks choice in calls-well Moves moved_row row nowhere choice L B F.0 F.1 refl
 
   -- one that tells the handle of a new chunk
-  pub making-well : is_none (kind_at s G.point.instr.a) ≡ false → Leads image s.routine G.routine (s.pc + 1) (with_bound G.point.instr.b 65535 moved_row) (pays G.point.potential)
+  pub remaking-well : is_none (kind_at s G.point.instr.a) ≡ false → Leads image s.routine G.routine (s.pc + 1) (with_bound G.point.instr.b 65535 moved_row) (pays G.point.potential)
       → Leads image s.routine G.routine G.point.instr.target (rows.refused G.point.instr Moves G.point.row) (pays G.point.potential)
       → (row : Call ℕ) (chunks : List (Option (List ℕ))) → Keeps row → Rechunks row (name_at s G.point.instr.a) chunks s.memory → (choice : Choice)
       → (first_refusal (row choice s.memory).refusals ≡ None → (row choice s.memory).answer ≤ 65535) → Well moment (calls row (with_word G.point.instr.b) choice G.point.instr s)
-  making-well full L B row chunks keeps rechunks choice most =
+  remaking-well full L B row chunks keeps rechunks choice most =
       let F = fine-rechunked full row chunks keeps rechunks choice in
       calls-well Moves (with_bound G.point.instr.b 65535 moved_row) row (with_word G.point.instr.b) choice L B F.0
       (λ e. fine-word base s _ moved_row G.point.instr.b (row choice s.memory).answer 65535 (F.1 e) (most e))

@@ -11,7 +11,7 @@ pub mod Fine
 pub mod FineLocks
 pub mod Paid
 pub mod Bounds
-pub mod ArrayAnswers
+pub mod ChunkAnswers
 pub mod Moments
 pub mod PlainSteps
 pub mod RoutineSteps
@@ -19,7 +19,6 @@ pub mod KernelSteps
 pub mod BlockSteps
 pub mod ChunkSteps
 pub mod PointerSteps
-pub mod ArraySteps
 pub mod Steps
 pub mod Ends
 pub mod Runs

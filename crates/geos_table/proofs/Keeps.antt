@@ -1,5 +1,5 @@
 -- Each row of the table of calls keeps memory legal.
-use Rattle.std.proofs.Common.{◌≡◌, ℕ, ◌+◌, ◌-◌, ◌≤◌, ◌<◌, Bool, true, false, ◌==◌, if◌then◌else◌, List, [], ◌∷◌, ◌++◌, Option, Some, None, take, nat_lt, refl, arith, ltb-false}
+use Rattle.std.proofs.Common.{◌≡◌, ℕ, ◌+◌, ◌-◌, ◌≤◌, ◌<◌, Bool, false, ◌==◌, List, [], ◌∷◌, ◌++◌, Option, Some, None, take, nat_lt, refl, arith, ltb-false}
 use Rattle.std.specs.Prelude.{is_none, unwrap_or}
 use Rattle.std.proofs.lemmas.Bool.Decides.{nat_tests}
 use Rattle.std.proofs.lemmas.List.Elements.{All-take}
@@ -13,11 +13,16 @@ use Rattle.geos_model.specs.Refusals.{first_refusal}
 use Rattle.geos_model.specs.Chunks.{need, bytes_of, with_bytes}
 use Rattle.geos_table.specs.Memory.{Memory, new_heap, block_of, locks_of, lowest_handle, chunks_at}
 use Rattle.geos_table.specs.Effects.{Choice, Reference, Effect, come_to, outcome, most_size, most_locks, cannot_grow, growing}
-use Rattle.geos_model.specs.Edits.{Edit, Part, alloc, free, realloc, insert_bytes, delete_bytes, size, refer, contract}
-use Rattle.geos_model.specs.ArrayEdits.{create_array, append_element, insert_element, remove_element, count_elements, refer_element, clear_array, resize_element}
+use Rattle.geos_model.specs.Edits.{Edit, Part, alloc, free, realloc, insert_bytes, delete_bytes, contract}
+use Rattle.geos_model.specs.ArrayEdits.{create_array, append_element, insert_element, remove_element, clear_array, resize_element}
 use Rattle.geos_table.specs.Calls.{changes, enlarges, reads, refers, locks_full, mnew, mlock, unlock, mfree, named_bytes, store, copy}
 use Rattle.geos_table.specs.Legal.{AreBytes, IsMemory}
-use Rattle.geos_table.specs.Keeping.{Keeps, RowsKeepMemory}
+use Rattle.geos_table.specs.declared.call.Change.{Change}
+use Rattle.geos_table.specs.declared.call.Change.TheVariants as change
+use Rattle.geos_table.specs.declared.call.Make.{Make}
+use Rattle.geos_table.specs.declared.call.Make.TheVariants.{Lalloc, Canew}
+use Rattle.geos_table.specs.ChunkCalls.{change_row, make_row, ask_edit, refer_edit}
+use Rattle.geos_table.specs.Keeping.{Keeps, HasWordSize, RowsKeepMemory}
 use Rattle.geos_table.proofs.LegalBytes.{bytes-part}
 use Rattle.geos_table.proofs.Passing.{none-here, none-behind, none-before}
 use Rattle.geos_table.proofs.LegalArrays.{create-kept, append-kept, insert-kept, remove-kept, remove-less, clear-kept, clear-less, resize-kept}
@@ -63,6 +68,22 @@ reads-kept edit name choice memory legal = outcome-kept (reads edit name choice 
 
 pub refers-kept : (edit : List (Option (List ℕ)) → Edit Part) (name : Name) → Keeps (refers edit name)
 refers-kept edit name choice memory legal = outcome-kept (refers edit name choice memory) (λ r. legal) (λ fine. legal)
+
+change-kept : (name : Name) (change : Change) → Keeps (change_row name change)
+change-kept name (change.Lfree c) = changes-kept (free c) name (λ cs legal passed small. without-legal cs c legal) (λ cs bytes passed. need-without cs c)
+change-kept name (change.Lrealloc c n) = enlarges-kept (realloc c n) name (λ cs legal passed small. with_resized-legal cs c n legal)
+change-kept name (change.Lins c at n) = enlarges-kept (insert_bytes c at n) name (λ cs legal passed small. with_inserted-legal cs c at n legal)
+change-kept name (change.Ldel c at n) = changes-kept (delete_bytes c at n) name (λ cs legal passed small. with_deleted-legal cs c at n legal) (λ cs bytes passed. need-with_deleted cs c at n)
+change-kept name change.Lcontract = changes-kept contract name (λ cs legal passed small. legal) (λ cs bytes passed. omega arith)
+change-kept name (change.Caadd c n) = enlarges-kept (append_element c n) name (append-kept c n)
+change-kept name (change.Cains c i n) = enlarges-kept (insert_element c i n) name (insert-kept c i n)
+change-kept name (change.Cadel c i) = changes-kept (remove_element c i) name (remove-kept c i) (remove-less c i)
+change-kept name (change.Cazero c) = changes-kept (clear_array c) name (clear-kept c) (clear-less c)
+change-kept name (change.Caresize c i n) = enlarges-kept (resize_element c i n) name (resize-kept c i n)
+
+make-kept : (name : Name) (make : Make) → HasWordSize make → Keeps (make_row name make)
+make-kept name (Lalloc n) word = enlarges-kept (alloc n) name (λ cs legal passed small. with_new-legal cs n legal)
+make-kept name (Canew k) word = enlarges-kept (create_array k) name (create-kept k word)
 
 -- Blocks
 
@@ -114,22 +135,10 @@ rows_keep_memory = record {
   by_mlock = mlock-kept;
   by_unlock = unlock-kept;
   by_mfree = mfree-kept;
-  by_lalloc = λ name n. enlarges-kept (alloc n) name (λ cs legal passed small. with_new-legal cs n legal);
-  by_lfree = λ name c. changes-kept (free c) name (λ cs legal passed small. without-legal cs c legal) (λ cs bytes passed. need-without cs c);
-  by_lrealloc = λ name c n. enlarges-kept (realloc c n) name (λ cs legal passed small. with_resized-legal cs c n legal);
-  by_lins = λ name c at n. enlarges-kept (insert_bytes c at n) name (λ cs legal passed small. with_inserted-legal cs c at n legal);
-  by_ldel = λ name c at n. changes-kept (delete_bytes c at n) name (λ cs legal passed small. with_deleted-legal cs c at n legal) (λ cs bytes passed. need-with_deleted cs c at n);
-  by_lsize = λ name c. reads-kept (size c) name;
-  by_deref = λ name c n. refers-kept (refer c n) name;
-  by_lcontract = λ name. changes-kept contract name (λ cs legal passed small. legal) (λ cs bytes passed. omega arith);
-  by_canew = λ name k word. enlarges-kept (create_array k) name (create-kept k word);
-  by_caadd = λ name c n. enlarges-kept (append_element c n) name (append-kept c n);
-  by_cains = λ name c i n. enlarges-kept (insert_element c i n) name (insert-kept c i n);
-  by_cadel = λ name c i. changes-kept (remove_element c i) name (remove-kept c i) (remove-less c i);
-  by_cacount = λ name c. reads-kept (count_elements c) name;
-  by_caelt = λ name c i n. refers-kept (refer_element c i n) name;
-  by_cazero = λ name c. changes-kept (clear_array c) name (clear-kept c) (clear-less c);
-  by_caresize = λ name c i n. enlarges-kept (resize_element c i n) name (resize-kept c i n);
+  by_change = change-kept;
+  by_make = make-kept;
+  by_ask = λ name ask. reads-kept (ask_edit ask) name;
+  by_refer = λ name refer. refers-kept (refer_edit refer) name;
   by_load8 = λ ref i choice memory legal. legal;
   by_load16 = λ ref i choice memory legal. legal;
   by_store = store-kept;

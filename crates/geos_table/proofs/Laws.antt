@@ -10,7 +10,9 @@ use Rattle.geos_model.specs.Chunks.{need}
 use Rattle.geos_model.specs.Refusals.{first_refusal}
 use Rattle.geos_table.specs.Memory.{Memory, at_handle, with_entry_at, size_of, chunks_at, with_chunks}
 use Rattle.geos_table.specs.Tight.{is_tight}
-use Rattle.geos_table.specs.Effects.{Choice, Answers, growing}
+use Rattle.geos_table.specs.declared.call.Change.{Change}
+use Rattle.geos_table.specs.ChunkCalls.{change_edit, change_row, may_grow, row_in}
+use Rattle.geos_table.specs.Effects.{Choice, InBlock, Answers, growing}
 use Rattle.geos_model.specs.Edits.{Edit, Part}
 use Rattle.geos_table.specs.Calls.{changes, enlarges, reads, refers, in_block}
 
@@ -108,3 +110,17 @@ module _ (edit : List (Option (List ℕ)) → Edit Part) (name : Name) (before :
 
   pub refers-refused : (why : Refusal) → first_refusal (edit (chunks_at before name)).refusals ≡ Some why → Answers (refers edit name) (Err why) before before
   refers-refused why came = (willing, rw came refl)
+
+-- a change gives the block the edit's chunks, makes stale what leads into it, and changes nothing
+-- where it is refused
+pub change-shape : (name : Name) (change : Change) (memory : Memory) (choice : Choice)
+    → ((change_row name change choice memory).after ≡ with_chunks memory name (change_edit change (chunks_at memory name)).chunks)
+    × ((change_row name change choice memory).stale ≡ InBlock name)
+    × ((r : Refusal) → (change_row name change choice memory).left r ≡ memory)
+change-shape name change memory choice = shape (may_grow change)
+  where
+    shape : (b : Bool) → ((row_in b (change_edit change) name choice memory).after ≡ with_chunks memory name (change_edit change (chunks_at memory name)).chunks)
+        × ((row_in b (change_edit change) name choice memory).stale ≡ InBlock name)
+        × ((r : Refusal) → (row_in b (change_edit change) name choice memory).left r ≡ memory)
+    shape true = (refl, refl, λ r. refl)
+    shape false = (refl, refl, λ r. refl)

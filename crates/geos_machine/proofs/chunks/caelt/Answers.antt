@@ -6,7 +6,7 @@ use Rattle.geos_machine.proofs.Works.{slot-locked}
 use Rattle.geos_machine.proofs.Through.{pointer-set, pointer-refused}
 use Rattle.geos_machine.proofs.Safe.{looks-held}
 use Rattle.geos_opcodes.specs.declared.opcode.Opcode.TheVariants.{Caelt}
-use Rattle.geos_machine.proofs.arrays.caelt.Goals as goal
+use Rattle.geos_machine.proofs.chunks.caelt.Goals as goal
 
 pub caelt-requires : goal.caelt-requires
 caelt-requires c =
