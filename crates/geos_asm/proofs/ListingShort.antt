@@ -7,7 +7,7 @@ use Rattle.std.proofs.lemmas.List.{length-append}
 use Rattle.geos_image.specs.declared.row.Row.{Row}
 use Rattle.geos_image.specs.declared.row.Pointer.{Pointer}
 use Rattle.geos_image.specs.declared.row.SlotState.{SlotState}
-use Rattle.geos_image.specs.declared.row.SlotState.TheVariants.{Empty, Mem, Vm, VmMarked, Db, DbMarked}
+use Rattle.geos_image.specs.declared.row.SlotState.TheVariants.{Empty, Mem, Vm, Db}
 use Rattle.geos_image.specs.declared.routine.Routine.{Routine}
 use Rattle.geos_image.specs.declared.point.Point.{Point}
 use Rattle.geos_image.specs.Parts.{Parts, start_of}
@@ -51,10 +51,10 @@ bound-short i bound false lt =
 slot-short : (i : ℕ) (state : SlotState) → length (spaced (slot_words i state)) ≤ 16
 slot-short i Empty = omega arith
 slot-short i Mem = omega arith
-slot-short i Vm = omega arith
-slot-short i VmMarked = omega arith
-slot-short i Db = omega arith
-slot-short i DbMarked = omega arith
+slot-short i (Vm true) = omega arith
+slot-short i (Vm false) = omega arith
+slot-short i (Db true) = omega arith
+slot-short i (Db false) = omega arith
 
 pointer-short : (i : ℕ) (pointer : Option Pointer) → PointerFits pointer → length (spaced (pointer_words i pointer)) ≤ 16
 pointer-short i None fits = omega arith

@@ -7,17 +7,17 @@ use Rattle.std.proofs.lemmas.List.Folds.{list_all-append}
 use Rattle.geos_image.specs.declared.row.Row.{Row}
 use Rattle.geos_image.specs.declared.row.Pointer.{Pointer}
 use Rattle.geos_image.specs.declared.row.SlotState.{SlotState}
-use Rattle.geos_image.specs.declared.row.SlotState.TheVariants.{Empty, Mem, Vm, VmMarked, Db, DbMarked}
+use Rattle.geos_image.specs.declared.row.SlotState.TheVariants.{Empty, Mem, Vm, Db}
 use Rattle.geos_image.specs.Legal.{is_pointer}
 use Rattle.geos_image.specs.Open.{open_row}
 use Rattle.geos_image.specs.Ranges.{PointerFits}
-use Rattle.geos_listing.specs.Rows.{row_line, pair_slots}
+use Rattle.geos_listing.specs.Rows.{state_word, row_line, pair_slots}
 use Rattle.geos_text.specs.Words.{is_empty}
 use Rattle.geos_source.specs.Names.{label_of}
 use Rattle.geos_source.specs.Lines.{said, parted}
 use Rattle.geos_source.specs.Items.{row_of}
 use Rattle.geos_source.proofs.ReadLaws.{ok_is}
-use Rattle.geos_asm.proofs.Spaced.{spaced, said-spaced, is_word}
+use Rattle.geos_asm.proofs.Spaced.{spaced, said-spaced, is_word, is_inner}
 use Rattle.geos_asm.proofs.InstrLines.{parted-statement}
 use Rattle.geos_asm.proofs.RowsAgain.{row_items-spaced, words_below, are_words, slot_words, pointer_words, pair_words, bounds_of, slots_of, pointers_of, pairs_of, row_words, passes_at, one_digit, IsSound, row_of-again}
 use Rattle.geos_asm.proofs.ItemsAgain.{bound_word, held_word, pointer_word, bound-word, held-word, pointer-word, digit-inner}
@@ -29,13 +29,17 @@ bounds-words : (i bound : ℕ) (greatest : Bool) → i < 8 → bound < 2 ^ 16 �
 bounds-words i bound true lt word = refl
 bounds-words i bound false lt word = one (bound_word i bound) (bound-word i bound (omega (arith, lt)) word)
 
+state_word-inner : (state : SlotState) → list_all is_inner (state_word state) ≡ true
+state_word-inner Empty = refl
+state_word-inner Mem = refl
+state_word-inner (Vm true) = refl
+state_word-inner (Vm false) = refl
+state_word-inner (Db true) = refl
+state_word-inner (Db false) = refl
+
 slots-words : (i : ℕ) (state : SlotState) → i < 4 → list_all is_word (slot_words i state) ≡ true
 slots-words i Empty lt = refl
-slots-words i Mem lt = one (held_word i (codes "mem")) (held-word i (codes "mem") (omega (arith, lt)) refl)
-slots-words i Vm lt = one (held_word i (codes "vm")) (held-word i (codes "vm") (omega (arith, lt)) refl)
-slots-words i VmMarked lt = one (held_word i (codes "vm!")) (held-word i (codes "vm!") (omega (arith, lt)) refl)
-slots-words i Db lt = one (held_word i (codes "db")) (held-word i (codes "db") (omega (arith, lt)) refl)
-slots-words i DbMarked lt = one (held_word i (codes "db!")) (held-word i (codes "db!") (omega (arith, lt)) refl)
+slots-words i state lt = one (held_word i (state_word state)) (held-word i (state_word state) (omega (arith, lt)) (state_word-inner state))
 
 pointers-words : (i : ℕ) (pointer : Option Pointer) → i < 4 → is_pointer pointer ≡ true → PointerFits pointer → list_all is_word (pointer_words i pointer) ≡ true
 pointers-words i None lt leads least = refl

@@ -9,13 +9,13 @@ use Rattle.std.proofs.lemmas.List.Folds.{list_all-append}
 use Rattle.geos_image.specs.declared.row.Row.{Row}
 use Rattle.geos_image.specs.declared.row.Pointer.{Pointer}
 use Rattle.geos_image.specs.declared.row.SlotState.{SlotState}
-use Rattle.geos_image.specs.declared.row.SlotState.TheVariants.{Empty, Mem, Vm, VmMarked, Db, DbMarked}
+use Rattle.geos_image.specs.declared.row.SlotState.TheVariants.{Empty, Mem, Vm, Db}
 use Rattle.geos_image.specs.Legal.{is_pointer, is_shaped, is_row}
 use Rattle.geos_image.specs.Open.{open_row}
 use Rattle.geos_image.specs.Ranges.{PointerFits, RowFits}
-use Rattle.geos_listing.specs.Rows.{texts_below, slot_item, pointer_item, pair_item, pair_slots, row_items}
+use Rattle.geos_listing.specs.Rows.{texts_below, state_word, slot_item, pointer_item, pair_item, pair_slots, row_items}
 use Rattle.geos_source.specs.Operands.{unless_faulty}
-use Rattle.geos_source.specs.Items.{item, RowRead, with_item, with_items, row_of}
+use Rattle.geos_source.specs.Items.{slot_state_of, item, RowRead, with_item, with_items, row_of}
 use Rattle.geos_asm.proofs.Spaced.{is_word, spaced}
 use Rattle.geos_asm.proofs.ItemsAgain.{bound_word, held_word, pointer_word, bound-written, held-written, pointer-written, bound-read, held-read, pointer-read}
 
@@ -53,11 +53,7 @@ bound_words i bound = cond (bound == 65535) [] (bound_word i bound ∷ [])
 -- what a slot holds, unless it is empty
 abbrev pub slot_words : ℕ → SlotState → List (List ℕ)
 slot_words i Empty = []
-slot_words i Mem = held_word i (codes "mem") ∷ []
-slot_words i Vm = held_word i (codes "vm") ∷ []
-slot_words i VmMarked = held_word i (codes "vm!") ∷ []
-slot_words i Db = held_word i (codes "db") ∷ []
-slot_words i DbMarked = held_word i (codes "db!") ∷ []
+slot_words i state = held_word i (state_word state) ∷ []
 
 -- where a pointer leads, unless nothing is known of it
 abbrev pub pointer_words : ℕ → Option Pointer → List (List ℕ)
@@ -133,11 +129,7 @@ bounds-written i bound false lt = bound-written i bound (omega (arith, lt))
 
 slots-written : (i : ℕ) (state : SlotState) → i < 4 → slot_item i state ≡ spaced (slot_words i state)
 slots-written i Empty lt = refl
-slots-written i Mem lt = held-written i (codes "mem") (omega (arith, lt))
-slots-written i Vm lt = held-written i (codes "vm") (omega (arith, lt))
-slots-written i VmMarked lt = held-written i (codes "vm!") (omega (arith, lt))
-slots-written i Db lt = held-written i (codes "db") (omega (arith, lt))
-slots-written i DbMarked lt = held-written i (codes "db!") (omega (arith, lt))
+slots-written i state lt = held-written i (state_word state) (omega (arith, lt))
 
 pointers-written : (i : ℕ) (pointer : Option Pointer) → i < 4 → is_pointer pointer ≡ true → pointer_item i pointer ≡ spaced (pointer_words i pointer)
 pointers-written i None lt leads = refl
@@ -218,14 +210,22 @@ bounds-read row i bound true e lt word unset =
     ap (λ (bs : List ℕ). reading (record row { bounds = bs })) (set_same row.bounds i 65535 unset ∙ ap (slice_set row.bounds i) (sym (eqb-true bound 65535 e)))
 bounds-read row i bound false e lt word unset = one_item row (record row { bounds = slice_set row.bounds i bound }) (bound_word i bound) (bound-read row i bound lt word)
 
+abbrev is_held : SlotState → Bool
+is_held Empty = false
+is_held _ = true
+
+state_word-read : (state : SlotState) → is_held state ≡ true → slot_state_of (state_word state) ≡ Some state
+state_word-read Empty h = absurd cc
+state_word-read Mem h = refl
+state_word-read (Vm true) h = refl
+state_word-read (Vm false) h = refl
+state_word-read (Db true) h = refl
+state_word-read (Db false) h = refl
+
 slots-read : (row : Row) (i : ℕ) (state : SlotState) → i < 4 → get_or row.slots i Empty ≡ Empty
     → with_items (slot_words i state) (reading row) ≡ reading (record row { slots = slice_set row.slots i state })
 slots-read row i Empty lt unset = ap (λ (ss : List SlotState). reading (record row { slots = ss })) (set_same row.slots i Empty unset)
-slots-read row i Mem lt unset = one_item row (record row { slots = slice_set row.slots i Mem }) (held_word i (codes "mem")) (held-read row i (codes "mem") Mem lt refl)
-slots-read row i Vm lt unset = one_item row (record row { slots = slice_set row.slots i Vm }) (held_word i (codes "vm")) (held-read row i (codes "vm") Vm lt refl)
-slots-read row i VmMarked lt unset = one_item row (record row { slots = slice_set row.slots i VmMarked }) (held_word i (codes "vm!")) (held-read row i (codes "vm!") VmMarked lt refl)
-slots-read row i Db lt unset = one_item row (record row { slots = slice_set row.slots i Db }) (held_word i (codes "db")) (held-read row i (codes "db") Db lt refl)
-slots-read row i DbMarked lt unset = one_item row (record row { slots = slice_set row.slots i DbMarked }) (held_word i (codes "db!")) (held-read row i (codes "db!") DbMarked lt refl)
+slots-read row i state lt unset = one_item row (record row { slots = slice_set row.slots i state }) (held_word i (state_word state)) (held-read row i (state_word state) state lt (state_word-read state refl))
 
 pointers-read : (row : Row) (i : ℕ) (pointer : Option Pointer) → i < 4 → is_pointer pointer ≡ true → PointerFits pointer → get_or row.pointers i None ≡ None
     → with_items (pointer_words i pointer) (reading row) ≡ reading (record row { pointers = slice_set row.pointers i pointer })

@@ -4,7 +4,6 @@ use Rattle.geos_image.specs.declared.instr.Instr.{Instr}
 use Rattle.geos_image.specs.declared.row.Row.{Row}
 use Rattle.geos_image.specs.declared.row.Pointer.{Pointer}
 use Rattle.geos_image.specs.declared.row.SlotState.{SlotState}
-use Rattle.geos_image.specs.declared.row.SlotState.TheVariants.{Empty, Mem, Vm, VmMarked, Db, DbMarked}
 use Rattle.geos_image.specs.Open.{open_row}
 use Rattle.geos_listing.specs.Rows.{row_items}
 use Rattle.geos_opcodes.specs.declared.uses.Kind.{Kind}
@@ -13,17 +12,9 @@ use Rattle.geos_opcodes.specs.declared.uses.SlotUse.{SlotUse}
 use Rattle.geos_opcodes.specs.declared.uses.SlotUse.TheVariants.{Unlocks, Compares}
 use Rattle.geos_opcodes.specs.declared.uses.PointerUse.{PointerUse}
 use Rattle.geos_opcodes.specs.declared.uses.PointerUse.TheVariants.{Loads, Stores, Copies}
+use Rattle.geos_listing.specs.Rows.{state_word}
 use Rattle.geos_verify.specs.Rows.{slot_state, pointer_at, leads_nowhere}
 use Rattle.geos_verify.specs.Rules.{reach, least_at}
-
--- what a slot holds, in a word
-abbrev pub state_word : SlotState → List ℕ
-state_word Empty = codes "empty"
-state_word Mem = codes "mem"
-state_word Vm = codes "vm"
-state_word VmMarked = codes "vm!"
-state_word Db = codes "db"
-state_word DbMarked = codes "db!"
 
 -- a slot, and what the row says that it holds
 unfoldable pub state_item : ℕ → Row → List ℕ

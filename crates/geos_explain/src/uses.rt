@@ -4,11 +4,11 @@ ghost use Rattle.std.specs.Prelude.{◌≡◌, ◌<◌, ◌++◌, OnOk, map};
 ghost use Rattle.geos_verify.specs.Rows.{slot_state, pointer_at};
 ghost use Rattle.geos_verify.specs.Rules.{least_at};
 ghost use Rattle.geos_verify.specs.Uses.{PointerFits};
-ghost use Rattle.geos_explain.specs.Uses.{state_word, state_item, nowhere_only, leading_nowhere, nowhere_words, wanted_bytes, short_words, past_words, slot_behind, changed_slot, unmarked_words, held_words, kind_wish, slot_wish, other_item, slot_words};
+ghost use Rattle.geos_explain.specs.Uses.{state_item, nowhere_only, leading_nowhere, nowhere_words, wanted_bytes, short_words, past_words, slot_behind, changed_slot, unmarked_words, held_words, kind_wish, slot_wish, other_item, slot_words};
 
 use crate::numbers::put_numbered;
 use geos_image::{Instr, Pointer, Row, SlotState};
-use geos_listing::put_items;
+use geos_listing::{put_items, state_word};
 use geos_opcodes::{Kind, PointerUse, SlotUse};
 use geos_verify::{leads_nowhere, reach};
 use std::alloc::AllocError;
@@ -28,20 +28,6 @@ pub(crate) fn pointer_at(row: &Row, p: u8) -> Option<Pointer>
     match row.pointers.get(usize::from(p)) {
         Some(pointer) => *pointer,
         None => None,
-    }
-}
-
-/// What a slot holds, in a word.
-fn state_word(state: SlotState) -> &'static str
-    ensures { result.now ≡ state_word state }
-{
-    match state {
-        SlotState::Empty => "empty",
-        SlotState::Mem => "mem",
-        SlotState::Vm => "vm",
-        SlotState::VmMarked => "vm!",
-        SlotState::Db => "db",
-        SlotState::DbMarked => "db!",
     }
 }
 

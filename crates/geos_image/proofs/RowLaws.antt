@@ -9,7 +9,7 @@ use Rattle.std.proofs.Math.Nat.{pow-suc}
 use Rattle.geos_image.specs.declared.row.Row.{Row}
 use Rattle.geos_image.specs.declared.row.Pointer.{Pointer}
 use Rattle.geos_image.specs.declared.row.SlotState.{SlotState}
-use Rattle.geos_image.specs.declared.row.SlotState.TheVariants.{Empty, Mem, Vm, VmMarked, Db, DbMarked}
+use Rattle.geos_image.specs.declared.row.SlotState.TheVariants.{Empty, Mem, Vm, Db}
 use Rattle.geos_image.specs.Legal.{is_pointer, is_row}
 use Rattle.geos_image.specs.Ranges.{IsWord, PointerFits, RowFits}
 use Rattle.geos_image.specs.Spelling.{word, flag, slot_code, pointer, pairs_byte, row}
@@ -35,10 +35,10 @@ slot_found bytes at next s e h =
 slot_of_again : (s : SlotState) → slot_of (slot_code s) ≡ Some s
 slot_of_again Empty = refl
 slot_of_again Mem = refl
-slot_of_again Vm = refl
-slot_of_again VmMarked = refl
-slot_of_again Db = refl
-slot_of_again DbMarked = refl
+slot_of_again (Vm false) = refl
+slot_of_again (Vm true) = refl
+slot_of_again (Db false) = refl
+slot_of_again (Db true) = refl
 
 slot_again : (bytes : List ℕ) (at next : ℕ) (s : SlotState) (rest : List ℕ) → next ≡ at + 1 → Unit {0} → Left bytes at (slot_text s ++ rest) → (slot_at bytes at ≡ Ok s) × Left bytes next rest
 unfolding slot_at

@@ -8,7 +8,7 @@ use Rattle.geos_image.specs.declared.instr.Instr.{Instr}
 use Rattle.geos_image.specs.declared.row.Row.{Row}
 use Rattle.geos_image.specs.declared.row.Pointer.{Pointer}
 use Rattle.geos_image.specs.declared.row.SlotState.{SlotState}
-use Rattle.geos_image.specs.declared.row.SlotState.TheVariants.{Empty, Mem, Vm, VmMarked, Db, DbMarked}
+use Rattle.geos_image.specs.declared.row.SlotState.TheVariants.{Empty, Mem, Vm, Db}
 use Rattle.geos_image.specs.declared.potential.Potential.{Potential}
 use Rattle.geos_image.specs.declared.routine.Routine.{Routine}
 use Rattle.geos_opcodes.specs.Facts.{opcode_of, operands_of, limit}
@@ -91,7 +91,7 @@ instr_at routines instrs bytes at = do
 
 -- every state of a slot
 abbrev pub slot_states : List SlotState
-slot_states = Empty ∷ Mem ∷ Vm ∷ VmMarked ∷ Db ∷ DbMarked ∷ []
+slot_states = Empty ∷ Mem ∷ Vm false ∷ Vm true ∷ Db false ∷ Db true ∷ []
 
 -- the state that a byte spells
 abbrev pub slot_of : ℕ → Option SlotState

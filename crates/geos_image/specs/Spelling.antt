@@ -6,7 +6,7 @@ use Rattle.geos_image.specs.declared.instr.Instr.{Instr}
 use Rattle.geos_image.specs.declared.row.Row.{Row}
 use Rattle.geos_image.specs.declared.row.Pointer.{Pointer}
 use Rattle.geos_image.specs.declared.row.SlotState.{SlotState}
-use Rattle.geos_image.specs.declared.row.SlotState.TheVariants.{Empty, Mem, Vm, VmMarked, Db, DbMarked}
+use Rattle.geos_image.specs.declared.row.SlotState.TheVariants.{Empty, Mem, Vm, Db}
 use Rattle.geos_image.specs.declared.potential.Potential.{Potential}
 use Rattle.geos_image.specs.declared.routine.Routine.{Routine}
 use Rattle.geos_opcodes.specs.Facts.{code_of}
@@ -33,14 +33,12 @@ flag true = 1
 abbrev pub instr : Instr → List ℕ
 instr i = (code_of i.opcode ∷ i.a ∷ i.b ∷ i.c ∷ i.d ∷ 0 ∷ []) ++ word i.imm ++ word i.target
 
--- the byte of a slot's state
+-- the byte of a slot's state: one more where it is marked
 abbrev pub slot_code : SlotState → ℕ
 slot_code Empty = 0
 slot_code Mem = 1
-slot_code Vm = 2
-slot_code VmMarked = 3
-slot_code Db = 4
-slot_code DbMarked = 5
+slot_code (Vm marked) = 2 + flag marked
+slot_code (Db marked) = 4 + flag marked
 
 -- slot, 0, then the word of the least length; a stale pointer is slot 255 with length 0
 abbrev pub pointer : Option Pointer → List ℕ

@@ -2,22 +2,54 @@
 
 ghost use Rattle.std.specs.Prelude.{◌≡◌};
 ghost use Rattle.geos_image.specs.Open.{open_row};
+ghost use Rattle.geos_image.specs.Spelling.{slot_code};
+ghost use Rattle.geos_image.specs.Reading.{slot_of};
 
 /// What a row says of a slot.
 #[derive(Clone, Copy, Debug, PartialEq, Eq)]
 pub enum SlotState {
     /// It holds nothing.
-    Empty = 0,
+    Empty,
     /// It holds a memory block.
-    Mem = 1,
-    /// It holds a VM block.
-    Vm = 2,
-    /// It holds a VM block that is marked as changed.
-    VmMarked = 3,
-    /// It holds a DB group.
-    Db = 4,
-    /// It holds a DB group that is marked as changed.
-    DbMarked = 5,
+    Mem,
+    /// It holds a VM block, which may be known to be marked as changed.
+    Vm { marked: bool },
+    /// It holds a DB group, which may be known to be marked as changed.
+    Db { marked: bool },
+}
+
+/// Every state of a slot.
+const SLOT_STATES: [SlotState; 6] = [
+    SlotState::Empty,
+    SlotState::Mem,
+    SlotState::Vm { marked: false },
+    SlotState::Vm { marked: true },
+    SlotState::Db { marked: false },
+    SlotState::Db { marked: true },
+];
+
+impl SlotState {
+    /// The byte that spells it.
+    pub(crate) fn code(self) -> u8
+        ensures { result ≡ slot_code self }
+    {
+        match self {
+            SlotState::Empty => 0,
+            SlotState::Mem => 1,
+            SlotState::Vm { marked } => 2 + u8::from(marked),
+            SlotState::Db { marked } => 4 + u8::from(marked),
+        }
+    }
+
+    /// The state that the byte spells, if it spells one.
+    pub(crate) fn from_code(code: u8) -> Option<SlotState>
+        ensures { result ≡ slot_of code }
+    {
+        SLOT_STATES
+            .iter()
+            .copied()
+            .find(|state| state.code() == code)
+    }
 }
 
 /// What a row says of a pointer that is not stale.

@@ -39,12 +39,6 @@ fn put_instr(out: &mut Vec<u8>, i: &Instr) -> Result<(), AllocError>
     put_word(out, i.target)
 }
 
-fn slot_code(slot: SlotState) -> u8
-    ensures { result ≡ slot_code slot }
-{
-    slot as u8
-}
-
 fn put_pointer(out: &mut Vec<u8>, p: &Option<Pointer>) -> Result<(), AllocError>
     ensures value { OnOk result (out.new.items ≡ out.old.items ++ pointer p.now) }
     ensures fits { OnOk result (PointerFits p.now) }
@@ -84,7 +78,7 @@ fn put_slots(out: &mut Vec<u8>, slots: &[SlotState; 4]) -> Result<(), AllocError
     ensures { OnOk result (out.new.items ≡ out.old.items ++ map slot_code slots.now) }
 {
     let [s0, s1, s2, s3] = *slots;
-    out.extend_from_slice(&[slot_code(s0), slot_code(s1), slot_code(s2), slot_code(s3)])
+    out.extend_from_slice(&[s0.code(), s1.code(), s2.code(), s3.code()])
 }
 
 fn put_pointers(out: &mut Vec<u8>, pointers: &[Option<Pointer>; 4]) -> Result<(), AllocError>

@@ -12,7 +12,7 @@ use Rattle.geos_image.specs.declared.instr.Instr.{Instr}
 use Rattle.geos_image.specs.declared.row.Row.{Row}
 use Rattle.geos_image.specs.declared.row.Pointer.{Pointer}
 use Rattle.geos_image.specs.declared.row.SlotState.{SlotState}
-use Rattle.geos_image.specs.declared.row.SlotState.TheVariants.{Empty, Mem, Vm, VmMarked, Db, DbMarked}
+use Rattle.geos_image.specs.declared.row.SlotState.TheVariants.{Empty, Mem, Vm, Db}
 use Rattle.geos_image.specs.declared.routine.Routine.{Routine}
 use Rattle.geos_opcodes.specs.Facts.{facts, operands_of, uses_of}
 use Rattle.geos_image.specs.Parts.{Parts}
@@ -24,7 +24,7 @@ use Rattle.geos_opcodes.specs.declared.uses.PointerUse.TheVariants.{Sets, Duplic
 use Rattle.geos_opcodes.specs.declared.uses.Uses.{Uses}
 use Rattle.geos_verify.specs.Lists.{all2}
 use Rattle.geos_verify.specs.Pairs.{slot_pairs, is_pair, has_slot, each_pair, without_slot, has_pair, are_apart}
-use Rattle.geos_verify.specs.Rows.{bound, with_bound, or_any, computed, with_result, bounded, slot_state, kind_in, are_alike, holds_kind, new_state, locked_state, slots_after, pairs_after, pointer_at, may_be_same, stale_where, pointers_kept, with_pointer, used, refused, exit_row, row_along, row_branching, slot_fits, pointer_fits, pair_fits, fits}
+use Rattle.geos_verify.specs.Rows.{bound, with_bound, or_any, computed, with_result, bounded, slot_state, kind_in, are_alike, holds_kind, held_state, slots_after, pairs_after, pointer_at, may_be_same, stale_where, pointers_kept, with_pointer, used, refused, exit_row, row_along, row_branching, slot_fits, pointer_fits, pair_fits, fits}
 use Rattle.geos_verify.specs.Touched.{calls}
 use Rattle.geos_verify.proofs.Along.{row_along-used}
 use Rattle.geos_infer.proofs.Pairwise.{both, all2-set, all2-get}
@@ -92,12 +92,8 @@ slot-mono r s a h = all2-get slot_fits r.slots s.slots a Empty refl ((fitting r 
 kind-same : (x y : SlotState) → slot_fits x y ≡ true → kind_in x ≡ kind_in y
 kind-same Empty Empty h = refl
 kind-same Mem Mem h = refl
-kind-same Vm Vm h = refl
-kind-same VmMarked VmMarked h = refl
-kind-same VmMarked Vm h = refl
-kind-same Db Db h = refl
-kind-same DbMarked DbMarked h = refl
-kind-same DbMarked Db h = refl
+kind-same (Vm a) (Vm b) h = refl
+kind-same (Db a) (Db b) h = refl
 kind-same _ _ h = absurd cc
 
 pub same-kind : (r s : Row) (a : ℕ) → fits r s ≡ true → kind_in (slot_state r a) ≡ kind_in (slot_state s a)
@@ -110,8 +106,8 @@ pub same-holds : (r s : Row) (kind : Kind) (a : ℕ) → fits r s ≡ true → h
 same-holds r s kind a h = rw (same-kind r s a h) refl
 
 slots_after-mono : (i : Instr) (slot : SlotUse) (xs ys : List SlotState) → all2 slot_fits xs ys ≡ true → all2 slot_fits (slots_after i slot xs) (slots_after i slot ys) ≡ true
-slots_after-mono i (LocksNew kind) xs ys h = all2-set slot_fits xs ys i.a (new_state kind) (new_state kind) h (slot-refl (new_state kind))
-slots_after-mono i (Locks kind) xs ys h = all2-set slot_fits xs ys i.a (locked_state kind) (locked_state kind) h (slot-refl (locked_state kind))
+slots_after-mono i (LocksNew kind) xs ys h = all2-set slot_fits xs ys i.a (held_state kind true) (held_state kind true) h (slot-refl (held_state kind true))
+slots_after-mono i (Locks kind) xs ys h = all2-set slot_fits xs ys i.a (held_state kind false) (held_state kind false) h (slot-refl (held_state kind false))
 slots_after-mono i (Unlocks kind) xs ys h = all2-set slot_fits xs ys i.a Empty Empty h refl
 slots_after-mono i _ xs ys h = h
 

@@ -7,7 +7,7 @@ use Rattle.std.proofs.lemmas.List.{length-map}
 use Rattle.geos_image.specs.declared.row.Row.{Row}
 use Rattle.geos_image.specs.declared.row.Pointer.{Pointer}
 use Rattle.geos_image.specs.declared.row.SlotState.{SlotState}
-use Rattle.geos_image.specs.declared.row.SlotState.TheVariants.{Empty, Mem, Vm, VmMarked, Db, DbMarked}
+use Rattle.geos_image.specs.declared.row.SlotState.TheVariants.{Empty, Mem, Vm, Db}
 use Rattle.geos_image.specs.Legal.{is_pointer, is_shaped, is_row}
 use Rattle.geos_verify.specs.Lists.{all2}
 use Rattle.geos_verify.specs.Rows.{slot_fits, pointer_fits, pair_fits, is_empty, leads_nowhere}
@@ -19,12 +19,8 @@ use Rattle.geos_infer.proofs.Fits.{fitting, fits-from, le-refl, slot-refl, pair-
 pub slot-empty : (x y : SlotState) → slot_fits x y ≡ true → is_empty x ≡ is_empty y
 slot-empty Empty Empty h = refl
 slot-empty Mem Mem h = refl
-slot-empty Vm Vm h = refl
-slot-empty VmMarked VmMarked h = refl
-slot-empty VmMarked Vm h = refl
-slot-empty Db Db h = refl
-slot-empty DbMarked DbMarked h = refl
-slot-empty DbMarked Db h = refl
+slot-empty (Vm a) (Vm b) h = refl
+slot-empty (Db a) (Db b) h = refl
 slot-empty _ _ h = absurd cc
 
 -- slots that fit are empty together

@@ -5,9 +5,9 @@ use Rattle.std.proofs.lemmas.Bool.{and_parts, leb-true, le-leb, eqb-true, eq-eqb
 use Rattle.geos_image.specs.declared.row.Row.{Row}
 use Rattle.geos_image.specs.declared.row.Pointer.{Pointer}
 use Rattle.geos_image.specs.declared.row.SlotState.{SlotState}
-use Rattle.geos_image.specs.declared.row.SlotState.TheVariants.{Empty, Mem, Vm, VmMarked, Db, DbMarked}
+use Rattle.geos_image.specs.declared.row.SlotState.TheVariants.{Empty, Mem, Vm, Db}
 use Rattle.geos_verify.specs.Lists.{all2}
-use Rattle.geos_verify.specs.Rows.{slot_fits, pointer_fits, pair_fits, fits}
+use Rattle.geos_verify.specs.Rows.{mark_fits, slot_fits, pointer_fits, pair_fits, fits}
 use Rattle.geos_infer.proofs.Pairwise.{both, all2-trans, all2-refl}
 
 -- the parts of the test
@@ -45,23 +45,26 @@ le-refl x = le-leb x x (omega arith)
 
 -- Slots
 
+mark-refl : (a : Bool) → mark_fits a a ≡ true
+mark-refl true = refl
+mark-refl false = refl
+
+mark-trans : (a b c : Bool) → mark_fits a b ≡ true → mark_fits b c ≡ true → mark_fits a c ≡ true
+mark-trans true b c h j = refl
+mark-trans false true c h j = absurd cc
+mark-trans false false c h j = j
+
 pub slot-refl : (x : SlotState) → slot_fits x x ≡ true
 slot-refl Empty = refl
 slot-refl Mem = refl
-slot-refl Vm = refl
-slot-refl VmMarked = refl
-slot-refl Db = refl
-slot-refl DbMarked = refl
+slot-refl (Vm marked) = mark-refl marked
+slot-refl (Db marked) = mark-refl marked
 
 slot-trans : (x y z : SlotState) → slot_fits x y ≡ true → slot_fits y z ≡ true → slot_fits x z ≡ true
 slot-trans Empty Empty z h j = j
 slot-trans Mem Mem z h j = j
-slot-trans Vm Vm z h j = j
-slot-trans VmMarked VmMarked z h j = j
-slot-trans VmMarked Vm Vm h j = refl
-slot-trans Db Db z h j = j
-slot-trans DbMarked DbMarked z h j = j
-slot-trans DbMarked Db Db h j = refl
+slot-trans (Vm a) (Vm b) (Vm c) h j = mark-trans a b c h j
+slot-trans (Db a) (Db b) (Db c) h j = mark-trans a b c h j
 slot-trans _ _ _ h j = absurd cc
 
 -- Pointers

@@ -1,17 +1,17 @@
 -- The join is the least row that both rows fit.
-use Rattle.std.proofs.Common.{◌≡◌, ℕ, Bool, true, false, Option, Some, None, refl, sym, ◌∙◌, arith}
-use Rattle.std.specs.Prelude.{◌==◌, nat_le, max, min}
+use Rattle.std.proofs.Common.{◌≡◌, ℕ, Bool, true, false, cond, Option, Some, None, refl, sym, ◌∙◌, arith}
+use Rattle.std.specs.Prelude.{◌||◌, ◌==◌, nat_le, max, min}
 use Rattle.std.proofs.lemmas.Bool.{and_parts, leb-true, le-leb, eqb-true, eq-eqb, false≢true}
 use Rattle.geos_image.specs.declared.row.Row.{Row}
 use Rattle.geos_image.specs.declared.row.Pointer.{Pointer}
 use Rattle.geos_image.specs.declared.row.SlotState.{SlotState}
-use Rattle.geos_image.specs.declared.row.SlotState.TheVariants.{Empty, Mem, Vm, VmMarked, Db, DbMarked}
+use Rattle.geos_image.specs.declared.row.SlotState.TheVariants.{Empty, Mem, Vm, Db}
 use Rattle.geos_image.specs.Legal.{is_shaped}
-use Rattle.geos_verify.specs.Rows.{slot_fits, pointer_fits, pair_fits, fits}
+use Rattle.geos_verify.specs.Rows.{mark_fits, slot_fits, pointer_fits, pair_fits, fits}
 use Rattle.geos_infer.specs.Joins.{slots_agree, slot_join, pointer_join, pair_join, agree, joined, IsLeastAbove, FitNothing}
 use Rattle.geos_infer.proofs.Pairwise.{both, as_long, as_long-from, all2-above, zip2-left, zip2-right, zip2-least}
 use Rattle.geos_infer.proofs.Cleaning.{shape-parts}
-use Rattle.geos_infer.proofs.Fits.{fitting, fits-from, pointer-none}
+use Rattle.geos_infer.proofs.Fits.{fitting, fits-from, slot-refl, pointer-none}
 
 -- Bounds
 
@@ -27,46 +27,40 @@ max-least x y u h j = let p = leb-true x u h in let q = leb-true y u j in le-leb
 -- Slots
 
 slot-left : (x y : SlotState) → slots_agree x y ≡ true → slot_fits x (slot_join x y) ≡ true
-slot-left Empty Empty h = refl
-slot-left Mem Mem h = refl
-slot-left Vm Vm h = refl
-slot-left Vm VmMarked h = refl
-slot-left VmMarked Vm h = refl
-slot-left VmMarked VmMarked h = refl
-slot-left Db Db h = refl
-slot-left Db DbMarked h = refl
-slot-left DbMarked Db h = refl
-slot-left DbMarked DbMarked h = refl
-slot-left _ _ h = absurd cc
+slot-left x y h = by_test (slot_fits x y) refl
+  where
+    by_test : (b : Bool) → slot_fits x y ≡ b → slot_fits x (cond b y x) ≡ true
+    by_test true e = e
+    by_test false e = slot-refl x
 
 slot-right : (x y : SlotState) → slots_agree x y ≡ true → slot_fits y (slot_join x y) ≡ true
-slot-right Empty Empty h = refl
-slot-right Mem Mem h = refl
-slot-right Vm Vm h = refl
-slot-right Vm VmMarked h = refl
-slot-right VmMarked Vm h = refl
-slot-right VmMarked VmMarked h = refl
-slot-right Db Db h = refl
-slot-right Db DbMarked h = refl
-slot-right DbMarked Db h = refl
-slot-right DbMarked DbMarked h = refl
-slot-right _ _ h = absurd cc
+slot-right x y h = by_test (slot_fits x y) h
+  where
+    by_test : (b : Bool) → (b || slot_fits y x) ≡ true → slot_fits y (cond b y x) ≡ true
+    by_test true h = slot-refl y
+    by_test false h = h
 
--- two states that fit one agree, and their join fits it
-slots-below : (u x y : SlotState) → slot_fits x u ≡ true → slot_fits y u ≡ true → (slots_agree x y ≡ true) × (slot_fits (slot_join x y) u ≡ true)
-slots-below Empty Empty Empty h j = (refl, refl)
-slots-below Mem Mem Mem h j = (refl, refl)
-slots-below Vm Vm Vm h j = (refl, refl)
-slots-below Vm Vm VmMarked h j = (refl, refl)
-slots-below Vm VmMarked Vm h j = (refl, refl)
-slots-below Vm VmMarked VmMarked h j = (refl, refl)
-slots-below VmMarked VmMarked VmMarked h j = (refl, refl)
-slots-below Db Db Db h j = (refl, refl)
-slots-below Db Db DbMarked h j = (refl, refl)
-slots-below Db DbMarked Db h j = (refl, refl)
-slots-below Db DbMarked DbMarked h j = (refl, refl)
-slots-below DbMarked DbMarked DbMarked h j = (refl, refl)
-slots-below _ _ _ h j = absurd cc
+-- of two marks one fits the other
+marks_agree : (a b : Bool) → (mark_fits a b || mark_fits b a) ≡ true
+marks_agree true b = refl
+marks_agree false true = refl
+marks_agree false false = refl
+
+-- two states that fit one agree
+slots-agree : (u x y : SlotState) → slot_fits x u ≡ true → slot_fits y u ≡ true → slots_agree x y ≡ true
+slots-agree Empty Empty Empty h j = refl
+slots-agree Mem Mem Mem h j = refl
+slots-agree (Vm u) (Vm a) (Vm b) h j = marks_agree a b
+slots-agree (Db u) (Db a) (Db b) h j = marks_agree a b
+slots-agree _ _ _ h j = absurd cc
+
+-- and their join fits it
+slot-least : (x y u : SlotState) → slot_fits x u ≡ true → slot_fits y u ≡ true → slot_fits (slot_join x y) u ≡ true
+slot-least x y u h j = by_test (slot_fits x y)
+  where
+    by_test : (b : Bool) → slot_fits (cond b y x) u ≡ true
+    by_test true = j
+    by_test false = h
 
 -- Pointers
 
@@ -132,7 +126,7 @@ agreeing r s u h j =
     let q = fitting s u j in
     record {
       bounds = all2-above nat_le (λ x y. true) (λ x y v a b. refl) r.bounds s.bounds u.bounds p.bounds q.bounds;
-      slots = all2-above slot_fits slots_agree (λ x y v a b. (slots-below v x y a b).0) r.slots s.slots u.slots p.slots q.slots;
+      slots = all2-above slot_fits slots_agree (λ x y v. slots-agree v x y) r.slots s.slots u.slots p.slots q.slots;
       pointers = all2-above pointer_fits (λ x y. true) (λ x y v a b. refl) r.pointers s.pointers u.pointers p.pointers q.pointers;
       pairs = all2-above pair_fits (λ x y. true) (λ x y v a b. refl) r.pairs s.pairs u.pairs p.pairs q.pairs;
     }
@@ -156,7 +150,7 @@ joined-least r s A = record {
       let q = fitting s u j in
       fits-from (joined r s) u (record {
         bounds = zip2-least nat_le max max-least r.bounds s.bounds u.bounds p.bounds q.bounds;
-        slots = zip2-least slot_fits slot_join (λ x y v a b. (slots-below v x y a b).1) r.slots s.slots u.slots p.slots q.slots;
+        slots = zip2-least slot_fits slot_join slot-least r.slots s.slots u.slots p.slots q.slots;
         pointers = zip2-least pointer_fits pointer_join pointer-least r.pointers s.pointers u.pointers p.pointers q.pointers;
         pairs = zip2-least pair_fits pair_join pair-least r.pairs s.pairs u.pairs p.pairs q.pairs;
       })

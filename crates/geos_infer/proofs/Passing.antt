@@ -1,12 +1,12 @@
 -- What the rules allow with a row, they allow with each row that fits it.
-use Rattle.std.proofs.Common.{◌≡◌, ℕ, ◌≤◌, Bool, true, false, not, Option, Some, None, slice_get, refl, ap, ◌∙◌, arith}
+use Rattle.std.proofs.Common.{◌≡◌, ℕ, ◌≤◌, Bool, true, false, not, Option, Some, None, slice_get, refl, sym, ap, ◌∙◌, arith}
 use Rattle.std.specs.Prelude.{◌&&◌, ◌||◌, ◌==◌, nat_le, nat_lt}
 use Rattle.std.proofs.lemmas.Bool.{and_parts, or_parts, leb-true, ltb-false, le-ltb, eqb-true, not-false}
 use Rattle.geos_image.specs.declared.instr.Instr.{Instr}
 use Rattle.geos_image.specs.declared.row.Row.{Row}
 use Rattle.geos_image.specs.declared.row.Pointer.{Pointer}
 use Rattle.geos_image.specs.declared.row.SlotState.{SlotState}
-use Rattle.geos_image.specs.declared.row.SlotState.TheVariants.{Empty, Mem, Vm, VmMarked, Db, DbMarked}
+use Rattle.geos_image.specs.declared.row.SlotState.TheVariants.{Empty, Mem, Vm, Db}
 use Rattle.geos_image.specs.declared.routine.Routine.{Routine}
 use Rattle.geos_image.specs.Parts.{Parts}
 use Rattle.geos_opcodes.specs.declared.uses.Width.{Width}
@@ -17,7 +17,7 @@ use Rattle.geos_opcodes.specs.declared.uses.SlotUse.TheVariants.{LocksNew, Locks
 use Rattle.geos_opcodes.specs.declared.uses.PointerUse.{PointerUse}
 use Rattle.geos_opcodes.specs.declared.uses.PointerUse.TheVariants.{Loads, Stores, Copies, Duplicates, Measures}
 use Rattle.geos_opcodes.specs.Facts.{uses_of}
-use Rattle.geos_verify.specs.Rows.{slot_state, pointer_at, slot_fits, pointer_fits, fits, is_empty, is_stale}
+use Rattle.geos_verify.specs.Rows.{slot_state, pointer_at, mark_fits, slot_fits, pointer_fits, fits, is_empty, is_stale}
 use Rattle.geos_verify.specs.Touched.{calls}
 use Rattle.geos_verify.specs.Rules.{returns, uses_stale, stale_pointer, reach, least_at, reaches_past, passes_end, is_unmarked, pointed_state, writes_unmarked, moves_unmarked, changes_unmarked, locks_held, locks_into_held, misuses_slot, wrong_slot, at_routine, call_misfits, exit_misfits}
 use Rattle.geos_infer.proofs.Fits.{fits-trans}
@@ -55,13 +55,15 @@ least-mono p None h = omega arith
 least-mono None (Some q) h = absurd cc
 least-mono (Some p) (Some q) h = leb-true q.least p.least ((and_parts (p.slot == q.slot) (nat_le q.least p.least) h).1)
 
+mark-mono : (a b : Bool) → mark_fits a b ≡ true → not b ≡ false → not a ≡ false
+mark-mono true b h e = refl
+mark-mono false b h e = sym h ∙ e
+
 unmarked-mono : (x y : SlotState) → slot_fits x y ≡ true → is_unmarked y ≡ false → is_unmarked x ≡ false
 unmarked-mono Empty y h e = refl
 unmarked-mono Mem y h e = refl
-unmarked-mono VmMarked y h e = refl
-unmarked-mono DbMarked y h e = refl
-unmarked-mono Vm Vm h e = e
-unmarked-mono Db Db h e = e
+unmarked-mono (Vm a) (Vm b) h e = mark-mono a b h e
+unmarked-mono (Db a) (Db b) h e = mark-mono a b h e
 unmarked-mono _ _ h e = absurd cc
 
 module _ (i : Instr) (r s : Row) (h : fits r s ≡ true) where

@@ -3,7 +3,7 @@ use Rattle.std.specs.Prelude.{ℕ, zero, suc, Bool, true, false, ◌==◌, if◌
 use Rattle.geos_image.specs.declared.row.Row.{Row}
 use Rattle.geos_image.specs.declared.row.Pointer.{Pointer}
 use Rattle.geos_image.specs.declared.row.SlotState.{SlotState}
-use Rattle.geos_image.specs.declared.row.SlotState.TheVariants.{Empty, Mem, Vm, VmMarked, Db, DbMarked}
+use Rattle.geos_image.specs.declared.row.SlotState.TheVariants.{Empty, Mem, Vm, Db}
 
 -- the texts of the numbers below n, one after another
 unfoldable pub texts_below : ℕ → (ℕ → List ℕ) → List ℕ
@@ -18,14 +18,17 @@ bound_item i bound = if bound == 65535 then [] else codes " w" ++ decimal i ++ c
 abbrev pub held_item : ℕ → List ℕ → List ℕ
 held_item i word = codes " s" ++ decimal i ++ codes "=" ++ word
 
--- what a slot holds, unless it is empty; `!` says that it is marked
+-- what a slot holds, in a word; `!` says that it is marked
+abbrev pub state_word : SlotState → List ℕ
+state_word Empty = codes "empty"
+state_word Mem = codes "mem"
+state_word (Vm marked) = if marked then codes "vm!" else codes "vm"
+state_word (Db marked) = if marked then codes "db!" else codes "db"
+
+-- what a slot holds, unless it is empty
 abbrev pub slot_item : ℕ → SlotState → List ℕ
 slot_item i Empty = []
-slot_item i Mem = held_item i (codes "mem")
-slot_item i Vm = held_item i (codes "vm")
-slot_item i VmMarked = held_item i (codes "vm!")
-slot_item i Db = held_item i (codes "db")
-slot_item i DbMarked = held_item i (codes "db!")
+slot_item i state = held_item i (state_word state)
 
 -- where a pointer leads, and its least length, unless nothing is known of it
 abbrev pub pointer_item : ℕ → Option Pointer → List ℕ

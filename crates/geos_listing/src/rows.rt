@@ -4,7 +4,7 @@ ghost use Rattle.std.specs.Prelude.{◌≡◌, ◌<◌, ◌++◌, OnOk, None, sl
 ghost use Rattle.std.specs.List.{All};
 ghost use Rattle.geos_image.specs.declared.row.SlotState.TheVariants.{Empty};
 ghost use Rattle.geos_image.specs.Ranges.{IsWord, PointerFits, RowFits};
-ghost use Rattle.geos_listing.specs.Rows.{texts_below, bound_item, held_item, slot_item, pointer_item, pair_item, pair_slots, pair_items, row_items, row_line};
+ghost use Rattle.geos_listing.specs.Rows.{texts_below, bound_item, held_item, state_word, slot_item, pointer_item, pair_item, pair_slots, pair_items, row_items, row_line};
 
 use crate::numbers::put_number;
 use geos_image::{Pointer, Row, SlotState};
@@ -49,17 +49,25 @@ fn put_held(out: &mut Vec<u8>, i: usize, word: &str) -> Result<(), AllocError>
     out.extend_from_slice(word.as_bytes())
 }
 
+/// What a slot holds, in a word; `!` says that it is marked.
+pub fn state_word(state: SlotState) -> &'static str
+    ensures { result.now ≡ state_word state }
+{
+    match state {
+        SlotState::Empty => "empty",
+        SlotState::Mem => "mem",
+        SlotState::Vm { marked } => if marked { "vm!" } else { "vm" },
+        SlotState::Db { marked } => if marked { "db!" } else { "db" },
+    }
+}
+
 fn put_slot(out: &mut Vec<u8>, i: usize, slot: SlotState) -> Result<(), AllocError>
     requires { i < 4 }
     ensures { OnOk result (out.new.items ≡ out.old.items ++ slot_item i slot) }
 {
     match slot {
         SlotState::Empty => Ok(()),
-        SlotState::Mem => put_held(out, i, "mem"),
-        SlotState::Vm => put_held(out, i, "vm"),
-        SlotState::VmMarked => put_held(out, i, "vm!"),
-        SlotState::Db => put_held(out, i, "db"),
-        SlotState::DbMarked => put_held(out, i, "db!"),
+        held => put_held(out, i, state_word(held)),
     }
 }
 

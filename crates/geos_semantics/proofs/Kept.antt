@@ -7,7 +7,7 @@ use Rattle.geos_table.specs.Legal.{IsMemory}
 use Rattle.geos_table.specs.Effects.{Staleness, Nothing}
 use Rattle.geos_image.specs.declared.row.Pointer.{Pointer}
 use Rattle.geos_image.specs.declared.row.SlotState.{SlotState}
-use Rattle.geos_image.specs.declared.row.SlotState.TheVariants.{Empty, Mem, Vm, VmMarked, Db, DbMarked}
+use Rattle.geos_image.specs.declared.row.SlotState.TheVariants.{Empty, Mem, Vm, Db}
 use Rattle.geos_opcodes.specs.declared.uses.Kind.{Kind}
 use Rattle.geos_opcodes.specs.declared.uses.Kind.TheVariants.{MemBlock, VmBlock, DbGroup}
 use Rattle.geos_verify.specs.Rows.{stale_where}
@@ -102,16 +102,12 @@ mark-same old new owner.Vm = refl
 pub slot-meets-left : (old new : Memory) (h : Option Held) (x : SlotState) → SlotMeets old h x → SlotMeets new h x
 slot-meets-left old new None Empty k = k
 slot-meets-left old new None Mem k = k
-slot-meets-left old new None Vm k = k
-slot-meets-left old new None VmMarked k = k
-slot-meets-left old new None Db k = k
-slot-meets-left old new None DbMarked k = k
+slot-meets-left old new None (Vm marked) k = k
+slot-meets-left old new None (Db marked) k = k
 slot-meets-left old new (Some held) Empty k = k
 slot-meets-left old new (Some held) Mem k = k
-slot-meets-left old new (Some held) Vm k = k
-slot-meets-left old new (Some held) VmMarked k = (k.0, sym (mark-same old new (name_of held).owner) ∙ k.1)
-slot-meets-left old new (Some held) Db k = k
-slot-meets-left old new (Some held) DbMarked k = (k.0, sym (mark-same old new (name_of held).owner) ∙ k.1)
+slot-meets-left old new (Some held) (Vm marked) k = (k.0, λ is. sym (mark-same old new (name_of held).owner) ∙ k.1 is)
+slot-meets-left old new (Some held) (Db marked) k = (k.0, λ is. sym (mark-same old new (name_of held).owner) ∙ k.1 is)
 
 pub slots-left : (old new : Memory) (hs : List (Option Held)) (xs : List SlotState) → Each2 (SlotMeets old) hs xs → Each2 (SlotMeets new) hs xs
 slots-left old new hs xs h = each2-same (SlotMeets old) (SlotMeets new) (slot-meets-left old new) hs xs h

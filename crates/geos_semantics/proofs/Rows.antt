@@ -8,26 +8,26 @@ use Rattle.std.proofs.lemmas.List.{set-get_or}
 use Rattle.geos_image.specs.declared.row.Row.{Row}
 use Rattle.geos_image.specs.declared.row.Pointer.{Pointer}
 use Rattle.geos_image.specs.declared.row.SlotState.{SlotState}
-use Rattle.geos_image.specs.declared.row.SlotState.TheVariants.{Empty, Mem, Vm, VmMarked, Db, DbMarked}
+use Rattle.geos_image.specs.declared.row.SlotState.TheVariants.{Empty, Mem, Vm, Db}
 use Rattle.geos_verify.specs.Lists.{all2}
-use Rattle.geos_verify.specs.Rows.{bound, with_bound, or_any, slot_fits, pointer_fits, pair_fits, fits}
+use Rattle.geos_verify.specs.Rows.{bound, with_bound, or_any, mark_fits, slot_fits, pointer_fits, pair_fits, fits}
 use Rattle.geos_table.specs.Memory.{Memory}
 use Rattle.geos_verify.specs.Pairs.{slot_pairs}
 use Rattle.geos_semantics.specs.State.{Held, SlotReference, State, word, with_word}
 use Rattle.geos_semantics.specs.Meets.{SlotMeets, PointerMeets, PairMeets, Meets}
 use Rattle.geos_semantics.proofs.Lists.{each2-set, each2-get, each2-from_test, each2-trans, each2-trans_back}
 
+mark-known : (marked wanted : Bool) → mark_fits marked wanted ≡ true → wanted ≡ true → marked ≡ true
+mark-known true wanted e is = refl
+mark-known false wanted e is = absurd cc
+
 slot-meets : (m : Memory) (h : Option Held) (x y : SlotState) → SlotMeets m h x → slot_fits x y ≡ true → SlotMeets m h y
 slot-meets m h Empty Empty k e = k
 slot-meets m h Mem Mem k e = k
-slot-meets m h Vm Vm k e = k
-slot-meets m h VmMarked VmMarked k e = k
-slot-meets m None VmMarked Vm k e = k
-slot-meets m (Some held) VmMarked Vm k e = k.0
-slot-meets m h Db Db k e = k
-slot-meets m h DbMarked DbMarked k e = k
-slot-meets m None DbMarked Db k e = k
-slot-meets m (Some held) DbMarked Db k e = k.0
+slot-meets m None (Vm marked) (Vm wanted) k e = k
+slot-meets m (Some held) (Vm marked) (Vm wanted) k e = (k.0, λ is. k.1 (mark-known marked wanted e is))
+slot-meets m None (Db marked) (Db wanted) k e = k
+slot-meets m (Some held) (Db marked) (Db wanted) k e = (k.0, λ is. k.1 (mark-known marked wanted e is))
 slot-meets m h _ _ k e = absurd cc
 
 pointer-meets : (x : Option SlotReference) (y z : Option Pointer) → PointerMeets x y → pointer_fits y z ≡ true → PointerMeets x z

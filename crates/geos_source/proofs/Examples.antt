@@ -1,7 +1,7 @@
 -- The definition of texts, computed on examples.
 use Rattle.std.proofs.Common.{◌≡◌, ℕ, List, [], ◌∷◌, ◌++◌, Option, Some, None, refl, true, false, Ok, Err}
 use Rattle.std.specs.Prelude.{codes}
-use Rattle.geos_image.specs.declared.row.SlotState.TheVariants.{Empty, VmMarked}
+use Rattle.geos_image.specs.declared.row.SlotState.TheVariants.{Empty, Vm}
 use Rattle.geos_opcodes.specs.declared.opcode.Opcode.TheVariants.{Ldi, Add, Ret, Out}
 use Rattle.geos_image.specs.Open.{open_row}
 use Rattle.geos_source.specs.declared.fault.Why.{Why}
@@ -95,7 +95,7 @@ places_computed = record { second_in = refl; rows = refl; late_in = refl; outer_
 -- items of rows, in either order of a pair
 pub record Items : Type 0 where
   pub bound : item open_row (codes "w7<=9") ≡ Ok (record open_row { bounds = 65535 ∷ 65535 ∷ 65535 ∷ 65535 ∷ 65535 ∷ 65535 ∷ 65535 ∷ 9 ∷ [] })
-  pub slot : item open_row (codes "s1=vm!") ≡ Ok (record open_row { slots = Empty ∷ VmMarked ∷ Empty ∷ Empty ∷ [] })
+  pub slot : item open_row (codes "s1=vm!") ≡ Ok (record open_row { slots = Empty ∷ Vm true ∷ Empty ∷ Empty ∷ [] })
   pub pointer : item open_row (codes "p0=s3:8") ≡ Ok (record open_row { pointers = Some (record { slot = 3; least = 8 }) ∷ None ∷ None ∷ None ∷ [] })
   pub pair : item open_row (codes "s3#s1") ≡ Ok (record open_row { pairs = false ∷ false ∷ false ∷ false ∷ true ∷ false ∷ [] })
   pub same : item open_row (codes "s1#s1") ≡ Err WrongOperands

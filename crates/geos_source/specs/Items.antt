@@ -2,7 +2,7 @@
 use Rattle.std.specs.Prelude.{ℕ, ◌-◌, ◌+◌, true, ◌==◌, nat_lt, if◌then◌else◌, List, [], ◌∷◌, length, take, drop, slice_set, codes, bytes_eq, Option, Some, None, Result, Ok, Err}
 use Rattle.geos_image.specs.declared.row.Row.{Row}
 use Rattle.geos_image.specs.declared.row.SlotState.{SlotState}
-use Rattle.geos_image.specs.declared.row.SlotState.TheVariants.{Mem, Vm, VmMarked, Db, DbMarked}
+use Rattle.geos_image.specs.declared.row.SlotState.TheVariants.{Mem, Vm, Db}
 use Rattle.geos_image.specs.Open.{open_row}
 use Rattle.geos_text.specs.Registers.{register_of}
 use Rattle.geos_source.specs.declared.fault.Why.{Why}
@@ -28,10 +28,10 @@ bound_item row w (Some digits) = with_bound row w (numbered 65535 digits)
 abbrev pub slot_state_of : List ℕ → Option SlotState
 slot_state_of word =
     if bytes_eq word (codes "mem") then Some Mem
-    else if bytes_eq word (codes "vm") then Some Vm
-    else if bytes_eq word (codes "vm!") then Some VmMarked
-    else if bytes_eq word (codes "db") then Some Db
-    else if bytes_eq word (codes "db!") then Some DbMarked
+    else if bytes_eq word (codes "vm") then Some (Vm false)
+    else if bytes_eq word (codes "vm!") then Some (Vm true)
+    else if bytes_eq word (codes "db") then Some (Db false)
+    else if bytes_eq word (codes "db!") then Some (Db true)
     else None
 
 -- the place of a pair of slots among the six, the lower one first

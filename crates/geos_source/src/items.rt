@@ -32,10 +32,10 @@ fn slot_state_of(word: &[u8]) -> Option<SlotState>
 {
     match word {
         b"mem" => Some(SlotState::Mem),
-        b"vm" => Some(SlotState::Vm),
-        b"vm!" => Some(SlotState::VmMarked),
-        b"db" => Some(SlotState::Db),
-        b"db!" => Some(SlotState::DbMarked),
+        b"vm" => Some(SlotState::Vm { marked: false }),
+        b"vm!" => Some(SlotState::Vm { marked: true }),
+        b"db" => Some(SlotState::Db { marked: false }),
+        b"db!" => Some(SlotState::Db { marked: true }),
         _ => None,
     }
 }

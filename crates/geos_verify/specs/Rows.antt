@@ -9,7 +9,7 @@ use Rattle.geos_image.specs.declared.instr.Instr.{Instr}
 use Rattle.geos_image.specs.declared.row.Row.{Row}
 use Rattle.geos_image.specs.declared.row.Pointer.{Pointer}
 use Rattle.geos_image.specs.declared.row.SlotState.{SlotState}
-use Rattle.geos_image.specs.declared.row.SlotState.TheVariants.{Empty, Mem, Vm, VmMarked, Db, DbMarked}
+use Rattle.geos_image.specs.declared.row.SlotState.TheVariants.{Empty, Mem, Vm, Db}
 use Rattle.geos_opcodes.specs.Facts.{facts, operands_of, uses_of}
 use Rattle.geos_opcodes.specs.declared.facts.Flow.{Flow}
 use Rattle.geos_opcodes.specs.declared.facts.Flow.TheVariants.{Jumps, Returns}
@@ -113,10 +113,8 @@ slot_state row a = slice_index_or row.slots a Empty
 abbrev pub kind_in : SlotState → Option Kind
 kind_in Empty = None
 kind_in Mem = Some MemBlock
-kind_in Vm = Some VmBlock
-kind_in VmMarked = Some VmBlock
-kind_in Db = Some DbGroup
-kind_in DbMarked = Some DbGroup
+kind_in (Vm marked) = Some VmBlock
+kind_in (Db marked) = Some DbGroup
 
 -- one kind, or nothing in both places
 abbrev pub alike : Option Kind → Option Kind → Bool
@@ -132,22 +130,17 @@ are_alike state other = alike (kind_in state) (kind_in other)
 abbrev pub holds_kind : Kind → SlotState → Bool
 holds_kind kind state = alike (kind_in state) (Some kind)
 
--- a slot that holds a block which was just made: such a block of the VM file is marked
-abbrev pub new_state : Kind → SlotState
-new_state MemBlock = Mem
-new_state VmBlock = VmMarked
-new_state DbGroup = DbMarked
+-- a slot that holds a block of the kind, which is known to be marked or is not
+abbrev pub held_state : Kind → Bool → SlotState
+held_state MemBlock marked = Mem
+held_state VmBlock marked = Vm marked
+held_state DbGroup marked = Db marked
 
--- a slot that holds a block which was just locked
-abbrev pub locked_state : Kind → SlotState
-locked_state MemBlock = Mem
-locked_state VmBlock = Vm
-locked_state DbGroup = Db
-
--- the slots after an instruction
+-- the slots after an instruction: of a block that was just made it is known that it is marked, where it
+-- has a mark
 abbrev pub slots_after : Instr → SlotUse → List SlotState → List SlotState
-slots_after i (LocksNew kind) slots = slice_set slots i.a (new_state kind)
-slots_after i (Locks kind) slots = slice_set slots i.a (locked_state kind)
+slots_after i (LocksNew kind) slots = slice_set slots i.a (held_state kind true)
+slots_after i (Locks kind) slots = slice_set slots i.a (held_state kind false)
 slots_after i (Unlocks kind) slots = slice_set slots i.a Empty
 slots_after i _ slots = slots
 
@@ -230,16 +223,16 @@ after image pc row branch = elim (slice_get image.points pc) [
 
 -- Fits
 
+-- a mark that is wanted is known
+abbrev pub mark_fits : Bool → Bool → Bool
+mark_fits marked wanted = marked || not wanted
+
 -- the slot is in the wanted state, or marked where that is not wanted
 abbrev pub slot_fits : SlotState → SlotState → Bool
 slot_fits Empty Empty = true
 slot_fits Mem Mem = true
-slot_fits Vm Vm = true
-slot_fits VmMarked VmMarked = true
-slot_fits VmMarked Vm = true
-slot_fits Db Db = true
-slot_fits DbMarked DbMarked = true
-slot_fits DbMarked Db = true
+slot_fits (Vm marked) (Vm wanted) = mark_fits marked wanted
+slot_fits (Db marked) (Db wanted) = mark_fits marked wanted
 slot_fits _ _ = false
 
 -- nothing is wanted, or the pointer leads into the wanted slot, with at least the wanted

@@ -95,8 +95,8 @@ passes_end i row = reaches_past i (uses_of i.opcode).pointer row
 
 -- the slot holds a block of the VM file that is not known to be marked
 abbrev pub is_unmarked : SlotState → Bool
-is_unmarked Vm = true
-is_unmarked Db = true
+is_unmarked (Vm marked) = not marked
+is_unmarked (Db marked) = not marked
 is_unmarked _ = false
 
 -- what the row says of the slot that a pointer leads into

@@ -29,11 +29,12 @@ pub fn within_bounds(words: &[u16; 8], bounds: &[u16; 8]) -> bool
 pub fn slot_fits(r: SlotState, s: SlotState) -> bool
     ensures { result ≡ slot_fits r s }
 {
-    r == s
-        || match (r, s) {
-            (SlotState::VmMarked, SlotState::Vm) | (SlotState::DbMarked, SlotState::Db) => true,
-            _ => false,
-        }
+    match (r, s) {
+        (SlotState::Empty, SlotState::Empty) | (SlotState::Mem, SlotState::Mem) => true,
+        (SlotState::Vm { marked }, SlotState::Vm { marked: wanted })
+        | (SlotState::Db { marked }, SlotState::Db { marked: wanted }) => marked || !wanted,
+        _ => false,
+    }
 }
 
 fn slots_fit(r: &[SlotState; 4], s: &[SlotState; 4]) -> bool

@@ -83,7 +83,7 @@ fn is_unmarked(state: SlotState) -> bool
     ensures { result ≡ is_unmarked state }
 {
     match state {
-        SlotState::Vm | SlotState::Db => true,
+        SlotState::Vm { marked } | SlotState::Db { marked } => !marked,
         _ => false,
     }
 }

@@ -2,7 +2,7 @@
 
 ghost use Rattle.std.specs.Prelude.{◌≡◌};
 ghost use Rattle.geos_verify.specs.Uses.{same_kind, SlotFits};
-ghost use Rattle.geos_verify.specs.Rows.{slot_state, kind_in, alike, are_alike, holds_kind, new_state, locked_state, slots_after};
+ghost use Rattle.geos_verify.specs.Rows.{slot_state, kind_in, alike, are_alike, holds_kind, held_state, slots_after};
 
 use geos_image::{Instr, Row, SlotState};
 use geos_opcodes::{Kind, SlotUse};
@@ -35,8 +35,8 @@ fn kind_in(state: SlotState) -> Option<Kind>
     match state {
         SlotState::Empty => None,
         SlotState::Mem => Some(Kind::MemBlock),
-        SlotState::Vm | SlotState::VmMarked => Some(Kind::VmBlock),
-        SlotState::Db | SlotState::DbMarked => Some(Kind::DbGroup),
+        SlotState::Vm { .. } => Some(Kind::VmBlock),
+        SlotState::Db { .. } => Some(Kind::DbGroup),
     }
 }
 
@@ -64,25 +64,14 @@ pub(crate) fn holds_kind(kind: Kind, state: SlotState) -> bool
     alike(kind_in(state), Some(kind))
 }
 
-/// A slot that holds a block which was just made.
-fn new_state(kind: Kind) -> SlotState
-    ensures { result ≡ new_state kind }
+/// A slot that holds a block of the kind, which is known to be marked or is not.
+fn held_state(kind: Kind, marked: bool) -> SlotState
+    ensures { result ≡ held_state kind marked }
 {
     match kind {
         Kind::MemBlock => SlotState::Mem,
-        Kind::VmBlock => SlotState::VmMarked,
-        Kind::DbGroup => SlotState::DbMarked,
-    }
-}
-
-/// A slot that holds a block which was just locked.
-fn locked_state(kind: Kind) -> SlotState
-    ensures { result ≡ locked_state kind }
-{
-    match kind {
-        Kind::MemBlock => SlotState::Mem,
-        Kind::VmBlock => SlotState::Vm,
-        Kind::DbGroup => SlotState::Db,
+        Kind::VmBlock => SlotState::Vm { marked },
+        Kind::DbGroup => SlotState::Db { marked },
     }
 }
 
@@ -92,8 +81,8 @@ pub(crate) fn set_slots(i: &Instr, slot: SlotUse, row: &mut Row)
     ensures { row.new ≡ record row.old { slots = slots_after i.now slot row.old.slots } }
 {
     match slot {
-        SlotUse::LocksNew(kind) => row.slots[i.a as usize] = new_state(kind),
-        SlotUse::Locks(kind) => row.slots[i.a as usize] = locked_state(kind),
+        SlotUse::LocksNew(kind) => row.slots[i.a as usize] = held_state(kind, true),
+        SlotUse::Locks(kind) => row.slots[i.a as usize] = held_state(kind, false),
         SlotUse::Unlocks(_) => row.slots[i.a as usize] = SlotState::Empty,
         _ => (),
     }

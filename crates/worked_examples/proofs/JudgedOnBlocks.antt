@@ -3,7 +3,7 @@ use Rattle.std.proofs.Common.{◌≡◌, refl, ℕ, List, [], ◌∷◌, ◌++�
 use Rattle.geos_opcodes.specs.declared.opcode.Opcode.TheVariants.{Mnew, Mlock, Munlock, Sne, Lsize, Ldb, Stw, Ldxw, Ldcw, Movp, Copy, Plen}
 use Rattle.geos_image.specs.declared.row.Row.{Row}
 use Rattle.geos_image.specs.declared.row.SlotState.{SlotState}
-use Rattle.geos_image.specs.declared.row.SlotState.TheVariants.{Empty, Mem, Vm, VmMarked}
+use Rattle.geos_image.specs.declared.row.SlotState.TheVariants.{Empty, Mem, Vm}
 use Rattle.geos_image.specs.Open.{open_row}
 use Rattle.geos_verify.specs.declared.rule.Rule.{Rule}
 use Rattle.geos_verify.specs.declared.rule.Rule.TheVariants.{NamesEmptySlot, StalePointer, PassesEnd, ChangesUnmarked, LocksIntoHeld, WrongSlot, EdgeMisfit}
@@ -55,12 +55,12 @@ pub record JudgedOnBlocks : Type 0 where
   -- LALLOC may have moved the chunk before it was refused
   pub moved_though_refused : judged read_after_refusal ≡ refused_at 7 StalePointer 3
   pub found_though_refused : judged deref_after_refusal ≡ fine 12
-  pub write_unmarked : judged (with_row (p0_into Vm) (instr Stw 0 0 0 0 0)) ≡ refused_at 0 ChangesUnmarked 1
-  pub write_marked : judged (with_row (p0_into VmMarked) (instr Stw 0 0 0 0 0)) ≡ fine 2
+  pub write_unmarked : judged (with_row (p0_into (Vm false)) (instr Stw 0 0 0 0 0)) ≡ refused_at 0 ChangesUnmarked 1
+  pub write_marked : judged (with_row (p0_into (Vm true)) (instr Stw 0 0 0 0 0)) ≡ fine 2
   pub new_into_held : judged (with_row (s0 Mem) (instr Mnew 0 0 0 0 1)) ≡ refused_at 0 LocksIntoHeld 1
   pub lock_into_held : judged (with_row (s0 Mem) (instr Mlock 0 0 0 0 1)) ≡ refused_at 0 LocksIntoHeld 1
   pub unlock_empty : judged (with_row open_row (instr Munlock 0 0 0 0 0)) ≡ refused_at 0 WrongSlot 1
-  pub unlock_other_kind : judged (with_row (s0 Vm) (instr Munlock 0 0 0 0 0)) ≡ refused_at 0 WrongSlot 1
+  pub unlock_other_kind : judged (with_row (s0 (Vm false)) (instr Munlock 0 0 0 0 0)) ≡ refused_at 0 WrongSlot 1
   pub compare_with_empty : judged (with_row (s0 Mem) (instr Sne 0 1 0 0 1)) ≡ refused_at 0 WrongSlot 1
   pub compare_of_one_kind : judged (with_row s0_s1 (instr Sne 0 1 0 0 1)) ≡ fine 2
   pub look_at_empty : judged (with_row (s0 Mem) (instr Lsize 1 0 0 0 1)) ≡ refused_at 0 WrongSlot 1

@@ -3,31 +3,17 @@
 ghost use Rattle.std.specs.Prelude.{◌≡◌, ◌<◌, ◌^◌, IfOk, true};
 ghost use Rattle.std.specs.List.{list_all};
 ghost use Rattle.geos_image.specs.Legal.{is_pointer, is_row};
-ghost use Rattle.geos_image.specs.Reading.{word_at, long_at, slot_of, slot_at, pointer_at, pairs_of, items_at, row_at, potential_at, entry_at};
+ghost use Rattle.geos_image.specs.Reading.{word_at, long_at, slot_at, pointer_at, pairs_of, items_at, row_at, potential_at, entry_at};
 
 use crate::potential::Potential;
 use crate::reader::numbers::{Fault, byte_at, byte_below, long_at, word_at, word_below};
 use crate::row::{Pointer, Row, SlotState};
 
-fn slot_of(code: u8) -> Option<SlotState>
-    ensures { result ≡ slot_of code }
-{
-    match code {
-        0 => Some(SlotState::Empty),
-        1 => Some(SlotState::Mem),
-        2 => Some(SlotState::Vm),
-        3 => Some(SlotState::VmMarked),
-        4 => Some(SlotState::Db),
-        5 => Some(SlotState::DbMarked),
-        _ => None,
-    }
-}
-
 #[tactic(auto, unfolding(crate::specs::Reading::slot_at))]
 fn slot_at(bytes: &[u8], at: usize) -> Result<SlotState, Fault>
     ensures { result ≡ slot_at bytes.now at }
 {
-    slot_of(byte_at(bytes, at)?).ok_or(at)
+    SlotState::from_code(byte_at(bytes, at)?).ok_or(at)
 }
 
 /// The slot byte of a pointer that is stale.
