@@ -1,6 +1,7 @@
 -- Lists of as many elements as a row has, by index.
 use Rattle.std.proofs.Common.{◌≡◌, ℕ, List, [], ◌∷◌, length, get_or, refl, ap, ◌∙◌, arith}
-use Rattle.geos_explain.specs.Lacks.{zip2, lacking_bound}
+use Rattle.geos_verify.specs.Lists.{zip2}
+use Rattle.geos_explain.specs.Lacks.{lacking_bound}
 
 -- an operation at each place of two lists of four
 pub zip2_four : {X : Type 0} (f : X → X → X) (d : X) (xs ys : List X) → length xs ≡ 4 → length ys ≡ 4

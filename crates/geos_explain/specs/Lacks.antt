@@ -1,17 +1,12 @@
 -- What a row lacks to fit another.
-use Rattle.std.specs.Prelude.{ℕ, Bool, ◌&&◌, not, nat_le, if◌then◌else◌, List, [], ◌∷◌, ◌++◌, Option, None, slice_index_or, codes, decimal}
+use Rattle.std.specs.Prelude.{ℕ, Bool, ◌&&◌, not, nat_le, if◌then◌else◌, List, [], ◌++◌, Option, None, slice_index_or, codes, decimal}
 use Rattle.geos_image.specs.declared.row.Row.{Row}
 use Rattle.geos_image.specs.declared.row.Pointer.{Pointer}
 use Rattle.geos_image.specs.declared.row.SlotState.{SlotState}
 use Rattle.geos_image.specs.declared.row.SlotState.TheVariants.{Empty}
 use Rattle.geos_listing.specs.Rows.{texts_below, row_items}
+use Rattle.geos_verify.specs.Lists.{zip2}
 use Rattle.geos_verify.specs.Rows.{slot_fits, pointer_fits, pair_fits, is_empty}
-
--- the operation at each place of two lists
-abbrev pub zip2 : {X : Type 0} → (X → X → X) → List X → List X → List X
-zip2 f [] ys = []
-zip2 f (x ∷ xs) [] = []
-zip2 f (x ∷ xs) (y ∷ ys) = f x y ∷ zip2 f xs ys
 
 -- a bound that is wanted and not kept, else any word's
 abbrev pub lacking_bound : ℕ → ℕ → ℕ

@@ -1,51 +1,18 @@
--- What an edge asks of a potential, and what is said where it is not paid for.
-use Rattle.std.specs.Prelude.{ℕ, ◌+◌, ◌*◌, Bool, ◌&&◌, nat_le, ◌==◌, if◌then◌else◌, List, [], ◌++◌, Option, Some, None, slice_index, slice_set, slice_get, codes, decimal}
+-- What is said where an edge is not paid for.
+use Rattle.std.specs.Prelude.{ℕ, ◌+◌, nat_le, ◌==◌, if◌then◌else◌, List, [], ◌++◌, Option, Some, None, slice_index, slice_get, codes, decimal}
 use Rattle.geos_opcodes.specs.declared.opcode.Opcode.{Opcode}
-use Rattle.geos_opcodes.specs.declared.opcode.Opcode.TheVariants.{Setk, Setkw, Loop, Call, Ret}
-use Rattle.geos_image.specs.declared.instr.Instr.{Instr}
-use Rattle.geos_image.specs.declared.row.Row.{Row}
+use Rattle.geos_opcodes.specs.declared.opcode.Opcode.TheVariants.{Call, Ret}
 use Rattle.geos_image.specs.declared.potential.Potential.{Potential}
 use Rattle.std.specs.Option.{option_map_or}
 use Rattle.geos_image.specs.declared.routine.Routine.{Routine}
-use Rattle.geos_image.specs.Parts.{Parts}
 use Rattle.geos_listing.specs.Rows.{texts_below}
 use Rattle.geos_listing.specs.Instrs.{name_of}
-use Rattle.geos_verify.specs.Lists.{all2}
-use Rattle.geos_verify.specs.Rows.{bound, falls_through, branches}
-use Rattle.geos_verify.specs.Potentials.{budget_of}
-use Rattle.geos_explain.specs.declared.steps.Asked.{Asked}
+use Rattle.geos_verify.specs.Rows.{falls_through, branches}
+use Rattle.geos_verify.specs.declared.asked.Asked.{Asked}
+use Rattle.geos_verify.specs.Potentials.{asked_along, asked_branching, left_with, is_paid}
 use Rattle.geos_explain.specs.Notes.{coefficients_text}
 use Rattle.geos_explain.specs.Numbers.{owed_text, left_text}
 use Rattle.geos_explain.specs.Places.{Place}
-
--- one step more than is left at the end of the edge, and so many besides
-abbrev pub asked_plain : ℕ → Potential → Potential → Asked
-asked_plain more p q = record { owed = q.constant + 1 + more; left = p.constant; coefficients = q.coefficients }
-
--- the same where counter k is set to a number that is at most n
-abbrev pub asked_setting : ℕ → ℕ → Potential → Potential → Asked
-asked_setting k n p q = record { owed = q.constant + 1 + slice_index q.coefficients k * n; left = p.constant; coefficients = slice_set q.coefficients k 0 }
-
--- the same where 1 is taken from counter k, whose coefficient then helps to pay
-abbrev pub asked_taking : ℕ → Potential → Potential → Asked
-asked_taking k p q = record { owed = q.constant + 1; left = p.constant + slice_index p.coefficients k; coefficients = q.coefficients }
-
--- what the edge to the next instruction asks of potential p, where q is the potential there
-abbrev pub asked_along : Parts → Instr → Opcode → Row → Potential → Potential → Asked
-asked_along image i Setk row p q = asked_setting i.a i.imm p q
-asked_along image i Setkw row p q = asked_setting i.a (bound row i.b) p q
-asked_along image i Loop row p q = asked_setting i.a 0 p q
-asked_along image i Call row p q = asked_plain (budget_of image i.imm) p q
-asked_along image i _ row p q = asked_plain 0 p q
-
--- what the edge to the target asks of it
-abbrev pub asked_branching : Instr → Opcode → Potential → Potential → Asked
-asked_branching i Loop p q = asked_taking i.a p q
-asked_branching i _ p q = asked_plain 0 p q
-
--- the steps are left, and each coefficient is
-abbrev pub is_paid : Asked → Potential → Bool
-is_paid asked p = nat_le asked.owed asked.left && all2 nat_le asked.coefficients p.coefficients
 
 -- so many steps are owed, and so many are left
 abbrev pub owed_words : ℕ → ℕ → List ℕ
@@ -54,15 +21,15 @@ owed_words owed left = codes " " ++ owed_text owed ++ codes " from here" ++ left
 -- the same in whole, with what each counter must pay, and pays
 abbrev pub whole_words : Asked → Potential → List ℕ
 whole_words asked p =
-    codes " " ++ decimal asked.owed ++ coefficients_text asked.coefficients ++ codes " steps are owed from here, with "
-    ++ decimal asked.left ++ coefficients_text p.coefficients ++ codes " left"
+    codes " " ++ decimal asked.steps ++ coefficients_text asked.coefficients ++ codes " steps are owed from here, with "
+    ++ decimal (left_with asked.counter p) ++ coefficients_text p.coefficients ++ codes " left"
 
 -- what is asked and not left: steps, or else what counters pay
 abbrev pub asked_words : Asked → Potential → List ℕ
 asked_words asked p =
-    if nat_le asked.owed asked.left
+    if nat_le asked.steps (left_with asked.counter p)
     then whole_words asked p
-    else owed_words asked.owed asked.left
+    else owed_words asked.steps (left_with asked.counter p)
 
 -- what the edge asks, if there is one
 abbrev pub asks_along : Place → Option Asked
@@ -70,7 +37,7 @@ asks_along place =
     if falls_through place.i.opcode
     then elim (slice_get place.image.points (place.pc + 1)) [
       | None ↦ None
-      | Some next ↦ Some (asked_along place.image place.i place.i.opcode place.row place.potential next.potential)
+      | Some next ↦ Some (asked_along place.image place.i place.i.opcode place.row next.potential)
     ]
     else None
 
@@ -80,7 +47,7 @@ asks_branching place =
     if branches place.i.opcode
     then elim (slice_get place.image.points place.i.target) [
       | None ↦ None
-      | Some next ↦ Some (asked_branching place.i place.i.opcode place.potential next.potential)
+      | Some next ↦ Some (asked_branching place.i place.i.opcode next.potential)
     ]
     else None
 

@@ -1,13 +1,13 @@
 //! What a row lacks to fit another.
 
-ghost use Rattle.std.specs.Prelude.{◌≡◌, ◌<◌, ◌++◌, OnOk, nat_le};
-ghost use Rattle.geos_verify.specs.Rows.{pointer_fits, is_empty};
-ghost use Rattle.geos_explain.specs.Lacks.{zip2, lacking_bound, lacking_slot, lacking_pointer, lacking_pair, lacking, held_item, held_items, lacking_items};
+ghost use Rattle.std.specs.Prelude.{◌≡◌, ◌<◌, ◌++◌, OnOk};
+ghost use Rattle.geos_verify.specs.Lists.{zip2};
+ghost use Rattle.geos_explain.specs.Lacks.{lacking_bound, lacking_slot, lacking_pointer, lacking_pair, lacking, held_item, held_items, lacking_items};
 
 use crate::numbers::put_numbered;
 use geos_image::{Pointer, Row, SlotState};
 use geos_listing::put_items;
-use geos_verify::slot_fits;
+use geos_verify::{is_empty, pointer_fits, slot_fits};
 use std::alloc::AllocError;
 
 /// The bound that is wanted where it is not kept, else that of any word.
@@ -56,16 +56,6 @@ fn lacking_slots(known: &[SlotState; 4], wanted: &[SlotState; 4]) -> [SlotState;
         lacking_slot(r2, s2),
         lacking_slot(r3, s3),
     ]
-}
-
-fn pointer_fits(known: Option<Pointer>, wanted: Option<Pointer>) -> bool
-    ensures { result ≡ pointer_fits known wanted }
-{
-    match (known, wanted) {
-        (_, None) => true,
-        (None, Some(_)) => false,
-        (Some(p), Some(q)) => p.slot == q.slot && q.least <= p.least,
-    }
 }
 
 /// The pointer that is wanted where it is not known, else none.
@@ -126,15 +116,6 @@ fn lacking(known: &Row, wanted: &Row) -> Row
         slots: lacking_slots(&known.slots, &wanted.slots),
         pointers: lacking_pointers(&known.pointers, &wanted.pointers),
         pairs: lacking_pairs(&known.pairs, &wanted.pairs),
-    }
-}
-
-fn is_empty(slot: SlotState) -> bool
-    ensures { result ≡ is_empty slot }
-{
-    match slot {
-        SlotState::Empty => true,
-        _ => false,
     }
 }
 

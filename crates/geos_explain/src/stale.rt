@@ -7,10 +7,9 @@ ghost use Rattle.geos_explain.specs.Stale.{if_stale, stale_used, pointer_item, m
 
 use crate::numbers::put_numbered;
 use crate::place::Place;
-use crate::uses::pointer_at;
 use geos_image::{Image, Instr, Point, Row};
 use geos_opcodes::PointerUse;
-use geos_verify::{after, falls_through, uses_at};
+use geos_verify::{after, falls_through, pointer_at, uses_at};
 use std::alloc::AllocError;
 
 /// Whether nothing is known of a pointer.

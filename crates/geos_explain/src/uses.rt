@@ -1,8 +1,6 @@
 //! What is wrong with the slots and pointers that an instruction uses.
 
 ghost use Rattle.std.specs.Prelude.{◌≡◌, ◌<◌, ◌++◌, OnOk, map};
-ghost use Rattle.geos_verify.specs.Rows.{slot_state, pointer_at};
-ghost use Rattle.geos_verify.specs.Rules.{least_at};
 ghost use Rattle.geos_verify.specs.Uses.{PointerFits};
 ghost use Rattle.geos_explain.specs.Uses.{state_item, nowhere_only, leading_nowhere, nowhere_words, wanted_bytes, short_words, past_words, slot_behind, changed_slot, unmarked_words, held_words, kind_wish, slot_wish, other_item, slot_words};
 
@@ -10,26 +8,8 @@ use crate::numbers::put_numbered;
 use geos_image::{Instr, Pointer, Row, SlotState};
 use geos_listing::{put_items, state_word};
 use geos_opcodes::{Kind, PointerUse, SlotUse};
-use geos_verify::{leads_nowhere, reach};
+use geos_verify::{leads_nowhere, least_at, pointer_at, reach, slot_state};
 use std::alloc::AllocError;
-
-fn slot_state(row: &Row, a: u8) -> SlotState
-    ensures { result ≡ slot_state row.now a }
-{
-    match row.slots.get(usize::from(a)) {
-        Some(state) => *state,
-        None => SlotState::Empty,
-    }
-}
-
-pub(crate) fn pointer_at(row: &Row, p: u8) -> Option<Pointer>
-    ensures { result ≡ pointer_at row.now p }
-{
-    match row.pointers.get(usize::from(p)) {
-        Some(pointer) => *pointer,
-        None => None,
-    }
-}
 
 /// A slot, and what the row says that it holds.
 #[tactic(auto, unfolding(crate::specs::Uses::state_item))]
@@ -74,16 +54,6 @@ pub(crate) fn put_nowhere(out: &mut Vec<u8>, row: &Row) -> Result<(), AllocError
 {
     put_items(out, &leading_nowhere(row))?;
     out.extend_from_slice(b" leads into an empty slot")
-}
-
-/// How many bytes the row says that there are behind a pointer, at least.
-fn least_at(row: &Row, p: u8) -> u16
-    ensures { result ≡ least_at row.now p }
-{
-    match pointer_at(row, p) {
-        Some(pointer) => pointer.least,
-        None => 0,
-    }
 }
 
 /// So many bytes are wanted behind a pointer.

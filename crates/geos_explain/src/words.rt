@@ -2,7 +2,6 @@
 
 ghost use Rattle.std.specs.Prelude.{◌≡◌, ◌<◌, ◌≤◌, ◌+◌, ◌++◌, ◌&&◌, OnOk};
 ghost use Rattle.geos_image.specs.Fields.{FieldsFit};
-ghost use Rattle.geos_verify.specs.Rules.{has_place};
 ghost use Rattle.geos_explain.specs.Places.{IsPlace, place_of};
 ghost use Rattle.geos_explain.specs.Words.{leaves_words, entry_words, past_here, unmarked_here, slot_here, callee_words, call_words, call_here, exit_words, wanted_at, wanted_along, wanted_branching, wanted_words, edge_words, budget_words, words, refusal_head, refusal_line};
 
@@ -14,16 +13,8 @@ use crate::stale::put_stale;
 use crate::steps::put_unpaid;
 use crate::uses::{put_held, put_nowhere, put_past, put_slot, put_unmarked};
 use geos_image::{Image, Instr, Opcode, Potential, Routine, Row};
-use geos_verify::{Rule, after, branches, falls_through, uses_at};
+use geos_verify::{Rule, after, branches, falls_through, has_place, uses_at};
 use std::alloc::{AllocError, Global};
-
-/// Whether the pc is one of the routine's, which begins at `start`.
-fn has_place(start: u32, routine: &Routine, pc: u32) -> bool
-    requires { start ≤ 4096 }
-    ensures { result ≡ has_place start routine.now.count pc }
-{
-    start <= pc && pc < start + u32::from(routine.count)
-}
 
 /// Control leaves the routine.
 #[tactic(auto, unfolding(crate::specs::Words::leaves_words))]

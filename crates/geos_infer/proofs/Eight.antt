@@ -1,7 +1,7 @@
 -- Lists of eight numbers, by index.
 use Rattle.std.proofs.Common.{◌≡◌, ℕ, List, [], ◌∷◌, length, get_or, refl, ap, ◌∙◌, arith}
 use Rattle.std.specs.Prelude.{max}
-use Rattle.geos_infer.specs.Joins.{zip2}
+use Rattle.geos_verify.specs.Lists.{zip2}
 
 eight : (xs : List ℕ) → length xs ≡ 8
     → xs ≡ get_or xs 0 0 ∷ get_or xs 1 0 ∷ get_or xs 2 0 ∷ get_or xs 3 0 ∷ get_or xs 4 0 ∷ get_or xs 5 0 ∷ get_or xs 6 0 ∷ get_or xs 7 0 ∷ []

@@ -3,17 +3,11 @@ use Rattle.std.specs.Prelude.{◌≡◌, max, min, Bool, true, false, ◌&&◌, 
 use Rattle.geos_image.specs.declared.row.Row.{Row}
 use Rattle.geos_image.specs.declared.row.Pointer.{Pointer}
 use Rattle.geos_image.specs.declared.row.SlotState.{SlotState}
-use Rattle.geos_verify.specs.Lists.{all2}
+use Rattle.geos_verify.specs.Lists.{all2, zip2}
 use Rattle.geos_verify.specs.Rows.{slot_fits, fits, leads_nowhere}
 use Rattle.geos_verify.specs.Rules.{names_empty_slot}
 
 -- Joins
-
--- the operation at each place of two lists
-abbrev pub zip2 : {X : Type 0} → (X → X → X) → List X → List X → List X
-zip2 f [] ys = []
-zip2 f (x ∷ xs) [] = []
-zip2 f (x ∷ xs) (y ∷ ys) = f x y ∷ zip2 f xs ys
 
 -- the states differ in the mark at most
 abbrev pub slots_agree : SlotState → SlotState → Bool

@@ -2,7 +2,8 @@
 
 ghost use Rattle.std.specs.Prelude.{◌≡◌, max, map, true, length, IfSome, IfNone};
 ghost use Rattle.geos_image.specs.Legal.{is_shaped, is_row};
-ghost use Rattle.geos_infer.specs.Joins.{zip2, slots_agree, slot_join, pointer_join, pair_join, agree, joined, join, without_empty, clean, IsLeastAbove, FitNothing, IsLeastClean};
+ghost use Rattle.geos_verify.specs.Lists.{zip2};
+ghost use Rattle.geos_infer.specs.Joins.{slots_agree, slot_join, pointer_join, pair_join, agree, joined, join, without_empty, clean, IsLeastAbove, FitNothing, IsLeastClean};
 
 use geos_image::{Pointer, Row, SlotState};
 use geos_verify::{leads_nowhere, slot_fits};

@@ -2,7 +2,7 @@
 
 ghost use Rattle.std.specs.Prelude.{◌≡◌, ◌<◌, ◌*◌, ◌^◌, max, length, slice_set};
 ghost use Rattle.geos_image.specs.Fields.{FieldsFit, CalleeFits};
-ghost use Rattle.geos_infer.specs.Joins.{zip2};
+ghost use Rattle.geos_verify.specs.Lists.{zip2};
 ghost use Rattle.geos_infer.specs.Solutions.{call_steps};
 ghost use Rattle.geos_infer.specs.Count.{return_steps, zeros};
 

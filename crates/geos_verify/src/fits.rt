@@ -45,7 +45,9 @@ fn slots_fit(r: &[SlotState; 4], s: &[SlotState; 4]) -> bool
     slot_fits(r0, s0) & slot_fits(r1, s1) & slot_fits(r2, s2) & slot_fits(r3, s3)
 }
 
-fn pointer_fits(p: Option<Pointer>, q: Option<Pointer>) -> bool
+/// Whether a pointer of which p is known is as wanted by q: nothing is, or it leads into the same
+/// slot, with as many bytes.
+pub fn pointer_fits(p: Option<Pointer>, q: Option<Pointer>) -> bool
     ensures { result ≡ pointer_fits p q }
 {
     match (p, q) {
@@ -83,7 +85,7 @@ pub(crate) fn fits(r: &Row, s: &Row) -> bool
 }
 
 /// Whether nothing is held.
-pub(crate) fn is_empty(slot: SlotState) -> bool
+pub fn is_empty(slot: SlotState) -> bool
     ensures { result ≡ is_empty slot }
 {
     match slot {

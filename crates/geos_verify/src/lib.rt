@@ -3,6 +3,7 @@
 //! docs/VERIFIER.md says the rules and what they promise.
 #![tactic(auto)]
 
+mod asked;
 mod bounds;
 mod checked;
 mod edges;
@@ -17,9 +18,15 @@ mod slots;
 mod touched;
 mod uses;
 
+pub use asked::{Asked, asked_along, asked_branching};
 pub use checked::{Checked, check};
 pub use edges::{after, branches, falls_through};
-pub use fits::{leads_nowhere, slot_fits, within_bounds};
-pub use misuse::reach;
+pub use fits::{is_empty, leads_nowhere, pointer_fits, slot_fits, within_bounds};
+pub use misuse::{least_at, reach};
+pub use pointers::pointer_at;
+pub use potentials::are_spent;
+pub use refusal::has_place;
 pub use rule::{Reject, Rule};
+pub use slots::slot_state;
+pub use touched::{Touched, touched_in};
 pub use uses::uses_at;

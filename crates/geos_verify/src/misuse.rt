@@ -52,8 +52,7 @@ pub fn reach(i: &Instr, width: Width, offset: Offset, row: &Row) -> u32
 }
 
 /// How many bytes the row says that there are behind a pointer, at least.
-fn least_at(row: &Row, p: u8) -> u16
-    requires { p < 4 }
+pub fn least_at(row: &Row, p: u8) -> u16
     ensures { result ≡ least_at row.now p }
 {
     match pointer_at(row, p) {
@@ -90,7 +89,6 @@ fn is_unmarked(state: SlotState) -> bool
 
 /// What the row says of the slot that a pointer leads into.
 fn pointed_state(row: &Row, p: u8) -> SlotState
-    requires { p < 4 }
     ensures { result ≡ pointed_state row.now p }
 {
     match pointer_at(row, p) {

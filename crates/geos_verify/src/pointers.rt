@@ -9,12 +9,14 @@ use crate::slots::{are_alike, slot_state};
 use geos_image::{Instr, Pointer, Row};
 use geos_opcodes::{PointerUse, SlotUse};
 
-/// What the row says of a pointer.
-pub(crate) fn pointer_at(row: &Row, p: u8) -> Option<Pointer>
-    requires { p < 4 }
+/// What the row says of a pointer; of one that there is not, nothing is known.
+pub fn pointer_at(row: &Row, p: u8) -> Option<Pointer>
     ensures { result ≡ pointer_at row.now p }
 {
-    row.pointers[p as usize]
+    match row.pointers.get(usize::from(p)) {
+        Some(pointer) => *pointer,
+        None => None,
+    }
 }
 
 /// Whether slot b may hold the block that slot a holds.

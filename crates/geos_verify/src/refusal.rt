@@ -20,7 +20,8 @@ use crate::uses::uses_at;
 use geos_image::{Image, Instr, Opcode, Potential, Routine, Row};
 use geos_opcodes::Uses;
 
-fn has_place(start: u32, routine: &Routine, pc: u32) -> bool
+/// Whether the pc is one of the routine's, which begins at `start`.
+pub fn has_place(start: u32, routine: &Routine, pc: u32) -> bool
     requires { start ≤ 4096 }
     ensures { result ≡ has_place start routine.now.count pc }
 {
@@ -135,7 +136,8 @@ fn unpaid_along(
     potential: &Potential,
 ) -> bool
     requires fields { FieldsFit i.now.opcode i.now }
-    requires callee { calls i.now.opcode ≡ true → i.now.imm < r }
+    requires callee { CalleeFits (length image.now.routines) i.now }
+    requires lower { calls i.now.opcode ≡ true → i.now.imm < r }
     requires routine { r < length image.now.routines }
     requires table { NotesBelow image.now touched.now r }
     requires next { pc + 1 < length image.now.points }
@@ -174,7 +176,8 @@ fn edge_unpaid(
     potential: &Potential,
 ) -> bool
     requires fields { FieldsFit i.now.opcode i.now }
-    requires callee { calls i.now.opcode ≡ true → i.now.imm < r }
+    requires callee { CalleeFits (length image.now.routines) i.now }
+    requires lower { calls i.now.opcode ≡ true → i.now.imm < r }
     requires routine { r < length image.now.routines }
     requires table { NotesBelow image.now touched.now r }
     requires pc { pc < 4096 }

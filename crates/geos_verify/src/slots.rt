@@ -8,7 +8,7 @@ use geos_image::{Instr, Row, SlotState};
 use geos_opcodes::{Kind, SlotUse};
 
 /// What the row says of a slot; one that there is not is empty.
-pub(crate) fn slot_state(row: &Row, a: u8) -> SlotState
+pub fn slot_state(row: &Row, a: u8) -> SlotState
     ensures { result ≡ slot_state row.now a }
 {
     match row.slots.get(usize::from(a)) {

@@ -8,7 +8,7 @@ use geos_image::{Image, Instr, Opcode, Point};
 use geos_opcodes::CounterUse;
 
 /// For each routine, which of the counters k0 to k3 it touches.
-pub(crate) type Touched = [[bool; 4]; 32];
+pub type Touched = [[bool; 4]; 32];
 
 /// Whether the instruction calls a routine.
 pub(crate) fn calls(opcode: Opcode) -> bool
@@ -82,8 +82,9 @@ fn points_of(image: &Image, r: u16) -> &[Point]
     &image.points()[start..][..usize::from(image.routine(r).count)]
 }
 
-/// Which counters a routine touches, where the table says it of those that it calls.
-pub(crate) fn touched_in(image: &Image, r: u16, table: &Touched) -> [bool; 4]
+/// Which counters a routine touches, where the table says it of those that it calls: the ones
+/// that its SETK, SETKW and LOOP name, and those that the routines touch that it calls.
+pub fn touched_in(image: &Image, r: u16, table: &Touched) -> [bool; 4]
     requires { r < length image.now.routines }
     ensures { result ≡ noted_by image.now table.now r }
 {

@@ -1,0 +1,133 @@
+//! What an edge asks of the potential before it.
+
+ghost use Rattle.std.specs.Prelude.{◌≡◌, ◌<◌, ◌*◌, ◌^◌, length, nat_le};
+ghost use Rattle.geos_image.specs.Fields.{FieldsFit, CalleeFits};
+ghost use Rattle.geos_verify.specs.Lists.{all2};
+ghost use Rattle.geos_verify.specs.Potentials.{asks, asks_setting, asks_taking, asks_calling, asked_along, asked_branching, left_with, is_paid};
+
+use geos_image::{Image, Instr, Opcode, Potential, Row};
+
+/// What an edge asks of the potential before it (docs/VERIFIER.md, paid edges).
+#[derive(Clone, Copy, Debug, PartialEq, Eq)]
+pub struct Asked {
+    /// The steps that must be left.
+    pub steps: u64,
+    /// The counter from which 1 is taken, if one is: its coefficient helps to pay for the steps.
+    pub counter: Option<u8>,
+    /// The coefficients that must be left, at least.
+    pub coefficients: [u32; 4],
+}
+
+/// Whether each coefficient that is asked is left.
+fn coefficients_pay(asked: &[u32; 4], left: &[u32; 4]) -> bool
+    ensures { result ≡ all2 nat_le asked.now left.now }
+{
+    (asked[0] <= left[0]) & (asked[1] <= left[1]) & (asked[2] <= left[2]) & (asked[3] <= left[3])
+}
+
+impl Asked {
+    /// What the potential has to pay for the steps with: its constant, and the coefficient of the
+    /// counter that helps.
+    pub fn left(&self, p: &Potential) -> u64
+        ensures { result ≡ left_with self.now.counter p.now }
+    {
+        let helps = match self.counter {
+            Some(k) => match p.coefficients.get(usize::from(k)) {
+                Some(coefficient) => *coefficient,
+                None => 0,
+            },
+            None => 0,
+        };
+        u64::from(p.constant) + u64::from(helps)
+    }
+
+    /// Whether the potential pays for the edge.
+    pub fn is_paid(&self, p: &Potential) -> bool
+        ensures { result ≡ is_paid self.now p.now }
+    {
+        self.steps <= self.left(p) && coefficients_pay(&self.coefficients, &p.coefficients)
+    }
+}
+
+/// What a coefficient costs where its counter is set to n.
+fn price(coefficient: u32, n: u16) -> u64
+    ensures value { result ≡ coefficient * n }
+    ensures small { result < 2 ^ 48 }
+{
+    u64::from(coefficient) * u64::from(n)
+}
+
+/// One step, and what is left at the end of the edge.
+fn asks(q: &Potential) -> Asked
+    ensures { result ≡ asks q.now }
+{
+    Asked {
+        steps: u64::from(q.constant) + 1,
+        counter: None,
+        coefficients: q.coefficients,
+    }
+}
+
+/// The same where counter k is set to at most n; its own coefficient may be anything.
+fn asks_setting(k: u8, n: u16, q: &Potential) -> Asked
+    requires { k < 4 }
+    ensures { result ≡ asks_setting k n q.now }
+{
+    let price = price(q.coefficients[k as usize], n);
+    let mut coefficients = q.coefficients;
+    coefficients[k as usize] = 0;
+    Asked {
+        steps: u64::from(q.constant) + 1 + price,
+        counter: None,
+        coefficients,
+    }
+}
+
+/// The same where 1 is taken from counter k.
+fn asks_taking(k: u8, q: &Potential) -> Asked
+    ensures { result ≡ asks_taking k q.now }
+{
+    Asked {
+        steps: u64::from(q.constant) + 1,
+        counter: Some(k),
+        coefficients: q.coefficients,
+    }
+}
+
+/// The same where a routine with this budget is called.
+fn asks_calling(budget: u32, q: &Potential) -> Asked
+    ensures { result ≡ asks_calling budget q.now }
+{
+    Asked {
+        steps: u64::from(q.constant) + 1 + u64::from(budget),
+        counter: None,
+        coefficients: q.coefficients,
+    }
+}
+
+/// What the edge to the next instruction asks, where `row` is known before it and q is the
+/// potential there. A call also wants no coefficient there on a counter that the routine touches.
+pub fn asked_along(image: &Image, i: &Instr, row: &Row, q: &Potential) -> Asked
+    requires fields { FieldsFit i.now.opcode i.now }
+    requires callee { CalleeFits (length image.now.routines) i.now }
+    ensures { result ≡ asked_along image.now i.now i.now.opcode row.now q.now }
+{
+    match i.opcode {
+        Opcode::Setk => asks_setting(i.a, i.imm, q),
+        Opcode::Setkw => asks_setting(i.a, row.bounds[i.b as usize], q),
+        Opcode::Loop => asks_setting(i.a, 0, q),
+        Opcode::Call => asks_calling(image.routine(i.imm).budget, q),
+        _ => asks(q),
+    }
+}
+
+/// What the edge to the target asks, where q is the potential there.
+pub fn asked_branching(i: &Instr, q: &Potential) -> Asked
+    requires { FieldsFit i.now.opcode i.now }
+    ensures { result ≡ asked_branching i.now i.now.opcode q.now }
+{
+    match i.opcode {
+        Opcode::Loop => asks_taking(i.a, q),
+        _ => asks(q),
+    }
+}
