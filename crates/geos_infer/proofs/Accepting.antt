@@ -1,5 +1,5 @@
 -- The points that are found are accepted, where some with the same code are.
-use Rattle.std.proofs.Common.{◌≡◌, ℕ, zero, suc, ◌+◌, ◌*◌, ◌≤◌, Bool, true, false, not, List, [], ◌∷◌, Option, Some, None, slice_get, get_or, set, refl, sym, ap, ◌∙◌, subst, arith}
+use Rattle.std.proofs.Common.{◌≡◌, ℕ, zero, suc, ◌+◌, ◌*◌, ◌≤◌, Bool, true, false, not, List, [], ◌∷◌, length, Option, Some, None, slice_get, get_or, set, refl, sym, ap, ◌∙◌, subst, arith}
 use Rattle.std.specs.Prelude.{◌&&◌, ◌||◌, ◌==◌, nat_le, nat_lt, if◌then◌else◌}
 use Rattle.std.specs.List.{list_any}
 use Rattle.std.proofs.lemmas.Bool.{and_parts, or_parts, leb-true, le-leb, eqb-true, not-false}
@@ -15,13 +15,14 @@ use Rattle.geos_image.specs.Parts.{Parts}
 use Rattle.geos_verify.specs.Lists.{all2}
 use Rattle.geos_verify.specs.Rows.{falls_through, branches, at_point, bound, fits, is_plain, row_along, row_branching}
 use Rattle.geos_verify.specs.Touched.{calls, touches}
-use Rattle.geos_verify.specs.Potentials.{pays, pays_setting, pays_taking, pays_calling, budget_of, pays_along, pays_branching, is_within}
+use Rattle.geos_verify.specs.Potentials.{pays, pays_setting, pays_taking, pays_calling, budget_of, are_spent, pays_along, pays_branching, is_within}
 use Rattle.geos_verify.specs.Rules.{returns, leaves_routine, names_empty_slot, entry_misfits, call_misfits, misfits_at, edge_misfits, unpaid_along, unpaid_branching, edge_unpaid, over_budget, tests, refusal}
 use Rattle.geos_verify.proofs.Passed.{Passed, none-refuses}
 use Rattle.geos_infer.specs.Solutions.{call_steps}
-use Rattle.geos_infer.specs.Count.{zeros}
+use Rattle.geos_infer.specs.Numbers.{zeros}
 use Rattle.geos_infer.specs.Points.{potential_of}
 use Rattle.geos_infer.proofs.Pairwise.{both}
+use Rattle.geos_infer.proofs.Asks.{zero-at, set-zero, called}
 use Rattle.geos_infer.proofs.Passing.{neither, not-both, second-false, true-not, MayStand, may_stand-mono}
 
 -- Tests
@@ -31,20 +32,6 @@ all-pass [] p = refl
 all-pass (test ∷ tests) p = rw p.0 (all-pass tests p.1)
 
 -- Potentials that are the same whatever the counters are
-
-zero-at : (k : ℕ) → get_or zeros k 0 ≡ 0
-zero-at zero = refl
-zero-at (suc zero) = refl
-zero-at (suc (suc zero)) = refl
-zero-at (suc (suc (suc zero))) = refl
-zero-at (suc (suc (suc (suc k)))) = refl
-
-set-zero : (k : ℕ) → set zeros k 0 ≡ zeros
-set-zero zero = refl
-set-zero (suc zero) = refl
-set-zero (suc (suc zero)) = refl
-set-zero (suc (suc (suc zero))) = refl
-set-zero (suc (suc (suc (suc k)))) = refl
 
 pays-zero : (m n : ℕ) → n + 1 ≤ m → pays (potential_of m) (potential_of n) ≡ true
 pays-zero m n h = both (nat_le (n + 1) m) true (le-leb (n + 1) m h) refl
@@ -67,13 +54,18 @@ or-true false = refl
 spent-zero : (a b c d : Bool) → all2 (λ is_touched k. not is_touched || k == 0) (a ∷ b ∷ c ∷ d ∷ []) zeros ≡ true
 spent-zero a b c d = rw (or-true (not a), or-true (not b), or-true (not c), or-true (not d)) refl
 
+-- the same of four counters
+pub spent-zeros : (touched : List Bool) (q : Potential) → length touched ≡ 4 → q.coefficients ≡ zeros → are_spent touched q ≡ true
+spent-zeros (a ∷ b ∷ c ∷ d ∷ []) q len e = ap (λ (k : List ℕ). all2 (λ is_touched k. not is_touched || k == 0) (a ∷ b ∷ c ∷ d ∷ []) k) e ∙ spent-zero a b c d
+spent-zeros [] q len e = absurd (omega arith)
+spent-zeros (a ∷ []) q len e = absurd (omega arith)
+spent-zeros (a ∷ b ∷ []) q len e = absurd (omega arith)
+spent-zeros (a ∷ b ∷ c ∷ []) q len e = absurd (omega arith)
+spent-zeros (a ∷ b ∷ c ∷ d ∷ x ∷ rest) q len e = absurd (omega arith)
+
 calling-zero : (budget m n : ℕ) (a b c d : Bool) → n + 1 + budget ≤ m → pays_calling budget (a ∷ b ∷ c ∷ d ∷ []) (potential_of m) (potential_of n) ≡ true
 calling-zero budget m n a b c d h =
     both (nat_le (n + 1 + budget) m && true) (all2 (λ is_touched k. not is_touched || k == 0) (a ∷ b ∷ c ∷ d ∷ []) zeros) (both (nat_le (n + 1 + budget) m) true (le-leb (n + 1 + budget) m h) refl) (spent-zero a b c d)
-
--- what a call takes, by the opcode
-abbrev called : Parts → Instr → Opcode → ℕ
-called image i opcode = if calls opcode then budget_of image i.imm else 0
 
 along-zero : (image : Parts) (i : Instr) (opcode : Opcode) (row : Row) (m n : ℕ) → n + 1 + called image i opcode ≤ m → pays_along image i opcode row (potential_of m) (potential_of n) ≡ true
 along-zero image i Setk row m n h = setting-zero i.a i.imm m n (omega arith)

@@ -1,17 +1,23 @@
 -- What is counted from behind holds, and is least.
-use Rattle.std.proofs.Common.{◌≡◌, ◌≢◌, ℕ, ◌+◌, ◌<◌, ◌≤◌, Bool, true, false, List, [], length, Some, slice_get, get_or, set, refl, sym, ap, ◌∙◌, subst, arith, inl, inr}
+use Rattle.std.proofs.Common.{◌≡◌, ◌≢◌, ℕ, ◌+◌, ◌<◌, ◌≤◌, Bool, true, false, List, [], length, Option, Some, None, slice_get, get_or, set, refl, sym, ap, ◌∙◌, subst, arith, inl, inr}
 use Rattle.std.specs.Prelude.{◌&&◌, nat_lt, max, IfSome}
 use Rattle.std.proofs.lemmas.Bool.{and_parts, ltb-true, lt-ltb, cases_eq}
 use Rattle.std.proofs.lemmas.List.{get_or-set_same, get_or-set_other, length-set}
 use Rattle.std.proofs.lemmas.Option.{slice_get_within}
 use Rattle.geos_image.specs.declared.instr.Instr.{Instr}
-use Rattle.geos_image.specs.Parts.{Parts}
+use Rattle.geos_image.specs.declared.potential.Potential.{Potential}
+use Rattle.geos_image.specs.declared.point.Point.{Point}
+use Rattle.geos_image.specs.Parts.{Parts, start_of}
+use Rattle.geos_image.specs.Legal.{is_image}
+use Rattle.geos_image.proofs.Instrs.{image_parts}
+use Rattle.geos_image.proofs.Starts.{start_of-all}
 use Rattle.geos_verify.specs.Rules.{returns}
 use Rattle.geos_verify.proofs.Places.{item_at, if_some}
 use Rattle.geos_infer.specs.Code.{Edge, Forward, Spans, instrs_of, has_edge, edge_end}
 use Rattle.geos_infer.specs.Solutions.{StepsHold, call_steps, most_steps}
-use Rattle.geos_infer.specs.Flow.{leads_ahead}
-use Rattle.geos_infer.specs.Count.{edge_steps, return_steps, steps_at, Counting, zeros, ZerosFrom}
+use Rattle.geos_infer.specs.Edges.{leads_ahead}
+use Rattle.geos_infer.specs.Numbers.{Numbers, zeros}
+use Rattle.geos_infer.specs.Count.{edge_steps, return_steps, steps_at, Counting, ZerosFrom, HasSteps, Counted, CountsOn}
 use Rattle.geos_infer.proofs.Pairwise.{both}
 use Rattle.geos_infer.proofs.Ends.{code-at, code-length}
 
@@ -96,7 +102,7 @@ module _ (image : Parts) (forward : Forward image) (want steps : List ℕ) (hold
       let others : (k : ℕ) → k ≢ pc → get_or (set steps pc (steps_at image limit pc i steps)) k 0 ≡ get_or steps k 0 =
       (λ k ne. get_or-set_other steps pc k (steps_at image limit pc i steps) 0 ne) in
       record {
-        len = length-set steps pc (steps_at image limit pc i steps) ∙ C.len;
+        len = (let same = length-set steps pc (steps_at image limit pc i steps) in let len = C.len in omega arith);
         below = λ k from end. elim (cases_eq k pc) [
           | inl same ↦ let P : ℕ → Type 0 = λ n. get_or (set steps pc (steps_at image limit pc i steps)) n 0 ≤ get_or want n 0 in subst P (sym same) (rw here at-below)
           | inr ne ↦ rw (others k ne) (C.below k (omega arith) end)
@@ -120,7 +126,7 @@ module _ (image : Parts) (forward : Forward image) (want steps : List ℕ) (hold
         ];
       }
 
-pub counts-none : (image : Parts) (want steps : List ℕ) (n : ℕ) → length steps ≡ length (instrs_of image) → n ≡ length (instrs_of image) → Counting image want steps n
+pub counts-none : (image : Parts) (want steps : List ℕ) (n : ℕ) → length (instrs_of image) ≤ length steps → n ≡ length (instrs_of image) → Counting image want steps n
 counts-none image want steps n len end = record {
   len = len;
   below = λ k from lt. absurd (omega arith);
@@ -151,8 +157,53 @@ counted image forward want steps holds r start limit pc more value spans small f
     (subst (λ v. Counting image want (set steps pc v) pc) (sym value_is) next, omega arith)
 
 -- coefficients are 0 from one more place on
-pub zeros-more : (pc more : ℕ) (coefficients : List (List ℕ)) → more ≡ pc + 1 → pc < length coefficients → ZerosFrom more coefficients → ZerosFrom pc (set coefficients pc zeros)
-zeros-more pc more coefficients more_is lt none k from within = elim (cases_eq k pc) [
-  | inl same ↦ ap (λ j. get_or (set coefficients pc zeros) j []) same ∙ get_or-set_same coefficients pc zeros [] lt
-  | inr other ↦ get_or-set_other coefficients pc k zeros [] other ∙ none k (omega arith) (let len = length-set coefficients pc zeros in omega arith)
-]
+pub zeros-more : (image : Parts) (pc more : ℕ) (coefficients : List (List ℕ)) → more ≡ pc + 1 → pc < length image.points → ZerosFrom image more coefficients → ZerosFrom image pc (set coefficients pc zeros)
+zeros-more image pc more coefficients more_is lt none = record {
+  len = (let same = length-set coefficients pc zeros in let len = none.len in omega arith);
+  each = λ k from within. elim (cases_eq k pc) [
+    | inl same ↦ ap (λ j. get_or (set coefficients pc zeros) j []) same ∙ get_or-set_same coefficients pc zeros [] (let len = none.len in omega arith)
+    | inr other ↦ get_or-set_other coefficients pc k zeros [] other ∙ none.each k (omega arith) within
+  ];
+}
+
+-- what a sweep over routine r says of the image, where its body is of that routine
+pub counts-in : (image here : Parts) (number r next : ℕ) (old new : Numbers) (done : Bool) → here ≡ image → number ≡ r → next ≡ r + 1 → CountsOn here number old new done
+    → (want : List ℕ) → Forward image → StepsHold image want → Counted image want old (start_of image.routines next) → (done ≡ true) × Counted image want new (start_of image.routines r)
+counts-in image here number r next old new done same_image same_number next_is counts want forward holds before =
+    let counts_here : CountsOn image r old new done = subst (λ (x : Parts). CountsOn x r old new done) same_image (subst (λ (n : ℕ). CountsOn here n old new done) same_number counts) in
+    counts_here want forward holds (subst (λ (n : ℕ). Counted image want old (start_of image.routines n)) next_is before)
+
+-- nothing is counted behind the last instruction
+pub counts-begin : (image : Parts) → is_image image ≡ true → (want : List ℕ) (numbers : Numbers) → length numbers.steps ≡ 4096 → length numbers.coefficients ≡ 4096 → Counted image want numbers (start_of image.routines (length image.routines))
+counts-begin image legal want numbers steps_len coefficients_len =
+    let parts = image_parts image legal in
+    let short = parts.short in
+    let code = code-length image in
+    let end : start_of image.routines (length image.routines) ≡ length image.points = start_of-all image.routines (length image.routines) (omega arith) ∙ parts.counts in
+    record {
+      steps = counts-none image want numbers.steps (start_of image.routines (length image.routines)) (omega arith) (end ∙ sym code);
+      zero = record { len = omega arith; each = λ k from within. absurd (omega arith) };
+    }
+
+-- one more instruction is counted
+pub counted-more : (image : Parts) → Forward image → (want : List ℕ) → StepsHold image want → (numbers : Numbers) (r start limit pc more : ℕ) (found : Potential) → Spans image.routines r start limit → limit ≤ length image.points → start ≤ pc → pc < limit
+    → more ≡ pc + 1 → IfSome (slice_get image.points pc) (λ point. HasSteps (steps_at image limit pc point.instr numbers.steps) (Some found)) → Counted image want numbers more
+    → Counted image want (record { steps = set numbers.steps pc found.constant; coefficients = set numbers.coefficients pc found.coefficients }) pc
+counted-more image forward want holds numbers r start limit pc more found spans small from lt more_is there C =
+    let point = item_at image.points pc (omega arith) in
+    let here = if_some (λ point. HasSteps (steps_at image limit pc point.instr numbers.steps) (Some found)) (slice_get image.points pc) point.0 point.1 there in
+    let P : Option Point → Type 0 = λ o. IfSome o (λ point. found.constant ≡ steps_at image limit pc point.instr numbers.steps) in
+    let next = counted image forward want numbers.steps holds r start limit pc more found.constant spans small from lt more_is (subst P (sym point.1) here.0) C.steps in
+    let zero = zeros-more image pc more numbers.coefficients more_is (omega arith) C.zero in
+    record { steps = next.0; zero = subst (λ (v : List ℕ). ZerosFrom image pc (set numbers.coefficients pc v)) (sym here.1) zero }
+
+-- there are not too many steps
+pub counted-few : (image : Parts) → Forward image → (want : List ℕ) → StepsHold image want → (numbers : Numbers) (r start limit pc more : ℕ) → Spans image.routines r start limit → limit ≤ length image.points → start ≤ pc → pc < limit
+    → more ≡ pc + 1 → IfSome (slice_get image.points pc) (λ point. HasSteps (steps_at image limit pc point.instr numbers.steps) None) → Counted image want numbers more → ⊥
+counted-few image forward want holds numbers r start limit pc more spans small from lt more_is there C =
+    let point = item_at image.points pc (omega arith) in
+    let past = if_some (λ point. HasSteps (steps_at image limit pc point.instr numbers.steps) None) (slice_get image.points pc) point.0 point.1 there in
+    let P : Option Point → Type 0 = λ o. IfSome o (λ x. steps_at image limit pc point.0.instr numbers.steps ≡ steps_at image limit pc x.instr numbers.steps) in
+    let next = counted image forward want numbers.steps holds r start limit pc more (steps_at image limit pc point.0.instr numbers.steps) spans small from lt more_is (subst P (sym point.1) refl) C.steps in
+    let most = next.1 in
+    absurd (omega arith)

@@ -19,7 +19,8 @@ use Rattle.geos_infer.specs.Joins.{clean}
 use Rattle.geos_infer.specs.Code.{Edge, Forward, SameCode, instrs_of, instr_of, has_edge, edge_end, edge_row}
 use Rattle.geos_infer.specs.Solutions.{RowsHold, StepsHold, call_steps}
 use Rattle.geos_infer.specs.Flow.{row_of, known_at, KnownAt, edge_number, Flowing}
-use Rattle.geos_infer.specs.Count.{Counting, ZerosFrom}
+use Rattle.geos_infer.specs.Numbers.{Numbers}
+use Rattle.geos_infer.specs.Count.{Counting, ZerosFrom, AreCounted}
 use Rattle.geos_infer.specs.Points.{potential_of, PointsOf, RoutinesOf}
 use Rattle.geos_infer.specs.Theorem.{HasAccepted, FindsWhatThereIs, with_points}
 use Rattle.geos_infer.proofs.Pairwise.{both}
@@ -77,14 +78,13 @@ pub record Plain (image : Parts) (known : List (Option Row)) (steps : List ℕ) 
   pub len : length points ≡ length image.points
   pub each : (pc : ℕ) (old : Point) → slice_get image.points pc ≡ Some old → slice_get points pc ≡ Some (found_point known steps pc old.instr)
 
-plain : (image : Parts) (known : List (Option Row)) (steps : List ℕ) (coefficients : List (List ℕ)) (points : List Point) → length coefficients ≡ length image.points → ZerosFrom 0 coefficients
-    → PointsOf image known steps coefficients points → Plain image known steps points
-plain image known steps coefficients points len none P = record {
+plain : (image : Parts) (known : List (Option Row)) (numbers : Numbers) (points : List Point) → ZerosFrom image 0 numbers.coefficients → PointsOf image known numbers points → Plain image known numbers.steps points
+plain image known numbers points none P = record {
   len = P.len;
   each = λ pc old read.
       let lt = slice_get_within image.points pc old read in
-      let is = none pc (omega arith) (omega arith) in
-      subst (λ (k : List ℕ). slice_get points pc ≡ Some (record { instr = old.instr; row = row_of (known_at known pc); potential = record { constant = get_or steps pc 0; coefficients = k } })) is (P.each pc old read);
+      let is = none.each pc (omega arith) lt in
+      subst (λ (k : List ℕ). slice_get points pc ≡ Some (record { instr = old.instr; row = row_of (known_at known pc); potential = record { constant = get_or numbers.steps pc 0; coefficients = k } })) is (P.each pc old read);
 }
 
 module _ (image : Parts) (legal : is_image image ≡ true) (forward : Forward image) (o : Parts) (A : Alike image o) (known : List (Option Row)) (steps : List ℕ) (points : List Point)
@@ -94,7 +94,7 @@ module _ (image : Parts) (legal : is_image image ≡ true) (forward : Forward im
   reached pc i read =
       let len = code-length image in
       let lt = slice_get_within (instrs_of image) pc i read in
-      all-reached image forward (map row_at o.points) known (2 * length image.points) F (length image.points) (omega arith) pc (omega arith) (let known_len = F.len in omega arith)
+      all-reached image forward (map row_at o.points) known (2 * length image.points) F (length image.points) (omega arith) (omega arith) pc (omega arith)
 
   found-at : (pc : ℕ) (old : Point) → slice_get image.points pc ≡ Some old → slice_get points pc ≡ Some (found_point known steps pc old.instr)
   found-at pc old read = P.each pc old read
@@ -179,8 +179,8 @@ module _ (image : Parts) (legal : is_image image ≡ true) (forward : Forward im
       (beside r pc routine old.0 other.0 has.there old.1 other.1))
 
 -- the format allows what is found
-pub found-legal : (image : Parts) (known : List (Option Row)) (steps : List ℕ) (coefficients : List (List ℕ)) (points : List Point) → is_image image ≡ true → PointsOf image known steps coefficients points → is_image (with_points image points) ≡ true
-found-legal image known steps coefficients points legal P =
+pub found-legal : (image : Parts) (known : List (Option Row)) (numbers : Numbers) (points : List Point) → is_image image ≡ true → PointsOf image known numbers points → is_image (with_points image points) ≡ true
+found-legal image known numbers points legal P =
     let parts = image_parts image legal in
     let len = P.len in
     let r = length image.routines in
@@ -200,7 +200,7 @@ found-legal image known steps coefficients points legal P =
         let lt = slice_get_within points k point at in
         let points_len = P.len in
         let old = item_at image.points k (omega arith) in
-        let made : Point = record { instr = old.0.instr; row = row_of (known_at known k); potential = record { constant = get_or steps k 0; coefficients = get_or coefficients k [] } } in
+        let made : Point = record { instr = old.0.instr; row = row_of (known_at known k); potential = record { constant = get_or numbers.steps k 0; coefficients = get_or numbers.coefficients k [] } } in
         let is : made ≡ point = same_Some made point (sym (P.each k old.0 old.1) ∙ at) in
         let old_legal = list_all-get (is_point (length image.routines) (length image.points)) image.points k old.0 (image_parts image legal).points old.1 in
         let instr = (and_parts (is_instr (length image.routines) (length image.points) old.0.instr) (is_row old.0.row) old_legal).0 in
@@ -209,8 +209,8 @@ found-legal image known steps coefficients points legal P =
         (both (is_instr (length image.routines) (length points) old.0.instr) (is_row (row_of (known_at known k))) here (P.legal k old.0 old.1))
 
 -- the code of the image stays
-pub found-code : (image : Parts) (known : List (Option Row)) (steps : List ℕ) (coefficients : List (List ℕ)) (points : List Point) → PointsOf image known steps coefficients points → instrs_of (with_points image points) ≡ instrs_of image
-found-code image known steps coefficients points P = same-lists (map instr_of points) (map instr_of image.points) (length-map points instr_of ∙ P.len ∙ sym (length-map image.points instr_of)) each
+pub found-code : (image : Parts) (known : List (Option Row)) (numbers : Numbers) (points : List Point) → PointsOf image known numbers points → instrs_of (with_points image points) ≡ instrs_of image
+found-code image known numbers points P = same-lists (map instr_of points) (map instr_of image.points) (length-map points instr_of ∙ P.len ∙ sym (length-map image.points instr_of)) each
   where
     each : (k : ℕ) (i : Instr) → slice_get (map instr_of image.points) k ≡ Some i → slice_get (map instr_of points) k ≡ Some i
     each k i e =
@@ -218,16 +218,15 @@ found-code image known steps coefficients points P = same-lists (map instr_of po
         slice_get-map instr_of points k ∙ ap (option_map instr_of) (P.each k old.0 old.1) ∙ ap (λ (x : Instr). Some x) old.2
 
 -- where an image with that code is accepted, what is found is
-pub found-checked : (image : Parts) → is_image image ≡ true → (known : List (Option Row)) (steps : List ℕ) (coefficients : List (List ℕ)) (points : List Point) → length coefficients ≡ length image.points
+pub found-checked : (image : Parts) → is_image image ≡ true → (known : List (Option Row)) (numbers : Numbers) (points : List Point)
     → ((want : List Row) → Forward image → RowsHold image want → Flowing image want known (2 * length image.points))
-    → ((want : List ℕ) → Forward image → StepsHold image want → Counting image want steps 0 × ZerosFrom 0 coefficients)
-    → PointsOf image known steps coefficients points → FindsWhatThereIs image (with_points image points)
-found-checked image legal known steps coefficients points len rows counts P = λ forward has.
+    → AreCounted image numbers → PointsOf image known numbers points → FindsWhatThereIs image (with_points image points)
+found-checked image legal known numbers points rows counts P = λ forward has.
     let A = alike image forward has in
     let F = rows (map row_at has.other.points) forward A.rows in
     let C = counts (map constant_at has.other.points) forward A.steps in
-    let L = plain image known steps coefficients points len C.1 P in
-    (found-legal image known steps coefficients points legal P, found-accepted image legal forward has.other A known steps points F C.0 L)
+    let L = plain image known numbers points C.zero P in
+    (found-legal image known numbers points legal P, found-accepted image legal forward has.other A known numbers.steps points F C.steps L)
 
 -- The image that is made of them
 

@@ -1,18 +1,24 @@
 -- What is known stays below rows that hold, and comes to hold, while rows flow.
 use Rattle.std.proofs.Common.{◌≡◌, ◌≢◌, ℕ, zero, suc, ◌+◌, ◌*◌, ◌<◌, ◌≤◌, Bool, true, false, List, length, Option, Some, None, slice_get, get_or, set, refl, sym, ap, ◌∙◌, subst, arith, inl, inr, ◌⊎◌}
-use Rattle.std.specs.Prelude.{◌&&◌, nat_lt, MatchBool, IfSome}
+use Rattle.std.specs.Prelude.{◌&&◌, nat_lt, MatchBool, IfSome, if◌then◌else◌}
 use Rattle.std.proofs.lemmas.Bool.{and_parts, ltb-true, lt-ltb, cases_eq, cases_lt, false≢true}
 use Rattle.std.proofs.lemmas.List.{get_or-set_same, get_or-set_other, length-set}
 use Rattle.std.proofs.lemmas.Option.{slice_get_within, none-some}
 use Rattle.geos_image.specs.declared.instr.Instr.{Instr}
 use Rattle.geos_image.specs.declared.row.Row.{Row}
-use Rattle.geos_image.specs.Parts.{Parts}
-use Rattle.geos_verify.specs.Rows.{fits}
+use Rattle.geos_image.specs.declared.point.Point.{Point}
+use Rattle.geos_image.specs.Parts.{Parts, start_of}
+use Rattle.geos_verify.specs.Rows.{fits, after, row_along, row_branching}
 use Rattle.geos_verify.proofs.Places.{item_at, if_some}
 use Rattle.geos_infer.specs.Joins.{joined, clean}
 use Rattle.geos_infer.specs.Code.{Edge, Forward, Spans, instrs_of, has_edge, edge_end, edge_row}
 use Rattle.geos_infer.specs.Solutions.{RowsHold}
-use Rattle.geos_infer.specs.Flow.{known_at, join_known, leads_ahead, spread, KnownAt, edge_number, Flowing, AllKnown}
+use Rattle.geos_infer.specs.declared.flow.Arrival.{Arrival}
+use Rattle.geos_infer.specs.declared.flow.Arrival.TheVariants.{Same, Weaker, Apart}
+use Rattle.geos_infer.specs.declared.edges.Edge.{Edge as Edge_}
+use Rattle.geos_infer.specs.Edges.{leads_ahead, edge_ahead}
+use Rattle.geos_infer.specs.Flow.{known_at, join_known, put, spread, KnownAt, edge_number, Flowing, AllKnown, Arrives, has_joined, Spreads, FlowsOn}
+use Rattle.geos_infer.proofs.Asks.{read-ahead}
 use Rattle.geos_infer.proofs.Pairwise.{both}
 use Rattle.geos_infer.proofs.Fits.{fits-refl, fits-trans}
 use Rattle.geos_infer.proofs.Joining.{agreeing, joined-least}
@@ -115,7 +121,7 @@ module _ (image : Parts) (forward : Forward image) (want : List Row) (holds : Ro
     after-joined w at J =
         let lt : edge_end pc i branch < length known = (let len = F.len in let p = parts.2 in omega arith) in
         record {
-          len = length-set known (edge_end pc i branch) (Some J.joined) ∙ F.len;
+          len = (let same = length-set known (edge_end pc i branch) (Some J.joined) in let len = F.len in omega arith);
           below = λ t row v e f. elim (cases_eq t (edge_end pc i branch)) [
             | inl same ↦
                 let at_to : known_at (set known (edge_end pc i branch) (Some J.joined)) (edge_end pc i branch) ≡ Some row = ap (known_at (set known (edge_end pc i branch) (Some J.joined))) (sym same) ∙ e in
@@ -246,8 +252,8 @@ flows-on image forward want holds known new r start limit pc branch ok done more
     (step.0, subst (λ n. Flowing image want new n) count step.1)
 
 -- where rows have flowed, something is known
-pub all-reached : (image : Parts) → Forward image → (want : List Row) (known : List (Option Row)) (done : ℕ) → Flowing image want known done → (limit : ℕ) → 2 * limit ≤ done → AllKnown known limit
-all-reached image forward want known done F limit enough pc lt within = reached-before (suc pc) pc (omega arith) lt (let len = F.len in omega arith)
+pub all-reached : (image : Parts) → Forward image → (want : List Row) (known : List (Option Row)) (done : ℕ) → Flowing image want known done → (limit : ℕ) → 2 * limit ≤ done → limit ≤ length (instrs_of image) → AllKnown known limit
+all-reached image forward want known done F limit enough small pc lt = reached-before (suc pc) pc (omega arith) lt (omega arith)
   where
     reached-before : (n pc : ℕ) → pc < n → pc < limit → pc < length (instrs_of image) → (row : Row) × (known_at known pc ≡ Some row)
     reached-before zero pc less lt within = absurd (omega arith)
@@ -262,3 +268,34 @@ all-reached image forward want known done F limit enough pc lt within = reached-
               let K = F.edges e.pc pc e.branch e.i from.0 (omega arith) e.edge within from.1 in
               (K.known_row, K.read)
         ]
+
+-- what a row brings to a place goes on from there
+pub spreads-on : (image : Parts) (limit pc : ℕ) (branch : Bool) (edge : Edge_) (row : Row) (known next : List (Option Row)) (arrival : Arrival) → pc < length image.points → known_at known pc ≡ Some row
+    → IfSome (slice_get image.points pc) (λ point. Some edge ≡ edge_ahead limit pc point.instr branch)
+    → edge.pc ≡ pc → edge.branch ≡ branch → Arrives arrival known edge.to (after image edge.pc (clean row) edge.branch) next
+    → Spreads image limit pc branch known next (has_joined arrival)
+spreads-on image limit pc branch edge row known next arrival lt here h pc_is branch_is came =
+    let found = read-ahead image limit pc branch lt edge h in
+    let at_point : after image pc (clean row) branch ≡ (if branch then row_branching found.0.instr found.0.instr.opcode (clean row) else row_along image found.0.instr found.0.instr.opcode (clean row)) =
+    ap (λ (o : Option Point). elim o [ None ↦ clean row | Some point ↦ if branch then row_branching point.instr point.instr.opcode (clean row) else row_along image point.instr point.instr.opcode (clean row) ]) found.1 in
+    let over : after image edge.pc (clean row) edge.branch ≡ edge_row image found.0.instr branch (clean row) = ap (λ k. after image k (clean row) edge.branch) pc_is ∙ ap (λ b. after image pc (clean row) b) branch_is ∙ at_point ∙ by_branch found.0.instr branch in
+    let goes : spread image limit pc found.0.instr branch (known_at known pc) known ≡ put known edge.to (join_known (known_at known edge.to) (after image edge.pc (clean row) edge.branch)) =
+    rw (here, found.2) (ap (λ t. put known t (join_known (known_at known t) (edge_row image found.0.instr branch (clean row)))) found.3 ∙ ap (λ (r : Row). put known edge.to (join_known (known_at known edge.to) r)) (sym over)) in
+    let P : Option Point → Type 0 = λ o. IfSome o (λ point. let after = spread image limit pc point.instr branch (known_at known pc) known in MatchBool (has_joined arrival) (after ≡ Some next) (after ≡ None)) in
+    subst P (sym found.1) (by_arrival arrival goes came)
+  where
+    by_branch : (i : Instr) (b : Bool) → (if b then row_branching i i.opcode (clean row) else row_along image i i.opcode (clean row)) ≡ edge_row image i b (clean row)
+    by_branch i true = refl
+    by_branch i false = refl
+
+    by_arrival : (a : Arrival) {at : Option (List (Option Row))} → at ≡ put known edge.to (join_known (known_at known edge.to) (after image edge.pc (clean row) edge.branch)) → Arrives a known edge.to (after image edge.pc (clean row) edge.branch) next
+        → MatchBool (has_joined a) (at ≡ Some next) (at ≡ None)
+    by_arrival Same goes came = goes ∙ came
+    by_arrival Weaker goes came = goes ∙ came
+    by_arrival Apart goes came = goes ∙ ap (put known edge.to) came
+
+-- the same of a routine, where its body is of it
+pub flows-in : (image here : Parts) (number r : ℕ) (known new : List (Option Row)) (done : Bool) → here ≡ image → number ≡ r → FlowsOn here number known new done
+    → (want : List Row) → Forward image → RowsHold image want → Flowing image want known (2 * start_of image.routines r) → (done ≡ true) × Flowing image want new (2 * start_of image.routines (r + 1))
+flows-in image here number r known new done same_image same_number flows =
+    subst (λ (x : Parts). FlowsOn x r known new done) same_image (subst (λ (n : ℕ). FlowsOn here n known new done) same_number flows)

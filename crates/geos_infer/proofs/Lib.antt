@@ -6,6 +6,7 @@ pub mod Cleaning
 pub mod After
 pub mod Passing
 pub mod Ends
+pub mod Bodies
 pub mod Flows
 pub mod Seeding
 pub mod Back
@@ -14,4 +15,3 @@ pub mod Asks
 pub mod Wanted
 pub mod Accepting
 pub mod Finding
-pub mod Written

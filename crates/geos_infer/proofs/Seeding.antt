@@ -17,7 +17,7 @@ use Rattle.geos_infer.proofs.Fits.{fits-refl}
 
 -- the same for the routines below a number
 pub record SeededBelow (image : Parts) (known : List (Option Row)) (limit : ℕ) : Type 0 where
-  pub len : length known ≡ length (instrs_of image)
+  pub len : length (instrs_of image) ≤ length known
   pub entries : (pc : ℕ) (entry : Row) (b : Begins image.routines pc entry) → b.r < limit → known_at known pc ≡ Some entry
   pub only : (pc : ℕ) (row : Row) → known_at known pc ≡ Some row → Begins image.routines pc row
 
@@ -30,7 +30,7 @@ some-row x y e = cc
 none-some : (x : Row) → None ≡ Some x → ⊥
 none-some x e = absurd cc
 
-pub seeded-none : (image : Parts) (known : List (Option Row)) → length known ≡ length (instrs_of image) → ((pc : ℕ) → known_at known pc ≡ None) → SeededBelow image known 0
+pub seeded-none : (image : Parts) (known : List (Option Row)) → length (instrs_of image) ≤ length known → ((pc : ℕ) → known_at known pc ≡ None) → SeededBelow image known 0
 seeded-none image known len none = record {
   len = len;
   entries = λ pc entry b less. absurd (omega arith);
@@ -40,7 +40,7 @@ seeded-none image known len none = record {
 pub seeded-more : (image : Parts) → is_image image ≡ true → (known : List (Option Row)) (r start : ℕ) (routine : Routine) → slice_get image.routines r ≡ Some routine → start ≡ start_of image.routines r
     → start < length known → SeededBelow image known r → SeededBelow image (set known start (Some routine.entry)) (r + 1)
 seeded-more image legal known r start routine there start_is within S = record {
-  len = length-set known start (Some routine.entry) ∙ S.len;
+  len = (let same = length-set known start (Some routine.entry) in let len = S.len in omega arith);
   entries = λ pc entry b less. elim (cases_lt b.r r) [
     | inl before ↦
         let some = (routine_parts [] image.routines b.r b.routine (image_parts image legal).routines b.there).count in

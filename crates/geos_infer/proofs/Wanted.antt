@@ -27,6 +27,7 @@ use Rattle.geos_semantics.proofs.Leads.{leads-along, leads-branching, may_return
 use Rattle.geos_infer.specs.Code.{Edge, Begins, Spans, Closed, SameCode, Forward, instrs_of, instr_of, edge_row}
 use Rattle.geos_infer.specs.Solutions.{RowsHold, StepsHold, call_steps}
 use Rattle.geos_infer.proofs.Ends.{code-length, same-edge}
+use Rattle.geos_infer.proofs.Asks.{called}
 
 abbrev pub row_at : Point → Row
 row_at point = point.row
@@ -75,10 +76,6 @@ calling-steps : (budget : ℕ) (touched : List Bool) (p q : Potential) → pays_
 calling-steps budget touched p q h =
     let a = and_parts (nat_le (q.constant + 1 + budget) p.constant && all2 nat_le q.coefficients p.coefficients) _ h in
     leb-true (q.constant + 1 + budget) p.constant ((and_parts (nat_le (q.constant + 1 + budget) p.constant) (all2 nat_le q.coefficients p.coefficients) a.0).0)
-
--- what a call takes, by the opcode
-abbrev called : Parts → Instr → Opcode → ℕ
-called image i opcode = if calls opcode then budget_of image i.imm else 0
 
 along-steps : (image : Parts) (i : Instr) (opcode : Opcode) (row : Row) (p q : Potential) → pays_along image i opcode row p q ≡ true → q.constant + 1 + called image i opcode ≤ p.constant
 along-steps image i Setk row p q h = setting-steps i.a i.imm p q h

@@ -1,5 +1,5 @@
 -- How rows flow along the edges that lead ahead.
-use Rattle.std.specs.Prelude.{◌≡◌, ◌<◌, ℕ, ◌+◌, ◌*◌, Bool, true, false, ◌&&◌, nat_lt, nat_le, if◌then◌else◌, List, [], ◌∷◌, length, Option, Some, None, slice_get, slice_index_or, slice_set, IfSome, MatchBool}
+use Rattle.std.specs.Prelude.{◌≡◌, ◌<◌, ◌≤◌, ℕ, ◌+◌, ◌*◌, Bool, true, false, if◌then◌else◌, List, [], ◌∷◌, length, Option, Some, None, slice_get, slice_index_or, slice_set, IfSome, MatchBool}
 use Rattle.geos_image.specs.declared.instr.Instr.{Instr}
 use Rattle.geos_image.specs.declared.row.Row.{Row}
 use Rattle.geos_image.specs.declared.row.SlotState.TheVariants.{Empty}
@@ -7,6 +7,9 @@ use Rattle.geos_image.specs.Parts.{Parts, start_of}
 use Rattle.geos_verify.specs.Rows.{fits}
 use Rattle.geos_infer.specs.Joins.{join, clean}
 use Rattle.geos_infer.specs.Code.{Edge, Begins, Forward, instrs_of, has_edge, edge_end, edge_row}
+use Rattle.geos_infer.specs.declared.flow.Arrival.{Arrival}
+use Rattle.geos_infer.specs.declared.flow.Arrival.TheVariants.{Same, Weaker, Apart}
+use Rattle.geos_infer.specs.Edges.{leads_ahead}
 use Rattle.geos_infer.specs.Solutions.{RowsHold}
 
 -- of a place that nothing reaches: words are 0, no slot is held, and all pairs are known
@@ -31,10 +34,6 @@ known_at known pc = slice_index_or known pc None
 abbrev pub join_known : Option Row → Row → Option Row
 join_known None row = Some row
 join_known (Some old) row = join old row
-
--- the instruction has the edge, and it leads ahead and before the limit
-abbrev pub leads_ahead : ℕ → ℕ → Instr → Bool → Bool
-leads_ahead limit pc i branch = has_edge i branch && nat_lt pc (edge_end pc i branch) && nat_lt (edge_end pc i branch) limit
 
 -- what is known once it is this at a place
 abbrev pub put : List (Option Row) → ℕ → Option Row → Option (List (Option Row))
@@ -63,7 +62,7 @@ edge_number pc false = 2 * pc
 
 -- rows have flowed along the first so many edges, and all that is known fits rows that hold
 pub record Flowing (image : Parts) (want : List Row) (known : List (Option Row)) (done : ℕ) : Type 0 where
-  pub len : length known ≡ length (instrs_of image)
+  pub len : length (instrs_of image) ≤ length known
   pub below : (pc : ℕ) (row w : Row) → known_at known pc ≡ Some row → slice_get want pc ≡ Some w → fits row w ≡ true
   pub entries : (pc : ℕ) (entry : Row) → Begins image.routines pc entry → KnownAt known pc entry
   pub edges : (pc to : ℕ) (branch : Bool) (i : Instr) (row : Row) → edge_number pc branch < done → Edge (instrs_of image) pc branch to i → to < length (instrs_of image)
@@ -71,19 +70,27 @@ pub record Flowing (image : Parts) (want : List Row) (known : List (Option Row))
 
 -- something is known at each place before the limit
 abbrev pub AllKnown : List (Option Row) → ℕ → Type 0
-AllKnown known limit = (pc : ℕ) → pc < limit → pc < length known → (row : Row) × (known_at known pc ≡ Some row)
+AllKnown known limit = (pc : ℕ) → pc < limit → (row : Row) × (known_at known pc ≡ Some row)
 
 -- each routine's entry row is known where it begins, and nothing else is
 pub record Seeded (image : Parts) (known : List (Option Row)) : Type 0 where
-  pub len : length known ≡ length (instrs_of image)
+  pub len : length (instrs_of image) ≤ length known
   pub entries : (pc : ℕ) (entry : Row) → Begins image.routines pc entry → known_at known pc ≡ Some entry
   pub only : (pc : ℕ) (row : Row) → known_at known pc ≡ Some row → Begins image.routines pc row
 
--- the instruction has the edge, and it leads back or to itself, not before the limit
-abbrev pub leads_back : ℕ → ℕ → Instr → Bool → Bool
-leads_back limit pc i branch = has_edge i branch && nat_le limit (edge_end pc i branch) && nat_le (edge_end pc i branch) pc
-
 -- What the flow of rows promises
+
+-- a row that comes to a place has a join with what is known there
+abbrev pub has_joined : Arrival → Bool
+has_joined Same = true
+has_joined Weaker = true
+has_joined Apart = false
+
+-- what is known next is what is known once the row has come to the place, or they have no join
+abbrev pub Arrives : Arrival → List (Option Row) → ℕ → Row → List (Option Row) → Type 0
+Arrives Same known to row next = put known to (join_known (known_at known to) row) ≡ Some next
+Arrives Weaker known to row next = put known to (join_known (known_at known to) row) ≡ Some next
+Arrives Apart known to row next = join_known (known_at known to) row ≡ None
 
 -- what is known next is what is known after the row at the pc has gone along the edge, or there is no join
 abbrev pub Spreads : Parts → ℕ → ℕ → Bool → List (Option Row) → List (Option Row) → Bool → Type 0
@@ -94,11 +101,6 @@ Spreads image limit pc branch known next done =
 abbrev pub FlowsOn : Parts → ℕ → List (Option Row) → List (Option Row) → Bool → Type 0
 FlowsOn image r known next done = (want : List Row) → Forward image → RowsHold image want → Flowing image want known (2 * start_of image.routines r)
     → (done ≡ true) × Flowing image want next (2 * start_of image.routines (r + 1))
-
--- the same in the first round
-abbrev pub FlowsAtOnce : Parts → ℕ → List (Option Row) → List (Option Row) → Option ℕ → Type 0
-FlowsAtOnce image r known next rounds = (want : List Row) → Forward image → RowsHold image want → Flowing image want known (2 * start_of image.routines r)
-    → (rounds ≡ Some 0) × Flowing image want next (2 * start_of image.routines (r + 1))
 
 -- rows have flowed in so many routines: in all of them, along all edges; of code without loops
 abbrev pub HaveFlowed : Parts → List (Option Row) → ℕ → Type 0

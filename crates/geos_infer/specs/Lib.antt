@@ -1,5 +1,7 @@
 pub mod Joins
 pub mod Code
+pub mod Edges
+pub mod Numbers
 pub mod Solutions
 pub mod Flow
 pub mod Count

@@ -6,6 +6,7 @@ use Rattle.geos_image.specs.declared.routine.Routine.{Routine}
 use Rattle.geos_image.specs.declared.point.Point.{Point}
 use Rattle.geos_image.specs.Parts.{Parts}
 use Rattle.geos_image.specs.Legal.{is_row}
+use Rattle.geos_infer.specs.Numbers.{Numbers}
 use Rattle.geos_infer.specs.Flow.{row_of, known_at}
 
 -- so many steps, whatever the counters are
@@ -14,10 +15,10 @@ potential_of n = record { constant = n; coefficients = 0 ∷ 0 ∷ 0 ∷ 0 ∷ [
 
 -- the instructions of the image, with the rows that are known, and the steps and coefficients
 -- that are counted
-pub record PointsOf (image : Parts) (known : List (Option Row)) (steps : List ℕ) (coefficients : List (List ℕ)) (points : List Point) : Type 0 where
+pub record PointsOf (image : Parts) (known : List (Option Row)) (numbers : Numbers) (points : List Point) : Type 0 where
   pub len : length points ≡ length image.points
   pub each : (pc : ℕ) (old : Point) → slice_get image.points pc ≡ Some old
-      → slice_get points pc ≡ Some (record { instr = old.instr; row = row_of (known_at known pc); potential = record { constant = slice_index steps pc; coefficients = slice_index_or coefficients pc [] } })
+      → slice_get points pc ≡ Some (record { instr = old.instr; row = row_of (known_at known pc); potential = record { constant = slice_index numbers.steps pc; coefficients = slice_index_or numbers.coefficients pc [] } })
   pub legal : (pc : ℕ) (old : Point) → slice_get image.points pc ≡ Some old → is_row (row_of (known_at known pc)) ≡ true
 
 -- the routines of the image

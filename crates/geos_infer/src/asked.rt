@@ -1,91 +1,106 @@
-//! What the instruction at a pc asks of the steps and coefficients there.
+//! What the instruction at a pc asks of the potential there.
 
-ghost use Rattle.std.specs.Prelude.{◌≡◌, ◌<◌, ◌≤◌, ◌+◌, ◌^◌, max, length, slice_get, IfSome, true};
-ghost use Rattle.geos_infer.specs.Code.{Forward};
-ghost use Rattle.geos_infer.specs.Count.{edge_steps, steps_at, IsAskedAt, zeros, ZerosFrom, target_ahead};
+ghost use Rattle.std.specs.Prelude.{◌≡◌, ◌≢◌, ◌<◌, max, zip, length};
+ghost use Rattle.geos_opcodes.specs.declared.opcode.Opcode.TheVariants.{Loop};
+ghost use Rattle.geos_image.specs.Fields.{FieldsFit};
+ghost use Rattle.geos_verify.specs.Lists.{zip2};
+ghost use Rattle.geos_infer.specs.Numbers.{zeros};
+ghost use Rattle.geos_infer.specs.Count.{asked_steps, asked_coefficients, return_steps, AsksSteps, IsFound};
 
-use crate::edges::{Span, edge_end, leads_ahead, leads_back};
-use crate::prices::{
-    OwnCounter, asked_coefficients, call_steps, coefficients_join, larger, price, return_steps,
-};
-use geos_image::{Image, Instr, Opcode};
+use crate::body::Body;
+use crate::edges::edge_in;
+use crate::flow::row_of;
+use crate::known::Known;
+use crate::potentials::Potentials;
+use geos_image::{Instr, Opcode, Potential};
+use geos_verify::{Asked, asked_along, asked_branching};
 
-/// Where the edge leads, if the instruction has it and it stays in the routine.
-pub(crate) fn target(image: &Image, span: Span, pc: u16, branch: bool) -> Option<u16>
-    requires there { pc < length image.now.points }
-    requires short { length image.now.points ≤ 4096 }
-    requires room { span.end ≤ length image.now.points }
-    ensures within { IfSome result (λ to. to < length image.now.points) }
-    ensures ahead { Forward image.now → IfSome (slice_get image.now.points pc) (λ point. result ≡ target_ahead span.end pc point.instr branch) }
+/// What an edge asks, if the instruction at the pc has it and it stays in the routine.
+pub(crate) fn asked_over(
+    body: &Body,
+    known: &Known,
+    potentials: &Potentials,
+    pc: u16,
+    branch: bool,
+) -> Option<Asked>
+    requires { pc < body.now.end }
+    ensures { AsksSteps body.now.image.now body.now.end pc branch potentials.now result }
 {
-    let i = image.instr(pc);
-    if leads_ahead(span.end, pc, i, branch) {
-        return Some(edge_end(pc, i, branch));
+    let edge = edge_in(body, pc, branch)?;
+    let i = body.image.instr(pc);
+    let next = potentials.at(edge.to);
+    if branch {
+        Some(asked_branching(i, &next))
+    } else {
+        let row = row_of(&known.at(pc));
+        Some(asked_along(body.image, i, &row, &next))
     }
-    if leads_back(image, span.start, pc, branch) {
-        return Some(edge_end(pc, i, branch));
-    }
-    None
 }
 
-/// Whether the edge is a LOOP's way to its target.
-pub(crate) fn is_loop_back(i: &Instr, branch: bool) -> bool
-    ensures { result ≡ true → i.now.opcode ≡ Opcode.Loop }
+/// The coefficients that an edge asks; none where there is no edge.
+fn asked_coefficients(asked: &Option<Asked>) -> [u32; 4]
+    ensures { result ≡ asked_coefficients asked.now }
+{
+    match asked {
+        None => [0; 4],
+        Some(asked) => asked.coefficients,
+    }
+}
+
+/// What an edge asks of the constant, where these are the coefficients.
+pub(crate) fn owed(asked: &Option<Asked>, coefficients: &[u32; 4]) -> u64
+    ensures { coefficients.now ≡ zeros → result ≡ asked_steps asked.now }
+{
+    match asked {
+        None => 0,
+        Some(asked) => asked.steps.saturating_sub(asked.left(&Potential {
+            constant: 0,
+            coefficients: *coefficients,
+        })),
+    }
+}
+
+fn larger(a: u32, b: u32) -> u32
+    ensures { result ≡ max a b }
+{
+    a.max(b)
+}
+
+fn coefficients_join(p: &[u32; 4], q: &[u32; 4]) -> [u32; 4]
+    ensures { result ≡ zip2 max p.now q.now }
+{
+    let [p0, p1, p2, p3] = *p;
+    let [q0, q1, q2, q3] = *q;
+    [
+        larger(p0, q0),
+        larger(p1, q1),
+        larger(p2, q2),
+        larger(p3, q3),
+    ]
+}
+
+/// The coefficients, with that of a LOOP's counter at what a unit of it pays for at least.
+fn raised(i: &Instr, pays: u32, coefficients: [u32; 4]) -> [u32; 4]
+    requires { FieldsFit i.now.opcode i.now }
+    ensures { i.now.opcode ≢ Loop → result ≡ coefficients }
 {
     match i.opcode {
-        Opcode::Loop => branch,
-        _ => false,
+        Opcode::Loop => {
+            let mut next = coefficients;
+            next[i.a as usize] = larger(next[i.a as usize], pays);
+            next
+        }
+        _ => coefficients,
     }
 }
 
-/// What an edge asks of the constant; of a LOOP's way to its target a unit of the counter pays a
-/// part.
-pub(crate) fn edge_constant(
-    image: &Image,
-    span: Span,
-    pc: u16,
-    branch: bool,
-    own: OwnCounter,
-    steps: &[u32],
-    coefficients: &[[u32; 4]],
-) -> u64
-    requires there { pc < length image.now.points }
-    requires short { length image.now.points ≤ 4096 }
-    requires room { span.end ≤ length image.now.points }
-    requires steps { length steps.now ≡ length image.now.points }
-    requires coefficients { length coefficients.now ≡ length image.now.points }
-    ensures small { result < 2 ^ 50 }
-    ensures asks { IsAskedAt image.now pc coefficients.now (λ i. edge_steps image.now span.end pc i branch steps.now) result }
+/// What a return asks for.
+fn return_steps(i: &Instr) -> u64
+    ensures { result ≡ return_steps i.now }
 {
-    let i = image.instr(pc);
-    let Some(to) = target(image, span, pc, branch) else {
-        return 0;
-    };
-    if is_loop_back(i, branch) {
-        return (u64::from(steps[to as usize]) + 1).saturating_sub(u64::from(own.pays));
-    }
-    let called = call_steps(image, i);
-    let price = price(i, branch, own.most, &coefficients[to as usize]);
-    u64::from(steps[to as usize]) + 1 + u64::from(called) + price
-}
-
-/// What an edge asks of the coefficients.
-fn edge_coefficients(
-    image: &Image,
-    span: Span,
-    pc: u16,
-    branch: bool,
-    coefficients: &[[u32; 4]],
-) -> [u32; 4]
-    requires there { pc < length image.now.points }
-    requires short { length image.now.points ≤ 4096 }
-    requires room { span.end ≤ length image.now.points }
-    requires coefficients { length coefficients.now ≡ length image.now.points }
-    ensures { Forward image.now → ZerosFrom (pc + 1) coefficients.now → result ≡ zeros }
-{
-    match target(image, span, pc, branch) {
-        None => [0; 4],
-        Some(to) => { asked_coefficients(image.instr(pc), branch, &coefficients[to as usize]) }
+    match i.opcode {
+        Opcode::Ret => 1,
+        _ => 0,
     }
 }
 
@@ -95,57 +110,43 @@ fn larger64(a: u64, b: u64) -> u64
     a.max(b)
 }
 
-/// The constant at a pc.
-pub(crate) fn constant_at(
-    image: &Image,
-    span: Span,
-    pc: u16,
-    own: OwnCounter,
-    steps: &[u32],
-    coefficients: &[[u32; 4]],
-) -> u64
-    requires there { pc < length image.now.points }
-    requires short { length image.now.points ≤ 4096 }
-    requires room { span.end ≤ length image.now.points }
-    requires steps { length steps.now ≡ length image.now.points }
-    requires coefficients { length coefficients.now ≡ length image.now.points }
-    ensures { IsAskedAt image.now pc coefficients.now (λ i. steps_at image.now span.end pc i steps.now) result }
-{
-    let returning = u64::from(return_steps(image.instr(pc)));
-    let along = edge_constant(image, span, pc, false, own, steps, coefficients);
-    let branching = edge_constant(image, span, pc, true, own, steps, coefficients);
-    larger64(returning, larger64(along, branching))
-}
-
-/// The coefficients, with that of a LOOP's counter at what a unit of it pays for at least.
-fn raised(image: &Image, pc: u16, pays: u32, coefficients: [u32; 4]) -> [u32; 4]
-    requires there { pc < length image.now.points }
-    ensures { Forward image.now → result ≡ coefficients }
-{
-    let i = image.instr(pc);
-    if !is_loop_back(i, true) {
-        return coefficients;
-    }
-    let mut next = coefficients;
-    next[i.a as usize] = larger(next[i.a as usize], pays);
-    next
-}
-
-/// The coefficients at a pc.
+/// The least coefficients that pay for both edges of the instruction at a pc, where a unit of a
+/// LOOP's counter pays for so much.
 pub(crate) fn coefficients_at(
-    image: &Image,
-    span: Span,
-    pc: u16,
-    own: OwnCounter,
-    coefficients: &[[u32; 4]],
+    i: &Instr,
+    along: &Option<Asked>,
+    branching: &Option<Asked>,
+    pays: u32,
 ) -> [u32; 4]
-    requires there { pc < length image.now.points }
-    requires short { length image.now.points ≤ 4096 }
-    requires room { span.end ≤ length image.now.points }
-    requires coefficients { length coefficients.now ≡ length image.now.points }
-    ensures { Forward image.now → ZerosFrom (pc + 1) coefficients.now → result ≡ zeros }
+    requires { FieldsFit i.now.opcode i.now }
+    ensures { i.now.opcode ≢ Loop → result ≡ zip2 max (asked_coefficients along.now) (asked_coefficients branching.now) }
 {
-    let along = edge_coefficients(image, span, pc, false, coefficients);
-    let branching = edge_coefficients(image, span, pc, true, coefficients);
-    raised(image, pc, own.pays, coefficients_join(&along, &branching))
+    let both = coefficients_join(&asked_coefficients(along), &asked_coefficients(branching));
+    raised(i, pays, both)
+}
+
+/// The least potential that pays for what the instruction at a pc asks, where a unit of a LOOP's
+/// counter pays for so much; `None` where its constant is past what a potential can say.
+pub(crate) fn potential_at(
+    body: &Body,
+    known: &Known,
+    potentials: &Potentials,
+    pc: u16,
+    pays: u32,
+) -> Option<Potential>
+    requires { pc < body.now.end }
+    ensures { IsFound body.now.image.now body.now.end pc potentials.now result }
+{
+    let i = body.image.instr(pc);
+    let along = asked_over(body, known, potentials, pc, false);
+    let branching = asked_over(body, known, potentials, pc, true);
+    let coefficients = coefficients_at(i, &along, &branching, pays);
+    let edges = larger64(owed(&along, &coefficients), owed(&branching, &coefficients));
+    match u32::try_from(larger64(return_steps(i), edges)) {
+        Ok(constant) => Some(Potential {
+            constant,
+            coefficients,
+        }),
+        Err(_) => None,
+    }
 }

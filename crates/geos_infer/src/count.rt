@@ -1,78 +1,67 @@
 //! Steps are counted from behind, sweep after sweep, until the edges that lead back are paid
 //! too.
 
-ghost use Rattle.std.specs.Prelude.{◌≡◌, ◌<◌, ◌≤◌, ℕ, length, IfOk, IfErr, IfSome};
+ghost use Rattle.std.specs.Prelude.{◌≡◌, ◌<◌, ◌≤◌, ℕ, is_some, length, IfOk, IfErr, IfSome};
 ghost use Rattle.geos_infer.specs.declared.error.InferError.TheVariants.{NoRows};
 ghost use Rattle.geos_infer.specs.Solutions.{NoStepsHold};
 ghost use Rattle.geos_infer.specs.Count.{CountsOn, CountsAll, AreCounted};
 ghost use Rattle.geos_infer.specs.Theorem.{NamesRoutine};
 
-use crate::asked::{coefficients_at, constant_at};
-use crate::edges::span_of;
+use crate::asked::potential_at;
+use crate::body::{Body, body_of};
 use crate::error::InferError;
-use crate::loops::find_counters;
-use crate::paid::{are_paid, most_sweeps};
-use crate::prices::own_counter;
-use crate::spent::{are_spent, find_touched};
-use geos_image::{Image, Row};
-use std::alloc::{AllocError, Global};
+use crate::known::Known;
+use crate::loops::find_units;
+use crate::paid::{are_paid, back_edges};
+use crate::potentials::Potentials;
+use crate::spent::{calls_are_spent, find_touched};
+use crate::table::Table;
+use geos_image::Image;
+use geos_verify::Touched;
+use std::alloc::Global;
 
-/// Steps of routine r are counted from its last instruction to its first, where a unit of a LOOP's
-/// counter pays for so much; `false` where a number is past what a potential can say.
+/// Steps of a routine are counted from its last instruction to its first, where a unit of a LOOP's
+/// counter pays for so much; whether some potential is another now, and `None` where a number is
+/// past what a potential can say.
 fn sweep(
-    image: &Image,
-    r: u16,
-    known: &[Option<Row>],
-    counters: &[[u32; 4]],
-    steps: &mut [u32],
-    coefficients: &mut [[u32; 4]],
-) -> bool
-    requires routine { r < length image.now.routines }
-    requires known { length known.now ≡ length image.now.points }
-    requires counters { length counters.now ≡ length image.now.points }
-    requires steps { length steps.old ≡ length image.now.points }
-    requires coefficients { length coefficients.old ≡ length image.now.points }
-    ensures { CountsOn image.now r steps.old coefficients.old steps.new coefficients.new result }
+    body: &Body,
+    known: &Known,
+    units: &Table<u32>,
+    potentials: &mut Potentials,
+) -> Option<bool>
+    ensures { CountsOn body.now.image.now body.now.r potentials.old potentials.new (is_some result) }
 {
-    let span = span_of(image, r);
-    for pc in (span.start..span.end).rev() {
-        let i = image.instr(pc);
-        let own = own_counter(i, &known[pc as usize], &counters[pc as usize]);
-        let constant = constant_at(image, span, pc, own, steps, coefficients);
-        let next = coefficients_at(image, span, pc, own, coefficients);
-        let Ok(enough) = u32::try_from(constant) else {
-            return false;
-        };
-        steps[pc as usize] = enough;
-        coefficients[pc as usize] = next;
+    let mut changed = false;
+    for pc in (body.start..body.end).rev() {
+        let next = potential_at(body, known, potentials, pc, units.at(pc))?;
+        changed |= next != potentials.at(pc);
+        potentials.set(pc, next);
     }
-    true
+    Some(changed)
 }
 
-/// Counts the steps of routine r; `false` where no number of them is found to be enough, or a
+/// Counts the steps of a routine; `false` where no number of them is found to be enough, or a
 /// counter is wanted behind a call that touches it.
 fn count_in(
-    image: &Image,
-    r: u16,
-    known: &[Option<Row>],
-    counters: &[[u32; 4]],
-    touched: &[[bool; 4]],
-    steps: &mut [u32],
-    coefficients: &mut [[u32; 4]],
+    body: &Body,
+    known: &Known,
+    units: &Table<u32>,
+    touched: &Touched,
+    potentials: &mut Potentials,
 ) -> bool
-    requires routine { r < length image.now.routines }
-    requires known { length known.now ≡ length image.now.points }
-    requires counters { length counters.now ≡ length image.now.points }
-    requires steps { length steps.old ≡ length image.now.points }
-    requires coefficients { length coefficients.old ≡ length image.now.points }
-    ensures { CountsOn image.now r steps.old coefficients.old steps.new coefficients.new result }
+    ensures { CountsOn body.now.image.now body.now.r potentials.old potentials.new result }
 {
-    for _ in 0..most_sweeps(image, r) {
-        if !sweep(image, r, known, counters, steps, coefficients) {
+    // Each sweep carries what an edge that leads back asks for over one such edge: first the
+    // coefficients, then the constants.
+    for _ in 0..2 * back_edges(body) + 3 {
+        let Some(changed) = sweep(body, known, units, potentials) else {
             return false;
+        };
+        if are_paid(body, known, potentials) {
+            return calls_are_spent(body, touched, potentials);
         }
-        if are_paid(image, r, known, steps, coefficients) {
-            return are_spent(image, r, touched, coefficients);
+        if !changed {
+            return false;
         }
     }
     false
@@ -83,49 +72,22 @@ fn count_in(
 fn count_all(
     image: &Image,
     routines: u16,
-    known: &[Option<Row>],
-    counters: &[[u32; 4]],
-    touched: &[[bool; 4]],
-    steps: &mut [u32],
-    coefficients: &mut [[u32; 4]],
+    known: &Known,
+    units: &Table<u32>,
+    potentials: &mut Potentials,
 ) -> Option<u16>
-    requires known { length known.now ≡ length image.now.points }
-    requires counters { length counters.now ≡ length image.now.points }
-    requires steps { length steps.old ≡ length image.now.points }
-    requires coefficients { length coefficients.old ≡ length image.now.points }
-    requires routines { routines ≤ length image.now.routines }
-    ensures counted { routines ≡ length image.now.routines → CountsAll image.now steps.new coefficients.new result }
+    requires { routines ≤ length image.now.routines }
+    ensures counted { routines ≡ length image.now.routines → CountsAll image.now potentials.old potentials.new result }
     ensures within { IfSome result (λ r. r < routines) }
 {
-    // For what `len` says of the image: its routines have its instructions.
-    let _legal = image.len();
+    let touched = find_touched(image);
     let mut left = None;
     for r in (0..routines).rev() {
-        if !count_in(image, r, known, counters, touched, steps, coefficients) {
+        if !count_in(&body_of(image, r), known, units, &touched, potentials) {
             left = Some(r);
         }
     }
     left
-}
-
-pub(crate) fn zero_steps(alloc: Global, n: usize) -> Result<Vec<u32>, AllocError>
-    ensures { IfOk result (λ steps. length steps.items ≡ n) }
-{
-    let mut steps = Vec::new(alloc);
-    for _ in 0..n {
-        steps.push(0)?;
-    }
-    Ok(steps)
-}
-
-pub(crate) fn zero_coefficients(alloc: Global, n: usize) -> Result<Vec<[u32; 4]>, AllocError>
-    ensures { IfOk result (λ coefficients. length coefficients.items ≡ n) }
-{
-    let mut coefficients = Vec::new(alloc);
-    for _ in 0..n {
-        coefficients.push([0; 4])?;
-    }
-    Ok(coefficients)
 }
 
 /// Enough steps at each instruction, and coefficients, where so many routines have rows. `NoRows`
@@ -134,36 +96,19 @@ pub(crate) fn count(
     alloc: Global,
     image: &Image,
     routines: u16,
-    known: &[Option<Row>],
-) -> Result<(Vec<u32>, Vec<[u32; 4]>), InferError>
-    requires routines { routines ≤ length image.now.routines }
-    requires known { length known.now ≡ length image.now.points }
-    ensures steps { IfOk result (λ both. length both.0.items ≡ length image.now.points) }
-    ensures coefficients { IfOk result (λ both. length both.1.items ≡ length image.now.points) }
-    ensures found { IfOk result (λ both. AreCounted image.now both.0.items both.1.items) }
+    known: &Known,
+) -> Result<Potentials, InferError>
+    requires { routines ≤ length image.now.routines }
+    ensures found { IfOk result (λ potentials. AreCounted image.now potentials) }
     ensures within { IfErr result (NamesRoutine image.now) }
     ensures none { IfErr result (λ error. (r : ℕ) → error ≡ NoRows r → routines ≡ length image.now.routines → NoStepsHold image.now) }
 {
-    let counters = find_counters(alloc, image, known)?;
-    let touched = find_touched(alloc, image)?;
-    let mut steps = zero_steps(alloc, image.len() as usize)?;
-    let mut coefficients = zero_coefficients(alloc, image.len() as usize)?;
-    match count_all(
-        image,
-        routines,
-        known,
-        &counters,
-        &touched,
-        &mut steps,
-        &mut coefficients,
-    ) {
+    let all = image.count();
+    let units = find_units(alloc, image, known)?;
+    let mut potentials = Potentials::new(alloc)?;
+    match count_all(image, routines, known, &units, &mut potentials) {
         Some(r) => Err(InferError::NoRows(r)),
-        None => {
-            if routines < image.count() {
-                Err(InferError::NoRows(routines))
-            } else {
-                Ok((steps, coefficients))
-            }
-        }
+        None if routines < all => Err(InferError::NoRows(routines)),
+        None => Ok(potentials),
     }
 }

@@ -1,12 +1,17 @@
 //! Rows flow along the edges that lead ahead.
 
-ghost use Rattle.std.specs.Prelude.{◌≡◌, ◌<◌, ◌≤◌, length, true};
+ghost use Rattle.std.specs.Prelude.{◌≡◌, ◌<◌, true};
 ghost use Rattle.geos_image.specs.Legal.{is_row};
-ghost use Rattle.geos_infer.specs.Flow.{row_of, join_known, Spreads, FlowsOn};
+ghost use Rattle.geos_verify.specs.Rows.{after};
+ghost use Rattle.geos_infer.specs.Edges.{IsInside};
+ghost use Rattle.geos_infer.specs.Flow.{row_of, join_known, has_joined, Arrives, Spreads, FlowsOn};
+ghost use Rattle.geos_infer.specs.Joins.{clean};
 
+use crate::body::Body;
 use crate::common::{clean, join};
-use crate::edges::{edge_end, leads_ahead, span_of};
-use geos_image::{Image, Row, SlotState};
+use crate::edges::{Edge, edge_ahead};
+use crate::known::Known;
+use geos_image::{Row, SlotState};
 use geos_verify::after;
 
 /// What holds of the registers at a place that nothing reaches, at its strongest.
@@ -29,7 +34,7 @@ pub(crate) fn row_of(known: &Option<Row>) -> Row
 }
 
 /// What is known where another row comes to a place; nothing where they have no join.
-pub(crate) fn join_known(old: &Option<Row>, row: &Row) -> Option<Row>
+fn join_known(old: &Option<Row>, row: &Row) -> Option<Row>
     ensures { result ≡ join_known old.now row.now }
 {
     match old {
@@ -38,46 +43,80 @@ pub(crate) fn join_known(old: &Option<Row>, row: &Row) -> Option<Row>
     }
 }
 
-/// The row that is known at the pc goes along the edge, if that leads ahead and before the limit;
-/// `false` where it has no join with what is known there.
-fn spread(image: &Image, known: &mut [Option<Row>], limit: u16, pc: u16, branch: bool) -> bool
-    requires there { pc < length image.now.points }
-    requires short { length image.now.points ≤ 4096 }
-    requires limit { limit ≤ length image.now.points }
-    requires len { length known.old ≡ length image.now.points }
-    ensures { Spreads image.now limit pc branch known.old known.new result }
-{
-    let Some(row) = known[pc as usize] else {
-        return true;
-    };
-    let i = image.instr(pc);
-    if !leads_ahead(limit, pc, i, branch) {
-        return true;
-    }
-    let to = edge_end(pc, i, branch) as usize;
-    let next = after(image, pc, &clean(&row), branch);
-    match join_known(&known[to], &next) {
-        Some(joined) => {
-            known[to] = Some(joined);
-            true
+/// How a row came to a place.
+#[derive(Clone, Copy, Debug, PartialEq, Eq)]
+pub(crate) enum Arrival {
+    /// No less is known there than was.
+    Same,
+    /// Less is known there, or something now where nothing was.
+    Weaker,
+    /// It has no join with what is known there, which stays.
+    Apart,
+}
+
+impl Arrival {
+    /// Whether the row has a join with what was known.
+    pub(crate) fn has_joined(self) -> bool
+        ensures { result ≡ has_joined self }
+    {
+        match self {
+            Arrival::Same | Arrival::Weaker => true,
+            Arrival::Apart => false,
         }
-        None => false,
     }
 }
 
-/// From what is known at first, rows flow along the edges of routine r that lead ahead; `false`
-/// where two have no join.
-pub(crate) fn flow(image: &Image, r: u16, known: &mut [Option<Row>]) -> bool
-    requires routine { r < length image.now.routines }
-    requires len { length known.old ≡ length image.now.points }
-    ensures { FlowsOn image.now r known.old known.new result }
+/// A row comes to a place, and is joined with what is known there.
+fn arrive(known: &mut Known, to: u16, row: &Row) -> Arrival
+    requires { to < 4096 }
+    ensures { Arrives result known.old to row.now known.new }
 {
-    let span = span_of(image, r);
-    for pc in span.start..span.end {
-        if !spread(image, known, span.end, pc, false) {
+    let old = known.at(to);
+    let Some(joined) = join_known(&old, row) else {
+        return Arrival::Apart;
+    };
+    known.set(to, Some(joined));
+    match old {
+        Some(old) if old == joined => Arrival::Same,
+        _ => Arrival::Weaker,
+    }
+}
+
+/// A row goes along an edge: what is known behind the instruction comes to the place where the edge
+/// leads.
+pub(crate) fn spread(body: &Body, edge: Edge, row: &Row, known: &mut Known) -> Arrival
+    requires { IsInside body.now.image.now body.now.end edge.pc edge.branch edge }
+    ensures { Arrives result known.old edge.to (after body.now.image.now edge.pc (clean row.now) edge.branch) known.new }
+{
+    let next = after(body.image, edge.pc, &clean(row), edge.branch);
+    arrive(known, edge.to, &next)
+}
+
+/// The row that is known at the pc goes along the edge, if that leads ahead; `false` where it has no
+/// join with what is known there.
+fn spread_ahead(body: &Body, pc: u16, branch: bool, known: &mut Known) -> bool
+    requires { pc < body.now.end }
+    ensures { Spreads body.now.image.now body.now.end pc branch known.old known.new result }
+{
+    let Some(row) = known.at(pc) else {
+        return true;
+    };
+    let Some(edge) = edge_ahead(body, pc, branch) else {
+        return true;
+    };
+    spread(body, edge, &row, known).has_joined()
+}
+
+/// From what is known at first, rows flow along the edges of a routine that lead ahead; `false`
+/// where two have no join.
+pub(crate) fn flow(body: &Body, known: &mut Known) -> bool
+    ensures { FlowsOn body.now.image.now body.now.r known.old known.new result }
+{
+    for pc in body.start..body.end {
+        if !spread_ahead(body, pc, false, known) {
             return false;
         }
-        if !spread(image, known, span.end, pc, true) {
+        if !spread_ahead(body, pc, true, known) {
             return false;
         }
     }

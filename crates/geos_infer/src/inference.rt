@@ -9,33 +9,27 @@ ghost use Rattle.geos_infer.specs.Theorem.{FindsWhatThereIs, NoneIsAccepted, Not
 use crate::count::count;
 use crate::error::InferError;
 use crate::flow::row_of;
-use crate::rounds::find_rows;
-use geos_image::{Image, Point, Potential, Routine, Row};
+use crate::known::Known;
+use crate::potentials::Potentials;
+use crate::rows::find_rows;
+use geos_image::{Image, Point, Routine};
 use std::alloc::{AllocError, Global};
 
 /// The instructions of the image, with the rows and potentials that were found.
 fn points_of(
     alloc: Global,
     image: &Image,
-    known: &[Option<Row>],
-    steps: &[u32],
-    coefficients: &[[u32; 4]],
+    known: &Known,
+    potentials: &Potentials,
 ) -> Result<Vec<Point>, AllocError>
-    requires known { length known.now ≡ length image.now.points }
-    requires steps { length steps.now ≡ length image.now.points }
-    requires coefficients { length coefficients.now ≡ length image.now.points }
-    ensures { IfOk result (λ points. PointsOf image.now known.now steps.now coefficients.now points.items) }
+    ensures { IfOk result (λ points. PointsOf image.now known.now potentials.now points.items) }
 {
     let mut points = Vec::new(alloc);
     for pc in 0..image.len() {
-        let potential = Potential {
-            constant: steps[pc as usize],
-            coefficients: coefficients[pc as usize],
-        };
         points.push(Point {
             instr: *image.instr(pc),
-            row: row_of(&known[pc as usize]),
-            potential,
+            row: row_of(&known.at(pc)),
+            potential: potentials.at(pc),
         })?;
     }
     Ok(points)
@@ -71,11 +65,11 @@ pub fn infer(alloc: Global, skeleton: &Image) -> Result<Image, InferError>
     // For what `len` says of the skeleton: it is one that the format allows.
     let _legal = skeleton.len();
     let (known, routines) = find_rows(alloc, skeleton)?;
-    let (steps, coefficients) = match count(alloc, skeleton, routines, &known) {
-        Ok(both) => both,
+    let potentials = match count(alloc, skeleton, routines, &known) {
+        Ok(potentials) => potentials,
         Err(error) => return Err(error),
     };
-    let points = points_of(alloc, skeleton, &known, &steps, &coefficients)?;
+    let points = points_of(alloc, skeleton, &known, &potentials)?;
     let routines = routines_of(alloc, skeleton)?;
     match Image::new(routines, points) {
         Some(image) => Ok(image),

@@ -4,6 +4,7 @@
 #![tactic(auto)]
 
 mod asked;
+mod body;
 mod common;
 mod count;
 mod descent;
@@ -11,12 +12,15 @@ mod edges;
 mod error;
 mod flow;
 mod inference;
+mod known;
 mod loops;
 mod paid;
-mod prices;
+mod potentials;
 mod rounds;
+mod rows;
 mod seeds;
 mod spent;
+mod table;
 mod unreached;
 mod widening;
 

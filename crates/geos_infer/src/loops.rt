@@ -1,63 +1,72 @@
 //! What a unit of each counter pays for: a LOOP's way back, and the longest way from there to it.
 
-ghost use Rattle.std.specs.Prelude.{◌≡◌, ◌<◌, ◌≤◌, length, IfOk};
+ghost use Rattle.std.specs.Prelude.{◌≡◌, ◌<◌, ◌≤◌, true};
 
-use crate::asked::{coefficients_at, edge_constant, is_loop_back, target};
-use crate::count::{zero_coefficients, zero_steps};
-use crate::edges::{Span, span_of};
-use crate::prices::{larger, own_counter};
-use geos_image::{Image, Row};
+use crate::asked::{asked_over, coefficients_at, owed};
+use crate::body::{Body, body_of};
+use crate::edges::{edge_back, edge_in};
+use crate::known::Known;
+use crate::potentials::Potentials;
+use crate::table::Table;
+use geos_image::{Image, Instr, Opcode, Potential};
 use std::alloc::{AllocError, Global};
 
 /// A unit of one counter may pay for setting another one; a round finds what that changes.
 const MOST_ROUNDS: u16 = 6;
 
-/// Notes, at each place of routine r where an edge leads back, the pc behind the last such edge.
-fn note_ends(image: &Image, r: u16, ends: &mut [u32])
-    requires routine { r < length image.now.routines }
-    requires ends { length ends.old ≡ length image.now.points }
+/// A loop: its head and what lies behind it, up to where no edge leads into it from further on.
+#[derive(Clone, Copy)]
+struct Loop {
+    head: u16,
+    end: u16,
+}
+
+/// Whether the instruction is a LOOP.
+fn is_loop(i: &Instr) -> bool
+    ensures { result ≡ true → i.now.opcode ≡ Opcode.Loop }
 {
-    let span = span_of(image, r);
-    for pc in span.start..span.end {
-        if let Some(to) = target(image, span, pc, true) {
-            if to <= pc {
-                ends[to as usize] = u32::from(pc) + 1;
-            }
+    match i.opcode {
+        Opcode::Loop => true,
+        _ => false,
+    }
+}
+
+/// Notes, at each place of a routine where an edge leads back, the pc behind the last such edge.
+fn note_ends(body: &Body, ends: &mut Table<u16>) {
+    for pc in body.start..body.end {
+        if let Some(edge) = edge_back(body, pc, true) {
+            ends.set(edge.to, pc + 1);
         }
     }
 }
 
-/// The head of a loop and what lies behind it, up to where no edge leads into it from further
-/// on.
-fn extent(span: Span, ends: &[u32], head: u16) -> Span
-    requires room { span.end ≤ length ends.now }
-    requires head { head < span.end }
-    ensures start { result.start ≡ head }
-    ensures end { result.end ≤ span.end }
+/// The loop of a head.
+fn loop_at(body: &Body, ends: &Table<u16>, head: u16) -> Loop
+    requires { head < body.now.end }
+    ensures head { result.head ≡ head }
+    ensures end { result.end ≤ body.now.end }
 {
-    let mut end = ends[head as usize];
-    for pc in head..span.end {
-        if end <= u32::from(pc) {
-            return Span {
-                start: head,
-                end: pc,
-            };
+    let mut end = ends.at(head);
+    for pc in head..body.end {
+        if end <= pc {
+            return Loop { head, end: pc };
         }
-        end = larger(end, ends[pc as usize]);
+        end = end.max(ends.at(pc));
     }
-    Span {
-        start: head,
-        end: span.end,
+    Loop {
+        head,
+        end: body.end,
     }
 }
 
-/// How many sweeps carry what is counted over each place where edges lead back, and one more.
-fn most_sweeps(span: Span, ends: &[u32]) -> u32
-    requires { span.end ≤ length ends.now }
+/// How many sweeps carry what is counted over each place of a loop where edges lead back, and one
+/// more.
+fn most_sweeps(ends: &Table<u16>, whole: Loop) -> u16
+    requires { whole.end ≤ 4096 }
 {
-    let mut most: u32 = 2;
-    for pc in span.start..span.end {
-        if ends[pc as usize] != 0 {
+    let mut most: u16 = 2;
+    for pc in whole.head..whole.end {
+        if ends.at(pc) != 0 {
             most = most.saturating_add(1);
         }
     }
@@ -66,191 +75,156 @@ fn most_sweeps(span: Span, ends: &[u32]) -> u32
 
 /// One more than the steps of the longest way from the pc over this edge, which is not one to the
 /// head; 0 where there is none.
-fn way_along(
-    image: &Image,
-    whole: Span,
-    known: &[Option<Row>],
-    counters: &[[u32; 4]],
+fn way_over(
+    body: &Body,
+    whole: Loop,
+    known: &Known,
+    ways: &Potentials,
     pc: u16,
     branch: bool,
-    ways: &[u32],
 ) -> u64
-    requires there { pc < length image.now.points }
-    requires short { length image.now.points ≤ 4096 }
-    requires room { whole.end ≤ length image.now.points }
-    requires known { length known.now ≡ length image.now.points }
-    requires counters { length counters.now ≡ length image.now.points }
-    requires ways { length ways.now ≡ length image.now.points }
+    requires { pc < body.now.end }
 {
-    let Some(to) = target(image, whole, pc, branch) else {
+    let Some(edge) = edge_in(body, pc, branch) else {
         return 0;
     };
-    if to == whole.start || ways[to as usize] == 0 {
+    if edge.to <= whole.head || whole.end <= edge.to || ways.at(edge.to).constant == 0 {
         return 0;
     }
-    let own = own_counter(image.instr(pc), &known[pc as usize], &counters[pc as usize]);
-    edge_constant(image, whole, pc, branch, own, ways, counters)
+    let asked = asked_over(body, known, ways, pc, branch);
+    owed(&asked, &ways.at(pc).coefficients)
 }
 
 /// One more than the steps of the longest way from the pc; 0 where there is none.
-fn way_from(
-    image: &Image,
-    whole: Span,
-    known: &[Option<Row>],
-    counters: &[[u32; 4]],
-    pc: u16,
-    ways: &[u32],
-) -> u32
-    requires there { pc < length image.now.points }
-    requires short { length image.now.points ≤ 4096 }
-    requires room { whole.end ≤ length image.now.points }
-    requires known { length known.now ≡ length image.now.points }
-    requires counters { length counters.now ≡ length image.now.points }
-    requires ways { length ways.now ≡ length image.now.points }
+fn way_from(body: &Body, whole: Loop, known: &Known, ways: &Potentials, pc: u16) -> u32
+    requires { pc < body.now.end }
 {
-    let along = way_along(image, whole, known, counters, pc, false, ways);
-    let branching = way_along(image, whole, known, counters, pc, true, ways);
+    let along = way_over(body, whole, known, ways, pc, false);
+    let branching = way_over(body, whole, known, ways, pc, true);
     match u32::try_from(along.max(branching)) {
         Ok(way) => way,
         Err(_) => u32::MAX,
     }
 }
 
+/// The way from a pc is so long.
+fn set_way(ways: &mut Potentials, pc: u16, way: u32)
+    requires { pc < 4096 }
+{
+    let coefficients = ways.at(pc).coefficients;
+    ways.set(
+        pc,
+        Potential {
+            constant: way,
+            coefficients,
+        },
+    );
+}
+
 /// Finds the ways to the last pc from each place of a loop, from what is known of them; whether
 /// some way is longer now.
-fn lengthen(
-    image: &Image,
-    whole: Span,
-    known: &[Option<Row>],
-    counters: &[[u32; 4]],
-    last: u16,
-    ways: &mut [u32],
-) -> bool
-    requires short { length image.now.points ≤ 4096 }
-    requires room { whole.end ≤ length image.now.points }
-    requires known { length known.now ≡ length image.now.points }
-    requires counters { length counters.now ≡ length image.now.points }
-    requires ways { length ways.old ≡ length image.now.points }
+fn lengthen(body: &Body, whole: Loop, known: &Known, last: u16, ways: &mut Potentials) -> bool
+    requires { whole.end ≤ body.now.end }
 {
     let mut changed = false;
-    for pc in (whole.start..whole.end).rev() {
+    for pc in (whole.head..whole.end).rev() {
         let way = if pc == last {
             1
         } else {
-            way_from(image, whole, known, counters, pc, ways)
+            way_from(body, whole, known, ways, pc)
         };
-        changed |= way != ways[pc as usize];
-        ways[pc as usize] = way;
+        changed |= way != ways.at(pc).constant;
+        set_way(ways, pc, way);
     }
     changed
-}
-
-fn clear(span: Span, ways: &mut [u32])
-    requires { span.end ≤ length ways.old }
-{
-    for pc in span.start..span.end {
-        ways[pc as usize] = 0;
-    }
 }
 
 /// What a unit of its counter has to pay for at the LOOP that leads back to the head: that step
 /// and the longest way from the head to it; `None` where such ways have no end.
 fn longest_way(
-    image: &Image,
-    whole: Span,
-    known: &[Option<Row>],
-    counters: &[[u32; 4]],
+    body: &Body,
+    whole: Loop,
+    known: &Known,
     last: u16,
-    most: u32,
-    ways: &mut [u32],
+    most: u16,
+    ways: &mut Potentials,
 ) -> Option<u32>
-    requires short { length image.now.points ≤ 4096 }
-    requires room { whole.end ≤ length image.now.points }
-    requires head { whole.start < length image.now.points }
-    requires known { length known.now ≡ length image.now.points }
-    requires counters { length counters.now ≡ length image.now.points }
-    requires ways { length ways.old ≡ length image.now.points }
+    requires end { whole.end ≤ body.now.end }
+    requires head { whole.head < body.now.end }
 {
-    clear(whole, ways);
+    for pc in whole.head..whole.end {
+        set_way(ways, pc, 0);
+    }
     for _ in 0..most {
-        if !lengthen(image, whole, known, counters, last, ways) {
-            return Some(larger(1, ways[whole.start as usize]));
+        if !lengthen(body, whole, known, last, ways) {
+            return Some(ways.at(whole.head).constant.max(1));
         }
     }
     None
 }
 
-/// Counters cost before each instruction of these what they cost behind its edges; whether some
+/// Counters cost before each of these instructions what they cost behind its edges; whether some
 /// coefficient is larger now.
-fn carry(
-    image: &Image,
-    span: Span,
-    places: Span,
-    known: &[Option<Row>],
-    counters: &mut [[u32; 4]],
-) -> bool
-    requires short { length image.now.points ≤ 4096 }
-    requires room { span.end ≤ length image.now.points }
-    requires places { places.end ≤ length image.now.points }
-    requires known { length known.now ≡ length image.now.points }
-    requires counters { length counters.old ≡ length image.now.points }
+fn carry(body: &Body, places: Loop, known: &Known, ways: &mut Potentials) -> bool
+    requires { places.end ≤ body.now.end }
 {
     let mut changed = false;
-    for pc in (places.start..places.end).rev() {
-        let own = own_counter(image.instr(pc), &known[pc as usize], &counters[pc as usize]);
-        let next = coefficients_at(image, span, pc, own, counters);
-        changed |= next != counters[pc as usize];
-        counters[pc as usize] = next;
+    for pc in (places.head..places.end).rev() {
+        let i = body.image.instr(pc);
+        let here = ways.at(pc);
+        let pays = if is_loop(i) {
+            here.coefficients[i.a as usize]
+        } else {
+            0
+        };
+        let along = asked_over(body, known, ways, pc, false);
+        let branching = asked_over(body, known, ways, pc, true);
+        let coefficients = coefficients_at(i, &along, &branching, pays);
+        changed |= coefficients != here.coefficients;
+        ways.set(
+            pc,
+            Potential {
+                constant: here.constant,
+                coefficients,
+            },
+        );
     }
     changed
 }
 
 /// Raises what the counter of a LOOP pays for; whether it was less.
-fn raise(image: &Image, pc: u16, way: u32, counters: &mut [[u32; 4]]) -> bool
-    requires there { pc < length image.now.points }
-    requires counters { length counters.old ≡ length image.now.points }
+fn raise(body: &Body, pc: u16, way: u32, ways: &mut Potentials) -> bool
+    requires { pc < body.now.end }
 {
-    let i = image.instr(pc);
-    if !is_loop_back(i, true) {
+    let i = body.image.instr(pc);
+    if !is_loop(i) {
         return false;
     }
-    let mut next = counters[pc as usize];
-    if way <= next[i.a as usize] {
+    let mut here = ways.at(pc);
+    if way <= here.coefficients[i.a as usize] {
         return false;
     }
-    next[i.a as usize] = way;
-    counters[pc as usize] = next;
+    here.coefficients[i.a as usize] = way;
+    ways.set(pc, here);
     true
 }
 
-/// Finds what counters pay for at each LOOP that leads back to the head of these places; whether
+/// Finds what counters pay for at each LOOP that leads back to the head of a loop; whether
 /// something is new.
-fn find_at_head(
-    image: &Image,
-    span: Span,
-    whole: Span,
-    known: &[Option<Row>],
-    most: u32,
-    ways: &mut [u32],
-    counters: &mut [[u32; 4]],
-) -> bool
-    requires short { length image.now.points ≤ 4096 }
-    requires room { span.end ≤ length image.now.points }
-    requires whole { whole.end ≤ length image.now.points }
-    requires known { length known.now ≡ length image.now.points }
-    requires ways { length ways.old ≡ length image.now.points }
-    requires counters { length counters.old ≡ length image.now.points }
+fn find_at_head(body: &Body, whole: Loop, known: &Known, most: u16, ways: &mut Potentials) -> bool
+    requires end { whole.end ≤ body.now.end }
+    requires head { whole.head < body.now.end }
 {
     let mut changed = false;
-    for pc in whole.start..whole.end {
-        let i = image.instr(pc);
-        if is_loop_back(i, true) && i.target == whole.start {
-            match longest_way(image, whole, known, counters, pc, most, ways) {
-                Some(way) => changed |= raise(image, pc, way, counters),
+    for pc in whole.head..whole.end {
+        let i = body.image.instr(pc);
+        if is_loop(i) && i.target == whole.head {
+            match longest_way(body, whole, known, pc, most, ways) {
+                Some(way) => changed |= raise(body, pc, way, ways),
                 None => changed = true,
             }
             for _ in 0..most {
-                if !carry(image, span, whole, known, counters) {
+                if !carry(body, whole, known, ways) {
                     break;
                 }
             }
@@ -259,58 +233,53 @@ fn find_at_head(
     changed
 }
 
-/// Finds what counters pay for in routine r, from its last loop to its first, so that a loop comes
+/// Finds what counters pay for in a routine, from its last loop to its first, so that a loop comes
 /// behind those in it; whether something is new.
-fn find_in(
-    image: &Image,
-    r: u16,
-    known: &[Option<Row>],
-    ends: &[u32],
-    ways: &mut [u32],
-    counters: &mut [[u32; 4]],
-) -> bool
-    requires routine { r < length image.now.routines }
-    requires known { length known.now ≡ length image.now.points }
-    requires ends { length ends.now ≡ length image.now.points }
-    requires ways { length ways.old ≡ length image.now.points }
-    requires counters { length counters.old ≡ length image.now.points }
-{
-    let span = span_of(image, r);
+fn find_in(body: &Body, known: &Known, ends: &Table<u16>, ways: &mut Potentials) -> bool {
     let mut changed = false;
-    for head in (span.start..span.end).rev() {
-        let here = Span {
-            start: head,
+    for head in (body.start..body.end).rev() {
+        let here = Loop {
+            head,
             end: head + 1,
         };
-        let _more = carry(image, span, here, known, counters);
-        if ends[head as usize] != 0 {
-            let whole = extent(span, ends, head);
-            let most = most_sweeps(whole, ends);
-            changed |= find_at_head(image, span, whole, known, most, ways, counters);
+        let _more = carry(body, here, known, ways);
+        if ends.at(head) != 0 {
+            let whole = loop_at(body, ends, head);
+            let most = most_sweeps(ends, whole);
+            changed |= find_at_head(body, whole, known, most, ways);
         }
     }
     changed
 }
 
-/// What a unit of each counter has to pay for at each LOOP, and is to cost before it.
-pub(crate) fn find_counters(
+/// Notes what a unit of the counter pays for at each LOOP of a routine.
+fn note_units(body: &Body, ways: &Potentials, units: &mut Table<u32>) {
+    for pc in body.start..body.end {
+        let i = body.image.instr(pc);
+        if is_loop(i) {
+            units.set(pc, ways.at(pc).coefficients[i.a as usize]);
+        }
+    }
+}
+
+/// What a unit of its counter has to pay for at each LOOP.
+pub(crate) fn find_units(
     alloc: Global,
     image: &Image,
-    known: &[Option<Row>],
-) -> Result<Vec<[u32; 4]>, AllocError>
-    requires { length known.now ≡ length image.now.points }
-    ensures { IfOk result (λ counters. length counters.items ≡ length image.now.points) }
-{
-    let mut ends = zero_steps(alloc, image.len() as usize)?;
-    let mut ways = zero_steps(alloc, image.len() as usize)?;
-    let mut counters = zero_coefficients(alloc, image.len() as usize)?;
+    known: &Known,
+) -> Result<Table<u32>, AllocError> {
+    let mut ends = Table::new(alloc, 0)?;
+    let mut ways = Potentials::new(alloc)?;
+    let mut units = Table::new(alloc, 0)?;
     for r in 0..image.count() {
-        note_ends(image, r, &mut ends);
+        let body = body_of(image, r);
+        note_ends(&body, &mut ends);
         for _ in 0..MOST_ROUNDS {
-            if !find_in(image, r, known, &ends, &mut ways, &mut counters) {
+            if !find_in(&body, known, &ends, &mut ways) {
                 break;
             }
         }
+        note_units(&body, &ways, &mut units);
     }
-    Ok(counters)
+    Ok(units)
 }

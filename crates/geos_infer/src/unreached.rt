@@ -1,134 +1,211 @@
 //! Rows at places that nothing reaches: the rules are tried there too.
 
-ghost use Rattle.std.specs.Prelude.{◌≡◌, ◌<◌, ◌≤◌, ◌+◌, length, true};
+ghost use Rattle.std.specs.Prelude.{◌≡◌, ◌<◌, ◌+◌, true};
+ghost use Rattle.geos_image.specs.Fields.{FieldsFit, CalleeFits};
 ghost use Rattle.geos_image.specs.Parts.{start_of};
 ghost use Rattle.geos_infer.specs.Flow.{AllKnown};
 
-use crate::common::{clean, join};
-use crate::edges::{Span, edge_end, has_edge, span_of};
-use crate::rounds::{EXACT_ROUNDS, MOST_ROUNDS, restart};
-use crate::widening::widened;
-use geos_image::{Image, Row};
-use geos_verify::after;
+use crate::body::Body;
+use crate::common::clean;
+use crate::edges::edge_in;
+use crate::flow::Arrival;
+use crate::known::Known;
+use crate::rounds::{Turn, pass};
+use crate::table::Table;
+use geos_image::{Instr, Opcode, Pointer, Row, SlotState};
+use geos_opcodes::{Kind, SlotUse};
+use geos_verify::uses_at;
 
-/// Whether something is known at each instruction of routine r.
-fn all_known(image: &Image, r: u16, known: &[Option<Row>]) -> bool
-    requires routine { r < length image.now.routines }
-    requires known { length known.now ≡ length image.now.points }
-    ensures { AllKnown known.now (start_of image.now.routines (r + 1)) → result ≡ true }
+/// Whether something is known at each instruction of a routine.
+fn all_known(body: &Body, known: &Known) -> bool
+    ensures { AllKnown known.now (start_of body.now.image.now.routines (body.now.r + 1)) → result ≡ true }
 {
-    let span = span_of(image, r);
-    for pc in span.start..span.end {
-        let Some(_row) = known[pc as usize] else {
+    for pc in body.start..body.end {
+        let Some(_row) = known.at(pc) else {
             return false;
         };
     }
     true
 }
 
-/// The strongest row at a place that nothing reaches, with the slots that a return wants.
-fn strongest(exit: &Row) -> Row {
+/// The first slot that is held, with as many bytes as can be.
+fn first_held(slots: &[SlotState; 4]) -> Option<Pointer> {
+    for slot in 0..4 {
+        match slots[usize::from(slot)] {
+            SlotState::Empty => (),
+            _ => {
+                return Some(Pointer {
+                    slot,
+                    least: u16::MAX,
+                });
+            }
+        }
+    }
+    None
+}
+
+/// A pointer as it is wanted, with as many bytes as can be; any, where none is wanted.
+fn strongest_pointer(wanted: Option<Pointer>, any: Option<Pointer>) -> Option<Pointer> {
+    match wanted {
+        Some(pointer) => Some(Pointer {
+            slot: pointer.slot,
+            least: u16::MAX,
+        }),
+        None => any,
+    }
+}
+
+/// The strongest row that fits another, but for marks.
+fn strongest(row: &Row) -> Row {
+    let any = first_held(&row.slots);
+    let [p0, p1, p2, p3] = row.pointers;
     Row {
         bounds: [0; 8],
-        slots: exit.slots,
-        pointers: [None; 4],
+        slots: row.slots,
+        pointers: [
+            strongest_pointer(p0, any),
+            strongest_pointer(p1, any),
+            strongest_pointer(p2, any),
+            strongest_pointer(p3, any),
+        ],
         pairs: [true; 6],
     }
 }
 
-/// What is known where another row comes to a place, if that is new; slots that differ in more
-/// than marks stay as they are. Beyond the exact rounds what changes is given up.
-fn weaker(old: &Option<Row>, next: &Row, exact: bool) -> Option<Row> {
-    let Some(old) = old else {
-        return Some(*next);
-    };
-    let joined = join(old, next)?;
-    if joined == *old {
-        return None;
+/// A slot with a block of a kind.
+fn held(kind: Kind) -> SlotState {
+    match kind {
+        Kind::MemBlock => SlotState::Mem,
+        Kind::VmBlock => SlotState::Vm { marked: true },
+        Kind::DbGroup => SlotState::Db { marked: true },
     }
-    Some(if exact { joined } else { widened(old, &joined) })
 }
 
-/// The row at the pc goes along the edge, if that leads within the routine to a place that is
-/// not reached; whether some row is weaker now.
-fn spread(
-    image: &Image,
-    span: Span,
-    reached: &[Option<Row>],
-    known: &mut [Option<Row>],
+/// The slots before an instruction, where those behind it are such.
+fn slots_before(i: &Instr, behind: &[SlotState; 4]) -> [SlotState; 4]
+    requires { FieldsFit i.now.opcode i.now }
+{
+    let mut slots = *behind;
+    match uses_at(i).slot {
+        SlotUse::LocksNew(_) | SlotUse::Locks(_) => slots[i.a as usize] = SlotState::Empty,
+        SlotUse::Unlocks(kind) => slots[i.a as usize] = held(kind),
+        _ => (),
+    }
+    slots
+}
+
+/// What an instruction leads on to: the row of the routine that is called, that of the place behind
+/// it as far as it is known, or that of the target; else the exit row.
+fn wanted_behind(body: &Body, pc: u16, from: &Known) -> Row
+    requires { pc < body.now.end }
+{
+    let i = body.image.instr(pc);
+    if let Opcode::Call = i.opcode {
+        return body.image.routine(i.imm).entry;
+    }
+    for branch in [false, true] {
+        if let Some(edge) = edge_in(body, pc, branch) {
+            if let Some(row) = from.at(edge.to) {
+                return Row {
+                    bounds: row.bounds,
+                    slots: slots_before(i, &row.slots),
+                    pointers: row.pointers,
+                    pairs: row.pairs,
+                };
+            }
+        }
+    }
+    body.image.routine(body.r).exit
+}
+
+/// The strongest rows, from behind, at places where nothing is known.
+fn guess(body: &Body, known: &Known, from: &mut Known) {
+    for pc in body.start..body.end {
+        from.set(pc, known.at(pc));
+    }
+    for pc in (body.start..body.end).rev() {
+        if from.at(pc).is_none() {
+            from.set(pc, Some(strongest(&wanted_behind(body, pc, from))));
+        }
+    }
+}
+
+/// What is known at a place goes along the edges to places that nothing reaches.
+fn pass_lone(
+    body: &Body,
     pc: u16,
     row: &Row,
-    branch: bool,
-    exact: bool,
+    lone: &Table<bool>,
+    turns: &mut Table<Turn>,
+    known: &mut Known,
 ) -> bool
-    requires there { pc < length image.now.points }
-    requires short { length image.now.points ≤ 4096 }
-    requires room { span.end ≤ length image.now.points }
-    requires reached { length reached.now ≡ length image.now.points }
-    requires known { length known.old ≡ length image.now.points }
+    requires { pc < body.now.end }
 {
-    let i = image.instr(pc);
-    if !has_edge(i, branch) {
-        return false;
-    }
-    let to = edge_end(pc, i, branch);
-    if to < span.start || span.end <= to {
-        return false;
-    }
-    let None = reached[to as usize] else {
-        return false;
-    };
-    let next = after(image, pc, row, branch);
-    match weaker(&known[to as usize], &next, exact) {
-        Some(row) => {
-            known[to as usize] = Some(row);
-            true
-        }
-        None => false,
-    }
-}
-
-/// Rows go once along the edges between places of routine r that are not reached; whether some
-/// row is weaker now.
-fn spread_all(
-    image: &Image,
-    r: u16,
-    reached: &[Option<Row>],
-    known: &mut [Option<Row>],
-    exact: bool,
-) -> bool
-    requires routine { r < length image.now.routines }
-    requires reached { length reached.now ≡ length image.now.points }
-    requires known { length known.old ≡ length image.now.points }
-{
-    let span = span_of(image, r);
-    let strongest = strongest(&image.routine(r).exit);
     let mut changed = false;
-    for pc in span.start..span.end {
-        if reached[pc as usize].is_none() {
-            let row = clean(&known[pc as usize].unwrap_or(strongest));
-            known[pc as usize] = Some(row);
-            changed |= spread(image, span, reached, known, pc, &row, false, exact);
-            changed |= spread(image, span, reached, known, pc, &row, true, exact);
+    for branch in [false, true] {
+        if let Some(edge) = edge_in(body, pc, branch) {
+            if lone.at(edge.to) {
+                if let Arrival::Weaker = pass(body, edge, row, turns, known) {
+                    changed = true;
+                }
+            }
         }
     }
     changed
 }
 
-/// Finds rows at the instructions of routine r where nothing is known; what is known elsewhere
-/// stays. The other table is only written.
-pub(crate) fn fill(image: &Image, r: u16, reached: &mut [Option<Row>], known: &mut [Option<Row>])
-    requires routine { r < length image.now.routines }
-    requires reached { length reached.old ≡ length image.now.points }
-    requires known { length known.old ≡ length image.now.points }
-    ensures { AllKnown known.old (start_of image.now.routines (r + 1)) → known.new ≡ known.old }
+/// What waits of the places that nothing reaches goes along its edges, in the order of the pcs; whether
+/// something came of that.
+fn round(
+    body: &Body,
+    from: &Known,
+    lone: &Table<bool>,
+    turns: &mut Table<Turn>,
+    known: &mut Known,
+) -> bool {
+    let mut changed = false;
+    for pc in body.start..body.end {
+        let Turn { waits, times } = turns.at(pc);
+        if waits {
+            turns.set(
+                pc,
+                Turn {
+                    waits: false,
+                    times,
+                },
+            );
+            let exit = body.image.routine(body.r).exit;
+            let row = clean(&known.at(pc).or(from.at(pc)).unwrap_or(exit));
+            known.set(pc, Some(row));
+            changed |= pass_lone(body, pc, &row, lone, turns, known);
+        }
+    }
+    changed
+}
+
+/// Finds rows at the instructions of a routine where nothing is known; what is known elsewhere
+/// stays. Where two rows that come to a place have no join the first stays.
+pub(crate) fn fill(
+    body: &Body,
+    from: &mut Known,
+    lone: &mut Table<bool>,
+    turns: &mut Table<Turn>,
+    known: &mut Known,
+)
+    ensures { AllKnown known.old (start_of body.now.image.now.routines (body.now.r + 1)) → known.new ≡ known.old }
 {
-    if all_known(image, r, known) {
+    if all_known(body, known) {
         return;
     }
-    restart(image, r, known, reached);
-    for round in 0..MOST_ROUNDS {
-        if !spread_all(image, r, reached, known, round < EXACT_ROUNDS) {
+    for pc in body.start..body.end {
+        let waits = known.at(pc).is_none();
+        lone.set(pc, waits);
+        turns.set(pc, Turn { waits, times: 0 });
+    }
+    guess(body, known, from);
+    // Each round but the last weakens a row, as in `rounds`.
+    for _ in 0..u32::MAX {
+        if !round(body, from, lone, turns, known) {
             return;
         }
     }

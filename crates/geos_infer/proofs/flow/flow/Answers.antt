@@ -1,40 +1,36 @@
-use Rattle.std.proofs.Common.{◌+◌, ◌*◌, ℕ, true, false, sym, subst, ◌∙◌, arith, refl}
+use Rattle.std.proofs.Common.{◌≡◌, ◌+◌, ◌*◌, ℕ, true, false, sym, subst, ◌∙◌, arith, refl}
 use Rattle.std.proofs.lemmas.Bool.{false≢true}
 use Rattle.geos_infer.specs.Flow.{Flowing}
+use Rattle.geos_infer.proofs.Bodies.{body-spans}
 use Rattle.geos_infer.proofs.Flows.{flows-on}
 use Rattle.geos_infer.proofs.flow.flow.Goals as goal
 
 pub loop-pc-init : goal.loop-pc-init
-loop-pc-init c = (
-  c.requires.len,
-  λ want forward holds start. subst (λ (n : ℕ). Flowing c.args.image.now want c.args.known.now (2 * n)) (sym c.span_of-span.ensures.start) start,
-)
+loop-pc-init c = λ want forward holds start. subst (λ (n : ℕ). Flowing c.args.body.now.image.now want c.args.known.now (2 * n)) (sym c.args.body.now.begins) start
 
-pub returns-then-not-spread : goal.returns-then-not-spread
-returns-then-not-spread c =
-    let span = c.span_of-span.ensures in
+pub returns-then-not-spread_ahead : goal.returns-then-not-spread_ahead
+returns-then-not-spread_ahead c =
+    let body = c.args.body.now in
     λ want forward holds start.
-    let step = flows-on c.args.image.now forward want holds c.loop-pc.known c.spread.new.known c.args.r c.span_of-span.result.start c.span_of-span.result.end c.loop-pc.pc false c.spread.result (2 * c.loop-pc.pc) (2 * c.loop-pc.pc + 1)
-    span.spans span.room c.loop-pc.auto.pc c.loop-pc-test.true refl refl (c.loop-pc.invariant.1 want forward holds start) c.spread.ensures in
-    absurd (false≢true (sym c.if-not-spread.true ∙ step.0))
+    let step = flows-on body.image.now forward want holds c.loop-pc.known c.spread_ahead.new.known body.r body.start body.end c.loop-pc.pc false c.spread_ahead.result (2 * c.loop-pc.pc) (2 * c.loop-pc.pc + 1)
+    (body-spans body) body.room c.loop-pc.auto.pc c.loop-pc-test.true refl refl (c.loop-pc.invariant want forward holds start) c.spread_ahead.ensures in
+    absurd (false≢true (sym c.if-not-spread_ahead.true ∙ step.0))
 
-pub returns-then-not-spread-2 : goal.returns-then-not-spread-2
-returns-then-not-spread-2 c =
-    let span = c.span_of-span.ensures in
+pub returns-then-not-spread_ahead-2 : goal.returns-then-not-spread_ahead-2
+returns-then-not-spread_ahead-2 c =
+    let body = c.args.body.now in
     λ want forward holds start.
-    let step = flows-on c.args.image.now forward want holds c.loop-pc.known c.spread.new.known c.args.r c.span_of-span.result.start c.span_of-span.result.end c.loop-pc.pc false c.spread.result (2 * c.loop-pc.pc) (2 * c.loop-pc.pc + 1)
-    span.spans span.room c.loop-pc.auto.pc c.loop-pc-test.true refl refl (c.loop-pc.invariant.1 want forward holds start) c.spread.ensures in
-    let next = flows-on c.args.image.now forward want holds c.spread.new.known c.spread-in-loop-pc.new.known c.args.r c.span_of-span.result.start c.span_of-span.result.end c.loop-pc.pc true c.spread-in-loop-pc.result (2 * c.loop-pc.pc + 1) (2 * (c.loop-pc.pc + 1))
-    span.spans span.room c.loop-pc.auto.pc c.loop-pc-test.true refl (omega arith) step.1 c.spread-in-loop-pc.ensures in
-    absurd (false≢true (sym c.if-not-spread-2.true ∙ next.0))
+    let step = flows-on body.image.now forward want holds c.loop-pc.known c.spread_ahead.new.known body.r body.start body.end c.loop-pc.pc false c.spread_ahead.result (2 * c.loop-pc.pc) (2 * c.loop-pc.pc + 1)
+    (body-spans body) body.room c.loop-pc.auto.pc c.loop-pc-test.true refl refl (c.loop-pc.invariant want forward holds start) c.spread_ahead.ensures in
+    let next = flows-on body.image.now forward want holds c.spread_ahead.new.known c.spread_ahead-in-loop-pc.new.known body.r body.start body.end c.loop-pc.pc true c.spread_ahead-in-loop-pc.result (2 * c.loop-pc.pc + 1) (2 * (c.loop-pc.pc + 1))
+    (body-spans body) body.room c.loop-pc.auto.pc c.loop-pc-test.true refl (omega arith) step.1 c.spread_ahead-in-loop-pc.ensures in
+    absurd (false≢true (sym c.if-not-spread_ahead-2.true ∙ next.0))
 
 pub loop-pc-preserved : goal.loop-pc-preserved
 loop-pc-preserved c =
-    let span = c.span_of-span.ensures in (
-      omega arith,
-      λ want forward holds start.
-          let step = flows-on c.args.image.now forward want holds c.loop-pc.known c.spread.new.known c.args.r c.span_of-span.result.start c.span_of-span.result.end c.loop-pc.pc false c.spread.result (2 * c.loop-pc.pc) (2 * c.loop-pc.pc + 1)
-          span.spans span.room c.loop-pc.auto.pc c.loop-pc-test.true refl refl (c.loop-pc.invariant.1 want forward holds start) c.spread.ensures in
-          (flows-on c.args.image.now forward want holds c.spread.new.known c.spread-in-loop-pc.new.known c.args.r c.span_of-span.result.start c.span_of-span.result.end c.loop-pc.pc true c.spread-in-loop-pc.result (2 * c.loop-pc.pc + 1) (2 * (c.loop-pc.pc + 1))
-          span.spans span.room c.loop-pc.auto.pc c.loop-pc-test.true refl (omega arith) step.1 c.spread-in-loop-pc.ensures).1,
-    )
+    let body = c.args.body.now in
+    λ want forward holds start.
+    let step = flows-on body.image.now forward want holds c.loop-pc.known c.spread_ahead.new.known body.r body.start body.end c.loop-pc.pc false c.spread_ahead.result (2 * c.loop-pc.pc) (2 * c.loop-pc.pc + 1)
+    (body-spans body) body.room c.loop-pc.auto.pc c.loop-pc-test.true refl refl (c.loop-pc.invariant want forward holds start) c.spread_ahead.ensures in
+    (flows-on body.image.now forward want holds c.spread_ahead.new.known c.spread_ahead-in-loop-pc.new.known body.r body.start body.end c.loop-pc.pc true c.spread_ahead-in-loop-pc.result (2 * c.loop-pc.pc + 1) (2 * (c.loop-pc.pc + 1))
+    (body-spans body) body.room c.loop-pc.auto.pc c.loop-pc-test.true refl (omega arith) step.1 c.spread_ahead-in-loop-pc.ensures).1

@@ -1,9 +1,6 @@
-use Rattle.std.proofs.Common.{◌*◌, ◌∙◌, sym, ap, subst, List, Option, ℕ, length, map}
+use Rattle.std.proofs.Common.{sym, subst, map}
 use Rattle.std.proofs.lemmas.Bool.{false≢true}
-use Rattle.geos_image.specs.declared.row.Row.{Row}
 use Rattle.geos_image.specs.Parts.{Parts}
-use Rattle.geos_infer.specs.Flow.{Flowing}
-use Rattle.geos_infer.specs.Count.{Counting, ZerosFrom}
 use Rattle.geos_infer.specs.Theorem.{FindsWhatThereIs}
 use Rattle.geos_infer.proofs.Wanted.{row_at, constant_at, rows-wanted, steps-wanted}
 use Rattle.geos_infer.proofs.Finding.{found-legal, found-code, found-checked, made-legal, made-is, made-code}
@@ -24,7 +21,7 @@ pub unreachable-requires : goal.unreachable-requires
 unreachable-requires c =
     let image = c.args.skeleton.now in
     let points = c.in_ok-points.points.items in
-    let legal = found-legal image c.deref-2.result.now c.deref-3.result.now c.deref-4.result.now points c.len-legal.ensures.legal c.in_ok-points.ensures in
+    let legal = found-legal image c.in_ok-known.known c.in-Ok.potentials points c.len-legal.ensures.legal c.in_ok-points.ensures in
     absurd (false≢true (c.in-None.ensures.some.1 (made-legal image c.in_ok-routines.routines.items points c.in_ok-routines.ensures legal)))
 
 pub returns-clause-code : goal.returns-clause-code
@@ -32,17 +29,12 @@ returns-clause-code c =
     let image = c.args.skeleton.now in
     let points = c.in_ok-points.points.items in
     let is = made-is image c.in-Some.image c.in_ok-routines.routines.items points c.in_ok-routines.ensures c.in-Some.ensures.value in
-    made-code image c.in-Some.image points is (found-code image c.deref-2.result.now c.deref-3.result.now c.deref-4.result.now points c.in_ok-points.ensures)
+    made-code image c.in-Some.image points is (found-code image c.in_ok-known.known c.in-Ok.potentials points c.in_ok-points.ensures)
 
 pub returns-clause-found : goal.returns-clause-found
 returns-clause-found c =
     let image = c.args.skeleton.now in
     let points = c.in_ok-points.points.items in
     let is = made-is image c.in-Some.image c.in_ok-routines.routines.items points c.in_ok-routines.ensures c.in-Some.ensures.value in
-    let found = found-checked image c.len-legal.ensures.legal c.deref-2.result.now c.deref-3.result.now c.deref-4.result.now points (ap length c.deref-4.ensures.value ∙ c.in-Ok.ensures.coefficients)
-    (λ want forward holds. subst (λ (known : List (Option Row)). Flowing image want known (2 * length c.args.skeleton.now.points)) (sym c.deref-2.ensures.value) ((c.in_ok-known.ensures.found want forward holds).1))
-    (λ want forward holds. (
-    let counted = c.in-Ok.ensures.found want forward holds in
-    (subst (λ (steps : List ℕ). Counting image want steps 0) (sym c.deref-3.ensures.value) counted.0, subst (λ (coefficients : List (List ℕ)). ZerosFrom 0 coefficients) (sym c.deref-4.ensures.value) counted.1)
-    )) c.in_ok-points.ensures in
+    let found = found-checked image c.len-legal.ensures.legal c.in_ok-known.known c.in-Ok.potentials points (λ want forward holds. (c.in_ok-known.ensures.found want forward holds).1) c.in-Ok.ensures.found c.in_ok-points.ensures in
     subst (λ (x : Parts). FindsWhatThereIs image x) (sym is) found

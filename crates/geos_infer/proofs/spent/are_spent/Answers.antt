@@ -1,7 +1,6 @@
-use Rattle.std.proofs.Common.{sym, ◌∙◌, arith}
-use Rattle.std.proofs.lemmas.Bool.{false≢true}
+use Rattle.std.proofs.Common.{◌∙◌, rules}
+use Rattle.geos_infer.proofs.Accepting.{spent-zeros}
 use Rattle.geos_infer.proofs.spent.are_spent.Goals as goal
 
-pub returns-then-not-call_is_spent : goal.returns-then-not-call_is_spent
-returns-then-not-call_is_spent c = λ none.
-    absurd (false≢true (sym c.if-not-call_is_spent.true ∙ c.call_is_spent.ensures (λ k from within. none k (omega (arith, c.span_of-span.ensures.start, c.loop-pc.auto.pc)) within)))
+pub returns : goal.returns
+returns c = λ zero. c.are_spent.ensures ∙ spent-zeros c.args.touched.now c.args.q.now (search rules) zero

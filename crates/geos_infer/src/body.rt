@@ -1,0 +1,37 @@
+//! A routine of an image.
+
+ghost use Rattle.std.specs.Prelude.{◌≡◌, ◌<◌, ◌≤◌, ◌+◌, length};
+ghost use Rattle.geos_image.specs.Parts.{start_of};
+
+use geos_image::Image;
+
+/// Routine r of an image: its instructions are those from `start` on, up to `end`.
+#[derive(Clone, Copy)]
+pub(crate) struct Body<'a> {
+    pub(crate) image: &'a Image,
+    pub(crate) r: u16,
+    pub(crate) start: u16,
+    pub(crate) end: u16,
+    ghost there: { r < length image.now.routines },
+    ghost begins: { start ≡ start_of image.now.routines r },
+    ghost ends: { end ≡ start_of image.now.routines (r + 1) },
+    ghost order: { start ≤ end },
+    ghost room: { end ≤ length image.now.points },
+    ghost short: { length image.now.points ≤ 4096 },
+}
+
+/// Routine r of an image.
+pub(crate) fn body_of(image: &Image, r: u16) -> Body
+    requires { r < length image.now.routines }
+    ensures image { result.image.now ≡ image.now }
+    ensures r { result.r ≡ r }
+{
+    let start = image.start(r);
+    let end = start + image.routine(r).count;
+    Body {
+        image,
+        r,
+        start,
+        end,
+    }
+}
