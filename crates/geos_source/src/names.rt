@@ -6,7 +6,7 @@ ghost use Rattle.geos_source.specs.Names.{is_name_byte, is_name, name_of, label_
 
 use crate::fault::Why;
 use std::alloc::{AllocError, Global};
-use std::collections::HashMap;
+use std::collections::BTreeMap;
 
 /// A name as an image has it: 1 to 16 letters, digits and underscores, the first a letter; then
 /// zeros.
@@ -57,10 +57,11 @@ pub(crate) fn label_of(word: &[u8]) -> Option<Name>
     }
 }
 
-/// What names stand for.
+/// What names stand for, in the order of the names: a look-up takes no longer for some names than
+/// for others.
 #[derive(Drop)]
 pub(crate) struct Table {
-    values: HashMap<Name, u16>,
+    values: BTreeMap<Name, u16>,
 }
 
 impl Table {
@@ -71,7 +72,7 @@ impl Table {
         ensures { table_of result ≡ none_defined }
     {
         Table {
-            values: HashMap::new(alloc),
+            values: BTreeMap::new(alloc),
         }
     }
 
