@@ -35,6 +35,14 @@ abbrev pub StopsSession : List ℕ → List ℕ → Type 0
 StopsSession bytes text =
     (length bytes ≤ most_bytes) × (hex_fault (lines bytes) ≡ None) × (StopsLines (lines bytes) text ⊎ RunsLines (lines bytes) text)
 
+-- a session of these bytes ran, and a writer got its text
+abbrev pub RanBytes : List ℕ → Option (List ℕ) → Option (List ℕ) → Type 0
+RanBytes bytes old new = (text : List ℕ) × RunsSession bytes text × Appends old new text
+
+-- a session of these bytes was stopped by a writer that failed, which got the text up to there
+abbrev pub StoppedBytes : List ℕ → Option (List ℕ) → Option (List ℕ) → Type 0
+StoppedBytes bytes old new = (text : List ℕ) × StopsSession bytes text × Appends old new text
+
 -- a reader gave a session, which ran, and a writer got its text
 abbrev pub RanSession : Option (List ℕ) → Option (List ℕ) → Option (List ℕ) → Option (List ℕ) → Type 0
 RanSession given left old new = (bytes text : List ℕ) × Reads given left bytes × RunsSession bytes text × Appends old new text
@@ -51,6 +59,11 @@ SessionEndsBy bytes TooLong = most_bytes < length bytes
 SessionEndsBy bytes (BadHex line) = (length bytes ≤ most_bytes) × (hex_fault (lines bytes) ≡ Some line)
 SessionEndsBy bytes fault =
     (length bytes ≤ most_bytes) × (hex_fault (lines bytes) ≡ None) × EndsBy (image_bytes (lines bytes)) (script_lines (lines bytes)) fault
+
+-- why such a session ends with a fault; nothing is said of it where an allocation was refused
+abbrev pub EndsBytes : List ℕ → ScriptFault → Type 0
+EndsBytes bytes Memory = Unit {0}
+EndsBytes bytes fault = SessionEndsBy bytes fault
 
 -- why a reader was not read to its end
 abbrev pub EndsReading : Option (List ℕ) → Option (List ℕ) → ScriptFault → Type 0

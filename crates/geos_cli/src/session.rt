@@ -6,7 +6,7 @@ ghost use Rattle.geos_cli.specs.declared.fault.ScriptFault.TheVariants.{Read, Wr
 ghost use Rattle.geos_cli.specs.Counted.{Rose};
 ghost use Rattle.geos_cli.specs.Fault.{KeptUnless};
 ghost use Rattle.geos_cli.specs.Script.{most_bytes};
-ghost use Rattle.geos_cli.specs.Session.{Reads, EndsReading, RanSession, StoppedSession, EndsSession};
+ghost use Rattle.geos_cli.specs.Session.{Reads, EndsReading, RanBytes, StoppedBytes, EndsBytes, RanSession, StoppedSession, EndsSession};
 
 use crate::counted::Counted;
 use crate::fault::ScriptFault;
@@ -51,6 +51,38 @@ fn read_all<R: Read>(alloc: Global, input: &mut Counted<R>) -> Result<Vec<u8>, S
     Err(ScriptFault::TooLong)
 }
 
+fn flush<W: Write>(out: &mut Counted<W>) -> Result<(), ScriptFault>
+    ensures bytes { Keeps (W.contents out.old.stream) (W.contents out.new.stream) }
+    ensures flushed { IfOk result (λ _. out.new.flushed ≡ true) }
+    ensures kept { IfOk result (λ _. out.new.failures ≡ out.old.failures) }
+    ensures failed { IfErr result (λ fault. (fault ≡ Write) × Rose out.old.failures out.new.failures) }
+{
+    match out.flush() {
+        Ok(()) => Ok(()),
+        Err(_) => Err(ScriptFault::Write),
+    }
+}
+
+/// Runs the session that the bytes are, and flushes the writer.
+fn run_bytes<W: Write>(alloc: Global, bytes: &[u8], out: &mut Counted<W>) -> Result<(), ScriptFault>
+    requires { length bytes.now ≤ most_bytes }
+    ensures ran { IfOk result (λ _. RanBytes bytes.now (W.contents out.old.stream) (W.contents out.new.stream)) }
+    ensures flushed { IfOk result (λ _. out.new.flushed ≡ true) }
+    ensures due { IfErr result (EndsBytes bytes.now) }
+    ensures stopped { IfErr result (λ fault. fault ≡ Write → StoppedBytes bytes.now (W.contents out.old.stream) (W.contents out.new.stream)) }
+    ensures nothing_written { IfErr result (λ fault. fault ≢ Write → Keeps (W.contents out.old.stream) (W.contents out.new.stream)) }
+    ensures not_asked { IfErr result (λ fault. fault ≢ Write → out.new.asked ≡ out.old.asked) }
+    ensures writer_failed { IfErr result (λ fault. fault ≡ Write → Rose out.old.failures out.new.failures) }
+    ensures writer_kept { KeptUnless Write result out.old.failures out.new.failures }
+{
+    let (image, script) = image_and_script(alloc, bytes)?;
+    let mut kernel = Kernel::new(alloc, REGION)?;
+    match run_script(alloc, &image, script, &mut kernel, out) {
+        Ok(()) => flush(out),
+        Err(fault) => Err(fault),
+    }
+}
+
 /// Reads a session to its end, runs it, and flushes the writer: an image in hexadecimal
 /// digits, a line `end`, and a script as of `run_script`. It begins with no memory block, in a
 /// region of 65,536 bytes.
@@ -86,11 +118,5 @@ pub fn run_session<R: Read, W: Write>(
     ensures asked { input.new.asked ≤ input.old.asked + most_bytes + 1 }
 {
     let bytes = read_all(alloc, input)?;
-    let (image, script) = image_and_script(alloc, &bytes)?;
-    let mut kernel = Kernel::new(alloc, REGION)?;
-    run_script(alloc, &image, script, &mut kernel, out)?;
-    match out.flush() {
-        Ok(()) => Ok(()),
-        Err(_) => Err(ScriptFault::Write),
-    }
+    run_bytes(alloc, &bytes, out)
 }

@@ -1,0 +1,18 @@
+use Rattle.geos_cli.specs.Session.{EndsBytes}
+use Rattle.geos_cli.proofs.Sessions.{passed-on, if-ok, if-fault, hex-ends, session-ran, session-unflushed, session-stopped}
+use Rattle.geos_cli.proofs.session.run_bytes.Goals as goal
+
+pub returns-in_err-image-clause-due : goal.returns-in_err-image-clause-due
+returns-in_err-image-clause-due g c = passed-on (EndsBytes c.args.bytes.now) _ _ c.from_residual.ensures.1 (hex-ends _ c.requires _ c.in_err-image.ensures.bad)
+
+pub returns-in-Ok-clause-ran : goal.returns-in-Ok-clause-ran
+returns-in-Ok-clause-ran g c =
+    if-ok c.flush.result (session-ran _ _ _ _ _ _ c.requires c.in_ok-image.ensures.good c.in_ok-image.ensures.image c.in_ok-image.ensures.script c.deref.ensures.value c.in_ok-kernel.ensures.memory _ _ _ c.in-Ok.ensures.ran c.flush.ensures.bytes)
+
+pub returns-in-Ok-clause-stopped : goal.returns-in-Ok-clause-stopped
+returns-in-Ok-clause-stopped g c =
+    if-fault c.flush.result _ (session-unflushed _ _ _ _ _ _ c.requires c.in_ok-image.ensures.good c.in_ok-image.ensures.image c.in_ok-image.ensures.script c.deref.ensures.value c.in_ok-kernel.ensures.memory _ _ _ c.in-Ok.ensures.ran c.flush.ensures.bytes)
+
+pub returns-clause-stopped : goal.returns-clause-stopped
+returns-clause-stopped g c is =
+    session-stopped _ _ _ _ _ _ c.requires c.in_ok-image.ensures.good c.in_ok-image.ensures.image c.in_ok-image.ensures.script c.deref.ensures.value c.in_ok-kernel.ensures.memory _ _ (c.in-Err.ensures.stopped is)
