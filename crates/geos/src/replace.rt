@@ -1,15 +1,33 @@
 //! A file that is replaced whole, or left as it was.
 
-use std::alloc::Global;
-use std::fs::{self, File};
+use std::fs::{self, File, Permissions};
 use std::io::{self, ErrorKind, Write};
+use std::path::{Path, PathBuf};
 
-/// The most names that are tried for the file beside.
-const MOST_NAMES: u32 = 100;
+/// The most links that are followed from one to the next.
+const MOST_LINKS: u32 = 40;
 
-/// Makes a file beside the one with the path, under a name that no file has.
-fn beside(rt: &HostRuntime, path: &str) -> io::Result<(String, File)> {
-    for n in 0..MOST_NAMES {
+/// Where the path leads, through links, also to a file that is not there.
+fn behind_links(rt: &HostRuntime, path: &str) -> io::Result<PathBuf> {
+    let mut path = PathBuf::from_str(rt.alloc(), path)?;
+    for _ in 0..MOST_LINKS {
+        match fs::read_link(rt, path.as_path()) {
+            Ok(target) => {
+                path.pop();
+                path.push(target.as_path())?;
+            }
+            Err(error) if error.kind() == ErrorKind::OutOfMemory => return Err(error),
+            Err(_) => return Ok(path),
+        }
+    }
+    Err(io::Error::from(ErrorKind::Other))
+}
+
+/// Makes a file beside the one with the path, under a name that no file has: also not one that an
+/// earlier run left, which was stopped.
+fn beside(rt: &HostRuntime, path: Path<'_>) -> io::Result<(String, File)> {
+    let path = path.as_str();
+    for n in 0..u32::MAX {
         let name = format!(in rt.alloc(); "{path}.{n}.part")?;
         match File::create_new(rt, name.as_str()) {
             Ok(file) => return Ok((name, file)),
@@ -20,21 +38,28 @@ fn beside(rt: &HostRuntime, path: &str) -> io::Result<(String, File)> {
     Err(io::Error::from(ErrorKind::AlreadyExists))
 }
 
-/// Writes the bytes, and waits until they are in the file.
-fn fill(mut file: File, bytes: &[u8]) -> io::Result<()> {
+/// Writes the bytes, and waits until they are in the file, which gets the permissions.
+fn fill(mut file: File, permissions: Option<Permissions>, bytes: &[u8]) -> io::Result<()> {
+    if let Some(permissions) = permissions {
+        file.set_permissions(permissions)?;
+    }
     file.write_all(bytes)?;
     file.sync_all()
 }
 
 /// Puts the bytes in the place of the file's, or makes the file: they are written beside it, and
-/// the whole file is renamed. After an error the file is as it was. What is no file, as a device,
-/// is written into.
+/// the whole file is renamed. A link stays, and the file that it leads to is replaced; the permissions
+/// stay. After an error the file is as it was. What is no file, as a device, is written into.
 pub(crate) fn replace(rt: &HostRuntime, path: &str, bytes: &[u8]) -> io::Result<()> {
-    if fs::metadata(rt, path).is_ok_and(|found| !found.is_file()) {
+    let path = behind_links(rt, path)?;
+    let path = path.as_path();
+    let found = fs::metadata(rt, path).ok();
+    if found.as_ref().is_some_and(|found| !found.is_file()) {
         return fs::create(rt, path)?.write_all(bytes);
     }
     let (name, file) = beside(rt, path)?;
-    let done = fill(file, bytes).and_then(|()| fs::rename(rt, name.as_str(), path));
+    let permissions = found.map(|found| found.permissions());
+    let done = fill(file, permissions, bytes).and_then(|()| fs::rename(rt, name.as_str(), path));
     if done.is_err() {
         let _ = fs::remove_file(rt, name.as_str());
     }

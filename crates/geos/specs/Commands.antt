@@ -9,8 +9,8 @@ use Rattle.geos_verify.specs.Rules.{Accepted, FirstRefusal}
 use Rattle.geos_listing.specs.Listing.{listing}
 use Rattle.geos_explain.specs.Explanation.{explanation, IsVerdict}
 use Rattle.geos_asm.specs.Assembling.{IsAssembled, IsTextOf}
-use Rattle.geos_commands.specs.declared.fault.CheckFault.{CheckFault}
-use Rattle.geos_commands.specs.declared.fault.CheckFault.TheVariants.{BadImage, Rejected, Memory}
+use Rattle.geos.specs.declared.fault.CheckFault.{CheckFault}
+use Rattle.geos.specs.declared.fault.CheckFault.TheVariants.{BadImage, Rejected, Memory}
 
 -- the bytes spell an image that is one of the text
 abbrev pub IsAssembledAs : List ℕ → List ℕ → Type 0

@@ -1,0 +1,74 @@
+//! What the program says of itself and of its commands.
+
+pub(crate) const ABOUT: &str =
+    "Runs a session: checks an image of routines, then calls them as a script says. \
+     Or makes an image of a text, or says what there is to say of an image in a file.";
+
+pub(crate) const USAGES: &str = "\
+geos < SESSION
+       geos asm IN OUT
+       geos list IMAGE
+       geos check IMAGE
+       geos explain IMAGE
+       geos help [COMMAND]";
+
+pub(crate) const SESSION: &str = "\
+A session is read from standard input, at most 1,048,576 bytes of it. It is
+  1. an image, a set of routines in hexadecimal digits;
+  2. a line `end`;
+  3. a script, with one command a line: `call NAME n..` runs the public routine of that name on
+     at most eight numbers, its words w0 to w7. A line may be blank; text from `;` on is skipped.
+
+Nothing runs unless the whole image is accepted and no line of the script is bad. A call prints
+each word that its routine puts out, in decimal on a line.
+
+Example:
+  ./geos < examples/add.session     prints 5
+examples/README.md has the routines of that folder in words.
+
+IN is a file of assembly text, OUT and IMAGE are files of an image's bytes; `-` is the standard
+input, or for OUT the standard output, and `./-` a file of that name. docs/AUTHORS.md says how to
+write a routine, docs/FORMATS.md has the form of texts, docs/INSTRUCTIONS.md the instructions. A
+text to begin with:
+  routine add public budget 5
+          LDI w0 2
+          LDI w1 3
+          ADD w0 w0 w1
+          OUT w0 end
+  end:    RET
+
+Status: 0 where all was done; 1 after a fault, which one line on standard error names; 2 where the
+words on the command line are none of these. docs/FORMATS.md has the faults, and the digits of an image.";
+
+/// Why a text is not assembled.
+pub(crate) const FAULTS: &str = "\
+If there is a file OUT, it is replaced; after a fault it is as it was. The first fault of the text is
+`line N: why K`; of several on one line, the lowest number is named:
+  1  the first word is no instruction, and none of `routine`, `in` and `out`
+  2  operands are too few or too many, or one is of another form
+  3  a number is past its range: 15 for SHR, 4,294,967,295 for a budget, else 65,535
+  4  no label, or no routine, has the name
+  5  a label, or a routine, before it has the name
+  6  more than 32 routines or 4,096 instructions, or the text is too long (at line 1)
+  7  the line may not stand here, or nothing follows: no instruction behind a routine's line or a label
+`no rows: line N` is no fault of a line. In the routine that begins there slots hold one thing on one way
+to an instruction and another on another way, or a loop is not counted by LOOP.";
+
+/// Why an image may not run.
+pub(crate) const RULES: &str = "\
+`rejected at N by VK` names the first instruction, counted from 0, that may not stand as it does, and the
+lowest rule there; `geos explain` says more. The rules:
+  V1   control stays within the routine
+  V2   a pointer of which something is known leads into a slot that is held
+  V3   a routine begins with what its entry row says; a public one begins and ends with nothing held
+  V4   a pointer that is used is not stale: nothing has moved since it was fetched
+  V5   what is read or written lies within the bytes that are known behind the pointer
+  V6   a block of a VM file is marked before it is changed
+  V7   a block is locked into an empty slot
+  V8   a slot holds a block of the kind that is wanted
+  V9   no slot holds a block of a VM file that is updated, saved or reverted
+  V10  a routine calls one that stands before it, with what that one's entry row says
+  V11  a routine returns with what its exit row says
+  V12  what is known at an instruction is so on each way to it
+  V13  each step is paid for: a loop is counted by LOOP, a call by the budget of the routine that is called
+  V14  the steps of a routine are within its budget";

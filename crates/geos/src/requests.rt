@@ -1,0 +1,86 @@
+//! What the words on the command line ask for is done.
+
+use crate::command_line::Request;
+use crate::commands::{assemble_bytes, check_bytes, explain_bytes, list_bytes};
+use crate::fault::CheckFault;
+use crate::streams::{StreamFault, print, read, write};
+use geos_asm::AssembleError;
+use geos_cli::{Counted, ScriptFault, run_session};
+use geos_image::ReadError;
+use geos_verify::Reject;
+use std::io;
+use std::io::BufWriter;
+use thiserror::Error;
+
+/// Why a request was not carried out.
+#[derive(Debug, Drop, Error)]
+pub(crate) enum RequestFault<'a> {
+    #[error(transparent)]
+    Stream(#[from] StreamFault<'a>),
+    #[error(transparent)]
+    Session(#[from] ScriptFault),
+    #[error(transparent)]
+    Assemble(#[from] AssembleError),
+    #[error(transparent)]
+    Read(#[from] ReadError),
+    #[error(transparent)]
+    Check(#[from] CheckFault),
+    #[error(transparent)]
+    Reject(#[from] Reject),
+}
+
+/// Runs a session on the standard streams.
+fn session(rt: &HostRuntime) -> Result<(), ScriptFault> {
+    let mut input = Counted::new(rt.stdin());
+    let Ok(writer) = BufWriter::new(rt.alloc(), io::writer(rt)) else {
+        return Err(ScriptFault::Memory);
+    };
+    run_session(rt.alloc(), &mut input, &mut Counted::new(writer))
+}
+
+/// Makes the image of a text.
+fn assemble<'a>(rt: &HostRuntime, text: &'a str, image: &'a str) -> Result<(), RequestFault<'a>> {
+    let bytes = read(rt, text)?;
+    let bytes = assemble_bytes(rt.alloc(), &bytes)?;
+    Ok(write(rt, image, &bytes)?)
+}
+
+/// Prints the listing of an image.
+fn list<'a>(rt: &HostRuntime, path: &'a str) -> Result<(), RequestFault<'a>> {
+    let bytes = read(rt, path)?;
+    let text = list_bytes(rt.alloc(), &bytes)?;
+    Ok(print(rt, &text)?)
+}
+
+/// Prints `accepted` where the image may run.
+fn check<'a>(rt: &HostRuntime, path: &'a str) -> Result<(), RequestFault<'a>> {
+    let bytes = read(rt, path)?;
+    check_bytes(rt.alloc(), &bytes)?;
+    Ok(print(rt, b"accepted\n")?)
+}
+
+/// Prints the listing of the image with what is known at each instruction; then says where it is
+/// refused, if it is.
+fn explain<'a>(rt: &HostRuntime, path: &'a str) -> Result<(), RequestFault<'a>> {
+    let bytes = read(rt, path)?;
+    let explained = explain_bytes(rt.alloc(), &bytes)?;
+    print(rt, &explained.text)?;
+    match explained.reject {
+        Some(reject) => Err(RequestFault::Reject(reject)),
+        None => Ok(()),
+    }
+}
+
+/// Does what is asked for.
+pub(crate) fn carry_out<'a>(
+    rt: &HostRuntime,
+    request: Request<'a>,
+) -> Result<(), RequestFault<'a>> {
+    match request {
+        Request::Session => Ok(session(rt)?),
+        Request::Assemble { text, image } => assemble(rt, text, image),
+        Request::List(path) => list(rt, path),
+        Request::Check(path) => check(rt, path),
+        Request::Explain(path) => explain(rt, path),
+    }
+}

@@ -1,0 +1,80 @@
+//! What is read of files and of the standard input, and written to them or to the standard output.
+
+use crate::replace::replace;
+use std::alloc::Global;
+use std::io::{ErrorKind, Read, Write};
+use std::{fs, io};
+use thiserror::Error;
+
+/// The path that names a standard stream.
+const STANDARD: &str = "-";
+
+/// The most bytes that are read: one more than a text may have, and more than any image has.
+const MOST_READ: u64 = 1_048_577;
+
+/// Why bytes were not read, or not written.
+#[derive(Debug, Drop, Error)]
+pub(crate) enum StreamFault<'a> {
+    #[error("cannot read {0}")]
+    Read(&'a str),
+    #[error("cannot write {0}")]
+    Write(&'a str),
+    #[error("memory")]
+    Memory,
+}
+
+/// The first bytes, at most `MOST_READ`.
+fn bytes_of<R: Read + Drop>(alloc: Global, input: R) -> io::Result<Vec<u8>> {
+    let mut bytes = Vec::new(alloc);
+    input.take(MOST_READ).read_to_end(&mut bytes)?;
+    Ok(bytes)
+}
+
+fn bytes_at(rt: &HostRuntime, path: &str) -> io::Result<Vec<u8>> {
+    if path == STANDARD {
+        bytes_of(rt.alloc(), rt.stdin())
+    } else {
+        bytes_of(rt.alloc(), fs::open(rt, path)?)
+    }
+}
+
+/// The first bytes of the file with the path, at most `MOST_READ`; of the standard input where it is
+/// `-`.
+pub(crate) fn read<'a>(rt: &HostRuntime, path: &'a str) -> Result<Vec<u8>, StreamFault<'a>> {
+    match bytes_at(rt, path) {
+        Ok(bytes) => Ok(bytes),
+        Err(error) if error.kind() == ErrorKind::OutOfMemory => Err(StreamFault::Memory),
+        Err(_) => Err(StreamFault::Read(path)),
+    }
+}
+
+fn put(rt: &HostRuntime, bytes: &[u8]) -> io::Result<()> {
+    let mut out = io::writer(rt);
+    out.write_all(bytes)?;
+    out.flush()
+}
+
+/// Prints the bytes on the standard output.
+pub(crate) fn print<'a>(rt: &HostRuntime, bytes: &[u8]) -> Result<(), StreamFault<'a>> {
+    match put(rt, bytes) {
+        Ok(()) => Ok(()),
+        Err(_) => Err(StreamFault::Write(STANDARD)),
+    }
+}
+
+/// Puts the bytes into the file with the path, in the place of what it has; prints them where the path
+/// is `-`.
+pub(crate) fn write<'a>(
+    rt: &HostRuntime,
+    path: &'a str,
+    bytes: &[u8],
+) -> Result<(), StreamFault<'a>> {
+    if path == STANDARD {
+        return print(rt, bytes);
+    }
+    match replace(rt, path, bytes) {
+        Ok(()) => Ok(()),
+        Err(error) if error.kind() == ErrorKind::OutOfMemory => Err(StreamFault::Memory),
+        Err(_) => Err(StreamFault::Write(path)),
+    }
+}

@@ -1,0 +1,1 @@
+"$1" asm "$top/examples/add.asm" - >/dev/full
