@@ -7,22 +7,16 @@ use Rattle.geos_model.specs.Bytes.{word}
 use Rattle.geos_model.specs.Chunks.{cost}
 use Rattle.geos_model.specs.declared.name.Owner.TheVariants.{Vm}
 use Rattle.geos_model.specs.Names.{named, mem}
+use Rattle.geos_table.specs.VmFile.{empty_file}
 use Rattle.geos_table.specs.Memory.{Block, Memory, new_heap, block_of, with_block}
 use Rattle.geos_table.specs.Tight.{is_tight}
-use Rattle.geos_table.specs.Effects.{Choice, Reference, Effect, Staleness, Nothing, InBlock, OfLock, outcome}
+use Rattle.geos_table.specs.Effects.{Reference, Effect, Staleness, Nothing, InBlock, OfLock, outcome}
 use Rattle.geos_table.specs.Calls.{mnew, mlock, unlock, mfree, lalloc, lfree, lrealloc, lins, ldel, lsize, deref, lcontract, load8, load16, store, copy}
-
--- nothing is refused from outside
-abbrev pub willing : Choice
-willing = record { first_room = false; last_room = false; device = false; unsure = false; memory = false }
-
--- all is refused from outside that may be
-abbrev pub unwilling : Choice
-unwilling = record { first_room = true; last_room = true; device = true; unsure = true; memory = true }
+use Rattle.geos_table.proofs.Laws.{willing, unwilling}
 
 -- a region with these blocks, that of handle 1 first, and no other
 abbrev pub region_of : List (Option Block) → Memory
-region_of blocks = record { blocks = blocks ++ None ∷ None ∷ []; region = 65536 }
+region_of blocks = record { blocks = blocks ++ None ∷ None ∷ []; file = empty_file 0; region = 65536 }
 
 -- a new block, locked once
 abbrev pub new_block : Block
@@ -131,7 +125,7 @@ unfolding cost word
 accesses_computed = record { byte = refl; word = refl; last = refl; two = refl; up = refl; down = refl; none = refl }
 
 -- 1,024 blocks: no handle is left, which is said before want of room
-all_in_use : answer (mnew unwilling (record { blocks = replicate 1024 (Some new_block); region = 65536 })) ≡ Err NoHandle
+all_in_use : answer (mnew unwilling (record none { blocks = replicate 1024 (Some new_block) })) ≡ Err NoHandle
 all_in_use = refl
 
 -- a lock more; a length told; chunks that stay where all are moved together
@@ -197,7 +191,7 @@ sized size locks = Some (record { locks = locks; heap = record { chunks = None �
 
 -- 64 bytes, locked; 1,000 bytes, locked; and 2,000 bytes, not locked
 abbrev pub three : ℕ → Memory
-three region = record { blocks = sized 64 1 ∷ sized 1008 1 ∷ sized 2000 0 ∷ None ∷ []; region = region }
+three region = record { blocks = sized 64 1 ∷ sized 1008 1 ∷ sized 2000 0 ∷ None ∷ []; file = empty_file 0; region = region }
 
 -- a block that is to have 4,000 bytes wants them once for itself and once more for each other
 -- block that is locked, beside the sizes of all others; one more byte of region is enough room

@@ -1,21 +1,21 @@
 -- Each row of the table of calls keeps memory legal.
-use Rattle.std.proofs.Common.{◌≡◌, ℕ, ◌+◌, ◌-◌, ◌≤◌, ◌<◌, Bool, false, ◌==◌, List, [], ◌∷◌, ◌++◌, Option, Some, None, take, nat_lt, refl, arith, ltb-false}
+use Rattle.std.proofs.Common.{◌≡◌, ℕ, ◌+◌, ◌-◌, ◌≤◌, ◌<◌, Bool, ◌==◌, List, [], ◌∷◌, ◌++◌, Option, Some, None, take, nat_lt, refl, arith, ltb-false}
 use Rattle.std.specs.Prelude.{is_none, unwrap_or}
-use Rattle.std.proofs.lemmas.Bool.Decides.{nat_tests}
 use Rattle.std.proofs.lemmas.List.Elements.{All-take}
 use Rattle.lmem_raw.specs.Bytes.{with_part}
 use Rattle.geos_model.specs.declared.name.Name.{Name}
 use Rattle.geos_model.specs.declared.name.Owner.TheVariants.{Mem}
 use Rattle.geos_model.specs.declared.refusal.Refusal.{Refusal}
 use Rattle.geos_model.specs.declared.refusal.Refusal.TheVariants.{BadHandle, NoRoom, TooBig, Locked}
-use Rattle.geos_model.specs.Names.{mem}
+use Rattle.geos_model.specs.Names.{mem, vm}
 use Rattle.geos_model.specs.Refusals.{first_refusal}
 use Rattle.geos_model.specs.Chunks.{need, bytes_of, with_bytes}
 use Rattle.geos_table.specs.Memory.{Memory, new_heap, block_of, locks_of, lowest_handle, chunks_at}
-use Rattle.geos_table.specs.Effects.{Choice, Reference, Effect, come_to, outcome, most_size, most_locks, cannot_grow, growing}
+use Rattle.geos_table.specs.Effects.{Choice, Reference, most_size, most_locks, cannot_grow, growing}
 use Rattle.geos_model.specs.Edits.{Edit, Part, alloc, free, realloc, insert_bytes, delete_bytes, contract}
 use Rattle.geos_model.specs.ArrayEdits.{create_array, append_element, insert_element, remove_element, clear_array, resize_element}
 use Rattle.geos_table.specs.Calls.{changes, enlarges, reads, refers, locks_full, mnew, mlock, unlock, mfree, named_bytes, store, copy}
+use Rattle.geos_table.specs.VmCalls.{vfind, vuid}
 use Rattle.geos_table.specs.Legal.{AreBytes, IsMemory}
 use Rattle.geos_table.specs.declared.call.Change.{Change}
 use Rattle.geos_table.specs.declared.call.Change.TheVariants as change
@@ -25,10 +25,15 @@ use Rattle.geos_table.specs.ChunkCalls.{change_row, make_row, ask_edit, refer_ed
 use Rattle.geos_table.specs.Keeping.{Keeps, HasWordSize, RowsKeepMemory}
 use Rattle.geos_table.proofs.LegalBytes.{bytes-part}
 use Rattle.geos_table.proofs.Passing.{none-here, none-behind, none-before}
+pub use Rattle.geos_table.proofs.Outcomes.{outcome-kept}
+use Rattle.geos_table.proofs.Outcomes.{locks-rise}
+use Rattle.geos_table.proofs.Laws.{change-shape}
+use Rattle.geos_table.proofs.LegalGiven.{memory-given}
+use Rattle.geos_table.proofs.KeepsFile.{vnew-kept, gnew-kept, vlock-kept, bring-kept, vdirty-kept, vfree-kept, gfree-kept, vsetmap-kept, isetmap-kept, vupdate-kept, vsave-kept, vrevert-kept, on_group-kept, ilock-kept}
 use Rattle.geos_table.proofs.LegalArrays.{create-kept, append-kept, insert-kept, remove-kept, remove-less, clear-kept, clear-less, resize-kept}
 use Rattle.geos_table.proofs.LegalChunks.{KeepsChunks, NeedsNoMore, bytes_of-legal, with_new-legal, without-legal, with_resized-legal, with_inserted-legal, with_deleted-legal, with_written-legal}
 use Rattle.geos_model.proofs.Needs.{need-without, need-with_deleted, need-with_written}
-use Rattle.geos_table.proofs.LegalBlocks.{new_heap-legal, with_block-legal, with_locks-legal, with_chunks-legal, chunks-need, chunks-bytes, locks-most}
+use Rattle.geos_table.proofs.LegalBlocks.{new_heap-legal, mem_block-legal, with_locks-legal, with_chunks-legal, chunks-need, chunks-bytes, locks-most}
 
 -- chunks that are not refused need no more than a block can have
 pub grown-small : (choice : Choice) (memory : Memory) (name : Name) (front : List (Bool × Refusal)) (chunks : List (Option (List ℕ))) →
@@ -36,15 +41,6 @@ pub grown-small : (choice : Choice) (memory : Memory) (name : Name) (front : Lis
 grown-small choice memory name front chunks h =
     let behind = none-behind front (growing choice memory name chunks) h in
     ltb-false most_size (need chunks) (none-here (nat_lt most_size (need chunks)) TooBig (first_refusal ((cannot_grow choice memory name chunks, NoRoom) ∷ [])) behind).0
-
-come_to-kept : {A : Type 0} (refusal : Option Refusal) (left : Refusal → Memory) (answer : A) (after : Memory) → ((r : Refusal) → IsMemory (left r)) →
-    (refusal ≡ None → IsMemory after) → IsMemory (come_to refusal left answer after).1
-come_to-kept None left answer after refused done = done refl
-come_to-kept (Some r) left answer after refused done = refused r
-
--- a call leaves memory legal where each refusal does, and where it does when no refusal comes
-pub outcome-kept : {A : Type 0} (effect : Effect A) → ((r : Refusal) → IsMemory (effect.left r)) → (first_refusal effect.refusals ≡ None → IsMemory effect.after) → IsMemory (outcome effect).1
-outcome-kept effect refused done = come_to-kept (first_refusal effect.refusals) effect.left effect.answer effect.after refused done
 
 -- Calls on the chunks of one block
 
@@ -90,11 +86,7 @@ make-kept name (Canew k) word = enlarges-kept (create_array k) name (create-kept
 mnew-kept : Keeps mnew
 mnew-kept choice memory legal =
     outcome-kept (mnew choice memory) (λ r. legal)
-    (λ fine. with_block-legal memory (mem (unwrap_or (lowest_handle memory Mem) 0)) (Some (record { locks = 1; heap = new_heap })) (record { heap = new_heap-legal; few = omega arith }) legal)
-
--- a count that is not the greatest may rise
-locks-rise : (n : ℕ) → (n == most_locks) ≡ false → n ≤ most_locks → n + 1 ≤ most_locks
-locks-rise n h most = grind (arith, nat_tests)
+    (λ fine. mem_block-legal memory (unwrap_or (lowest_handle memory Mem) 0) (Some (record { locks = 1; heap = new_heap })) (record { heap = new_heap-legal; few = omega arith }) legal)
 
 mlock-kept : (h : ℕ) → Keeps (mlock h)
 mlock-kept h choice memory legal =
@@ -109,7 +101,7 @@ unlock-kept name choice memory legal =
     outcome-kept (unlock name choice memory) (λ r. legal) (λ fine. with_locks-legal memory name (locks_of memory name - 1) (omega (arith, most)) legal)
 
 mfree-kept : (h : ℕ) → Keeps (mfree h)
-mfree-kept h choice memory legal = outcome-kept (mfree h choice memory) (λ r. legal) (λ fine. with_block-legal memory (mem h) None tt legal)
+mfree-kept h choice memory legal = outcome-kept (mfree h choice memory) (λ r. legal) (λ fine. mem_block-legal memory h None tt legal)
 
 -- Bytes
 
@@ -143,4 +135,24 @@ rows_keep_memory = record {
   by_load16 = λ ref i choice memory legal. legal;
   by_store = store-kept;
   by_copy = copy-kept;
+  by_vnew = vnew-kept;
+  by_vlock = vlock-kept;
+  by_bring = bring-kept;
+  by_vdirty = vdirty-kept;
+  by_vfree = vfree-kept;
+  by_vfind = λ start uid choice memory legal. outcome-kept (vfind start uid choice memory) (λ r. legal) (λ fine. legal);
+  by_vuid = λ h choice memory legal. outcome-kept (vuid h choice memory) (λ r. legal) (λ fine. legal);
+  by_vgetmap = λ choice memory legal. legal;
+  by_vsetmap = vsetmap-kept;
+  by_vupdate = vupdate-kept;
+  by_vsave = vsave-kept;
+  by_vrevert = vrevert-kept;
+  by_gnew = gnew-kept;
+  by_gfree = gfree-kept;
+  by_item_change = λ g change. on_group-kept g (change_row (vm g) change) (λ choice memory why. (change-shape (vm g) change memory choice).2 why) (change-kept (vm g) change);
+  by_item_make = λ g make word. on_group-kept g (make_row (vm g) make) (λ choice memory why. refl) (make-kept (vm g) make word);
+  by_ilock = ilock-kept;
+  by_igetmap = λ choice memory legal. legal;
+  by_isetmap = isetmap-kept;
+  by_given = memory-given;
 }

@@ -16,13 +16,13 @@ use Rattle.geos_table.specs.Effects.{Choice, InBlock, Answers, growing}
 use Rattle.geos_model.specs.Edits.{Edit, Part}
 use Rattle.geos_table.specs.Calls.{changes, enlarges, reads, refers, in_block}
 
--- nothing is refused from outside
+-- nothing is refused from outside, and nothing given
 abbrev pub willing : Choice
-willing = record { first_room = false; last_room = false; device = false; unsure = false; memory = false }
+willing = record { first_room = false; last_room = false; device = false; unsure = false; memory = false; given = [] }
 
 -- all is refused from outside that may be
 abbrev pub unwilling : Choice
-unwilling = record { first_room = true; last_room = true; device = true; unsure = true; memory = true }
+unwilling = record { first_room = true; last_room = true; device = true; unsure = true; memory = true; given = [] }
 
 -- what is written under a handle is read there
 pub entry-same : {X : Type 0} (none x : X) (xs : List X) (h : ℕ) → 1 ≤ h → h ≤ length xs → at_handle none (with_entry_at xs h x) h ≡ x

@@ -13,7 +13,7 @@ use Rattle.geos_model.specs.Refusals.{first_refusal}
 use Rattle.geos_model.specs.Bytes.{word, word_bytes}
 use Rattle.geos_model.specs.Chunks.{need, chunk_of, bytes_of, with_new, new_handle, resized}
 use Rattle.geos_model.specs.Arrays.{Array, arr, first_at, element_at, element, offsets, table, head_words, spelled, empty, new_length, with_element, without_element, with_element_bytes}
-use Rattle.geos_model.specs.ArrayEdits.{array_of, count_of, element_of, no_array, is_fixed, is_past, with_array, create_array, append_element, insert_element, remove_element, clear_array, resize_element}
+use Rattle.geos_model.specs.ArrayEdits.{array_of, count_of, no_array, is_fixed, is_past, with_array, create_array, append_element, insert_element, remove_element, clear_array, resize_element}
 use Rattle.geos_table.specs.Legal.{AreBytes, IsChunk, AreChunks}
 use Rattle.geos_model.proofs.ArrayPlaces.{length-spelled, join-le, part-element}
 use Rattle.geos_model.proofs.ArrayReads.{Reads, reads}

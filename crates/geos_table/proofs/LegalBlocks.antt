@@ -1,5 +1,5 @@
 -- What keeps blocks and memory legal.
-use Rattle.std.proofs.Common.{◌≡◌, ℕ, zero, suc, ◌%◌, ◌≤◌, max, List, [], ◌∷◌, Option, Some, None, length, get_or, set, replicate, refl, sym, subst, inl, inr, ◌∙◌, arith, length-set}
+use Rattle.std.proofs.Common.{◌≡◌, ℕ, zero, suc, ◌%◌, ◌≤◌, max, List, [], ◌∷◌, Option, Some, None, length, get_or, replicate, refl, sym, subst, inl, inr, ◌∙◌, arith}
 use Rattle.std.specs.Prelude.{All, IfSome, option_map}
 use Rattle.std.proofs.lemmas.Bool.{cases_lt}
 use Rattle.std.proofs.lemmas.List.{get_or_past, length-replicate}
@@ -7,11 +7,16 @@ use Rattle.std.proofs.lemmas.List.Elements.{All-nil, All-cons, All-replicate}
 use Rattle.geos_model.specs.declared.name.Owner.{Owner}
 use Rattle.geos_model.specs.declared.name.Owner.TheVariants.{Mem, Vm}
 use Rattle.geos_model.specs.declared.name.Name.{Name}
+use Rattle.geos_model.specs.Names.{mem}
 use Rattle.geos_model.specs.Chunks.{need}
-use Rattle.geos_table.specs.Memory.{Block, Memory, at_handle, with_entry_at, owned_block, with_owned_block, block_of, with_block, locks_in, chunks_in, locks_of, chunks_at, new_heap, locked_block, rechunked_block, with_locks, with_chunks}
+use Rattle.geos_table.specs.Directories.{VmBlock, Directory, relisted}
+use Rattle.geos_table.specs.VmFile.{empty_file}
+use Rattle.geos_table.specs.Memory.{Block, Memory, at_handle, with_entry_at, listed_at, with_cur, with_listed, owned_block, with_owned_block, block_of, with_block, locks_in, chunks_in, locks_of, chunks_at, new_heap, locked_block, rechunked_block, with_locks, with_chunks}
 use Rattle.geos_table.specs.Effects.{most_size, most_locks}
-use Rattle.geos_table.specs.Legal.{IsChunk, AreChunks, IsLegalHeap, IsLegalBlock, IsMemory}
+use Rattle.geos_table.specs.Legal.{IsChunk, AreChunks, IsLegalHeap, IsLegalBlock, IsLegalListed, IsCurrent, IsFile, IsMemory}
 use Rattle.geos_model.proofs.Needs.{need-sixteens}
+use Rattle.geos_table.proofs.HandleLists.{entry-kept, length-with_entry_at}
+use Rattle.geos_table.proofs.LegalDirectories.{entry-legal, added-legal, empty_file-legal}
 
 -- One block
 
@@ -81,36 +86,21 @@ locks-few (Some block) legal = legal.few
 
 -- Memory
 
--- what holds of an entry holds after any entry was written with something of which it holds
-set-kept : {X : Type 0} (P : X → Type 0) (xs : List X) (i k : ℕ) (x d : X) → P x → P (get_or xs k d) → P (get_or (set xs i x) k d)
-set-kept P [] i k x d new old = old
-set-kept P (y ∷ ys) zero zero x d new old = new
-set-kept P (y ∷ ys) zero (suc k) x d new old = old
-set-kept P (y ∷ ys) (suc i) zero x d new old = old
-set-kept P (y ∷ ys) (suc i) (suc k) x d new old = set-kept P ys i k x d new old
+listed-block : (listed : Option VmBlock) → IfSome listed IsLegalListed → IfSome (option_map (λ (l : VmBlock). l.block) listed) IsLegalBlock
+listed-block None legal = tt
+listed-block (Some l) legal = legal.block
 
-pub entry-kept : {X : Type 0} (P : X → Type 0) (xs : List X) (h k : ℕ) (x d : X) → P x → P (at_handle d xs k) → P (at_handle d (with_entry_at xs h x) k)
-entry-kept P xs zero k x d new old = old
-entry-kept P xs (suc h) zero x d new old = old
-entry-kept P xs (suc h) (suc k) x d new old = set-kept P xs h k x d new old
+-- the block of each name is legal
+pub named-legal : (memory : Memory) (name : Name) → IsMemory memory → IfSome (block_of memory name) IsLegalBlock
+named-legal memory name legal = owned name.owner name.h
+  where
+    owned : (owner : Owner) (h : ℕ) → IfSome (owned_block memory owner h) IsLegalBlock
+    owned Mem h = legal.blocks h
+    owned Vm h = listed-block (listed_at memory h) (legal.file.cur.blocks h)
 
-pub length-with_entry_at : {X : Type 0} (xs : List X) (h : ℕ) (x : X) → length (with_entry_at xs h x) ≡ length xs
-length-with_entry_at xs zero x = refl
-length-with_entry_at xs (suc h) x = length-set xs h x
-
-owned-kept : (memory : Memory) (owner : Owner) (h : ℕ) (block : Option Block) (other : Owner) (k : ℕ) → IfSome block IsLegalBlock → IfSome (owned_block memory other k) IsLegalBlock →
-    IfSome (owned_block (with_owned_block memory owner h block) other k) IsLegalBlock
-owned-kept memory Mem h block Mem k new old = entry-kept (λ b. IfSome b IsLegalBlock) memory.blocks h k block None new old
-owned-kept memory Mem h block Vm k new old = old
-owned-kept memory Vm h block other k new old = old
-
-owned-handles : (memory : Memory) (owner : Owner) (h : ℕ) (block : Option Block) → length (with_owned_block memory owner h block).blocks ≡ length memory.blocks
-owned-handles memory Mem h block = length-with_entry_at memory.blocks h block
-owned-handles memory Vm h block = refl
-
--- where each entry has a legal block or none
-pub memory-legal : (memory : Memory) → length memory.blocks ≡ 1024 → All (λ b. IfSome b IsLegalBlock) memory.blocks → IsMemory memory
-memory-legal memory handles all = record { handles = handles; blocks = λ name. owned-legal name.owner name.h }
+-- where each entry has a legal block or none, and the file is legal
+pub memory-legal : (memory : Memory) → length memory.blocks ≡ 1024 → All (λ b. IfSome b IsLegalBlock) memory.blocks → IsFile memory.file → IsMemory memory
+memory-legal memory handles all file = record { handles = handles; blocks = at; file = file }
   where
     entry-legal : (i : ℕ) → IfSome (get_or memory.blocks i None) IsLegalBlock
     entry-legal i = elim (cases_lt i (length memory.blocks)) [
@@ -118,39 +108,76 @@ memory-legal memory handles all = record { handles = handles; blocks = λ name. 
       | inr l ↦ subst (λ b. IfSome b IsLegalBlock) (sym (get_or_past memory.blocks i None l)) tt
     ]
 
-    owned-legal : (owner : Owner) (h : ℕ) → IfSome (owned_block memory owner h) IsLegalBlock
-    owned-legal Mem zero = tt
-    owned-legal Mem (suc h) = entry-legal h
-    owned-legal Vm h = tt
+    at : (h : ℕ) → IfSome (at_handle None memory.blocks h) IsLegalBlock
+    at zero = tt
+    at (suc h) = entry-legal h
 
 -- memory without a block
-pub empty-legal : (region : ℕ) → IsMemory (record { blocks = replicate 1024 None; region = region })
+pub empty-legal : (region : ℕ) → IsMemory (record { blocks = replicate 1024 None; file = empty_file 0; region = region })
 empty-legal region =
-    memory-legal (record { blocks = replicate 1024 None; region = region }) (length-replicate {A = Option Block} 1024 None) (All-replicate (λ b. IfSome b IsLegalBlock) 1024 None tt)
+    memory-legal (record { blocks = replicate 1024 None; file = empty_file 0; region = region }) (length-replicate {A = Option Block} 1024 None) (All-replicate (λ b. IfSome b IsLegalBlock) 1024 None tt) (empty_file-legal 0)
 
--- a legal block, or none, put under a name
-pub with_block-legal : (memory : Memory) (name : Name) (block : Option Block) → IfSome block IsLegalBlock → IsMemory memory → IsMemory (with_block memory name block)
-with_block-legal memory name block new legal = record {
-  handles = owned-handles memory name.owner name.h block ∙ legal.handles;
-  blocks = λ other. owned-kept memory name.owner name.h block other.owner other.h new (legal.blocks other);
+-- a legal block, or none, put under a handle of global memory
+pub mem_block-legal : (memory : Memory) (h : ℕ) (block : Option Block) → IfSome block IsLegalBlock → IsMemory memory → IsMemory (with_block memory (mem h) block)
+mem_block-legal memory h block new legal = record {
+  handles = length-with_entry_at memory.blocks h block ∙ legal.handles;
+  blocks = λ k. entry-kept (λ b. IfSome b IsLegalBlock) memory.blocks h k block None new (legal.blocks k);
+  file = legal.file;
 }
+
+-- another legal current directory
+pub cur-legal : (memory : Memory) (cur : Directory VmBlock) → IsCurrent cur → IsMemory memory → IsMemory (with_cur memory cur)
+cur-legal memory cur new legal = record { handles = legal.handles; blocks = legal.blocks; file = record { cur = new; saved = legal.file.saved; kept = legal.file.kept } }
+
+-- what is listed under a handle, with the same user ID
+pub listed-legal : (memory : Memory) (h : ℕ) (listed : Option VmBlock) → IfSome listed IsLegalListed →
+    option_map (λ (l : VmBlock). l.uid) listed ≡ option_map (λ (l : VmBlock). l.uid) (listed_at memory h) → IsMemory memory → IsMemory (with_listed memory h listed)
+listed-legal memory h listed new same legal =
+    cur-legal memory (record memory.file.cur { blocks = with_entry_at memory.file.cur.blocks h listed })
+    (entry-legal IsLegalListed (λ (l : VmBlock). l.uid) memory.file.cur legal.file.cur h listed new same) legal
+
+-- a block that is listed anew, under a handle where none is
+pub added_listed-legal : (memory : Memory) (h : ℕ) (listed : VmBlock) → IsLegalListed listed → listed_at memory h ≡ None → IsMemory memory → IsMemory (with_listed memory h (Some listed))
+added_listed-legal memory h listed new none legal =
+    cur-legal memory (record memory.file.cur { blocks = with_entry_at memory.file.cur.blocks h (Some listed) })
+    (added-legal IsLegalListed (λ (l : VmBlock). l.uid) memory.file.cur legal.file.cur h listed new none) legal
+
+-- a block in the place of a listed one keeps its user ID
+relisted-legal : (listed : Option VmBlock) (f : Block → Block) → IfSome listed IsLegalListed → IfSome (option_map f (option_map (λ (l : VmBlock). l.block) listed)) IsLegalBlock →
+    IfSome (option_map (relisted listed) (option_map f (option_map (λ (l : VmBlock). l.block) listed))) IsLegalListed
+relisted-legal None f legal new = tt
+relisted-legal (Some l) f legal new = record { uid = legal.uid; block = new }
+
+relisted-uid : (listed : Option VmBlock) (f : Block → Block) →
+    option_map (λ (l : VmBlock). l.uid) (option_map (relisted listed) (option_map f (option_map (λ (l : VmBlock). l.block) listed))) ≡ option_map (λ (l : VmBlock). l.uid) listed
+relisted-uid None f = refl
+relisted-uid (Some l) f = refl
+
+-- a named block, where there is one, becomes a legal one
+pub mapped-legal : (memory : Memory) (name : Name) (f : Block → Block) → IfSome (option_map f (block_of memory name)) IsLegalBlock → IsMemory memory → IsMemory (with_block memory name (option_map f (block_of memory name)))
+mapped-legal memory name f new legal = owned name.owner name.h new
+  where
+    owned : (owner : Owner) (h : ℕ) → IfSome (option_map f (owned_block memory owner h)) IsLegalBlock → IsMemory (with_owned_block memory owner h (option_map f (owned_block memory owner h)))
+    owned Mem h new = mem_block-legal memory h (option_map f (at_handle None memory.blocks h)) new legal
+    owned Vm h new = listed-legal memory h (option_map (relisted (listed_at memory h)) (option_map f (owned_block memory Vm h)))
+        (relisted-legal (listed_at memory h) f (legal.file.cur.blocks h) new) (relisted-uid (listed_at memory h) f) legal
 
 -- another count of locks, which can be
 pub with_locks-legal : (memory : Memory) (name : Name) (n : ℕ) → n ≤ most_locks → IsMemory memory → IsMemory (with_locks memory name n)
-with_locks-legal memory name n h legal = with_block-legal memory name (option_map (locked_block n) (block_of memory name)) (if-locked (block_of memory name) n h (legal.blocks name)) legal
+with_locks-legal memory name n h legal = mapped-legal memory name (locked_block n) (if-locked (block_of memory name) n h (named-legal memory name legal)) legal
 
 -- other legal chunks, which need no more than a block can have
 pub with_chunks-legal : (f : List (Option (List ℕ)) → List (Option (List ℕ))) (memory : Memory) (name : Name) → (AreChunks (chunks_at memory name) → AreChunks (f (chunks_at memory name))) →
     need (f (chunks_at memory name)) ≤ most_size → IsMemory memory → IsMemory (with_chunks memory name (f (chunks_at memory name)))
 with_chunks-legal f memory name keep small legal =
     let block = block_of memory name in
-    with_block-legal memory name (option_map (rechunked_block (f (chunks_in block))) block) (if-rechunked f block keep small (legal.blocks name)) legal
+    mapped-legal memory name (rechunked_block (f (chunks_in block))) (if-rechunked f block keep small (named-legal memory name legal)) legal
 
 pub chunks-need : (memory : Memory) (name : Name) → IsMemory memory → need (chunks_at memory name) ≤ most_size
-chunks-need memory name legal = need-small (block_of memory name) (legal.blocks name)
+chunks-need memory name legal = need-small (block_of memory name) (named-legal memory name legal)
 
 pub chunks-bytes : (memory : Memory) (name : Name) → IsMemory memory → All IsChunk (chunks_at memory name)
-chunks-bytes memory name legal = bytes-all (block_of memory name) (legal.blocks name)
+chunks-bytes memory name legal = bytes-all (block_of memory name) (named-legal memory name legal)
 
 pub locks-most : (memory : Memory) (name : Name) → IsMemory memory → locks_of memory name ≤ most_locks
-locks-most memory name legal = locks-few (block_of memory name) (legal.blocks name)
+locks-most memory name legal = locks-few (block_of memory name) (named-legal memory name legal)

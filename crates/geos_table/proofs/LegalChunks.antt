@@ -1,18 +1,14 @@
 -- What edits do to legal chunks: they stay legal.
-use Rattle.std.proofs.Common.{◌≡◌, ℕ, ◌+◌, ◌%◌, ◌<◌, ◌≤◌, Bool, true, false, ◌&&◌, ◌==◌, if◌then◌else◌, List, [], ◌∷◌, ◌++◌, Option, Some, None, length, get_or, set, take, drop, replicate, unwrap_or, ap, sym, subst, inl, inr, arith, length-append, length-take, length-drop, length-set}
+use Rattle.std.proofs.Common.{◌≡◌, ℕ, ◌+◌, ◌%◌, ◌<◌, ◌≤◌, Bool, true, false, ◌&&◌, ◌==◌, if◌then◌else◌, List, [], ◌∷◌, ◌++◌, Option, Some, None, length, get_or, set, replicate, unwrap_or, sym, subst, inl, inr, arith, length-append, length-set}
 use Rattle.std.specs.Prelude.{All, nat_le}
 use Rattle.std.proofs.lemmas.Bool.{cases_lt}
-use Rattle.std.proofs.lemmas.List.{set_past, get_or_past}
+use Rattle.std.proofs.lemmas.List.{get_or_past}
 use Rattle.std.proofs.lemmas.List.Elements.{All-nil, All-cons, All-append, All-set}
 use Rattle.lmem_raw.specs.Bytes.{with_part}
-use Rattle.lmem_raw.proofs.Parts.{length-with_part}
-use Rattle.geos_model.specs.Chunks.{cost, cost_of, used_bytes, sixteens, need, entry_of, chunk_of, bytes_of, lowest_entry, with_entry, with_new, with_bytes, without, resized, with_zeros, without_part, with_resized, with_inserted, with_deleted}
+use Rattle.geos_model.specs.Chunks.{need, entry_of, chunk_of, bytes_of, lowest_entry, with_entry, with_new, with_bytes, without, resized, with_zeros, without_part, with_resized, with_inserted, with_deleted}
 use Rattle.geos_model.specs.Refusals.{first_refusal}
 use Rattle.geos_model.specs.Edits.{Edit}
 use Rattle.geos_table.specs.Legal.{AreBytes, IsChunk, AreChunks}
-use Rattle.geos_model.proofs.Costs.{cost-mono}
-use Rattle.geos_model.proofs.Sums.{cost-zero}
-use Rattle.geos_model.proofs.Lowest.{used-set}
 use Rattle.geos_table.proofs.LegalBytes.{bytes-zeros, bytes-with_part, bytes-resized, bytes-with_zeros, bytes-without_part}
 
 -- Legal chunks

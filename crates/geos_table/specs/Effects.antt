@@ -1,22 +1,28 @@
 -- What a call comes to.
-use Rattle.std.specs.Prelude.{◌≡◌, ℕ, Bool, ◌&&◌, nat_lt, List, [], ◌∷◌, Option, Some, None, Result, Ok, Err}
+use Rattle.std.specs.Prelude.{◌≡◌, ℕ, Bool, ◌&&◌, not, nat_lt, List, [], ◌∷◌, Option, Some, None, Result, Ok, Err}
 use Rattle.geos_model.specs.declared.name.Name.{Name}
 use Rattle.geos_model.specs.declared.refusal.Refusal.{Refusal}
-use Rattle.geos_model.specs.declared.refusal.Refusal.TheVariants.{NoRoom, TooBig}
+use Rattle.geos_model.specs.declared.refusal.Refusal.TheVariants.{NoRoom, TooBig, Disk}
+use Rattle.geos_model.specs.Names.{vm}
 use Rattle.geos_model.specs.Refusals.{first_refusal}
 use Rattle.geos_model.specs.Chunks.{need}
-use Rattle.geos_table.specs.Memory.{Memory, size_of}
+use Rattle.geos_table.specs.Directories.{is_held_in}
+use Rattle.geos_table.specs.Memory.{Memory, listed_at, size_of}
+use Rattle.geos_table.specs.Given.{given_memory}
 use Rattle.geos_table.specs.Tight.{is_tight}
 
--- what may be refused from outside at a call: room at the first test for it, which brings a
--- block into memory; room at the last, for which a block is made or grows; the device, and
--- whether it is unsure then what the device holds; and memory
+-- what comes from outside at a call. It may refuse room at the first test for it, which brings
+-- a block into memory; room at the last, for which a block is made or grows; the device, and
+-- whether it is unsure then what the device holds; and memory. And a device that is not honest
+-- may give, by handle, other chunks for blocks that are neither marked nor locked: an honest
+-- one gives nothing
 pub record Choice : Type 0 where
   pub first_room : Bool
   pub last_room : Bool
   pub device : Bool
   pub unsure : Bool
   pub memory : Bool
+  pub given : List (Option (List (Option (List ℕ))))
 
 -- which references a call makes stale, where it succeeds and where it refuses: none, those
 -- into a block, or those that go with one lock of a block, which is given back
@@ -56,10 +62,14 @@ come_to (Some refusal) left answer after = (Err refusal, left refusal)
 abbrev pub outcome : {A : Type 0} → Effect A → Result A Refusal × Memory
 outcome effect = come_to (first_refusal effect.refusals) effect.left effect.answer effect.after
 
--- a call answered, and left memory, as its row says, under some choice of what is refused from
+-- what a call comes to in memory: its row, read on memory with what the device gives
+abbrev pub effect_of : {A : Type 0} → Call A → Choice → Memory → Effect A
+effect_of call choice memory = call choice (given_memory choice.given memory)
+
+-- a call answered, and left memory, as its row says, under some choice of what comes from
 -- outside
 abbrev pub Answers : {A : Type 0} → Call A → Result A Refusal → Memory → Memory → Type 0
-Answers call result before after = (choice : Choice) × (outcome (call choice before) ≡ (result, after))
+Answers call result before after = (choice : Choice) × (outcome (effect_of call choice before) ≡ (result, after))
 
 -- a refusal leaves memory as it was
 abbrev pub unchanged : Memory → Refusal → Memory
@@ -88,3 +98,12 @@ cannot_grow choice memory name chunks = nat_lt (size_of memory name) (need chunk
 -- the refusals of giving a block these chunks, for which it may grow
 abbrev pub growing : Choice → Memory → Name → List (Option (List ℕ)) → List (Bool × Refusal)
 growing choice memory name chunks = (nat_lt most_size (need chunks), TooBig) ∷ (cannot_grow choice memory name chunks, NoRoom) ∷ []
+
+-- room is refused for a block of the VM file that is brought into memory, where it may be out
+-- of it
+abbrev pub cannot_bring : Choice → Memory → ℕ → Bool
+cannot_bring choice memory h = choice.first_room && not (is_held_in (listed_at memory h)) && is_tight memory (vm h) (size_of memory (vm h))
+
+-- the refusals of bringing a block of the VM file into memory
+abbrev pub bringing : Choice → Memory → ℕ → List (Bool × Refusal)
+bringing choice memory h = (cannot_bring choice memory h, NoRoom) ∷ (choice.device, Disk) ∷ []

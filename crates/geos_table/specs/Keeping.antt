@@ -1,8 +1,10 @@
 -- Each row of the table of calls keeps memory legal.
-use Rattle.std.specs.Prelude.{ℕ, ◌<◌, List}
+use Rattle.std.specs.Prelude.{ℕ, ◌<◌, List, Option}
 use Rattle.geos_model.specs.declared.name.Name.{Name}
+use Rattle.geos_model.specs.Names.{vm}
 use Rattle.geos_table.specs.Legal.{AreBytes, IsMemory}
 use Rattle.geos_table.specs.Memory.{Memory}
+use Rattle.geos_table.specs.Given.{given_memory}
 use Rattle.geos_table.specs.Effects.{Choice, Reference, Call, outcome}
 use Rattle.geos_table.specs.declared.call.Change.{Change}
 use Rattle.geos_table.specs.declared.call.Make.{Make}
@@ -11,6 +13,8 @@ use Rattle.geos_table.specs.declared.call.Ask.{Ask}
 use Rattle.geos_table.specs.declared.call.Refer.{Refer}
 use Rattle.geos_table.specs.Calls.{mnew, mlock, unlock, mfree, load8, load16, store, copy}
 use Rattle.geos_table.specs.ChunkCalls.{change_row, make_row, ask_row, refer_row}
+use Rattle.geos_table.specs.VmCalls.{vnew, vlock, bring, vdirty, vfree, vfind, vuid, vgetmap, vsetmap, vupdate, vsave, vrevert}
+use Rattle.geos_table.specs.ItemCalls.{on_group, gnew, gfree, ilock, igetmap, isetmap}
 
 -- whatever is refused from outside, the call leaves legal memory legal, where it succeeds and
 -- where it is refused
@@ -22,8 +26,9 @@ abbrev pub HasWordSize : Make → Type 0
 HasWordSize (Lalloc n) = Unit {0}
 HasWordSize (Canew k) = k < 65536
 
--- each call does; a store, where what it writes are bytes, and a new array, where the size of
--- its elements is a word
+-- each call does; a store, where what it writes are bytes, and a new array, a block and a map
+-- item, where the size of its elements, the user ID and the item are words. So does what a
+-- device gives
 pub record RowsKeepMemory : Type 0 where
   pub by_mnew : Keeps mnew
   pub by_mlock : (h : ℕ) → Keeps (mlock h)
@@ -37,3 +42,23 @@ pub record RowsKeepMemory : Type 0 where
   pub by_load16 : (ref : Reference) (i : ℕ) → Keeps (load16 ref i)
   pub by_store : (ref : Reference) (i : ℕ) (ws : List ℕ) → AreBytes ws → Keeps (store ref i ws)
   pub by_copy : (to from : Reference) (n : ℕ) → Keeps (copy to from n)
+  pub by_vnew : (uid : ℕ) → uid < 65536 → Keeps (vnew uid)
+  pub by_vlock : (h : ℕ) → Keeps (vlock h)
+  pub by_bring : (h : ℕ) → Keeps (bring h)
+  pub by_vdirty : (h : ℕ) → Keeps (vdirty h)
+  pub by_vfree : (h : ℕ) → Keeps (vfree h)
+  pub by_vfind : (start uid : ℕ) → Keeps (vfind start uid)
+  pub by_vuid : (h : ℕ) → Keeps (vuid h)
+  pub by_vgetmap : Keeps vgetmap
+  pub by_vsetmap : (h : ℕ) → Keeps (vsetmap h)
+  pub by_vupdate : Keeps vupdate
+  pub by_vsave : Keeps vsave
+  pub by_vrevert : Keeps vrevert
+  pub by_gnew : Keeps gnew
+  pub by_gfree : (g : ℕ) → Keeps (gfree g)
+  pub by_item_change : (g : ℕ) (change : Change) → Keeps (on_group g (change_row (vm g) change))
+  pub by_item_make : (g : ℕ) (make : Make) → HasWordSize make → Keeps (on_group g (make_row (vm g) make))
+  pub by_ilock : (g i n : ℕ) → Keeps (ilock g i n)
+  pub by_igetmap : Keeps igetmap
+  pub by_isetmap : (g i : ℕ) → i < 65536 → Keeps (isetmap g i)
+  pub by_given : (given : List (Option (List (Option (List ℕ))))) (memory : Memory) → IsMemory memory → IsMemory (given_memory given memory)

@@ -1,8 +1,15 @@
+pub mod Handles
+pub mod Blocks
+pub mod Directories
+pub mod VmFile
 pub mod Memory
+pub mod Given
 pub mod Tight
 pub mod Effects
 pub mod Calls
 pub mod ArrayCalls
 pub mod ChunkCalls
+pub mod VmCalls
+pub mod ItemCalls
 pub mod Legal
 pub mod Keeping

@@ -1,0 +1,91 @@
+-- Where room may be wanting beside blocks of both owners, computed on examples.
+use Rattle.std.proofs.Common.{◌≡◌, ℕ, true, false, [], ◌∷◌, ◌++◌, replicate, None, refl}
+use Rattle.std.specs.Prelude.{Ok, Err}
+use Rattle.geos_model.specs.declared.refusal.Refusal.TheVariants.{NoRoom}
+use Rattle.geos_model.specs.Names.{mem, vm}
+use Rattle.geos_model.specs.Chunks.{cost}
+use Rattle.geos_table.specs.Memory.{Memory}
+use Rattle.geos_table.specs.Tight.{is_tight}
+use Rattle.geos_table.specs.Calls.{mnew, lalloc}
+use Rattle.geos_table.specs.VmCalls.{vnew, vlock}
+use Rattle.geos_table.specs.ItemCalls.{gnew, inew, ilock}
+use Rattle.geos_table.proofs.Runs.{crowded, start, answer_under, listing, sized_in_file}
+use Rattle.geos_table.proofs.CallExamples.{sized}
+
+-- in a region of n bytes: blocks of 64 and 128 bytes, each locked once; of the VM file a marked
+-- block of 64 bytes, an idle one of 256, one of 512 that is locked and marked, an idle group of
+-- 96 and a marked group of 80; behind them a free handle of each owner
+abbrev pub both : ℕ → Memory
+both n = record start {
+  region = n;
+  blocks = sized 64 1 ∷ sized 128 1 ∷ None ∷ [];
+  file = record start.file {
+    cur = listing (sized_in_file 5 64 true 0 ∷ sized_in_file 5 256 false 0 ∷ sized_in_file 5 512 true 1 ∷ sized_in_file 65280 96 false 0 ∷ sized_in_file 65280 80 true 0 ∷ None ∷ []);
+  };
+}
+
+-- each kind of call at its border: with one byte less of region room may be refused. What is in
+-- memory of others counts, 848 bytes in all, and locked ones, three in all, once more
+pub record Borders : Type 0 where
+  -- a block of global memory that is to have 336 bytes: 3 * 336 + 848 - 64 are 1,792
+  pub grows : answer_under crowded (lalloc (mem 1) 300) (both 1791) ≡ Err NoRoom
+  pub grown : answer_under crowded (lalloc (mem 1) 300) (both 1792) ≡ Ok 16
+  -- one of the VM file that is to have 544: 3 * 544 + 848 - 512 are 1,968
+  pub listed_grows : answer_under crowded (lalloc (vm 3) 508) (both 1967) ≡ Err NoRoom
+  pub listed_grown : answer_under crowded (lalloc (vm 3) 508) (both 1968) ≡ Ok 16
+  -- a new block of either owner, or a group: 4 * 64 + 848 are 1,104
+  pub makes : answer_under crowded mnew (both 1103) ≡ Err NoRoom
+  pub made : answer_under crowded mnew (both 1104) ≡ Ok 3
+  pub lists : answer_under crowded (vnew 5) (both 1103) ≡ Err NoRoom
+  pub listed : answer_under crowded (vnew 5) (both 1104) ≡ Ok 6
+  pub groups : answer_under crowded gnew (both 1103) ≡ Err NoRoom
+  pub grouped : answer_under crowded gnew (both 1104) ≡ Ok 6
+  -- an idle block is brought: 4 * 256 + 848 are 1,872
+  pub brings : answer_under crowded (vlock 2) (both 1871) ≡ Err NoRoom
+  pub brought : answer_under crowded (vlock 2) (both 1872) ≡ Ok tt
+  -- an idle group is, at the size that it has: 4 * 96 + 848 are 1,232
+  pub brings_group : answer_under crowded (inew 4 4) (both 1231) ≡ Err NoRoom
+  pub brought_group : answer_under crowded (inew 4 4) (both 1232) ≡ Ok 16
+  -- and it grows to 144 where it is there: 4 * 144 + 848 are 1,424
+  pub grows_group : answer_under crowded (inew 4 120) (both 1423) ≡ Err NoRoom
+  pub grown_group : answer_under crowded (inew 4 120) (both 1424) ≡ Ok 16
+  -- a marked group is in memory; it grows to 144: 4 * 144 + 848 - 80 are 1,344
+  pub held_group : answer_under crowded (inew 5 120) (both 1343) ≡ Err NoRoom
+  pub held_grown : answer_under crowded (inew 5 120) (both 1344) ≡ Ok 16
+
+borders_computed : Borders
+unfolding cost
+borders_computed = record {
+  grows = refl;
+  grown = refl;
+  listed_grows = refl;
+  listed_grown = refl;
+  makes = refl;
+  made = refl;
+  lists = refl;
+  listed = refl;
+  groups = refl;
+  grouped = refl;
+  brings = refl;
+  brought = refl;
+  brings_group = refl;
+  brought_group = refl;
+  grows_group = refl;
+  grown_group = refl;
+  held_group = refl;
+  held_grown = refl;
+}
+
+-- no room is asked for where a block is in memory and large enough, and none is refused then
+pub record Roomy : Type 0 where
+  pub fits : answer_under crowded (lalloc (mem 1) 40) (both 1) ≡ Ok 16
+  pub marked : answer_under crowded (vlock 1) (both 1) ≡ Ok tt
+  pub locked : answer_under crowded (vlock 3) (both 1) ≡ Ok tt
+  pub item : answer_under crowded (inew 5 4) (both 1) ≡ Ok 16
+  pub no_item : answer_under crowded (ilock 4 16 0) (both 1) ≡ Err NoRoom
+  pub many : is_tight (record start { blocks = replicate 1023 (sized 64 0) ++ None ∷ [] }) (mem 1024) 64 ≡ false
+  pub too_many : is_tight (record start { blocks = replicate 1023 (sized 64 0) ++ None ∷ [] }) (mem 1024) 128 ≡ true
+
+roomy_computed : Roomy
+unfolding cost
+roomy_computed = record { fits = refl; marked = refl; locked = refl; item = refl; no_item = refl; many = refl; too_many = refl }
