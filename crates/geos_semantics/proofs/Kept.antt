@@ -70,7 +70,7 @@ kind-left old new there MemBlock name h = some-is (block_of new name) (block_of 
 kind-left old new there VmBlock name h = absurd h
 kind-left old new there DbGroup name h = absurd h
 
-slot-left : (old new : Memory) → ((name : Name) → is_none (block_of new name) ≡ is_none (block_of old name)) → (slot : Option Held) → SlotIsSound old slot → SlotIsSound new slot
+pub slot-left : (old new : Memory) → ((name : Name) → is_none (block_of new name) ≡ is_none (block_of old name)) → (slot : Option Held) → SlotIsSound old slot → SlotIsSound new slot
 slot-left old new there None h = tt
 slot-left old new there (Some held) h = kind-left old new there held.kind (name_of held) h
 

@@ -1,5 +1,5 @@
 -- What it takes that the step of a kernel call goes well.
-use Rattle.std.proofs.Common.{◌≡◌, ℕ, ◌+◌, ◌≤◌, false, Option, Some, None, List, refl, sym, ap, subst, ◌∙◌, set}
+use Rattle.std.proofs.Common.{◌≡◌, ℕ, ◌+◌, ◌≤◌, false, Option, Some, None, List, [], refl, sym, ap, subst, ◌∙◌, set}
 use Rattle.std.specs.Prelude.{is_none}
 use Rattle.geos_model.specs.declared.name.Name.{Name}
 use Rattle.geos_model.specs.declared.refusal.Refusal.{Refusal}
@@ -29,9 +29,9 @@ use Rattle.geos_semantics.proofs.Moments.{Moment, Well, fine-goes}
 abbrev pub after_call : {A : Type 0} → Effect A → ℕ → Memory → State → State
 after_call effect a m s = record s { memory = m; pointers = kept_pointers a effect.stale s.pointers }
 
--- nothing is refused from outside
+-- nothing is refused from outside, and nothing given
 abbrev quiet : Choice
-quiet = record { first_room = false; last_room = false; device = false; unsure = false; memory = false }
+quiet = record { first_room = false; last_room = false; device = false; unsure = false; memory = false; given = [] }
 
 -- a call gives the named block other chunks, makes stale what leads into it, and changes nothing
 -- where it is refused

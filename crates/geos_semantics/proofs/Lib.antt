@@ -13,6 +13,7 @@ pub mod Paid
 pub mod Bounds
 pub mod ChunkAnswers
 pub mod Moments
+pub mod Begun
 pub mod PlainSteps
 pub mod RoutineSteps
 pub mod KernelSteps

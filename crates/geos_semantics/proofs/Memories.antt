@@ -10,7 +10,8 @@ use Rattle.geos_model.specs.declared.name.Owner.{Owner}
 use Rattle.geos_model.specs.declared.name.Owner.TheVariants.{Mem, Vm}
 use Rattle.geos_model.specs.Names.{mem}
 use Rattle.geos_model.specs.Chunks.{cost, cost_of, entry_of, chunk_of, with_bytes}
-use Rattle.geos_table.specs.Memory.{Block, Memory, at_handle, with_entry_at, owned_block, with_owned_block, block_of, with_block, locks_in, chunks_in, locks_of, chunks_at, lowest_handle, locked_block, rechunked_block, with_locks, with_chunks}
+use Rattle.geos_table.specs.Directories.{VmBlock, relisted}
+use Rattle.geos_table.specs.Memory.{Block, Memory, at_handle, with_entry_at, listed_at, owned_block, with_owned_block, block_of, with_block, locks_in, chunks_in, locks_of, chunks_at, lowest_handle, locked_block, rechunked_block, with_locks, with_chunks}
 use Rattle.geos_table.specs.Legal.{IsMemory}
 use Rattle.geos_model.proofs.Costs.{cost-over}
 use Rattle.geos_table.proofs.LegalBlocks.{chunks-need}
@@ -69,15 +70,30 @@ owned-other : (m : Memory) (o q : Owner) (h k : ℕ) (b : Option Block) → (sam
 owned-other m Mem Mem h k b ne = at_handle-other None m.blocks h k b (λ e. eqb-false h k ne (sym e))
 owned-other m Mem Vm h k b ne = refl
 owned-other m Vm Mem h k b ne = refl
-owned-other m Vm Vm h k b ne = refl
+owned-other m Vm Vm h k b ne = ap (option_map (λ (l : VmBlock). l.block)) (at_handle-other None m.file.cur.blocks h k (option_map (relisted (listed_at m h)) b) (λ e. eqb-false h k ne (sym e)))
 
 -- a block under another name is as it was
 pub block_of-other : (m : Memory) (name other : Name) (b : Option Block) → same_name name other ≡ false → block_of (with_block m name b) other ≡ block_of m other
 block_of-other m name other b ne = owned-other m name.owner other.owner name.h other.h b ne
 
+-- a listed block whose block was changed
+abbrev changed_in : (Block → Block) → VmBlock → VmBlock
+changed_in f listed = record listed { block = f listed.block }
+
+relisted-changed : (f : Block → Block) (listed : Option VmBlock) → option_map (relisted listed) (option_map f (option_map (λ (l : VmBlock). l.block) listed)) ≡ option_map (changed_in f) listed
+relisted-changed f None = refl
+relisted-changed f (Some l) = refl
+
+block-changed : (f : Block → Block) (listed : Option VmBlock) → option_map (λ (l : VmBlock). l.block) (option_map (changed_in f) listed) ≡ option_map f (option_map (λ (l : VmBlock). l.block) listed)
+block-changed f None = refl
+block-changed f (Some l) = refl
+
 owned-mapped : (m : Memory) (f : Block → Block) (o : Owner) (h : ℕ) → owned_block (with_owned_block m o h (option_map f (owned_block m o h))) o h ≡ option_map f (owned_block m o h)
 owned-mapped m f Mem h = at_handle-mapped f m.blocks h
-owned-mapped m f Vm h = refl
+owned-mapped m f Vm h =
+    let entries = m.file.cur.blocks in
+    ap (λ e. option_map (λ (l : VmBlock). l.block) (at_handle None (with_entry_at entries h e) h)) (relisted-changed f (listed_at m h)) ∙ ap (option_map (λ (l : VmBlock). l.block)) (at_handle-mapped (changed_in f) entries h)
+    ∙ block-changed f (listed_at m h)
 
 -- a block that was changed, where there is one
 pub block_of-mapped : (m : Memory) (f : Block → Block) (name : Name) → block_of (with_block m name (option_map f (block_of m name))) name ≡ option_map f (block_of m name)
@@ -218,13 +234,16 @@ names-apart name other ne = elim (names other name) [
 ]
 
 -- a block that is taken away is there no more
-owned-gone : (m : Memory) (o : Owner) (h : ℕ) → owned_block (with_owned_block m o h None) o h ≡ None
-owned-gone m Mem zero = refl
-owned-gone m Mem (suc h) = elim (cases_lt h (length m.blocks)) [
-  | inl l ↦ get_or-set_same m.blocks h None None l
-  | inr l ↦ get_or_past (set m.blocks h None) h None (let long = length-set m.blocks h None in omega (arith, l, long))
+entry-gone : {X : Type 0} (xs : List (Option X)) (h : ℕ) → at_handle None (with_entry_at xs h None) h ≡ None
+entry-gone xs zero = refl
+entry-gone xs (suc h) = elim (cases_lt h (length xs)) [
+  | inl l ↦ get_or-set_same xs h None None l
+  | inr l ↦ get_or_past (set xs h None) h None (let long = length-set xs h None in omega (arith, l, long))
 ]
-owned-gone m Vm h = refl
+
+owned-gone : (m : Memory) (o : Owner) (h : ℕ) → owned_block (with_owned_block m o h None) o h ≡ None
+owned-gone m Mem h = entry-gone m.blocks h
+owned-gone m Vm h = ap (option_map (λ (l : VmBlock). l.block)) (entry-gone m.file.cur.blocks h)
 
 pub block_of-gone : (m : Memory) (name : Name) → block_of (with_block m name None) name ≡ None
 block_of-gone m name = owned-gone m name.owner name.h

@@ -1,14 +1,17 @@
 -- What a device gives keeps memory legal, and touches no block that is marked or locked.
-use Rattle.std.proofs.Common.{◌≡◌, ◌≢◌, ℕ, zero, suc, ◌%◌, ◌<◌, ◌≤◌, Bool, true, false, ◌&&◌, ◌==◌, if◌then◌else◌, List, [], ◌∷◌, Option, Some, None, length, get_or, refl, sym, ap, ◌∙◌, subst, arith}
-use Rattle.std.specs.Prelude.{All, IfSome, IsSomeAnd, option_map, not, nat_lt, nat_le}
+use Rattle.std.proofs.Common.{◌≡◌, ◌≢◌, ℕ, zero, suc, ◌%◌, ◌<◌, ◌≤◌, Bool, true, false, ◌&&◌, ◌||◌, ◌==◌, if◌then◌else◌, List, [], ◌∷◌, Option, Some, None, length, get_or, refl, sym, ap, ◌∙◌, subst, arith}
+use Rattle.std.specs.Prelude.{All, IfSome, IsSomeAnd, option_map, is_none, unwrap_or, not, nat_lt, nat_le}
 use Rattle.std.proofs.lemmas.Bool.{and_parts, eqb-true}
 use Rattle.std.proofs.lemmas.Bool.Decides.{nat_tests}
 use Rattle.std.specs.List.{list_all}
 use Rattle.std.proofs.lemmas.List.Elements.{All-nil, All-cons}
+use Rattle.geos_model.specs.declared.name.Owner.{Owner}
+use Rattle.geos_model.specs.declared.name.Owner.TheVariants.{Mem, Vm}
+use Rattle.geos_model.specs.declared.name.Name.{Name}
 use Rattle.geos_model.specs.Chunks.{need}
 use Rattle.geos_table.specs.Handles.{at_handle}
-use Rattle.geos_table.specs.Directories.{VmBlock, Directory, group_uid, is_held}
-use Rattle.geos_table.specs.Memory.{Memory}
+use Rattle.geos_table.specs.Directories.{VmBlock, Directory, group_uid, is_marked_in, is_held}
+use Rattle.geos_table.specs.Memory.{Memory, listed_at, owned_block, block_of, locks_in, locks_of, is_marked}
 use Rattle.geos_table.specs.Given.{is_byte, is_chunk, can_hold, refilled, given_chunks, given_entry, given_entries, given_memory}
 use Rattle.geos_table.specs.Legal.{AreBytes, IsChunk, AreChunks, IsLegalListed, uid_at, IsCurrent, IsMemory}
 
@@ -136,3 +139,63 @@ memory-given given memory legal = record {
   blocks = legal.blocks;
   file = record { cur = directory-given given memory.file.cur legal.file.cur; saved = legal.file.saved; kept = legal.file.kept };
 }
+
+-- Named blocks
+
+locks_in-listed : (listed : Option VmBlock) → locks_in (option_map (λ (l : VmBlock). l.block) listed) ≡ unwrap_or (option_map (λ (l : VmBlock). l.block.locks) listed) 0
+locks_in-listed None = refl
+locks_in-listed (Some l) = refl
+
+none-listed : (listed : Option VmBlock) → is_none (option_map (λ (l : VmBlock). l.block) listed) ≡ is_none (option_map (λ (l : VmBlock). l.uid) listed)
+none-listed None = refl
+none-listed (Some l) = refl
+
+module _ (given : List (Option (List (Option (List ℕ))))) (memory : Memory) where
+  told : {X : Type 0} (g : VmBlock → X) → ((chunks : List (Option (List ℕ))) (listed : VmBlock) → g (refilled listed chunks) ≡ g listed) → (h : ℕ)
+      → option_map g (listed_at (given_memory given memory) h) ≡ option_map g (listed_at memory h)
+  told g same h = ap (option_map g) (listed-given given memory.file.cur.blocks h) ∙ entry-told_given g same (at_handle None given h) (at_handle None memory.file.cur.blocks h)
+
+  -- counts of locks, and which blocks are there, are as they were
+  pub locks_of-given : (name : Name) → locks_of (given_memory given memory) name ≡ locks_of memory name
+  locks_of-given name = owned name.owner name.h
+    where
+      owned : (owner : Owner) (h : ℕ) → locks_in (owned_block (given_memory given memory) owner h) ≡ locks_in (owned_block memory owner h)
+      owned Mem h = refl
+      owned Vm h = locks_in-listed (listed_at (given_memory given memory) h) ∙ ap (λ o. unwrap_or o 0) (told (λ l. l.block.locks) (λ chunks listed. refl) h) ∙ sym (locks_in-listed (listed_at memory h))
+
+  pub there-given : (name : Name) → is_none (block_of (given_memory given memory) name) ≡ is_none (block_of memory name)
+  there-given name = owned name.owner name.h
+    where
+      owned : (owner : Owner) (h : ℕ) → is_none (owned_block (given_memory given memory) owner h) ≡ is_none (owned_block memory owner h)
+      owned Mem h = refl
+      owned Vm h = none-listed (listed_at (given_memory given memory) h) ∙ ap is_none (told (λ l. l.uid) (λ chunks listed. refl) h) ∙ sym (none-listed (listed_at memory h))
+
+  -- so are marks
+  pub is_marked-given : (h : ℕ) → is_marked (given_memory given memory) h ≡ is_marked memory h
+  is_marked-given h = marked_in (listed_at (given_memory given memory) h) ∙ ap (λ o. unwrap_or o false) (told (λ l. l.marked) (λ chunks listed. refl) h) ∙ sym (marked_in (listed_at memory h))
+    where
+      marked_in : (listed : Option VmBlock) → is_marked_in listed ≡ unwrap_or (option_map (λ (l : VmBlock). l.marked) listed) false
+      marked_in None = refl
+      marked_in (Some l) = refl
+
+  -- a block that is locked is as it was
+  pub block_of-given : (name : Name) → 0 < locks_of memory name → block_of (given_memory given memory) name ≡ block_of memory name
+  block_of-given name = owned name.owner name.h
+    where
+      held : (listed : VmBlock) → 0 < listed.block.locks → is_held listed ≡ true
+      held listed some = rw (over 0 listed.block.locks some) (or-true listed.marked)
+        where
+          over : (n m : ℕ) → n < m → nat_lt n m ≡ true
+          over n m lt = grind (arith, lt)
+
+          or-true : (b : Bool) → (b || true) ≡ true
+          or-true true = refl
+          or-true false = refl
+
+      listed-same : (entry : Option VmBlock) (gift : Option (List (Option (List ℕ)))) → 0 < locks_in (option_map (λ (l : VmBlock). l.block) entry) → given_entry gift entry ≡ entry
+      listed-same None gift some = nothing-given gift
+      listed-same (Some l) gift some = entry-untouched gift l (held l some)
+
+      owned : (owner : Owner) (h : ℕ) → 0 < locks_in (owned_block memory owner h) → owned_block (given_memory given memory) owner h ≡ owned_block memory owner h
+      owned Mem h some = refl
+      owned Vm h some = ap (option_map (λ (l : VmBlock). l.block)) (listed-given given memory.file.cur.blocks h ∙ listed-same (listed_at memory h) (at_handle None given h) some)
