@@ -1,5 +1,5 @@
 -- What a copy between spans makes of the kernel's memory.
-use Rattle.std.proofs.Common.{◌≡◌, ℕ, ◌+◌, ◌-◌, ◌<◌, ◌≤◌, List, [], length, take, drop, sym, ap, ◌∙◌, subst, arith, length-take, length-drop}
+use Rattle.std.proofs.Common.{◌≡◌, ℕ, ◌+◌, ◌-◌, ◌<◌, ◌≤◌, List, [], length, take, drop, refl, sym, ap, ◌∙◌, subst, arith, length-take, length-drop}
 use Rattle.std.specs.Prelude.{Ok}
 use Rattle.lmem_raw.specs.Bytes.{part}
 use Rattle.block_handles.specs.Names.{slot_of}
@@ -16,7 +16,7 @@ use Rattle.geos_calls.specs.Spans.{Stands}
 use Rattle.geos_calls.specs.Kernel.{IsKernel, Calls}
 use Rattle.geos_calls.proofs.Locks.{with_store}
 use Rattle.geos_calls.proofs.AccessReads.{Lies, has-place, lies, stands-there, first-named}
-use Rattle.geos_calls.proofs.AccessWrites.{written-store, written-calls, stored-kernel, stored-calls}
+use Rattle.geos_calls.proofs.AccessWrites.{written-store, copied-in, stored-kernel, copied-over}
 
 -- a copy of no byte changes nothing
 pub nothing-copied : (old : KernelState) (to : Span) (target source : Reference) (n : ℕ) → IsKernel old → n ≡ 0 → Stands old to target → Calls (table.copy target source n) (Ok tt) old old
@@ -26,8 +26,8 @@ nothing-copied old to target source n k none t =
     let slot = slot_of target.name in
     let fits : 0 + length {A = ℕ} [] ≤ target.len = omega arith in
     let same : written-store old k target there place 0 [] fits ≡ old = ap with_store (ap (with_bytes old.blocks slot) (with_nothing (store.bytes_of old.blocks slot) (place.place.at + (target.start + 0))) ∙ with_own old.blocks slot) in
-    let calls : Calls (table.store target 0 []) (Ok tt) old old = subst (λ s. Calls (table.store target 0 []) (Ok tt) old s) same (written-calls old k target there place 0 [] fits) in
-    subst (λ n. Calls (table.copy target source n) (Ok tt) old old) (sym none) (record { answers = calls.answers; spans = calls.spans })
+    let calls : Calls (table.copy target source 0) (Ok tt) old old = subst (λ s. Calls (table.copy target source 0) (Ok tt) old s) same (copied-in old k target there place 0 [] fits source 0 refl refl) in
+    subst (λ n. Calls (table.copy target source n) (Ok tt) old old) (sym none) calls
 
 module _ (old : KernelState) (new : store.Store) (k : IsKernel old) (to from : Span) (target source : Reference) (t : Stands old to target) (u : Stands old from source) (n : ℕ) (some : 0 < n) (room : n ≤ target.len) (fits : n ≤ source.len)
     (copied : CopiesCovered old.blocks new from.at to.at n) where
@@ -56,6 +56,4 @@ module _ (old : KernelState) (new : store.Store) (k : IsKernel old) (to from : S
   copied-kernel = stored-kernel old new k to target t 0 to.at taken (omega (arith, long, room)) (omega (arith, long, some)) (omega arith) covered
 
   pub copied-calls : Calls (table.copy target source n) (Ok tt) old (with_store new)
-  copied-calls =
-      let calls = stored-calls old new k to target t 0 to.at taken (omega (arith, long, room)) (omega (arith, long, some)) (omega arith) covered in
-      record { answers = calls.answers; spans = calls.spans }
+  copied-calls = copied-over old new k to target t 0 to.at taken (omega (arith, long, room)) (omega (arith, long, some)) (omega arith) covered source n refl refl

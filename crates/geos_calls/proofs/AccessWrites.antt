@@ -1,5 +1,5 @@
 -- What bytes that are written within a chunk make of the kernel's memory.
-use Rattle.std.proofs.Common.{◌≡◌, ◌≢◌, ℕ, ◌+◌, ◌-◌, ◌<◌, ◌≤◌, List, [], length, set, get_or, Option, Some, None, unwrap_or, refl, sym, ap, ◌∙◌, subst, arith, inl, inr, length-take, length-drop, drop}
+use Rattle.std.proofs.Common.{◌≡◌, ◌≢◌, ℕ, ◌+◌, ◌-◌, ◌<◌, ◌≤◌, List, [], length, set, get_or, Option, Some, None, unwrap_or, refl, sym, ap, ◌∙◌, subst, arith, inl, inr, length-take, length-drop, take, drop}
 use Rattle.std.specs.Prelude.{Ok, max}
 use Rattle.std.specs.Option.{option_map}
 use Rattle.std.proofs.lemmas.Bool.{cases_eq}
@@ -175,6 +175,13 @@ module _ (old : KernelState) (k : IsKernel old) (ref : Reference) (there : store
   pub written-calls : Calls (table.store ref i ws) (Ok tt) old written-store
   written-calls = record { answers = (willing, ap (λ m. (Ok tt, m)) (sym written-memory)); spans = λ choice. written-spans }
 
+  -- a copy of these bytes is this call
+  pub copied-in : (source : Reference) (n : ℕ) → ws ≡ take n (table.named_bytes (memory_of old) source) → i ≡ 0 → Calls (table.copy ref source n) (Ok tt) old written-store
+  copied-in source n is first = record {
+    answers = (willing, ap (λ m. (Ok tt, m)) (sym (written-memory ∙ ap (λ bs. (table.store ref i bs willing (memory_of old)).after) is ∙ ap (λ j. (table.store ref j (take n (table.named_bytes (memory_of old) source)) willing (memory_of old)).after) first)));
+    spans = λ choice. written-spans;
+  }
+
 -- a write that covers bytes of a span is a write to the chunk for which it stands
 module _ (old : KernelState) (new : store.Store) (k : IsKernel old) (span : Span) (ref : Reference) (stands : Stands old span ref) (i at : ℕ) (ws : List ℕ) (fits : i + length ws ≤ ref.len) (some : 0 < length ws) (e : at ≡ span.at + i)
     (covered : WritesCovered old.blocks new at ws) where
@@ -196,3 +203,6 @@ module _ (old : KernelState) (new : store.Store) (k : IsKernel old) (span : Span
 
   pub stored-calls : Calls (table.store ref i ws) (Ok tt) old (with_store new)
   stored-calls = subst (λ t. Calls (table.store ref i ws) (Ok tt) old (with_store t)) (sym stored) (written-calls old k ref there place.chunk i ws fits)
+
+  pub copied-over : (source : Reference) (n : ℕ) → ws ≡ take n (table.named_bytes (memory_of old) source) → i ≡ 0 → Calls (table.copy ref source n) (Ok tt) old (with_store new)
+  copied-over source n is first = subst (λ t. Calls (table.copy ref source n) (Ok tt) old (with_store t)) (sym stored) (copied-in old k ref there place.chunk i ws fits source n is first)

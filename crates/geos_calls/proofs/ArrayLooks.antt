@@ -1,6 +1,7 @@
 -- The calls that look at arrays.
 use Rattle.std.proofs.Common.{◌≡◌, ℕ, ◌+◌, ◌<◌, List, [], ◌∷◌, length, drop, Option, Some, None, refl, ap, ◌∙◌, arith, subst, length-take, length-drop}
 use Rattle.std.specs.Prelude.{Result, Ok, Err, Bool, nat_lt, true, false, option_map}
+use Rattle.std.proofs.lemmas.Bool.{lt-ltb}
 use Rattle.lmem_raw.specs.Bytes.{part}
 use Rattle.geos_model.specs.declared.name.Name.{Name}
 use Rattle.geos_model.specs.declared.refusal.Refusal.{Refusal}
@@ -41,6 +42,10 @@ pub element-refuses : (why : ElementError) (tests : List (Bool × Refusal)) → 
 element-refuses element.BadChunk tests h = h
 element-refuses element.BadArray tests h = h
 element-refuses element.BadElement tests h = h
+
+-- where one number is not below another, neither is its equal
+not-below : (a len n : ℕ) → len ≡ a → (len < n → ⊥) → nat_lt a n ≡ false
+not-below a len n same enough = grind (arith, same, enough)
 
 module _ (s : KernelState) (name : Name) (k : IsKernel s) (locked : IsLocked s name) where
   there : store.IsThere s.blocks (slot_of name)
@@ -97,12 +102,12 @@ module _ (s : KernelState) (name : Name) (k : IsKernel s) (locked : IsLocked s n
     module _ (at len : ℕ) (passed : first_refusal (no_element cs c i) ≡ None) (h : HasElement bytes c i at len) where
       pub caelt-few : len < n → GivesSpan (arrays.caelt name c i n) (Err Short) s
       caelt-few less =
-          let e = h.long in let test : nat_lt (length (element_of cs c i)) n ≡ true = grind (arith, less, e) in
+          let e = h.long in let test : nat_lt (length (element_of cs c i)) n ≡ true = lt-ltb (length (element_of cs c i)) n (omega (arith, less, e)) in
           refers-not (refer_element c i n) Short (first_refusal-passed (no_element cs c i) short passed ∙ ap (λ t. first_refusal ((t, Short) ∷ [])) test)
 
       pub caelt-span : (place start : ℕ) → place ≡ store.place_of s.blocks (slot_of name) → start ≡ at → (len < n → ⊥) → GivesSpan (arrays.caelt name c i n) (Ok (record { at = place + start; len = len })) s
       caelt-span place start e f enough =
-          let long = h.long in let test : nat_lt (length (element_of cs c i)) n ≡ false = grind (arith, enough, long) in
+          let long = h.long in let test : nat_lt (length (element_of cs c i)) n ≡ false = not-below (length (element_of cs c i)) len n long enough in
           let span : Span = record { at = place + start; len = len } in
           let ref : Reference = table.in_block name (refer_element c i n cs).answer in
           let chunk = part bytes h.begin h.whole in let inside = h.inside in let from = h.place in let within = h.within in

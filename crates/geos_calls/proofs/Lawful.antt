@@ -2,11 +2,12 @@
 use Rattle.std.proofs.Common.{◌≡◌, ℕ, ◌≤◌, List, length, length-take, take, Option, Some, None, map, sym, arith, subst}
 use Rattle.std.specs.Prelude.{IfSome}
 use Rattle.std.proofs.lemmas.List.{length-map}
-use Rattle.geos_model.specs.declared.name.Name.{Name}
+use Rattle.geos_model.specs.Names.{mem}
 use Rattle.geos_model.specs.Heap.{IsHeap}
 use Rattle.geos_table.specs.Memory as model
 use Rattle.geos_table.specs.Legal.{AreBytes, IsLegalBlock, IsMemory}
 use Rattle.geos_table.proofs.LegalBytes.{bytes-part}
+use Rattle.geos_table.proofs.LegalDirectories.{empty_file-legal}
 use Rattle.geos_table.proofs.LegalHeaps.{heap-legal}
 use Rattle.block_handles.specs.Names.{slot_of}
 use Rattle.block_handles.specs.Layout.{IsRegion}
@@ -22,7 +23,7 @@ block-legal (Some b) heap bytes few = record { heap = heap-legal b.bytes (heap t
 
 -- where the region is of bytes, memory is legal
 pub memory-legal : (s : KernelState) (region : List ℕ) → IsKernel s → IsRegion s.blocks region → AreBytes region → IsMemory (memory_of s)
-memory-legal s region k lies bytes = record { handles = handles; blocks = blocks }
+memory-legal s region k lies bytes = record { handles = handles; blocks = blocks; file = empty_file-legal 0 }
   where
     handles : length (map block_in (take 1024 s.blocks.blocks)) ≡ 1024
     handles = omega (arith, length-map (take 1024 s.blocks.blocks) block_in, length-take 1024 s.blocks.blocks, k.laid.slots)
@@ -30,6 +31,7 @@ memory-legal s region k lies bytes = record { handles = handles; blocks = blocks
     are : (slot : ℕ) → AreBytes (store.bytes_of s.blocks slot)
     are slot = subst AreBytes (sym (lies.blocks slot)) (bytes-part region (store.place_of s.blocks slot) (store.size_of s.blocks slot) bytes)
 
-    blocks : (name : Name) → IfSome (model.block_of (memory_of s) name) IsLegalBlock
-    blocks name =
+    blocks : (h : ℕ) → IfSome (model.block_of (memory_of s) (mem h)) IsLegalBlock
+    blocks h =
+        let name = mem h in
         rw (block_of-view s name k) (block-legal (store.block_at s.blocks (slot_of name)) (k.heaps name) (are (slot_of name)) (k.few name))

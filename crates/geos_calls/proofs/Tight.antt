@@ -1,10 +1,10 @@
 -- Where no stretch of the region has room, the sizes of the blocks say so.
-use Rattle.std.proofs.Common.{◌≡◌, ◌≢◌, ℕ, zero, suc, ◌+◌, ◌-◌, ◌*◌, ◌<◌, ◌≤◌, List, [], ◌∷◌, ◌++◌, length, length-take, length-set, map, take, set, get_or, Option, Some, None, Bool, true, false, refl, sym, ap, ◌∙◌, arith, inl, inr}
+use Rattle.std.proofs.Common.{◌≡◌, ◌≢◌, ℕ, zero, suc, ◌+◌, ◌-◌, ◌*◌, ◌<◌, ◌≤◌, List, [], ◌∷◌, ◌++◌, length, length-take, length-set, map, take, set, get_or, replicate, Option, Some, None, Bool, true, false, refl, sym, ap, ◌∙◌, arith, inl, inr}
 use Rattle.std.specs.Prelude.{sum_by, count_by, nat_lt, nat_eq, cond, if◌then◌else◌}
 use Rattle.std.proofs.lemmas.Bool.{cases_eq}
 use Rattle.std.proofs.lemmas.Bool.Decides.{nat_tests}
 use Rattle.std.proofs.lemmas.List.{length-map, take_more, take_all, get_or-set_same, get_or-set_other}
-use Rattle.std.proofs.lemmas.List.Sums.{sum_by_push}
+use Rattle.std.proofs.lemmas.List.Sums.{sum_by_push, sum_by-cons, sum_by-append}
 use Rattle.block_handles.specs.Names.{IsHandle}
 use Rattle.block_handles.specs.Store as store
 use Rattle.block_handles.specs.Stretch.{total, other_size, locked_one, other_locked, other_sizes, IsCrowded}
@@ -52,12 +52,26 @@ entries-set : (xs : List (Option model.Block)) (h : ℕ) → 1 ≤ h → model.w
 entries-set xs zero some = absurd (omega (arith, some))
 entries-set xs (suc h) some = let last : h ≡ suc h - 1 = omega arith in ap (λ i. set xs i None) last
 
+-- blocks that are none add nothing
+none-sum : (g : Option model.Block → ℕ) → g None ≡ 0 → (n : ℕ) → sum_by g (map tight.staying (replicate n None)) ≡ 0
+none-sum g zero_none zero = refl
+none-sum g zero_none (suc n) = omega (arith, sum_by-cons g None (map tight.staying (replicate n None)), zero_none, none-sum g zero_none n)
+
 module _ (s : KernelState) (h : ℕ) (k : IsKernel s) (q : IsHandle h) where
   abbrev others : List (Option model.Block)
   others = set (map block_in (take 1024 s.blocks.blocks)) (h - 1) None
 
-  others-set : tight.others (memory_of s) (mem h) ≡ others
-  others-set = entries-set (map block_in (take 1024 s.blocks.blocks)) h q.0
+  -- no block of the file is marked or locked
+  abbrev none_staying : List (Option model.Block)
+  none_staying = map tight.staying (replicate 1024 None)
+
+  others-set : tight.others (memory_of s) (mem h) ≡ others ++ none_staying
+  others-set = ap (λ bs. bs ++ none_staying) (entries-set (map block_in (take 1024 s.blocks.blocks)) h q.0)
+
+  -- they add nothing to what is summed
+  none-more : (g : Option model.Block → ℕ) → g None ≡ 0 → sum_by g (others ++ none_staying) ≡ sum_by g others
+  none-more g zero_none =
+      let parts = sum_by-append g others none_staying in let none = none-sum g zero_none 1024 in omega (arith, parts, none)
 
   abbrev slot : ℕ
   slot = slot_of (mem h)
@@ -123,7 +137,8 @@ module _ (s : KernelState) (h : ℕ) (k : IsKernel s) (q : IsHandle h) where
 
   pub is_tight-crowded : (size : ℕ) → IsCrowded s.blocks slot size → tight.is_tight (memory_of s) (mem h) size ≡ true
   is_tight-crowded size crowded =
-      let more : s.blocks.len < (count_by tight.is_locked others + 1) * size + sum_by model.size_in others = rw (sym locked_same, sym sizes_same) crowded in
+      let more : s.blocks.len < (count_by tight.is_locked (others ++ none_staying) + 1) * size + sum_by model.size_in (others ++ none_staying) =
+      rw (none-more one_if_locked refl, none-more model.size_in refl, sym locked_same, sym sizes_same) crowded in
       rw others-set (grind (arith, more))
 
 -- the same of a named block of global memory

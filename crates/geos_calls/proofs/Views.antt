@@ -1,5 +1,6 @@
 -- The memory that blocks spell, name by name.
 use Rattle.std.proofs.Common.{◌≡◌, ◌≢◌, ℕ, zero, suc, ◌-◌, ◌<◌, ◌≤◌, List, length, length-take, map, take, replicate, set, get_or, Option, Some, None, refl, sym, ap, ◌∙◌, arith, inl, inr, subst}
+use Rattle.std.specs.Prelude.{option_map}
 use Rattle.std.proofs.lemmas.List.{get_or-map, get_or-take, get_or_past, map-set, length-map, ext_get_or, length-replicate, get_or-replicate}
 use Rattle.std.proofs.Math.Seq.{take-set-lt}
 use Rattle.std.proofs.lemmas.Bool.{cases_lt}
@@ -10,6 +11,9 @@ use Rattle.geos_model.specs.declared.name.Owner.TheVariants.{Mem, Vm}
 use Rattle.geos_model.specs.Names.{named, mem}
 use Rattle.geos_model.specs.Block as block
 use Rattle.geos_table.specs.Memory as model
+use Rattle.geos_table.specs.Directories.{VmBlock}
+use Rattle.geos_table.specs.VmFile.{empty_file}
+use Rattle.geos_table.proofs.LegalDirectories.{none-listed}
 use Rattle.block_handles.specs.Names.{IsHandle, slot_of}
 use Rattle.block_handles.specs.Layout.{IsEmpty}
 use Rattle.block_handles.specs.Store as store
@@ -101,7 +105,7 @@ block_of-view s name k = view name.owner name.h
     gone owner h past = sym (view-absent (store.block_at s.blocks (slot_of (named owner h))) (slotless s (named owner h) k past))
 
     view : (owner : Owner) (h : ℕ) → model.owned_block (memory_of s) owner h ≡ block_in (store.block_at s.blocks (slot_of (named owner h)))
-    view Vm h = sym (view-absent (store.block_at s.blocks (slot_of (named Vm h))) (k.no_vm h))
+    view Vm h = ap (option_map (λ (listed : VmBlock). listed.block)) (none-listed h) ∙ sym (view-absent (store.block_at s.blocks (slot_of (named Vm h))) (k.no_vm h))
     view Mem zero = gone Mem 0 (slot_of-zero Mem)
     view Mem (suc h) = elim (cases_lt h 1024) [
       | inl lt ↦ get_or-view s.blocks.blocks h lt ∙ ap (λ j. block_in (store.block_at s.blocks j)) (sym (slot_of-mem (suc h) (omega arith, omega arith) ∙ omega arith))
@@ -122,7 +126,7 @@ memory_of-set old new name b mine q e l = at name.owner name.h mine q e
         let blocks : map block_in (take 1024 new.blocks.blocks) ≡ set (map block_in (take 1024 old.blocks.blocks)) h (block_in b) =
         ap (λ bs. map block_in (take 1024 bs)) (e ∙ ap (λ i. set old.blocks.blocks i b) slot) ∙ ap (map block_in) (take-set-lt 1024 old.blocks.blocks h b (omega (arith, q.1)))
         ∙ map-set block_in (take 1024 old.blocks.blocks) h b in
-        λ k. record { blocks = blocks k; region = l k }
+        λ k. record { blocks = blocks k; file = empty_file 0; region = l k }
 
 -- a block that is there is one of global memory
 pub owner-there : (s : KernelState) (name : Name) → IsKernel s → store.IsThere s.blocks (slot_of name) → name.owner ≡ Mem
@@ -163,8 +167,8 @@ pub locked-heap : (s : KernelState) (name : Name) → IsKernel s → IsLocked s 
 locked-heap s name k locked = let there = locked-there s name k locked in record { there = there; heap = k.heaps name there }
 
 -- with no block in the region there is none in memory
-pub empty-view : (s : KernelState) (len : ℕ) → IsEmpty s.blocks len → memory_of s ≡ record { blocks = replicate 1024 None; region = len }
-empty-view s len empty = λ k. record { blocks = blocks k; region = empty.long k }
+pub empty-view : (s : KernelState) (len : ℕ) → IsEmpty s.blocks len → memory_of s ≡ record { blocks = replicate 1024 None; file = empty_file 0; region = len }
+empty-view s len empty = λ k. record { blocks = blocks k; file = empty_file 0; region = empty.long k }
   where
     blocks : map block_in (take 1024 s.blocks.blocks) ≡ replicate {A = Option model.Block} 1024 None
     blocks =

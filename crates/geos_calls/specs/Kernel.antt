@@ -13,7 +13,7 @@ use Rattle.geos_model.specs.Block as block
 use Rattle.geos_model.specs.Chunks.{need}
 use Rattle.geos_model.specs.Heap.{IsHeap}
 use Rattle.geos_model.specs.declared.refusal.Refusal.{Refusal}
-use Rattle.geos_table.specs.Effects.{Choice, Call, Answers, Reference}
+use Rattle.geos_table.specs.Effects.{Choice, Call, Answers, Reference, effect_of}
 use Rattle.geos_calls.specs.declared.span.Span.{Span}
 use Rattle.geos_calls.specs.View.{KernelState, memory_of}
 use Rattle.geos_calls.specs.Spans.{Stands, SpansStay}
@@ -32,7 +32,7 @@ pub record IsKernel (s : KernelState) : Type 0 where
 -- a call answers as its row says, and spans that it does not make stale stay
 pub record Calls {A : Type 0} (call : Call A) (result : Result A Refusal) (old new : KernelState) : Type 0 where
   pub answers : Answers call result (memory_of old) (memory_of new)
-  pub spans : (choice : Choice) → SpansStay old new (call choice (memory_of old)).stale
+  pub spans : (choice : Choice) → SpansStay old new (effect_of call choice (memory_of old)).stale
 
 -- a new heap without a chunk is in a slot, under its handle, locked once; every other block is
 -- as it was, and lies where it lay if it is locked

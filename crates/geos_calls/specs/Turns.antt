@@ -2,7 +2,7 @@
 use Rattle.std.specs.Prelude.{◌≡◌, ℕ, List, [], ◌∷◌, map, Result}
 use Rattle.geos_model.specs.declared.refusal.Refusal.{Refusal}
 use Rattle.geos_table.specs.Memory.{Memory}
-use Rattle.geos_table.specs.Effects.{Choice, Staleness, Reference, Call, outcome}
+use Rattle.geos_table.specs.Effects.{Choice, Staleness, Reference, Call, outcome, effect_of}
 use Rattle.geos_calls.specs.declared.span.Span.{Span}
 use Rattle.geos_calls.specs.Kernel.{Calls, GivesSpan, StandsFor}
 use Rattle.geos_calls.specs.Spans.{Stands, IsFresh}
@@ -25,22 +25,22 @@ abbrev pub InTurn : List Turn → KernelState → KernelState → Type 0
 InTurn [] old new = new ≡ old
 InTurn (turn ∷ turns) old new = (mid : KernelState) × Answered turn old mid × InTurn turns mid new
 
--- a call that was made, and what was refused from outside at it
+-- a call that was made, and what came from outside at it
 pub record Step : Type 0 where
   pub turn : Turn
   pub choice : Choice
 
 -- the row answers so, and leads from one memory to another
 abbrev pub Comes : Turn → Choice → Memory → Memory → Type 0
-Comes (Does row result) choice before after = outcome (row choice before) ≡ (result, after)
-Comes (Tells row result) choice before after = outcome (row choice before) ≡ (result, after)
-Comes (Refers row result) choice before after = outcome (row choice before) ≡ (result, after)
+Comes (Does row result) choice before after = outcome (effect_of row choice before) ≡ (result, after)
+Comes (Tells row result) choice before after = outcome (effect_of row choice before) ≡ (result, after)
+Comes (Refers row result) choice before after = outcome (effect_of row choice before) ≡ (result, after)
 
 -- the references that the row makes stale
 abbrev pub stale_by : Turn → Choice → Memory → Staleness
-stale_by (Does row result) choice before = (row choice before).stale
-stale_by (Tells row result) choice before = (row choice before).stale
-stale_by (Refers row result) choice before = (row choice before).stale
+stale_by (Does row result) choice before = (effect_of row choice before).stale
+stale_by (Tells row result) choice before = (effect_of row choice before).stale
+stale_by (Refers row result) choice before = (effect_of row choice before).stale
 
 -- the rows answer so one after another, and lead from one memory to another
 abbrev pub Run : List Step → Memory → Memory → Type 0

@@ -5,6 +5,7 @@ use Rattle.block_handles.specs.Names.{slot_of}
 use Rattle.block_handles.specs.Store as store
 use Rattle.geos_model.specs.Block as block
 use Rattle.geos_table.specs.Memory as model
+use Rattle.geos_table.specs.VmFile.{empty_file}
 
 -- a kernel, as its calls see it: the blocks in its region
 pub record KernelState : Type 0 where
@@ -15,9 +16,9 @@ abbrev pub block_in : Option store.Block → Option model.Block
 block_in None = None
 block_in (Some b) = Some (record { locks = b.locks; heap = record { chunks = block.chunks b.bytes; size = length b.bytes } })
 
--- what all blocks of global memory spell
+-- what all blocks of global memory spell; a kernel has no VM file yet
 abbrev pub memory_of : KernelState → model.Memory
-memory_of s = record { blocks = map block_in (take 1024 s.blocks.blocks); region = s.blocks.len }
+memory_of s = record { blocks = map block_in (take 1024 s.blocks.blocks); file = empty_file 0; region = s.blocks.len }
 
 -- a named block is locked
 abbrev pub IsLocked : KernelState → Name → Type 0

@@ -49,6 +49,7 @@ impl Kernel {
     ghost use Rattle.geos_model.specs.Heap.{IsCompact};
     ghost use Rattle.geos_table.specs.Legal.{IsMemory};
     ghost use Rattle.geos_table.specs.Memory.{chunks_at, locks_of};
+    ghost use Rattle.geos_table.specs.VmFile.{empty_file};
     ghost use Rattle.geos_model.specs.Names.{mem};
     ghost use Rattle.geos_calls.specs.Kernel.{Calls, GivesSpan, HasNoRoomFor, NewHasNoRoom};
     ghost use Rattle.geos_calls.specs.Spans.{IsStanding};
@@ -59,7 +60,7 @@ impl Kernel {
     pub fn new(alloc: Global, region: u32) -> Result<Kernel, AllocError>
         requires { (65536 ≤ region) × (region ≤ 16777216) }
         ensures store { IfOk result (λ kernel. IsEmpty kernel.blocks region) }
-        ensures memory { IfOk result (λ kernel. memory_of kernel ≡ record { blocks = replicate 1024 None; region = region }) }
+        ensures memory { IfOk result (λ kernel. memory_of kernel ≡ record { blocks = replicate 1024 None; file = empty_file 0; region = region }) }
     {
         Ok(Kernel {
             blocks: Blocks::new(alloc, region)?,

@@ -16,7 +16,7 @@ get-none zero k = refl
 get-none (suc n) zero = refl
 get-none (suc n) (suc k) = get-none n k
 
-none-listed : {B : Type 0} (h : ℕ) → at_handle None (replicate {A = Option B} 1024 None) h ≡ None
+pub none-listed : {B : Type 0} (h : ℕ) → at_handle None (replicate {A = Option B} 1024 None) h ≡ None
 none-listed zero = refl
 none-listed (suc h) = get-none 1024 h
 

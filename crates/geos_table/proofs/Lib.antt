@@ -16,6 +16,8 @@ pub mod LegalArrays
 pub mod LegalBlocks
 pub mod LegalDirectories
 pub mod LegalGiven
+pub mod NamedBlocks
 pub mod Outcomes
+pub mod Leaves
 pub mod KeepsFile
 pub mod Keeps

@@ -13,3 +13,5 @@ pub mod VmCalls
 pub mod ItemCalls
 pub mod Legal
 pub mod Keeping
+pub mod Table
+pub mod Leaving

@@ -1,12 +1,25 @@
-//! The law of the table of calls.
+//! The laws of the table of calls.
 
 ghost use Rattle.geos_table.specs.Keeping.{RowsKeepMemory};
+ghost use Rattle.geos_table.specs.Leaving.{RowsLeave};
 
 /// Each row of the table of calls keeps memory legal, where the call succeeds and where it is
 /// refused, whatever is refused from outside. Legal memory has 1,024 handles; the size of each
 /// block is a multiple of 16 from 64 to 65,520 and has room for the block's chunks; its table
 /// has an even number of entries, at least two; chunks are of bytes; no count of locks is
-/// above 65,535. (GEOS SDK Concepts Book, chapters Memory Management and Local Memory.)
+/// above 65,535. The same holds of the current, the saved and the kept directories of the VM
+/// file, whose user IDs are words, and whose maps name a block that is no group, and a group.
+/// (GEOS SDK Concepts Book, chapters Memory Management, Local Memory and Virtual Memory.)
 pub fn rows_keep_memory()
     ensures { RowsKeepMemory }
+{}
+
+/// What each row of the table of calls leaves: a refusal leaves memory as it was, a fault of
+/// the device in a commit aside, after which it may not be sure what the device holds; the
+/// references that a row makes stale are the same whether it is done or refused; a row leaves
+/// every block that it is not on as it was; and where it is done, counts of locks and marks are
+/// as `Leaving` has them. (GEOS SDK Concepts Book, chapters Memory Management, Virtual Memory
+/// and Database Library.)
+pub fn rows_leave()
+    ensures { RowsLeave }
 {}

@@ -12,4 +12,4 @@ mod call;
 mod law;
 
 pub use call::{Ask, Change, Make, Refer};
-pub use law::rows_keep_memory;
+pub use law::{rows_keep_memory, rows_leave};

@@ -1,0 +1,278 @@
+-- What each row of the table leaves.
+use Rattle.std.proofs.Common.{◌≡◌, ℕ, suc, ◌+◌, ◌-◌, Bool, true, false, ◌==◌, if◌then◌else◌, List, [], ◌∷◌, Option, Some, None, refl, sym, ap, ◌∙◌, subst, inl, inr, arith}
+use Rattle.std.specs.Prelude.{is_none, option_map, unwrap_or, position, not}
+use Rattle.std.proofs.lemmas.List.{get_or-set_same}
+use Rattle.std.proofs.lemmas.List.Quantifiers.{position-Some}
+use Rattle.geos_model.specs.declared.name.Name.{Name}
+use Rattle.geos_model.specs.declared.name.Owner.{Owner}
+use Rattle.geos_model.specs.declared.name.Owner.TheVariants.{Mem, Vm}
+use Rattle.geos_model.specs.declared.refusal.Refusal.{Refusal}
+use Rattle.geos_model.specs.declared.refusal.Refusal.TheVariants as refusal
+use Rattle.geos_model.specs.Names.{named, mem, vm}
+use Rattle.geos_model.specs.Refusals.{first_refusal}
+use Rattle.geos_model.specs.Edits.{Edit}
+use Rattle.geos_table.specs.Directories.{VmBlock, KeptBlock, group_uid, uid_in, is_marked_in, marked_block, idle_block}
+use Rattle.geos_table.specs.VmFile.{Pair, doubted}
+use Rattle.geos_table.specs.Memory.{Block, Memory, at_handle, with_entry_at, lowest_of, new_heap, listed_at, with_listed, with_mark, is_marked, with_owned_block, block_of, with_block, locks_in, locks_of, lowest_handle, locked_block, rechunked_block, with_locks, with_chunks, chunks_at}
+use Rattle.geos_table.specs.Given.{given_memory}
+use Rattle.geos_table.specs.Effects.{Choice, InBlock, come_to, outcome, effect_of}
+use Rattle.geos_table.specs.ChunkCalls.{change_edit, may_grow, row_in, make_edit}
+use Rattle.geos_table.specs.VmCalls.{new_listed, bring, without_listed, committed, left_by_commit, keep_current, keep_saved, keep_reverted, pair_to_keep}
+use Rattle.geos_table.specs.Table.{KernelCall, Mnew, Mlock, Mfree, Unlock, Changes, Makes, Store, Copy, Vnew, Vlock, Vdirty, Vfree, Vsetmap, Vupdate, Vsave, Vrevert, Gnew, Gfree, ChangesItem, MakesItem, Ilock, Isetmap, row}
+use Rattle.geos_table.specs.Leaving.{Scope, NoBlock, OneBlock, WholeFile, new_mem, new_vm, scope_of, LeavesOthers, stale_of, counts_of, marks_of, HasCounts, HasMarks, IsAskable, IsLeft, RowsLeave}
+use Rattle.geos_table.proofs.Laws.{entry-other}
+use Rattle.geos_table.proofs.Passing.{none-here}
+use Rattle.geos_table.proofs.HandleLists.{entry-each}
+use Rattle.geos_table.proofs.LegalGiven.{locks_of-given, is_marked-given, block_of-given}
+use Rattle.geos_table.proofs.NamedBlocks.{entry-gone, block_in_file, block_of-mapped, block_of-gone, locks_of-chunks, locks_of-set, marks-mapped, locks_of-mark, marked-set, still-listed}
+
+-- The shape of rows on chunks
+
+-- a change of chunks, for which the block may grow or not
+change-shape : (grows : Bool) (edit : List (Option (List ℕ)) → Edit (Unit {0})) (name : Name) (choice : Choice) (memory : Memory) →
+    ((row_in grows edit name choice memory).after ≡ with_chunks memory name (edit (chunks_at memory name)).chunks) × ((row_in grows edit name choice memory).stale ≡ InBlock name)
+    × ((why : Refusal) → (row_in grows edit name choice memory).left why ≡ memory)
+change-shape true edit name choice memory = (refl, refl, λ why. refl)
+change-shape false edit name choice memory = (refl, refl, λ why. refl)
+
+-- What refusals leave
+
+commit-left : (choice : Choice) (memory : Memory) (pair : Pair) (why : Refusal) → IsLeft why memory (left_by_commit choice memory pair why)
+commit-left choice memory pair refusal.Disk = by choice.unsure
+  where
+    by : (unsure : Bool) → IsLeft refusal.Disk memory (if unsure then record memory { file = record memory.file { kept = doubted memory.file.kept pair } } else memory)
+    by true = inr (refl, (doubted memory.file.kept pair, refl))
+    by false = inl refl
+commit-left choice memory pair why = inl refl
+
+refused : (call : KernelCall) (choice : Choice) (memory : Memory) (why : Refusal) → IsLeft why memory ((row call choice memory).left why)
+refused (Changes name change) choice memory why = inl ((change-shape (may_grow change) (change_edit change) name choice memory).2 why)
+refused (ChangesItem g change) choice memory why = inl ((change-shape (may_grow change) (change_edit change) (vm g) choice memory).2 why)
+refused Vupdate choice memory why = commit-left choice memory (pair_to_keep keep_current memory) why
+refused Vsave choice memory why = commit-left choice memory (pair_to_keep keep_saved memory) why
+refused Vrevert choice memory why = commit-left choice memory (pair_to_keep keep_reverted memory) why
+refused call choice memory why = inl refl
+
+-- What is made stale
+
+stale : (call : KernelCall) (choice : Choice) (memory : Memory) → (row call choice memory).stale ≡ stale_of call memory
+stale (Changes name change) choice memory = (change-shape (may_grow change) (change_edit change) name choice memory).1
+stale call choice memory = refl
+
+-- What a call leaves of blocks that it is not on
+
+same-others : (scope : Scope) (m : Memory) → LeavesOthers scope m m
+same-others scope m = record { blocks = λ h out. refl; listed = λ h out. refl; region = refl }
+
+then-others : (scope : Scope) (a b c : Memory) → LeavesOthers scope a b → LeavesOthers scope b c → LeavesOthers scope a c
+then-others scope a b c x y = record { blocks = λ h out. y.blocks h out ∙ x.blocks h out; listed = λ h out. y.listed h out ∙ x.listed h out; region = y.region ∙ x.region }
+
+owned-others : (m : Memory) (owner : Owner) (h : ℕ) (block : Option Block) → LeavesOthers (OneBlock (named owner h)) m (with_owned_block m owner h block)
+owned-others m Mem h block = record { blocks = λ k out. entry-other None block m.blocks h k (λ e. out (ap mem (sym e))); listed = λ k out. refl; region = refl }
+owned-others m Vm h block = record {
+  blocks = λ k out. refl;
+  listed = λ k out. entry-other None _ m.file.cur.blocks h k (λ e. out (ap vm (sym e)));
+  region = refl;
+}
+
+-- a named block is written
+block-others : (m : Memory) (name : Name) (block : Option Block) → LeavesOthers (OneBlock name) m (with_block m name block)
+block-others m name block = owned-others m name.owner name.h block
+
+-- what is listed under a handle is
+listed-others : (m : Memory) (h : ℕ) (listed : Option VmBlock) → LeavesOthers (OneBlock (vm h)) m (with_listed m h listed)
+listed-others m h listed = record { blocks = λ k out. refl; listed = λ k out. entry-other None listed m.file.cur.blocks h k (λ e. out (ap vm (sym e))); region = refl }
+
+without-others : (m : Memory) (h : ℕ) → LeavesOthers (OneBlock (vm h)) m (without_listed m h)
+without-others m h = record { blocks = λ k out. refl; listed = λ k out. entry-other None None m.file.cur.blocks h k (λ e. out (ap vm (sym e))); region = refl }
+
+chunks-others : (m : Memory) (name : Name) (chunks : List (Option (List ℕ))) → LeavesOthers (OneBlock name) m (with_chunks m name chunks)
+chunks-others m name chunks = block-others m name (option_map (rechunked_block chunks) (block_of m name))
+
+locks-others : (m : Memory) (name : Name) (n : ℕ) → LeavesOthers (OneBlock name) m (with_locks m name n)
+locks-others m name n = block-others m name (option_map (locked_block n) (block_of m name))
+
+-- chunks of a group are changed, and it is marked
+item-others : (m : Memory) (g : ℕ) (chunks : List (Option (List ℕ))) → LeavesOthers (OneBlock (vm g)) m (with_mark (with_chunks m (vm g) chunks) g true)
+item-others m g chunks =
+    let n = with_chunks m (vm g) chunks in
+    then-others (OneBlock (vm g)) m n (with_mark n g true) (chunks-others m (vm g) chunks) (listed-others n g (option_map (marked_block true) (listed_at n g)))
+
+commit-others : (m : Memory) (pair : Pair) → LeavesOthers WholeFile m (committed m pair)
+commit-others m pair = record { blocks = λ h out. refl; listed = λ h out. absurd (out refl); region = refl }
+
+done-others : (call : KernelCall) (choice : Choice) (memory : Memory) → LeavesOthers (scope_of call memory) memory (row call choice memory).after
+done-others Mnew choice m = block-others m (new_mem m) (Some (record { locks = 1; heap = new_heap }))
+done-others (Mlock h) choice m = locks-others m (mem h) (locks_of m (mem h) + 1)
+done-others (Mfree h) choice m = block-others m (mem h) None
+done-others (Unlock name) choice m = locks-others m name (locks_of m name - 1)
+done-others (Changes name change) choice m =
+    subst (LeavesOthers (OneBlock name) m) (sym (change-shape (may_grow change) (change_edit change) name choice m).0) (chunks-others m name (change_edit change (chunks_at m name)).chunks)
+done-others (Makes name make) choice m = chunks-others m name (make_edit make (chunks_at m name)).chunks
+done-others (Store ref i bytes) choice m = chunks-others m ref.name _
+done-others (Copy to from n) choice m = chunks-others m to.name _
+done-others (Vnew uid) choice m = listed-others m (new_vm m).h (Some (new_listed uid 1))
+done-others (Vlock h) choice m = locks-others m (vm h) (locks_of m (vm h) + 1)
+done-others (Vdirty h) choice m = listed-others m h (option_map (marked_block true) (listed_at m h))
+done-others (Vfree h) choice m = without-others m h
+done-others (Vsetmap h) choice m = record { blocks = λ k out. refl; listed = λ k out. refl; region = refl }
+done-others Vupdate choice m = commit-others m (pair_to_keep keep_current m)
+done-others Vsave choice m = commit-others m (pair_to_keep keep_saved m)
+done-others Vrevert choice m = commit-others m (pair_to_keep keep_reverted m)
+done-others Gnew choice m = listed-others m (new_vm m).h (Some (new_listed group_uid 0))
+done-others (Gfree g) choice m = without-others m g
+done-others (ChangesItem g change) choice m =
+    subst (λ n. LeavesOthers (OneBlock (vm g)) m (with_mark n g true)) (sym (change-shape (may_grow change) (change_edit change) (vm g) choice m).0) (item-others m g (change_edit change (chunks_at m (vm g))).chunks)
+done-others (MakesItem g make) choice m = item-others m g (make_edit make (chunks_at m (vm g))).chunks
+done-others (Ilock g i n) choice m = locks-others m (vm g) (locks_of m (vm g) + 1)
+done-others (Isetmap g i) choice m = record { blocks = λ k out. refl; listed = λ k out. refl; region = refl }
+done-others call choice m = same-others NoBlock m
+
+left-others : (scope : Scope) (why : Refusal) (old new : Memory) → IsLeft why old new → LeavesOthers scope old new
+left-others scope why old new (inl same) = subst (LeavesOthers scope old) (sym same) (same-others scope old)
+left-others scope why old new (inr (device, (kept, is))) = subst (LeavesOthers scope old) (sym is) (record { blocks = λ h out. refl; listed = λ h out. refl; region = refl })
+
+others : (call : KernelCall) (choice : Choice) (memory : Memory) → LeavesOthers (scope_of call memory) memory (outcome (row call choice memory)).1
+others call choice m = by (first_refusal (row call choice m).refusals)
+  where
+    by : (o : Option Refusal) → LeavesOthers (scope_of call m) m (come_to o (row call choice m).left (row call choice m).answer (row call choice m).after).1
+    by None = done-others call choice m
+    by (Some why) = left-others (scope_of call m) why m ((row call choice m).left why) (refused call choice m why)
+
+-- Counts
+
+lock-less : (b : Option Block) → locks_in (option_map (locked_block (locks_in b - 1)) b) ≡ locks_in b - 1
+lock-less None = omega arith
+lock-less (Some b) = refl
+
+-- one is given back
+unlocked : (m : Memory) (name : Name) → locks_of (with_locks m name (locks_of m name - 1)) name ≡ locks_of m name - 1
+unlocked m name = ap locks_in (block_of-mapped m (locked_block (locks_of m name - 1)) name) ∙ lock-less (block_of m name)
+
+-- what is put under the lowest handle for which there is nothing is there
+lowest-put : {X : Type 0} (xs : List (Option X)) (x : X) → is_none (lowest_of xs) ≡ false → at_handle None (with_entry_at xs (unwrap_or (lowest_of xs) 0) (Some x)) (unwrap_or (lowest_of xs) 0) ≡ Some x
+lowest-put xs x some = go (position is_none xs) refl some
+  where
+    go : (o : Option ℕ) → position is_none xs ≡ o → is_none (option_map suc o) ≡ false → at_handle None (with_entry_at xs (unwrap_or (option_map suc o) 0) (Some x)) (unwrap_or (option_map suc o) 0) ≡ Some x
+    go None p h = absurd (let y : true ≡ false = h in cc)
+    go (Some k) p h = get_or-set_same xs k (Some x) None (position-Some is_none xs k None p).0
+
+-- a group is listed
+group-listed : (listed : Option VmBlock) → not (uid_in listed == group_uid) ≡ false → is_none listed ≡ false
+group-listed None h = absurd (let y : true ≡ false = h in cc)
+group-listed (Some l) h = refl
+
+-- its block is there
+listed-there : (listed : Option VmBlock) → is_none listed ≡ false → is_none (option_map block_in_file listed) ≡ false
+listed-there None h = absurd (let y : true ≡ false = h in cc)
+listed-there (Some l) h = refl
+
+item-counts : (m : Memory) (g : ℕ) (chunks : List (Option (List ℕ))) (name : Name) → locks_of (with_mark (with_chunks m (vm g) chunks) g true) name ≡ locks_of m name
+item-counts m g chunks name = locks_of-mark (with_chunks m (vm g) chunks) g true name ∙ locks_of-chunks m (vm g) name chunks
+
+idle-count : (m : Memory) (pair : Pair) (h : ℕ) → locks_of (committed m pair) (vm h) ≡ 0
+idle-count m pair h = ap (λ e. locks_in (option_map block_in_file e)) (entry-each idle_block pair.cur.blocks h) ∙ idle (at_handle None pair.cur.blocks h)
+  where
+    idle : (kept : Option KeptBlock) → locks_in (option_map block_in_file (option_map idle_block kept)) ≡ 0
+    idle None = refl
+    idle (Some kept) = refl
+
+-- no test of these holds
+abbrev AllFail : List (Bool × Refusal) → Type 0
+AllFail [] = Unit {0}
+AllFail (test ∷ tests) = (test.0 ≡ false) × AllFail tests
+
+-- where no refusal comes
+passed : (tests : List (Bool × Refusal)) → first_refusal tests ≡ None → AllFail tests
+passed [] fine = tt
+passed (test ∷ tests) fine = let here = none-here test.0 test.1 (first_refusal tests) fine in (here.0, passed tests here.1)
+
+counts : (call : KernelCall) (choice : Choice) (memory : Memory) → first_refusal (row call choice memory).refusals ≡ None → HasCounts (counts_of call memory) memory (row call choice memory).after
+counts Mnew choice m fine = ap locks_in (lowest-put m.blocks (record { locks = 1; heap = new_heap }) (passed (row Mnew choice m).refusals fine).0)
+counts (Mlock h) choice m fine = locks_of-set m (mem h) (locks_of m (mem h) + 1) (passed (row (Mlock h) choice m).refusals fine).0
+counts (Mfree h) choice m fine = ap locks_in (block_of-gone m (mem h))
+counts (Unlock name) choice m fine = unlocked m name
+counts (Changes name change) choice m fine = λ other.
+    ap (λ n. locks_of n other) (change-shape (may_grow change) (change_edit change) name choice m).0 ∙ locks_of-chunks m name other (change_edit change (chunks_at m name)).chunks
+counts (Makes name make) choice m fine = λ other. locks_of-chunks m name other (make_edit make (chunks_at m name)).chunks
+counts (Store ref i bytes) choice m fine = λ other. locks_of-chunks m ref.name other _
+counts (Copy to from n) choice m fine = λ other. locks_of-chunks m to.name other _
+counts (Vnew uid) choice m fine = made (passed (row (Vnew uid) choice m).refusals fine).1.0
+  where
+    made : is_none (lowest_handle m Vm) ≡ false → locks_of (with_listed m (new_vm m).h (Some (new_listed uid 1))) (new_vm m) ≡ 1
+    made some = ap (λ e. locks_in (option_map block_in_file e)) (lowest-put m.file.cur.blocks (new_listed uid 1) some)
+counts (Vlock h) choice m fine = locks_of-set m (vm h) (locks_of m (vm h) + 1) (listed-there (listed_at m h) (passed (row (Vlock h) choice m).refusals fine).0)
+counts (Vdirty h) choice m fine = λ name. locks_of-mark m h true name
+counts (Vfree h) choice m fine = ap (λ e. locks_in (option_map block_in_file e)) (entry-gone m.file.cur.blocks h)
+counts Vupdate choice m fine = idle-count m (pair_to_keep keep_current m)
+counts Vsave choice m fine = idle-count m (pair_to_keep keep_saved m)
+counts Vrevert choice m fine = idle-count m (pair_to_keep keep_reverted m)
+counts Gnew choice m fine = made (passed (row Gnew choice m).refusals fine).0
+  where
+    made : is_none (lowest_handle m Vm) ≡ false → locks_of (with_listed m (new_vm m).h (Some (new_listed group_uid 0))) (new_vm m) ≡ 0
+    made some = ap (λ e. locks_in (option_map block_in_file e)) (lowest-put m.file.cur.blocks (new_listed group_uid 0) some)
+counts (Gfree g) choice m fine = ap (λ e. locks_in (option_map block_in_file e)) (entry-gone m.file.cur.blocks g)
+counts (ChangesItem g change) choice m fine = λ name.
+    ap (λ n. locks_of (with_mark n g true) name) (change-shape (may_grow change) (change_edit change) (vm g) choice m).0 ∙ item-counts m g (change_edit change (chunks_at m (vm g))).chunks name
+counts (MakesItem g make) choice m fine = λ name. item-counts m g (make_edit make (chunks_at m (vm g))).chunks name
+counts (Ilock g i n) choice m fine = locks_of-set m (vm g) (locks_of m (vm g) + 1) (listed-there (listed_at m g) (group-listed (listed_at m g) (passed (row (Ilock g i n) choice m).refusals fine).0))
+counts call choice m fine = λ name. refl
+
+-- Marks
+
+-- chunks of a group are changed, and it is marked
+item-marked : (m : Memory) (g : ℕ) (chunks : List (Option (List ℕ))) → is_none (listed_at m g) ≡ false → is_marked (with_mark (with_chunks m (vm g) chunks) g true) g ≡ true
+item-marked m g chunks there = marked-set (with_chunks m (vm g) chunks) g true (still-listed m g (rechunked_block chunks) there)
+
+idle-mark : (m : Memory) (pair : Pair) (h : ℕ) → is_marked (committed m pair) h ≡ false
+idle-mark m pair h = ap is_marked_in (entry-each idle_block pair.cur.blocks h) ∙ idle (at_handle None pair.cur.blocks h)
+  where
+    idle : (kept : Option KeptBlock) → is_marked_in (option_map idle_block kept) ≡ false
+    idle None = refl
+    idle (Some kept) = refl
+
+marks : (call : KernelCall) (choice : Choice) (memory : Memory) → IsAskable call memory → first_refusal (row call choice memory).refusals ≡ None → HasMarks (marks_of call memory) memory (row call choice memory).after
+marks (Mlock h) choice m asked fine = λ k. marks-mapped m (locked_block (locks_of m (mem h) + 1)) (mem h) k
+marks (Unlock name) choice m asked fine = λ k. marks-mapped m (locked_block (locks_of m name - 1)) name k
+marks (Changes name change) choice m asked fine = λ k.
+    ap (λ n. is_marked n k) (change-shape (may_grow change) (change_edit change) name choice m).0 ∙ marks-mapped m (rechunked_block (change_edit change (chunks_at m name)).chunks) name k
+marks (Makes name make) choice m asked fine = λ k. marks-mapped m (rechunked_block (make_edit make (chunks_at m name)).chunks) name k
+marks (Store ref i bytes) choice m asked fine = λ k. marks-mapped m (rechunked_block _) ref.name k
+marks (Copy to from n) choice m asked fine = λ k. marks-mapped m (rechunked_block _) to.name k
+marks (Vnew uid) choice m asked fine = ap is_marked_in (lowest-put m.file.cur.blocks (new_listed uid 1) (passed (row (Vnew uid) choice m).refusals fine).1.0)
+marks (Vlock h) choice m asked fine = λ k. marks-mapped m (locked_block (locks_of m (vm h) + 1)) (vm h) k
+marks (Vdirty h) choice m asked fine = marked-set m h true asked
+marks (Vfree h) choice m asked fine = ap is_marked_in (entry-gone m.file.cur.blocks h)
+marks Vupdate choice m asked fine = idle-mark m (pair_to_keep keep_current m)
+marks Vsave choice m asked fine = idle-mark m (pair_to_keep keep_saved m)
+marks Vrevert choice m asked fine = idle-mark m (pair_to_keep keep_reverted m)
+marks Gnew choice m asked fine = ap is_marked_in (lowest-put m.file.cur.blocks (new_listed group_uid 0) (passed (row Gnew choice m).refusals fine).0)
+marks (Gfree g) choice m asked fine = ap is_marked_in (entry-gone m.file.cur.blocks g)
+marks (ChangesItem g change) choice m asked fine =
+    ap (λ n. is_marked (with_mark n g true) g) (change-shape (may_grow change) (change_edit change) (vm g) choice m).0
+    ∙ item-marked m g (change_edit change (chunks_at m (vm g))).chunks (group-listed (listed_at m g) (passed (row (ChangesItem g change) choice m).refusals fine).0)
+marks (MakesItem g make) choice m asked fine = item-marked m g (make_edit make (chunks_at m (vm g))).chunks (group-listed (listed_at m g) (passed (row (MakesItem g make) choice m).refusals fine).0)
+marks (Ilock g i n) choice m asked fine = λ k. marks-mapped m (locked_block (locks_of m (vm g) + 1)) (vm g) k
+marks call choice m asked fine = λ k. refl
+
+-- A bring
+
+came-back : (o : Option Refusal) (m : Memory) → (come_to {A = Unit {0}} o (λ why. m) tt m).1 ≡ m
+came-back None m = refl
+came-back (Some why) m = refl
+
+brought : (h : ℕ) (choice : Choice) (memory : Memory) → choice.given ≡ [] → (outcome (effect_of (bring h) choice memory)).1 ≡ memory
+brought h choice m nothing = came-back (first_refusal (effect_of (bring h) choice m).refusals) (given_memory choice.given m) ∙ ap (λ given. given_memory given m) nothing
+
+pub rows_leave : RowsLeave
+rows_leave = record {
+  refused = refused;
+  stale = stale;
+  others = others;
+  counts = counts;
+  marks = marks;
+  brought = brought;
+  given_counts = locks_of-given;
+  given_marks = is_marked-given;
+  given_locked = block_of-given;
+}

@@ -1,0 +1,162 @@
+-- What each row of the table leaves: which blocks it is on, what it makes stale, and what
+-- becomes of counts and marks.
+use Rattle.std.specs.Prelude.{◌≡◌, ◌⊎◌, ℕ, ◌+◌, ◌-◌, ◌<◌, Bool, true, false, List, [], Option, None, unwrap_or, is_none}
+use Rattle.geos_model.specs.declared.name.Name.{Name}
+use Rattle.geos_model.specs.declared.name.Owner.TheVariants.{Mem, Vm}
+use Rattle.geos_model.specs.declared.refusal.Refusal.{Refusal}
+use Rattle.geos_model.specs.declared.refusal.Refusal.TheVariants.{Disk}
+use Rattle.geos_model.specs.Names.{mem, vm}
+use Rattle.geos_model.specs.Refusals.{first_refusal}
+use Rattle.geos_table.specs.VmFile.{Kept}
+use Rattle.geos_table.specs.Memory.{Memory, at_handle, block_of, listed_at, locks_of, is_marked, lowest_handle}
+use Rattle.geos_table.specs.Given.{given_memory}
+use Rattle.geos_table.specs.Effects.{Choice, Staleness, Nothing, InBlock, OfLock, outcome, effect_of}
+use Rattle.geos_table.specs.VmCalls.{bring}
+use Rattle.geos_table.specs.ItemCalls.{in_group}
+use Rattle.geos_table.specs.Table.{KernelCall, Mnew, Mlock, Mfree, Unlock, Changes, Makes, Store, Copy, Vnew, Vlock, Vdirty, Vfree, Vupdate, Vsave, Vrevert, Gnew, Gfree, ChangesItem, MakesItem, Ilock, row}
+
+-- Which blocks a call is on
+
+-- no block, one, or all of the VM file
+pub data Scope : Type 0 where
+  NoBlock : Scope
+  OneBlock : Name → Scope
+  WholeFile : Scope
+
+-- a named block is one of them
+abbrev pub IsWithin : Scope → Name → Type 0
+IsWithin NoBlock name = ⊥
+IsWithin (OneBlock own) name = own ≡ name
+IsWithin WholeFile name = name.owner ≡ Vm
+
+-- the name of a new block of an owner
+abbrev pub new_mem : Memory → Name
+new_mem memory = mem (unwrap_or (lowest_handle memory Mem) 0)
+
+abbrev pub new_vm : Memory → Name
+new_vm memory = vm (unwrap_or (lowest_handle memory Vm) 0)
+
+-- the blocks that a call is on: those that it may make, change or free
+abbrev pub scope_of : KernelCall → Memory → Scope
+scope_of Mnew memory = OneBlock (new_mem memory)
+scope_of (Mlock h) memory = OneBlock (mem h)
+scope_of (Mfree h) memory = OneBlock (mem h)
+scope_of (Unlock name) memory = OneBlock name
+scope_of (Changes name change) memory = OneBlock name
+scope_of (Makes name make) memory = OneBlock name
+scope_of (Store ref i bytes) memory = OneBlock ref.name
+scope_of (Copy to from n) memory = OneBlock to.name
+scope_of (Vnew uid) memory = OneBlock (new_vm memory)
+scope_of (Vlock h) memory = OneBlock (vm h)
+scope_of (Vdirty h) memory = OneBlock (vm h)
+scope_of (Vfree h) memory = OneBlock (vm h)
+scope_of Vupdate memory = WholeFile
+scope_of Vsave memory = WholeFile
+scope_of Vrevert memory = WholeFile
+scope_of Gnew memory = OneBlock (new_vm memory)
+scope_of (Gfree g) memory = OneBlock (vm g)
+scope_of (ChangesItem g change) memory = OneBlock (vm g)
+scope_of (MakesItem g make) memory = OneBlock (vm g)
+scope_of (Ilock g i n) memory = OneBlock (vm g)
+scope_of _ memory = NoBlock
+
+-- blocks that are not among these are as they were: their counts, their chunks and sizes, and
+-- of those of the VM file their user IDs and marks; and the region is as long
+pub record LeavesOthers (scope : Scope) (old new : Memory) : Type 0 where
+  pub blocks : (h : ℕ) → (IsWithin scope (mem h) → ⊥) → at_handle None new.blocks h ≡ at_handle None old.blocks h
+  pub listed : (h : ℕ) → (IsWithin scope (vm h) → ⊥) → listed_at new h ≡ listed_at old h
+  pub region : new.region ≡ old.region
+
+-- What is made stale
+
+-- what a call makes stale, whatever comes from outside, and whether it is done or refused: an
+-- unlock, what goes with the lock; a call that may move chunks, what leads into its block
+abbrev pub stale_of : KernelCall → Memory → Staleness
+stale_of (Unlock name) memory = OfLock name
+stale_of (Changes name change) memory = InBlock name
+stale_of (Makes name make) memory = InBlock name
+stale_of (ChangesItem g change) memory = in_group memory g
+stale_of (MakesItem g make) memory = in_group memory g
+stale_of _ memory = Nothing
+
+-- Counts of locks, and marks
+
+-- what becomes of the counts: nothing; one is so then; or those of the VM file are all 0
+pub data Counts : Type 0 where
+  SameCounts : Counts
+  OneCount : Name → ℕ → Counts
+  FileUnlocked : Counts
+
+-- what becomes of the marks: nothing; one is set or not then; or none is
+pub data Marks : Type 0 where
+  SameMarks : Marks
+  OneMark : ℕ → Bool → Marks
+  NoMarks : Marks
+
+abbrev pub counts_of : KernelCall → Memory → Counts
+counts_of Mnew memory = OneCount (new_mem memory) 1
+counts_of (Mlock h) memory = OneCount (mem h) (locks_of memory (mem h) + 1)
+counts_of (Mfree h) memory = OneCount (mem h) 0
+counts_of (Unlock name) memory = OneCount name (locks_of memory name - 1)
+counts_of (Vnew uid) memory = OneCount (new_vm memory) 1
+counts_of (Vlock h) memory = OneCount (vm h) (locks_of memory (vm h) + 1)
+counts_of (Vfree h) memory = OneCount (vm h) 0
+counts_of Vupdate memory = FileUnlocked
+counts_of Vsave memory = FileUnlocked
+counts_of Vrevert memory = FileUnlocked
+counts_of Gnew memory = OneCount (new_vm memory) 0
+counts_of (Gfree g) memory = OneCount (vm g) 0
+counts_of (Ilock g i n) memory = OneCount (vm g) (locks_of memory (vm g) + 1)
+counts_of _ memory = SameCounts
+
+abbrev pub marks_of : KernelCall → Memory → Marks
+marks_of (Vnew uid) memory = OneMark (new_vm memory).h true
+marks_of (Vdirty h) memory = OneMark h true
+marks_of (Vfree h) memory = OneMark h false
+marks_of Vupdate memory = NoMarks
+marks_of Vsave memory = NoMarks
+marks_of Vrevert memory = NoMarks
+marks_of Gnew memory = OneMark (new_vm memory).h true
+marks_of (Gfree g) memory = OneMark g false
+marks_of (ChangesItem g change) memory = OneMark g true
+marks_of (MakesItem g make) memory = OneMark g true
+marks_of _ memory = SameMarks
+
+-- counts are so then; those of other blocks are as they were, as `LeavesOthers` has it
+abbrev pub HasCounts : Counts → Memory → Memory → Type 0
+HasCounts SameCounts old new = (name : Name) → locks_of new name ≡ locks_of old name
+HasCounts (OneCount name n) old new = locks_of new name ≡ n
+HasCounts FileUnlocked old new = (h : ℕ) → locks_of new (vm h) ≡ 0
+
+-- and so are marks
+abbrev pub HasMarks : Marks → Memory → Memory → Type 0
+HasMarks SameMarks old new = (h : ℕ) → is_marked new h ≡ is_marked old h
+HasMarks (OneMark h marked) old new = is_marked new h ≡ marked
+HasMarks NoMarks old new = (h : ℕ) → is_marked new h ≡ false
+
+-- what a call may be asked on: the others ask on anything, and refuse what they must
+abbrev pub IsAskable : KernelCall → Memory → Type 0
+IsAskable (Vdirty h) memory = is_none (listed_at memory h) ≡ false
+IsAskable _ memory = Unit {0}
+
+-- The laws
+
+-- what a refusal leaves: memory as it was; or the device has failed, and only what it holds is
+-- another
+abbrev pub IsLeft : Refusal → Memory → Memory → Type 0
+IsLeft why old new = (new ≡ old) ⊎ ((why ≡ Disk) × ((kept : Kept) × (new ≡ record old { file = record old.file { kept = kept } })))
+
+-- of each row, on whatever memory and under whatever choice: what a refusal leaves; which
+-- references it makes stale; that it leaves every block that it is not on, also where it is
+-- refused; and, where it is done, counts and marks. A bring that is given nothing changes
+-- nothing; and what is given leaves counts and marks, and each block that is locked
+pub record RowsLeave : Type 0 where
+  pub refused : (call : KernelCall) (choice : Choice) (memory : Memory) (why : Refusal) → IsLeft why memory ((row call choice memory).left why)
+  pub stale : (call : KernelCall) (choice : Choice) (memory : Memory) → (row call choice memory).stale ≡ stale_of call memory
+  pub others : (call : KernelCall) (choice : Choice) (memory : Memory) → LeavesOthers (scope_of call memory) memory (outcome (row call choice memory)).1
+  pub counts : (call : KernelCall) (choice : Choice) (memory : Memory) → first_refusal (row call choice memory).refusals ≡ None → HasCounts (counts_of call memory) memory (row call choice memory).after
+  pub marks : (call : KernelCall) (choice : Choice) (memory : Memory) → IsAskable call memory → first_refusal (row call choice memory).refusals ≡ None → HasMarks (marks_of call memory) memory (row call choice memory).after
+  pub brought : (h : ℕ) (choice : Choice) (memory : Memory) → choice.given ≡ [] → (outcome (effect_of (bring h) choice memory)).1 ≡ memory
+  pub given_counts : (given : List (Option (List (Option (List ℕ))))) (memory : Memory) (name : Name) → locks_of (given_memory given memory) name ≡ locks_of memory name
+  pub given_marks : (given : List (Option (List (Option (List ℕ))))) (memory : Memory) (h : ℕ) → is_marked (given_memory given memory) h ≡ is_marked memory h
+  pub given_locked : (given : List (Option (List (Option (List ℕ))))) (memory : Memory) (name : Name) → 0 < locks_of memory name → block_of (given_memory given memory) name ≡ block_of memory name
