@@ -2,6 +2,7 @@
 use Rattle.std.specs.Prelude.{◌≡◌, ◌<◌, ◌≤◌, ◌⊎◌, ℕ, List, length, replicate, Option, Some, None}
 use Rattle.std.specs.Str.Lines.{lines}
 use Rattle.std.specs.Io.KnownBytes.{Appends, Consumes, IsAtEnd}
+use Rattle.geos_table.specs.VmFile.{empty_file}
 use Rattle.geos_table.specs.Memory as model
 use Rattle.geos_cli.specs.declared.fault.ScriptFault.{ScriptFault}
 use Rattle.geos_cli.specs.declared.fault.ScriptFault.TheVariants.{TooLong, BadHex, Read, Memory}
@@ -14,7 +15,7 @@ Reads before now bytes = Consumes before now bytes × IsAtEnd now
 
 -- the memory in which a session begins: no block, in a region of 65,536 bytes
 abbrev pub no_blocks : model.Memory
-no_blocks = record { blocks = replicate 1024 None; region = 65536 }
+no_blocks = record { blocks = replicate 1024 None; file = empty_file 0; region = 65536 }
 
 -- the script in the lines behind `end` runs on the image in front of it, and prints the text
 abbrev pub RunsLines : List (List ℕ) → List ℕ → Type 0

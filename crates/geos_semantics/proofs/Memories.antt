@@ -1,8 +1,8 @@
 -- What is in memory after blocks were locked, changed, made and freed.
-use Rattle.std.proofs.Common.{◌≡◌, ℕ, zero, suc, ◌%◌, ◌≤◌, ◌≢◌, Bool, true, false, Option, Some, None, List, [], ◌∷◌, length, get_or, set, refl, sym, ap, ◌∙◌, subst, arith, inl, inr, ◌⊎◌}
+use Rattle.std.proofs.Common.{◌≡◌, ℕ, zero, suc, ◌%◌, ◌≤◌, Bool, true, false, Option, Some, None, List, [], ◌∷◌, length, get_or, set, refl, sym, ap, ◌∙◌, subst, arith, inl, inr, ◌⊎◌}
 use Rattle.std.specs.Prelude.{◌==◌, ◌&&◌, nat_le, cond, IsSome, is_none, option_map, position, sum_by}
-use Rattle.std.proofs.lemmas.Bool.{and_parts, eqb-true, eqb-false, eq-eqb, cases_lt}
-use Rattle.std.proofs.lemmas.List.{get_or-set_same, get_or-set_other, get_or_past, length-set}
+use Rattle.std.proofs.lemmas.Bool.{and_parts, eqb-true, eqb-false, eq-eqb}
+use Rattle.std.proofs.lemmas.List.{get_or-set_same}
 use Rattle.std.proofs.lemmas.List.Quantifiers.{position-Some}
 use Rattle.std.proofs.lemmas.List.Sums.{sum_by-cons}
 use Rattle.geos_model.specs.declared.name.Name.{Name}
@@ -11,10 +11,12 @@ use Rattle.geos_model.specs.declared.name.Owner.TheVariants.{Mem, Vm}
 use Rattle.geos_model.specs.Names.{mem}
 use Rattle.geos_model.specs.Chunks.{cost, cost_of, entry_of, chunk_of, with_bytes}
 use Rattle.geos_table.specs.Directories.{VmBlock, relisted}
-use Rattle.geos_table.specs.Memory.{Block, Memory, at_handle, with_entry_at, listed_at, owned_block, with_owned_block, block_of, with_block, locks_in, chunks_in, locks_of, chunks_at, lowest_handle, locked_block, rechunked_block, with_locks, with_chunks}
+use Rattle.geos_table.specs.Memory.{Block, Memory, listed_at, owned_block, with_owned_block, block_of, with_block, locks_in, chunks_in, locks_of, chunks_at, lowest_handle, locked_block, rechunked_block, with_locks, with_chunks}
 use Rattle.geos_table.specs.Legal.{IsMemory}
 use Rattle.geos_model.proofs.Costs.{cost-over}
+use Rattle.geos_table.proofs.Laws.{entry-other}
 use Rattle.geos_table.proofs.LegalBlocks.{chunks-need}
+pub use Rattle.geos_table.proofs.NamedBlocks.{block_of-mapped, block_of-gone}
 use Rattle.geos_semantics.specs.State.{same_owner, same_name}
 
 -- Names
@@ -50,54 +52,15 @@ names name other = go (same_name name other)
 
 -- Blocks under names
 
-at_handle-other : {X : Type 0} (d : X) (xs : List X) (h k : ℕ) (x : X) → k ≢ h → at_handle d (with_entry_at xs h x) k ≡ at_handle d xs k
-at_handle-other d xs zero k x ne = refl
-at_handle-other d xs (suc h) zero x ne = refl
-at_handle-other d xs (suc h) (suc k) x ne = get_or-set_other xs h k x d (λ e. ne (ap suc e))
-
-at_handle-mapped : {X : Type 0} (f : X → X) (xs : List (Option X)) (h : ℕ) → at_handle None (with_entry_at xs h (option_map f (at_handle None xs h))) h ≡ option_map f (at_handle None xs h)
-at_handle-mapped f xs zero = refl
-at_handle-mapped f xs (suc h) = elim (cases_lt h (length xs)) [
-  | inl l ↦ get_or-set_same xs h (option_map f (get_or xs h None)) None l
-  | inr l ↦ (
-      let past : get_or (set xs h (option_map f (get_or xs h None))) h None ≡ None = get_or_past (set xs h (option_map f (get_or xs h None))) h None (let long = length-set xs h (option_map f (get_or xs h None)) in omega (arith, l, long)) in
-      let none : option_map f (get_or xs h None) ≡ None = rw (get_or_past xs h None l) refl in
-      past ∙ sym none
-      )
-]
-
 owned-other : (m : Memory) (o q : Owner) (h k : ℕ) (b : Option Block) → (same_owner o q && h == k) ≡ false → owned_block (with_owned_block m o h b) q k ≡ owned_block m q k
-owned-other m Mem Mem h k b ne = at_handle-other None m.blocks h k b (λ e. eqb-false h k ne (sym e))
+owned-other m Mem Mem h k b ne = entry-other None b m.blocks h k (λ e. eqb-false h k ne (sym e))
 owned-other m Mem Vm h k b ne = refl
 owned-other m Vm Mem h k b ne = refl
-owned-other m Vm Vm h k b ne = ap (option_map (λ (l : VmBlock). l.block)) (at_handle-other None m.file.cur.blocks h k (option_map (relisted (listed_at m h)) b) (λ e. eqb-false h k ne (sym e)))
+owned-other m Vm Vm h k b ne = ap (option_map (λ (l : VmBlock). l.block)) (entry-other None (option_map (relisted (listed_at m h)) b) m.file.cur.blocks h k (λ e. eqb-false h k ne (sym e)))
 
 -- a block under another name is as it was
 pub block_of-other : (m : Memory) (name other : Name) (b : Option Block) → same_name name other ≡ false → block_of (with_block m name b) other ≡ block_of m other
 block_of-other m name other b ne = owned-other m name.owner other.owner name.h other.h b ne
-
--- a listed block whose block was changed
-abbrev changed_in : (Block → Block) → VmBlock → VmBlock
-changed_in f listed = record listed { block = f listed.block }
-
-relisted-changed : (f : Block → Block) (listed : Option VmBlock) → option_map (relisted listed) (option_map f (option_map (λ (l : VmBlock). l.block) listed)) ≡ option_map (changed_in f) listed
-relisted-changed f None = refl
-relisted-changed f (Some l) = refl
-
-block-changed : (f : Block → Block) (listed : Option VmBlock) → option_map (λ (l : VmBlock). l.block) (option_map (changed_in f) listed) ≡ option_map f (option_map (λ (l : VmBlock). l.block) listed)
-block-changed f None = refl
-block-changed f (Some l) = refl
-
-owned-mapped : (m : Memory) (f : Block → Block) (o : Owner) (h : ℕ) → owned_block (with_owned_block m o h (option_map f (owned_block m o h))) o h ≡ option_map f (owned_block m o h)
-owned-mapped m f Mem h = at_handle-mapped f m.blocks h
-owned-mapped m f Vm h =
-    let entries = m.file.cur.blocks in
-    ap (λ e. option_map (λ (l : VmBlock). l.block) (at_handle None (with_entry_at entries h e) h)) (relisted-changed f (listed_at m h)) ∙ ap (option_map (λ (l : VmBlock). l.block)) (at_handle-mapped (changed_in f) entries h)
-    ∙ block-changed f (listed_at m h)
-
--- a block that was changed, where there is one
-pub block_of-mapped : (m : Memory) (f : Block → Block) (name : Name) → block_of (with_block m name (option_map f (block_of m name))) name ≡ option_map f (block_of m name)
-block_of-mapped m f name = owned-mapped m f name.owner name.h
 
 -- what is asked of a changed block, of whatever name
 mapped-at : {X : Type 0} (g : Option Block → X) (m : Memory) (f : Block → Block) (name other : Name) → (g (option_map f (block_of m name)) ≡ g (block_of m name))
@@ -232,18 +195,3 @@ names-apart name other ne = elim (names other name) [
   | inl is ↦ (let back = same_name-is name other (sym (same_name-true other name is)) in let both : false ≡ true = sym ne ∙ back in absurd cc)
   | inr ne2 ↦ ne2
 ]
-
--- a block that is taken away is there no more
-entry-gone : {X : Type 0} (xs : List (Option X)) (h : ℕ) → at_handle None (with_entry_at xs h None) h ≡ None
-entry-gone xs zero = refl
-entry-gone xs (suc h) = elim (cases_lt h (length xs)) [
-  | inl l ↦ get_or-set_same xs h None None l
-  | inr l ↦ get_or_past (set xs h None) h None (let long = length-set xs h None in omega (arith, l, long))
-]
-
-owned-gone : (m : Memory) (o : Owner) (h : ℕ) → owned_block (with_owned_block m o h None) o h ≡ None
-owned-gone m Mem h = entry-gone m.blocks h
-owned-gone m Vm h = ap (option_map (λ (l : VmBlock). l.block)) (entry-gone m.file.cur.blocks h)
-
-pub block_of-gone : (m : Memory) (name : Name) → block_of (with_block m name None) name ≡ None
-block_of-gone m name = owned-gone m name.owner name.h

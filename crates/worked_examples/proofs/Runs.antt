@@ -2,6 +2,7 @@
 use Rattle.std.proofs.Common.{◌≡◌, refl, ℕ, List, [], ◌∷◌, replicate, Option, Some, None}
 use Rattle.geos_model.specs.Bytes.{word}
 use Rattle.geos_model.specs.Chunks.{cost}
+use Rattle.geos_table.specs.VmFile.{empty_file}
 use Rattle.geos_table.specs.Memory.{Block}
 use Rattle.geos_table.specs.Effects.{Choice}
 use Rattle.geos_opcodes.specs.declared.opcode.Opcode.TheVariants.{Plen}
@@ -20,7 +21,7 @@ ending image r n = run image 0 (replicate n willing) 0 (begin image r (replicate
 -- refused or nothing
 abbrev pub ending_in_128 : Choice → Parts → ℕ → Ending
 ending_in_128 choice image n =
-    run image 0 (replicate n choice) 0 (begin image 0 (replicate 8 0) (record { blocks = None ∷ []; region = 128 }))
+    run image 0 (replicate n choice) 0 (begin image 0 (replicate 8 0) (record { blocks = None ∷ []; file = empty_file 0; region = 128 }))
 
 -- the blocks that are left
 abbrev pub left : Ending → List (Option Block)

@@ -3,6 +3,7 @@
 use Rattle.std.proofs.Common.{ℕ, true, false, List, [], ◌∷◌, Option, Some, None}
 use Rattle.geos_model.specs.Names.{named, mem}
 use Rattle.geos_model.specs.declared.name.Owner.TheVariants.{Vm}
+use Rattle.geos_table.specs.VmFile.{empty_file}
 use Rattle.geos_table.specs.Memory.{Block, Memory}
 use Rattle.geos_table.specs.Effects.{Choice}
 use Rattle.geos_image.specs.declared.instr.Instr.{Instr}
@@ -13,13 +14,13 @@ use Rattle.geos_semantics.specs.State.{Held, SlotReference, State}
 use Rattle.geos_semantics.specs.Model.{Outcome, Next, step}
 use Rattle.worked_examples.proofs.Images.{point, potential, routine}
 
--- nothing is refused from outside
+-- nothing is refused from outside, and nothing given
 abbrev pub willing : Choice
-willing = record { first_room = false; last_room = false; device = false; unsure = false; memory = false }
+willing = record { first_room = false; last_room = false; device = false; unsure = false; memory = false; given = [] }
 
 -- all is refused from outside that may be
 abbrev pub unwilling : Choice
-unwilling = record { first_room = true; last_room = true; device = true; unsure = true; memory = true }
+unwilling = record { first_room = true; last_room = true; device = true; unsure = true; memory = true; given = [] }
 
 -- the instruction at pc 0 of a routine of nine, of which there is no other
 abbrev pub alone : Instr → Parts
@@ -27,7 +28,7 @@ alone i = record { routines = routine [] 9 9 ∷ []; points = point i open_row (
 
 -- no block, and no handle for one
 abbrev pub no_blocks : Memory
-no_blocks = record { blocks = []; region = 65536 }
+no_blocks = record { blocks = []; file = empty_file 0; region = 65536 }
 
 -- a block of 64 bytes that is locked so often
 abbrev pub block : ℕ → List (Option (List ℕ)) → Option Block
@@ -52,7 +53,7 @@ third = block 0 (None ∷ None ∷ [])
 
 -- a region of 256 bytes with these blocks
 abbrev pub region_of : List (Option Block) → Memory
-region_of blocks = record { blocks = blocks; region = 256 }
+region_of blocks = record { blocks = blocks; file = empty_file 0; region = 256 }
 
 -- the three blocks, and a handle that is free
 abbrev pub memory : Memory
