@@ -35,7 +35,7 @@ given_entry None entry = entry
 given_entry (Some chunks) None = None
 given_entry (Some chunks) (Some listed) = Some (given_chunks chunks listed)
 
--- the entries of the current directory, each given what the list of gifts has for its handle;
+-- the entries of the current directory, each given what the first list has for its handle;
 -- nothing behind the end of that
 abbrev pub given_entries : List (Option (List (Option (List ℕ)))) → List (Option VmBlock) → List (Option VmBlock)
 given_entries [] entries = entries
