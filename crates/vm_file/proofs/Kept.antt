@@ -1,19 +1,21 @@
 -- The pair that a commit keeps.
-use Rattle.std.proofs.Common.{◌≡◌, ◌⊎◌, ℕ, Bool, true, false, cond, not, List, [], ◌∷◌, Result, Ok, refl, ap, sym, ◌∙◌, subst, inl, inr}
+use Rattle.std.proofs.Common.{◌≡◌, ◌⊎◌, ◌≤◌, ℕ, Bool, true, false, cond, not, List, [], ◌∷◌, Result, Ok, refl, ap, sym, ◌∙◌, subst, inl, inr}
 use Rattle.std.specs.Prelude.{MatchBool}
 use Rattle.lmem_raw.specs.Bytes.{with_part}
 use Rattle.vm_file.specs.declared.commit.How.{How}
 use Rattle.vm_file.specs.declared.commit.How.TheVariants.{Update, Save, Revert}
 use Rattle.vm_file.specs.declared.directory.Directory.{Directory}
 use Rattle.vm_file.specs.declared.error.CommitError.TheVariants.{Disk}
-use Rattle.vm_file.specs.Committing.{FindsOneOf, FindsOr, IsContentsOf, KeepsAfter, Spells, current_after, image_after, pair_after, saved_after}
+use Rattle.vm_file.specs.Committing.{FindsOneOf, FindsOr, IsContentsOf, KeepsAfter, MayHaveWritten, Spells, current_after, image_after, pair_after, saved_after}
 use Rattle.vm_file.specs.Contents.{Contents, Pair, pair_in, pair_spelling}
+use Rattle.vm_file.specs.Device.{AfterWrite, Touched}
 use Rattle.vm_file.specs.Kept.{FindsKept, SureOf, UnsureBetween, kept_of, or_empty, other_pair}
 use Rattle.vm_file.specs.Reading.{area_of, base_of, found, pair_at}
 use Rattle.vm_file.specs.Spelling.{selector_of}
 use Rattle.vm_file.specs.State.{FileState, Finds, IsOther, IsSound, pair_of}
 use Rattle.vm_file.proofs.CommitLaws.{pair_whole}
 use Rattle.vm_file.proofs.StopLaws.{finds}
+use Rattle.vm_file.proofs.Touches.{touched_more, touched_not}
 
 -- the bytes of the pair that a commit keeps
 pub spells_after : (how : How) (a : Contents) (p : Pair) (cur saved : Directory) (bytes : List ℕ) → IsContentsOf cur a → IsContentsOf saved p.saved → bytes ≡ pair_spelling (pair_after how a p) →
@@ -72,6 +74,23 @@ module _ {D : Type 0} (image : D → List ℕ) where
   written_alike bytes f m same alike =
       ap (image_after image bytes) same
       ∙ ap (λ xs. with_part (with_part xs (base_of f.area (not f.second)) bytes) 512 (selector_of (not f.second) ∷ [])) alike
+
+  -- what may differ after nothing, one or both of the writes of a commit
+  pub written_nothing : (f : FileState D) (c : List ℕ) → c ≡ image f.device → MayHaveWritten image f c
+  written_nothing f c same = (image f.device, (image f.device, refl, touched_not _ _ _), subst (Touched 512 1 (image f.device)) (sym same) (touched_not 512 1 (image f.device)))
+
+  pub written_both : (f : FileState D) (mid c : List ℕ) (n : ℕ) → n ≤ f.area → Touched (base_of f.area (not f.second)) n (image f.device) mid → Touched 512 1 mid c → MayHaveWritten image f c
+  written_both f mid c n small area selector = (mid, (image f.device, refl, touched_more _ n f.area (image f.device) mid small area), selector)
+
+  pub written_area : (f : FileState D) (c : List ℕ) (n : ℕ) → n ≤ f.area → Touched (base_of f.area (not f.second)) n (image f.device) c → MayHaveWritten image f c
+  written_area f c n small area = written_both f c c n small area (touched_not 512 1 c)
+
+  pub written_on : (f m : FileState D) (c : List ℕ) → m ≡ (let g : FileState D = record { device = m.device; area = f.area; second = f.second; sure = f.sure; current = f.current; saved = f.saved } in g) →
+      image m.device ≡ image f.device → MayHaveWritten image m c → MayHaveWritten image f c
+  written_on f m c same alike written =
+      let P : FileState D → Type 0 = λ g. MayHaveWritten image g c in
+      let Q : List ℕ → Type 0 = λ xs. AfterWrite 512 1 (AfterWrite (base_of f.area (not f.second)) f.area (λ d. d ≡ xs)) c in
+      subst Q alike (subst P same written)
 
   -- what the file keeps is told by the same
   pub kept_alike : (f m : FileState D) → m ≡ (let g : FileState D = record { device = m.device; area = f.area; second = f.second; sure = f.sure; current = f.current; saved = f.saved } in g) →

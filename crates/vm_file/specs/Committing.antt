@@ -9,6 +9,7 @@ use Rattle.vm_file.specs.declared.commit.How.TheVariants.{Update, Save, Revert}
 use Rattle.vm_file.specs.declared.directory.Entry.{Entry}
 use Rattle.vm_file.specs.declared.directory.Directory.{Directory}
 use Rattle.vm_file.specs.Contents.{Block, Contents, Pair, listed, is_contents, pair_spelling}
+use Rattle.vm_file.specs.Device.{AfterWrite}
 use Rattle.vm_file.specs.Directories.{is_directory, directory_length}
 use Rattle.vm_file.specs.Kept.{Kept, SureOf, UnsureBetween}
 use Rattle.vm_file.specs.Reading.{base_of, found}
@@ -69,6 +70,10 @@ length_after how cur saved = directory_length (current_after how cur saved) + di
 -- what a commit of these bytes writes: they stand at the front of the other area, its selector in place of the one that was, and nothing else changes
 abbrev pub image_after : {D : Type 0} → (D → List ℕ) → List ℕ → FileState D → List ℕ
 image_after image bytes f = with_part (with_part (image f.device) (base_of f.area (not f.second)) bytes) 512 (selector_of (not f.second) ∷ [])
+
+-- an image that a commit may have made of what reads gave: the other area differs, and then the selector
+abbrev pub MayHaveWritten : {D : Type 0} → (D → List ℕ) → FileState D → List ℕ → Type 0
+MayHaveWritten image f c = AfterWrite 512 1 (AfterWrite (base_of f.area (not f.second)) f.area (λ d. d ≡ image f.device)) c
 
 -- the blocks of these entries are resident
 abbrev pub AreResident : (ℕ → Option (List ℕ)) → List Entry → Type 0

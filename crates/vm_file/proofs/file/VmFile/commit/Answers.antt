@@ -2,7 +2,7 @@ use Rattle.std.proofs.Common.{◌≡◌, ◌∙◌, ℕ, List, Result, Ok, true,
 use Rattle.vm_file.specs.Committing.{Spells, current_after, image_after, kept_after, saved_after}
 use Rattle.vm_file.specs.Contents.{Pair, pair_in, pair_spelling}
 use Rattle.vm_file.specs.State.{FileState, pair_of}
-use Rattle.vm_file.proofs.Kept.{finds_before, cut_is, cut_spells, finds_either, finds_same, kept_alike, kept_sure, kept_torn, same_saved, written_alike}
+use Rattle.vm_file.proofs.Kept.{finds_before, cut_is, cut_spells, finds_either, finds_same, kept_alike, kept_sure, kept_torn, same_saved, written_alike, written_nothing, written_on}
 use Rattle.vm_file.proofs.Moments.{weaker, goes_on, at_any_moment}
 use Rattle.vm_file.proofs.file.VmFile.commit.Goals as goal
 
@@ -140,3 +140,11 @@ returns-clause-kept g c = λ h.
     let T : FileState g.row.D.Denot → Type 0 = λ f. f.sure ≡ true in
     let sure = subst T c.self.view_is c.if-not-self.false in
     kept_torn g.D.Device.image c.args.self.now c.select.new.self _ sure (c.in-Err-select.ensures.pair (r.reads.stays h) ∙ r.pair) (returns-clause-other g c h sure)
+
+pub returns-in-Err-spell-clause-torn : goal.returns-in-Err-spell-clause-torn
+returns-in-Err-spell-clause-torn g c = λ _ _. written_nothing g.D.Device.image c.args.self.now _ c.in-Err-spell.ensures.reads.same
+
+pub returns-clause-torn : goal.returns-clause-torn
+returns-clause-torn g c =
+    let r = c.in-Ok-spell.ensures in
+    λ h _. written_on g.D.Device.image c.args.self.now c.spell.new.self _ r.same r.reads.same (c.in-Err-select.ensures.torn (r.reads.stays h))

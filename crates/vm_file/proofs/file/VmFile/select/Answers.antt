@@ -1,13 +1,14 @@
 use Rattle.std.proofs.Common.{◌≡◌, ◌∙◌, ◌≤◌, ℕ, List, [], ◌∷◌, length, not, true, false, refl, ap, sym, subst, arith}
 use Rattle.lmem_raw.specs.Bytes.{with_part}
 use Rattle.vm_file.specs.declared.directory.Directory.{Directory}
-use Rattle.vm_file.specs.Committing.{FindsOneOf, Spells, current_after, image_after, saved_after, length_after}
+use Rattle.vm_file.specs.Committing.{FindsOneOf, MayHaveWritten, Spells, current_after, image_after, saved_after, length_after}
 use Rattle.vm_file.specs.Contents.{Pair, pair_in}
 use Rattle.vm_file.specs.Device.{Passes}
 use Rattle.vm_file.specs.Outcomes.{WritesOnly}
 use Rattle.vm_file.specs.Spelling.{selector_of}
 use Rattle.vm_file.specs.State.{FileState, Finds, IsOther, IsSound, pair_of}
 use Rattle.vm_file.proofs.CommitLaws.{TornFile, UnsureFile, SelectedFile, torn_file, unsure_file, selected_file, current_legal, saved_legal}
+use Rattle.vm_file.proofs.Kept.{written_area, written_both}
 use Rattle.vm_file.proofs.file.VmFile.select.Given.{Over}
 use Rattle.vm_file.proofs.file.VmFile.select.Goals as goal
 
@@ -154,3 +155,29 @@ returns-in-Ok-write_durably-clause-bytes g c =
     subst G c.self.view_is (λ h. c.in-Ok-write_durably.ensures.written (c.in-Ok.ensures.writes.stays h)
     ∙ ap (λ k. with_part (d.image c.write_durably.new.device) 512 (k ∷ [])) c.selector_of.ensures.value
     ∙ ap (λ l. with_part l 512 (selector_of (not i.second) ∷ [])) (c.in-Ok.ensures.written h ∙ ap (λ k. with_part (d.image i.device) k c.args.bytes.now) c.base_of-base.ensures.exact))
+
+-- the area was written, in part or whole
+area_torn : (g : Over) (c : goal.In-Err g) → let d = g.D.Device in let i = c.self.inside in
+    d.honest i.device → MayHaveWritten d.image (let f : FileState g.row.D.Denot = record { device = i.device; area = i.area; second = i.second; sure = i.sure; current = i.current; saved = i.saved } in f) (d.image c.write_durably.new.device)
+area_torn g c = λ h.
+    let d = g.D.Device in let i = c.self.inside in let n = length c.args.bytes.now in
+    let f : FileState g.row.D.Denot = record { device = i.device; area = i.area; second = i.second; sure = i.sure; current = i.current; saved = i.saved } in
+    let A : FileState g.row.D.Denot → Type 0 = λ x. n ≤ x.area in
+    let W : ℕ → Type 0 = λ k. WritesOnly d.image d.honest d.may_leave d.may_have_left k n i.device c.write_durably.new.device in
+    written_area d.image f (d.image c.write_durably.new.device) n (subst A (sym c.self.view_is) c.requires.fits.1) ((subst W c.base_of-base.ensures.exact c.in-Err.ensures.writes).torn h)
+
+pub returns-in-Err-clause-torn : goal.returns-in-Err-clause-torn
+returns-in-Err-clause-torn g c =
+    let d = g.D.Device in
+    let G : FileState g.row.D.Denot → Type 0 = λ f. d.honest f.device → MayHaveWritten d.image f (d.image c.write_durably.new.device) in
+    subst G c.self.view_is (area_torn g c)
+
+pub returns-in-Err-write_durably-clause-torn : goal.returns-in-Err-write_durably-clause-torn
+returns-in-Err-write_durably-clause-torn g c =
+    let d = g.D.Device in let i = c.self.inside in let n = length c.args.bytes.now in
+    let f : FileState g.row.D.Denot = record { device = i.device; area = i.area; second = i.second; sure = i.sure; current = i.current; saved = i.saved } in
+    let A : FileState g.row.D.Denot → Type 0 = λ x. n ≤ x.area in
+    let W : ℕ → Type 0 = λ k. WritesOnly d.image d.honest d.may_leave d.may_have_left k n i.device c.write_durably.new.device in
+    let w = subst W c.base_of-base.ensures.exact c.in-Ok.ensures.writes in
+    let G : FileState g.row.D.Denot → Type 0 = λ x. d.honest x.device → MayHaveWritten d.image x (d.image c.write_durably-2.new.device) in
+    subst G c.self.view_is (λ h. written_both d.image f (d.image c.write_durably.new.device) _ n (subst A (sym c.self.view_is) c.requires.fits.1) (w.torn h) (c.write_durably-2.ensures.writes.torn (w.stays h)))
