@@ -1,15 +1,37 @@
-use Rattle.std.proofs.Common.{ap, ◌∙◌, arith}
+use Rattle.std.proofs.Common.{◌≡◌, ℕ, ◌+◌, ◌-◌, ◌≤◌, List, Option, length, ap, ◌∙◌, subst, arith}
 use Rattle.geos_model.specs.Block.{chunks}
-use Rattle.geos_model.specs.Chunks.{bytes_of, with_bytes, with_resized_part}
+use Rattle.geos_model.specs.Chunks.{bytes_of, need, with_bytes, with_inserted, with_resized_part}
 use Rattle.geos_model.proofs.JoinedEdits.{resized-grows, resized-shrinks, length-resized_part}
 use Rattle.geos_model.proofs.Needs.{need-with_bytes}
 use Rattle.geos_model.proofs.Lowest.{block-used}
+use Rattle.lmem_heap.specs.declared.error.InsertError.{InsertError}
+use Rattle.lmem_heap.specs.InsertErrors.{IsInsertError}
+use Rattle.lmem_heap.specs.Refusals.{IsRoomError}
 use Rattle.chunk_array.proofs.resize.resize_part.Goals as goal
 
+pub overflow_cast-at : goal.overflow_cast-at
+overflow_cast-at c = omega (arith, c.requires.within, c.requires.small)
+
+pub insert-requires : goal.insert-requires
+insert-requires c = c.requires.heap
+
+-- the part grows by the zeros that are inserted behind it
+grown : (cs : List (Option (List ℕ))) (c at has n : ℕ) → at + has ≤ length (bytes_of cs c) → has ≤ n → with_inserted cs c (at + has) (n - has) ≡ with_bytes cs c (with_resized_part (bytes_of cs c) at has n)
+grown cs c at has n within more = ap (with_bytes cs c) (resized-grows (bytes_of cs c) at has n within more)
+
 pub returns-in-Ok-clause-ok : goal.returns-in-Ok-clause-ok
-returns-in-Ok-clause-ok c =
-    let cs = chunks c.args.block.now in let t = c.if-n-has.true in
-    c.in-Ok.ensures.ok.2 ∙ ap (with_bytes cs c.args.c) (resized-grows (bytes_of cs c.args.c) c.args.at c.args.has c.args.n c.requires.within (omega (arith, t)))
+returns-in-Ok-clause-ok c = let a = c.args in let t = c.if-n-has.true in c.in-Ok.ensures.ok.2 ∙ grown (chunks a.block.now) a.c a.at a.has a.n c.requires.within (omega (arith, t))
+
+pub returns-in-Ok-clause-fits : goal.returns-in-Ok-clause-fits
+returns-in-Ok-clause-fits c =
+    let a = c.args in let t = c.if-n-has.true in let P : List (Option (List ℕ)) → Type 0 = λ x. need x ≤ length a.block.now in
+    subst P (grown (chunks a.block.now) a.c a.at a.has a.n c.requires.within (omega (arith, t))) c.in-Ok.ensures.fits
+
+pub returns-in-Err-Room-clause-refused : goal.returns-in-Err-Room-clause-refused
+returns-in-Err-Room-clause-refused c =
+    let a = c.args in let t = c.if-n-has.true in let P : List (Option (List ℕ)) → Type 0 = λ x. IsRoomError c.in-Err-Room.room (need x) (length a.block.now) in
+    let E : InsertError → Type 0 = λ e. IsInsertError e (chunks a.block.now) (length a.block.now) a.c (a.at + a.has) (a.n - a.has) in
+    subst P (grown (chunks a.block.now) a.c a.at a.has a.n c.requires.within (omega (arith, t))) (subst E c.in-Err-Room.field-0-is c.in-Err-Room.ensures.refused).2
 
 pub returns-clause-ok : goal.returns-clause-ok
 returns-clause-ok c =
