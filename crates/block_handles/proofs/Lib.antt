@@ -14,3 +14,5 @@ pub mod Views
 pub mod Walks
 pub mod Writes
 pub mod Regions
+pub mod LowestHandles
+pub mod Filled
