@@ -23,5 +23,6 @@ pub mod Taking
 pub mod Unplaced
 pub mod Refits
 pub mod Moving
+pub mod MovingIn
 pub mod Enlarging
 pub mod Relengthening
