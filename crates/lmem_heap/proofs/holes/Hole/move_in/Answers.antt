@@ -60,7 +60,7 @@ overflow_sub-from-3 c =
 
 pub overflow_add-from : goal.overflow_add-from
 overflow_add-from c =
-    let h = c.args.self in let m = moves-in c.args.block.now h.link h.at h.end c.args.i c.args.n c.entry-from.result c.requires.hole.is c.requires.known c.requires.offset c.requires.some c.requires.room c.entry-from.ensures in 
+    let h = c.args.self in let m = moves-in c.args.block.now h.link h.at h.end c.args.i c.args.n c.entry-from.result c.requires.hole.is c.requires.known c.requires.offset c.requires.some c.requires.room c.entry-from.ensures in
     let is = c.cost.ensures ∙ ap cost (the_length c.args.block.now c.args.i _ c.get16.result c.get16.ensures m.says) in omega (arith, is, m.whole, m.ends, m.most)
 
 pub at-requires : goal.at-requires
@@ -68,7 +68,7 @@ at-requires c =
     let h = c.args.self in let n = c.args.n in
     let r = moved-in-read c.args.block.now c.put_entry.new.block c.put16.new.block c.move_bytes.new.block c.clear.new.block h.link h.at h.end c.args.i c.min-keep.result n c.entry-from.result c.get16.result c.requires.hole.is c.requires.known c.requires.offset
     c.requires.some c.requires.room c.entry-from.ensures c.get16.ensures c.min-keep.ensures c.put_entry.ensures c.put16.ensures c.move_bytes.ensures c.clear.ensures in
-    let m = moves-in c.args.block.now h.link h.at h.end c.args.i c.args.n c.entry-from.result c.requires.hole.is c.requires.known c.requires.offset c.requires.some c.requires.room c.entry-from.ensures in 
+    let m = moves-in c.args.block.now h.link h.at h.end c.args.i c.args.n c.entry-from.result c.requires.hole.is c.requires.known c.requires.offset c.requires.some c.requires.room c.entry-from.ensures in
     let is = c.cost.ensures ∙ ap cost (the_length c.args.block.now c.args.i _ c.get16.result c.get16.ensures m.says) in
     let A : ℕ → Type 0 = λ x. IsOpen c.clear.new.block 12 (x - 2) (chunk_end c.args.block.now c.args.i) in
     let B : ℕ → Type 0 = λ x. IsOpen c.clear.new.block 12 (c.entry-from.result - 2) x in
@@ -79,7 +79,7 @@ returns-clause-fours c =
     let h = c.args.self in let n = c.args.n in
     let r = moved-in-read c.args.block.now c.put_entry.new.block c.put16.new.block c.move_bytes.new.block c.clear.new.block h.link h.at h.end c.args.i c.min-keep.result n c.entry-from.result c.get16.result c.requires.hole.is c.requires.known c.requires.offset
     c.requires.some c.requires.room c.entry-from.ensures c.get16.ensures c.min-keep.ensures c.put_entry.ensures c.put16.ensures c.move_bytes.ensures c.clear.ensures in
-    let m = moves-in c.args.block.now h.link h.at h.end c.args.i c.args.n c.entry-from.result c.requires.hole.is c.requires.known c.requires.offset c.requires.some c.requires.room c.entry-from.ensures in 
+    let m = moves-in c.args.block.now h.link h.at h.end c.args.i c.args.n c.entry-from.result c.requires.hole.is c.requires.known c.requires.offset c.requires.some c.requires.room c.entry-from.ensures in
     let is = c.cost.ensures ∙ ap cost (the_length c.args.block.now c.args.i _ c.get16.result c.get16.ensures m.says) in
     let fours = r.is.fours in let cost_fours = cost-fours (chunk_length c.args.block.now c.args.i) in
     omega (arith, c.at.ensures.place, is, cost_fours, fours, c.entry-from.ensures)
