@@ -9,6 +9,7 @@ ghost use Rattle.geos_infer.specs.Theorem.{NamesRoutine};
 
 use crate::asked::potential_at;
 use crate::body::{Body, body_of};
+use crate::cycles::has_unpaid_cycle;
 use crate::error::InferError;
 use crate::known::Known;
 use crate::loops::find_units;
@@ -18,7 +19,7 @@ use crate::spent::{calls_are_spent, find_touched};
 use crate::table::Table;
 use geos_image::Image;
 use geos_verify::Touched;
-use std::alloc::Global;
+use std::alloc::{AllocError, Global};
 
 /// Steps of a routine are counted from its last instruction to its first, where a unit of a LOOP's
 /// counter pays for so much; whether some potential is another now, and `None` where a number is
@@ -40,21 +41,53 @@ fn sweep(
     Some(changed)
 }
 
+/// Tables that counting writes.
+#[derive(Drop)]
+struct Tables {
+    into: Table<u16>,
+    listed: Table<u16>,
+    ends: Table<u16>,
+    ways: Potentials,
+    units: Table<u32>,
+}
+
+impl Tables {
+    fn new(alloc: Global) -> Result<Tables, AllocError> {
+        Ok(Tables {
+            into: Table::new(alloc, 0)?,
+            listed: Table::new(alloc, 0)?,
+            ends: Table::new(alloc, 0)?,
+            ways: Potentials::new(alloc)?,
+            units: Table::new(alloc, 0)?,
+        })
+    }
+}
+
 /// Counts the steps of a routine; `false` where no number of them is found to be enough, or a
 /// counter is wanted behind a call that touches it.
 fn count_in(
     body: &Body,
     known: &Known,
-    units: &Table<u32>,
     touched: &Touched,
+    tables: &mut Tables,
     potentials: &mut Potentials,
 ) -> bool
     ensures { CountsOn body.now.image.now body.now.r potentials.old potentials.new result }
 {
+    if has_unpaid_cycle(body, &mut tables.into, &mut tables.listed) {
+        return false;
+    }
+    find_units(
+        body,
+        known,
+        &mut tables.ends,
+        &mut tables.ways,
+        &mut tables.units,
+    );
     // Each sweep carries what an edge that leads back asks for over one such edge: first the
     // coefficients, then the constants.
     for _ in 0..2 * back_edges(body) + 3 {
-        let Some(changed) = sweep(body, known, units, potentials) else {
+        let Some(changed) = sweep(body, known, &tables.units, potentials) else {
             return false;
         };
         if are_paid(body, known, potentials) {
@@ -73,7 +106,7 @@ fn count_all(
     image: &Image,
     routines: u16,
     known: &Known,
-    units: &Table<u32>,
+    tables: &mut Tables,
     potentials: &mut Potentials,
 ) -> Option<u16>
     requires { routines ≤ length image.now.routines }
@@ -83,7 +116,7 @@ fn count_all(
     let touched = find_touched(image);
     let mut left = None;
     for r in (0..routines).rev() {
-        if !count_in(&body_of(image, r), known, units, &touched, potentials) {
+        if !count_in(&body_of(image, r), known, &touched, tables, potentials) {
             left = Some(r);
         }
     }
@@ -104,9 +137,9 @@ pub(crate) fn count(
     ensures none { IfErr result (λ error. (r : ℕ) → error ≡ NoRows r → routines ≡ length image.now.routines → NoStepsHold image.now) }
 {
     let all = image.count();
-    let units = find_units(alloc, image, known)?;
+    let mut tables = Tables::new(alloc)?;
     let mut potentials = Potentials::new(alloc)?;
-    match count_all(image, routines, known, &units, &mut potentials) {
+    match count_all(image, routines, known, &mut tables, &mut potentials) {
         Some(r) => Err(InferError::NoRows(r)),
         None if routines < all => Err(InferError::NoRows(routines)),
         None => Ok(potentials),

@@ -7,6 +7,7 @@ mod asked;
 mod body;
 mod common;
 mod count;
+mod cycles;
 mod descent;
 mod edges;
 mod error;

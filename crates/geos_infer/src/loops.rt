@@ -3,13 +3,12 @@
 ghost use Rattle.std.specs.Prelude.{◌≡◌, ◌<◌, ◌≤◌, true};
 
 use crate::asked::{asked_over, coefficients_at, owed};
-use crate::body::{Body, body_of};
+use crate::body::Body;
 use crate::edges::{edge_back, edge_in};
 use crate::known::Known;
 use crate::potentials::Potentials;
 use crate::table::Table;
-use geos_image::{Image, Instr, Opcode, Potential};
-use std::alloc::{AllocError, Global};
+use geos_image::{Instr, Opcode, Potential};
 
 /// A unit of one counter may pay for setting another one; a round finds what that changes.
 const MOST_ROUNDS: u16 = 6;
@@ -262,24 +261,20 @@ fn note_units(body: &Body, ways: &Potentials, units: &mut Table<u32>) {
     }
 }
 
-/// What a unit of its counter has to pay for at each LOOP.
+/// Finds what a unit of its counter has to pay for at each LOOP of a routine. The other tables are
+/// only written.
 pub(crate) fn find_units(
-    alloc: Global,
-    image: &Image,
+    body: &Body,
     known: &Known,
-) -> Result<Table<u32>, AllocError> {
-    let mut ends = Table::new(alloc, 0)?;
-    let mut ways = Potentials::new(alloc)?;
-    let mut units = Table::new(alloc, 0)?;
-    for r in 0..image.count() {
-        let body = body_of(image, r);
-        note_ends(&body, &mut ends);
-        for _ in 0..MOST_ROUNDS {
-            if !find_in(&body, known, &ends, &mut ways) {
-                break;
-            }
+    ends: &mut Table<u16>,
+    ways: &mut Potentials,
+    units: &mut Table<u32>,
+) {
+    note_ends(body, ends);
+    for _ in 0..MOST_ROUNDS {
+        if !find_in(body, known, ends, ways) {
+            break;
         }
-        note_units(&body, &ways, &mut units);
     }
-    Ok(units)
+    note_units(body, ways, units);
 }

@@ -19,3 +19,6 @@ returns-then-are_paid c = λ want forward holds before.
     let same = (c.loop.invariant forward).1 in
     let F = c.sweep.ensures want forward holds (subst (λ (numbers : Numbers). Counted body.image.now want numbers (start_of body.image.now.routines (body.r + 1))) (sym same) before) in
     (c.calls_are_spent.ensures F.1.zero, F.1)
+
+pub returns-then-has_unpaid_cycle : goal.returns-then-has_unpaid_cycle
+returns-then-has_unpaid_cycle c = λ want forward holds before. absurd (false≢true (sym (c.has_unpaid_cycle.ensures forward) ∙ c.if-has_unpaid_cycle.true))
