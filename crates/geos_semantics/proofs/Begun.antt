@@ -7,7 +7,8 @@ use Rattle.geos_table.specs.Effects.{Choice}
 use Rattle.geos_table.proofs.LegalGiven.{memory-given, locks_of-given, there-given, block_of-given}
 use Rattle.geos_semantics.specs.State.{SlotReference, State}
 use Rattle.geos_semantics.specs.Model.{begun}
-use Rattle.geos_semantics.specs.Meets.{SlotIsSound, PointerIsSound, Sound, name_held}
+use Rattle.geos_image.specs.declared.row.Row.{Row}
+use Rattle.geos_semantics.specs.Meets.{Meets, SlotIsSound, PointerIsSound, Sound, name_held}
 use Rattle.geos_semantics.proofs.Locking.{held-counts, holds-once-is}
 use Rattle.geos_semantics.proofs.Kept.{each-same, slot-left, slots-left}
 use Rattle.geos_semantics.proofs.Moments.{Moment}
@@ -33,6 +34,10 @@ module _ (base : Name → ℕ) (s : State) (choice : Choice) (S : Sound base s) 
     pointers = each-same (PointerIsSound s.memory s.slots) (PointerIsSound (given_memory choice.given s.memory) s.slots) pointer-begun s.pointers S.pointers;
   }
 
+-- slots and pointers are as a row says, as before
+pub meets-begun : (s : State) (choice : Choice) (row : Row) → Meets s row → Meets (begun choice s) row
+meets-begun s choice row M = record { words = M.words; slots = slots-left s.memory (given_memory choice.given s.memory) s.slots row.slots M.slots; pointers = M.pointers; pairs = M.pairs }
+
 -- the moment with that in memory
 abbrev pub begun_moment : Moment → Choice → Moment
 begun_moment m choice =
@@ -47,6 +52,6 @@ begun_moment m choice =
         stack = G.stack;
         chain = G.chain;
         sound = sound-begun m.base m.state choice G.sound;
-        meets = record { words = G.meets.words; slots = slots-left m.state.memory (given_memory choice.given m.state.memory) m.state.slots G.point.row.slots G.meets.slots; pointers = G.meets.pointers; pairs = G.meets.pairs };
+        meets = meets-begun m.state choice G.point.row G.meets;
       };
     }

@@ -101,6 +101,8 @@ failing_computed = record {
 -- the save or the update of that script stops: the pair before, one of both, or the pair after
 pub record Stopping : Type 0 where
   pub save_early : (left_under failing vsave put_one).file.kept ≡ Sure (pair none none)
+  pub then_update : answer_under failing vupdate (put 2 2 (left_under failing vsave put_one)) ≡ Err refusal.Disk
+  pub both_early : (left_under failing vupdate (put 2 2 (left_under failing vsave put_one))).file.kept ≡ Sure (pair none none)
   pub save_late : (left_under failing_late vsave put_one).file.kept ≡ Unsure (pair none none) (pair first first)
   pub then_unsure : says vupdate (put 2 2 (left_under failing_late vsave put_one)) ≡ Err refusal.Unsure
   pub update_early : (left_under failing vupdate put_two).file.kept ≡ Sure (pair first first)
@@ -109,7 +111,7 @@ pub record Stopping : Type 0 where
 
 stopping_computed : Stopping
 unfolding cost word
-stopping_computed = record { save_early = refl; save_late = refl; then_unsure = refl; update_early = refl; update_late = refl; done = refl }
+stopping_computed = record { save_early = refl; then_update = refl; both_early = refl; save_late = refl; then_unsure = refl; update_early = refl; update_late = refl; done = refl }
 
 -- a file whose area has 512 bytes
 abbrev pub in_512 : Memory

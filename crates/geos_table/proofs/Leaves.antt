@@ -10,30 +10,20 @@ use Rattle.geos_model.specs.declared.refusal.Refusal.{Refusal}
 use Rattle.geos_model.specs.declared.refusal.Refusal.TheVariants as refusal
 use Rattle.geos_model.specs.Names.{named, mem, vm}
 use Rattle.geos_model.specs.Refusals.{first_refusal}
-use Rattle.geos_model.specs.Edits.{Edit}
 use Rattle.geos_table.specs.Directories.{VmBlock, KeptBlock, group_uid, uid_in, is_marked_in, marked_block, idle_block}
 use Rattle.geos_table.specs.VmFile.{Pair, doubted}
 use Rattle.geos_table.specs.Memory.{Block, Memory, at_handle, with_entry_at, lowest_of, new_heap, listed_at, with_listed, with_mark, is_marked, with_owned_block, block_of, with_block, locks_in, locks_of, lowest_handle, locked_block, rechunked_block, with_locks, with_chunks, chunks_at}
 use Rattle.geos_table.specs.Given.{given_memory}
-use Rattle.geos_table.specs.Effects.{Choice, InBlock, come_to, outcome, effect_of}
-use Rattle.geos_table.specs.ChunkCalls.{change_edit, may_grow, row_in, make_edit}
+use Rattle.geos_table.specs.Effects.{Choice, come_to, outcome, effect_of}
+use Rattle.geos_table.specs.ChunkCalls.{change_edit, make_edit}
 use Rattle.geos_table.specs.VmCalls.{new_listed, bring, without_listed, committed, left_by_commit, keep_current, keep_saved, keep_reverted, pair_to_keep}
 use Rattle.geos_table.specs.Table.{KernelCall, Mnew, Mlock, Mfree, Unlock, Changes, Makes, Store, Copy, Vnew, Vlock, Vdirty, Vfree, Vsetmap, Vupdate, Vsave, Vrevert, Gnew, Gfree, ChangesItem, MakesItem, Ilock, Isetmap, row}
 use Rattle.geos_table.specs.Leaving.{Scope, NoBlock, OneBlock, WholeFile, new_mem, new_vm, scope_of, LeavesOthers, stale_of, counts_of, marks_of, HasCounts, HasMarks, IsAskable, IsLeft, RowsLeave}
-use Rattle.geos_table.proofs.Laws.{entry-other}
+use Rattle.geos_table.proofs.Laws.{entry-other, change-shape}
 use Rattle.geos_table.proofs.Passing.{none-here}
 use Rattle.geos_table.proofs.HandleLists.{entry-each}
 use Rattle.geos_table.proofs.LegalGiven.{locks_of-given, is_marked-given, block_of-given}
 use Rattle.geos_table.proofs.NamedBlocks.{entry-gone, block_in_file, block_of-mapped, block_of-gone, locks_of-chunks, locks_of-set, marks-mapped, locks_of-mark, marked-set, still-listed}
-
--- The shape of rows on chunks
-
--- a change of chunks, for which the block may grow or not
-change-shape : (grows : Bool) (edit : List (Option (List ℕ)) → Edit (Unit {0})) (name : Name) (choice : Choice) (memory : Memory) →
-    ((row_in grows edit name choice memory).after ≡ with_chunks memory name (edit (chunks_at memory name)).chunks) × ((row_in grows edit name choice memory).stale ≡ InBlock name)
-    × ((why : Refusal) → (row_in grows edit name choice memory).left why ≡ memory)
-change-shape true edit name choice memory = (refl, refl, λ why. refl)
-change-shape false edit name choice memory = (refl, refl, λ why. refl)
 
 -- What refusals leave
 
@@ -46,8 +36,8 @@ commit-left choice memory pair refusal.Disk = by choice.unsure
 commit-left choice memory pair why = inl refl
 
 refused : (call : KernelCall) (choice : Choice) (memory : Memory) (why : Refusal) → IsLeft why memory ((row call choice memory).left why)
-refused (Changes name change) choice memory why = inl ((change-shape (may_grow change) (change_edit change) name choice memory).2 why)
-refused (ChangesItem g change) choice memory why = inl ((change-shape (may_grow change) (change_edit change) (vm g) choice memory).2 why)
+refused (Changes name change) choice memory why = inl ((change-shape name change memory choice).2 why)
+refused (ChangesItem g change) choice memory why = inl ((change-shape (vm g) change memory choice).2 why)
 refused Vupdate choice memory why = commit-left choice memory (pair_to_keep keep_current memory) why
 refused Vsave choice memory why = commit-left choice memory (pair_to_keep keep_saved memory) why
 refused Vrevert choice memory why = commit-left choice memory (pair_to_keep keep_reverted memory) why
@@ -56,7 +46,7 @@ refused call choice memory why = inl refl
 -- What is made stale
 
 stale : (call : KernelCall) (choice : Choice) (memory : Memory) → (row call choice memory).stale ≡ stale_of call memory
-stale (Changes name change) choice memory = (change-shape (may_grow change) (change_edit change) name choice memory).1
+stale (Changes name change) choice memory = (change-shape name change memory choice).1
 stale call choice memory = refl
 
 -- What a call leaves of blocks that it is not on
@@ -107,7 +97,7 @@ done-others (Mlock h) choice m = locks-others m (mem h) (locks_of m (mem h) + 1)
 done-others (Mfree h) choice m = block-others m (mem h) None
 done-others (Unlock name) choice m = locks-others m name (locks_of m name - 1)
 done-others (Changes name change) choice m =
-    subst (LeavesOthers (OneBlock name) m) (sym (change-shape (may_grow change) (change_edit change) name choice m).0) (chunks-others m name (change_edit change (chunks_at m name)).chunks)
+    subst (LeavesOthers (OneBlock name) m) (sym (change-shape name change m choice).0) (chunks-others m name (change_edit change (chunks_at m name)).chunks)
 done-others (Makes name make) choice m = chunks-others m name (make_edit make (chunks_at m name)).chunks
 done-others (Store ref i bytes) choice m = chunks-others m ref.name _
 done-others (Copy to from n) choice m = chunks-others m to.name _
@@ -122,7 +112,7 @@ done-others Vrevert choice m = commit-others m (pair_to_keep keep_reverted m)
 done-others Gnew choice m = listed-others m (new_vm m).h (Some (new_listed group_uid 0))
 done-others (Gfree g) choice m = without-others m g
 done-others (ChangesItem g change) choice m =
-    subst (λ n. LeavesOthers (OneBlock (vm g)) m (with_mark n g true)) (sym (change-shape (may_grow change) (change_edit change) (vm g) choice m).0) (item-others m g (change_edit change (chunks_at m (vm g))).chunks)
+    subst (λ n. LeavesOthers (OneBlock (vm g)) m (with_mark n g true)) (sym (change-shape (vm g) change m choice).0) (item-others m g (change_edit change (chunks_at m (vm g))).chunks)
 done-others (MakesItem g make) choice m = item-others m g (make_edit make (chunks_at m (vm g))).chunks
 done-others (Ilock g i n) choice m = locks-others m (vm g) (locks_of m (vm g) + 1)
 done-others (Isetmap g i) choice m = record { blocks = λ k out. refl; listed = λ k out. refl; region = refl }
@@ -193,7 +183,7 @@ counts (Mlock h) choice m fine = locks_of-set m (mem h) (locks_of m (mem h) + 1)
 counts (Mfree h) choice m fine = ap locks_in (block_of-gone m (mem h))
 counts (Unlock name) choice m fine = unlocked m name
 counts (Changes name change) choice m fine = λ other.
-    ap (λ n. locks_of n other) (change-shape (may_grow change) (change_edit change) name choice m).0 ∙ locks_of-chunks m name other (change_edit change (chunks_at m name)).chunks
+    ap (λ n. locks_of n other) (change-shape name change m choice).0 ∙ locks_of-chunks m name other (change_edit change (chunks_at m name)).chunks
 counts (Makes name make) choice m fine = λ other. locks_of-chunks m name other (make_edit make (chunks_at m name)).chunks
 counts (Store ref i bytes) choice m fine = λ other. locks_of-chunks m ref.name other _
 counts (Copy to from n) choice m fine = λ other. locks_of-chunks m to.name other _
@@ -213,7 +203,7 @@ counts Gnew choice m fine = made (passed (row Gnew choice m).refusals fine).0
     made some = ap (λ e. locks_in (option_map block_in_file e)) (lowest-put m.file.cur.blocks (new_listed group_uid 0) some)
 counts (Gfree g) choice m fine = ap (λ e. locks_in (option_map block_in_file e)) (entry-gone m.file.cur.blocks g)
 counts (ChangesItem g change) choice m fine = λ name.
-    ap (λ n. locks_of (with_mark n g true) name) (change-shape (may_grow change) (change_edit change) (vm g) choice m).0 ∙ item-counts m g (change_edit change (chunks_at m (vm g))).chunks name
+    ap (λ n. locks_of (with_mark n g true) name) (change-shape (vm g) change m choice).0 ∙ item-counts m g (change_edit change (chunks_at m (vm g))).chunks name
 counts (MakesItem g make) choice m fine = λ name. item-counts m g (make_edit make (chunks_at m (vm g))).chunks name
 counts (Ilock g i n) choice m fine = locks_of-set m (vm g) (locks_of m (vm g) + 1) (listed-there (listed_at m g) (group-listed (listed_at m g) (passed (row (Ilock g i n) choice m).refusals fine).0))
 counts call choice m fine = λ name. refl
@@ -235,7 +225,7 @@ marks : (call : KernelCall) (choice : Choice) (memory : Memory) → IsAskable ca
 marks (Mlock h) choice m asked fine = λ k. marks-mapped m (locked_block (locks_of m (mem h) + 1)) (mem h) k
 marks (Unlock name) choice m asked fine = λ k. marks-mapped m (locked_block (locks_of m name - 1)) name k
 marks (Changes name change) choice m asked fine = λ k.
-    ap (λ n. is_marked n k) (change-shape (may_grow change) (change_edit change) name choice m).0 ∙ marks-mapped m (rechunked_block (change_edit change (chunks_at m name)).chunks) name k
+    ap (λ n. is_marked n k) (change-shape name change m choice).0 ∙ marks-mapped m (rechunked_block (change_edit change (chunks_at m name)).chunks) name k
 marks (Makes name make) choice m asked fine = λ k. marks-mapped m (rechunked_block (make_edit make (chunks_at m name)).chunks) name k
 marks (Store ref i bytes) choice m asked fine = λ k. marks-mapped m (rechunked_block _) ref.name k
 marks (Copy to from n) choice m asked fine = λ k. marks-mapped m (rechunked_block _) to.name k
@@ -249,7 +239,7 @@ marks Vrevert choice m asked fine = idle-mark m (pair_to_keep keep_reverted m)
 marks Gnew choice m asked fine = ap is_marked_in (lowest-put m.file.cur.blocks (new_listed group_uid 0) (passed (row Gnew choice m).refusals fine).0)
 marks (Gfree g) choice m asked fine = ap is_marked_in (entry-gone m.file.cur.blocks g)
 marks (ChangesItem g change) choice m asked fine =
-    ap (λ n. is_marked (with_mark n g true) g) (change-shape (may_grow change) (change_edit change) (vm g) choice m).0
+    ap (λ n. is_marked (with_mark n g true) g) (change-shape (vm g) change m choice).0
     ∙ item-marked m g (change_edit change (chunks_at m (vm g))).chunks (group-listed (listed_at m g) (passed (row (ChangesItem g change) choice m).refusals fine).0)
 marks (MakesItem g make) choice m asked fine = item-marked m g (make_edit make (chunks_at m (vm g))).chunks (group-listed (listed_at m g) (passed (row (MakesItem g make) choice m).refusals fine).0)
 marks (Ilock g i n) choice m asked fine = λ k. marks-mapped m (locked_block (locks_of m (vm g) + 1)) (vm g) k
