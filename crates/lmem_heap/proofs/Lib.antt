@@ -24,5 +24,6 @@ pub mod Unplaced
 pub mod Refits
 pub mod Moving
 pub mod MovingIn
+pub mod Leaving
 pub mod Enlarging
 pub mod Relengthening

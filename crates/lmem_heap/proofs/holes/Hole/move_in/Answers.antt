@@ -1,14 +1,11 @@
-use Rattle.std.proofs.Common.{◌≡◌, ℕ, ◌+◌, ◌-◌, List, ap, sym, ◌∙◌, subst, arith}
+use Rattle.std.proofs.Common.{ℕ, ◌+◌, ◌-◌, ap, sym, ◌∙◌, subst, arith}
 use Rattle.geos_model.specs.Chunks.{cost}
 use Rattle.geos_model.proofs.Costs.{cost-fours}
 use Rattle.lmem_heap.specs.Holes.{IsOpen}
 use Rattle.lmem_heap.specs.Packed.{chunk_end, chunk_length}
+use Rattle.lmem_heap.proofs.Leaving.{length-read}
 use Rattle.lmem_heap.proofs.MovingIn.{moves-in, moved-in-read}
 use Rattle.lmem_heap.proofs.holes.Hole.move_in.Goals as goal
-
--- the length of the chunk, from its size word
-the_length : (b : List ℕ) (i says w : ℕ) → w ≡ says → says ≡ chunk_length b i + 2 → w - 2 ≡ chunk_length b i
-the_length b i says w read is = omega (arith, read, is)
 
 pub overflow_sub-from : goal.overflow_sub-from
 overflow_sub-from c =
@@ -61,7 +58,7 @@ overflow_sub-from-3 c =
 pub overflow_add-from : goal.overflow_add-from
 overflow_add-from c =
     let h = c.args.self in let m = moves-in c.args.block.now h.link h.at h.end c.args.i c.args.n c.entry-from.result c.requires.hole.is c.requires.known c.requires.offset c.requires.some c.requires.room c.entry-from.ensures in
-    let is = c.cost.ensures ∙ ap cost (the_length c.args.block.now c.args.i _ c.get16.result c.get16.ensures m.says) in omega (arith, is, m.whole, m.ends, m.most)
+    let is = c.cost.ensures ∙ ap cost (length-read c.args.block.now c.args.i _ c.get16.result c.get16.ensures m.says) in omega (arith, is, m.whole, m.ends, m.most)
 
 pub at-requires : goal.at-requires
 at-requires c =
@@ -69,7 +66,7 @@ at-requires c =
     let r = moved-in-read c.args.block.now c.put_entry.new.block c.put16.new.block c.move_bytes.new.block c.clear.new.block h.link h.at h.end c.args.i c.min-keep.result n c.entry-from.result c.get16.result c.requires.hole.is c.requires.known c.requires.offset
     c.requires.some c.requires.room c.entry-from.ensures c.get16.ensures c.min-keep.ensures c.put_entry.ensures c.put16.ensures c.move_bytes.ensures c.clear.ensures in
     let m = moves-in c.args.block.now h.link h.at h.end c.args.i c.args.n c.entry-from.result c.requires.hole.is c.requires.known c.requires.offset c.requires.some c.requires.room c.entry-from.ensures in
-    let is = c.cost.ensures ∙ ap cost (the_length c.args.block.now c.args.i _ c.get16.result c.get16.ensures m.says) in
+    let is = c.cost.ensures ∙ ap cost (length-read c.args.block.now c.args.i _ c.get16.result c.get16.ensures m.says) in
     let A : ℕ → Type 0 = λ x. IsOpen c.clear.new.block 12 (x - 2) (chunk_end c.args.block.now c.args.i) in
     let B : ℕ → Type 0 = λ x. IsOpen c.clear.new.block 12 (c.entry-from.result - 2) x in
     subst B (sym (ap (λ x. c.entry-from.result - 2 + x) is ∙ m.whole)) (subst A (sym c.entry-from.ensures) r.is)
@@ -80,7 +77,7 @@ returns-clause-fours c =
     let r = moved-in-read c.args.block.now c.put_entry.new.block c.put16.new.block c.move_bytes.new.block c.clear.new.block h.link h.at h.end c.args.i c.min-keep.result n c.entry-from.result c.get16.result c.requires.hole.is c.requires.known c.requires.offset
     c.requires.some c.requires.room c.entry-from.ensures c.get16.ensures c.min-keep.ensures c.put_entry.ensures c.put16.ensures c.move_bytes.ensures c.clear.ensures in
     let m = moves-in c.args.block.now h.link h.at h.end c.args.i c.args.n c.entry-from.result c.requires.hole.is c.requires.known c.requires.offset c.requires.some c.requires.room c.entry-from.ensures in
-    let is = c.cost.ensures ∙ ap cost (the_length c.args.block.now c.args.i _ c.get16.result c.get16.ensures m.says) in
+    let is = c.cost.ensures ∙ ap cost (length-read c.args.block.now c.args.i _ c.get16.result c.get16.ensures m.says) in
     let fours = r.is.fours in let cost_fours = cost-fours (chunk_length c.args.block.now c.args.i) in
     omega (arith, c.at.ensures.place, is, cost_fours, fours, c.entry-from.ensures)
 
