@@ -1,5 +1,5 @@
 -- The items of the lines `in` and `out`.
-use Rattle.std.specs.Prelude.{ℕ, ◌-◌, ◌+◌, true, ◌==◌, nat_lt, if◌then◌else◌, List, [], ◌∷◌, length, take, drop, slice_set, codes, bytes_eq, Option, Some, None, Result, Ok, Err}
+use Rattle.std.specs.Prelude.{ℕ, ◌-◌, ◌+◌, true, false, ◌==◌, nat_lt, if◌then◌else◌, List, [], ◌∷◌, length, take, drop, slice_set, codes, bytes_eq, Option, Some, None, Result, Ok, Err}
 use Rattle.geos_image.specs.declared.row.Row.{Row}
 use Rattle.geos_image.specs.declared.row.SlotState.{SlotState}
 use Rattle.geos_image.specs.declared.row.SlotState.TheVariants.{Mem, Vm, Db}
