@@ -1,4 +1,4 @@
-use Rattle.std.proofs.Common.{None, arith}
+use Rattle.std.proofs.Common.{None}
 use Rattle.block_handles.proofs.Filled.{filled-more, filled}
 use Rattle.block_handles.proofs.arena.empty_table.Goals as goal
 

@@ -1,4 +1,3 @@
-use Rattle.std.proofs.Common.{arith}
 use Rattle.block_handles.proofs.Filled.{filled-more, no-slots}
 use Rattle.block_handles.proofs.slots.SlotSet.new.Goals as goal
 
