@@ -4,7 +4,8 @@ use Rattle.std.proofs.lemmas.List.{length-set, get_or-set_same, get_or-set_other
 use Rattle.std.proofs.lemmas.Bool.{cases_eq, cases_lt}
 use Rattle.block_handles.specs.Store.{Block, Store, block_at, bytes_in, IsBlock, IsThere, size_of, locks_in, locks_of, place_of, end_of, slot_count}
 use Rattle.block_handles.specs.Change.{with_block, with_place, with_locks, block_with_locks}
-use Rattle.block_handles.specs.Layout.{Apart, IsFree, IsFreeBut, IsLaidOut, IsSize}
+use Rattle.block_handles.specs.Layout.{Apart, IsFree, IsFreeBut, IsLaidOut}
+use Rattle.geos_model.specs.Heap.{IsBlockSize}
 use Rattle.block_handles.specs.View.{IsIndexed}
 
 block_of_size : (b : Option Block) → 0 < length (bytes_in b) → IsBlock b
@@ -79,7 +80,7 @@ there_small S i laid h = elim (cases_lt i 2048) as (λ _. i < 2048) [ inl lt ↦
     past (b ∷ bs) (suc i) h = past bs i (omega arith)
 
 -- a slot gets a block where nothing else lies
-pub laid-differs : (S S' : Store) (i n p : ℕ) → Differs S S' i n p → IsLaidOut S → p + n ≤ S.len → IsFreeBut S i p (p + n) → (IsThere S' i → IsSize n) → (n ≡ 0 → p ≡ 0) → IsLaidOut S'
+pub laid-differs : (S S' : Store) (i n p : ℕ) → Differs S S' i n p → IsLaidOut S → p + n ≤ S.len → IsFreeBut S i p (p + n) → (IsThere S' i → IsBlockSize n) → (n ≡ 0 → p ≡ 0) → IsLaidOut S'
 laid-differs S S' i n p d laid fits free legal none = record {
   slots = d.slots ∙ laid.slots;
   spots = d.spots ∙ laid.spots;
@@ -94,9 +95,9 @@ laid-differs S S' i n p d laid fits free legal none = record {
       | inr nk ↦ both j k nj nk (laid.apart j k ne)
     ]
   ];
-  sized = λ j h. elim (cases_eq j i) as (λ _. IsSize (size_of S' j)) [
-    | inl e ↦ subst IsSize (sym (ap (size_of S') e ∙ d.size)) (legal (subst (IsThere S') e h))
-    | inr ne ↦ subst IsSize (sym (d.sizes j ne)) (laid.sized j (d.there j ne h))
+  sized = λ j h. elim (cases_eq j i) as (λ _. IsBlockSize (size_of S' j)) [
+    | inl e ↦ subst IsBlockSize (sym (ap (size_of S') e ∙ d.size)) (legal (subst (IsThere S') e h))
+    | inr ne ↦ subst IsBlockSize (sym (d.sizes j ne)) (laid.sized j (d.there j ne h))
   ];
   none = λ j z. elim (cases_eq j i) as (λ _. place_of S' j ≡ 0) [
     | inl e ↦ ap (place_of S') e ∙ d.place ∙ none (sym d.size ∙ ap (size_of S') (sym e) ∙ z)
@@ -150,7 +151,7 @@ laid-same S S' d laid = record {
   spots = ap length d.places ∙ laid.spots;
   within = λ j. omega (arith, d.len, same-ends S S' d j, laid.within j);
   apart = λ i j n. moved i j (laid.apart i j n);
-  sized = λ j h. subst IsSize (sym (d.sizes j)) (laid.sized j (d.there j h));
+  sized = λ j h. subst IsBlockSize (sym (d.sizes j)) (laid.sized j (d.there j h));
   none = λ j z. same-places S S' d j ∙ laid.none j (sym (d.sizes j) ∙ z);
 }
   where

@@ -7,7 +7,8 @@ use Rattle.lmem_raw.proofs.Parts.{length-with_part, part-same}
 use Rattle.block_handles.specs.declared.arena.Entry.{Entry}
 use Rattle.block_handles.specs.Store.{Block, Store, bytes_of, locks_in, locks_of, IsBlock, IsThere, size_of, place_of}
 use Rattle.block_handles.specs.Change.{with_block, new_block, grown_block, with_locks, block_with_locks}
-use Rattle.block_handles.specs.Layout.{IsLaidOut, IsFreeBut, IsSize}
+use Rattle.block_handles.specs.Layout.{IsLaidOut, IsFreeBut}
+use Rattle.geos_model.specs.Heap.{IsBlockSize}
 use Rattle.block_handles.specs.View.{block_in, store_in, place_in, Lies, IsEntry, IsSound, IsIndexed}
 use Rattle.block_handles.proofs.Views.{OffEntry, entry_there, off_slot, off_same, off_less, store-set, part-two, block_there, bytes_there, place_there, lies_there, size_there, lies_set, length-part}
 use Rattle.block_handles.proofs.Layouts.{with_locks-shape, Differs, with_block-differs, laid-differs, laid-gone, SameShape, laid-same, indexed-same, size_of_none, there_small}
@@ -44,7 +45,7 @@ module _ (region : List ℕ) (table : List (Option Entry)) (index : List (Option
       let off : OffEntry (slice_index_or table j None) at (at + n) = off_slot region table at (at + n) j (sound.lies j) (free j ne) in
       off_same region at ws (slice_index_or table j None) (off_less (slice_index_or table j None) at (at + n) at (at + length ws) (omega arith) (omega (arith, e)) off)
 
-  pub create-step : (at size : ℕ) → i < 2048 → (IsThere S i → ⊥) → IsSize size → at + size ≤ length region → IsFreeBut S i at (at + size) → (region' : List ℕ) → region' ≡ with_part region at (replicate size 0)
+  pub create-step : (at size : ℕ) → i < 2048 → (IsThere S i → ⊥) → IsBlockSize size → at + size ≤ length region → IsFreeBut S i at (at + size) → (region' : List ℕ) → region' ≡ with_part region at (replicate size 0)
       → Step region' (slice_set table i (Some (record { place = at; size = size; locks = 0 }))) (slice_set index (at / 64) (Some i)) (with_block S i (new_block size) at)
   create-step at size small not legal room free region' e =
       let long : length (replicate {A = ℕ} size 0) ≡ size = length-replicate size 0 in
@@ -147,7 +148,7 @@ module _ (region : List ℕ) (table : List (Option Entry)) (index : List (Option
 
 -- the same over the store that callers see
 module _ (region : List ℕ) (table : List (Option Entry)) (index : List (Option ℕ)) (seen : Store) (view : store_in region table ≡ seen) (sound : IsSound region table index) (i : ℕ) where
-  pub create_seen : (at size : ℕ) → (i < 2048) × (IsThere seen i → ⊥) → IsSize size → at + size ≤ seen.len → IsFreeBut seen i at (at + size) → (region' : List ℕ) → region' ≡ with_part region at (replicate size 0)
+  pub create_seen : (at size : ℕ) → (i < 2048) × (IsThere seen i → ⊥) → IsBlockSize size → at + size ≤ seen.len → IsFreeBut seen i at (at + size) → (region' : List ℕ) → region' ≡ with_part region at (replicate size 0)
       → Step region' (slice_set table i (Some (record { place = at; size = size; locks = 0 }))) (slice_set index (at / 64) (Some i)) (with_block seen i (new_block size) at)
   create_seen at size slot legal room free region' eq =
       subst (λ s. (i < 2048) × (IsThere s i → ⊥) → at + size ≤ s.len → IsFreeBut s i at (at + size) → Step region' (slice_set table i (Some (record { place = at; size = size; locks = 0 }))) (slice_set index (at / 64) (Some i)) (with_block s i (new_block size) at))

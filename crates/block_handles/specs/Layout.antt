@@ -1,6 +1,7 @@
 -- How blocks lie in the region.
-use Rattle.std.specs.Prelude.{◌≡◌, ◌≢◌, ℕ, ◌%◌, ◌≤◌, ◌⊎◌, List, length, None}
+use Rattle.std.specs.Prelude.{◌≡◌, ◌≢◌, ℕ, ◌≤◌, ◌⊎◌, List, length, None}
 use Rattle.lmem_raw.specs.Bytes.{part}
+use Rattle.geos_model.specs.Heap.{IsBlockSize}
 use Rattle.block_handles.specs.Store.{Store, block_at, IsThere, bytes_of, size_of, place_of, end_of, slot_count}
 
 -- one block ends before the other begins
@@ -15,17 +16,13 @@ IsFree store from until = (slot : ℕ) → (end_of store slot ≤ from) ⊎ (unt
 abbrev pub IsFreeBut : Store → ℕ → ℕ → ℕ → Type 0
 IsFreeBut store but from until = (slot : ℕ) → slot ≢ but → (end_of store slot ≤ from) ⊎ (until ≤ place_of store slot)
 
--- a block has 64 to 65,520 bytes, a multiple of 16
-abbrev pub IsSize : ℕ → Type 0
-IsSize n = (64 ≤ n) × (n ≤ 65520) × (n % 16 ≡ 0)
-
 -- blocks lie in the region, no two overlap, sizes are legal, and a slot with none has place 0
 pub record IsLaidOut (store : Store) : Type 0 where
   pub slots : slot_count store ≡ 2048
   pub spots : length store.places ≡ 2048
   pub within : (slot : ℕ) → end_of store slot ≤ store.len
   pub apart : (i j : ℕ) → i ≢ j → Apart store i j
-  pub sized : (slot : ℕ) → IsThere store slot → IsSize (size_of store slot)
+  pub sized : (slot : ℕ) → IsThere store slot → IsBlockSize (size_of store slot)
   pub none : (slot : ℕ) → size_of store slot ≡ 0 → place_of store slot ≡ 0
 
 -- a region of this length with no block

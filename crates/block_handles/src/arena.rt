@@ -99,7 +99,8 @@ impl Arena {
     ghost use Rattle.block_handles.specs.Layout.{IsEmpty, IsRegion};
     ghost use Rattle.block_handles.specs.Search.{IsFirst, IsLast, BeginsNone};
     ghost use Rattle.block_handles.specs.Store.{IsThere, bytes_of, size_of, place_of, end_of, locks_of, region_len};
-    ghost use Rattle.block_handles.specs.Layout.{IsLaidOut, IsFreeBut, IsSize};
+    ghost use Rattle.block_handles.specs.Layout.{IsLaidOut, IsFreeBut};
+    ghost use Rattle.geos_model.specs.Heap.{IsBlockSize};
     ghost use Rattle.block_handles.specs.Change.{with_block, new_block, grown_block, with_place, with_locks, after_write};
     ghost use Rattle.block_handles.specs.Lending.{LendsBytes};
     ghost use Rattle.block_handles.specs.Offsets.{Copies, ReadsByte, ReadsWord};
@@ -224,7 +225,7 @@ impl Arena {
     /// Puts a new block into a free slot, where no other lies.
     pub(crate) fn create(&mut self, slot: usize, at: u32, size: u32)
         requires slot { (slot < 2048) × (IsThere self.old slot → ⊥) }
-        requires legal { IsSize size }
+        requires legal { IsBlockSize size }
         requires room { at + size ≤ region_len self.old }
         requires free { IsFreeBut self.old slot at (at + size) }
         ensures store { self.new ≡ with_block self.old slot (new_block size) at }

@@ -53,7 +53,8 @@ impl Model for Blocks {
 impl Blocks {
     ghost use Rattle.block_handles.specs.Calls.{Makes, Grows};
     ghost use Rattle.block_handles.specs.Change.{with_lock_more, with_lock_less, without, after_write};
-    ghost use Rattle.block_handles.specs.Layout.{IsEmpty, IsLaidOut, IsRegion, IsSize};
+    ghost use Rattle.block_handles.specs.Layout.{IsEmpty, IsLaidOut, IsRegion};
+    ghost use Rattle.geos_model.specs.Heap.{IsBlockSize};
     ghost use Rattle.block_handles.specs.LendingBlocks.{LendsBlock};
     ghost use Rattle.block_handles.specs.Names.{slot_of, IsHandle};
     ghost use Rattle.block_handles.specs.Offsets.{Copies, CopiesCovered, ReadsByte, ReadsWord, WritesCovered};
@@ -125,7 +126,7 @@ impl Blocks {
     pub fn size(&self, name: Name) -> u32
         requires { IsThere self.now (slot_of name) }
         ensures size { result ≡ size_of self.now (slot_of name) }
-        ensures legal { IsSize result }
+        ensures legal { IsBlockSize result }
     {
         self.arena.size(slot_in_use(name))
     }
