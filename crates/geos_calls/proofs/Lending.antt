@@ -40,7 +40,7 @@ use Rattle.geos_calls.specs.declared.obstacle.Obstacle.{Obstacle}
 use Rattle.geos_calls.specs.declared.obstacle.Obstacle.TheVariants.{Refused, Room}
 use Rattle.geos_calls.specs.Edits.{IsObstacle, Tries, IsOwn}
 use Rattle.geos_calls.specs.Refused.{of_room, of_free, of_realloc, of_insert, of_delete, of_append, of_growth, of_array, of_element, why_no_array, why_no_element}
-use Rattle.geos_calls.proofs.ArrayLooks.{array-refuses, element-refuses}
+use Rattle.geos_calls.proofs.Looked.{array-refuses, element-refuses}
 use Rattle.geos_calls.proofs.Lent.{lent-heap, lent-same}
 
 below : (n m : ℕ) → n < m → nat_lt n m ≡ true

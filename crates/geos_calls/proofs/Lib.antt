@@ -11,8 +11,7 @@ pub mod Regrown
 pub mod Room
 pub mod Chunked
 pub mod Edited
-pub mod Looks
-pub mod ArrayLooks
+pub mod Looked
 pub mod Lending
 pub mod Coming
 pub mod ChunkRows

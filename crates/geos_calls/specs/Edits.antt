@@ -1,10 +1,12 @@
 -- What a call makes of the chunks of one block, by its edit, and when it refuses.
-use Rattle.std.specs.Prelude.{◌≡◌, ℕ, Bool, true, false, ◌⊎◌, List, Option, Some, None, Result, Ok, Err}
+use Rattle.std.specs.Prelude.{◌≡◌, ℕ, ◌+◌, ◌<◌, ◌≤◌, nat_lt, if◌then◌else◌, Bool, true, false, ◌⊎◌, List, length, Option, Some, None, IfSome, Result, Ok, Err}
 use Rattle.geos_model.specs.declared.name.Name.{Name}
 use Rattle.geos_model.specs.declared.refusal.Refusal.{Refusal}
+use Rattle.geos_model.specs.declared.refusal.Refusal.TheVariants.{Short}
 use Rattle.geos_model.specs.Refusals.{first_refusal}
-use Rattle.geos_model.specs.Chunks.{need}
-use Rattle.geos_model.specs.Edits.{Edit}
+use Rattle.geos_model.specs.Block.{chunks, place_of}
+use Rattle.geos_model.specs.Chunks.{need, chunk_of}
+use Rattle.geos_model.specs.Edits.{Edit, Part}
 use Rattle.block_handles.specs.Store.{Store}
 use Rattle.lmem_heap.specs.Refusals.{IsRoomError}
 use Rattle.geos_calls.specs.declared.obstacle.Obstacle.{Obstacle}
@@ -20,6 +22,22 @@ Passes edit answer = (answer ≡ edit.answer) × (first_refusal edit.refusals �
 abbrev pub Tells : {A : Type 0} → (List (Option (List ℕ)) → Edit A) → List (Option (List ℕ)) → Result A Refusal → Type 0
 Tells edit chunks (Ok answer) = Passes (edit chunks) answer
 Tells edit chunks (Err why) = first_refusal (edit chunks).refusals ≡ Some why
+
+-- part of a chunk lies at this offset of a block's bytes
+pub record LiesIn (bytes : List ℕ) (p : Part) (at : ℕ) : Type 0 where
+  pub whole : List ℕ
+  pub chunk : chunk_of (chunks bytes) p.chunk ≡ Some whole
+  pub fits : p.start + p.len ≤ length whole
+  pub place : 0 < p.len → IfSome (place_of bytes p.chunk) (λ q. at ≡ q.at + p.start)
+
+-- finds where the bytes lie that an edit refers to, and how many they are; or refuses it
+abbrev pub Finds : (List (Option (List ℕ)) → Edit Part) → List ℕ → Result (ℕ × ℕ) Refusal → Type 0
+Finds edit bytes (Ok place) = let e = edit (chunks bytes) in (first_refusal e.refusals ≡ None) × (place.1 ≡ e.answer.len) × LiesIn bytes e.answer place.0
+Finds edit bytes (Err why) = first_refusal (edit (chunks bytes)).refusals ≡ Some why
+
+-- a place, which must have n bytes at least
+abbrev pub enough : ℕ × ℕ → ℕ → Result (ℕ × ℕ) Refusal
+enough place n = if nat_lt place.1 n then Err Short else Ok place
 
 -- the edit's first test that holds has this refusal; or none holds, and its chunks need more
 -- room than a block of this size has

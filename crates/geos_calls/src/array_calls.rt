@@ -3,11 +3,9 @@
 ghost use Rattle.std.specs.Prelude.{◌≡◌, ◌≤◌, IfOk, Err};
 
 use crate::kernel::Kernel;
-use crate::obstacle::why_no_element;
 use crate::span::Span;
-use chunk_array::element;
 use geos_model::{Name, Refusal};
-use geos_table::{Ask, Change, Make};
+use geos_table::{Ask, Change, Make, Refer};
 
 impl Kernel {
     ghost use Rattle.geos_model.specs.declared.refusal.Refusal.TheVariants.{NoRoom};
@@ -80,17 +78,7 @@ impl Kernel {
         ensures gives { GivesSpan (table.caelt name c i n) result self.now }
         ensures stands { IfOk result (λ span. IsStanding self.now span × (n ≤ span.len)) }
     {
-        let (at, len) = match element(self.blocks.bytes(name), c, i) {
-            Ok(place) => place,
-            Err(why) => return Err(why_no_element(why)),
-        };
-        if len < n {
-            return Err(Refusal::Short);
-        }
-        Ok(Span {
-            at: self.blocks.place(name) + u32::from(at),
-            len,
-        })
+        self.refer(name, Refer::Caelt { c, i, n })
     }
 
     /// Takes all elements out; their size stays. `BadChunk` and `BadArray` as `caadd`. Makes

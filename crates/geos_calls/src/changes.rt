@@ -1,6 +1,10 @@
 //! Changes of the chunks of a block of the region, which may have to grow for them.
 
-ghost use Rattle.std.specs.Prelude.{Err};
+ghost use Rattle.std.specs.Prelude.{Ok, Err};
+ghost use Rattle.geos_model.specs.Edits.{contract};
+ghost use Rattle.geos_model.specs.Heap.{IsCompact};
+ghost use Rattle.block_handles.specs.Names.{slot_of};
+ghost use Rattle.block_handles.specs.Store.{bytes_of};
 ghost use Rattle.geos_table.specs.ChunkCalls.{change_edit, may_grow};
 ghost use Rattle.geos_calls.specs.Edits.{Carries, Comes, IsOwn, Tries};
 ghost use Rattle.geos_calls.specs.Heaps.{HoldsHeap};
@@ -50,27 +54,48 @@ fn grow_and_change(
     }
 }
 
+/// Moves the chunks of a block together.
+#[inline(never)]
+pub(crate) fn contract(blocks: &mut Blocks, name: Name)
+    requires { HoldsHeap blocks.old name }
+    ensures tries { Tries contract blocks.old blocks.new name (Ok tt) }
+    ensures compact { IsCompact (bytes_of blocks.new (slot_of name)) }
+{
+    lmem_heap::contract(blocks.bytes_mut(name));
+}
+
 /// Makes a change in a block that stays as large as it is.
+// Each arm takes the block's bytes for itself, so that the compiler makes one of this match and of
+// the match by which a caller chose the change.
 #[inline(always)]
 fn try_change(blocks: &mut Blocks, name: Name, change: Change) -> Result<(), Obstacle>
     requires { HoldsHeap blocks.old name }
     ensures tries { Tries (change_edit change) blocks.old blocks.new name result }
     ensures own { IsOwn (may_grow change) result }
 {
-    let block = blocks.bytes_mut(name);
     match change {
-        Change::Lfree { c } => of_free(lmem_heap::free(block, c)),
-        Change::Lrealloc { c, n } => of_realloc(lmem_heap::realloc(block, c, n)),
-        Change::Lins { c, at, n } => of_insert(lmem_heap::insert(block, c, at, n)),
-        Change::Ldel { c, at, n } => of_delete(lmem_heap::delete(block, c, at, n)),
+        Change::Lfree { c } => of_free(lmem_heap::free(blocks.bytes_mut(name), c)),
+        Change::Lrealloc { c, n } => of_realloc(lmem_heap::realloc(blocks.bytes_mut(name), c, n)),
+        Change::Lins { c, at, n } => of_insert(lmem_heap::insert(blocks.bytes_mut(name), c, at, n)),
+        Change::Ldel { c, at, n } => of_delete(lmem_heap::delete(blocks.bytes_mut(name), c, at, n)),
         Change::Lcontract => {
-            lmem_heap::contract(block);
+            contract(blocks, name);
             Ok(())
         }
-        Change::Caadd { c, n } => of_append(chunk_array::append(block, c, n)),
-        Change::Cains { c, i, n } => of_growth(chunk_array::insert(block, c, i, n)),
-        Change::Cadel { c, i } => of_element(chunk_array::remove(block, c, i)),
-        Change::Cazero { c } => of_array(chunk_array::clear(block, c)),
-        Change::Caresize { c, i, n } => of_growth(chunk_array::resize_element(block, c, i, n)),
+        Change::Caadd { c, n } => of_append(chunk_array::append(blocks.bytes_mut(name), c, n)),
+        Change::Cains { c, i, n } => of_growth(chunk_array::insert(
+            blocks.bytes_mut(name),
+            c,
+            i,
+            n,
+        )),
+        Change::Cadel { c, i } => of_element(chunk_array::remove(blocks.bytes_mut(name), c, i)),
+        Change::Cazero { c } => of_array(chunk_array::clear(blocks.bytes_mut(name), c)),
+        Change::Caresize { c, i, n } => of_growth(chunk_array::resize_element(
+            blocks.bytes_mut(name),
+            c,
+            i,
+            n,
+        )),
     }
 }

@@ -1,17 +1,19 @@
 //! The kernel's calls on chunks, by their names.
 
-ghost use Rattle.std.specs.Prelude.{◌≡◌, Err};
+ghost use Rattle.std.specs.Prelude.{◌≡◌, ◌≤◌, IfOk, Err};
 
 use crate::kernel::Kernel;
+use crate::span::Span;
 use geos_model::{Name, Refusal};
-use geos_table::{Ask, Change, Make};
+use geos_table::{Ask, Change, Make, Refer};
 
 impl Kernel {
     ghost use Rattle.geos_model.specs.declared.refusal.Refusal.TheVariants.{NoRoom};
     ghost use Rattle.geos_model.specs.Chunks.{with_new, with_resized, with_inserted};
     ghost use Rattle.geos_table.specs.Calls as table;
     ghost use Rattle.geos_table.specs.Memory.{chunks_at};
-    ghost use Rattle.geos_calls.specs.Kernel.{Calls, HasNoRoomFor};
+    ghost use Rattle.geos_calls.specs.Kernel.{Calls, GivesSpan, HasNoRoomFor};
+    ghost use Rattle.geos_calls.specs.Spans.{IsStanding};
     ghost use Rattle.geos_calls.specs.View.{IsLocked, memory_of};
 
     /// Makes a chunk of `n` zero bytes in a locked block, and answers its handle: the lowest
@@ -73,5 +75,16 @@ impl Kernel {
         ensures { Calls (table.lsize name c) result self.now self.now }
     {
         self.ask(name, Ask::Lsize { c })
+    }
+
+    /// Where a chunk's bytes lie, which must be `n` at least. `BadChunk` where no chunk of the
+    /// block has this handle, `Short` where it has fewer bytes. The span stands until a call
+    /// makes the chunk's references stale.
+    pub fn deref(&self, name: Name, c: u16, n: u16) -> Result<Span, Refusal>
+        requires { IsLocked self.now name }
+        ensures gives { GivesSpan (table.deref name c n) result self.now }
+        ensures stands { IfOk result (λ span. IsStanding self.now span × (n ≤ span.len)) }
+    {
+        self.refer(name, Refer::Deref { c, n })
     }
 }

@@ -7,13 +7,13 @@ ghost use Rattle.geos_calls.specs.Heaps.{FindsNoRoom};
 ghost use Rattle.geos_calls.specs.Kernel.{IsKernel, MakesHeap};
 ghost use Rattle.geos_calls.specs.Refused.{of_handle};
 
-use crate::asks::tell;
+use crate::looks::{find, tell};
 use crate::span::Span;
 use crate::{changes, makes};
 use block_handles::{Blocks, HandleError};
 use geos_model::{Name, Owner, Refusal};
 use geos_table::{Ask, Change, Make, Refer};
-use lmem_heap::{contract, init, locate};
+use lmem_heap::init;
 use std::alloc::{AllocError, Global};
 use std::marker::Model;
 
@@ -125,26 +125,6 @@ impl Kernel {
         of_handle(freed)
     }
 
-    /// Where a chunk's bytes lie, which must be `n` at least. `BadChunk` where no chunk of the
-    /// block has this handle, `Short` where it has fewer bytes. The span stands until a call
-    /// makes the chunk's references stale.
-    pub fn deref(&self, name: Name, c: u16, n: u16) -> Result<Span, Refusal>
-        requires { IsLocked self.now name }
-        ensures gives { GivesSpan (table.deref name c n) result self.now }
-        ensures stands { IfOk result (λ span. IsStanding self.now span × (n ≤ span.len)) }
-    {
-        let Ok((at, len)) = locate(self.blocks.bytes(name), c) else {
-            return Err(Refusal::BadChunk);
-        };
-        if len < n {
-            return Err(Refusal::Short);
-        }
-        Ok(Span {
-            at: self.blocks.place(name) + at as u32,
-            len,
-        })
-    }
-
     /// Changes the chunks of a locked block, as the value says. `BadChunk`, `BadArray`,
     /// `BadElement` and `Range` as the named calls say; `TooBig` where the block would need more
     /// than 65,520 bytes, `NoRoom` where it must grow and no stretch of the region has room for
@@ -180,14 +160,18 @@ impl Kernel {
     /// Where the bytes lie that the value names, in a chunk of a locked block. `BadChunk`,
     /// `BadArray`, `BadElement` and `Short` as `deref` and `caelt` say. The span stands until a
     /// call makes the chunk's references stale.
+    #[inline(always)]
     pub fn refer(&self, name: Name, refer: Refer) -> Result<Span, Refusal>
         requires { IsLocked self.now name }
         ensures gives { GivesSpan (refer_row name refer) result self.now }
         ensures stands { IfOk result (λ span. IsStanding self.now span × (least refer ≤ span.len)) }
     {
-        match refer {
-            Refer::Deref { c, n } => self.deref(name, c, n),
-            Refer::Caelt { c, i, n } => self.caelt(name, c, i, n),
+        match find(self.blocks.bytes(name), refer) {
+            Ok((at, len)) => Ok(Span {
+                at: self.blocks.place(name) + at as u32,
+                len,
+            }),
+            Err(refusal) => Err(refusal),
         }
     }
 
@@ -198,7 +182,7 @@ impl Kernel {
         ensures calls { Calls (table.lcontract name) (Ok tt) self.old self.new }
         ensures compact { IsCompact (bytes_of self.new.blocks (slot_of name)) }
     {
-        contract(self.blocks.bytes_mut(name));
+        changes::contract(&mut self.blocks, name);
     }
 }
 

@@ -7,12 +7,12 @@
 
 mod access;
 mod array_calls;
-mod asks;
 mod changes;
 mod chunk_calls;
 mod growth;
 mod kernel;
 mod law;
+mod looks;
 mod makes;
 mod obstacle;
 mod span;

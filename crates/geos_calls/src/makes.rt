@@ -49,14 +49,17 @@ fn grow_and_make(
 }
 
 /// Makes a chunk in a block that stays as large as it is.
+// Each arm takes the bytes for itself, as for changes.
 #[inline(always)]
 fn try_make(blocks: &mut Blocks, name: Name, make: Make) -> Result<u16, Obstacle>
     requires { HoldsHeap blocks.old name }
     ensures { Tries (make_edit make) blocks.old blocks.new name result }
 {
-    let block = blocks.bytes_mut(name);
     match make {
-        Make::Lalloc { n } => of_room(lmem_heap::alloc(block, n)),
-        Make::Canew { element_size } => of_room(chunk_array::create(block, element_size)),
+        Make::Lalloc { n } => of_room(lmem_heap::alloc(blocks.bytes_mut(name), n)),
+        Make::Canew { element_size } => of_room(chunk_array::create(
+            blocks.bytes_mut(name),
+            element_size,
+        )),
     }
 }

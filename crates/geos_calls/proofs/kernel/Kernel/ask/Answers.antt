@@ -5,7 +5,7 @@ use Rattle.geos_table.specs.ChunkCalls.{ask_edit, ask_row}
 use Rattle.geos_calls.specs.Edits.{Tells}
 use Rattle.geos_calls.specs.Kernel.{Calls}
 use Rattle.geos_calls.specs.View.{IsLocked}
-use Rattle.geos_calls.proofs.ArrayLooks.{told}
+use Rattle.geos_calls.proofs.Looked.{told}
 use Rattle.geos_calls.proofs.Locks.{with_store}
 use Rattle.geos_calls.proofs.Views.{locked-heap, locked-there}
 use Rattle.geos_calls.proofs.kernel.Kernel.ask.Goals as goal
