@@ -47,6 +47,7 @@ struct Tables {
     into: Table<u16>,
     listed: Table<u16>,
     ends: Table<u16>,
+    heads: Table<u16>,
     ways: Potentials,
     units: Table<u32>,
 }
@@ -57,6 +58,7 @@ impl Tables {
             into: Table::new(alloc, 0)?,
             listed: Table::new(alloc, 0)?,
             ends: Table::new(alloc, 0)?,
+            heads: Table::new(alloc, 0)?,
             ways: Potentials::new(alloc)?,
             units: Table::new(alloc, 0)?,
         })
@@ -81,6 +83,7 @@ fn count_in(
         body,
         known,
         &mut tables.ends,
+        &mut tables.heads,
         &mut tables.ways,
         &mut tables.units,
     );

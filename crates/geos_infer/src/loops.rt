@@ -1,6 +1,7 @@
-//! What a unit of each counter pays for: a LOOP's way back, and the longest way from there to it.
+//! What a unit of each counter pays for: a LOOP's way to its target, and the longest way from there
+//! back to it.
 
-ghost use Rattle.std.specs.Prelude.{◌≡◌, ◌<◌, ◌≤◌, true};
+ghost use Rattle.std.specs.Prelude.{◌≡◌, ◌<◌, ◌≤◌, true, IfSome};
 
 use crate::asked::{asked_over, coefficients_at, owed};
 use crate::body::Body;
@@ -72,11 +73,19 @@ fn most_sweeps(ends: &Table<u16>, whole: Loop) -> u16
     most
 }
 
-/// One more than the steps of the longest way from the pc over this edge, which is not one to the
-/// head; 0 where there is none.
+/// The way of control that a unit of a LOOP's counter pays for: from its target back to it.
+#[derive(Clone, Copy)]
+struct Way {
+    from: u16,
+    last: u16,
+}
+
+/// One more than the steps of the longest way from the pc over this edge, which is not one to where
+/// the ways begin; 0 where there is none.
 fn way_over(
     body: &Body,
     whole: Loop,
+    way: Way,
     known: &Known,
     ways: &Potentials,
     pc: u16,
@@ -87,7 +96,10 @@ fn way_over(
     let Some(edge) = edge_in(body, pc, branch) else {
         return 0;
     };
-    if edge.to <= whole.head || whole.end <= edge.to || ways.at(edge.to).constant == 0 {
+    if edge.to < whole.head || whole.end <= edge.to || edge.to == way.from {
+        return 0;
+    }
+    if ways.at(edge.to).constant == 0 {
         return 0;
     }
     let asked = asked_over(body, known, ways, pc, branch);
@@ -95,11 +107,11 @@ fn way_over(
 }
 
 /// One more than the steps of the longest way from the pc; 0 where there is none.
-fn way_from(body: &Body, whole: Loop, known: &Known, ways: &Potentials, pc: u16) -> u32
+fn way_from(body: &Body, whole: Loop, way: Way, known: &Known, ways: &Potentials, pc: u16) -> u32
     requires { pc < body.now.end }
 {
-    let along = way_over(body, whole, known, ways, pc, false);
-    let branching = way_over(body, whole, known, ways, pc, true);
+    let along = way_over(body, whole, way, known, ways, pc, false);
+    let branching = way_over(body, whole, way, known, ways, pc, true);
     match u32::try_from(along.max(branching)) {
         Ok(way) => way,
         Err(_) => u32::MAX,
@@ -120,43 +132,43 @@ fn set_way(ways: &mut Potentials, pc: u16, way: u32)
     );
 }
 
-/// Finds the ways to the last pc from each place of a loop, from what is known of them; whether
+/// Finds the ways to their last pc from each place of a loop, from what is known of them; whether
 /// some way is longer now.
-fn lengthen(body: &Body, whole: Loop, known: &Known, last: u16, ways: &mut Potentials) -> bool
+fn lengthen(body: &Body, whole: Loop, way: Way, known: &Known, ways: &mut Potentials) -> bool
     requires { whole.end ≤ body.now.end }
 {
     let mut changed = false;
     for pc in (whole.head..whole.end).rev() {
-        let way = if pc == last {
+        let longest = if pc == way.last {
             1
         } else {
-            way_from(body, whole, known, ways, pc)
+            way_from(body, whole, way, known, ways, pc)
         };
-        changed |= way != ways.at(pc).constant;
-        set_way(ways, pc, way);
+        changed |= longest != ways.at(pc).constant;
+        set_way(ways, pc, longest);
     }
     changed
 }
 
-/// What a unit of its counter has to pay for at the LOOP that leads back to the head: that step
-/// and the longest way from the head to it; `None` where such ways have no end.
+/// What a unit of its counter has to pay for at a LOOP: that step and the longest way from its target
+/// to it, 0 where there is no way; `None` where such ways have no end.
 fn longest_way(
     body: &Body,
     whole: Loop,
+    way: Way,
     known: &Known,
-    last: u16,
     most: u16,
     ways: &mut Potentials,
 ) -> Option<u32>
     requires end { whole.end ≤ body.now.end }
-    requires head { whole.head < body.now.end }
+    requires from { way.from < 4096 }
 {
     for pc in whole.head..whole.end {
         set_way(ways, pc, 0);
     }
     for _ in 0..most {
-        if !lengthen(body, whole, known, last, ways) {
-            return Some(ways.at(whole.head).constant.max(1));
+        if !lengthen(body, whole, way, known, ways) {
+            return Some(ways.at(way.from).constant);
         }
     }
     None
@@ -208,18 +220,39 @@ fn raise(body: &Body, pc: u16, way: u32, ways: &mut Potentials) -> bool
     true
 }
 
-/// Finds what counters pay for at each LOOP that leads back to the head of a loop; whether
-/// something is new.
-fn find_at_head(body: &Body, whole: Loop, known: &Known, most: u16, ways: &mut Potentials) -> bool
+/// The way that a LOOP at a pc of a loop is to pay for, where this is its loop: it leads back to the
+/// head, or ahead in the loop and in none within it.
+fn way_of(body: &Body, whole: Loop, pc: u16, heads: &Table<u16>) -> Option<Way>
+    requires there { pc < body.now.end }
     requires end { whole.end ≤ body.now.end }
-    requires head { whole.head < body.now.end }
+    ensures { IfSome result (λ way. way.from < 4096) }
+{
+    let i = body.image.instr(pc);
+    let from = i.target;
+    let leads_on = pc < from && heads.at(pc) == whole.head;
+    if is_loop(i) && from < whole.end && (from == whole.head || leads_on) {
+        Some(Way { from, last: pc })
+    } else {
+        None
+    }
+}
+
+/// Finds what counters pay for at each LOOP of a loop; whether something is new.
+fn find_at_head(
+    body: &Body,
+    whole: Loop,
+    known: &Known,
+    heads: &Table<u16>,
+    most: u16,
+    ways: &mut Potentials,
+) -> bool
+    requires end { whole.end ≤ body.now.end }
 {
     let mut changed = false;
     for pc in whole.head..whole.end {
-        let i = body.image.instr(pc);
-        if is_loop(i) && i.target == whole.head {
-            match longest_way(body, whole, known, pc, most, ways) {
-                Some(way) => changed |= raise(body, pc, way, ways),
+        if let Some(way) = way_of(body, whole, pc, heads) {
+            match longest_way(body, whole, way, known, most, ways) {
+                Some(longest) => changed |= raise(body, pc, longest, ways),
                 None => changed = true,
             }
             for _ in 0..most {
@@ -232,9 +265,30 @@ fn find_at_head(body: &Body, whole: Loop, known: &Known, most: u16, ways: &mut P
     changed
 }
 
+/// Notes, at each LOOP of a routine that leads ahead, the head of the innermost loop that it and its
+/// target lie in.
+fn note_heads(body: &Body, ends: &Table<u16>, heads: &mut Table<u16>) {
+    for head in body.start..body.end {
+        if ends.at(head) != 0 {
+            let whole = loop_at(body, ends, head);
+            for pc in whole.head..whole.end {
+                if body.image.instr(pc).target < whole.end {
+                    heads.set(pc, head);
+                }
+            }
+        }
+    }
+}
+
 /// Finds what counters pay for in a routine, from its last loop to its first, so that a loop comes
 /// behind those in it; whether something is new.
-fn find_in(body: &Body, known: &Known, ends: &Table<u16>, ways: &mut Potentials) -> bool {
+fn find_in(
+    body: &Body,
+    known: &Known,
+    ends: &Table<u16>,
+    heads: &Table<u16>,
+    ways: &mut Potentials,
+) -> bool {
     let mut changed = false;
     for head in (body.start..body.end).rev() {
         let here = Loop {
@@ -245,7 +299,7 @@ fn find_in(body: &Body, known: &Known, ends: &Table<u16>, ways: &mut Potentials)
         if ends.at(head) != 0 {
             let whole = loop_at(body, ends, head);
             let most = most_sweeps(ends, whole);
-            changed |= find_at_head(body, whole, known, most, ways);
+            changed |= find_at_head(body, whole, known, heads, most, ways);
         }
     }
     changed
@@ -267,12 +321,14 @@ pub(crate) fn find_units(
     body: &Body,
     known: &Known,
     ends: &mut Table<u16>,
+    heads: &mut Table<u16>,
     ways: &mut Potentials,
     units: &mut Table<u32>,
 ) {
     note_ends(body, ends);
+    note_heads(body, ends, heads);
     for _ in 0..MOST_ROUNDS {
-        if !find_in(body, known, ends, ways) {
+        if !find_in(body, known, ends, heads, ways) {
             break;
         }
     }
