@@ -1,5 +1,5 @@
 -- What the rules say of the worked examples on arrays, and what the model's runs of them come to.
-use Rattle.std.proofs.Common.{◌≡◌, refl, [], ◌∷◌, ◌++◌, replicate, Some, None}
+use Rattle.std.proofs.Common.{◌≡◌, false, refl, [], ◌∷◌, ◌++◌, replicate, Some, None}
 use Rattle.geos_model.specs.Bytes.{word}
 use Rattle.geos_model.specs.Chunks.{cost}
 use Rattle.geos_model.specs.Arrays.{arr, spelled}

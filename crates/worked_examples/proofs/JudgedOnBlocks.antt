@@ -1,5 +1,5 @@
 -- What the rules say of the worked examples on blocks, chunks and pointers, at each pc.
-use Rattle.std.proofs.Common.{◌≡◌, refl, ℕ, List, [], ◌∷◌, ◌++◌, replicate, Option, Some, None}
+use Rattle.std.proofs.Common.{◌≡◌, true, false, refl, ℕ, List, [], ◌∷◌, ◌++◌, replicate, Option, Some, None}
 use Rattle.geos_opcodes.specs.declared.opcode.Opcode.TheVariants.{Mnew, Mlock, Munlock, Sne, Lsize, Ldb, Stw, Ldxw, Ldcw, Movp, Copy, Plen}
 use Rattle.geos_image.specs.declared.row.Row.{Row}
 use Rattle.geos_image.specs.declared.row.SlotState.{SlotState}
