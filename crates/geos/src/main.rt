@@ -1,16 +1,12 @@
 //! The program `geos`: runs a session on its standard input, or a command on a text or an image in a file.
 #![tactic(auto)]
 
-mod command_line;
 mod commands;
 mod fault;
-mod help;
-mod replace;
 mod requests;
-mod streams;
 
-use command_line::{command, request_of};
 use geos_cli::ScriptFault;
+use geos_shell::{command, request_of};
 use requests::carry_out;
 use std::fmt::Display;
 use std::io::ErrorKind;

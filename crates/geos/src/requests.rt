@@ -1,12 +1,11 @@
 //! What the words on the command line ask for is done.
 
-use crate::command_line::Request;
 use crate::commands::{assemble_bytes, check_bytes, explain_bytes, list_bytes};
 use crate::fault::CheckFault;
-use crate::streams::{StreamFault, print, read, write};
 use geos_asm::AssembleError;
 use geos_cli::{Counted, ScriptFault, run_session};
 use geos_image::ReadError;
+use geos_shell::{Request, StreamFault, print, read, write};
 use geos_verify::Reject;
 use std::io;
 use std::io::BufWriter;

@@ -14,7 +14,7 @@ const MOST_READ: u64 = 1_048_577;
 
 /// Why bytes were not read, or not written.
 #[derive(Debug, Drop, Error)]
-pub(crate) enum StreamFault<'a> {
+pub enum StreamFault<'a> {
     #[error("cannot read {0}")]
     Read(&'a str),
     #[error("cannot write {0}")]
@@ -40,7 +40,7 @@ fn bytes_at(rt: &HostRuntime, path: &str) -> io::Result<Vec<u8>> {
 
 /// The first bytes of the file with the path, at most `MOST_READ`; of the standard input where it is
 /// `-`.
-pub(crate) fn read<'a>(rt: &HostRuntime, path: &'a str) -> Result<Vec<u8>, StreamFault<'a>> {
+pub fn read<'a>(rt: &HostRuntime, path: &'a str) -> Result<Vec<u8>, StreamFault<'a>> {
     match bytes_at(rt, path) {
         Ok(bytes) => Ok(bytes),
         Err(error) if error.kind() == ErrorKind::OutOfMemory => Err(StreamFault::Memory),
@@ -55,7 +55,7 @@ fn put(rt: &HostRuntime, bytes: &[u8]) -> io::Result<()> {
 }
 
 /// Prints the bytes on the standard output.
-pub(crate) fn print<'a>(rt: &HostRuntime, bytes: &[u8]) -> Result<(), StreamFault<'a>> {
+pub fn print<'a>(rt: &HostRuntime, bytes: &[u8]) -> Result<(), StreamFault<'a>> {
     match put(rt, bytes) {
         Ok(()) => Ok(()),
         Err(_) => Err(StreamFault::Write(STANDARD)),
@@ -64,11 +64,7 @@ pub(crate) fn print<'a>(rt: &HostRuntime, bytes: &[u8]) -> Result<(), StreamFaul
 
 /// Puts the bytes into the file with the path, in the place of what it has; prints them where the path
 /// is `-`.
-pub(crate) fn write<'a>(
-    rt: &HostRuntime,
-    path: &'a str,
-    bytes: &[u8],
-) -> Result<(), StreamFault<'a>> {
+pub fn write<'a>(rt: &HostRuntime, path: &'a str, bytes: &[u8]) -> Result<(), StreamFault<'a>> {
     if path == STANDARD {
         return print(rt, bytes);
     }
