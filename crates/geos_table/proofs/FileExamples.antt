@@ -7,10 +7,11 @@ use Rattle.geos_model.specs.Names.{mem, vm}
 use Rattle.geos_model.specs.Bytes.{word, word_bytes}
 use Rattle.geos_model.specs.Chunks.{cost}
 use Rattle.geos_table.specs.Memory.{Memory, is_marked, locks_of, with_locks, size_of, block_of}
-use Rattle.geos_table.specs.Effects.{Nothing, InBlock, OfLock}
+use Rattle.geos_table.specs.Effects.{Nothing, InBlock, OfLock, outcome, effect_of}
 use Rattle.geos_table.specs.Calls.{mnew, unlock, mfree, lalloc, deref, load16, store}
-use Rattle.geos_table.specs.VmCalls.{vnew, vlock, bring, vdirty, vunlock, vfree, vfind, vuid, vgetmap, vsetmap, vupdate}
+use Rattle.geos_table.specs.VmCalls.{vnew, lock_listed, vlock, bring, vdirty, vunlock, free_listed, vfree, vfind, vuid, vgetmap, vsetmap, vupdate}
 use Rattle.geos_table.specs.ItemCalls.{gnew, gfree}
+use Rattle.geos_table.proofs.Laws.{willing}
 use Rattle.geos_table.proofs.Runs.{crowded, failing, start, answer_under, left_under, says, next, stales, listing, bytes_in_file, sized_in_file, filled}
 
 -- a new block, of handle h, with the word w in its chunk 16, which becomes the map block
@@ -89,11 +90,27 @@ pub record Telling : Type 0 where
   pub none_above : says (vfind 2 5) four ≡ Ok 0
   pub other : says (vfind 0 9) four ≡ Ok 4
   pub never : says (vfind 0 6) four ≡ Ok 0
+  pub no_entry : says (vfind 0 0) four ≡ Ok 0
+  pub past : says (vfind 9 5) four ≡ Ok 0
   pub map : says vgetmap (next (vsetmap 4) four) ≡ Ok 4
   pub clear : says vgetmap (next (vsetmap 0) (next (vsetmap 4) four)) ≡ Ok 0
 
 telling_computed : Telling
-telling_computed = record { uid = refl; group_uid = refl; first = refl; above = refl; none_above = refl; other = refl; never = refl; map = refl; clear = refl }
+telling_computed = record { uid = refl; group_uid = refl; first = refl; above = refl; none_above = refl; other = refl; never = refl; no_entry = refl; past = refl; map = refl; clear = refl }
+
+-- below the kernel a group is locked and freed as a block is
+pub record Below : Type 0 where
+  pub lock_group : outcome (effect_of (lock_listed 3) willing four) ≡ (Ok tt, with_locks four (vm 3) 1)
+  pub lock_block : outcome (effect_of (lock_listed 4) willing four) ≡ outcome (effect_of (vlock 4) willing four)
+  pub lock_none : says (lock_listed 5) four ≡ Err BadHandle
+  pub lock_most : answer_under failing (lock_listed 3) (with_locks four (vm 3) 65535) ≡ Err Locked
+  pub lock_disk : answer_under failing (lock_listed 3) four ≡ Err Disk
+  pub free_group : next (free_listed 3) four ≡ next (gfree 3) four
+  pub free_none : says (free_listed 5) four ≡ Err BadHandle
+  pub free_held : says (free_listed 3) (with_locks four (vm 3) 1) ≡ Err Locked
+
+below_computed : Below
+below_computed = record { lock_group = refl; lock_block = refl; lock_none = refl; lock_most = refl; lock_disk = refl; free_group = refl; free_none = refl; free_held = refl }
 
 -- the lowest free handle is given again; blocks and groups share a range, and global memory has
 -- its own

@@ -29,7 +29,7 @@ pub use Rattle.geos_table.proofs.Outcomes.{outcome-kept}
 use Rattle.geos_table.proofs.Outcomes.{locks-rise}
 use Rattle.geos_table.proofs.Laws.{change-shape}
 use Rattle.geos_table.proofs.LegalGiven.{memory-given}
-use Rattle.geos_table.proofs.KeepsFile.{vnew-kept, gnew-kept, vlock-kept, bring-kept, vdirty-kept, vfree-kept, gfree-kept, vsetmap-kept, isetmap-kept, vupdate-kept, vsave-kept, vrevert-kept, on_group-kept, ilock-kept}
+use Rattle.geos_table.proofs.KeepsFile.{vnew-kept, gnew-kept, lock_listed-kept, vlock-kept, bring-kept, vdirty-kept, free_listed-kept, vfree-kept, gfree-kept, vsetmap-kept, isetmap-kept, vupdate-kept, vsave-kept, vrevert-kept, on_group-kept, ilock-kept}
 use Rattle.geos_table.proofs.LegalArrays.{create-kept, append-kept, insert-kept, remove-kept, remove-less, clear-kept, clear-less, resize-kept}
 use Rattle.geos_table.proofs.LegalChunks.{KeepsChunks, NeedsNoMore, bytes_of-legal, with_new-legal, without-legal, with_resized-legal, with_inserted-legal, with_deleted-legal, with_written-legal}
 use Rattle.geos_model.proofs.Needs.{need-without, need-with_deleted, need-with_written}
@@ -136,9 +136,11 @@ rows_keep_memory = record {
   by_store = store-kept;
   by_copy = copy-kept;
   by_vnew = vnew-kept;
+  by_lock_listed = lock_listed-kept;
   by_vlock = vlock-kept;
   by_bring = bring-kept;
   by_vdirty = vdirty-kept;
+  by_free_listed = free_listed-kept;
   by_vfree = vfree-kept;
   by_vfind = λ start uid choice memory legal. outcome-kept (vfind start uid choice memory) (λ r. legal) (λ fine. legal);
   by_vuid = λ h choice memory legal. outcome-kept (vuid h choice memory) (λ r. legal) (λ fine. legal);

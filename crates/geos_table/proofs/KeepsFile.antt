@@ -12,7 +12,7 @@ use Rattle.geos_table.specs.VmFile.{Pair, doubted}
 use Rattle.geos_table.specs.Memory.{Memory, listed_at, with_cur, is_group, with_mark, locks_of, with_locks, lowest_handle}
 use Rattle.geos_table.specs.Effects.{Choice, Call, outcome, most_locks, bringing}
 use Rattle.geos_table.specs.Calls.{locks_full, is_in_use, deref}
-use Rattle.geos_table.specs.VmCalls.{no_listed, names_group, is_reserved, does, new_listed, makes_listed, vnew, vlock, bring, vdirty, without_listed, vfree, vsetmap, written_directory, committed, left_by_commit, Keeper, keep_current, keep_saved, keep_reverted, pair_to_keep, commit, vupdate, vsave, vrevert}
+use Rattle.geos_table.specs.VmCalls.{no_listed, names_group, is_reserved, does, new_listed, makes_listed, vnew, locks_listed, lock_listed, vlock, bring, vdirty, without_listed, frees_listed, free_listed, vfree, vsetmap, written_directory, committed, left_by_commit, Keeper, keep_current, keep_saved, keep_reverted, pair_to_keep, commit, vupdate, vsave, vrevert}
 use Rattle.geos_table.specs.ItemCalls.{no_group, on_group, gnew, gfree, ilock, isetmap}
 use Rattle.geos_table.specs.Legal.{IsLegalListed, IsStored, IsPair, IsMemory}
 use Rattle.geos_table.specs.Keeping.{Keeps}
@@ -43,12 +43,19 @@ gnew-kept = makes-kept [] group_uid 0 (omega arith) (omega arith)
 risen-legal : (memory : Memory) (h : ℕ) → (locks_of memory (vm h) == most_locks) ≡ false → IsMemory memory → IsMemory (with_locks memory (vm h) (locks_of memory (vm h) + 1))
 risen-legal memory h few legal = with_locks-legal memory (vm h) (locks_of memory (vm h) + 1) (locks-rise (locks_of memory (vm h)) few (locks-most memory (vm h) legal)) legal
 
-pub vlock-kept : (h : ℕ) → Keeps (vlock h)
-vlock-kept h choice memory legal =
+-- a lock, with some refusals in front
+locks-kept : (front : List (Bool × Refusal)) (h : ℕ) → Keeps (locks_listed front h)
+locks-kept front h choice memory legal =
     let rest = bringing choice memory h in
-    does-kept memory (no_listed memory h ∷ names_group memory h ∷ locks_full memory (vm h) ∷ rest) (with_locks memory (vm h) (locks_of memory (vm h) + 1)) legal (λ fine.
-    let behind = none-behind (no_listed memory h ∷ names_group memory h ∷ []) (locks_full memory (vm h) ∷ rest) fine in
+    does-kept memory (front ++ (locks_full memory (vm h) ∷ rest)) (with_locks memory (vm h) (locks_of memory (vm h) + 1)) legal (λ fine.
+    let behind = none-behind front (locks_full memory (vm h) ∷ rest) fine in
     risen-legal memory h (none-here (locks_of memory (vm h) == most_locks) refusal.Locked (first_refusal rest) behind).0 legal)
+
+pub lock_listed-kept : (h : ℕ) → Keeps (lock_listed h)
+lock_listed-kept h choice memory legal = locks-kept (no_listed memory h ∷ []) h choice memory legal
+
+pub vlock-kept : (h : ℕ) → Keeps (vlock h)
+vlock-kept h choice memory legal = locks-kept (no_listed memory h ∷ names_group memory h ∷ []) h choice memory legal
 
 pub bring-kept : (h : ℕ) → Keeps (bring h)
 bring-kept h choice memory legal = does-kept memory (no_listed memory h ∷ bringing choice memory h) memory legal (λ fine. legal)
@@ -71,11 +78,18 @@ vdirty-kept h choice memory legal = does-kept memory [] (with_mark memory h true
 without-legal : (memory : Memory) (h : ℕ) → IsMemory memory → IsMemory (without_listed memory h)
 without-legal memory h legal = cur-legal memory (without_block memory.file.cur h) (removed-legal IsLegalListed (λ (l : VmBlock). l.uid) memory.file.cur legal.file.cur h) legal
 
+-- a block or group goes, with some refusals in front
+frees-kept : (front : List (Bool × Refusal)) (h : ℕ) → Keeps (frees_listed front h)
+frees-kept front h choice memory legal = does-kept memory (front ++ (is_in_use memory (vm h) ∷ [])) (without_listed memory h) legal (λ fine. without-legal memory h legal)
+
+pub free_listed-kept : (h : ℕ) → Keeps (free_listed h)
+free_listed-kept h choice memory legal = frees-kept (no_listed memory h ∷ []) h choice memory legal
+
 pub vfree-kept : (h : ℕ) → Keeps (vfree h)
-vfree-kept h choice memory legal = does-kept memory (no_listed memory h ∷ names_group memory h ∷ is_in_use memory (vm h) ∷ []) (without_listed memory h) legal (λ fine. without-legal memory h legal)
+vfree-kept h choice memory legal = frees-kept (no_listed memory h ∷ names_group memory h ∷ []) h choice memory legal
 
 pub gfree-kept : (g : ℕ) → Keeps (gfree g)
-gfree-kept g choice memory legal = does-kept memory (no_group memory g ∷ is_in_use memory (vm g) ∷ []) (without_listed memory g) legal (λ fine. without-legal memory g legal)
+gfree-kept g choice memory legal = frees-kept (no_group memory g ∷ []) g choice memory legal
 
 -- Maps
 

@@ -17,7 +17,7 @@ use Rattle.geos_table.specs.Given.{given_memory}
 use Rattle.geos_table.specs.Effects.{Choice, come_to, outcome, effect_of}
 use Rattle.geos_table.specs.ChunkCalls.{change_edit, make_edit}
 use Rattle.geos_table.specs.VmCalls.{new_listed, bring, without_listed, committed, left_by_commit, keep_current, keep_saved, keep_reverted, pair_to_keep}
-use Rattle.geos_table.specs.Table.{KernelCall, Mnew, Mlock, Mfree, Unlock, Changes, Makes, Store, Copy, Vnew, Vlock, Vdirty, Vfree, Vsetmap, Vupdate, Vsave, Vrevert, Gnew, Gfree, ChangesItem, MakesItem, Ilock, Isetmap, row}
+use Rattle.geos_table.specs.Table.{KernelCall, Mnew, Mlock, Mfree, Unlock, Changes, Makes, Store, Copy, Vnew, LockListed, Vlock, Vdirty, FreeListed, Vfree, Vsetmap, Vupdate, Vsave, Vrevert, Gnew, Gfree, ChangesItem, MakesItem, Ilock, Isetmap, row}
 use Rattle.geos_table.specs.Leaving.{Scope, NoBlock, OneBlock, WholeFile, new_mem, new_vm, scope_of, LeavesOthers, stale_of, counts_of, marks_of, HasCounts, HasMarks, IsAskable, IsLeft, RowsLeave}
 use Rattle.geos_table.proofs.Laws.{entry-other, change-shape}
 use Rattle.geos_table.proofs.Passing.{none-here}
@@ -102,8 +102,10 @@ done-others (Makes name make) choice m = chunks-others m name (make_edit make (c
 done-others (Store ref i bytes) choice m = chunks-others m ref.name _
 done-others (Copy to from n) choice m = chunks-others m to.name _
 done-others (Vnew uid) choice m = listed-others m (new_vm m).h (Some (new_listed uid 1))
+done-others (LockListed h) choice m = locks-others m (vm h) (locks_of m (vm h) + 1)
 done-others (Vlock h) choice m = locks-others m (vm h) (locks_of m (vm h) + 1)
 done-others (Vdirty h) choice m = listed-others m h (option_map (marked_block true) (listed_at m h))
+done-others (FreeListed h) choice m = without-others m h
 done-others (Vfree h) choice m = without-others m h
 done-others (Vsetmap h) choice m = record { blocks = λ k out. refl; listed = λ k out. refl; region = refl }
 done-others Vupdate choice m = commit-others m (pair_to_keep keep_current m)
@@ -191,8 +193,10 @@ counts (Vnew uid) choice m fine = made (passed (row (Vnew uid) choice m).refusal
   where
     made : is_none (lowest_handle m Vm) ≡ false → locks_of (with_listed m (new_vm m).h (Some (new_listed uid 1))) (new_vm m) ≡ 1
     made some = ap (λ e. locks_in (option_map block_in_file e)) (lowest-put m.file.cur.blocks (new_listed uid 1) some)
+counts (LockListed h) choice m fine = locks_of-set m (vm h) (locks_of m (vm h) + 1) (listed-there (listed_at m h) (passed (row (LockListed h) choice m).refusals fine).0)
 counts (Vlock h) choice m fine = locks_of-set m (vm h) (locks_of m (vm h) + 1) (listed-there (listed_at m h) (passed (row (Vlock h) choice m).refusals fine).0)
 counts (Vdirty h) choice m fine = λ name. locks_of-mark m h true name
+counts (FreeListed h) choice m fine = ap (λ e. locks_in (option_map block_in_file e)) (entry-gone m.file.cur.blocks h)
 counts (Vfree h) choice m fine = ap (λ e. locks_in (option_map block_in_file e)) (entry-gone m.file.cur.blocks h)
 counts Vupdate choice m fine = idle-count m (pair_to_keep keep_current m)
 counts Vsave choice m fine = idle-count m (pair_to_keep keep_saved m)
@@ -230,8 +234,10 @@ marks (Makes name make) choice m asked fine = λ k. marks-mapped m (rechunked_bl
 marks (Store ref i bytes) choice m asked fine = λ k. marks-mapped m (rechunked_block _) ref.name k
 marks (Copy to from n) choice m asked fine = λ k. marks-mapped m (rechunked_block _) to.name k
 marks (Vnew uid) choice m asked fine = ap is_marked_in (lowest-put m.file.cur.blocks (new_listed uid 1) (passed (row (Vnew uid) choice m).refusals fine).1.0)
+marks (LockListed h) choice m asked fine = λ k. marks-mapped m (locked_block (locks_of m (vm h) + 1)) (vm h) k
 marks (Vlock h) choice m asked fine = λ k. marks-mapped m (locked_block (locks_of m (vm h) + 1)) (vm h) k
 marks (Vdirty h) choice m asked fine = marked-set m h true asked
+marks (FreeListed h) choice m asked fine = ap is_marked_in (entry-gone m.file.cur.blocks h)
 marks (Vfree h) choice m asked fine = ap is_marked_in (entry-gone m.file.cur.blocks h)
 marks Vupdate choice m asked fine = idle-mark m (pair_to_keep keep_current m)
 marks Vsave choice m asked fine = idle-mark m (pair_to_keep keep_saved m)

@@ -7,8 +7,8 @@ use Rattle.geos_model.specs.Names.{vm}
 use Rattle.geos_table.specs.Directories.{group_uid}
 use Rattle.geos_table.specs.Memory.{Memory, with_cur, is_group, with_mark, locks_of, with_locks}
 use Rattle.geos_table.specs.Effects.{Call, Reference, Staleness, Nothing, InBlock, tells, bringing}
-use Rattle.geos_table.specs.Calls.{locks_full, is_in_use, lalloc, lfree, lrealloc, lins, ldel, deref}
-use Rattle.geos_table.specs.VmCalls.{does, makes_listed, vdirty, vunlock, without_listed}
+use Rattle.geos_table.specs.Calls.{locks_full, lalloc, lfree, lrealloc, lins, ldel, deref}
+use Rattle.geos_table.specs.VmCalls.{does, makes_listed, frees_listed, vdirty, vunlock}
 
 -- no group has this handle
 abbrev pub no_group : Memory → ℕ → Bool × Refusal
@@ -37,7 +37,7 @@ gnew = makes_listed [] group_uid 0
 
 -- frees a group that is not locked
 abbrev pub gfree : ℕ → Call (Unit {0})
-gfree g choice memory = does memory (no_group memory g ∷ is_in_use memory (vm g) ∷ []) (without_listed memory g)
+gfree g choice memory = frees_listed (no_group memory g ∷ []) g choice memory
 
 -- Items
 

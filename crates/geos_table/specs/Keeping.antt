@@ -13,7 +13,7 @@ use Rattle.geos_table.specs.declared.call.Ask.{Ask}
 use Rattle.geos_table.specs.declared.call.Refer.{Refer}
 use Rattle.geos_table.specs.Calls.{mnew, mlock, unlock, mfree, load8, load16, store, copy}
 use Rattle.geos_table.specs.ChunkCalls.{change_row, make_row, ask_row, refer_row}
-use Rattle.geos_table.specs.VmCalls.{vnew, vlock, bring, vdirty, vfree, vfind, vuid, vgetmap, vsetmap, vupdate, vsave, vrevert}
+use Rattle.geos_table.specs.VmCalls.{vnew, lock_listed, vlock, bring, vdirty, free_listed, vfree, vfind, vuid, vgetmap, vsetmap, vupdate, vsave, vrevert}
 use Rattle.geos_table.specs.ItemCalls.{on_group, gnew, gfree, ilock, igetmap, isetmap}
 
 -- whatever is refused from outside, the call leaves legal memory legal, where it succeeds and
@@ -43,9 +43,11 @@ pub record RowsKeepMemory : Type 0 where
   pub by_store : (ref : Reference) (i : ℕ) (ws : List ℕ) → AreBytes ws → Keeps (store ref i ws)
   pub by_copy : (to from : Reference) (n : ℕ) → Keeps (copy to from n)
   pub by_vnew : (uid : ℕ) → uid < 65536 → Keeps (vnew uid)
+  pub by_lock_listed : (h : ℕ) → Keeps (lock_listed h)
   pub by_vlock : (h : ℕ) → Keeps (vlock h)
   pub by_bring : (h : ℕ) → Keeps (bring h)
   pub by_vdirty : (h : ℕ) → Keeps (vdirty h)
+  pub by_free_listed : (h : ℕ) → Keeps (free_listed h)
   pub by_vfree : (h : ℕ) → Keeps (vfree h)
   pub by_vfind : (start uid : ℕ) → Keeps (vfind start uid)
   pub by_vuid : (h : ℕ) → Keeps (vuid h)

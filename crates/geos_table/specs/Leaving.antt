@@ -13,7 +13,7 @@ use Rattle.geos_table.specs.Given.{given_memory}
 use Rattle.geos_table.specs.Effects.{Choice, Staleness, Nothing, InBlock, OfLock, outcome, effect_of}
 use Rattle.geos_table.specs.VmCalls.{bring}
 use Rattle.geos_table.specs.ItemCalls.{in_group}
-use Rattle.geos_table.specs.Table.{KernelCall, Mnew, Mlock, Mfree, Unlock, Changes, Makes, Store, Copy, Vnew, Vlock, Vdirty, Vfree, Vupdate, Vsave, Vrevert, Gnew, Gfree, ChangesItem, MakesItem, Ilock, row}
+use Rattle.geos_table.specs.Table.{KernelCall, Mnew, Mlock, Mfree, Unlock, Changes, Makes, Store, Copy, Vnew, LockListed, Vlock, Vdirty, FreeListed, Vfree, Vupdate, Vsave, Vrevert, Gnew, Gfree, ChangesItem, MakesItem, Ilock, row}
 
 -- Which blocks a call is on
 
@@ -47,8 +47,10 @@ scope_of (Makes name make) memory = OneBlock name
 scope_of (Store ref i bytes) memory = OneBlock ref.name
 scope_of (Copy to from n) memory = OneBlock to.name
 scope_of (Vnew uid) memory = OneBlock (new_vm memory)
+scope_of (LockListed h) memory = OneBlock (vm h)
 scope_of (Vlock h) memory = OneBlock (vm h)
 scope_of (Vdirty h) memory = OneBlock (vm h)
+scope_of (FreeListed h) memory = OneBlock (vm h)
 scope_of (Vfree h) memory = OneBlock (vm h)
 scope_of Vupdate memory = WholeFile
 scope_of Vsave memory = WholeFile
@@ -99,7 +101,9 @@ counts_of (Mlock h) memory = OneCount (mem h) (locks_of memory (mem h) + 1)
 counts_of (Mfree h) memory = OneCount (mem h) 0
 counts_of (Unlock name) memory = OneCount name (locks_of memory name - 1)
 counts_of (Vnew uid) memory = OneCount (new_vm memory) 1
+counts_of (LockListed h) memory = OneCount (vm h) (locks_of memory (vm h) + 1)
 counts_of (Vlock h) memory = OneCount (vm h) (locks_of memory (vm h) + 1)
+counts_of (FreeListed h) memory = OneCount (vm h) 0
 counts_of (Vfree h) memory = OneCount (vm h) 0
 counts_of Vupdate memory = FileUnlocked
 counts_of Vsave memory = FileUnlocked
@@ -112,6 +116,7 @@ counts_of _ memory = SameCounts
 abbrev pub marks_of : KernelCall → Memory → Marks
 marks_of (Vnew uid) memory = OneMark (new_vm memory).h true
 marks_of (Vdirty h) memory = OneMark h true
+marks_of (FreeListed h) memory = OneMark h false
 marks_of (Vfree h) memory = OneMark h false
 marks_of Vupdate memory = NoMarks
 marks_of Vsave memory = NoMarks

@@ -9,7 +9,7 @@ use Rattle.geos_table.specs.declared.call.Refer.{Refer}
 use Rattle.geos_table.specs.Effects.{Reference, Call}
 use Rattle.geos_table.specs.Calls.{mnew, mlock, unlock, mfree, load8, load16, store, copy}
 use Rattle.geos_table.specs.ChunkCalls.{change_row, make_row, ask_row, refer_row}
-use Rattle.geos_table.specs.VmCalls.{vnew, vlock, bring, vdirty, vfree, vfind, vuid, vgetmap, vsetmap, vupdate, vsave, vrevert}
+use Rattle.geos_table.specs.VmCalls.{vnew, lock_listed, vlock, bring, vdirty, free_listed, vfree, vfind, vuid, vgetmap, vsetmap, vupdate, vsave, vrevert}
 use Rattle.geos_table.specs.ItemCalls.{on_group, gnew, gfree, ilock, igetmap, isetmap}
 
 -- a call of the kernel with its operands: on blocks of global memory; on the chunks of a block;
@@ -29,9 +29,11 @@ pub data KernelCall : Type 0 where
   Store : Reference → ℕ → List ℕ → KernelCall
   Copy : Reference → Reference → ℕ → KernelCall
   Vnew : ℕ → KernelCall
+  LockListed : ℕ → KernelCall
   Vlock : ℕ → KernelCall
   Bring : ℕ → KernelCall
   Vdirty : ℕ → KernelCall
+  FreeListed : ℕ → KernelCall
   Vfree : ℕ → KernelCall
   Vfind : ℕ → ℕ → KernelCall
   Vuid : ℕ → KernelCall
@@ -69,9 +71,11 @@ row (Load16 ref i) = unanswered (load16 ref i)
 row (Store ref i bytes) = store ref i bytes
 row (Copy to from n) = copy to from n
 row (Vnew uid) = unanswered (vnew uid)
+row (LockListed h) = lock_listed h
 row (Vlock h) = vlock h
 row (Bring h) = bring h
 row (Vdirty h) = vdirty h
+row (FreeListed h) = free_listed h
 row (Vfree h) = vfree h
 row (Vfind start uid) = unanswered (vfind start uid)
 row (Vuid h) = unanswered (vuid h)

@@ -1,6 +1,6 @@
 -- The rows of the calls on blocks of the VM file, and on the file, in the table of the kernel's
 -- calls.
-use Rattle.std.specs.Prelude.{ℕ, ◌+◌, suc, Bool, true, ◌&&◌, not, nat_lt, ◌==◌, if◌then◌else◌, List, [], ◌∷◌, ◌++◌, Option, Some, None, is_none, unwrap_or}
+use Rattle.std.specs.Prelude.{ℕ, ◌+◌, suc, Bool, true, false, ◌&&◌, not, nat_lt, ◌==◌, if◌then◌else◌, List, [], ◌∷◌, ◌++◌, drop, position, Option, Some, None, is_none, unwrap_or, option_map}
 use Rattle.geos_model.specs.declared.name.Owner.TheVariants.{Vm}
 use Rattle.geos_model.specs.declared.refusal.Refusal.{Refusal}
 use Rattle.geos_model.specs.declared.refusal.Refusal.TheVariants as refusal
@@ -50,10 +50,17 @@ makes_listed front uid n choice memory =
 abbrev pub vnew : ℕ → Call ℕ
 vnew uid = makes_listed (is_reserved uid ∷ []) uid 1
 
--- locks a block once more, which brings it into memory
+-- locks a block or group once more, which brings it into memory, with these refusals in front
+abbrev pub locks_listed : List (Bool × Refusal) → ℕ → Call (Unit {0})
+locks_listed front h choice memory = does memory (front ++ (locks_full memory (vm h) ∷ bringing choice memory h)) (with_locks memory (vm h) (locks_of memory (vm h) + 1))
+
+-- locks a block or group: below the kernel, where a group is a block as any other
+abbrev pub lock_listed : ℕ → Call (Unit {0})
+lock_listed h choice memory = locks_listed (no_listed memory h ∷ []) h choice memory
+
+-- locks a block that is no group
 abbrev pub vlock : ℕ → Call (Unit {0})
-vlock h choice memory =
-    does memory (no_listed memory h ∷ names_group memory h ∷ locks_full memory (vm h) ∷ bringing choice memory h) (with_locks memory (vm h) (locks_of memory (vm h) + 1))
+vlock h choice memory = locks_listed (no_listed memory h ∷ names_group memory h ∷ []) h choice memory
 
 -- brings a block or a group into memory, which memory does not tell: part of other calls
 abbrev pub bring : ℕ → Call (Unit {0})
@@ -71,22 +78,33 @@ vunlock h = unlock (vm h)
 abbrev pub without_listed : Memory → ℕ → Memory
 without_listed memory h = with_cur memory (without_block memory.file.cur h)
 
--- frees a block that is not locked
+-- frees a block or group that is not locked, with these refusals in front
+abbrev pub frees_listed : List (Bool × Refusal) → ℕ → Call (Unit {0})
+frees_listed front h choice memory = does memory (front ++ (is_in_use memory (vm h) ∷ [])) (without_listed memory h)
+
+-- frees a block or group: below the kernel, where a group is a block as any other
+abbrev pub free_listed : ℕ → Call (Unit {0})
+free_listed h choice memory = frees_listed (no_listed memory h ∷ []) h choice memory
+
+-- frees a block that is no group
 abbrev pub vfree : ℕ → Call (Unit {0})
-vfree h choice memory = does memory (no_listed memory h ∷ names_group memory h ∷ is_in_use memory (vm h) ∷ []) (without_listed memory h)
+vfree h choice memory = frees_listed (no_listed memory h ∷ names_group memory h ∷ []) h choice memory
 
 -- User IDs and the map block
 
--- the first handle above `start` of a block with this user ID, or 0, in entries of which the
--- first has the handle h
-abbrev pub found_from : ℕ → ℕ → ℕ → List (Option VmBlock) → ℕ
-found_from start uid h [] = 0
-found_from start uid h (None ∷ entries) = found_from start uid (suc h) entries
-found_from start uid h (Some listed ∷ entries) = if nat_lt start h && listed.uid == uid then h else found_from start uid (suc h) entries
+-- a block is listed, and has this user ID
+abbrev pub has_uid : ℕ → Option VmBlock → Bool
+has_uid uid None = false
+has_uid uid (Some listed) = listed.uid == uid
+
+-- the handle of the first such entry behind that of `start`, of entries of which the first has
+-- handle 1
+abbrev pub found_above : ℕ → ℕ → List (Option VmBlock) → Option ℕ
+found_above start uid entries = option_map (λ i. start + suc i) (position (has_uid uid) (drop start entries))
 
 -- tells the lowest handle above one of a block with this user ID, or 0
 abbrev pub vfind : ℕ → ℕ → Call ℕ
-vfind start uid choice memory = record (tells memory (found_from start uid 1 memory.file.cur.blocks)) { refusals = is_reserved uid ∷ [] }
+vfind start uid choice memory = record (tells memory (unwrap_or (found_above start uid memory.file.cur.blocks) 0)) { refusals = is_reserved uid ∷ [] }
 
 -- tells the user ID of a block or group
 abbrev pub vuid : ℕ → Call ℕ
