@@ -1,6 +1,8 @@
 -- What each row of the table leaves.
-use Rattle.std.proofs.Common.{◌≡◌, ℕ, suc, ◌+◌, ◌-◌, Bool, true, false, ◌==◌, if◌then◌else◌, List, [], ◌∷◌, Option, Some, None, refl, sym, ap, ◌∙◌, subst, inl, inr, arith}
-use Rattle.std.specs.Prelude.{is_none, option_map, unwrap_or, position, not}
+use Rattle.std.proofs.Common.{◌≡◌, ℕ, suc, ◌+◌, ◌-◌, Bool, true, false, ◌==◌, if◌then◌else◌, List, [], ◌∷◌, Option, Some, None, ◌⊎◌, refl, sym, ap, ◌∙◌, subst, inl, inr, arith}
+use Rattle.std.specs.Prelude.{is_none, option_map, unwrap_or, position, not, IsSomeAnd}
+use Rattle.std.proofs.lemmas.Bool.{ne_eqb}
+use Rattle.std.proofs.lemmas.Option.{none-some}
 use Rattle.std.proofs.lemmas.List.{get_or-set_same}
 use Rattle.std.proofs.lemmas.List.Quantifiers.{position-Some}
 use Rattle.geos_model.specs.declared.name.Name.{Name}
@@ -11,14 +13,14 @@ use Rattle.geos_model.specs.declared.refusal.Refusal.TheVariants as refusal
 use Rattle.geos_model.specs.Names.{named, mem, vm}
 use Rattle.geos_model.specs.Refusals.{first_refusal}
 use Rattle.geos_table.specs.Directories.{VmBlock, KeptBlock, group_uid, uid_in, is_marked_in, marked_block, idle_block}
-use Rattle.geos_table.specs.VmFile.{Pair, doubted}
+use Rattle.geos_table.specs.VmFile.{Pair}
 use Rattle.geos_table.specs.Memory.{Block, Memory, at_handle, with_entry_at, lowest_of, new_heap, listed_at, with_listed, with_mark, is_marked, with_owned_block, block_of, with_block, locks_in, locks_of, lowest_handle, locked_block, rechunked_block, with_locks, with_chunks, chunks_at}
 use Rattle.geos_table.specs.Given.{given_memory}
 use Rattle.geos_table.specs.Effects.{Choice, come_to, outcome, effect_of}
 use Rattle.geos_table.specs.ChunkCalls.{change_edit, make_edit}
-use Rattle.geos_table.specs.VmCalls.{new_listed, bring, without_listed, committed, left_by_commit, keep_current, keep_saved, keep_reverted, pair_to_keep}
+use Rattle.geos_table.specs.VmCalls.{Keeper, new_listed, bring, without_listed, committed, in_doubt, left_by_commit, keep_current, keep_saved, keep_reverted, pair_to_keep}
 use Rattle.geos_table.specs.Table.{KernelCall, Mnew, Mlock, Mfree, Unlock, Changes, Makes, Store, Copy, Vnew, LockListed, Vlock, Vdirty, FreeListed, Vfree, Vsetmap, Vupdate, Vsave, Vrevert, Gnew, Gfree, ChangesItem, MakesItem, Ilock, Isetmap, row}
-use Rattle.geos_table.specs.Leaving.{Scope, NoBlock, OneBlock, WholeFile, new_mem, new_vm, scope_of, LeavesOthers, stale_of, counts_of, marks_of, HasCounts, HasMarks, IsAskable, IsLeft, RowsLeave}
+use Rattle.geos_table.specs.Leaving.{Scope, NoBlock, OneBlock, WholeFile, new_mem, new_vm, scope_of, LeavesOthers, stale_of, counts_of, marks_of, HasCounts, HasMarks, NoneLocked, IsAskable, keeper_of, MapsBlock, MapsItem, LeavesFile, SameFile, IsLeft, RowsLeave}
 use Rattle.geos_table.proofs.Laws.{entry-other, change-shape}
 use Rattle.geos_table.proofs.Passing.{none-here}
 use Rattle.geos_table.proofs.HandleLists.{entry-each}
@@ -27,21 +29,39 @@ use Rattle.geos_table.proofs.NamedBlocks.{entry-gone, block_in_file, block_of-ma
 
 -- What refusals leave
 
-commit-left : (choice : Choice) (memory : Memory) (pair : Pair) (why : Refusal) → IsLeft why memory (left_by_commit choice memory pair why)
-commit-left choice memory pair refusal.Disk = by choice.unsure
+-- of a commit that keeps a pair
+commit-left : (call : KernelCall) (keeper : Keeper) → keeper_of call ≡ Some keeper → (choice : Choice) (memory : Memory) (why : Refusal)
+    → IsLeft call choice why memory (left_by_commit choice memory (pair_to_keep keeper memory) why)
+commit-left call keeper is choice memory refusal.Disk = by choice.unsure refl
   where
-    by : (unsure : Bool) → IsLeft refusal.Disk memory (if unsure then record memory { file = record memory.file { kept = doubted memory.file.kept pair } } else memory)
-    by true = inr (refl, (doubted memory.file.kept pair, refl))
-    by false = inl refl
-commit-left choice memory pair why = inl refl
+    new : Memory
+    new = in_doubt memory (pair_to_keep keeper memory)
 
-refused : (call : KernelCall) (choice : Choice) (memory : Memory) (why : Refusal) → IsLeft why memory ((row call choice memory).left why)
+    doubt : IsSomeAnd (keeper_of call) (λ k. new ≡ in_doubt memory (pair_to_keep k memory))
+    doubt = subst (λ o. IsSomeAnd o (λ k. new ≡ in_doubt memory (pair_to_keep k memory))) (sym is) refl
+
+    by : (unsure : Bool) → choice.unsure ≡ unsure → IsLeft call choice refusal.Disk memory (if unsure then new else memory)
+    by true late = inr (refl, late, doubt)
+    by false late = inl refl
+commit-left call keeper is choice memory why = inl refl
+
+refused : (call : KernelCall) (choice : Choice) (memory : Memory) (why : Refusal) → IsLeft call choice why memory ((row call choice memory).left why)
 refused (Changes name change) choice memory why = inl ((change-shape name change memory choice).2 why)
 refused (ChangesItem g change) choice memory why = inl ((change-shape (vm g) change memory choice).2 why)
-refused Vupdate choice memory why = commit-left choice memory (pair_to_keep keep_current memory) why
-refused Vsave choice memory why = commit-left choice memory (pair_to_keep keep_saved memory) why
-refused Vrevert choice memory why = commit-left choice memory (pair_to_keep keep_reverted memory) why
+refused Vupdate choice memory why = commit-left Vupdate keep_current refl choice memory why
+refused Vsave choice memory why = commit-left Vsave keep_saved refl choice memory why
+refused Vrevert choice memory why = commit-left Vrevert keep_reverted refl choice memory why
 refused call choice memory why = inl refl
+
+-- that is memory as it was, or memory in doubt of a commit's pair
+left-as : (call : KernelCall) (choice : Choice) (memory : Memory) (why : Refusal) (new : Memory) → IsLeft call choice why memory new
+    → (new ≡ memory) ⊎ ((keeper : Keeper) × (keeper_of call ≡ Some keeper) × (new ≡ in_doubt memory (pair_to_keep keeper memory)))
+left-as call choice memory why new (inl same) = inl same
+left-as call choice memory why new (inr (device, late, is)) = inr (by (keeper_of call) is)
+  where
+    by : (o : Option Keeper) → IsSomeAnd o (λ k. new ≡ in_doubt memory (pair_to_keep k memory)) → (keeper : Keeper) × (o ≡ Some keeper) × (new ≡ in_doubt memory (pair_to_keep keeper memory))
+    by None h = absurd h
+    by (Some keeper) h = (keeper, refl, h)
 
 -- What is made stale
 
@@ -120,16 +140,109 @@ done-others (Ilock g i n) choice m = locks-others m (vm g) (locks_of m (vm g) + 
 done-others (Isetmap g i) choice m = record { blocks = λ k out. refl; listed = λ k out. refl; region = refl }
 done-others call choice m = same-others NoBlock m
 
-left-others : (scope : Scope) (why : Refusal) (old new : Memory) → IsLeft why old new → LeavesOthers scope old new
-left-others scope why old new (inl same) = subst (LeavesOthers scope old) (sym same) (same-others scope old)
-left-others scope why old new (inr (device, (kept, is))) = subst (LeavesOthers scope old) (sym is) (record { blocks = λ h out. refl; listed = λ h out. refl; region = refl })
+left-others : (call : KernelCall) (choice : Choice) (why : Refusal) (old new : Memory) → IsLeft call choice why old new → LeavesOthers (scope_of call old) old new
+left-others call choice why old new is = elim (left-as call choice old why new is) [
+  | inl same ↦ subst (LeavesOthers (scope_of call old) old) (sym same) (same-others (scope_of call old) old)
+  | inr (keeper, of, doubt) ↦ subst (LeavesOthers (scope_of call old) old) (sym doubt) (record { blocks = λ h out. refl; listed = λ h out. refl; region = refl })
+]
 
 others : (call : KernelCall) (choice : Choice) (memory : Memory) → LeavesOthers (scope_of call memory) memory (outcome (row call choice memory)).1
 others call choice m = by (first_refusal (row call choice m).refusals)
   where
     by : (o : Option Refusal) → LeavesOthers (scope_of call m) m (come_to o (row call choice m).left (row call choice m).answer (row call choice m).after).1
     by None = done-others call choice m
-    by (Some why) = left-others (scope_of call m) why m ((row call choice m).left why) (refused call choice m why)
+    by (Some why) = left-others call choice why m ((row call choice m).left why) (refused call choice m why)
+
+-- What a call leaves of the file beside its blocks
+
+-- all of it
+same-leaves : (call : KernelCall) (old new : Memory) → SameFile old new → LeavesFile call old new
+same-leaves call old new same = record {
+  map_block = λ no. same.map_block;
+  map_group = λ no. same.map_group;
+  map_item = λ no. same.map_item;
+  saved = λ no. same.saved;
+  kept = λ no. same.kept;
+  area = same.area;
+}
+
+same-file : (m : Memory) → SameFile m m
+same-file m = record { map_block = refl; map_group = refl; map_item = refl; saved = refl; kept = refl; area = refl }
+
+owned-file : (m : Memory) (owner : Owner) (h : ℕ) (block : Option Block) → SameFile m (with_owned_block m owner h block)
+owned-file m Mem h block = record { map_block = refl; map_group = refl; map_item = refl; saved = refl; kept = refl; area = refl }
+owned-file m Vm h block = record { map_block = refl; map_group = refl; map_item = refl; saved = refl; kept = refl; area = refl }
+
+block-file : (m : Memory) (name : Name) (block : Option Block) → SameFile m (with_block m name block)
+block-file m name block = owned-file m name.owner name.h block
+
+chunks-file : (m : Memory) (name : Name) (chunks : List (Option (List ℕ))) → SameFile m (with_chunks m name chunks)
+chunks-file m name chunks = block-file m name (option_map (rechunked_block chunks) (block_of m name))
+
+locks-file : (m : Memory) (name : Name) (n : ℕ) → SameFile m (with_locks m name n)
+locks-file m name n = block-file m name (option_map (locked_block n) (block_of m name))
+
+item-file : (m : Memory) (g : ℕ) (chunks : List (Option (List ℕ))) → SameFile m (with_mark (with_chunks m (vm g) chunks) g true)
+item-file m g chunks = record { map_block = refl; map_group = refl; map_item = refl; saved = refl; kept = refl; area = refl }
+
+-- a handle that does not go stays mapped
+stays-mapped : (n h k : ℕ) → (n ≡ h → ⊥) → (if n == h then 0 else k) ≡ k
+stays-mapped n h k other = rw (ne_eqb n h other) refl
+
+freed-file : (call : KernelCall) (m : Memory) (h : ℕ) → ((MapsBlock call m → ⊥) → m.file.cur.map_block ≡ h → ⊥) → ((MapsItem call m → ⊥) → m.file.cur.map_group ≡ h → ⊥)
+    → LeavesFile call m (without_listed m h)
+freed-file call m h block item = record {
+  map_block = λ no. stays-mapped m.file.cur.map_block h m.file.cur.map_block (block no);
+  map_group = λ no. stays-mapped m.file.cur.map_group h m.file.cur.map_group (item no);
+  map_item = λ no. stays-mapped m.file.cur.map_group h m.file.cur.map_item (item no);
+  saved = λ no. refl;
+  kept = λ no. refl;
+  area = refl;
+}
+
+no-keeper : {keeper : Keeper} {X : Type 0} → Some keeper ≡ None → X
+no-keeper {keeper} h = absurd (none-some keeper (sym h))
+
+done-file : (call : KernelCall) (choice : Choice) (memory : Memory) → LeavesFile call memory (row call choice memory).after
+done-file (Unlock name) choice m = same-leaves (Unlock name) m (with_locks m name (locks_of m name - 1)) (locks-file m name (locks_of m name - 1))
+done-file (Changes name change) choice m =
+    same-leaves (Changes name change) m (row (Changes name change) choice m).after
+    (subst (SameFile m) (sym (change-shape name change m choice).0) (chunks-file m name (change_edit change (chunks_at m name)).chunks))
+done-file (Makes name make) choice m = same-leaves (Makes name make) m _ (chunks-file m name (make_edit make (chunks_at m name)).chunks)
+done-file (Store ref i bytes) choice m = same-leaves (Store ref i bytes) m _ (chunks-file m ref.name _)
+done-file (Copy to from n) choice m = same-leaves (Copy to from n) m _ (chunks-file m to.name _)
+done-file (FreeListed h) choice m = freed-file (FreeListed h) m h (λ no. no) (λ no. no)
+done-file (Vfree h) choice m = freed-file (Vfree h) m h (λ no. no) (λ no. no)
+done-file (Gfree g) choice m = freed-file (Gfree g) m g (λ no. no) (λ no. no)
+done-file (Vsetmap h) choice m = record { map_block = λ no. absurd (no tt); map_group = λ no. refl; map_item = λ no. refl; saved = λ no. refl; kept = λ no. refl; area = refl }
+done-file (Isetmap g i) choice m = record { map_block = λ no. refl; map_group = λ no. absurd (no tt); map_item = λ no. absurd (no tt); saved = λ no. refl; kept = λ no. refl; area = refl }
+done-file Vupdate choice m = record { map_block = λ no. refl; map_group = λ no. refl; map_item = λ no. refl; saved = λ no. refl; kept = no-keeper; area = refl }
+done-file Vsave choice m = record { map_block = λ no. refl; map_group = λ no. refl; map_item = λ no. refl; saved = λ no. absurd (no tt); kept = no-keeper; area = refl }
+done-file Vrevert choice m = record { map_block = λ no. absurd (no tt); map_group = λ no. absurd (no tt); map_item = λ no. absurd (no tt); saved = λ no. refl; kept = no-keeper; area = refl }
+done-file (ChangesItem g change) choice m =
+    same-leaves (ChangesItem g change) m (row (ChangesItem g change) choice m).after
+    (subst (λ n. SameFile m (with_mark n g true)) (sym (change-shape (vm g) change m choice).0) (item-file m g (change_edit change (chunks_at m (vm g))).chunks))
+done-file call choice m = record { map_block = λ no. refl; map_group = λ no. refl; map_item = λ no. refl; saved = λ no. refl; kept = λ no. refl; area = refl }
+
+left-file : (call : KernelCall) (choice : Choice) (why : Refusal) (old new : Memory) → IsLeft call choice why old new → LeavesFile call old new
+left-file call choice why old new is = elim (left-as call choice old why new is) [
+  | inl same ↦ subst (LeavesFile call old) (sym same) (same-leaves call old old (same-file old))
+  | inr (keeper, of, doubt) ↦ subst (LeavesFile call old) (sym doubt) (record {
+    map_block = λ no. refl;
+    map_group = λ no. refl;
+    map_item = λ no. refl;
+    saved = λ no. refl;
+    kept = λ none. no-keeper (sym of ∙ none);
+    area = refl;
+  })
+]
+
+file : (call : KernelCall) (choice : Choice) (memory : Memory) → LeavesFile call memory (outcome (row call choice memory)).1
+file call choice m = by (first_refusal (row call choice m).refusals)
+  where
+    by : (o : Option Refusal) → LeavesFile call m (come_to o (row call choice m).left (row call choice m).answer (row call choice m).after).1
+    by None = done-file call choice m
+    by (Some why) = left-file call choice why m ((row call choice m).left why) (refused call choice m why)
 
 -- Counts
 
@@ -169,6 +282,14 @@ idle-count m pair h = ap (λ e. locks_in (option_map block_in_file e)) (entry-ea
     idle None = refl
     idle (Some kept) = refl
 
+-- a commit leaves the counts of a file of which no block is locked
+commit-counts : (m : Memory) (pair : Pair) → NoneLocked m → (name : Name) → locks_of (committed m pair) name ≡ locks_of m name
+commit-counts m pair none name = by name.owner name.h
+  where
+    by : (owner : Owner) (h : ℕ) → locks_of (committed m pair) (named owner h) ≡ locks_of m (named owner h)
+    by Mem h = refl
+    by Vm h = idle-count m pair h ∙ sym (none h)
+
 -- no test of these holds
 abbrev AllFail : List (Bool × Refusal) → Type 0
 AllFail [] = Unit {0}
@@ -179,38 +300,38 @@ passed : (tests : List (Bool × Refusal)) → first_refusal tests ≡ None → A
 passed [] fine = tt
 passed (test ∷ tests) fine = let here = none-here test.0 test.1 (first_refusal tests) fine in (here.0, passed tests here.1)
 
-counts : (call : KernelCall) (choice : Choice) (memory : Memory) → first_refusal (row call choice memory).refusals ≡ None → HasCounts (counts_of call memory) memory (row call choice memory).after
-counts Mnew choice m fine = ap locks_in (lowest-put m.blocks (record { locks = 1; heap = new_heap }) (passed (row Mnew choice m).refusals fine).0)
-counts (Mlock h) choice m fine = locks_of-set m (mem h) (locks_of m (mem h) + 1) (passed (row (Mlock h) choice m).refusals fine).0
-counts (Mfree h) choice m fine = ap locks_in (block_of-gone m (mem h))
-counts (Unlock name) choice m fine = unlocked m name
-counts (Changes name change) choice m fine = λ other.
+counts : (call : KernelCall) (choice : Choice) (memory : Memory) → IsAskable call memory → first_refusal (row call choice memory).refusals ≡ None → HasCounts (counts_of call memory) memory (row call choice memory).after
+counts Mnew choice m asked fine = ap locks_in (lowest-put m.blocks (record { locks = 1; heap = new_heap }) (passed (row Mnew choice m).refusals fine).0)
+counts (Mlock h) choice m asked fine = locks_of-set m (mem h) (locks_of m (mem h) + 1) (passed (row (Mlock h) choice m).refusals fine).0
+counts (Mfree h) choice m asked fine = ap locks_in (block_of-gone m (mem h))
+counts (Unlock name) choice m asked fine = unlocked m name
+counts (Changes name change) choice m asked fine = λ other.
     ap (λ n. locks_of n other) (change-shape name change m choice).0 ∙ locks_of-chunks m name other (change_edit change (chunks_at m name)).chunks
-counts (Makes name make) choice m fine = λ other. locks_of-chunks m name other (make_edit make (chunks_at m name)).chunks
-counts (Store ref i bytes) choice m fine = λ other. locks_of-chunks m ref.name other _
-counts (Copy to from n) choice m fine = λ other. locks_of-chunks m to.name other _
-counts (Vnew uid) choice m fine = made (passed (row (Vnew uid) choice m).refusals fine).1.0
+counts (Makes name make) choice m asked fine = λ other. locks_of-chunks m name other (make_edit make (chunks_at m name)).chunks
+counts (Store ref i bytes) choice m asked fine = λ other. locks_of-chunks m ref.name other _
+counts (Copy to from n) choice m asked fine = λ other. locks_of-chunks m to.name other _
+counts (Vnew uid) choice m asked fine = made (passed (row (Vnew uid) choice m).refusals fine).1.0
   where
     made : is_none (lowest_handle m Vm) ≡ false → locks_of (with_listed m (new_vm m).h (Some (new_listed uid 1))) (new_vm m) ≡ 1
     made some = ap (λ e. locks_in (option_map block_in_file e)) (lowest-put m.file.cur.blocks (new_listed uid 1) some)
-counts (LockListed h) choice m fine = locks_of-set m (vm h) (locks_of m (vm h) + 1) (listed-there (listed_at m h) (passed (row (LockListed h) choice m).refusals fine).0)
-counts (Vlock h) choice m fine = locks_of-set m (vm h) (locks_of m (vm h) + 1) (listed-there (listed_at m h) (passed (row (Vlock h) choice m).refusals fine).0)
-counts (Vdirty h) choice m fine = λ name. locks_of-mark m h true name
-counts (FreeListed h) choice m fine = ap (λ e. locks_in (option_map block_in_file e)) (entry-gone m.file.cur.blocks h)
-counts (Vfree h) choice m fine = ap (λ e. locks_in (option_map block_in_file e)) (entry-gone m.file.cur.blocks h)
-counts Vupdate choice m fine = idle-count m (pair_to_keep keep_current m)
-counts Vsave choice m fine = idle-count m (pair_to_keep keep_saved m)
-counts Vrevert choice m fine = idle-count m (pair_to_keep keep_reverted m)
-counts Gnew choice m fine = made (passed (row Gnew choice m).refusals fine).0
+counts (LockListed h) choice m asked fine = locks_of-set m (vm h) (locks_of m (vm h) + 1) (listed-there (listed_at m h) (passed (row (LockListed h) choice m).refusals fine).0)
+counts (Vlock h) choice m asked fine = locks_of-set m (vm h) (locks_of m (vm h) + 1) (listed-there (listed_at m h) (passed (row (Vlock h) choice m).refusals fine).0)
+counts (Vdirty h) choice m asked fine = λ name. locks_of-mark m h true name
+counts (FreeListed h) choice m asked fine = ap (λ e. locks_in (option_map block_in_file e)) (entry-gone m.file.cur.blocks h)
+counts (Vfree h) choice m asked fine = ap (λ e. locks_in (option_map block_in_file e)) (entry-gone m.file.cur.blocks h)
+counts Vupdate choice m asked fine = commit-counts m (pair_to_keep keep_current m) asked
+counts Vsave choice m asked fine = commit-counts m (pair_to_keep keep_saved m) asked
+counts Vrevert choice m asked fine = commit-counts m (pair_to_keep keep_reverted m) asked
+counts Gnew choice m asked fine = made (passed (row Gnew choice m).refusals fine).0
   where
     made : is_none (lowest_handle m Vm) ≡ false → locks_of (with_listed m (new_vm m).h (Some (new_listed group_uid 0))) (new_vm m) ≡ 0
     made some = ap (λ e. locks_in (option_map block_in_file e)) (lowest-put m.file.cur.blocks (new_listed group_uid 0) some)
-counts (Gfree g) choice m fine = ap (λ e. locks_in (option_map block_in_file e)) (entry-gone m.file.cur.blocks g)
-counts (ChangesItem g change) choice m fine = λ name.
+counts (Gfree g) choice m asked fine = ap (λ e. locks_in (option_map block_in_file e)) (entry-gone m.file.cur.blocks g)
+counts (ChangesItem g change) choice m asked fine = λ name.
     ap (λ n. locks_of (with_mark n g true) name) (change-shape (vm g) change m choice).0 ∙ item-counts m g (change_edit change (chunks_at m (vm g))).chunks name
-counts (MakesItem g make) choice m fine = λ name. item-counts m g (make_edit make (chunks_at m (vm g))).chunks name
-counts (Ilock g i n) choice m fine = locks_of-set m (vm g) (locks_of m (vm g) + 1) (listed-there (listed_at m g) (group-listed (listed_at m g) (passed (row (Ilock g i n) choice m).refusals fine).0))
-counts call choice m fine = λ name. refl
+counts (MakesItem g make) choice m asked fine = λ name. item-counts m g (make_edit make (chunks_at m (vm g))).chunks name
+counts (Ilock g i n) choice m asked fine = locks_of-set m (vm g) (locks_of m (vm g) + 1) (listed-there (listed_at m g) (group-listed (listed_at m g) (passed (row (Ilock g i n) choice m).refusals fine).0))
+counts call choice m asked fine = λ name. refl
 
 -- Marks
 
@@ -265,10 +386,12 @@ rows_leave = record {
   refused = refused;
   stale = stale;
   others = others;
+  file = file;
   counts = counts;
   marks = marks;
   brought = brought;
   given_counts = locks_of-given;
   given_marks = is_marked-given;
   given_locked = block_of-given;
+  given_file = λ given memory. record { map_block = refl; map_group = refl; map_item = refl; saved = refl; kept = refl; area = refl };
 }

@@ -1,19 +1,18 @@
--- What each row of the table leaves: which blocks it is on, what it makes stale, and what
--- becomes of counts and marks.
-use Rattle.std.specs.Prelude.{◌≡◌, ◌⊎◌, ℕ, ◌+◌, ◌-◌, ◌<◌, Bool, true, false, List, [], Option, None, unwrap_or, is_none}
+-- What each row of the table leaves: which blocks it is on, what it makes stale, what becomes of
+-- counts and marks, and what of the VM file beside its blocks.
+use Rattle.std.specs.Prelude.{◌≡◌, ◌⊎◌, ℕ, ◌+◌, ◌-◌, ◌<◌, Bool, true, false, List, [], Option, Some, None, unwrap_or, is_none, IsSomeAnd}
 use Rattle.geos_model.specs.declared.name.Name.{Name}
 use Rattle.geos_model.specs.declared.name.Owner.TheVariants.{Mem, Vm}
 use Rattle.geos_model.specs.declared.refusal.Refusal.{Refusal}
 use Rattle.geos_model.specs.declared.refusal.Refusal.TheVariants.{Disk}
 use Rattle.geos_model.specs.Names.{mem, vm}
 use Rattle.geos_model.specs.Refusals.{first_refusal}
-use Rattle.geos_table.specs.VmFile.{Kept}
 use Rattle.geos_table.specs.Memory.{Memory, at_handle, block_of, listed_at, locks_of, is_marked, lowest_handle}
 use Rattle.geos_table.specs.Given.{given_memory}
 use Rattle.geos_table.specs.Effects.{Choice, Staleness, Nothing, InBlock, OfLock, outcome, effect_of}
-use Rattle.geos_table.specs.VmCalls.{bring}
+use Rattle.geos_table.specs.VmCalls.{Keeper, keep_current, keep_saved, keep_reverted, pair_to_keep, in_doubt, bring}
 use Rattle.geos_table.specs.ItemCalls.{in_group}
-use Rattle.geos_table.specs.Table.{KernelCall, Mnew, Mlock, Mfree, Unlock, Changes, Makes, Store, Copy, Vnew, LockListed, Vlock, Vdirty, FreeListed, Vfree, Vupdate, Vsave, Vrevert, Gnew, Gfree, ChangesItem, MakesItem, Ilock, row}
+use Rattle.geos_table.specs.Table.{KernelCall, Mnew, Mlock, Mfree, Unlock, Changes, Makes, Store, Copy, Vnew, LockListed, Vlock, Vdirty, FreeListed, Vfree, Vsetmap, Vupdate, Vsave, Vrevert, Gnew, Gfree, ChangesItem, MakesItem, Ilock, Isetmap, row}
 
 -- Which blocks a call is on
 
@@ -83,11 +82,10 @@ stale_of _ memory = Nothing
 
 -- Counts of locks, and marks
 
--- what becomes of the counts: nothing; one is so then; or those of the VM file are all 0
+-- what becomes of the counts: nothing; or one is so then
 pub data Counts : Type 0 where
   SameCounts : Counts
   OneCount : Name → ℕ → Counts
-  FileUnlocked : Counts
 
 -- what becomes of the marks: nothing; one is set or not then; or none is
 pub data Marks : Type 0 where
@@ -105,9 +103,6 @@ counts_of (LockListed h) memory = OneCount (vm h) (locks_of memory (vm h) + 1)
 counts_of (Vlock h) memory = OneCount (vm h) (locks_of memory (vm h) + 1)
 counts_of (FreeListed h) memory = OneCount (vm h) 0
 counts_of (Vfree h) memory = OneCount (vm h) 0
-counts_of Vupdate memory = FileUnlocked
-counts_of Vsave memory = FileUnlocked
-counts_of Vrevert memory = FileUnlocked
 counts_of Gnew memory = OneCount (new_vm memory) 0
 counts_of (Gfree g) memory = OneCount (vm g) 0
 counts_of (Ilock g i n) memory = OneCount (vm g) (locks_of memory (vm g) + 1)
@@ -131,7 +126,6 @@ marks_of _ memory = SameMarks
 abbrev pub HasCounts : Counts → Memory → Memory → Type 0
 HasCounts SameCounts old new = (name : Name) → locks_of new name ≡ locks_of old name
 HasCounts (OneCount name n) old new = locks_of new name ≡ n
-HasCounts FileUnlocked old new = (h : ℕ) → locks_of new (vm h) ≡ 0
 
 -- and so are marks
 abbrev pub HasMarks : Marks → Memory → Memory → Type 0
@@ -139,29 +133,93 @@ HasMarks SameMarks old new = (h : ℕ) → is_marked new h ≡ is_marked old h
 HasMarks (OneMark h marked) old new = is_marked new h ≡ marked
 HasMarks NoMarks old new = (h : ℕ) → is_marked new h ≡ false
 
--- what a call may be asked on: the others ask on anything, and refuse what they must
+-- no block of the VM file is locked
+abbrev pub NoneLocked : Memory → Type 0
+NoneLocked memory = (h : ℕ) → locks_of memory (vm h) ≡ 0
+
+-- what a call may be asked on: a mark, on what is listed; a commit, where no block of the file is
+-- locked. The others ask on anything, and refuse what they must
 abbrev pub IsAskable : KernelCall → Memory → Type 0
 IsAskable (Vdirty h) memory = is_none (listed_at memory h) ≡ false
+IsAskable Vupdate memory = NoneLocked memory
+IsAskable Vsave memory = NoneLocked memory
+IsAskable Vrevert memory = NoneLocked memory
 IsAskable _ memory = Unit {0}
+
+-- The VM file beside its blocks
+
+-- which pair a call keeps, if it is a commit
+abbrev pub keeper_of : KernelCall → Option Keeper
+keeper_of Vupdate = Some keep_current
+keeper_of Vsave = Some keep_saved
+keeper_of Vrevert = Some keep_reverted
+keeper_of _ = None
+
+-- a call may change the map block, as it stands in memory: by naming one, by freeing it, or by
+-- going back
+abbrev pub MapsBlock : KernelCall → Memory → Type 0
+MapsBlock (Vsetmap h) memory = Unit {0}
+MapsBlock (FreeListed h) memory = memory.file.cur.map_block ≡ h
+MapsBlock (Vfree h) memory = memory.file.cur.map_block ≡ h
+MapsBlock (Gfree g) memory = memory.file.cur.map_block ≡ g
+MapsBlock Vrevert memory = Unit {0}
+MapsBlock _ memory = ⊥
+
+-- and the map item: by naming one, by freeing its group, or by going back
+abbrev pub MapsItem : KernelCall → Memory → Type 0
+MapsItem (Isetmap g i) memory = Unit {0}
+MapsItem (FreeListed h) memory = memory.file.cur.map_group ≡ h
+MapsItem (Vfree h) memory = memory.file.cur.map_group ≡ h
+MapsItem (Gfree g) memory = memory.file.cur.map_group ≡ g
+MapsItem Vrevert memory = Unit {0}
+MapsItem _ memory = ⊥
+
+-- a call makes another directory the saved one
+abbrev pub Saves : KernelCall → Type 0
+Saves Vsave = Unit {0}
+Saves _ = ⊥
+
+-- what a call leaves of the file beside its blocks: the maps, where it is no call that may change
+-- them; the saved directory, if it is no save; what the device holds, if it is no commit; and
+-- the area
+pub record LeavesFile (call : KernelCall) (old new : Memory) : Type 0 where
+  pub map_block : (MapsBlock call old → ⊥) → new.file.cur.map_block ≡ old.file.cur.map_block
+  pub map_group : (MapsItem call old → ⊥) → new.file.cur.map_group ≡ old.file.cur.map_group
+  pub map_item : (MapsItem call old → ⊥) → new.file.cur.map_item ≡ old.file.cur.map_item
+  pub saved : (Saves call → ⊥) → new.file.saved ≡ old.file.saved
+  pub kept : keeper_of call ≡ None → new.file.kept ≡ old.file.kept
+  pub area : new.file.area ≡ old.file.area
+
+-- the maps, what is saved and what is kept, and the area are as they were
+pub record SameFile (old new : Memory) : Type 0 where
+  pub map_block : new.file.cur.map_block ≡ old.file.cur.map_block
+  pub map_group : new.file.cur.map_group ≡ old.file.cur.map_group
+  pub map_item : new.file.cur.map_item ≡ old.file.cur.map_item
+  pub saved : new.file.saved ≡ old.file.saved
+  pub kept : new.file.kept ≡ old.file.kept
+  pub area : new.file.area ≡ old.file.area
 
 -- The laws
 
--- what a refusal leaves: memory as it was; or the device has failed, and only what it holds is
--- another
-abbrev pub IsLeft : Refusal → Memory → Memory → Type 0
-IsLeft why old new = (new ≡ old) ⊎ ((why ≡ Disk) × ((kept : Kept) × (new ≡ record old { file = record old.file { kept = kept } })))
+-- what a refusal leaves: memory as it was; or, of a commit whose device has failed late, memory
+-- as it was but that the device may hold the pair to be kept, too
+abbrev pub IsLeft : KernelCall → Choice → Refusal → Memory → Memory → Type 0
+IsLeft call choice why old new = (new ≡ old) ⊎ ((why ≡ Disk) × (choice.unsure ≡ true) × IsSomeAnd (keeper_of call) (λ keeper. new ≡ in_doubt old (pair_to_keep keeper old)))
 
 -- of each row, on whatever memory and under whatever choice: what a refusal leaves; which
--- references it makes stale; that it leaves every block that it is not on, also where it is
--- refused; and, where it is done, counts and marks. A bring that is given nothing changes
--- nothing; and what is given leaves counts and marks, and each block that is locked
+-- references it makes stale; that it leaves every block that it is not on, and what of the file,
+-- also where it is refused; and, where it may be asked and is done, counts and marks. A bring that
+-- is given nothing changes nothing; and what is given leaves counts and marks, each block that is
+-- locked, and the file beside its blocks
 pub record RowsLeave : Type 0 where
-  pub refused : (call : KernelCall) (choice : Choice) (memory : Memory) (why : Refusal) → IsLeft why memory ((row call choice memory).left why)
+  pub refused : (call : KernelCall) (choice : Choice) (memory : Memory) (why : Refusal) → IsLeft call choice why memory ((row call choice memory).left why)
   pub stale : (call : KernelCall) (choice : Choice) (memory : Memory) → (row call choice memory).stale ≡ stale_of call memory
   pub others : (call : KernelCall) (choice : Choice) (memory : Memory) → LeavesOthers (scope_of call memory) memory (outcome (row call choice memory)).1
-  pub counts : (call : KernelCall) (choice : Choice) (memory : Memory) → first_refusal (row call choice memory).refusals ≡ None → HasCounts (counts_of call memory) memory (row call choice memory).after
+  pub file : (call : KernelCall) (choice : Choice) (memory : Memory) → LeavesFile call memory (outcome (row call choice memory)).1
+  pub counts : (call : KernelCall) (choice : Choice) (memory : Memory) → IsAskable call memory → first_refusal (row call choice memory).refusals ≡ None → HasCounts (counts_of call memory) memory (row call choice memory).after
   pub marks : (call : KernelCall) (choice : Choice) (memory : Memory) → IsAskable call memory → first_refusal (row call choice memory).refusals ≡ None → HasMarks (marks_of call memory) memory (row call choice memory).after
   pub brought : (h : ℕ) (choice : Choice) (memory : Memory) → choice.given ≡ [] → (outcome (effect_of (bring h) choice memory)).1 ≡ memory
   pub given_counts : (given : List (Option (List (Option (List ℕ))))) (memory : Memory) (name : Name) → locks_of (given_memory given memory) name ≡ locks_of memory name
   pub given_marks : (given : List (Option (List (Option (List ℕ))))) (memory : Memory) (h : ℕ) → is_marked (given_memory given memory) h ≡ is_marked memory h
   pub given_locked : (given : List (Option (List (Option (List ℕ))))) (memory : Memory) (name : Name) → 0 < locks_of memory name → block_of (given_memory given memory) name ≡ block_of memory name
+  pub given_file : (given : List (Option (List (Option (List ℕ))))) (memory : Memory) → SameFile memory (given_memory given memory)

@@ -125,17 +125,21 @@ vsetmap h choice memory =
 abbrev pub written_directory : Memory → Directory KeptBlock
 written_directory memory = with_each kept_block memory.file.cur
 
--- memory goes on with a pair that the device holds: its current directory with no mark and no
--- lock
+-- memory goes on with a pair that the device holds: its current directory with no mark, and each
+-- count 0. A commit is asked only where no block of the file is locked, so that no count changes
 abbrev pub committed : Memory → Pair → Memory
 committed memory pair = record memory {
   file = record memory.file { cur = with_each idle_block pair.cur; saved = pair.saved; kept = Sure pair };
 }
 
+-- memory as it was, but that the device may hold this pair, too
+abbrev pub in_doubt : Memory → Pair → Memory
+in_doubt memory pair = record memory { file = record memory.file { kept = doubted memory.file.kept pair } }
+
 -- what a fault of the device leaves of a commit: where it comes late, the device may hold the
 -- new pair or the old one
 abbrev pub faulted : Choice → Memory → Pair → Memory
-faulted choice memory pair = if choice.unsure then record memory { file = record memory.file { kept = doubted memory.file.kept pair } } else memory
+faulted choice memory pair = if choice.unsure then in_doubt memory pair else memory
 
 -- what a refusal of a commit leaves: memory as it was, a fault of the device aside
 abbrev pub left_by_commit : Choice → Memory → Pair → Refusal → Memory
@@ -162,7 +166,7 @@ keep_reverted cur saved = record { cur = saved; saved = saved }
 abbrev pub pair_to_keep : Keeper → Memory → Pair
 pair_to_keep keeper memory = keeper (written_directory memory) memory.file.saved
 
--- writes a pair to the device, and goes on with it; no block of the file is locked
+-- writes a pair to the device, and goes on with it; asked where no block of the file is locked
 abbrev pub commit : Keeper → Call (Unit {0})
 commit keeper choice memory =
     let pair = pair_to_keep keeper memory in

@@ -14,12 +14,15 @@ pub fn rows_keep_memory()
     ensures { RowsKeepMemory }
 {}
 
-/// What each row of the table of calls leaves: a refusal leaves memory as it was, a fault of
-/// the device in a commit aside, after which it may not be sure what the device holds; the
-/// references that a row makes stale are the same whether it is done or refused; a row leaves
-/// every block that it is not on as it was; and where it is done, counts of locks and marks are
-/// as `Leaving` has them. (GEOS SDK Concepts Book, chapters Memory Management, Virtual Memory
-/// and Database Library.)
+/// What each row of the table of calls leaves. A refusal leaves memory as it was; or it is of a
+/// commit whose device failed late, and the device may hold the pair that was to be kept, too.
+/// The references that a row makes stale are the same whether it is done or refused. A row leaves
+/// every block that it is not on as it was. It leaves what is mapped, but where it maps something
+/// else, frees what is mapped, or goes back to the saved directory; that directory, but where it
+/// saves; what the device holds, but where it commits; and the length of the file's areas. Where
+/// it is done, counts of locks and marks are as `Leaving` has them: at most one count changes,
+/// since a commit is asked only where no block of the file is locked. (GEOS SDK Concepts Book,
+/// chapters Memory Management, Virtual Memory and Database Library.)
 pub fn rows_leave()
     ensures { RowsLeave }
 {}
