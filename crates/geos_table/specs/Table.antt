@@ -14,7 +14,11 @@ use Rattle.geos_table.specs.ItemCalls.{on_group, gnew, gfree, ilock, igetmap, is
 
 -- a call of the kernel with its operands: on blocks of global memory; on the chunks of a block;
 -- on bytes; on blocks of the VM file, and on the file; on groups and items. Calls that are one
--- row stand once
+-- row stand once: so a block or a group of the file is unlocked by `Unlock`, and a group is marked
+-- by `Vdirty`. Each value has its row, and the laws hold of each, though no instruction makes it:
+-- `Bring`, `LockListed` and `FreeListed`, which are rows below the kernel; a `ChangesItem` of
+-- another change than Lfree, Lrealloc, Lins and Ldel; and a `MakesItem` of an array. Arrays in
+-- items are changed by `Changes`, through a slot that holds the group
 pub data KernelCall : Type 0 where
   Mnew : KernelCall
   Mlock : ℕ → KernelCall
