@@ -1,14 +1,11 @@
 -- What every memory of a kernel is.
 use Rattle.std.specs.Prelude.{◌≡◌, ◌≢◌, ℕ, ◌%◌, ◌<◌, ◌≤◌, List, length, Option, Some, None, option_map, All, IfSome, IsSomeAnd}
+pub use Rattle.geos_model.specs.Bytes.{AreBytes}
 use Rattle.geos_model.specs.Chunks.{need}
 use Rattle.geos_table.specs.Directories.{VmBlock, KeptBlock, Directory, group_uid}
 use Rattle.geos_table.specs.VmFile.{Pair, Kept, Sure, Unsure, VmFile}
 use Rattle.geos_table.specs.Memory.{Heap, Block, Memory, at_handle}
 use Rattle.geos_table.specs.Effects.{most_size, most_locks}
-
--- the numbers are bytes
-abbrev pub AreBytes : List ℕ → Type 0
-AreBytes bytes = All (λ b. b < 256) bytes
 
 -- an entry of a chunk handle table has a chunk of bytes, or none
 abbrev pub IsChunk : Option (List ℕ) → Type 0

@@ -1,20 +1,15 @@
 -- Bytes that are read as a pair are its spelling. `SpellLaws` says that a spelling is read as its pair.
 use Rattle.std.proofs.Common.{◌≡◌, ◌∙◌, ℕ, zero, suc, ◌+◌, ◌*◌, ◌/◌, ◌%◌, ◌<◌, ◌&&◌, List, [], ◌∷◌, ◌++◌, length, take, drop, map, Ok, get_or, refl, ap, sym, subst, arith, append_assoc, length-take}
-use Rattle.std.specs.Prelude.{All}
 use Rattle.std.specs.List.{flat_map}
 use Rattle.std.proofs.Math.Dec.{leb, ltb}
 use Rattle.std.proofs.lemmas.List.{drop-drop, take_all}
-use Rattle.geos_model.specs.Bytes.{word, word_bytes}
+use Rattle.geos_model.specs.Bytes.{AreBytes, word, word_bytes}
 use Rattle.vm_file.specs.declared.directory.Entry.{Entry}
 use Rattle.vm_file.specs.Contents.{Block, Contents, Pair, block_spelling, contents_length, contents_spelling, entry_of, pair_length, pair_spelling}
 use Rattle.vm_file.specs.Directories.{entries_length, may_be_map_block, may_be_map_group, may_be_map_item}
 use Rattle.vm_file.specs.Heaps.{is_block_size}
 use Rattle.vm_file.specs.Reading.{block_at, blocks_at, bytes_at, contents_at, count_at, head_at, maps_at, pair_at, wanted, word_at}
 use Rattle.vm_file.proofs.ReadLaws.{after, blocks_ok, bytes_ok, ok_is, wanted_ok, word_ok}
-
--- the numbers are bytes
-abbrev pub AreBytes : List ℕ → Type 0
-AreBytes bytes = All (λ b. b < 256) bytes
 
 -- what is left of bytes are bytes
 bytes_left : (n : ℕ) (bytes : List ℕ) → AreBytes bytes → AreBytes (drop n bytes)
