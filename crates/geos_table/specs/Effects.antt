@@ -71,6 +71,12 @@ effect_of call choice memory = call choice (given_memory choice.given memory)
 abbrev pub Answers : {A : Type 0} → Call A → Result A Refusal → Memory → Memory → Type 0
 Answers call result before after = (choice : Choice) × (outcome (effect_of call choice before) ≡ (result, after))
 
+-- the same, under some choice that is allowed: so a caller says what it knows of what comes from
+-- outside. On an honest device nothing is given, and the device is refused only where its count of
+-- failures rose
+abbrev pub AnswersUnder : {A : Type 0} → (Choice → Type 0) → Call A → Result A Refusal → Memory → Memory → Type 0
+AnswersUnder allows call result before after = (choice : Choice) × allows choice × (outcome (effect_of call choice before) ≡ (result, after))
+
 -- a refusal leaves memory as it was
 abbrev pub unchanged : Memory → Refusal → Memory
 unchanged memory refusal = memory
