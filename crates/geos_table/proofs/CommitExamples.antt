@@ -1,17 +1,18 @@
 -- Updates, saves and reverts of the VM file, computed on examples.
-use Rattle.std.proofs.Common.{◌≡◌, ℕ, true, [], ◌∷◌, ◌++◌, replicate, Option, Some, None, refl}
+use Rattle.std.proofs.Common.{◌≡◌, ℕ, true, false, [], ◌∷◌, ◌++◌, length, replicate, Option, Some, None, refl}
 use Rattle.std.specs.Prelude.{Ok, Err}
 use Rattle.geos_model.specs.declared.refusal.Refusal.TheVariants as refusal
-use Rattle.geos_model.specs.Names.{mem}
+use Rattle.geos_model.specs.Names.{mem, vm}
 use Rattle.geos_model.specs.Bytes.{word}
 use Rattle.geos_model.specs.Chunks.{cost}
 use Rattle.geos_table.specs.Blocks.{Heap, Block}
 use Rattle.geos_table.specs.Directories.{VmBlock, KeptBlock, Directory, idle_block}
 use Rattle.geos_table.specs.VmFile.{Pair, Sure, Unsure, pair_length}
-use Rattle.geos_table.specs.Memory.{Memory}
+use Rattle.geos_table.specs.Memory.{Memory, is_marked, size_of, chunks_at}
 use Rattle.geos_table.specs.Effects.{outcome, effect_of}
 use Rattle.geos_table.specs.Calls.{mnew, unlock, lalloc}
-use Rattle.geos_table.specs.VmCalls.{keep_current, keep_saved, pair_to_keep, vlock, vunlock, vgetmap, vupdate, vsave, vrevert}
+use Rattle.geos_table.specs.VmCalls.{keep_current, keep_saved, pair_to_keep, vnew, vlock, vdirty, vunlock, vfree, vuid, vgetmap, vupdate, vsave, vrevert}
+use Rattle.geos_table.proofs.Laws.{unwilling}
 use Rattle.geos_table.proofs.Runs.{crowded, failing, failing_late, listing, start, answer_under, left_under, says, next, filled}
 use Rattle.geos_table.proofs.FileExamples.{put, got}
 
@@ -62,6 +63,48 @@ pub record Keeping : Type 0 where
 keeping_computed : Keeping
 unfolding cost word
 keeping_computed = record { put_only = refl; saved = refl; not_yet = refl; both = refl; new_map = refl; new_word = refl; reverted = refl; old_map = refl; old_word = refl; gone = refl }
+
+-- a block that grows behind the save: two chunks more, for which its table has four entries
+abbrev pub grown : Memory
+grown = next (vunlock 1) (next (lalloc (vm 1) 200) (next (lalloc (vm 1) 2) (next (vdirty 1) (next (vlock 1) saved_one))))
+
+-- a block that takes the handle of a saved one
+abbrev pub replaced : Memory
+replaced = next (vunlock 1) (next (vnew 9) (next (vfree 1) saved_one))
+
+-- a revert brings back sizes and tables as they were saved, and what was freed; nothing is marked
+pub record Reverting : Type 0 where
+  pub size : size_of grown (vm 1) ≡ 240
+  pub entries : length (chunks_at grown (vm 1)) ≡ 4
+  pub old_size : size_of (next vrevert grown) (vm 1) ≡ 64
+  pub old_entries : length (chunks_at (next vrevert grown) (vm 1)) ≡ 2
+  pub marked : is_marked grown 1 ≡ true
+  pub clean : is_marked (next vrevert grown) 1 ≡ false
+  pub unmarked_chunk : is_marked (next (lalloc (vm 1) 2) saved_one) 1 ≡ false
+  pub again : says (vnew 9) (next (vfree 1) saved_one) ≡ Ok 1
+  pub still_saved : replaced.file.saved ≡ first
+  pub new_uid : says (vuid 1) replaced ≡ Ok 9
+  pub old_uid : says (vuid 1) (next vrevert replaced) ≡ Ok 5
+  pub no_map : says vgetmap replaced ≡ Ok 0
+  pub old_map : says vgetmap (next vrevert replaced) ≡ Ok 1
+
+reverting_computed : Reverting
+unfolding cost
+reverting_computed = record {
+  size = refl;
+  entries = refl;
+  old_size = refl;
+  old_entries = refl;
+  marked = refl;
+  clean = refl;
+  unmarked_chunk = refl;
+  again = refl;
+  still_saved = refl;
+  new_uid = refl;
+  old_uid = refl;
+  no_map = refl;
+  old_map = refl;
+}
 
 -- a device that fails early leaves all as it was, and the next save succeeds; one that fails
 -- late leaves it open which pair it holds, for good, and memory goes on
@@ -125,17 +168,20 @@ marked_word = Some (record { uid = 5; marked = true; block = record { locks = 0;
 abbrev pub four : Memory
 four = record start { file = record in_512.file { cur = record (listing (replicate 4 marked_word ++ None ∷ [])) { map_block = 4 } } }
 
--- beside an empty directory they fit, and not twice
+-- beside an empty directory they fit, and not twice; where all is refused that may be, a length
+-- comes before memory, and memory before the device
 pub record Lengths : Type 0 where
   pub made : put 4 1 (put 3 1 (put 2 1 (put 1 1 in_512))) ≡ four
   pub long : pair_length (pair_to_keep keep_current four) ≡ 296
   pub update : says vupdate four ≡ Ok tt
   pub twice : pair_length (pair_to_keep keep_saved four) ≡ 576
   pub save : says vsave four ≡ Err refusal.TooBig
+  pub length_first : answer_under unwilling vsave four ≡ Err refusal.TooBig
+  pub memory_next : answer_under unwilling vupdate four ≡ Err refusal.Memory
 
 lengths_computed : Lengths
 unfolding cost word
-lengths_computed = record { made = refl; long = refl; update = refl; twice = refl; save = refl }
+lengths_computed = record { made = refl; long = refl; update = refl; twice = refl; save = refl; length_first = refl; memory_next = refl }
 
 -- a block of global memory with one chunk of n zero bytes, locked so often
 abbrev pub zeros_in : ℕ → ℕ → ℕ → Option Block

@@ -1,16 +1,18 @@
--- What a device that is not honest gives, computed on an example.
+-- What a device that is not honest gives, computed on examples.
 use Rattle.std.proofs.Common.{◌≡◌, ℕ, Bool, ◌+◌, ◌*◌, true, false, List, [], ◌∷◌, replicate, Option, Some, None, refl}
 use Rattle.std.specs.Prelude.{Ok, Err}
-use Rattle.geos_model.specs.declared.refusal.Refusal.TheVariants.{Disk}
+use Rattle.geos_model.specs.declared.refusal.Refusal.TheVariants.{Short, Disk}
 use Rattle.geos_model.specs.Names.{vm}
 use Rattle.geos_model.specs.Bytes.{word}
 use Rattle.geos_model.specs.Chunks.{cost}
-use Rattle.geos_table.specs.Directories.{VmBlock}
+use Rattle.geos_table.specs.Directories.{VmBlock, KeptBlock, Directory, kept_block}
+use Rattle.geos_table.specs.VmFile.{Sure}
 use Rattle.geos_table.specs.Memory.{Memory, with_locks}
 use Rattle.geos_table.specs.Given.{given_memory}
 use Rattle.geos_table.specs.Effects.{Choice, effect_of, outcome}
 use Rattle.geos_table.specs.Calls.{load16, named_bytes}
-use Rattle.geos_table.specs.VmCalls.{vlock, vunlock}
+use Rattle.geos_table.specs.VmCalls.{vlock, vunlock, vsave}
+use Rattle.geos_table.specs.ItemCalls.{ilock}
 use Rattle.geos_table.proofs.Laws.{willing}
 use Rattle.geos_table.proofs.Runs.{start, listing, answer_under, left_under, bytes_in_file}
 
@@ -69,3 +71,43 @@ lying_computed = record {
   no_pair = refl;
   no_entry = refl;
 }
+
+-- a block or group of 64 bytes with such chunks, marked or not, and not locked; and as a commit
+-- writes it
+abbrev pub entry_with : ℕ → List (Option (List ℕ)) → Bool → VmBlock
+entry_with uid chunks marked = record { uid = uid; marked = marked; block = record { locks = 0; heap = record { chunks = chunks; size = 64 } } }
+
+abbrev pub kept_with : ℕ → List (Option (List ℕ)) → KeptBlock
+kept_with uid chunks = kept_block (entry_with uid chunks false)
+
+-- handle 1 has an idle block, 2 none, 3 a marked group, and 4 an idle one
+abbrev pub groups : List (Option (List ℕ)) → Bool → Memory
+groups chunks marked =
+    record start {
+      file = record start.file {
+        cur = listing (Some (entry_with 5 (word_of 11) false) ∷ None ∷ Some (entry_with 65280 (word_of 33) marked) ∷ Some (entry_with 65280 chunks false) ∷ []);
+      };
+    }
+
+-- those as a commit writes them, the idle group with other chunks
+abbrev pub lied : Directory KeptBlock
+lied = listing (Some (kept_with 5 (word_of 11)) ∷ None ∷ Some (kept_with 65280 (word_of 33)) ∷ Some (kept_with 65280 other) ∷ [])
+
+-- the device lies of all but the first
+abbrev pub lying_of_groups : Choice
+lying_of_groups = record willing { given = None ∷ Some other ∷ Some other ∷ Some other ∷ [] }
+
+-- an idle group holds what was given, also for a commit, which writes it; another handle does not
+pub record LyingOfGroups : Type 0 where
+  pub given : given_memory lying_of_groups.given (groups (word_of 44) true) ≡ groups other true
+  pub short : answer_under willing (ilock 4 16 3) (groups (word_of 44) true) ≡ Err Short
+  pub item : answer_under lying_of_groups (ilock 4 16 3) (groups (word_of 44) true) ≡ Ok (bytes_in_file 4 16 3)
+  pub marked_item : answer_under lying_of_groups (ilock 3 16 3) (groups (word_of 44) true) ≡ Err Short
+  pub saves : answer_under lying_of_groups vsave (groups (word_of 44) true) ≡ Ok tt
+  pub current : (left_under lying_of_groups vsave (groups (word_of 44) true)).file.cur ≡ (groups other false).file.cur
+  pub saved : (left_under lying_of_groups vsave (groups (word_of 44) true)).file.saved ≡ lied
+  pub kept : (left_under lying_of_groups vsave (groups (word_of 44) true)).file.kept ≡ Sure (record { cur = lied; saved = lied })
+
+lying_of_groups_computed : LyingOfGroups
+unfolding cost
+lying_of_groups_computed = record { given = refl; short = refl; item = refl; marked_item = refl; saves = refl; current = refl; saved = refl; kept = refl }

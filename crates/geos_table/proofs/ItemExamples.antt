@@ -27,6 +27,7 @@ pub record Items : Type 0 where
   pub not_locked : locks_of (next gnew start) (vm 1) ≡ 0
   pub first : says (inew 1 4) (next gnew start) ≡ Ok 16
   pub second : says (inew 1 4) (next (inew 1 4) (next gnew start)) ≡ Ok 18
+  pub free_again : says (inew 1 8) (next (ifree 1 16) two_items) ≡ Ok 16
   pub lock : says (ilock 1 16 4) two_items ≡ Ok (bytes_in_file 1 16 4)
   pub other : says (ilock 1 18 4) (next (ilock 1 16 4) two_items) ≡ Ok (bytes_in_file 1 18 4)
   pub new : says (inew 1 4) (next (ilock 1 18 4) (next (ilock 1 16 4) two_items)) ≡ Ok 20
@@ -45,6 +46,7 @@ items_computed = record {
   not_locked = refl;
   first = refl;
   second = refl;
+  free_again = refl;
   lock = refl;
   other = refl;
   new = refl;

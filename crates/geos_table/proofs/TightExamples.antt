@@ -1,14 +1,16 @@
--- Where room may be wanting beside blocks of both owners, computed on examples.
+-- Where room may be wanting beside blocks of both owners, and what is refused before it, computed
+-- on examples.
 use Rattle.std.proofs.Common.{◌≡◌, ℕ, true, false, [], ◌∷◌, ◌++◌, replicate, None, refl}
 use Rattle.std.specs.Prelude.{Ok, Err}
-use Rattle.geos_model.specs.declared.refusal.Refusal.TheVariants.{NoRoom}
+use Rattle.geos_model.specs.declared.refusal.Refusal.TheVariants.{BadChunk, NoRoom, NoHandle, Locked, Reserved, Disk}
 use Rattle.geos_model.specs.Names.{mem, vm}
 use Rattle.geos_model.specs.Chunks.{cost}
-use Rattle.geos_table.specs.Memory.{Memory}
+use Rattle.geos_table.specs.Memory.{Memory, with_locks}
 use Rattle.geos_table.specs.Tight.{is_tight}
 use Rattle.geos_table.specs.Calls.{mnew, lalloc}
 use Rattle.geos_table.specs.VmCalls.{vnew, vlock}
 use Rattle.geos_table.specs.ItemCalls.{gnew, inew, ilock}
+use Rattle.geos_table.proofs.Laws.{unwilling}
 use Rattle.geos_table.proofs.Runs.{crowded, start, answer_under, listing, sized_in_file}
 use Rattle.geos_table.proofs.CallExamples.{sized}
 
@@ -23,6 +25,10 @@ both n = record start {
     cur = listing (sized_in_file 5 64 true 0 ∷ sized_in_file 5 256 false 0 ∷ sized_in_file 5 512 true 1 ∷ sized_in_file 65280 96 false 0 ∷ sized_in_file 65280 80 true 0 ∷ None ∷ []);
   };
 }
+
+-- no free handle of the file, in a region of one byte
+abbrev pub full : Memory
+full = record (both 1) { file = record start.file { cur = listing (replicate 5 (sized_in_file 5 64 true 0)) } }
 
 -- each kind of call at its border: with one byte less of region room may be refused. What is in
 -- memory of others counts, 848 bytes in all, and locked ones, three in all, once more
@@ -46,6 +52,9 @@ pub record Borders : Type 0 where
   -- an idle group is, at the size that it has: 4 * 96 + 848 are 1,232
   pub brings_group : answer_under crowded (inew 4 4) (both 1231) ≡ Err NoRoom
   pub brought_group : answer_under crowded (inew 4 4) (both 1232) ≡ Ok 16
+  -- as it is for a lock, whatever item is wanted of it
+  pub locks_group : answer_under crowded (ilock 4 40 4) (both 1231) ≡ Err NoRoom
+  pub locked_group : answer_under crowded (ilock 4 40 4) (both 1232) ≡ Err BadChunk
   -- and it grows to 144 where it is there: 4 * 144 + 848 are 1,424
   pub grows_group : answer_under crowded (inew 4 120) (both 1423) ≡ Err NoRoom
   pub grown_group : answer_under crowded (inew 4 120) (both 1424) ≡ Ok 16
@@ -70,6 +79,8 @@ borders_computed = record {
   brought = refl;
   brings_group = refl;
   brought_group = refl;
+  locks_group = refl;
+  locked_group = refl;
   grows_group = refl;
   grown_group = refl;
   held_group = refl;
@@ -89,3 +100,30 @@ pub record Roomy : Type 0 where
 roomy_computed : Roomy
 unfolding cost
 roomy_computed = record { fits = refl; marked = refl; locked = refl; item = refl; no_item = refl; many = refl; too_many = refl }
+
+-- the orders of refusals of a lock, and of a new block, where all is refused that may be: a block
+-- that is idle, a group, one of either whose count can't rise, and no free handle
+pub record Orders : Type 0 where
+  pub room_first : answer_under unwilling (vlock 2) (both 1871) ≡ Err NoRoom
+  pub then_device : answer_under unwilling (vlock 2) (both 1872) ≡ Err Disk
+  pub item_room_first : answer_under unwilling (inew 4 4) (both 1231) ≡ Err NoRoom
+  pub item_then_device : answer_under unwilling (inew 4 4) (both 1232) ≡ Err Disk
+  pub count_first : answer_under unwilling (vlock 3) (with_locks (both 1) (vm 3) 65535) ≡ Err Locked
+  pub group_first : answer_under unwilling (vlock 4) (with_locks (both 1) (vm 4) 65535) ≡ Err Reserved
+  pub group_count_first : answer_under unwilling (ilock 4 40 4) (with_locks (both 1) (vm 4) 65535) ≡ Err Locked
+  pub uid_first : answer_under unwilling (vnew 65280) full ≡ Err Reserved
+  pub handle_first : answer_under unwilling (vnew 5) full ≡ Err NoHandle
+
+orders_computed : Orders
+unfolding cost
+orders_computed = record {
+  room_first = refl;
+  then_device = refl;
+  item_room_first = refl;
+  item_then_device = refl;
+  count_first = refl;
+  group_first = refl;
+  group_count_first = refl;
+  uid_first = refl;
+  handle_first = refl;
+}
