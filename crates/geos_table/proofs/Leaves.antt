@@ -12,15 +12,15 @@ use Rattle.geos_model.specs.declared.refusal.Refusal.{Refusal}
 use Rattle.geos_model.specs.declared.refusal.Refusal.TheVariants as refusal
 use Rattle.geos_model.specs.Names.{named, mem, vm}
 use Rattle.geos_model.specs.Refusals.{first_refusal}
-use Rattle.geos_table.specs.Directories.{VmBlock, KeptBlock, group_uid, uid_in, is_marked_in, marked_block, idle_block}
+use Rattle.geos_table.specs.Directories.{VmBlock, KeptBlock, Directory, group_uid, uid_in, is_marked_in, marked_block, kept_block, idle_block}
 use Rattle.geos_table.specs.VmFile.{Pair}
 use Rattle.geos_table.specs.Memory.{Block, Memory, at_handle, with_entry_at, lowest_of, new_heap, listed_at, with_listed, with_mark, is_marked, with_owned_block, block_of, with_block, locks_in, locks_of, lowest_handle, locked_block, rechunked_block, with_locks, with_chunks, chunks_at}
 use Rattle.geos_table.specs.Given.{given_memory}
 use Rattle.geos_table.specs.Effects.{Choice, come_to, outcome, effect_of}
 use Rattle.geos_table.specs.ChunkCalls.{change_edit, make_edit}
-use Rattle.geos_table.specs.VmCalls.{Keeper, new_listed, bring, without_listed, committed, in_doubt, left_by_commit, keep_current, keep_saved, keep_reverted, pair_to_keep}
+use Rattle.geos_table.specs.VmCalls.{Keeper, new_listed, bring, written_directory, without_listed, committed, in_doubt, left_by_commit, keep_current, keep_saved, keep_reverted, pair_to_keep}
 use Rattle.geos_table.specs.Table.{KernelCall, Mnew, Mlock, Mfree, Unlock, Changes, Makes, Store, Copy, Vnew, LockListed, Vlock, Vdirty, FreeListed, Vfree, Vsetmap, Vupdate, Vsave, Vrevert, Gnew, Gfree, ChangesItem, MakesItem, Ilock, Isetmap, row}
-use Rattle.geos_table.specs.Leaving.{Scope, NoBlock, OneBlock, WholeFile, new_mem, new_vm, scope_of, LeavesOthers, stale_of, counts_of, marks_of, HasCounts, HasMarks, NoneLocked, IsAskable, keeper_of, MapsBlock, MapsItem, LeavesFile, SameFile, IsLeft, RowsLeave}
+use Rattle.geos_table.specs.Leaving.{Scope, NoBlock, OneBlock, WholeFile, new_mem, new_vm, scope_of, LeavesOthers, stale_of, counts_of, marks_of, HasCounts, HasMarks, NoneLocked, IsAskable, keeper_of, MapsBlock, MapsItem, Writes, LeavesFile, SameFile, IsLeft, RowsLeave}
 use Rattle.geos_table.proofs.Laws.{entry-other, change-shape}
 use Rattle.geos_table.proofs.Passing.{none-here}
 use Rattle.geos_table.proofs.HandleLists.{entry-each}
@@ -372,6 +372,26 @@ marks (MakesItem g make) choice m asked fine = item-marked m g (make_edit make (
 marks (Ilock g i n) choice m asked fine = λ k. marks-mapped m (locked_block (locks_of m (vm g) + 1)) (vm g) k
 marks call choice m asked fine = λ k. refl
 
+-- What is written
+
+-- a block that is written and not locked is as it was, but its mark
+clean : (listed : Option VmBlock) → locks_in (option_map block_in_file listed) ≡ 0 → option_map idle_block (option_map kept_block listed) ≡ option_map (marked_block false) listed
+clean None none = refl
+clean (Some l) none = ap as_counted (sym none)
+  where
+    as_counted : ℕ → Option VmBlock
+    as_counted n = Some (record { uid = l.uid; marked = false; block = record { locks = n; heap = l.block.heap } })
+
+written-clean : (m : Memory) (saved : Directory KeptBlock) (h : ℕ) → NoneLocked m → listed_at (committed m (record { cur = written_directory m; saved = saved })) h ≡ option_map (marked_block false) (listed_at m h)
+written-clean m saved h none =
+    let entries = m.file.cur.blocks in
+    entry-each idle_block (written_directory m).blocks h ∙ ap (option_map idle_block) (entry-each kept_block entries h) ∙ clean (listed_at m h) (none h)
+
+written : (call : KernelCall) (choice : Choice) (memory : Memory) → Writes call → IsAskable call memory → (h : ℕ) → listed_at (row call choice memory).after h ≡ option_map (marked_block false) (listed_at memory h)
+written Vupdate choice m is asked h = written-clean m m.file.saved h asked
+written Vsave choice m is asked h = written-clean m (written_directory m) h asked
+written call choice m is asked h = absurd is
+
 -- A bring
 
 came-back : (o : Option Refusal) (m : Memory) → (come_to {A = Unit {0}} o (λ why. m) tt m).1 ≡ m
@@ -389,6 +409,7 @@ rows_leave = record {
   file = file;
   counts = counts;
   marks = marks;
+  written = written;
   brought = brought;
   given_counts = locks_of-given;
   given_marks = is_marked-given;

@@ -1,12 +1,13 @@
 -- What each row of the table leaves: which blocks it is on, what it makes stale, what becomes of
 -- counts and marks, and what of the VM file beside its blocks.
-use Rattle.std.specs.Prelude.{◌≡◌, ◌⊎◌, ℕ, ◌+◌, ◌-◌, ◌<◌, Bool, true, false, List, [], Option, Some, None, unwrap_or, is_none, IsSomeAnd}
+use Rattle.std.specs.Prelude.{◌≡◌, ◌⊎◌, ℕ, ◌+◌, ◌-◌, ◌<◌, Bool, true, false, List, [], Option, Some, None, unwrap_or, option_map, is_none, IsSomeAnd}
 use Rattle.geos_model.specs.declared.name.Name.{Name}
 use Rattle.geos_model.specs.declared.name.Owner.TheVariants.{Mem, Vm}
 use Rattle.geos_model.specs.declared.refusal.Refusal.{Refusal}
 use Rattle.geos_model.specs.declared.refusal.Refusal.TheVariants.{Disk}
 use Rattle.geos_model.specs.Names.{mem, vm}
 use Rattle.geos_model.specs.Refusals.{first_refusal}
+use Rattle.geos_table.specs.Directories.{marked_block}
 use Rattle.geos_table.specs.Memory.{Memory, at_handle, block_of, listed_at, locks_of, is_marked, lowest_handle}
 use Rattle.geos_table.specs.Given.{given_memory}
 use Rattle.geos_table.specs.Effects.{Choice, Staleness, Nothing, InBlock, OfLock, outcome, effect_of}
@@ -179,6 +180,12 @@ abbrev pub Saves : KernelCall → Type 0
 Saves Vsave = Unit {0}
 Saves _ = ⊥
 
+-- a call writes the current directory to the device, and goes on with it
+abbrev pub Writes : KernelCall → Type 0
+Writes Vupdate = Unit {0}
+Writes Vsave = Unit {0}
+Writes _ = ⊥
+
 -- what a call leaves of the file beside its blocks: the maps, where it is no call that may change
 -- them; the saved directory, if it is no save; what the device holds, if it is no commit; and
 -- the area
@@ -208,9 +215,10 @@ IsLeft call choice why old new = (new ≡ old) ⊎ ((why ≡ Disk) × (choice.un
 
 -- of each row, on whatever memory and under whatever choice: what a refusal leaves; which
 -- references it makes stale; that it leaves every block that it is not on, and what of the file,
--- also where it is refused; and, where it may be asked and is done, counts and marks. A bring that
--- is given nothing changes nothing; and what is given leaves counts and marks, each block that is
--- locked, and the file beside its blocks
+-- also where it is refused; and, where it may be asked and is done, counts and marks, and that an
+-- update and a save leave each block of the file, but its mark. A bring that is given nothing
+-- changes nothing; and what is given leaves counts and marks, each block that is locked, and the
+-- file beside its blocks
 pub record RowsLeave : Type 0 where
   pub refused : (call : KernelCall) (choice : Choice) (memory : Memory) (why : Refusal) → IsLeft call choice why memory ((row call choice memory).left why)
   pub stale : (call : KernelCall) (choice : Choice) (memory : Memory) → (row call choice memory).stale ≡ stale_of call memory
@@ -218,6 +226,7 @@ pub record RowsLeave : Type 0 where
   pub file : (call : KernelCall) (choice : Choice) (memory : Memory) → LeavesFile call memory (outcome (row call choice memory)).1
   pub counts : (call : KernelCall) (choice : Choice) (memory : Memory) → IsAskable call memory → first_refusal (row call choice memory).refusals ≡ None → HasCounts (counts_of call memory) memory (row call choice memory).after
   pub marks : (call : KernelCall) (choice : Choice) (memory : Memory) → IsAskable call memory → first_refusal (row call choice memory).refusals ≡ None → HasMarks (marks_of call memory) memory (row call choice memory).after
+  pub written : (call : KernelCall) (choice : Choice) (memory : Memory) → Writes call → IsAskable call memory → (h : ℕ) → listed_at (row call choice memory).after h ≡ option_map (marked_block false) (listed_at memory h)
   pub brought : (h : ℕ) (choice : Choice) (memory : Memory) → choice.given ≡ [] → (outcome (effect_of (bring h) choice memory)).1 ≡ memory
   pub given_counts : (given : List (Option (List (Option (List ℕ))))) (memory : Memory) (name : Name) → locks_of (given_memory given memory) name ≡ locks_of memory name
   pub given_marks : (given : List (Option (List (Option (List ℕ))))) (memory : Memory) (h : ℕ) → is_marked (given_memory given memory) h ≡ is_marked memory h

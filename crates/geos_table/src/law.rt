@@ -21,7 +21,8 @@ pub fn rows_keep_memory()
 /// else, frees what is mapped, or goes back to the saved directory; that directory, but where it
 /// saves; what the device holds, but where it commits; and the length of the file's areas. Where
 /// it is done, counts of locks and marks are as `Leaving` has them: at most one count changes,
-/// since a commit is asked only where no block of the file is locked. (GEOS SDK Concepts Book,
+/// since a commit is asked only where no block of the file is locked; and an update or a save
+/// leaves each block of the file as it was, but its mark. (GEOS SDK Concepts Book,
 /// chapters Memory Management, Virtual Memory and Database Library.)
 pub fn rows_leave()
     ensures { RowsLeave }
