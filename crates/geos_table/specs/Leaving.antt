@@ -29,10 +29,11 @@ IsWithin NoBlock name = ⊥
 IsWithin (OneBlock own) name = own ≡ name
 IsWithin WholeFile name = name.owner ≡ Vm
 
--- the name of a new block of an owner
+-- the name of a new block of global memory
 abbrev pub new_mem : Memory → Name
 new_mem memory = mem (unwrap_or (lowest_handle memory Mem) 0)
 
+-- the name of a new block of the VM file
 abbrev pub new_vm : Memory → Name
 new_vm memory = vm (unwrap_or (lowest_handle memory Vm) 0)
 
@@ -94,6 +95,7 @@ pub data Marks : Type 0 where
   OneMark : ℕ → Bool → Marks
   NoMarks : Marks
 
+-- what becomes of the counts at each call
 abbrev pub counts_of : KernelCall → Memory → Counts
 counts_of Mnew memory = OneCount (new_mem memory) 1
 counts_of (Mlock h) memory = OneCount (mem h) (locks_of memory (mem h) + 1)
@@ -109,6 +111,7 @@ counts_of (Gfree g) memory = OneCount (vm g) 0
 counts_of (Ilock g i n) memory = OneCount (vm g) (locks_of memory (vm g) + 1)
 counts_of _ memory = SameCounts
 
+-- what becomes of the marks at each call
 abbrev pub marks_of : KernelCall → Memory → Marks
 marks_of (Vnew uid) memory = OneMark (new_vm memory).h true
 marks_of (Vdirty h) memory = OneMark h true
@@ -156,8 +159,8 @@ keeper_of Vsave = Some keep_saved
 keeper_of Vrevert = Some keep_reverted
 keeper_of _ = None
 
--- a call may change the map block, as it stands in memory: by naming one, by freeing it, or by
--- going back
+-- a call may change which block is mapped: it names one, frees it, or goes back to the saved
+-- directory
 abbrev pub MapsBlock : KernelCall → Memory → Type 0
 MapsBlock (Vsetmap h) memory = Unit {0}
 MapsBlock (FreeListed h) memory = memory.file.cur.map_block ≡ h
@@ -166,7 +169,7 @@ MapsBlock (Gfree g) memory = memory.file.cur.map_block ≡ g
 MapsBlock Vrevert memory = Unit {0}
 MapsBlock _ memory = ⊥
 
--- and the map item: by naming one, by freeing its group, or by going back
+-- or which item: it names one, frees its group, or goes back
 abbrev pub MapsItem : KernelCall → Memory → Type 0
 MapsItem (Isetmap g i) memory = Unit {0}
 MapsItem (FreeListed h) memory = memory.file.cur.map_group ≡ h
