@@ -13,6 +13,7 @@ use Rattle.geos_model.specs.Block as block
 use Rattle.geos_model.specs.Bytes.{word}
 use Rattle.geos_model.specs.Chunks.{bytes_of}
 use Rattle.geos_table.specs.Memory as model
+use Rattle.geos_table.specs.VmFile.{VmFile}
 use Rattle.geos_table.specs.Effects.{Reference}
 use Rattle.geos_table.specs.Calls as table
 use Rattle.geos_model.proofs.Places.{chunk-place}
@@ -20,7 +21,7 @@ use Rattle.geos_calls.specs.declared.span.Span.{Span}
 use Rattle.geos_calls.specs.View.{KernelState, memory_of}
 use Rattle.geos_calls.specs.Spans.{Stands, IsStanding}
 use Rattle.geos_calls.specs.Kernel.{IsKernel, Calls}
-use Rattle.geos_table.proofs.Laws.{willing}
+use Rattle.geos_calls.proofs.Files.{answers-willing}
 use Rattle.geos_calls.proofs.Views.{there_of_locks, chunks-known}
 
 -- a span stands for some reference, and n bytes at an offset lie in it
@@ -76,18 +77,18 @@ module _ (s : KernelState) (span : Span) (ref : Reference) (stands : Stands s sp
     stands-there = there_of_locks (store.block_at s.blocks (slot_of ref.name)) stands.locked
 
     -- the bytes that a reference names are bytes of its block
-    pub named-is : (l : Lies s span ref) → table.named_bytes (memory_of s) ref ≡ part block_bytes (l.chunk.place.at + ref.start) ref.len
-    named-is l =
+    pub named-is : (f : VmFile) (l : Lies s span ref) → table.named_bytes (memory_of s f) ref ≡ part block_bytes (l.chunk.place.at + ref.start) ref.len
+    named-is f l =
         let p = l.chunk.place in
-        let chunks : model.chunks_at (memory_of s) ref.name ≡ block.chunks block_bytes = sym (chunks-known s ref.name k stands-there) in
+        let chunks : model.chunks_at (memory_of s f) ref.name ≡ block.chunks block_bytes = sym (chunks-known s f ref.name k stands-there) in
         let bytes : bytes_of (block.chunks block_bytes) ref.chunk ≡ block.bytes_at block_bytes p = ap (λ o. unwrap_or o []) (chunk-place block_bytes ref.chunk ∙ ap (option_map (block.bytes_at block_bytes)) l.chunk.is) in
         ap (λ cs. part (bytes_of cs ref.chunk) ref.start ref.len) chunks ∙ ap (λ bs. part bs ref.start ref.len) bytes ∙ part-part block_bytes p.at p.len ref.start ref.len l.chunk.room
 
-    byte-named : (l : Lies s span ref) (i at : ℕ) → i < ref.len → at ≡ span.at + i → byte_of s.blocks (slot_of ref.name) at ≡ slice_index (table.named_bytes (memory_of s) ref) i
-    byte-named l i at less e =
+    byte-named : (f : VmFile) (l : Lies s span ref) (i at : ℕ) → i < ref.len → at ≡ span.at + i → byte_of s.blocks (slot_of ref.name) at ≡ slice_index (table.named_bytes (memory_of s f) ref) i
+    byte-named f l i at less e =
         let begin = l.chunk.place.at + ref.start in
         let index : at - store.place_of s.blocks (slot_of ref.name) ≡ begin + i = omega (arith, e, l.at) in
-        ap (slice_index block_bytes) index ∙ sym (ap (λ bs. slice_index bs i) (named-is l) ∙ get_or-take ref.len (drop begin block_bytes) i 0 less ∙ get_or-drop begin block_bytes i 0)
+        ap (slice_index block_bytes) index ∙ sym (ap (λ bs. slice_index bs i) (named-is f l) ∙ get_or-take ref.len (drop begin block_bytes) i 0 less ∙ get_or-drop begin block_bytes i 0)
 
     covers : (l : Lies s span ref) (i at : ℕ) → i < ref.len → at ≡ span.at + i → Covers s.blocks (slot_of ref.name) at
     covers l i at less e = (omega (arith, e, l.at), omega (arith, less, e, l.at, l.within))
@@ -95,8 +96,11 @@ module _ (s : KernelState) (span : Span) (ref : Reference) (stands : Stands s sp
     pub load8-calls : (i at byte : ℕ) → i + 1 ≤ ref.len → at ≡ span.at + i → ReadsByte s.blocks at byte → Calls (table.load8 ref i) (Ok byte) s s
     load8-calls i at byte fits e read =
         let l = lies (omega (arith, fits)) in
-        let is : byte ≡ slice_index (table.named_bytes (memory_of s) ref) i = read (slot_of ref.name) (covers l i at (omega (arith, fits)) e) ∙ byte-named l i at (omega (arith, fits)) e in
-        record { answers = (willing, ap (λ b. (Ok b, memory_of s)) (sym is)); spans = λ choice other r t fresh. t }
+        let is : (f : VmFile) → byte ≡ slice_index (table.named_bytes (memory_of s f) ref) i = λ f. read (slot_of ref.name) (covers l i at (omega (arith, fits)) e) ∙ byte-named f l i at (omega (arith, fits)) e in
+        record {
+          answers = λ f tied. answers-willing (table.load8 ref i) (Ok byte) s s f tied (ap (λ b. (Ok b, memory_of s f)) (sym (is f)));
+          spans = λ f tied choice other r t fresh. t;
+        }
 
     word-named : (bytes : List ℕ) (i low high : ℕ) → low ≡ slice_index bytes i → high ≡ slice_index bytes (i + 1) → low + 256 * high ≡ word bytes i
     unfolding word
@@ -109,17 +113,20 @@ module _ (s : KernelState) (span : Span) (ref : Reference) (stands : Stands s sp
         let low : i < ref.len = omega (arith, fits) in
         let high : i + 1 < ref.len = omega (arith, fits) in
         let next : at + 1 ≡ span.at + (i + 1) = omega (arith, e) in
-        let is : w ≡ word (table.named_bytes (memory_of s) ref) i =
+        let is : (f : VmFile) → w ≡ word (table.named_bytes (memory_of s f) ref) i = λ f.
         read slot slot (covers l i at low e) (covers l (i + 1) (at + 1) high next)
-        ∙ word-named (table.named_bytes (memory_of s) ref) i (byte_of s.blocks slot at) (byte_of s.blocks slot (at + 1)) (byte-named l i at low e) (byte-named l (i + 1) (at + 1) high next) in
-        record { answers = (willing, ap (λ b. (Ok b, memory_of s)) (sym is)); spans = λ choice other r t fresh. t }
+        ∙ word-named (table.named_bytes (memory_of s f) ref) i (byte_of s.blocks slot at) (byte_of s.blocks slot (at + 1)) (byte-named f l i at low e) (byte-named f l (i + 1) (at + 1) high next) in
+        record {
+          answers = λ f tied. answers-willing (table.load16 ref i) (Ok w) s s f tied (ap (λ b. (Ok b, memory_of s f)) (sym (is f)));
+          spans = λ f tied choice other r t fresh. t;
+        }
 
     -- the first bytes that a reference names, as a copy takes them
-    pub first-named : (l : Lies s span ref) (n : ℕ) → n ≤ ref.len → part block_bytes (span.at - store.place_of s.blocks (slot_of ref.name)) n ≡ take n (table.named_bytes (memory_of s) ref)
-    first-named l n fits =
+    pub first-named : (f : VmFile) (l : Lies s span ref) (n : ℕ) → n ≤ ref.len → part block_bytes (span.at - store.place_of s.blocks (slot_of ref.name)) n ≡ take n (table.named_bytes (memory_of s f) ref)
+    first-named f l n fits =
         let begin = l.chunk.place.at + ref.start in
         let index : span.at - store.place_of s.blocks (slot_of ref.name) ≡ begin = omega (arith, l.at) in
-        ap (λ j. part block_bytes j n) index ∙ sym (ap (take n) (named-is l) ∙ take-take n ref.len (drop begin block_bytes) fits)
+        ap (λ j. part block_bytes j n) index ∙ sym (ap (take n) (named-is f l) ∙ take-take n ref.len (drop begin block_bytes) fits)
 
 -- bytes of a span lie in the region
 pub good-region : (s : KernelState) (span : Span) (i n : ℕ) → IsLaidOut s.blocks → IsGood s span i n → 0 < n → span.at + i + n ≤ store.region_len s.blocks

@@ -19,6 +19,7 @@ use Rattle.geos_model.specs.Block as block
 use Rattle.geos_model.specs.Chunks as chunks
 use Rattle.geos_model.specs.Heap.{IsHeap}
 use Rattle.geos_table.specs.Memory as model
+use Rattle.geos_table.specs.VmFile.{VmFile}
 use Rattle.geos_table.specs.Effects.{Reference, Nothing}
 use Rattle.geos_table.specs.Calls as table
 use Rattle.geos_model.specs.Writes.{ChangesChunk}
@@ -31,6 +32,7 @@ use Rattle.geos_calls.specs.Spans.{Stands, SpansStay}
 use Rattle.geos_calls.specs.Kernel.{IsKernel, Calls}
 use Rattle.geos_calls.proofs.AccessReads.{HasPlace, Lies, chunk-placed, lies, stands-there}
 use Rattle.geos_table.proofs.Laws.{willing}
+use Rattle.geos_calls.proofs.Files.{answers-willing}
 use Rattle.geos_calls.proofs.Locks.{with_store}
 use Rattle.geos_calls.proofs.Stays.{stands-on}
 use Rattle.geos_calls.proofs.Views.{memory_of-set, there-view, owner-there, handle_of-there}
@@ -140,8 +142,8 @@ module _ (old : KernelState) (k : IsKernel old) (ref : Reference) (there : store
       }
 
   -- every span stays
-  pub written-spans : SpansStay old written-store Nothing
-  written-spans span r s fresh = elim (cases_eq (slot_of r.name) slot) [
+  pub written-spans : (f : VmFile) → SpansStay old written-store f Nothing
+  written-spans f span r s fresh = elim (cases_eq (slot_of r.name) slot) [
     | inl same ↦ stands-own span r same s
     | inr apart ↦ (let is = other (slot_of r.name) apart in stands-on old written-store span r (ap store.bytes_in is) (rw (ap store.locks_in is) s.locked) refl s)
   ]
@@ -167,19 +169,23 @@ module _ (old : KernelState) (k : IsKernel old) (ref : Reference) (there : store
   same-block = λ j. resized (spelled j) (size j)
 
   -- memory is as the row says
-  written-memory : memory_of written-store ≡ (table.store ref i ws willing (memory_of old)).after
-  written-memory =
-      memory_of-set old written-store ref.name (Some (record { locks = store.locks_of old.blocks slot; bytes = written })) (owner-there old ref.name k there) (handle_of-there old ref.name k there) blocks-set refl
-      ∙ ap (model.with_block (memory_of old) ref.name) (rw (there-view old ref.name k there) same-block)
+  written-memory : (f : VmFile) → memory_of written-store f ≡ (table.store ref i ws willing (memory_of old f)).after
+  written-memory f =
+      memory_of-set old written-store f ref.name (Some (record { locks = store.locks_of old.blocks slot; bytes = written })) (owner-there old ref.name k there) (handle_of-there old ref.name k there) blocks-set refl
+      ∙ ap (model.with_block (memory_of old f) ref.name) (rw (there-view old f ref.name k there) same-block)
 
   pub written-calls : Calls (table.store ref i ws) (Ok tt) old written-store
-  written-calls = record { answers = (willing, ap (λ m. (Ok tt, m)) (sym written-memory)); spans = λ choice. written-spans }
+  written-calls = record {
+    answers = λ f tied. answers-willing (table.store ref i ws) (Ok tt) old written-store f tied (ap (λ m. (Ok tt, m)) (sym (written-memory f)));
+    spans = λ f tied choice. written-spans f;
+  }
 
   -- a copy of these bytes is this call
-  pub copied-in : (source : Reference) (n : ℕ) → ws ≡ take n (table.named_bytes (memory_of old) source) → i ≡ 0 → Calls (table.copy ref source n) (Ok tt) old written-store
+  pub copied-in : (source : Reference) (n : ℕ) → ((f : VmFile) → ws ≡ take n (table.named_bytes (memory_of old f) source)) → i ≡ 0 → Calls (table.copy ref source n) (Ok tt) old written-store
   copied-in source n is first = record {
-    answers = (willing, ap (λ m. (Ok tt, m)) (sym (written-memory ∙ ap (λ bs. (table.store ref i bs willing (memory_of old)).after) is ∙ ap (λ j. (table.store ref j (take n (table.named_bytes (memory_of old) source)) willing (memory_of old)).after) first)));
-    spans = λ choice. written-spans;
+    answers = λ f tied. answers-willing (table.copy ref source n) (Ok tt) old written-store f tied
+        (ap (λ m. (Ok tt, m)) (sym (written-memory f ∙ ap (λ bs. (table.store ref i bs willing (memory_of old f)).after) (is f) ∙ ap (λ j. (table.store ref j (take n (table.named_bytes (memory_of old f) source)) willing (memory_of old f)).after) first)));
+    spans = λ f tied choice. written-spans f;
   }
 
 -- a write that covers bytes of a span is a write to the chunk for which it stands
@@ -204,5 +210,5 @@ module _ (old : KernelState) (new : store.Store) (k : IsKernel old) (span : Span
   pub stored-calls : Calls (table.store ref i ws) (Ok tt) old (with_store new)
   stored-calls = subst (λ t. Calls (table.store ref i ws) (Ok tt) old (with_store t)) (sym stored) (written-calls old k ref there place.chunk i ws fits)
 
-  pub copied-over : (source : Reference) (n : ℕ) → ws ≡ take n (table.named_bytes (memory_of old) source) → i ≡ 0 → Calls (table.copy ref source n) (Ok tt) old (with_store new)
+  pub copied-over : (source : Reference) (n : ℕ) → ((f : VmFile) → ws ≡ take n (table.named_bytes (memory_of old f) source)) → i ≡ 0 → Calls (table.copy ref source n) (Ok tt) old (with_store new)
   copied-over source n is first = subst (λ t. Calls (table.copy ref source n) (Ok tt) old (with_store t)) (sym stored) (copied-in old k ref there place.chunk i ws fits source n is first)

@@ -11,18 +11,16 @@ use Rattle.geos_table.specs.declared.call.Change.TheVariants as change
 use Rattle.geos_table.specs.declared.call.Make.{Make}
 use Rattle.geos_table.specs.declared.call.Make.TheVariants.{Lalloc, Canew}
 use Rattle.geos_table.specs.ChunkCalls.{change_edit, row_in, make_edit}
-use Rattle.geos_table.specs.Memory as model
 use Rattle.geos_table.specs.Calls as table
 use Rattle.block_handles.specs.Names.{slot_of}
 use Rattle.block_handles.specs.Store.{Store, IsThere}
 use Rattle.geos_calls.specs.Edits.{Changes, Comes, Carries}
 use Rattle.geos_calls.specs.Heaps.{LacksRoom}
 use Rattle.geos_calls.specs.Kernel.{IsKernel, Calls, HasNoRoomFor}
-use Rattle.geos_calls.specs.View.{KernelState, memory_of, chunks_at}
+use Rattle.geos_calls.specs.View.{KernelState, chunks_at}
 use Rattle.geos_calls.proofs.Chunked.{regrown-kernel}
 use Rattle.geos_calls.proofs.Edited.{enlarged-calls, changed-calls, changed-kernel, enlarge-refused, enlarge-lacks, change-refused, same-kernel}
 use Rattle.geos_calls.proofs.Locks.{with_store}
-use Rattle.geos_calls.proofs.Views.{chunks-known}
 
 -- an edit never refuses for want of room itself
 abbrev AsksNoRoom : {A : Type 0} → (List (Option (List ℕ)) → Edit A) → Type 0
@@ -46,14 +44,14 @@ module _ {A : Type 0} (edit : List (Option (List ℕ)) → Edit A) (old : Kernel
   comes-kernel (Ok answer) h = regrown-kernel old new name k there (edit (chunks_at old.blocks name)).chunks h.1
   comes-kernel (Err why) h = same-kernel edit old new name k there h.1
 
-  pub comes-no_room : AsksNoRoom edit → (r : Result A Refusal) → Comes edit old.blocks new name r → r ≡ Err NoRoom → HasNoRoomFor (with_store new) name (edit (model.chunks_at (memory_of old) name)).chunks
+  pub comes-no_room : AsksNoRoom edit → (r : Result A Refusal) → Comes edit old.blocks new name r → r ≡ Err NoRoom → HasNoRoomFor (with_store new) name (edit (chunks_at old.blocks name)).chunks
   comes-no_room never (Ok answer) h e = absurd cc
   comes-no_room never (Err why) (inl came, same) e =
       let is : why ≡ NoRoom = cc in absurd (never (chunks_at old.blocks name) (subst (λ w. first_refusal (edit (chunks_at old.blocks name)).refusals ≡ Some w) is came))
   comes-no_room never (Err why) (inr room, same) e =
       let is : why ≡ NoRoom = cc in
       let lacks = subst (λ w. LacksRoom w old.blocks name (edit (chunks_at old.blocks name)).chunks) is room.1 in
-      subst (λ cs. HasNoRoomFor (with_store new) name (edit cs).chunks) (chunks-known old name k there) (subst (λ s. HasNoRoomFor (with_store s) name (edit (chunks_at old.blocks name)).chunks) (sym same) lacks.2)
+      subst (λ s. HasNoRoomFor (with_store s) name (edit (chunks_at old.blocks name)).chunks) (sym same) lacks.2
 
 -- No call refuses for want of room itself
 
@@ -94,7 +92,7 @@ module _ (change : Change) (old : KernelState) (new : Store) (name : Name) (k : 
   change-kernel true h = comes-kernel (change_edit change) old new name k there r h
   change-kernel false h = changes-kernel (change_edit change) old new name k there r h
 
-  pub change-no_room : (grows : Bool) → Carries grows (change_edit change) old.blocks new name r → r ≡ Err NoRoom → HasNoRoomFor (with_store new) name (change_edit change (model.chunks_at (memory_of old) name)).chunks
+  pub change-no_room : (grows : Bool) → Carries grows (change_edit change) old.blocks new name r → r ≡ Err NoRoom → HasNoRoomFor (with_store new) name (change_edit change (chunks_at old.blocks name)).chunks
   change-no_room true h e = comes-no_room (change_edit change) old new name k there (λ cs. never (change_edit change cs).refusals (change-clean change cs)) r h e
   change-no_room false h e = absurd (none r h e)
     where

@@ -10,6 +10,7 @@ use Rattle.geos_model.specs.Block as block
 use Rattle.geos_model.specs.Chunks.{need}
 use Rattle.geos_model.specs.Heap.{IsHeap}
 use Rattle.geos_table.specs.Memory as model
+use Rattle.geos_table.specs.VmFile.{VmFile}
 use Rattle.geos_table.specs.Effects.{InBlock}
 use Rattle.geos_model.proofs.Fits.{need-fits}
 use Rattle.block_handles.specs.Names.{slot_of}
@@ -47,19 +48,19 @@ module _ (old : KernelState) (new : Store) (name : Name) (k : IsKernel old) (the
   pub regrown-small : need cs ≤ 65520
   regrown-small = omega (arith, r.long, r.heap.0.most)
 
-  pub regrown-memory : memory_of (with_store new) ≡ model.with_chunks (memory_of old) name cs
-  regrown-memory =
+  pub regrown-memory : (f : VmFile) → memory_of (with_store new) f ≡ model.with_chunks (memory_of old f) name cs
+  regrown-memory f =
       let own : model.Block = record { locks = locks_of old.blocks slot; heap = record { chunks = cs; size = size } } in
       let got : Some (spelled (locks_of old.blocks slot) r.bytes) ≡ Some own = λ i. Some (record { locks = locks_of old.blocks slot; heap = record { chunks = r.spells i; size = r.long i } }) in
-      memory_of-set old (with_store new) name (Some (record { locks = locks_of old.blocks slot; bytes = r.bytes })) (owner-there old name k there) (handle_of-there old name k there) r.blocks r.len
-      ∙ ap (model.with_block (memory_of old) name) (rw (there-view old name k there) got)
+      memory_of-set old (with_store new) f name (Some (record { locks = locks_of old.blocks slot; bytes = r.bytes })) (owner-there old name k there) (handle_of-there old name k there) r.blocks r.len
+      ∙ ap (model.with_block (memory_of old f) name) (rw (there-view old f name k there) got)
 
   same : (j : ℕ) → j ≢ slot → block_at new j ≡ block_at old.blocks j
   same = rechunked-other old.blocks new slot there cs size r
 
   -- a span in another block stays
-  pub regrown-spans : SpansStay old (with_store new) (InBlock name)
-  regrown-spans span ref s fresh =
+  pub regrown-spans : (f : VmFile) → SpansStay old (with_store new) f (InBlock name)
+  regrown-spans f span ref s fresh =
       let standing : IsThere old.blocks (slot_of ref.name) = there_of_locks (block_at old.blocks (slot_of ref.name)) s.locked in
       let apart : slot_of ref.name ≢ slot = other-slot old ref.name name k standing there fresh in
       let is = same (slot_of ref.name) apart in

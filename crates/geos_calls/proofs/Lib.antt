@@ -1,3 +1,4 @@
+pub mod Files
 pub mod Views
 pub mod Stays
 pub mod Rows

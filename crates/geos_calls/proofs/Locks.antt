@@ -7,6 +7,8 @@ use Rattle.std.proofs.lemmas.List.{get_or-set_same, get_or-set_other}
 use Rattle.geos_model.specs.declared.name.Name.{Name}
 use Rattle.geos_model.specs.Names.{mem}
 use Rattle.geos_table.specs.Memory as model
+use Rattle.geos_table.specs.VmFile.{VmFile}
+use Rattle.geos_model.specs.declared.refusal.Refusal.TheVariants.{BadHandle, Locked}
 use Rattle.geos_table.specs.Effects.{Reference, Nothing, InBlock, OfLock}
 use Rattle.geos_table.specs.Calls as table
 use Rattle.block_handles.specs.declared.error.HandleError.{HandleError}
@@ -20,6 +22,7 @@ use Rattle.geos_calls.specs.View.{KernelState, memory_of}
 use Rattle.geos_calls.specs.Spans.{Stands, SpansStay}
 use Rattle.geos_calls.specs.Kernel.{IsKernel, Calls}
 use Rattle.geos_calls.specs.Refused.{of_handle}
+use Rattle.geos_calls.proofs.Files.{answers-willing}
 use Rattle.geos_calls.proofs.Rows.{mlock-ok, mlock-absent, mlock-full, unlock-ok, mfree-ok, mfree-absent, mfree-locked}
 use Rattle.geos_calls.proofs.Stays.{stands-on, spans-same, kernel-on, Same}
 use Rattle.geos_calls.proofs.Views.{inside, there_of_locks, memory_of-set, spelled, there-view, absent-view, handle_of-there, owner-there, other-slot, locks-view}
@@ -48,8 +51,8 @@ module _ (old : KernelState) (name : Name) (k : IsKernel old) where
   relocked n = with_store (change.with_locks old.blocks slot n)
 
   -- a new count of locks
-  relocked-memory : (n : ℕ) → store.IsThere old.blocks slot → memory_of (relocked n) ≡ model.with_block (memory_of old) name (Some (record (spelled (store.locks_of old.blocks slot) (store.bytes_of old.blocks slot)) { locks = n }))
-  relocked-memory n there = memory_of-set old (relocked n) name (change.block_with_locks old.blocks slot n) (owner-there old name k there) (handle_of-there old name k there) refl refl
+  relocked-memory : (f : VmFile) (n : ℕ) → store.IsThere old.blocks slot → memory_of (relocked n) f ≡ model.with_block (memory_of old f) name (Some (record (spelled (store.locks_of old.blocks slot) (store.bytes_of old.blocks slot)) { locks = n }))
+  relocked-memory f n there = memory_of-set old (relocked n) f name (change.block_with_locks old.blocks slot n) (owner-there old name k there) (handle_of-there old name k there) refl refl
 
   relocked-own : (n : ℕ) → store.IsThere old.blocks slot → store.block_at (relocked n).blocks slot ≡ change.block_with_locks old.blocks slot n
   relocked-own n there = get_or-set_same old.blocks.blocks slot (change.block_with_locks old.blocks slot n) None (inside old.blocks slot there)
@@ -88,31 +91,34 @@ module _ (old : KernelState) (name : Name) (k : IsKernel old) where
       ]
 
   -- while a block is locked, its spans stay, and so do all others
-  lock-spans : (n : ℕ) → 0 < n → store.IsThere old.blocks slot → SpansStay old (relocked n) Nothing
-  lock-spans n some there span ref s fresh = elim (cases_eq (slot_of ref.name) slot) [
+  lock-spans : (f : VmFile) (n : ℕ) → 0 < n → store.IsThere old.blocks slot → SpansStay old (relocked n) f Nothing
+  lock-spans f n some there span ref s fresh = elim (cases_eq (slot_of ref.name) slot) [
     | inl same ↦ stands-own n span ref some there same s
     | inr apart ↦ stands-other n span ref apart s
   ]
 
   -- when a block is locked no more, the spans in all others stay
-  unlock-spans : (n : ℕ) → store.IsThere old.blocks slot → SpansStay old (relocked n) (InBlock name)
-  unlock-spans n there span ref s fresh = stands-other n span ref (other-slot old ref.name name k (there_of_locks (store.block_at old.blocks (slot_of ref.name)) s.locked) there fresh) s
+  unlock-spans : (f : VmFile) (n : ℕ) → store.IsThere old.blocks slot → SpansStay old (relocked n) f (InBlock name)
+  unlock-spans f n there span ref s fresh = stands-other n span ref (other-slot old ref.name name k (there_of_locks (store.block_at old.blocks (slot_of ref.name)) s.locked) there fresh) s
 
   -- a lock that is given back
-  given-back : (n : ℕ) → model.locks_of (memory_of old) name ≡ n + 1 → store.IsThere old.blocks slot → SpansStay old (relocked n) (OfLock name)
-  given-back zero one there span ref s fresh =
-      let last : IfSome (if model.locks_of (memory_of old) name == 1 then Some name else None) (λ other. ref.name ≢ other) = fresh in
-      unlock-spans 0 there span ref s (subst (λ n. IfSome (if n == 1 then Some name else None) (λ other. ref.name ≢ other)) one last)
-  given-back (suc n) one there span ref s fresh = lock-spans (suc n) (omega arith) there span ref s tt
+  given-back : (f : VmFile) (n : ℕ) → model.locks_of (memory_of old f) name ≡ n + 1 → store.IsThere old.blocks slot → SpansStay old (relocked n) f (OfLock name)
+  given-back f zero one there span ref s fresh =
+      let last : IfSome (if model.locks_of (memory_of old f) name == 1 then Some name else None) (λ other. ref.name ≢ other) = fresh in
+      unlock-spans f 0 there span ref s (subst (λ n. IfSome (if n == 1 then Some name else None) (λ other. ref.name ≢ other)) one last)
+  given-back f (suc n) one there span ref s fresh = lock-spans f (suc n) (omega arith) there span ref s tt
 
   pub unlock-calls : (new : store.Store) → 0 < store.locks_of old.blocks slot → new ≡ change.with_lock_less old.blocks slot → Calls (table.unlock name) (Ok tt) old (with_store new)
   unlock-calls new locked e =
       let there : store.IsThere old.blocks slot = there_of_locks (store.block_at old.blocks slot) locked in
       let n = store.locks_of old.blocks slot - 1 in
-      let one : model.locks_of (memory_of old) name ≡ n + 1 = omega (arith, locks-view old name k, locked) in
       record {
-        answers = unlock-ok (memory_of old) (memory_of (with_store new)) name _ (there-view old name k there) (ap (λ s. memory_of (with_store s)) e ∙ relocked-memory n there);
-        spans = λ choice. subst (λ s. SpansStay old (with_store s) (OfLock name)) (sym e) (given-back n one there);
+        answers = λ f tied. answers-willing (table.unlock name) (Ok tt) old (with_store new) f tied
+            (unlock-ok (memory_of old f) (memory_of (with_store new) f) name _ (there-view old f name k there) (ap (λ s. memory_of (with_store s) f) e ∙ relocked-memory f n there));
+        spans = λ f tied choice. (
+            let one : model.locks_of (memory_of old f) name ≡ n + 1 = omega (arith, locks-view old f tied name k, locked) in
+            subst (λ s. SpansStay old (with_store s) f (OfLock name)) (sym e) (given-back f n one there)
+            );
       }
 
   pub unlock-kernel : (new : store.Store) → 0 < store.locks_of old.blocks slot → new ≡ change.with_lock_less old.blocks slot → IsKernel (with_store new)
@@ -127,8 +133,9 @@ module _ (old : KernelState) (h : ℕ) (k : IsKernel old) where
       let n = store.locks_of old.blocks mem_slot + 1 in
       let few : (store.locks_of old.blocks mem_slot == 65535) ≡ false = below (λ e. not_err (full.1 e)) in
       record {
-        answers = mlock-ok (memory_of old) (memory_of (with_store new)) h _ (there-view old (mem h) k there) few (ap (λ s. memory_of (with_store s)) ok ∙ relocked-memory old (mem h) k n there);
-        spans = λ choice. subst (λ s. SpansStay old (with_store s) Nothing) (sym ok) (lock-spans old (mem h) k n (omega arith) there);
+        answers = λ f tied. answers-willing (table.mlock h) (Ok tt) old (with_store new) f tied
+            (mlock-ok (memory_of old f) (memory_of (with_store new) f) h _ (there-view old f (mem h) k there) few (ap (λ s. memory_of (with_store s) f) ok ∙ relocked-memory old (mem h) k f n there));
+        spans = λ f tied choice. subst (λ s. SpansStay old (with_store s) f Nothing) (sym ok) (lock-spans old (mem h) k f n (omega arith) there);
       }
     where
       not_err : (Ok done) ≡ Err handle.Locked → ⊥
@@ -137,16 +144,18 @@ module _ (old : KernelState) (h : ℕ) (k : IsKernel old) where
       below : (store.locks_of old.blocks mem_slot ≡ 65535 → ⊥) → (store.locks_of old.blocks mem_slot == 65535) ≡ false
       below ne = grind (arith, nat_tests)
   mlock-calls new (Err handle.BadHandle) (there, ok, bad, full, err) = record {
-    answers = mlock-absent (memory_of old) (memory_of (with_store new)) h (absent-view old (mem h) k (bad.0 refl)) (ap (λ s. memory_of (with_store s)) err);
-    spans = λ choice. spans-same old (with_store new) Nothing (ap with_store err);
+    answers = λ f tied. answers-willing (table.mlock h) (Err BadHandle) old (with_store new) f tied
+        (mlock-absent (memory_of old f) (memory_of (with_store new) f) h (absent-view old f h k (bad.0 refl)) (ap (λ s. memory_of (with_store s) f) err));
+    spans = λ f tied choice. spans-same old (with_store new) f Nothing (ap with_store err);
   }
   mlock-calls new (Err handle.Locked) (there, ok, bad, full, err) =
       let most = full.0 refl in
       let locked : store.IsThere old.blocks mem_slot = there_of_locks (store.block_at old.blocks mem_slot) (omega (arith, most)) in
       let many : (store.locks_of old.blocks mem_slot == 65535) ≡ true = rw most refl in
       record {
-        answers = mlock-full (memory_of old) (memory_of (with_store new)) h _ (there-view old (mem h) k locked) many (ap (λ s. memory_of (with_store s)) err);
-        spans = λ choice. spans-same old (with_store new) Nothing (ap with_store err);
+        answers = λ f tied. answers-willing (table.mlock h) (Err Locked) old (with_store new) f tied
+            (mlock-full (memory_of old f) (memory_of (with_store new) f) h _ (there-view old f (mem h) k locked) many (ap (λ s. memory_of (with_store s) f) err));
+        spans = λ f tied choice. spans-same old (with_store new) f Nothing (ap with_store err);
       }
 
   pub mlock-kernel : (new : store.Store) (r : Result (Unit {0}) HandleError) → LocksSlot old.blocks new mem_slot r → IsKernel (with_store new)
@@ -161,8 +170,8 @@ module _ (old : KernelState) (h : ℕ) (k : IsKernel old) where
   mlock-kernel new (Err e) (there, ok, bad, full, err) = subst (λ s. IsKernel (with_store s)) (sym err) k
 
   -- a block that goes takes no span with it, since it is not locked
-  free-spans : store.locks_of old.blocks mem_slot ≡ 0 → SpansStay old (with_store (change.without old.blocks mem_slot)) Nothing
-  free-spans unlocked span ref s fresh =
+  free-spans : (f : VmFile) → store.locks_of old.blocks mem_slot ≡ 0 → SpansStay old (with_store (change.without old.blocks mem_slot)) f Nothing
+  free-spans f unlocked span ref s fresh =
       let apart : slot_of ref.name ≢ mem_slot = λ same. absurd (omega (arith, s.locked, ap (store.locks_of old.blocks) same, unlocked)) in
       let new = change.without old.blocks mem_slot in
       let same : store.block_at new (slot_of ref.name) ≡ store.block_at old.blocks (slot_of ref.name) = get_or-set_other old.blocks.blocks mem_slot (slot_of ref.name) None None apart in
@@ -175,9 +184,10 @@ module _ (old : KernelState) (h : ℕ) (k : IsKernel old) where
       let free : nat_lt 0 (store.locks_of old.blocks mem_slot) ≡ false = rw unlocked refl in
       let gone = with_store (change.without old.blocks mem_slot) in
       record {
-        answers = mfree-ok (memory_of old) (memory_of (with_store new)) h _ (there-view old (mem h) k there) free
-            (ap (λ s. memory_of (with_store s)) ok ∙ memory_of-set old gone (mem h) None refl (handle_of-there old (mem h) k there) refl refl);
-        spans = λ choice. subst (λ s. SpansStay old (with_store s) Nothing) (sym ok) (free-spans unlocked);
+        answers = λ f tied. answers-willing (table.mfree h) (Ok tt) old (with_store new) f tied
+            (mfree-ok (memory_of old f) (memory_of (with_store new) f) h _ (there-view old f (mem h) k there) free
+            (ap (λ s. memory_of (with_store s) f) ok ∙ memory_of-set old gone f (mem h) None refl (handle_of-there old (mem h) k there) refl refl));
+        spans = λ f tied choice. subst (λ s. SpansStay old (with_store s) f Nothing) (sym ok) (free-spans f unlocked);
       }
     where
       not_err : (Ok done) ≡ Err handle.Locked → ⊥
@@ -187,15 +197,17 @@ module _ (old : KernelState) (h : ℕ) (k : IsKernel old) where
       none zero f = refl
       none (suc n) f = absurd (f (omega arith))
   mfree-calls new (Err handle.BadHandle) (there, ok, bad, full, err) = record {
-    answers = mfree-absent (memory_of old) (memory_of (with_store new)) h (absent-view old (mem h) k (bad.0 refl)) (ap (λ s. memory_of (with_store s)) err);
-    spans = λ choice. spans-same old (with_store new) Nothing (ap with_store err);
+    answers = λ f tied. answers-willing (table.mfree h) (Err BadHandle) old (with_store new) f tied
+        (mfree-absent (memory_of old f) (memory_of (with_store new) f) h (absent-view old f h k (bad.0 refl)) (ap (λ s. memory_of (with_store s) f) err));
+    spans = λ f tied choice. spans-same old (with_store new) f Nothing (ap with_store err);
   }
   mfree-calls new (Err handle.Locked) (there, ok, bad, full, err) =
       let some = full.0 refl in
       let locked : nat_lt 0 (store.locks_of old.blocks mem_slot) ≡ true = grind (arith, some) in
       record {
-        answers = mfree-locked (memory_of old) (memory_of (with_store new)) h _ (there-view old (mem h) k (there_of_locks (store.block_at old.blocks mem_slot) some)) locked (ap (λ s. memory_of (with_store s)) err);
-        spans = λ choice. spans-same old (with_store new) Nothing (ap with_store err);
+        answers = λ f tied. answers-willing (table.mfree h) (Err Locked) old (with_store new) f tied
+            (mfree-locked (memory_of old f) (memory_of (with_store new) f) h _ (there-view old f (mem h) k (there_of_locks (store.block_at old.blocks mem_slot) some)) locked (ap (λ s. memory_of (with_store s) f) err));
+        spans = λ f tied choice. spans-same old (with_store new) f Nothing (ap with_store err);
       }
 
   pub mfree-kernel : (new : store.Store) (r : Result (Unit {0}) HandleError) → FreesSlot old.blocks new mem_slot r → IsKernel (with_store new)

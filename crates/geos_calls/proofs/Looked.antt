@@ -9,6 +9,7 @@ use Rattle.geos_model.specs.Refusals.{first_refusal}
 use Rattle.geos_model.specs.Block as block
 use Rattle.geos_model.specs.Chunks.{chunk_of}
 use Rattle.geos_table.specs.Memory as model
+use Rattle.geos_table.specs.VmFile.{VmFile}
 use Rattle.geos_table.specs.Effects.{Reference, Call}
 use Rattle.geos_model.specs.Edits as edits
 use Rattle.geos_model.specs.Edits.{Edit, Part}
@@ -29,9 +30,10 @@ use Rattle.geos_calls.specs.declared.span.Span.{Span}
 use Rattle.geos_calls.specs.View.{KernelState, memory_of, chunks_at, IsLocked}
 use Rattle.geos_calls.specs.Spans.{Stands, IsStanding}
 use Rattle.geos_calls.specs.Edits.{Tells, LiesIn, Finds, enough}
-use Rattle.geos_calls.specs.Kernel.{IsKernel, Calls, GivesSpan}
+use Rattle.geos_calls.specs.Kernel.{IsKernel, AnswersWith, Calls, GivesSpan}
 use Rattle.geos_calls.specs.Refused.{why_no_array, why_no_element}
-use Rattle.geos_calls.proofs.Views.{chunks-known, locked-there, locks-view}
+use Rattle.geos_calls.proofs.Files.{answers-willing}
+use Rattle.geos_calls.proofs.Views.{chunks-known, locked-there}
 
 -- of tests the first that holds is the error's, as the kernel says it
 pub array-refuses : (why : ArrayError) (tests : List (Bool × Refusal)) → IsArrayError why tests → first_refusal tests ≡ Some (why_no_array why)
@@ -106,29 +108,30 @@ gives-standing call span s (Err refusal, answers, stands) = absurd stands
 
 module _ (s : KernelState) (name : Name) (k : IsKernel s) (locked : IsLocked s name) where
   there : store.IsThere s.blocks (slot_of name)
-  there = locked-there s name k locked
+  there = locked-there s name locked
 
-  abbrev memory : model.Memory
-  memory = memory_of s
+  abbrev memory : VmFile → model.Memory
+  memory f = memory_of s f
 
   abbrev cs : List (Option (List ℕ))
   cs = chunks_at s.blocks name
 
   -- what is said of the chunks that the block's bytes spell holds of those that the model knows
-  known : (P : List (Option (List ℕ)) → Type 0) → P cs → P (model.chunks_at memory name)
-  known P = subst P (chunks-known s name k there)
+  known : (f : VmFile) (P : List (Option (List ℕ)) → Type 0) → P cs → P (model.chunks_at (memory f) name)
+  known f P = subst P (chunks-known s f name k there)
 
   -- a call that tells something of the chunks
   pub tells : {A : Type 0} (edit : List (Option (List ℕ)) → Edit A) (answer : A) → first_refusal (edit cs).refusals ≡ None → answer ≡ (edit cs).answer → Calls (table.reads edit name) (Ok answer) s s
   tells edit answer passed told = record {
-    answers = rw (known (λ ds. answer ≡ (edit ds).answer) told) (reads-ok edit name memory (known (λ ds. first_refusal (edit ds).refusals ≡ None) passed));
-    spans = λ choice span ref t fresh. t;
+    answers = λ f tied. answers-willing (table.reads edit name) (Ok answer) s s f tied
+        (rw (known f (λ ds. answer ≡ (edit ds).answer) told) (reads-ok edit name (memory f) (known f (λ ds. first_refusal (edit ds).refusals ≡ None) passed)));
+    spans = λ f tied choice span ref t fresh. t;
   }
 
   pub tells-not : {A : Type 0} (edit : List (Option (List ℕ)) → Edit A) (why : Refusal) → first_refusal (edit cs).refusals ≡ Some why → Calls (table.reads edit name) (Err why) s s
   tells-not edit why came = record {
-    answers = reads-refused edit name memory why (known (λ ds. first_refusal (edit ds).refusals ≡ Some why) came);
-    spans = λ choice span ref t fresh. t;
+    answers = λ f tied. answers-willing (table.reads edit name) (Err why) s s f tied (reads-refused edit name (memory f) why (known f (λ ds. first_refusal (edit ds).refusals ≡ Some why) came));
+    spans = λ f tied choice span ref t fresh. t;
   }
 
   pub told : {A : Type 0} (edit : List (Option (List ℕ)) → Edit A) (r : Result A Refusal) → Tells edit cs r → Calls (table.reads edit name) r s s
@@ -138,13 +141,25 @@ module _ (s : KernelState) (name : Name) (k : IsKernel s) (locked : IsLocked s n
   -- a call that gives a reference
   pub refers : (edit : List (Option (List ℕ)) → Edit Part) (span : Span) → first_refusal (edit cs).refusals ≡ None → Stands s span (table.in_block name (edit cs).answer) → GivesSpan (table.refers edit name) (Ok span) s
   refers edit span passed stands = (
-    Ok (table.in_block name (edit (model.chunks_at memory name)).answer),
-    refers-ok edit name memory (known (λ ds. first_refusal (edit ds).refusals ≡ None) passed),
-    known (λ ds. Stands s span (table.in_block name (edit ds).answer)) stands,
+    Ok (table.in_block name (edit cs).answer),
+    record {
+      answers = λ f tied. subst (λ ds. AnswersWith (table.refers edit name) (Ok (table.in_block name (edit ds).answer)) s s f) (sym (chunks-known s f name k there))
+          (answers-willing (table.refers edit name) (Ok (table.in_block name (edit (model.chunks_at (memory f) name)).answer)) s s f tied
+          (refers-ok edit name (memory f) (known f (λ ds. first_refusal (edit ds).refusals ≡ None) passed)));
+      spans = λ f tied choice span ref t fresh. t;
+    },
+    stands,
   )
 
   pub refers-not : (edit : List (Option (List ℕ)) → Edit Part) (why : Refusal) → first_refusal (edit cs).refusals ≡ Some why → GivesSpan (table.refers edit name) (Err why) s
-  refers-not edit why came = (Err why, refers-refused edit name memory why (known (λ ds. first_refusal (edit ds).refusals ≡ Some why) came), refl)
+  refers-not edit why came = (
+    Err why,
+    record {
+      answers = λ f tied. answers-willing (table.refers edit name) (Err why) s s f tied (refers-refused edit name (memory f) why (known f (λ ds. first_refusal (edit ds).refusals ≡ Some why) came));
+      spans = λ f tied choice span ref t fresh. t;
+    },
+    refl,
+  )
 
   -- bytes that were found
   pub found : (edit : List (Option (List ℕ)) → Edit Part) (at len place : ℕ) → place ≡ store.place_of s.blocks (slot_of name) → Finds edit (store.bytes_of s.blocks (slot_of name)) (Ok (at, len))
@@ -154,7 +169,7 @@ module _ (s : KernelState) (name : Name) (k : IsKernel s) (locked : IsLocked s n
       let span : Span = record { at = place + at; len = len } in
       let stands : Stands s span (table.in_block name (edit cs).answer) = record {
         bytes = lies.whole;
-        locked = omega (arith, locked, locks-view s name k);
+        locked = locked;
         chunk = lies.chunk;
         fits = lies.fits;
         len = h.1;

@@ -8,6 +8,7 @@ use Rattle.geos_model.specs.declared.name.Owner.TheVariants.{Mem}
 use Rattle.block_handles.specs.Store as store
 use Rattle.block_handles.specs.Used.{IsLowest, AllInUse}
 use Rattle.geos_table.specs.Memory as model
+use Rattle.geos_table.specs.VmFile.{VmFile}
 use Rattle.block_handles.specs.Names.{slot_of}
 use Rattle.geos_model.specs.Names.{mem}
 use Rattle.geos_calls.specs.View.{KernelState, block_in, memory_of}
@@ -31,17 +32,17 @@ module _ (s : KernelState) (k : IsKernel s) where
       let slot : slot_of (mem (suc i)) ≡ i = slot_of-mem (suc i) (omega arith, omega arith) ∙ omega arith in
       ap is_none (get_or-view s.blocks.blocks i lt ∙ view-absent (store.block_at s.blocks i) (λ there. absent (subst (store.IsThere s.blocks) (sym slot) there)))
 
-  pub lowest-some : (h : ℕ) → IsLowest s.blocks Mem h → model.lowest_handle (memory_of s) Mem ≡ Some h
-  lowest-some zero l = absurd (omega (arith, l.handle.0))
-  lowest-some (suc i) l =
+  pub lowest-some : (f : VmFile) (h : ℕ) → IsLowest s.blocks Mem h → model.lowest_handle (memory_of s f) Mem ≡ Some h
+  lowest-some f zero l = absurd (omega (arith, l.handle.0))
+  lowest-some f (suc i) l =
       let lt : i < 1024 = omega (arith, l.handle.1) in
       let first : position_or_len is_none blocks ≡ i =
       position_or_len_is is_none blocks i None (omega (arith, count)) (λ j below. used j (omega arith) (l.lower (suc j) (omega arith, omega arith) (omega arith))) (λ inside. unused i lt l.free) in
       let inside : nat_lt i (length blocks) ≡ true = rw count (grind (arith, lt)) in
       rw (first, inside) refl
 
-  pub lowest-none : AllInUse s.blocks Mem → model.lowest_handle (memory_of s) Mem ≡ None
-  lowest-none all =
+  pub lowest-none : (f : VmFile) → AllInUse s.blocks Mem → model.lowest_handle (memory_of s f) Mem ≡ None
+  lowest-none f all =
       let last : position_or_len is_none blocks ≡ 1024 =
       position_or_len_is is_none blocks 1024 None (omega (arith, count)) (λ j below. used j below (all (suc j) (omega arith, omega arith))) (λ inside. absurd (omega (arith, inside, count))) in
       rw (last, count) refl

@@ -10,6 +10,7 @@ use Rattle.geos_model.specs.Names.{named, mem}
 use Rattle.geos_model.specs.Block as block
 use Rattle.geos_model.specs.Heap.{IsHeap}
 use Rattle.geos_table.specs.Memory as model
+use Rattle.geos_table.specs.VmFile.{VmFile}
 use Rattle.geos_table.specs.Effects.{Nothing}
 use Rattle.geos_table.specs.Calls as table
 use Rattle.block_handles.specs.Names.{slot_of}
@@ -21,23 +22,28 @@ use Rattle.geos_calls.specs.View.{KernelState, memory_of}
 use Rattle.geos_calls.specs.Spans.{SpansStay}
 use Rattle.geos_calls.specs.Kernel.{IsKernel, Calls, MakesHeap}
 use Rattle.geos_calls.proofs.Locks.{with_store}
+use Rattle.geos_calls.proofs.Files.{answers-willing, answers-cramped}
 use Rattle.geos_calls.proofs.Lowest.{lowest-some, lowest-none}
 use Rattle.geos_calls.proofs.Rows.{mnew-ok, mnew-full, mnew-tight}
 use Rattle.geos_calls.proofs.Stays.{stands-on, spans-same}
 use Rattle.geos_calls.proofs.Tight.{is_tight-crowded}
-use Rattle.geos_calls.proofs.Views.{memory_of-set, there_of_locks, slot_handle, spelled, locks-view}
+use Rattle.geos_calls.proofs.Views.{memory_of-set, there_of_locks, slot_handle, spelled}
 
 pub no_err : {A E : Type 0} {x : A} {e : E} → ◌≡◌ {A = Result A E} (Ok x) (Err e) → ⊥
 no_err same = absurd cc
 
 module _ (old : KernelState) (k : IsKernel old) where
   pub mnew-full-calls : AllInUse old.blocks Mem → Calls table.mnew (Err NoHandle) old old
-  mnew-full-calls all = record { answers = mnew-full (memory_of old) (lowest-none old k all); spans = λ choice span ref s fresh. s }
+  mnew-full-calls all = record {
+    answers = λ f tied. answers-willing table.mnew (Err NoHandle) old old f tied (mnew-full (memory_of old f) (lowest-none old k f all));
+    spans = λ f tied choice span ref s fresh. s;
+  }
 
   pub mnew-tight-calls : (new : store.Store) (h : ℕ) → IsLowest old.blocks Mem h → HasNoRoom old.blocks (slot_of (mem h)) 64 → new ≡ old.blocks → Calls table.mnew (Err NoRoom) old (with_store new)
   mnew-tight-calls new h low room e = record {
-    answers = mnew-tight (memory_of old) (memory_of (with_store new)) h (lowest-some old k h low) (is_tight-crowded old h k low.handle 64 room.crowded) (ap (λ s. memory_of (with_store s)) e);
-    spans = λ choice. spans-same old (with_store new) Nothing (ap with_store e);
+    answers = λ f tied. answers-cramped table.mnew (Err NoRoom) old (with_store new) f tied
+        (mnew-tight (memory_of old f) (memory_of (with_store new) f) h (lowest-some old k f h low) (is_tight-crowded old f tied h k low.handle 64 room.crowded) (ap (λ s. memory_of (with_store s) f) e));
+    spans = λ f tied choice. spans-same old (with_store new) f Nothing (ap with_store e);
   }
 
   module _ (new : store.Store) (h : ℕ) (low : IsLowest old.blocks Mem h) (made : MakesHeap old.blocks new (slot_of (mem h)) h) where
@@ -54,8 +60,8 @@ module _ (old : KernelState) (k : IsKernel old) where
     made-own = ap (λ bs. get_or bs slot None) made.blocks ∙ get_or-set_same old.blocks.blocks slot (Some (record { locks = 1; bytes = made.bytes })) None small
 
     -- a span stands in another block, which is locked and stays
-    made-spans : SpansStay old (with_store new) Nothing
-    made-spans span ref s fresh =
+    made-spans : (f : VmFile) → SpansStay old (with_store new) f Nothing
+    made-spans f span ref s fresh =
         let there : store.IsThere old.blocks (slot_of ref.name) = there_of_locks (store.block_at old.blocks (slot_of ref.name)) s.locked in
         let apart : slot_of ref.name ≢ slot = λ same. low.free (subst (store.IsThere old.blocks) same there) in
         let same = made-other (slot_of ref.name) apart in
@@ -66,9 +72,10 @@ module _ (old : KernelState) (k : IsKernel old) where
 
     pub mnew-calls : Calls table.mnew (Ok h) old (with_store new)
     mnew-calls = record {
-      answers = mnew-ok (memory_of old) (memory_of (with_store new)) h (lowest-some old k h low)
-          (memory_of-set old (with_store new) (mem h) _ refl low.handle made.blocks made.len ∙ ap (λ b. model.with_block (memory_of old) (mem h) (Some b)) fresh-block);
-      spans = λ choice. made-spans;
+      answers = λ f tied. answers-willing table.mnew (Ok h) old (with_store new) f tied
+          (mnew-ok (memory_of old f) (memory_of (with_store new) f) h (lowest-some old k f h low)
+          (memory_of-set old (with_store new) f (mem h) _ refl low.handle made.blocks made.len ∙ ap (λ b. model.with_block (memory_of old f) (mem h) (Some b)) fresh-block));
+      spans = λ f tied choice. made-spans f;
     }
 
     -- a block of another name is as it was
@@ -113,5 +120,5 @@ module _ (old : KernelState) (k : IsKernel old) where
         ]
 
     -- the block is locked once
-    pub made-locked : model.locks_of (memory_of (with_store new)) (mem h) ≡ 1
-    made-locked = sym (locks-view (with_store new) (mem h) kernel-made) ∙ ap store.locks_in made-own
+    pub made-locked : store.locks_of new slot ≡ 1
+    made-locked = ap store.locks_in made-own

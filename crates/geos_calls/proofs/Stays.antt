@@ -4,6 +4,7 @@ use Rattle.geos_model.specs.declared.name.Name.{Name}
 use Rattle.geos_model.specs.declared.name.Owner.TheVariants.{Vm}
 use Rattle.geos_model.specs.Names.{named}
 use Rattle.geos_model.specs.Block as block
+use Rattle.geos_table.specs.VmFile.{VmFile}
 use Rattle.geos_table.specs.Effects.{Reference, Staleness}
 use Rattle.geos_model.specs.Heap.{IsHeap}
 use Rattle.block_handles.specs.Names.{slot_of}
@@ -27,8 +28,8 @@ stands-on old new span ref bytes locked place s = record {
 }
 
 -- where nothing has changed, all spans stay
-pub spans-same : (old new : KernelState) (stale : Staleness) → new ≡ old → SpansStay old new stale
-spans-same old new stale e span ref s fresh = subst (λ t. Stands t span ref) (sym e) s
+pub spans-same : (old new : KernelState) (f : VmFile) (stale : Staleness) → new ≡ old → SpansStay old new f stale
+spans-same old new f stale e span ref s fresh = subst (λ t. Stands t span ref) (sym e) s
 
 -- a slot has no block, or the bytes that it had
 abbrev pub Same : KernelState → KernelState → ℕ → Type 0

@@ -1,5 +1,5 @@
 -- Where no stretch of the region has room, the sizes of the blocks say so.
-use Rattle.std.proofs.Common.{◌≡◌, ◌≢◌, ℕ, zero, suc, ◌+◌, ◌-◌, ◌*◌, ◌<◌, ◌≤◌, List, [], ◌∷◌, ◌++◌, length, length-take, length-set, map, take, set, get_or, replicate, Option, Some, None, Bool, true, false, refl, sym, ap, ◌∙◌, arith, inl, inr}
+use Rattle.std.proofs.Common.{◌≡◌, ◌≢◌, ℕ, zero, suc, ◌+◌, ◌-◌, ◌*◌, ◌<◌, ◌≤◌, List, [], ◌∷◌, ◌++◌, length, length-take, length-set, map, take, set, get_or, Option, Some, None, Bool, true, false, refl, sym, ap, ◌∙◌, arith, inl, inr}
 use Rattle.std.specs.Prelude.{sum_by, count_by, nat_lt, nat_eq, cond, if◌then◌else◌}
 use Rattle.std.proofs.lemmas.Bool.{cases_eq}
 use Rattle.std.proofs.lemmas.Bool.Decides.{nat_tests}
@@ -14,8 +14,10 @@ use Rattle.geos_model.specs.declared.name.Owner.{Owner}
 use Rattle.geos_model.specs.declared.name.Owner.TheVariants.{Mem, Vm}
 use Rattle.geos_model.specs.Names.{named, mem}
 use Rattle.geos_table.specs.Memory as model
+use Rattle.geos_table.specs.Directories.{VmBlock, is_held_in}
+use Rattle.geos_table.specs.VmFile.{VmFile}
 use Rattle.geos_table.specs.Tight as tight
-use Rattle.geos_calls.specs.View.{KernelState, block_in, memory_of}
+use Rattle.geos_calls.specs.View.{KernelState, IsFileOf, block_in, memory_of}
 use Rattle.geos_calls.specs.Kernel.{IsKernel}
 use Rattle.geos_calls.proofs.Views.{slot_of-mem, high-absent, get_or-view}
 
@@ -52,26 +54,38 @@ entries-set : (xs : List (Option model.Block)) (h : ℕ) → 1 ≤ h → model.w
 entries-set xs zero some = absurd (omega (arith, some))
 entries-set xs (suc h) some = let last : h ≡ suc h - 1 = omega arith in ap (λ i. set xs i None) last
 
--- blocks that are none add nothing
-none-sum : (g : Option model.Block → ℕ) → g None ≡ 0 → (n : ℕ) → sum_by g (map tight.staying (replicate n None)) ≡ 0
-none-sum g zero_none zero = refl
-none-sum g zero_none (suc n) = omega (arith, sum_by-cons g None (map tight.staying (replicate n None)), zero_none, none-sum g zero_none n)
+-- a block that is neither marked nor locked does not stay
+idle-none : (listed : Option VmBlock) → is_held_in listed ≡ false → tight.staying listed ≡ None
+idle-none None idle = refl
+idle-none (Some l) idle = rw idle refl
 
-module _ (s : KernelState) (h : ℕ) (k : IsKernel s) (q : IsHandle h) where
+-- blocks that are neither marked nor locked add nothing
+none-sum : (g : Option model.Block → ℕ) → g None ≡ 0 → (xs : List (Option VmBlock)) → ((h : ℕ) → is_held_in (model.at_handle None xs h) ≡ false) → sum_by g (map tight.staying xs) ≡ 0
+none-sum g zero_none [] idle = refl
+none-sum g zero_none (x ∷ xs) idle =
+    let none : g (tight.staying x) ≡ 0 = ap g (idle-none x (idle 1)) ∙ zero_none in
+    let rest = none-sum g zero_none xs (next xs (λ h. idle (suc h))) in
+    omega (arith, sum_by-cons g (tight.staying x) (map tight.staying xs), none, rest)
+  where
+    next : (ys : List (Option VmBlock)) → ((h : ℕ) → is_held_in (get_or (x ∷ ys) h None) ≡ false) → (h : ℕ) → is_held_in (model.at_handle None ys h) ≡ false
+    next ys idle zero = refl
+    next ys idle (suc h) = idle (suc h)
+
+module _ (s : KernelState) (f : VmFile) (tied : IsFileOf s f) (h : ℕ) (k : IsKernel s) (q : IsHandle h) where
   abbrev others : List (Option model.Block)
   others = set (map block_in (take 1024 s.blocks.blocks)) (h - 1) None
 
   -- no block of the file is marked or locked
   abbrev none_staying : List (Option model.Block)
-  none_staying = map tight.staying (replicate 1024 None)
+  none_staying = map tight.staying f.cur.blocks
 
-  others-set : tight.others (memory_of s) (mem h) ≡ others ++ none_staying
+  others-set : tight.others (memory_of s f) (mem h) ≡ others ++ none_staying
   others-set = ap (λ bs. bs ++ none_staying) (entries-set (map block_in (take 1024 s.blocks.blocks)) h q.0)
 
   -- they add nothing to what is summed
   none-more : (g : Option model.Block → ℕ) → g None ≡ 0 → sum_by g (others ++ none_staying) ≡ sum_by g others
   none-more g zero_none =
-      let parts = sum_by-append g others none_staying in let none = none-sum g zero_none 1024 in omega (arith, parts, none)
+      let parts = sum_by-append g others none_staying in let none = none-sum g zero_none f.cur.blocks tied.idle in omega (arith, parts, none)
 
   abbrev slot : ℕ
   slot = slot_of (mem h)
@@ -90,10 +104,10 @@ module _ (s : KernelState) (h : ℕ) (k : IsKernel s) (q : IsHandle h) where
       get_or-set_other (map block_in (take 1024 s.blocks.blocks)) (h - 1) i None None apart ∙ get_or-view s.blocks.blocks i lt
 
   -- f counts what g does of the others, and nothing past the last handle
-  total_others : (f : ℕ → ℕ) (g : Option model.Block → ℕ) → ((i : ℕ) → i < 1024 → f i ≡ g (get_or others i None)) → ((i : ℕ) → 1024 ≤ i → f i ≡ 0)
-      → total (store.slot_count s.blocks) f ≡ sum_by g others
-  total_others f g same none =
-      ap (λ n. total n f) k.laid.slots ∙ total_zero f 1024 2048 (omega arith) none ∙ total_sum g others None f 1024 (omega (arith, count)) same
+  total_others : (t : ℕ → ℕ) (g : Option model.Block → ℕ) → ((i : ℕ) → i < 1024 → t i ≡ g (get_or others i None)) → ((i : ℕ) → 1024 ≤ i → t i ≡ 0)
+      → total (store.slot_count s.blocks) t ≡ sum_by g others
+  total_others t g same none =
+      ap (λ n. total n t) k.laid.slots ∙ total_zero t 1024 2048 (omega arith) none ∙ total_sum g others None t 1024 (omega (arith, count)) same
       ∙ ap (sum_by g) (take_all 1024 others (omega (arith, count)))
 
   size_view : (o : Option store.Block) → length (store.bytes_in o) ≡ model.size_in (block_in o)
@@ -135,16 +149,16 @@ module _ (s : KernelState) (h : ℕ) (k : IsKernel s) (q : IsHandle h) where
   pub locked_same : other_locked s.blocks slot ≡ count_by tight.is_locked others
   locked_same = total_others (locked_one s.blocks slot) one_if_locked locked_at no_lock
 
-  pub is_tight-crowded : (size : ℕ) → IsCrowded s.blocks slot size → tight.is_tight (memory_of s) (mem h) size ≡ true
+  pub is_tight-crowded : (size : ℕ) → IsCrowded s.blocks slot size → tight.is_tight (memory_of s f) (mem h) size ≡ true
   is_tight-crowded size crowded =
       let more : s.blocks.len < (count_by tight.is_locked (others ++ none_staying) + 1) * size + sum_by model.size_in (others ++ none_staying) =
       rw (none-more one_if_locked refl, none-more model.size_in refl, sym locked_same, sym sizes_same) crowded in
       rw others-set (grind (arith, more))
 
 -- the same of a named block of global memory
-pub tight-named : (s : KernelState) (name : Name) → IsKernel s → name.owner ≡ Mem → IsHandle name.h → (size : ℕ) → IsCrowded s.blocks (slot_of name) size → tight.is_tight (memory_of s) name size ≡ true
-tight-named s name k mine q size crowded = at name.owner mine crowded
+pub tight-named : (s : KernelState) (f : VmFile) → IsFileOf s f → (name : Name) → IsKernel s → name.owner ≡ Mem → IsHandle name.h → (size : ℕ) → IsCrowded s.blocks (slot_of name) size → tight.is_tight (memory_of s f) name size ≡ true
+tight-named s f tied name k mine q size crowded = at name.owner mine crowded
   where
-    at : (owner : Owner) → owner ≡ Mem → IsCrowded s.blocks (slot_of (named owner name.h)) size → tight.is_tight (memory_of s) (named owner name.h) size ≡ true
-    at Mem e c = is_tight-crowded s name.h k q size c
+    at : (owner : Owner) → owner ≡ Mem → IsCrowded s.blocks (slot_of (named owner name.h)) size → tight.is_tight (memory_of s f) (named owner name.h) size ≡ true
+    at Mem e c = is_tight-crowded s f tied name.h k q size c
     at Vm e c = absurd cc

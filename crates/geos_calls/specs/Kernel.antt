@@ -1,5 +1,5 @@
 -- What holds of a kernel, and what its calls promise.
-use Rattle.std.specs.Prelude.{List, [], ◌∷◌, length, set, Some, ◌≡◌, ℕ, ◌≤◌, Option, None, Result, Ok, Err}
+use Rattle.std.specs.Prelude.{List, [], ◌∷◌, length, set, false, Some, ◌≡◌, ℕ, ◌≤◌, Option, None, Result, Ok, Err}
 use Rattle.block_handles.specs.Names.{slot_of}
 use Rattle.block_handles.specs.Store.{Store, IsThere, bytes_of, locks_of, region_len}
 use Rattle.block_handles.specs.Change.{LockedStay}
@@ -13,9 +13,10 @@ use Rattle.geos_model.specs.Block as block
 use Rattle.geos_model.specs.Chunks.{need}
 use Rattle.geos_model.specs.Heap.{IsHeap}
 use Rattle.geos_model.specs.declared.refusal.Refusal.{Refusal}
-use Rattle.geos_table.specs.Effects.{Choice, Call, Answers, Reference, effect_of}
+use Rattle.geos_table.specs.VmFile.{VmFile}
+use Rattle.geos_table.specs.Effects.{Choice, Call, Reference, outcome, effect_of}
 use Rattle.geos_calls.specs.declared.span.Span.{Span}
-use Rattle.geos_calls.specs.View.{KernelState, memory_of}
+use Rattle.geos_calls.specs.View.{KernelState, memory_of, IsFileOf}
 use Rattle.geos_calls.specs.Spans.{Stands, SpansStay}
 
 -- blocks lie in the region, and no two overlap; each named block holds a heap, which begins
@@ -29,10 +30,26 @@ pub record IsKernel (s : KernelState) : Type 0 where
   pub no_vm : (h : ℕ) → IsThere s.blocks (slot_of (named Vm h)) → ⊥
   pub small : region_len s.blocks ≤ 16777216
 
--- a call answers as its row says, and spans that it does not make stale stay
+-- what may come from outside at calls that lead from one kernel to another: room and memory may
+-- be refused. No device is asked, so none fails, and none gives anything
+pub record IsChosen (old new : KernelState) (choice : Choice) : Type 0 where
+  pub given : choice.given ≡ []
+  pub device : choice.device ≡ false
+
+-- a call answered as its row says of memory with this VM file, under some choice; the model
+-- knows some VM file then
+pub record AnswersWith {A : Type 0} (call : Call A) (result : Result A Refusal) (old new : KernelState) (f : VmFile) : Type 0 where
+  pub choice : Choice
+  pub chosen : IsChosen old new choice
+  pub file : VmFile
+  pub tied : IsFileOf new file
+  pub comes : outcome (effect_of call choice (memory_of old f)) ≡ (result, memory_of new file)
+
+-- a call answers as its row says, whatever VM file the model knows, and spans that it does not
+-- make stale stay
 pub record Calls {A : Type 0} (call : Call A) (result : Result A Refusal) (old new : KernelState) : Type 0 where
-  pub answers : Answers call result (memory_of old) (memory_of new)
-  pub spans : (choice : Choice) → SpansStay old new (effect_of call choice (memory_of old)).stale
+  pub answers : (f : VmFile) → IsFileOf old f → AnswersWith call result old new f
+  pub spans : (f : VmFile) → IsFileOf old f → (choice : Choice) → SpansStay old new f (effect_of call choice (memory_of old f)).stale
 
 -- a new heap without a chunk is in a slot, under its handle, locked once; every other block is
 -- as it was, and lies where it lay if it is locked
@@ -64,4 +81,4 @@ StandsFor s _ _ = ⊥
 -- a call answers a span that stands for the reference that its row gives, or refuses as the
 -- row does; nothing changes
 abbrev pub GivesSpan : Call Reference → Result Span Refusal → KernelState → Type 0
-GivesSpan call result s = (given : Result Reference Refusal) × Answers call given (memory_of s) (memory_of s) × StandsFor s result given
+GivesSpan call result s = (given : Result Reference Refusal) × Calls call given s s × StandsFor s result given

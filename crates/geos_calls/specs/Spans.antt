@@ -6,6 +6,7 @@ use Rattle.block_handles.specs.Store.{bytes_of, locks_of, place_of}
 use Rattle.geos_model.specs.Block as block
 use Rattle.geos_model.specs.Chunks.{chunk_of}
 use Rattle.geos_table.specs.Memory as model
+use Rattle.geos_table.specs.VmFile.{VmFile}
 use Rattle.geos_table.specs.Effects.{Reference, Staleness, Nothing, InBlock, OfLock}
 use Rattle.geos_calls.specs.declared.span.Span.{Span}
 use Rattle.geos_calls.specs.View.{KernelState, memory_of, chunks_at}
@@ -36,9 +37,9 @@ stale_block before (OfLock name) = if model.locks_of before name == 1 then Some 
 abbrev pub IsFresh : model.Memory → Staleness → Reference → Type 0
 IsFresh before stale ref = IfSome (stale_block before stale) (λ name. ref.name ≢ name)
 
--- a span that stood, and was not made stale, stands
-abbrev pub SpansStay : KernelState → KernelState → Staleness → Type 0
-SpansStay old new stale = (span : Span) (ref : Reference) → Stands old span ref → IsFresh (memory_of old) stale ref → Stands new span ref
+-- a span that stood, and was not made stale in memory with this VM file, stands
+abbrev pub SpansStay : KernelState → KernelState → VmFile → Staleness → Type 0
+SpansStay old new f stale = (span : Span) (ref : Reference) → Stands old span ref → IsFresh (memory_of old f) stale ref → Stands new span ref
 
 -- a span stands for some reference
 abbrev pub IsStanding : KernelState → Span → Type 0

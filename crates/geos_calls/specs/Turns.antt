@@ -1,12 +1,13 @@
 -- Calls made one after another, and what their rows in the table of calls make of them.
 use Rattle.std.specs.Prelude.{◌≡◌, ℕ, List, [], ◌∷◌, map, Result}
 use Rattle.geos_model.specs.declared.refusal.Refusal.{Refusal}
+use Rattle.geos_table.specs.VmFile.{VmFile}
 use Rattle.geos_table.specs.Memory.{Memory}
 use Rattle.geos_table.specs.Effects.{Choice, Staleness, Reference, Call, outcome, effect_of}
 use Rattle.geos_calls.specs.declared.span.Span.{Span}
-use Rattle.geos_calls.specs.Kernel.{Calls, GivesSpan, StandsFor}
+use Rattle.geos_calls.specs.Kernel.{IsChosen, Calls, GivesSpan, StandsFor}
 use Rattle.geos_calls.specs.Spans.{Stands, IsFresh}
-use Rattle.geos_calls.specs.View.{KernelState, memory_of}
+use Rattle.geos_calls.specs.View.{KernelState, memory_of, IsFileOf}
 
 -- a call that was made, by its row, and what it answered: nothing, a number or a reference
 pub data Turn : Type 0 where
@@ -52,17 +53,26 @@ abbrev pub Spares : (steps : List Step) (before after : Memory) → Run steps be
 Spares [] before after run ref = Unit {0}
 Spares (step ∷ steps) before after run ref = IsFresh before (stale_by step.turn step.choice before) ref × Spares steps run.0 after run.2 ref
 
--- calls that were answered one after another come to a run of their rows, under some choices;
--- a span that stood before them, and whose reference the run did not make stale, stands
-pub record AnsweredByRows (turns : List Turn) (old new : KernelState) : Type 0 where
+-- what came from outside at each may come between these kernels
+abbrev pub AreChosen : KernelState → KernelState → List Step → Type 0
+AreChosen old new [] = Unit {0}
+AreChosen old new (step ∷ steps) = IsChosen old new step.choice × AreChosen old new steps
+
+-- calls that were answered one after another come to a run of their rows, from memory with this
+-- VM file, under some choices; a span that stood before them, and whose reference the run did
+-- not make stale, stands
+pub record AnsweredByRows (turns : List Turn) (old new : KernelState) (f : VmFile) : Type 0 where
   pub steps : List Step
   pub calls : map (λ step. step.turn) steps ≡ turns
-  pub run : Run steps (memory_of old) (memory_of new)
-  pub spans : (span : Span) (ref : Reference) → Stands old span ref → Spares steps (memory_of old) (memory_of new) run ref → Stands new span ref
+  pub chosen : AreChosen old new steps
+  pub file : VmFile
+  pub tied : IsFileOf new file
+  pub run : Run steps (memory_of old f) (memory_of new file)
+  pub spans : (span : Span) (ref : Reference) → Stands old span ref → Spares steps (memory_of old f) (memory_of new file) run ref → Stands new span ref
 
 -- every list of calls is answered by its rows; and a call that gives a span, or refuses it,
 -- answers the reference for which the span stands
 pub record CallsAnswerInTurn : Type 0 where
-  pub lists : (turns : List Turn) (old new : KernelState) → InTurn turns old new → AnsweredByRows turns old new
+  pub lists : (turns : List Turn) (old new : KernelState) → InTurn turns old new → (f : VmFile) → IsFileOf old f → AnsweredByRows turns old new f
   pub given : (row : Call Reference) (result : Result Span Refusal) (s : KernelState) → GivesSpan row result s →
       (reference : Result Reference Refusal) × Calls row reference s s × StandsFor s result reference

@@ -11,9 +11,11 @@ use crate::span::Span;
 impl Kernel {
     ghost use Rattle.geos_model.specs.Bytes.{word_bytes};
     ghost use Rattle.geos_table.specs.Calls as table;
+    ghost use Rattle.geos_table.specs.VmFile.{VmFile};
     ghost use Rattle.geos_table.specs.Effects.{Reference, Nothing};
     ghost use Rattle.geos_calls.specs.Kernel.{Calls};
     ghost use Rattle.geos_calls.specs.Spans.{Stands, IsStanding, SpansStay};
+    ghost use Rattle.geos_calls.specs.View.{IsFileOf};
 
     /// The byte at the offset `i` of a span, which has one there.
     pub fn load8(&self, span: Span, i: u16) -> u8
@@ -38,7 +40,7 @@ impl Kernel {
         requires stands { IsStanding self.old span }
         requires within { i < span.len }
         ensures row { (ref : Reference) → Stands self.old span ref → Calls (table.store ref i (byte ∷ [])) (Ok tt) self.old self.new }
-        ensures spans { SpansStay self.old self.new Nothing }
+        ensures spans { (f : VmFile) → IsFileOf self.old f → SpansStay self.old self.new f Nothing }
     {
         self.blocks.write8(span.at + u32::from(i), byte);
     }
@@ -49,7 +51,7 @@ impl Kernel {
         requires stands { IsStanding self.old span }
         requires within { i + 2 ≤ span.len }
         ensures row { (ref : Reference) → Stands self.old span ref → Calls (table.store ref i (word_bytes word)) (Ok tt) self.old self.new }
-        ensures spans { SpansStay self.old self.new Nothing }
+        ensures spans { (f : VmFile) → IsFileOf self.old f → SpansStay self.old self.new f Nothing }
     {
         self.blocks.write16(span.at + u32::from(i), word);
     }
@@ -61,7 +63,7 @@ impl Kernel {
         requires from { IsStanding self.old from × (n ≤ from.len) }
         ensures row { (target source : Reference) → Stands self.old to target → Stands self.old from source →
             Calls (table.copy target source n) (Ok tt) self.old self.new }
-        ensures spans { SpansStay self.old self.new Nothing }
+        ensures spans { (f : VmFile) → IsFileOf self.old f → SpansStay self.old self.new f Nothing }
     {
         let blocks = &mut self.blocks;
         if n == 0 {

@@ -11,10 +11,9 @@ impl Kernel {
     ghost use Rattle.geos_model.specs.declared.refusal.Refusal.TheVariants.{NoRoom};
     ghost use Rattle.geos_table.specs.ArrayCalls as table;
     ghost use Rattle.geos_model.specs.ArrayEdits.{create_array, append_element, insert_element, resize_element};
-    ghost use Rattle.geos_table.specs.Memory.{chunks_at};
     ghost use Rattle.geos_calls.specs.Kernel.{Calls, GivesSpan, HasNoRoomFor};
     ghost use Rattle.geos_calls.specs.Spans.{IsStanding};
-    ghost use Rattle.geos_calls.specs.View.{IsLocked, memory_of};
+    ghost use Rattle.geos_calls.specs.View.{chunks_at, IsLocked};
 
     /// Makes an empty array in a new chunk of a locked block, and answers the chunk's handle:
     /// the lowest one of the block that is free. Its elements will have `element_size` bytes
@@ -23,7 +22,7 @@ impl Kernel {
     pub fn canew(&mut self, name: Name, element_size: u16) -> Result<u16, Refusal>
         requires { IsLocked self.old name }
         ensures calls { Calls (table.canew name element_size) result self.old self.new }
-        ensures no_room { result ≡ Err NoRoom → HasNoRoomFor self.new name (create_array element_size (chunks_at (memory_of self.old) name)).chunks }
+        ensures no_room { result ≡ Err NoRoom → HasNoRoomFor self.new name (create_array element_size (chunks_at self.old.blocks name)).chunks }
     {
         self.make(name, Make::Canew { element_size })
     }
@@ -35,7 +34,7 @@ impl Kernel {
     pub fn caadd(&mut self, name: Name, c: u16, n: u16) -> Result<(), Refusal>
         requires { IsLocked self.old name }
         ensures calls { Calls (table.caadd name c n) result self.old self.new }
-        ensures no_room { result ≡ Err NoRoom → HasNoRoomFor self.new name (append_element c n (chunks_at (memory_of self.old) name)).chunks }
+        ensures no_room { result ≡ Err NoRoom → HasNoRoomFor self.new name (append_element c n (chunks_at self.old.blocks name)).chunks }
     {
         self.change(name, Change::Caadd { c, n })
     }
@@ -46,7 +45,7 @@ impl Kernel {
     pub fn cains(&mut self, name: Name, c: u16, i: u16, n: u16) -> Result<(), Refusal>
         requires { IsLocked self.old name }
         ensures calls { Calls (table.cains name c i n) result self.old self.new }
-        ensures no_room { result ≡ Err NoRoom → HasNoRoomFor self.new name (insert_element c i n (chunks_at (memory_of self.old) name)).chunks }
+        ensures no_room { result ≡ Err NoRoom → HasNoRoomFor self.new name (insert_element c i n (chunks_at self.old.blocks name)).chunks }
     {
         self.change(name, Change::Cains { c, i, n })
     }
@@ -97,7 +96,7 @@ impl Kernel {
     pub fn caresize(&mut self, name: Name, c: u16, i: u16, n: u16) -> Result<(), Refusal>
         requires { IsLocked self.old name }
         ensures calls { Calls (table.caresize name c i n) result self.old self.new }
-        ensures no_room { result ≡ Err NoRoom → HasNoRoomFor self.new name (resize_element c i n (chunks_at (memory_of self.old) name)).chunks }
+        ensures no_room { result ≡ Err NoRoom → HasNoRoomFor self.new name (resize_element c i n (chunks_at self.old.blocks name)).chunks }
     {
         self.change(name, Change::Caresize { c, i, n })
     }

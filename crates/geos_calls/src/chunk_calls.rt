@@ -11,10 +11,9 @@ impl Kernel {
     ghost use Rattle.geos_model.specs.declared.refusal.Refusal.TheVariants.{NoRoom};
     ghost use Rattle.geos_model.specs.Chunks.{with_new, with_resized, with_inserted};
     ghost use Rattle.geos_table.specs.Calls as table;
-    ghost use Rattle.geos_table.specs.Memory.{chunks_at};
     ghost use Rattle.geos_calls.specs.Kernel.{Calls, GivesSpan, HasNoRoomFor};
     ghost use Rattle.geos_calls.specs.Spans.{IsStanding};
-    ghost use Rattle.geos_calls.specs.View.{IsLocked, memory_of};
+    ghost use Rattle.geos_calls.specs.View.{chunks_at, IsLocked};
 
     /// Makes a chunk of `n` zero bytes in a locked block, and answers its handle: the lowest
     /// one of the block that is free. `TooBig` where the block would need more than 65,520
@@ -23,7 +22,7 @@ impl Kernel {
     pub fn lalloc(&mut self, name: Name, n: u16) -> Result<u16, Refusal>
         requires { IsLocked self.old name }
         ensures calls { Calls (table.lalloc name n) result self.old self.new }
-        ensures no_room { result ≡ Err NoRoom → HasNoRoomFor self.new name (with_new (chunks_at (memory_of self.old) name) n) }
+        ensures no_room { result ≡ Err NoRoom → HasNoRoomFor self.new name (with_new (chunks_at self.old.blocks name) n) }
     {
         self.make(name, Make::Lalloc { n })
     }
@@ -43,7 +42,7 @@ impl Kernel {
     pub fn lrealloc(&mut self, name: Name, c: u16, n: u16) -> Result<(), Refusal>
         requires { IsLocked self.old name }
         ensures calls { Calls (table.lrealloc name c n) result self.old self.new }
-        ensures no_room { result ≡ Err NoRoom → HasNoRoomFor self.new name (with_resized (chunks_at (memory_of self.old) name) c n) }
+        ensures no_room { result ≡ Err NoRoom → HasNoRoomFor self.new name (with_resized (chunks_at self.old.blocks name) c n) }
     {
         self.change(name, Change::Lrealloc { c, n })
     }
@@ -54,7 +53,7 @@ impl Kernel {
     pub fn lins(&mut self, name: Name, c: u16, at: u16, n: u16) -> Result<(), Refusal>
         requires { IsLocked self.old name }
         ensures calls { Calls (table.lins name c at n) result self.old self.new }
-        ensures no_room { result ≡ Err NoRoom → HasNoRoomFor self.new name (with_inserted (chunks_at (memory_of self.old) name) c at n) }
+        ensures no_room { result ≡ Err NoRoom → HasNoRoomFor self.new name (with_inserted (chunks_at self.old.blocks name) c at n) }
     {
         self.change(name, Change::Lins { c, at, n })
     }

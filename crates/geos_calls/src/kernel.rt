@@ -43,24 +43,26 @@ impl Kernel {
     ghost use Rattle.block_handles.specs.Layout.{IsEmpty};
     ghost use Rattle.block_handles.specs.Names.{slot_of};
     ghost use Rattle.block_handles.specs.Store.{bytes_of};
+    ghost use Rattle.block_handles.specs.Store as store;
     ghost use Rattle.geos_model.specs.declared.refusal.Refusal.TheVariants.{NoRoom};
     ghost use Rattle.geos_table.specs.Calls as table;
     ghost use Rattle.geos_table.specs.ChunkCalls.{change_edit, change_row, make_edit, make_row, ask_row, refer_row, least};
     ghost use Rattle.geos_model.specs.Heap.{IsCompact};
     ghost use Rattle.geos_table.specs.Legal.{IsMemory};
-    ghost use Rattle.geos_table.specs.Memory.{chunks_at, locks_of};
-    ghost use Rattle.geos_table.specs.VmFile.{empty_file};
+    ghost use Rattle.geos_table.specs.Memory.{locks_of};
+    ghost use Rattle.geos_table.specs.VmFile.{VmFile, empty_file};
     ghost use Rattle.geos_model.specs.Names.{mem};
     ghost use Rattle.geos_calls.specs.Kernel.{Calls, GivesSpan, HasNoRoomFor, NewHasNoRoom};
     ghost use Rattle.geos_calls.specs.Spans.{IsStanding};
-    ghost use Rattle.geos_calls.specs.View.{IsLocked, memory_of};
+    ghost use Rattle.geos_calls.specs.View.{chunks_at, IsFileOf, IsLocked, memory_of};
 
     /// No block, in a region of `region` bytes, 65,536 to 16,777,216. This is the only call
     /// that takes memory; `AllocError` where there is none.
     pub fn new(alloc: Global, region: u32) -> Result<Kernel, AllocError>
         requires { (65536 ≤ region) × (region ≤ 16777216) }
         ensures store { IfOk result (λ kernel. IsEmpty kernel.blocks region) }
-        ensures memory { IfOk result (λ kernel. memory_of kernel ≡ record { blocks = replicate 1024 None; file = empty_file 0; region = region }) }
+        ensures file { IfOk result (λ kernel. IsFileOf kernel (empty_file 0)) }
+        ensures memory { IfOk result (λ kernel. (f : VmFile) → memory_of kernel f ≡ record { blocks = replicate 1024 None; file = f; region = region }) }
     {
         Ok(Kernel {
             blocks: Blocks::new(alloc, region)?,
@@ -69,7 +71,8 @@ impl Kernel {
 
     /// How often a block is locked; 0 where there is none.
     pub fn locks(&self, name: Name) -> u16
-        ensures { result ≡ locks_of (memory_of self.now) name }
+        ensures count { result ≡ store.locks_of self.now.blocks (slot_of name) }
+        ensures model { (f : VmFile) → IsFileOf self.now f → result ≡ locks_of (memory_of self.now f) name }
     {
         self.blocks.locks(name)
     }
@@ -78,7 +81,7 @@ impl Kernel {
     /// for their chunks, chunks are lists of bytes, and no block is locked more often than it
     /// can be.
     pub fn memory_is_legal(&self)
-        ensures { IsMemory (memory_of self.now) }
+        ensures { (f : VmFile) → IsFileOf self.now f → IsMemory (memory_of self.now f) }
     {
         let _region = self.blocks.region();
     }
@@ -89,7 +92,7 @@ impl Kernel {
     pub fn mnew(&mut self) -> Result<u16, Refusal>
         ensures calls { Calls table.mnew result self.old self.new }
         ensures no_room { result ≡ Err NoRoom → NewHasNoRoom self.old self.new }
-        ensures locked { IfOk result (λ h. locks_of (memory_of self.new) (mem h) ≡ 1) }
+        ensures locked { IfOk result (λ h. store.locks_of self.new.blocks (slot_of (mem h)) ≡ 1) }
     {
         let Some(h) = self.blocks.lowest(Owner::Mem) else {
             return Err(Refusal::NoHandle);
@@ -132,7 +135,7 @@ impl Kernel {
     pub fn change(&mut self, name: Name, change: Change) -> Result<(), Refusal>
         requires { IsLocked self.old name }
         ensures calls { Calls (change_row name change) result self.old self.new }
-        ensures no_room { result ≡ Err NoRoom → HasNoRoomFor self.new name (change_edit change (chunks_at (memory_of self.old) name)).chunks }
+        ensures no_room { result ≡ Err NoRoom → HasNoRoomFor self.new name (change_edit change (chunks_at self.old.blocks name)).chunks }
     {
         changes::change(&mut self.blocks, name, change)
     }
@@ -143,7 +146,7 @@ impl Kernel {
     pub fn make(&mut self, name: Name, make: Make) -> Result<u16, Refusal>
         requires { IsLocked self.old name }
         ensures calls { Calls (make_row name make) result self.old self.new }
-        ensures no_room { result ≡ Err NoRoom → HasNoRoomFor self.new name (make_edit make (chunks_at (memory_of self.old) name)).chunks }
+        ensures no_room { result ≡ Err NoRoom → HasNoRoomFor self.new name (make_edit make (chunks_at self.old.blocks name)).chunks }
     {
         makes::make(&mut self.blocks, name, make)
     }

@@ -12,13 +12,17 @@ use Rattle.geos_table.specs.Memory.{Memory, at_handle, with_entry_at, size_of, c
 use Rattle.geos_table.specs.Tight.{is_tight}
 use Rattle.geos_table.specs.declared.call.Change.{Change}
 use Rattle.geos_table.specs.ChunkCalls.{change_edit, change_row, may_grow, row_in}
-use Rattle.geos_table.specs.Effects.{Choice, Call, InBlock, Answers, AnswersUnder, growing}
+use Rattle.geos_table.specs.Effects.{Choice, Call, InBlock, Answers, AnswersUnder, outcome, effect_of, growing}
 use Rattle.geos_model.specs.Edits.{Edit, Part}
 use Rattle.geos_table.specs.Calls.{changes, enlarges, reads, refers, in_block}
 
 -- nothing is refused from outside, and nothing given
 abbrev pub willing : Choice
 willing = record { first_room = false; last_room = false; device = false; unsure = false; memory = false; given = [] }
+
+-- room alone is refused from outside, where it may be
+abbrev pub cramped : Choice
+cramped = record { first_room = true; last_room = true; device = false; unsure = false; memory = false; given = [] }
 
 -- all is refused from outside that may be
 abbrev pub unwilling : Choice
@@ -69,8 +73,8 @@ module _ {A : Type 0} (edit : List (Option (List ℕ)) → Edit A) (name : Name)
 
   -- a call that may make a block larger succeeds where its own tests pass and the block is not
   -- too big
-  pub enlarges-ok : first_refusal made.refusals ≡ None → need made.chunks ≤ 65520 → Answers (enlarges edit name) (Ok made.answer) before (with_chunks before name made.chunks)
-  enlarges-ok passed small = (willing, rw none refl)
+  pub enlarges-ok : first_refusal made.refusals ≡ None → need made.chunks ≤ 65520 → outcome (effect_of (enlarges edit name) willing before) ≡ (Ok made.answer, with_chunks before name made.chunks)
+  enlarges-ok passed small = rw none refl
     where
       grows : (b : Bool) → first_refusal ((false, TooBig) ∷ ((◌&&◌ (◌&&◌ b false) (is_tight before name (need made.chunks))), NoRoom) ∷ []) ≡ None
       grows true = refl
@@ -80,45 +84,45 @@ module _ {A : Type 0} (edit : List (Option (List ℕ)) → Edit A) (name : Name)
       none = first_refusal-passed made.refusals (growing willing before name made.chunks) passed ∙ rw (fits (need made.chunks) small) (grows (nat_lt (size_of before name) (need made.chunks)))
 
   -- it refuses by its own tests first
-  pub enlarges-refused : (why : Refusal) → first_refusal made.refusals ≡ Some why → Answers (enlarges edit name) (Err why) before before
-  enlarges-refused why came = (willing, rw (first_refusal-came made.refusals (growing willing before name made.chunks) why came) refl)
+  pub enlarges-refused : (why : Refusal) → first_refusal made.refusals ≡ Some why → outcome (effect_of (enlarges edit name) willing before) ≡ (Err why, before)
+  enlarges-refused why came = rw (first_refusal-came made.refusals (growing willing before name made.chunks) why came) refl
 
   -- then where the block would be too big
-  pub enlarges-big : first_refusal made.refusals ≡ None → 65520 < need made.chunks → Answers (enlarges edit name) (Err TooBig) before before
-  enlarges-big passed big = (willing, rw came refl)
+  pub enlarges-big : first_refusal made.refusals ≡ None → 65520 < need made.chunks → outcome (effect_of (enlarges edit name) willing before) ≡ (Err TooBig, before)
+  enlarges-big passed big = rw came refl
     where
       came : first_refusal (made.refusals ++ growing willing before name made.chunks) ≡ Some TooBig
       came = first_refusal-passed made.refusals (growing willing before name made.chunks) passed ∙ rw (over 65520 (need made.chunks) big) refl
 
   -- and may refuse room where the block would grow and room may be wanting
   pub enlarges-tight : first_refusal made.refusals ≡ None → need made.chunks ≤ 65520 → size_of before name < need made.chunks
-      → is_tight before name (need made.chunks) ≡ true → Answers (enlarges edit name) (Err NoRoom) before before
-  enlarges-tight passed small grows tight = (unwilling, rw came refl)
+      → is_tight before name (need made.chunks) ≡ true → outcome (effect_of (enlarges edit name) cramped before) ≡ (Err NoRoom, before)
+  enlarges-tight passed small grows tight = rw came refl
     where
-      came : first_refusal (made.refusals ++ growing unwilling before name made.chunks) ≡ Some NoRoom
-      came = first_refusal-passed made.refusals (growing unwilling before name made.chunks) passed
+      came : first_refusal (made.refusals ++ growing cramped before name made.chunks) ≡ Some NoRoom
+      came = first_refusal-passed made.refusals (growing cramped before name made.chunks) passed
           ∙ rw (fits (need made.chunks) small, over (size_of before name) (need made.chunks) grows, tight) refl
 
   -- a call that changes chunks, or tells something of them, goes by its own tests alone
-  pub changes-ok : first_refusal made.refusals ≡ None → Answers (changes edit name) (Ok made.answer) before (with_chunks before name made.chunks)
-  changes-ok passed = (willing, rw passed refl)
+  pub changes-ok : first_refusal made.refusals ≡ None → outcome (effect_of (changes edit name) willing before) ≡ (Ok made.answer, with_chunks before name made.chunks)
+  changes-ok passed = rw passed refl
 
-  pub changes-refused : (why : Refusal) → first_refusal made.refusals ≡ Some why → Answers (changes edit name) (Err why) before before
-  changes-refused why came = (willing, rw came refl)
+  pub changes-refused : (why : Refusal) → first_refusal made.refusals ≡ Some why → outcome (effect_of (changes edit name) willing before) ≡ (Err why, before)
+  changes-refused why came = rw came refl
 
-  pub reads-ok : first_refusal made.refusals ≡ None → Answers (reads edit name) (Ok made.answer) before before
-  reads-ok passed = (willing, rw passed refl)
+  pub reads-ok : first_refusal made.refusals ≡ None → outcome (effect_of (reads edit name) willing before) ≡ (Ok made.answer, before)
+  reads-ok passed = rw passed refl
 
-  pub reads-refused : (why : Refusal) → first_refusal made.refusals ≡ Some why → Answers (reads edit name) (Err why) before before
-  reads-refused why came = (willing, rw came refl)
+  pub reads-refused : (why : Refusal) → first_refusal made.refusals ≡ Some why → outcome (effect_of (reads edit name) willing before) ≡ (Err why, before)
+  reads-refused why came = rw came refl
 
 module _ (edit : List (Option (List ℕ)) → Edit Part) (name : Name) (before : Memory) where
   pub refers-ok : first_refusal (edit (chunks_at before name)).refusals ≡ None
-      → Answers (refers edit name) (Ok (in_block name (edit (chunks_at before name)).answer)) before before
-  refers-ok passed = (willing, rw passed refl)
+      → outcome (effect_of (refers edit name) willing before) ≡ (Ok (in_block name (edit (chunks_at before name)).answer), before)
+  refers-ok passed = rw passed refl
 
-  pub refers-refused : (why : Refusal) → first_refusal (edit (chunks_at before name)).refusals ≡ Some why → Answers (refers edit name) (Err why) before before
-  refers-refused why came = (willing, rw came refl)
+  pub refers-refused : (why : Refusal) → first_refusal (edit (chunks_at before name)).refusals ≡ Some why → outcome (effect_of (refers edit name) willing before) ≡ (Err why, before)
+  refers-refused why came = rw came refl
 
 -- a change gives the block the edit's chunks, makes stale what leads into it, and changes nothing
 -- where it is refused

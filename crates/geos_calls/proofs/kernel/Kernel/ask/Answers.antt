@@ -14,7 +14,7 @@ pub bytes-requires : goal.bytes-requires
 bytes-requires c =
     let s = with_store c.self.inside.blocks in
     let locked = subst (λ t. IsLocked t c.args.name) (sym c.self.view_is) c.requires in
-    locked-there s c.args.name c.self.invariant locked
+    locked-there s c.args.name locked
 
 pub tell-requires : goal.tell-requires
 tell-requires c =

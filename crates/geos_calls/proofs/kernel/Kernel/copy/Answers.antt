@@ -2,6 +2,7 @@ use Rattle.std.proofs.Common.{◌<◌, Ok, subst, arith}
 use Rattle.block_handles.specs.Offsets.{CopiesCovered}
 use Rattle.geos_table.specs.Effects.{Reference}
 use Rattle.geos_table.specs.Calls as table
+use Rattle.geos_table.proofs.Laws.{willing}
 use Rattle.geos_calls.specs.Kernel.{Calls}
 use Rattle.geos_calls.specs.Spans.{Stands}
 use Rattle.geos_calls.proofs.Locks.{with_store}
@@ -54,4 +55,4 @@ returns-clause-spans c =
     let to = c.requires.to.0 in
     let from = c.requires.from.0 in
     let calls = returns-clause-row c to.0 from.0 to.1 from.1 in
-    calls.spans calls.answers.0
+    λ f tied. calls.spans f tied willing

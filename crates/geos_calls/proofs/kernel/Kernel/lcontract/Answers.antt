@@ -17,13 +17,13 @@ pub invariant_of-self : goal.invariant_of-self
 invariant_of-self c =
     let old = with_store c.self.inside.blocks in
     let locked = subst (λ s. IsLocked s c.args.name) (sym c.self.view_is) c.requires in
-    let there = locked-there old c.args.name c.self.invariant locked in
+    let there = locked-there old c.args.name locked in
     changes-kernel contract old c.contract.new.blocks c.args.name c.self.invariant there (Ok tt) c.contract.ensures.tries
 
 pub returns-clause-calls : goal.returns-clause-calls
 returns-clause-calls c =
     let old = with_store c.self.inside.blocks in
     let locked = subst (λ s. IsLocked s c.args.name) (sym c.self.view_is) c.requires in
-    let there = locked-there old c.args.name c.self.invariant locked in
+    let there = locked-there old c.args.name locked in
     let calls = changes-calls contract old c.contract.new.blocks c.args.name c.self.invariant there (Ok tt) c.contract.ensures.tries in
     subst (λ s. Calls (table.lcontract c.args.name) (Ok tt) s (with_store c.contract.new.blocks)) c.self.view_is calls

@@ -1,9 +1,17 @@
-use Rattle.std.proofs.Common.{◌∙◌, ap}
+use Rattle.std.proofs.Common.{◌≡◌, subst, ◌∙◌, ap}
+use Rattle.geos_table.specs.VmFile.{VmFile}
+use Rattle.block_handles.specs.Names.{slot_of}
+use Rattle.block_handles.specs.Store as store
 use Rattle.geos_table.specs.Memory.{locks_of}
-use Rattle.geos_calls.specs.View.{memory_of}
+use Rattle.geos_calls.specs.View.{IsFileOf, memory_of}
 use Rattle.geos_calls.proofs.Locks.{with_store}
 use Rattle.geos_calls.proofs.Views.{locks-view}
 use Rattle.geos_calls.proofs.kernel.Kernel.locks.Goals as goal
 
-pub returns : goal.returns
-returns c = c.locks.ensures ∙ locks-view (with_store c.self.inside.blocks) c.args.name c.self.invariant ∙ ap (λ s. locks_of (memory_of s) c.args.name) c.self.view_is
+pub returns-clause-count : goal.returns-clause-count
+returns-clause-count c = c.locks.ensures ∙ ap (λ s. store.locks_of s.blocks (slot_of c.args.name)) c.self.view_is
+
+pub returns-clause-model : goal.returns-clause-model
+returns-clause-model c =
+    let s = with_store c.self.inside.blocks in
+    subst (λ t. (f : VmFile) → IsFileOf t f → c.locks.result ≡ locks_of (memory_of t f) c.args.name) c.self.view_is (λ f tied. c.locks.ensures ∙ locks-view s f tied c.args.name c.self.invariant)

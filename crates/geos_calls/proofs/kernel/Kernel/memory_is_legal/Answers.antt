@@ -1,6 +1,7 @@
 use Rattle.std.proofs.Common.{subst}
 use Rattle.geos_table.specs.Legal.{IsMemory}
-use Rattle.geos_calls.specs.View.{memory_of}
+use Rattle.geos_table.specs.VmFile.{VmFile}
+use Rattle.geos_calls.specs.View.{IsFileOf, memory_of}
 use Rattle.geos_calls.proofs.Lawful.{memory-legal}
 use Rattle.geos_calls.proofs.Locks.{with_store}
 use Rattle.geos_calls.proofs.kernel.Kernel.memory_is_legal.Goals as goal
@@ -8,4 +9,4 @@ use Rattle.geos_calls.proofs.kernel.Kernel.memory_is_legal.Goals as goal
 pub returns : goal.returns
 returns c =
     let region = c.region-region in
-    subst (λ s. IsMemory (memory_of s)) c.self.view_is (memory-legal (with_store c.self.inside.blocks) region.result.now c.self.invariant region.ensures.region region.ensures.bytes)
+    subst (λ s. (f : VmFile) → IsFileOf s f → IsMemory (memory_of s f)) c.self.view_is (memory-legal (with_store c.self.inside.blocks) region.result.now c.self.invariant region.ensures.region region.ensures.bytes)

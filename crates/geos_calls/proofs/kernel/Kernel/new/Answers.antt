@@ -4,6 +4,7 @@ use Rattle.geos_model.specs.Names.{named}
 use Rattle.geos_model.specs.declared.name.Owner.TheVariants.{Vm}
 use Rattle.block_handles.specs.Names.{slot_of}
 use Rattle.geos_calls.proofs.Locks.{with_store}
+use Rattle.geos_calls.proofs.Files.{empty-tied}
 use Rattle.geos_calls.proofs.Views.{empty-view}
 use Rattle.geos_calls.proofs.kernel.Kernel.new.Goals as goal
 
@@ -19,5 +20,8 @@ invariant_of-result c =
       small = rw empty.long c.requires.1;
     }
 
+pub returns-clause-file : goal.returns-clause-file
+returns-clause-file c = empty-tied (with_store c.in_ok-new.field-0) 0
+
 pub returns-clause-memory : goal.returns-clause-memory
-returns-clause-memory c = empty-view (with_store c.in_ok-new.field-0) c.args.region c.in_ok-new.ensures
+returns-clause-memory c = λ f. empty-view (with_store c.in_ok-new.field-0) f c.args.region c.in_ok-new.ensures

@@ -13,7 +13,7 @@ use Rattle.geos_calls.proofs.kernel.Kernel.refer.Goals as goal
 pub bytes-requires : goal.bytes-requires
 bytes-requires c =
     let locked = subst (λ t. IsLocked t c.args.name) (sym c.self.view_is) c.requires in
-    locked-there (with_store c.self.inside.blocks) c.args.name c.self.invariant locked
+    locked-there (with_store c.self.inside.blocks) c.args.name locked
 
 pub find-requires : goal.find-requires
 find-requires c =
@@ -24,7 +24,7 @@ find-requires c =
 pub place-requires : goal.place-requires
 place-requires c =
     let locked = subst (λ t. IsLocked t c.args.name) (sym c.self.view_is) c.requires in
-    locked-there (with_store c.self.inside.blocks) c.args.name c.self.invariant locked
+    locked-there (with_store c.self.inside.blocks) c.args.name locked
 
 pub returns-in-Ok-clause-gives : goal.returns-in-Ok-clause-gives
 returns-in-Ok-clause-gives c =

@@ -2,6 +2,7 @@ use Rattle.std.proofs.Common.{◌+◌, Ok, ap, subst, arith}
 use Rattle.geos_model.specs.Bytes.{word_bytes}
 use Rattle.geos_table.specs.Effects.{Reference}
 use Rattle.geos_table.specs.Calls as table
+use Rattle.geos_table.proofs.Laws.{willing}
 use Rattle.geos_calls.specs.Kernel.{Calls}
 use Rattle.geos_calls.specs.Spans.{Stands}
 use Rattle.geos_calls.proofs.Locks.{with_store}
@@ -41,4 +42,4 @@ pub returns-clause-spans : goal.returns-clause-spans
 returns-clause-spans c =
     let standing = c.requires.stands in
     let calls = returns-clause-row c standing.0 standing.1 in
-    calls.spans calls.answers.0
+    λ f tied. calls.spans f tied willing
