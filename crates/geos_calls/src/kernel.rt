@@ -77,11 +77,12 @@ impl Kernel {
         self.blocks.locks(name)
     }
 
-    /// What holds of the kernel's memory at all times: sizes of blocks are legal and have room
-    /// for their chunks, chunks are lists of bytes, and no block is locked more often than it
-    /// can be.
+    /// What holds of the kernel's memory at all times: there is a VM file that the model may know
+    /// beside it; sizes of blocks are legal and have room for their chunks, chunks are lists of
+    /// bytes, and no block is locked more often than it can be.
     pub fn memory_is_legal(&self)
-        ensures { (f : VmFile) → IsFileOf self.now f → IsMemory (memory_of self.now f) }
+        ensures file { (f : VmFile) × IsFileOf self.now f }
+        ensures legal { (f : VmFile) → IsFileOf self.now f → IsMemory (memory_of self.now f) }
     {
         let _region = self.blocks.region();
     }

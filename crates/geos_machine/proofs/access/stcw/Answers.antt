@@ -19,7 +19,7 @@ store16-requires-clause-stands c =
 pub returns-then-not-reaches : goal.returns-then-not-reaches
 returns-then-not-reaches c =
     let i = c.args.i.now in
-    rw c.refuse.ensures.goes (tested i c.args.kernel.now c.args.m.now _ (record { at = 0; len = 0 }) (get_or c.args.m.now.words i.c 0) Both (λ ref. store ref (get_or c.args.m.now.words i.c 0) (low_bytes Both (get_or c.args.m.now.words i.a 0))) nowhere (λ ref choice memory. refl) (λ ref choice. refl) (λ beside pc safe. (stores-safe i _ Both Tested (rw c.requires.instr.is refl) safe).0) (λ image choice beside pc. rw c.requires.instr.is refl)
+    rw c.refuse.ensures.goes (tested i c.args.kernel.now c.args.m.now _ (record { at = 0; len = 0 }) (get_or c.args.m.now.words i.c 0) Both (λ ref. store ref (get_or c.args.m.now.words i.c 0) (low_bytes Both (get_or c.args.m.now.words i.a 0))) nowhere (λ ref choice memory. refl) (λ ref choice memory. refl) (λ beside pc safe. (stores-safe i _ Both Tested (rw c.requires.instr.is refl) safe).0) (λ image choice beside pc. rw c.requires.instr.is refl)
     (not-false _ (sym c.reaches.ensures ∙ c.if-not-reaches.true)) c.refuse.ensures.registers)
 
 pub returns : goal.returns

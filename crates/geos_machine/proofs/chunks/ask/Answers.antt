@@ -3,13 +3,16 @@ use Rattle.geos_model.specs.Names.{mem}
 use Rattle.geos_table.specs.ChunkCalls.{ask_row}
 use Rattle.geos_semantics.specs.State.{with_word}
 use Rattle.geos_machine.proofs.Works.{slot-done, slot-refused, slot-locked}
-use Rattle.geos_machine.proofs.Safe.{ask-held}
+use Rattle.geos_machine.proofs.Safe.{ask-held, ask-word}
 use Rattle.geos_machine.proofs.chunks.ask.Goals as goal
 
 pub ask-requires : goal.ask-requires
 ask-requires c =
     let i = c.args.i.now in
     rw c.requires.a (slot-locked i c.args.kernel.now c.args.m.now (mem 0) c.requires.ready (λ beside pc safe. ask-held i _ safe c.requires.asks))
+
+pub bounds-m-i : goal.bounds-m-i
+bounds-m-i c = ask-word c.args.i.now.opcode c.args.i.now c.requires.asks c.requires.fields
 
 pub returns-in-Ok : goal.returns-in-Ok
 returns-in-Ok c =
