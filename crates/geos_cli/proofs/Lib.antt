@@ -4,6 +4,7 @@ pub mod Examples
 pub mod HexLines
 pub mod Parts
 pub mod Prints
+pub mod CallsRun
 pub mod Registers
 pub mod Searches
 pub mod Sessions

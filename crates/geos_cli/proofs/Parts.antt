@@ -1,16 +1,11 @@
 -- What a failed write leaves of a longer text.
-use Rattle.std.proofs.Common.{◌≡◌, ◌<◌, ℕ, suc, List, [], ◌∷◌, ◌++◌, length, take, drop, get_or, refl, sym, ap, ◌∙◌, arith, subst, append_assoc, length-append, take-append-drop, drop-cons}
+use Rattle.std.proofs.Common.{◌≡◌, ◌<◌, ℕ, suc, List, [], ◌∷◌, ◌++◌, length, take, drop, get_or, sym, ap, ◌∙◌, arith, subst, append_assoc, length-append, take-append-drop, drop-cons}
 use Rattle.std.specs.Prelude.{Option, Result, Ok, Err, IfErr, decimal}
 use Rattle.std.specs.Io.KnownBytes.{Appends}
 use Rattle.std.proofs.KnownBytes.{Appends-trans}
 use Rattle.std.proofs.lemmas.Grind.{flat_map-append}
-use Rattle.geos_table.specs.Memory.{Memory}
-use Rattle.geos_image.specs.Parts.{Parts}
-use Rattle.geos_machine.specs.declared.outcome.Outcome.{Outcome}
-use Rattle.geos_machine.specs.Runs.{Ran}
-use Rattle.geos_cli.specs.declared.script.Call.{Call}
 use Rattle.geos_cli.specs.Counted.{AppendsPart}
-use Rattle.geos_cli.specs.Script.{printed, Prints, PrintsPart, StoppedCalls}
+use Rattle.geos_cli.specs.Script.{printed}
 
 -- what holds at all holds at each error
 pub IfErr-any : {A E : Type 0} {P : Type 0} (result : Result A E) → P → IfErr result (λ _. P)
@@ -50,29 +45,3 @@ part-line-feed a b c d words k lt p q r =
     let behind = printed (drop (suc k) words) in
     let whole = printed-at words k lt ∙ sym (append_assoc front digits (10 ∷ behind)) in
     subst (AppendsPart a d) (sym whole) (part-between a c d (front ++ digits) (10 ∷ []) behind (Appends-trans a b c front digits p q) r)
-
--- the writer failed while a call was printed
-pub stopped-at : (image : Parts) (calls : List Call) (k : ℕ) (default : Call) (outcome : Outcome) (before between after : Memory) (a b c : Option (List ℕ)) (text : List ℕ)
-    → k < length calls → Prints image (take k calls) before between text → Appends a b text
-    → Ran image (get_or calls k default).routine (get_or calls k default).words between after outcome
-    → AppendsPart b c (printed outcome.output.items) → StoppedCalls image calls before after a c
-stopped-at image calls k default outcome before between after a b c text lt prints p ran (part, rest, e, some, q) =
-    let split : calls ≡ take k calls ++ (get_or calls k default ∷ drop (suc k) calls) =
-    sym (take-append-drop k calls) ∙ ap (λ cs. take k calls ++ cs) (drop-cons calls k default lt) in
-    let stops : PrintsPart image calls before after (text ++ part) = record {
-      done = take k calls;
-      call = get_or calls k default;
-      others = drop (suc k) calls;
-      in_order = split;
-      between = between;
-      earlier = text;
-      printed_earlier = prints;
-      outcome = outcome;
-      ran = ran;
-      part = part;
-      rest = rest;
-      begun = e;
-      not_all = some;
-      written = refl;
-    } in
-    (text ++ part, stops, Appends-trans a b c text part p q)

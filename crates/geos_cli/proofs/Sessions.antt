@@ -5,11 +5,17 @@ use Rattle.std.specs.Str.Lines.{lines}
 use Rattle.std.specs.Io.KnownBytes.{Keeps}
 use Rattle.std.proofs.KnownBytes.{Appends-kept}
 use Rattle.geos_table.specs.Memory as model
+use Rattle.geos_table.specs.VmFile.{VmFile, empty_file}
+use Rattle.geos_table.specs.Effects.{Choice}
+use Rattle.geos_calls.specs.View.{KernelState, memory_of, IsFileOf}
+use Rattle.geos_calls.specs.Kernel.{IsChosen}
+use Rattle.geos_image.specs.Parts.{Parts}
 use Rattle.geos_cli.specs.Hex.{hex_fault, image_bytes, script_lines, IsBadHex}
-use Rattle.geos_cli.specs.Script.{most_bytes, Runs, Stops, RanScript, StoppedScript}
+use Rattle.geos_cli.specs.Script.{most_bytes, calls_of, Runs, Stops, Loads, RunsScript, RanScript, StoppedScript}
+use Rattle.geos_cli.proofs.Prints.{prints-wider, part-wider}
 use Rattle.geos_cli.specs.declared.fault.ScriptFault.{ScriptFault}
 use Rattle.geos_cli.specs.declared.fault.ScriptFault.TheVariants.{TooLong, BadHex, BadImage, Rejected, BadScript, Read, Write, Memory}
-use Rattle.geos_cli.specs.Session.{Reads, no_blocks, RanBytes, StoppedBytes, EndsBytes, RanSession, StoppedSession, EndsSession}
+use Rattle.geos_cli.specs.Session.{Reads, IsFaultless, no_blocks, RanBytes, StoppedBytes, EndsBytes, RanSession, StoppedSession, EndsSession}
 
 -- what holds of a fault holds of it where it is passed on
 pub passed-on : {A E : Type 0} (P : E → Type 0) (result : Result A E) (e : E) → IsErrAnd result (λ x. x ≡ e) → P e → IfErr result P
@@ -37,27 +43,61 @@ hex-ends bytes short (BadScript line) h = absurd h
 hex-ends bytes short Read h = absurd h
 hex-ends bytes short Write h = absurd h
 
--- bytes have an image and a script
-module _ (bytes items image script : List ℕ) (memory after : model.Memory) (short : length bytes ≤ most_bytes) (good : hex_fault (lines bytes) ≡ None)
-    (items_is : items ≡ image_bytes (lines bytes)) (script_is : lines script ≡ script_lines (lines bytes)) (lent : image ≡ items) (empty : memory ≡ no_blocks) where
+-- what comes from outside between two kernels is no fault
+faultless : (kernel later : KernelState) (choice : Choice) → IsChosen kernel later choice → IsFaultless choice
+faultless kernel later choice chosen = record { given = chosen.given; device = chosen.device }
+
+runs-faultless : (kernel later : KernelState) (bytes : List ℕ) (ls : List (List ℕ)) (before after : model.Memory) (text : List ℕ) → Runs (IsChosen kernel later) bytes ls before after text → Runs IsFaultless bytes ls before after text
+runs-faultless kernel later bytes ls before after text (image, loads, prints) =
+    (image, loads, prints-wider (IsChosen kernel later) IsFaultless (faultless kernel later) image (calls_of image ls) before after text prints)
+
+stops-faultless : (kernel later : KernelState) (bytes : List ℕ) (ls : List (List ℕ)) (before after : model.Memory) (text : List ℕ) → Stops (IsChosen kernel later) bytes ls before after text → Stops IsFaultless bytes ls before after text
+stops-faultless kernel later bytes ls before after text (image, loads, part) =
+    (image, loads, part-wider (IsChosen kernel later) IsFaultless (faultless kernel later) image (calls_of image ls) before after text part)
+
+-- bytes have an image and a script, which runs on a kernel without a block
+module _ (bytes items image script : List ℕ) (kernel later : KernelState) (short : length bytes ≤ most_bytes) (good : hex_fault (lines bytes) ≡ None)
+    (items_is : items ≡ image_bytes (lines bytes)) (script_is : lines script ≡ script_lines (lines bytes)) (lent : image ≡ items) (tied : IsFileOf kernel (empty_file 0))
+    (empty : (f : VmFile) → memory_of kernel f ≡ record no_blocks { file = f }) where
   -- what holds of the script holds of the lines behind `end`
-  in-session : (P : List ℕ → List (List ℕ) → model.Memory → Type 0) → P image (lines script) memory → P (image_bytes (lines bytes)) (script_lines (lines bytes)) no_blocks
+  in-session : (P : List ℕ → List (List ℕ) → model.Memory → Type 0) → P image (lines script) (memory_of kernel (empty_file 0)) → P (image_bytes (lines bytes)) (script_lines (lines bytes)) no_blocks
   in-session P h =
-      let with_image = subst (λ i. P i (lines script) memory) (lent ∙ items_is) h in
-      let with_script = subst (λ ls. P (image_bytes (lines bytes)) ls memory) script_is with_image in
-      subst (λ m. P (image_bytes (lines bytes)) (script_lines (lines bytes)) m) empty with_script
+      let with_image = subst (λ i. P i (lines script) (memory_of kernel (empty_file 0))) (lent ∙ items_is) h in
+      let with_script = subst (λ ls. P (image_bytes (lines bytes)) ls (memory_of kernel (empty_file 0))) script_is with_image in
+      subst (λ m. P (image_bytes (lines bytes)) (script_lines (lines bytes)) m) (empty (empty_file 0)) with_script
 
-  -- the script ran, and the flush kept what the writer got
-  pub session-ran : (a b c : Option (List ℕ)) → RanScript image script memory after a b → Keeps b c → RanBytes bytes a c
-  session-ran a b c (text, runs, appends) kept = (text, (short, good, (after, in-session (λ i ls m. Runs i ls m after text) runs.1)), Appends-kept a b c text appends kept)
+  -- the script ran
+  runs : (text : List ℕ) (g : VmFile) → RunsScript (IsChosen kernel later) image script (memory_of kernel (empty_file 0)) (memory_of later g) text
+      → (after : model.Memory) × Runs IsFaultless (image_bytes (lines bytes)) (script_lines (lines bytes)) no_blocks after text
+  runs text g h =
+      (memory_of later g, in-session (λ i ls m. Runs IsFaultless i ls m (memory_of later g) text) (runs-faultless kernel later image (lines script) (memory_of kernel (empty_file 0)) (memory_of later g) text h.1))
 
-  -- the script ran, and the flush failed
-  pub session-unflushed : (a b c : Option (List ℕ)) → RanScript image script memory after a b → Keeps b c → StoppedBytes bytes a c
-  session-unflushed a b c (text, runs, appends) kept = (text, (short, good, inr (after, in-session (λ i ls m. Runs i ls m after text) runs.1)), Appends-kept a b c text appends kept)
+  -- and the flush kept what the writer got
+  pub session-ran : (a b c : Option (List ℕ)) → RanScript image script kernel later a b → Keeps b c → RanBytes bytes a c
+  session-ran a b c (text, leads, appends) kept = (text, (short, good, runs text (leads (empty_file 0) tied).0 (leads (empty_file 0) tied).2), Appends-kept a b c text appends kept)
+
+  -- or the flush failed
+  pub session-unflushed : (a b c : Option (List ℕ)) → RanScript image script kernel later a b → Keeps b c → StoppedBytes bytes a c
+  session-unflushed a b c (text, leads, appends) kept = (text, (short, good, inr (runs text (leads (empty_file 0) tied).0 (leads (empty_file 0) tied).2)), Appends-kept a b c text appends kept)
+
+  -- where it ran, the writer may have failed
+  pub session-due : (a b : Option (List ℕ)) → RanScript image script kernel later a b → EndsBytes bytes Write
+  session-due a b (text, leads, appends) =
+      let h = (leads (empty_file 0) tied).2 in
+      (short, good, in-session (λ i ls m. (parts : Parts) × Loads i ls parts) (h.1.0, h.1.1))
 
   -- the script was stopped
-  pub session-stopped : (a b : Option (List ℕ)) → StoppedScript image script memory after a b → StoppedBytes bytes a b
-  session-stopped a b (text, stops, appends) = (text, (short, good, inl (after, in-session (λ i ls m. Stops i ls m after text) stops.1)), appends)
+  pub session-stopped : (a b : Option (List ℕ)) → StoppedScript image script kernel later a b → StoppedBytes bytes a b
+  session-stopped a b (text, leads, appends) =
+      let g = (leads (empty_file 0) tied).0 in
+      let h = (leads (empty_file 0) tied).2 in
+      let stops = in-session (λ i ls m. Stops IsFaultless i ls m (memory_of later g) text) (stops-faultless kernel later image (lines script) (memory_of kernel (empty_file 0)) (memory_of later g) text h.1) in
+      (text, (short, good, inl (memory_of later g, stops)), appends)
+
+-- a fault that is the writer's
+pub if-write : {A : Type 0} (P : Type 0) (Q : ScriptFault → Type 0) (result : Result A ScriptFault) → IfErr result (λ fault. (fault ≡ Write) × P) → Q Write → IfErr result Q
+if-write P Q (Ok x) h q = tt
+if-write P Q (Err e) h q = subst Q (sym h.0) q
 
 -- a reader gave the bytes
 module _ (given left : Option (List ℕ)) (bytes : List ℕ) (reads : Reads given left bytes) where

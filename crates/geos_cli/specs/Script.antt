@@ -6,6 +6,10 @@ use Rattle.std.specs.List.{position_from}
 use Rattle.std.specs.Str.Lines.{lines}
 use Rattle.std.specs.Io.KnownBytes.{Appends}
 use Rattle.geos_table.specs.Memory as model
+use Rattle.geos_table.specs.VmFile.{VmFile}
+use Rattle.geos_table.specs.Effects.{Choice}
+use Rattle.geos_calls.specs.View.{KernelState, memory_of, IsFileOf}
+use Rattle.geos_calls.specs.Kernel.{IsChosen}
 use Rattle.geos_image.specs.declared.routine.Routine.{Routine}
 use Rattle.geos_image.specs.Parts.{Parts}
 use Rattle.geos_image.specs.Legal.{text_end}
@@ -76,39 +80,46 @@ abbrev pub printed : List ℕ → List ℕ
 printed words = flat_map (λ word. decimal word ++ 10 ∷ []) words
 
 -- what the calls print, from the memory before to the memory after: the output of a model's run
--- of each, one after another, each in the memory that the one before left
-abbrev pub Prints : Parts → List Call → model.Memory → model.Memory → List ℕ → Type 0
-Prints image [] before after text = (text ≡ []) × (after ≡ before)
-Prints image (call ∷ calls) before after text =
-    (outcome : Outcome) × (between : model.Memory) × (others : List ℕ) × Ran image call.routine call.words before between outcome
-    × Prints image calls between after others × (text ≡ printed outcome.output.items ++ others)
+-- of each, under allowed choices, one after another, each in the memory that the one before left
+abbrev pub Prints : (Choice → Type 0) → Parts → List Call → model.Memory → model.Memory → List ℕ → Type 0
+Prints allowed image [] before after text = (text ≡ []) × (after ≡ before)
+Prints allowed image (call ∷ calls) before after text =
+    (outcome : Outcome) × (between : model.Memory) × (others : List ℕ) × Ran allowed image call.routine call.words before between outcome
+    × Prints allowed image calls between after others × (text ≡ printed outcome.output.items ++ others)
 
 -- what the calls have printed when the writer fails: some calls are done, with all that they
 -- print; the next one was run, in the memory that they left, and to the memory after; a
 -- beginning of what it prints is written, not all; the others were not begun
-pub record PrintsPart (image : Parts) (calls : List Call) (before after : model.Memory) (text : List ℕ) : Type 0 where
+pub record PrintsPart (allowed : Choice → Type 0) (image : Parts) (calls : List Call) (before after : model.Memory) (text : List ℕ) : Type 0 where
   pub done : List Call
   pub call : Call
   pub others : List Call
   pub in_order : calls ≡ done ++ call ∷ others
   pub between : model.Memory
   pub earlier : List ℕ
-  pub printed_earlier : Prints image done before between earlier
+  pub printed_earlier : Prints allowed image done before between earlier
   pub outcome : Outcome
-  pub ran : Ran image call.routine call.words between after outcome
+  pub ran : Ran allowed image call.routine call.words between after outcome
   pub part : List ℕ
   pub rest : List ℕ
   pub begun : printed outcome.output.items ≡ part ++ rest
   pub not_all : 0 < length rest
   pub written : text ≡ earlier ++ part
 
--- the calls were run, from memory to memory, and a writer got their text
-abbrev pub RanCalls : Parts → List Call → model.Memory → model.Memory → Option (List ℕ) → Option (List ℕ) → Type 0
-RanCalls image calls before after old new = (text : List ℕ) × Prints image calls before after text × Appends old new text
+-- whatever VM file the model knows beside a kernel, this leads from its memory to that of
+-- another kernel, with a VM file that the model may know then
+abbrev pub Leads : KernelState → KernelState → ((Choice → Type 0) → model.Memory → model.Memory → Type 0) → Type 0
+Leads kernel later this = (f : VmFile) → IsFileOf kernel f → (g : VmFile) × IsFileOf later g × this (IsChosen kernel later) (memory_of kernel f) (memory_of later g)
+
+-- the calls were run, from kernel to kernel, and a writer got their text
+abbrev pub RanCalls : Parts → List Call → KernelState → KernelState → Option (List ℕ) → Option (List ℕ) → Type 0
+RanCalls image calls kernel later old new =
+    (text : List ℕ) × Leads kernel later (λ allowed before after. Prints allowed image calls before after text) × Appends old new text
 
 -- the calls were stopped by a writer that failed, which got the text up to there
-abbrev pub StoppedCalls : Parts → List Call → model.Memory → model.Memory → Option (List ℕ) → Option (List ℕ) → Type 0
-StoppedCalls image calls before after old new = (text : List ℕ) × PrintsPart image calls before after text × Appends old new text
+abbrev pub StoppedCalls : Parts → List Call → KernelState → KernelState → Option (List ℕ) → Option (List ℕ) → Type 0
+StoppedCalls image calls kernel later old new =
+    (text : List ℕ) × Leads kernel later (λ allowed before after. PrintsPart allowed image calls before after text) × Appends old new text
 
 -- bytes spell an image that the verifier accepts, and no line of the script is bad
 pub record Loads (bytes : List ℕ) (lines : List (List ℕ)) (image : Parts) : Type 0 where
@@ -131,13 +142,15 @@ IsBadLine image lines _ = ⊥
 
 -- a script of these lines runs on the image that the bytes spell, from memory to memory, and
 -- prints the text
-abbrev pub Runs : List ℕ → List (List ℕ) → model.Memory → model.Memory → List ℕ → Type 0
-Runs bytes lines before after text = (image : Parts) × Loads bytes lines image × Prints image (calls_of image lines) before after text
+abbrev pub Runs : (Choice → Type 0) → List ℕ → List (List ℕ) → model.Memory → model.Memory → List ℕ → Type 0
+Runs allowed bytes lines before after text =
+    (image : Parts) × Loads bytes lines image × Prints allowed image (calls_of image lines) before after text
 
 -- a script of these lines runs on the image that the bytes spell, and has come to the memory
 -- after and printed the text when the writer fails
-abbrev pub Stops : List ℕ → List (List ℕ) → model.Memory → model.Memory → List ℕ → Type 0
-Stops bytes lines before after text = (image : Parts) × Loads bytes lines image × PrintsPart image (calls_of image lines) before after text
+abbrev pub Stops : (Choice → Type 0) → List ℕ → List (List ℕ) → model.Memory → model.Memory → List ℕ → Type 0
+Stops allowed bytes lines before after text =
+    (image : Parts) × Loads bytes lines image × PrintsPart allowed image (calls_of image lines) before after text
 
 -- when such a script ends with a fault: each of them in the order in which they are looked for
 abbrev pub EndsBy : List ℕ → List (List ℕ) → ScriptFault → Type 0
@@ -155,21 +168,23 @@ abbrev pub most_bytes : ℕ
 most_bytes = 1048576
 
 -- the script runs on the image that the bytes spell, from memory to memory, and prints the text
-abbrev pub RunsScript : List ℕ → List ℕ → model.Memory → model.Memory → List ℕ → Type 0
-RunsScript bytes script before after text = (length script ≤ most_bytes) × Runs bytes (lines script) before after text
+abbrev pub RunsScript : (Choice → Type 0) → List ℕ → List ℕ → model.Memory → model.Memory → List ℕ → Type 0
+RunsScript allowed bytes script before after text = (length script ≤ most_bytes) × Runs allowed bytes (lines script) before after text
 
 -- the script runs on the image that the bytes spell, and has come to the memory after and
 -- printed the text when the writer fails
-abbrev pub StopsScript : List ℕ → List ℕ → model.Memory → model.Memory → List ℕ → Type 0
-StopsScript bytes script before after text = (length script ≤ most_bytes) × Stops bytes (lines script) before after text
+abbrev pub StopsScript : (Choice → Type 0) → List ℕ → List ℕ → model.Memory → model.Memory → List ℕ → Type 0
+StopsScript allowed bytes script before after text = (length script ≤ most_bytes) × Stops allowed bytes (lines script) before after text
 
--- the script ran, from memory to memory, and a writer got its text
-abbrev pub RanScript : List ℕ → List ℕ → model.Memory → model.Memory → Option (List ℕ) → Option (List ℕ) → Type 0
-RanScript bytes script before after old new = (text : List ℕ) × RunsScript bytes script before after text × Appends old new text
+-- the script ran, from kernel to kernel, and a writer got its text
+abbrev pub RanScript : List ℕ → List ℕ → KernelState → KernelState → Option (List ℕ) → Option (List ℕ) → Type 0
+RanScript bytes script kernel later old new =
+    (text : List ℕ) × Leads kernel later (λ allowed before after. RunsScript allowed bytes script before after text) × Appends old new text
 
 -- the script was stopped by a writer that failed, which got the text up to there
-abbrev pub StoppedScript : List ℕ → List ℕ → model.Memory → model.Memory → Option (List ℕ) → Option (List ℕ) → Type 0
-StoppedScript bytes script before after old new = (text : List ℕ) × StopsScript bytes script before after text × Appends old new text
+abbrev pub StoppedScript : List ℕ → List ℕ → KernelState → KernelState → Option (List ℕ) → Option (List ℕ) → Type 0
+StoppedScript bytes script kernel later old new =
+    (text : List ℕ) × Leads kernel later (λ allowed before after. StopsScript allowed bytes script before after text) × Appends old new text
 
 -- when a script ends with a fault: first of all, where it is too long
 abbrev pub ScriptEndsBy : List ℕ → List ℕ → ScriptFault → Type 0

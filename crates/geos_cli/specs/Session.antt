@@ -1,9 +1,10 @@
 -- What a session is, and when it ends early.
-use Rattle.std.specs.Prelude.{◌≡◌, ◌<◌, ◌≤◌, ◌⊎◌, ℕ, List, length, replicate, Option, Some, None}
+use Rattle.std.specs.Prelude.{◌≡◌, ◌<◌, ◌≤◌, ◌⊎◌, ℕ, false, List, [], length, replicate, Option, Some, None}
 use Rattle.std.specs.Str.Lines.{lines}
 use Rattle.std.specs.Io.KnownBytes.{Appends, Consumes, IsAtEnd}
 use Rattle.geos_table.specs.VmFile.{empty_file}
 use Rattle.geos_table.specs.Memory as model
+use Rattle.geos_table.specs.Effects.{Choice}
 use Rattle.geos_cli.specs.declared.fault.ScriptFault.{ScriptFault}
 use Rattle.geos_cli.specs.declared.fault.ScriptFault.TheVariants.{TooLong, BadHex, Read, Memory}
 use Rattle.geos_cli.specs.Hex.{hex_fault, image_bytes, script_lines}
@@ -13,17 +14,24 @@ use Rattle.geos_cli.specs.Script.{most_bytes, Runs, Stops, EndsBy}
 abbrev pub Reads : Option (List ℕ) → Option (List ℕ) → List ℕ → Type 0
 Reads before now bytes = Consumes before now bytes × IsAtEnd now
 
--- the memory in which a session begins: no block, in a region of 65,536 bytes
+-- what may come from outside in a session: room may be refused, but no device fails or gives
+-- anything
+pub record IsFaultless (choice : Choice) : Type 0 where
+  pub given : choice.given ≡ []
+  pub device : choice.device ≡ false
+
+-- the memory in which a session begins: no block, in a region of 65,536 bytes, and an empty VM
+-- file
 abbrev pub no_blocks : model.Memory
 no_blocks = record { blocks = replicate 1024 None; file = empty_file 0; region = 65536 }
 
 -- the script in the lines behind `end` runs on the image in front of it, and prints the text
 abbrev pub RunsLines : List (List ℕ) → List ℕ → Type 0
-RunsLines lines text = (after : model.Memory) × Runs (image_bytes lines) (script_lines lines) no_blocks after text
+RunsLines lines text = (after : model.Memory) × Runs IsFaultless (image_bytes lines) (script_lines lines) no_blocks after text
 
 -- such a script has printed the text when the writer fails
 abbrev pub StopsLines : List (List ℕ) → List ℕ → Type 0
-StopsLines lines text = (after : model.Memory) × Stops (image_bytes lines) (script_lines lines) no_blocks after text
+StopsLines lines text = (after : model.Memory) × Stops IsFaultless (image_bytes lines) (script_lines lines) no_blocks after text
 
 -- the bytes are an image in digits, a line `end`, and a script that runs on the image and
 -- prints the text

@@ -3,7 +3,6 @@
 ghost use Rattle.std.specs.Prelude.{◌≡◌, ◌≢◌, All, None, Ok, IfOk, IfErr};
 ghost use Rattle.std.specs.Str.Lines.{lines};
 ghost use Rattle.std.specs.Io.KnownBytes.{Appends, Keeps};
-ghost use Rattle.geos_calls.specs.View.{memory_of};
 ghost use Rattle.geos_cli.specs.declared.fault.ScriptFault.TheVariants.{Write};
 ghost use Rattle.geos_cli.specs.Counted.{Rose, AppendsPart};
 ghost use Rattle.geos_cli.specs.Fault.{KeptUnless};
@@ -156,9 +155,9 @@ fn run_calls<W: Write>(
     out: &mut Counted<W>,
 ) -> Result<(), ScriptFault>
     requires { All (IsAdmitted checked.now) calls.now }
-    ensures ok { IfOk result (λ _. RanCalls checked.now calls.now (memory_of kernel.old) (memory_of kernel.new)
+    ensures ok { IfOk result (λ _. RanCalls checked.now calls.now kernel.old kernel.new
         (W.contents out.old.stream) (W.contents out.new.stream)) }
-    ensures stopped { IfErr result (λ _. StoppedCalls checked.now calls.now (memory_of kernel.old) (memory_of kernel.new)
+    ensures stopped { IfErr result (λ _. StoppedCalls checked.now calls.now kernel.old kernel.new
         (W.contents out.old.stream) (W.contents out.new.stream)) }
     ensures kept { IfOk result (λ _. out.new.failures ≡ out.old.failures) }
     ensures failed { IfErr result (λ fault. (fault ≡ Write) × Rose out.old.failures out.new.failures) }
@@ -201,11 +200,11 @@ pub fn run_script<W: Write>(
     kernel: &mut Kernel,
     out: &mut Counted<W>,
 ) -> Result<(), ScriptFault>
-    ensures ran { IfOk result (λ _. RanScript image.now script.now (memory_of kernel.old) (memory_of kernel.new)
+    ensures ran { IfOk result (λ _. RanScript image.now script.now kernel.old kernel.new
         (W.contents out.old.stream) (W.contents out.new.stream)) }
     ensures due { IfErr result (ScriptEndsBy image.now script.now) }
     ensures stopped { IfErr result (λ fault. fault ≡ Write →
-        StoppedScript image.now script.now (memory_of kernel.old) (memory_of kernel.new)
+        StoppedScript image.now script.now kernel.old kernel.new
         (W.contents out.old.stream) (W.contents out.new.stream)) }
 
     // Nothing runs before a fault other than `Write`.

@@ -1,26 +1,24 @@
-use Rattle.std.proofs.Common.{◌∙◌, ◌++◌, [], get_or, take, subst}
+use Rattle.std.proofs.Common.{◌∙◌, [], refl, subst, arith}
 use Rattle.std.specs.Io.KnownBytes.{Appends}
-use Rattle.std.proofs.KnownBytes.{Appends-trans}
-use Rattle.std.proofs.lemmas.List.{take_more}
-use Rattle.geos_calls.specs.View.{memory_of}
 use Rattle.geos_cli.specs.declared.script.Call.{Call}
 use Rattle.geos_cli.specs.Script.{printed}
 use Rattle.geos_cli.specs.Counted.{AppendsPart}
-use Rattle.geos_cli.proofs.Parts.{IfErr-any, stopped-at}
-use Rattle.geos_cli.proofs.Prints.{prints-more}
+use Rattle.geos_cli.proofs.CallsRun.{ran-none, ran-more, ran-all, stopped-at}
+use Rattle.geos_cli.proofs.Parts.{IfErr-any}
 use Rattle.geos_cli.proofs.script.run_calls.Goals as goal
+
+pub loop-call-init : goal.loop-call-init
+loop-call-init g c = (ran-none c.args.checked.now c.args.kernel.now (g.W.Write.contents c.args.out.now.stream), refl)
+
+pub returns-clause-ok : goal.returns-clause-ok
+returns-clause-ok g c = ran-all c.args.checked.now c.args.calls.now c.loop-call.call-index c.args.kernel.now c.loop-call.kernel _ _ (omega (arith, c.loop-call-test.false)) c.loop-call.invariant.0
 
 pub loop-call-preserved : goal.loop-call-preserved
 loop-call-preserved g c =
     let before = c.loop-call.invariant.0 in
-    let k = c.loop-call.call-index in
-    let calls = c.args.calls.now in
-    let outcome = c.run-outcome.result in
     let default : Call = record { routine = 0; words = [] } in
-    let more = prints-more c.args.checked.now (take k calls) _ _ (memory_of c.run-outcome.new.kernel) before.0 (get_or calls k default) outcome before.1 c.run-outcome.ensures.ran in
-    let text = before.0 ++ printed outcome.output.items in
     let shown = subst (λ ws. Appends (g.W.Write.contents c.loop-call.out.stream) (g.W.Write.contents c.print.new.out.stream) (printed ws)) c.as_slice.ensures.value c.in_ok-print.ensures.ok in
-    ((text, rw (take_more calls k default c.loop-call-test.true) more, Appends-trans _ _ _ _ _ before.2 shown), c.in_ok-print.ensures.kept ∙ c.loop-call.invariant.1)
+    (ran-more c.args.checked.now c.args.calls.now c.loop-call.call-index default c.run-outcome.result _ _ _ _ _ _ before.0 c.loop-call-test.true before.1 before.2 c.run-outcome.ensures.ran shown, c.in_ok-print.ensures.kept ∙ c.loop-call.invariant.1)
 
 pub returns-in_err-print-clause-stopped : goal.returns-in_err-print-clause-stopped
 returns-in_err-print-clause-stopped g c =

@@ -1,10 +1,9 @@
 use Rattle.std.proofs.Common.{◌≡◌, take}
-use Rattle.geos_calls.specs.View.{memory_of}
 use Rattle.geos_cli.specs.Script.{RanCalls}
 use Rattle.geos_cli.proofs.script.run_calls.Given as goal
 
 abbrev pub invariant-loop-call : goal.invariant-loop-call
 invariant-loop-call g l =
-    RanCalls l.fn.checked (take l.call-index l.fn.calls) (memory_of l.fn.kernel) (memory_of l.kernel)
+    RanCalls l.fn.checked (take l.call-index l.fn.calls) l.fn.kernel l.kernel
     (g.W.Write.contents l.fn.out.stream) (g.W.Write.contents l.out.stream)
     × (l.out.failures ≡ l.fn.out.failures)
