@@ -12,7 +12,7 @@ use Rattle.geos_table.specs.Memory.{Memory, at_handle, with_entry_at, size_of, c
 use Rattle.geos_table.specs.Tight.{is_tight}
 use Rattle.geos_table.specs.declared.call.Change.{Change}
 use Rattle.geos_table.specs.ChunkCalls.{change_edit, change_row, may_grow, row_in}
-use Rattle.geos_table.specs.Effects.{Choice, Call, InBlock, Answers, AnswersUnder, outcome, effect_of, growing}
+use Rattle.geos_table.specs.Effects.{Choice, InBlock, outcome, effect_of, growing}
 use Rattle.geos_model.specs.Edits.{Edit, Part}
 use Rattle.geos_table.specs.Calls.{changes, enlarges, reads, refers, in_block}
 
@@ -27,15 +27,6 @@ cramped = record { first_room = true; last_room = true; device = false; unsure =
 -- all is refused from outside that may be
 abbrev pub unwilling : Choice
 unwilling = record { first_room = true; last_room = true; device = true; unsure = true; memory = true; given = [] }
-
--- what a call answers under a choice that is allowed it answers where more is allowed
-pub answers-wider : {A : Type 0} (few more : Choice → Type 0) (call : Call A) (result : Result A Refusal) (before after : Memory) → ((choice : Choice) → few choice → more choice)
-    → AnswersUnder few call result before after → AnswersUnder more call result before after
-answers-wider few more call result before after wider (choice, allowed, is) = (choice, wider choice allowed, is)
-
--- and where nothing is said of the choice
-pub answers-any : {A : Type 0} (allows : Choice → Type 0) (call : Call A) (result : Result A Refusal) (before after : Memory) → AnswersUnder allows call result before after → Answers call result before after
-answers-any allows call result before after (choice, allowed, is) = (choice, is)
 
 -- what is written under a handle is read there
 pub entry-same : {X : Type 0} (none x : X) (xs : List X) (h : ℕ) → 1 ≤ h → h ≤ length xs → at_handle none (with_entry_at xs h x) h ≡ x

@@ -1,5 +1,5 @@
 -- What a call comes to.
-use Rattle.std.specs.Prelude.{◌≡◌, ℕ, Bool, ◌&&◌, not, nat_lt, List, [], ◌∷◌, Option, Some, None, Result, Ok, Err}
+use Rattle.std.specs.Prelude.{ℕ, Bool, ◌&&◌, not, nat_lt, List, [], ◌∷◌, Option, Some, None, Result, Ok, Err}
 use Rattle.geos_model.specs.declared.name.Name.{Name}
 use Rattle.geos_model.specs.declared.refusal.Refusal.{Refusal}
 use Rattle.geos_model.specs.declared.refusal.Refusal.TheVariants.{NoRoom, TooBig, Disk}
@@ -65,17 +65,6 @@ outcome effect = come_to (first_refusal effect.refusals) effect.left effect.answ
 -- what a call comes to in memory: its row, read on memory with what the device gives
 abbrev pub effect_of : {A : Type 0} → Call A → Choice → Memory → Effect A
 effect_of call choice memory = call choice (given_memory choice.given memory)
-
--- a call answered, and left memory, as its row says, under some choice of what comes from
--- outside
-abbrev pub Answers : {A : Type 0} → Call A → Result A Refusal → Memory → Memory → Type 0
-Answers call result before after = (choice : Choice) × (outcome (effect_of call choice before) ≡ (result, after))
-
--- the same, under some choice that is allowed: so a caller says what it knows of what comes from
--- outside. On an honest device nothing is given, and the device is refused only where its count of
--- failures rose
-abbrev pub AnswersUnder : {A : Type 0} → (Choice → Type 0) → Call A → Result A Refusal → Memory → Memory → Type 0
-AnswersUnder allows call result before after = (choice : Choice) × allows choice × (outcome (effect_of call choice before) ≡ (result, after))
 
 -- a refusal leaves memory as it was
 abbrev pub unchanged : Memory → Refusal → Memory
