@@ -2,6 +2,7 @@
 
 use std::alloc::AllocError;
 use std::fmt;
+use std::fmt::Display;
 use vm_file::{CommitError, CreateError, Directory, Disk, Entry, OpenError};
 
 /// What a call answers.
@@ -112,6 +113,11 @@ impl Answer {
         }
     }
 
+    /// The trial has such a call.
+    pub(crate) fn is_to_a_call(&self) -> bool {
+        !matches!(self, Answer::NotACall)
+    }
+
     /// What a call on a device answers.
     pub(crate) fn of_device(outcome: Result<(), Disk>) -> Answer {
         match outcome {
@@ -127,15 +133,15 @@ impl fmt::Display for Answer {
             Answer::Done => f.write_str("ok"),
             Answer::Text(text) => f.write_str(text.as_str()),
             Answer::Length(len) => write!(f, "{len} bytes"),
-            Answer::Bytes(bytes) => write!(f, "{}", Runs(bytes)),
+            Answer::Bytes(bytes) => Runs(bytes).fmt(f),
             Answer::Calls(calls, failures) => write!(f, "{calls}, and {failures} of them failed"),
-            Answer::Pair(current, saved) => write!(f, "current {current}, saved {saved}"),
-            Answer::Blocks(current, saved) => write!(f, "current {current}, saved {saved}"),
-            Answer::Disk => write!(f, "{Disk}"),
+            Answer::Pair(current, saved) => put_both(f, current, saved),
+            Answer::Blocks(current, saved) => put_both(f, current, saved),
+            Answer::Disk => Disk.fmt(f),
             Answer::DiskAt(bytes) => write!(f, "{Disk}, and the bytes are {}", Runs(bytes)),
-            Answer::Create(why) => write!(f, "{why}"),
-            Answer::Open(why) => write!(f, "{why}"),
-            Answer::Commit(why) => write!(f, "{why}"),
+            Answer::Create(why) => why.fmt(f),
+            Answer::Open(why) => why.fmt(f),
+            Answer::Commit(why) => why.fmt(f),
             Answer::OpenedEachTime => f.write_str("opened each time"),
             Answer::RefusedEachTime => f.write_str("refused each time"),
             Answer::EitherEachTime => f.write_str("a file or an offset each time"),
@@ -144,6 +150,15 @@ impl fmt::Display for Answer {
             Answer::NotACall => f.write_str("not a call"),
         }
     }
+}
+
+/// What stands in the current state, and in the saved one.
+fn put_both<T: fmt::Display, W: fmt::Write>(
+    f: &mut fmt::Formatter<W>,
+    current: &T,
+    saved: &T,
+) -> fmt::Result {
+    write!(f, "current {current}, saved {saved}")
 }
 
 impl fmt::Display for Obstacle {

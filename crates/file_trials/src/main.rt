@@ -29,12 +29,12 @@ use crate::draft::Draft;
 use crate::kept::Kept;
 use crate::stand::Stand;
 use cached_device::{CachedDevice, Part};
-use std::alloc::AllocError;
+use std::alloc::{AllocError, Global};
 use std::io::ErrorKind;
 use std::process::ExitCode;
 use std::{fs, io};
 use trial_lines::{Line, Reading, print_other};
-use vm_file::{Device, Disk, FileDevice, MemoryDevice};
+use vm_file::{Device, Disk, FaultDevice, FileDevice, MemoryDevice};
 
 /// The file of the system.
 const PATH: &str = "trial.vm";
@@ -55,34 +55,83 @@ struct Trial {
     draft: Draft,
 }
 
+impl Bench {
+    /// Carries out a call on the device, or on the file that is open on it.
+    fn answer(
+        &mut self,
+        alloc: Global,
+        line: &Line<'_>,
+        draft: &mut Draft,
+    ) -> Result<Answer, AllocError> {
+        match self {
+            Bench::Memory(stand) => stand.answer(alloc, line, draft),
+            Bench::System(stand) => stand.answer(alloc, line, draft),
+            Bench::Cached(stand) => stand.answer(alloc, line, draft),
+        }
+    }
+
+    /// All bytes of the device; none where there is no device, or it fails.
+    fn bytes(&mut self, alloc: Global) -> Result<Option<Vec<u8>>, AllocError> {
+        match self {
+            Bench::Memory(stand) => stand.bytes(alloc),
+            Bench::System(stand) => stand.bytes(alloc),
+            Bench::Cached(stand) => stand.bytes(alloc),
+        }
+    }
+
+    /// Takes the device with a cache away, where there is one.
+    fn take_cached(&mut self) -> Option<CachedDevice> {
+        match self {
+            Bench::Cached(stand) => stand.take().map(FaultDevice::into_inner),
+            _ => None,
+        }
+    }
+}
+
 impl Trial {
+    /// No device, no bytes that are kept, and nothing to commit.
+    fn new(alloc: Global) -> Trial {
+        Trial {
+            bench: Bench::Memory(Stand::Nothing),
+            kept: Kept {
+                bytes: Vec::new(alloc),
+            },
+            draft: Draft::new(alloc),
+        }
+    }
+
     /// Carries out the call of a line.
     fn answer(&mut self, rt: &HostRuntime, line: &Line<'_>) -> Result<Answer, AllocError> {
         match line.word {
             "memory" | "fail" | "stop" => self.in_memory(rt, line),
             "cached" => self.with_cache(rt, line),
             "power_off" => self.power_off(rt, line),
+            "keep" => self.keep(rt),
             "system"
             | "system_open"
             | "system_open_read_only"
             | "system_open_folder"
             | "system_remove" => Ok(self.on_system(rt, line)),
-            "keep" => self.keep(rt),
-            "damaged" | "cut" | "each_byte" | "each_cut" => self.kept.answer(rt.alloc(), line),
-            "no_block"
-            | "entry"
-            | "entries"
-            | "map_block"
-            | "map_item"
-            | "resident"
-            | "residents"
-            | "absent" => self.draft.answer(rt.alloc(), line),
-            _ => match &mut self.bench {
-                Bench::Memory(stand) => stand.answer(rt.alloc(), line, &mut self.draft),
-                Bench::System(stand) => stand.answer(rt.alloc(), line, &mut self.draft),
-                Bench::Cached(stand) => stand.answer(rt.alloc(), line, &mut self.draft),
-            },
+            _ => self.on_parts(rt.alloc(), line),
         }
+    }
+
+    /// Carries out a call on the bytes that are kept, on the draft, or on the device.
+    fn on_parts(&mut self, alloc: Global, line: &Line<'_>) -> Result<Answer, AllocError> {
+        let answer = self.kept.answer(alloc, line)?;
+        if answer.is_to_a_call() {
+            return Ok(answer);
+        }
+        let answer = self.draft.answer(alloc, line)?;
+        if answer.is_to_a_call() {
+            return Ok(answer);
+        }
+        self.bench.answer(alloc, line, &mut self.draft)
+    }
+
+    /// Puts a device in the place of the one before.
+    fn put(&mut self, bench: Bench) {
+        self.bench = bench;
     }
 
     /// Makes a device in memory.
@@ -92,7 +141,7 @@ impl Trial {
             "memory" => Stand::new(MemoryDevice::new(rt.alloc(), number)?, 0, false),
             word => Stand::new(self.kept.device(rt.alloc())?, number, word == "stop"),
         };
-        self.bench = Bench::Memory(stand);
+        self.put(Bench::Memory(stand));
         Ok(Answer::Done)
     }
 
@@ -100,57 +149,41 @@ impl Trial {
     fn with_cache(&mut self, rt: &HostRuntime, line: &Line<'_>) -> Result<Answer, AllocError> {
         let [len, call, ..] = line.numbers;
         let device = CachedDevice::new(rt.alloc(), u64::from(len))?;
-        self.bench = Bench::Cached(Stand::new(device, u64::from(call), true));
+        self.put(Bench::Cached(Stand::new(device, u64::from(call), true)));
         Ok(Answer::Done)
     }
 
     /// Puts a device in memory in the place of the one with a cache, with what a stop leaves of that.
     fn power_off(&mut self, rt: &HostRuntime, line: &Line<'_>) -> Result<Answer, AllocError> {
-        let Bench::Cached(stand) = &mut self.bench else {
+        let Some(device) = self.bench.take_cached() else {
             return Ok(Answer::NotAsked(Obstacle::NoDevice));
         };
-        let Some(device) = stand.take() else {
-            return Ok(Answer::NotAsked(Obstacle::NoDevice));
+        self.kept = Kept {
+            bytes: device.after_stop(&parts_of(line))?,
         };
-        let parts = line.numbers.map(|choice| match choice {
-            1 => Part::New,
-            2 => Part::Garbage,
-            _ => Part::Old,
-        });
-        let bytes = device.into_inner().after_stop(&parts)?;
-        self.kept = Kept { bytes };
         let left = self.kept.device(rt.alloc())?;
-        self.bench = Bench::Memory(Stand::new(left, 0, false));
+        self.put(Bench::Memory(Stand::new(left, 0, false)));
         Ok(Answer::Done)
     }
 
     /// Makes, opens or removes the file of the system.
     fn on_system(&mut self, rt: &HostRuntime, line: &Line<'_>) -> Answer {
-        let outcome = match line.word {
-            "system" => FileDevice::create(rt, rt.alloc(), PATH, u64::from(line.numbers[0])),
-            "system_open" => FileDevice::open(rt, rt.alloc(), PATH),
-            "system_open_read_only" => FileDevice::open_read_only(rt, rt.alloc(), PATH),
-            "system_open_folder" => FileDevice::open(rt, rt.alloc(), "."),
-            _ => return Answer::of_device(fs::remove_file(rt, PATH).map_err(|_| Disk)),
-        };
-        match outcome {
-            Ok(device) => {
-                let len = device.len();
-                self.bench = Bench::System(Stand::new(device, 0, false));
-                Answer::Length(len)
-            }
-            Err(Disk) => Answer::Disk,
+        match line.word {
+            "system_remove" => Answer::of_device(fs::remove_file(rt, PATH).map_err(|_| Disk)),
+            _ => match system_file(rt, line) {
+                Ok(device) => {
+                    let len = device.len();
+                    self.put(Bench::System(Stand::new(device, 0, false)));
+                    Answer::Length(len)
+                }
+                Err(Disk) => Answer::Disk,
+            },
         }
     }
 
     /// Keeps the bytes of the device.
     fn keep(&mut self, rt: &HostRuntime) -> Result<Answer, AllocError> {
-        let bytes = match &mut self.bench {
-            Bench::Memory(stand) => stand.bytes(rt.alloc())?,
-            Bench::System(stand) => stand.bytes(rt.alloc())?,
-            Bench::Cached(stand) => stand.bytes(rt.alloc())?,
-        };
-        Ok(match bytes {
+        Ok(match self.bench.bytes(rt.alloc())? {
             Some(bytes) => {
                 self.kept = Kept { bytes };
                 Answer::Done
@@ -169,15 +202,33 @@ impl Trial {
     }
 }
 
+/// Makes or opens the file of the system.
+fn system_file(rt: &HostRuntime, line: &Line<'_>) -> Result<FileDevice, Disk> {
+    match line.word {
+        "system" => FileDevice::create(rt, rt.alloc(), PATH, u64::from(line.numbers[0])),
+        "system_open" => FileDevice::open(rt, rt.alloc(), PATH),
+        "system_open_read_only" => FileDevice::open_read_only(rt, rt.alloc(), PATH),
+        _ => FileDevice::open(rt, rt.alloc(), "."),
+    }
+}
+
+/// What a stop leaves of each part of a write, by the numbers of a line.
+fn parts_of(line: &Line<'_>) -> [Part; 8] {
+    line.numbers.map(|choice| match choice {
+        1 => Part::New,
+        2 => Part::Garbage,
+        _ => Part::Old,
+    })
+}
+
 /// Carries out all lines.
 fn run(rt: &HostRuntime) -> io::Result<()> {
-    let mut trial = Trial {
-        bench: Bench::Memory(Stand::Nothing),
-        kept: Kept {
-            bytes: Vec::new(rt.alloc()),
-        },
-        draft: Draft::new(rt.alloc()),
-    };
+    let mut trial = Trial::new(rt.alloc());
+    carry_out(rt, &mut trial)
+}
+
+/// Carries out the lines that are left.
+fn carry_out(rt: &HostRuntime, trial: &mut Trial) -> io::Result<()> {
     for line in rt.lines(rt.alloc()) {
         trial.print(rt, line?.as_str())?;
     }

@@ -33,6 +33,11 @@ impl<D: Device + Drop> Stand<D> {
         }
     }
 
+    /// Puts this in the place of what there was.
+    fn put(&mut self, stand: Stand<D>) {
+        *self = stand;
+    }
+
     /// Carries out a call: on the device, for which the file is closed, or on the file.
     pub(crate) fn answer(
         &mut self,
@@ -40,26 +45,18 @@ impl<D: Device + Drop> Stand<D> {
         line: &Line<'_>,
         draft: &mut Draft,
     ) -> Result<Answer, AllocError> {
-        match line.word {
-            "create" | "open" | "go_on" | "write" | "write_block" | "read" | "sync" | "calls" =>
-                match self.take() {
-                    Some(device) => self.on_device(alloc, line, device),
-                    None => Ok(Answer::NotAsked(Obstacle::NoDevice)),
-                },
-            "current"
-            | "saved"
-            | "block"
-            | "saved_block"
-            | "pair"
-            | "blocks"
-            | "take_current"
-            | "update"
-            | "save"
-            | "revert" => match self {
-                Stand::File(file) => on_file(alloc, line, file, draft),
-                _ => Ok(Answer::NotAsked(Obstacle::NoFile)),
-            },
-            _ => Ok(Answer::NotACall),
+        if is_on_device(line.word) {
+            return match self.take() {
+                Some(device) => self.on_device(alloc, line, device),
+                None => Ok(Answer::NotAsked(Obstacle::NoDevice)),
+            };
+        }
+        if !is_on_file(line.word) {
+            return Ok(Answer::NotACall);
+        }
+        match self {
+            Stand::File(file) => on_file(alloc, line, file, draft),
+            _ => Ok(Answer::NotAsked(Obstacle::NoFile)),
         }
     }
 
@@ -74,13 +71,13 @@ impl<D: Device + Drop> Stand<D> {
             "create" => self.create(alloc, device, line.numbers[0]),
             "open" => self.open(alloc, device),
             "go_on" => {
-                *self = Stand::new(device.into_inner(), 0, false);
+                self.put(Stand::new(device.into_inner(), 0, false));
                 Ok(Answer::Done)
             }
             _ => {
                 let mut device = device;
                 let answer = on_bytes(alloc, line, &mut device);
-                *self = Stand::Device(device);
+                self.put(Stand::Device(device));
                 answer
             }
         }
@@ -98,16 +95,16 @@ impl<D: Device + Drop> Stand<D> {
             || area % 512 != 0
             || device.len() < 1024 + 2 * u64::from(area)
         {
-            *self = Stand::Device(device);
+            self.put(Stand::Device(device));
             return Ok(Answer::NotAsked(Obstacle::NoArea));
         }
         match VmFile::create(alloc, device, area) {
             Ok(file) => {
-                *self = Stand::File(file);
+                self.put(Stand::File(file));
                 Ok(Answer::Done)
             }
             Err((device, why)) => {
-                *self = Stand::Device(device);
+                self.put(Stand::Device(device));
                 Answer::of_create(why)
             }
         }
@@ -117,11 +114,11 @@ impl<D: Device + Drop> Stand<D> {
     fn open(&mut self, alloc: Global, device: FaultDevice<D>) -> Result<Answer, AllocError> {
         match VmFile::open(alloc, device) {
             Ok(file) => {
-                *self = Stand::File(file);
+                self.put(Stand::File(file));
                 Ok(Answer::Done)
             }
             Err((device, why)) => {
-                *self = Stand::Device(device);
+                self.put(Stand::Device(device));
                 Answer::of_open(Err(why))
             }
         }
@@ -134,12 +131,37 @@ impl<D: Device + Drop> Stand<D> {
         };
         let mut bytes = vec![in alloc; 0u8; device.len() as usize]?;
         let outcome = device.read_at(0, &mut bytes);
-        *self = Stand::Device(device);
+        self.put(Stand::Device(device));
         Ok(match outcome {
             Ok(()) => Some(bytes),
             Err(Disk) => None,
         })
     }
+}
+
+/// Whether a call is one on a device.
+fn is_on_device(word: &str) -> bool {
+    matches!(
+        word,
+        "create" | "open" | "go_on" | "write" | "write_block" | "read" | "sync" | "calls"
+    )
+}
+
+/// Whether a call is one on an open file.
+fn is_on_file(word: &str) -> bool {
+    matches!(
+        word,
+        "current"
+            | "saved"
+            | "block"
+            | "saved_block"
+            | "pair"
+            | "blocks"
+            | "take_current"
+            | "update"
+            | "save"
+            | "revert"
+    )
 }
 
 /// Carries out a call on the bytes of a device.
