@@ -15,3 +15,4 @@ pub mod Asks
 pub mod Wanted
 pub mod Accepting
 pub mod Finding
+pub mod Copies

@@ -126,6 +126,22 @@ fn count_all(
     left
 }
 
+/// Counts as `count_all` does, with tables that are made for it.
+fn count_with_tables(
+    alloc: Global,
+    image: &Image,
+    routines: u16,
+    known: &Known,
+    potentials: &mut Potentials,
+) -> Result<Option<u16>, AllocError>
+    requires { routines ≤ length image.now.routines }
+    ensures counted { IfOk result (λ left. routines ≡ length image.now.routines → CountsAll image.now potentials.old potentials.new left) }
+    ensures within { IfOk result (λ left. IfSome left (λ r. r < routines)) }
+{
+    let mut tables = Tables::new(alloc)?;
+    Ok(count_all(image, routines, known, &mut tables, potentials))
+}
+
 /// Enough steps at each instruction, and coefficients, where so many routines have rows. `NoRows`
 /// names the first one that has none, or for which no steps were found.
 pub(crate) fn count(
@@ -140,9 +156,9 @@ pub(crate) fn count(
     ensures none { IfErr result (λ error. (r : ℕ) → error ≡ NoRows r → routines ≡ length image.now.routines → NoStepsHold image.now) }
 {
     let all = image.count();
-    let mut tables = Tables::new(alloc)?;
     let mut potentials = Potentials::new(alloc)?;
-    match count_all(image, routines, known, &mut tables, &mut potentials) {
+    let left = count_with_tables(alloc, image, routines, known, &mut potentials)?;
+    match left {
         Some(r) => Err(InferError::NoRows(r)),
         None if routines < all => Err(InferError::NoRows(routines)),
         None => Ok(potentials),

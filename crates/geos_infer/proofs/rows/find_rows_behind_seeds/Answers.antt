@@ -4,11 +4,10 @@ use Rattle.geos_image.proofs.Instrs.{image_parts}
 use Rattle.geos_image.proofs.Starts.{start_of-all}
 use Rattle.geos_infer.specs.Flow.{Flowing}
 use Rattle.geos_infer.proofs.Seeding.{seeds-flow}
-use Rattle.geos_infer.proofs.Flows.{flows-in}
-use Rattle.geos_infer.proofs.rows.find_rows.Goals as goal
+use Rattle.geos_infer.proofs.rows.find_rows_behind_seeds.Goals as goal
 
 pub loop-r-init : goal.loop-r-init
-loop-r-init c = λ want forward holds. seeds-flow c.args.image.now want c.in_ok-known.known holds c.in_ok-known.ensures
+loop-r-init c = λ want forward holds. seeds-flow c.args.image.now want c.args.known.now holds c.requires
 
 pub returns-clause-found : goal.returns-clause-found
 returns-clause-found c = λ want forward holds.

@@ -4,7 +4,7 @@ use Rattle.geos_image.specs.Parts.{start_of}
 use Rattle.geos_infer.specs.Code.{Forward}
 use Rattle.geos_infer.specs.Solutions.{RowsHold}
 use Rattle.geos_infer.specs.Flow.{Flowing}
-use Rattle.geos_infer.proofs.rows.find_rows.Given as goal
+use Rattle.geos_infer.proofs.rows.find_rows_behind_seeds.Given as goal
 
 -- rows have flowed in the routines below r
 abbrev pub invariant-loop-r : goal.invariant-loop-r
