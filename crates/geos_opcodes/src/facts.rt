@@ -415,9 +415,17 @@ impl Opcode {
     }
 
     /// The word that a text writes for the opcode. No two opcodes have one word.
+    #[tactic(auto, using(crate::proofs::Laws::word_again))]
     pub fn word(self) -> &'static str
         ensures word { result.now ≡ table.word_of self }
         ensures own { table.opcode_of_word (table.word_of self) ≡ Some self }
+    {
+        self.spelling()
+    }
+
+    /// The word, as a table.
+    fn spelling(self) -> &'static str
+        ensures { result.now ≡ table.word_of self }
     {
         match self {
             Opcode::Ldi => "LDI",
