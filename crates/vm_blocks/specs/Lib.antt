@@ -1,0 +1,6 @@
+pub mod View
+pub mod Tied
+pub mod Room
+pub mod Bring
+pub mod Blocks
+pub mod Listed

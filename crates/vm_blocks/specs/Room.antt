@@ -1,0 +1,84 @@
+-- How blocks of the file make room for another block.
+use Rattle.std.specs.Prelude.{◌≡◌, ◌≢◌, ℕ, ◌⊎◌, ◌&&◌, ◌==◌, not, Bool, true, false, List, [], ◌∷◌, suc, Option, Some, None}
+use Rattle.geos_model.specs.declared.name.Owner.{Owner}
+use Rattle.geos_model.specs.declared.name.Owner.TheVariants.{Mem, Vm}
+use Rattle.geos_model.specs.declared.name.Name.{Name}
+use Rattle.block_handles.specs.Calls.{Makes, Grows}
+use Rattle.block_handles.specs.Layout.{IsLaidOut}
+use Rattle.block_handles.specs.Names.{IsHandle, slot_of}
+use Rattle.block_handles.specs.Store.{Block, Store, block_at, place_of}
+use Rattle.block_handles.specs.Stretch.{HasNoRoom}
+use Rattle.vm_blocks.specs.declared.entries.Held.{Held}
+use Rattle.vm_blocks.specs.View.{VmState, held_at, vm_slot}
+
+-- a listed block may be discarded: it is in memory, not marked and not locked
+abbrev pub is_idle_in : Option Held → Option Block → Bool
+is_idle_in None b = false
+is_idle_in (Some e) None = false
+is_idle_in (Some e) (Some b) = not e.marked && (b.locks == 0)
+
+-- the block of a handle may be
+abbrev pub is_idle : {D : Type 0} → VmState D → Store → ℕ → Bool
+is_idle v s h = is_idle_in (held_at v h) (block_at s (vm_slot h))
+
+-- no block but that of a handle may be; 0 is for no handle
+abbrev pub NoneIdle : {D : Type 0} → VmState D → Store → ℕ → Type 0
+NoneIdle v s but = (h : ℕ) → IsHandle h → h ≢ but → is_idle v s h ≡ false
+
+-- a block of the file, another than this one, was discarded from a slot
+pub record Goes {D : Type 0} (v : VmState D) (old new : Store) (but slot : ℕ) : Type 0 where
+  pub h : ℕ
+  pub handle : IsHandle h
+  pub slot_is : slot ≡ vm_slot h
+  pub other : h ≢ but
+  pub idle : is_idle v old h ≡ true
+  pub gone : block_at new slot ≡ None
+
+-- a slot has what it had, and it lies where it lay; or it went
+abbrev pub StaysOrGoes : {D : Type 0} → VmState D → Store → Store → ℕ → ℕ → Type 0
+StaysOrGoes v old new but slot = ((block_at new slot ≡ block_at old slot) × (place_of new slot ≡ place_of old slot)) ⊎ Goes v old new but slot
+
+-- some blocks, not this one, were discarded
+pub record Thins {D : Type 0} (v : VmState D) (old new : Store) (but : ℕ) : Type 0 where
+  pub each : (slot : ℕ) → StaysOrGoes v old new but slot
+  pub laid : IsLaidOut new
+  pub len : new.len ≡ old.len
+
+-- the handle of a block of the file by its owner, and 0 for a block of global memory
+abbrev pub own_handle_of : Owner → ℕ → ℕ
+own_handle_of Mem h = 0
+own_handle_of Vm h = h
+
+-- the handle that a named block has in the file, or 0
+abbrev pub own_handle : Name → ℕ
+own_handle name = own_handle_of name.owner name.h
+
+-- room was made for a new block: some were discarded, and it was made
+pub record MakesRoom {D : Type 0} (v : VmState D) (old new : Store) (name : Name) (size : ℕ) : Type 0 where
+  pub mid : Store
+  pub thins : Thins v old mid (own_handle name)
+  pub absent : block_at mid (slot_of name) ≡ None
+  pub makes : Makes mid new (slot_of name) size
+
+-- room was made for a block that is there: some others were discarded, and it grew
+pub record GrowsRoom {D : Type 0} (v : VmState D) (old new : Store) (name : Name) (size : ℕ) : Type 0 where
+  pub mid : Store
+  pub thins : Thins v old mid (own_handle name)
+  pub own : block_at mid (slot_of name) ≡ block_at old (slot_of name)
+  pub grows : Grows mid new (slot_of name) size
+
+-- no room, though all others that may be discarded were
+pub record LacksRoom {D : Type 0} (v : VmState D) (old new : Store) (name : Name) (size : ℕ) : Type 0 where
+  pub thins : Thins v old new (own_handle name)
+  pub none : NoneIdle v new (own_handle name)
+  pub no_room : HasNoRoom new (slot_of name) size
+
+-- how many slots of a list are in use
+abbrev pub count_there : List (Option Block) → ℕ
+count_there [] = 0
+count_there (None ∷ bs) = count_there bs
+count_there (Some b ∷ bs) = suc (count_there bs)
+
+-- how many blocks there are
+abbrev pub there_count : Store → ℕ
+there_count s = count_there s.blocks

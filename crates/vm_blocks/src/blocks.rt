@@ -1,0 +1,114 @@
+//! VM blocks: what a value is, and what it tells.
+ghost use Rattle.std.specs.Prelude.{◌≡◌, ◌≢◌, IsTrue, ◌↔◌, IfOk, IfErr, IfSome, IfNone, OnOk, true, is_some, option_map, length};
+ghost use Rattle.block_handles.specs.Layout.{IsLaidOut};
+ghost use Rattle.block_handles.specs.Names.{IsHandle};
+ghost use Rattle.block_handles.specs.Store.{Store};
+ghost use Rattle.vm_blocks.specs.Blocks.{uid_of, is_marked_in};
+ghost use Rattle.vm_blocks.specs.Listed.{IsListOf};
+ghost use Rattle.vm_blocks.specs.Tied.{IsTied, NoneResident};
+ghost use Rattle.vm_blocks.specs.View.{held_at};
+
+use crate::entries::{Held, empty_table, list};
+use geos_model::Name;
+use std::alloc::{AllocError, Global};
+use std::marker::Model;
+use vm_file::{Device, VmFile};
+
+/// The blocks of the current directory of a VM file by handles. A block is in memory where
+/// `Blocks` has one under its name; each call that moves blocks is passed them.
+#[derive(Drop)]
+pub struct VmBlocks<D: Device + Drop> {
+    pub(crate) file: VmFile<D>,
+    pub(crate) entries: Vec<Option<Held>>,
+    pub(crate) map_block: u16,
+    pub(crate) map_item: (u16, u16),
+}
+
+impl<D: Device + Drop> Model for VmBlocks<D> {
+    ghost use Rattle.std.specs.Prelude.{◌≡◌, length};
+    ghost use Rattle.vm_blocks.specs.View.{VmState};
+
+    ghost Value = { VmState D };
+
+    ghost view = { λ v. record { file = v.file; entries = v.entries.items; map_block = v.map_block; map_item = v.map_item } };
+
+    ghost invariant = { λ v. length v.entries.items ≡ 1024 };
+}
+
+impl<D: Device + Drop> VmBlocks<D> {
+    /// The blocks of a file, none of them in memory. `AllocError` gives the file back.
+    pub fn new(alloc: Global, file: VmFile<D>) -> Result<VmBlocks<D>, (VmFile<D>, AllocError)>
+        ensures file { IfOk result (λ v. v.file ≡ file) }
+        ensures lists { IfOk result (λ v. IsListOf v file.current) }
+        ensures tied { IfOk result (λ v. (s : Store) → IsLaidOut s → NoneResident s → IsTied D.image D.honest v s) }
+        ensures back { IfErr result (λ e. e.0 ≡ file) }
+    {
+        match empty_table(alloc) {
+            Ok(mut entries) => {
+                let current = file.current();
+                list(&mut entries, current);
+                let map_block = current.map_block;
+                let map_item = current.map_item;
+                Ok(VmBlocks {
+                    file,
+                    entries,
+                    map_block,
+                    map_item,
+                })
+            }
+            Err(error) => Err((file, error)),
+        }
+    }
+
+    /// The file as it is. Nothing is written: what is marked is lost.
+    pub fn into_file(self) -> VmFile<D>
+        ensures { result ≡ self.file }
+    {
+        let VmBlocks {
+            file,
+            entries: _,
+            map_block: _,
+            map_item: _,
+        } = self;
+        file
+    }
+
+    /// What is listed under a handle.
+    pub fn held(&self, h: u16) -> Option<Held>
+        ensures held { result ≡ held_at self.now h }
+        ensures handle { IfSome result (λ _. IsHandle h) }
+    {
+        let entries = &self.entries;
+        if h == 0 || h > Name::HANDLES {
+            return None;
+        }
+        entries[h as usize - 1]
+    }
+
+    /// Whether a block has this handle.
+    pub fn has(&self, h: u16) -> bool
+        ensures { result ≡ is_some (held_at self.now h) }
+    {
+        self.held(h).is_some()
+    }
+
+    /// The user ID of a block.
+    pub fn uid(&self, h: u16) -> Option<u16>
+        ensures { result ≡ option_map uid_of (held_at self.now h) }
+    {
+        match self.held(h) {
+            Some(held) => Some(held.uid),
+            None => None,
+        }
+    }
+
+    /// Whether a block is marked as changed; `false` where none has this handle.
+    pub fn marked(&self, h: u16) -> bool
+        ensures { result ≡ is_marked_in (held_at self.now h) }
+    {
+        match self.held(h) {
+            Some(held) => held.marked,
+            None => false,
+        }
+    }
+}

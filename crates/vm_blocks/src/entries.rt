@@ -1,0 +1,48 @@
+//! What is listed of the blocks of a file.
+ghost use Rattle.std.specs.Prelude.{◌≡◌, ℕ, length, IfOk, None};
+ghost use Rattle.geos_table.specs.Handles.{at_handle};
+ghost use Rattle.block_handles.specs.Names.{IsHandle};
+ghost use Rattle.vm_blocks.specs.Listed.{held_in};
+
+use std::alloc::{AllocError, Global};
+use vm_file::Directory;
+
+/// A block of the current directory.
+#[derive(Clone, Copy, Debug, PartialEq, Eq)]
+pub struct Held {
+    /// Its user ID.
+    pub uid: u16,
+    /// Its length in bytes where it is not in memory; the region knows it where it is.
+    pub len: u16,
+    /// It is marked as changed: the file may have other bytes.
+    pub marked: bool,
+}
+
+/// A table in which nothing is listed.
+pub(crate) fn empty_table(alloc: Global) -> Result<Vec<Option<Held>>, AllocError>
+    ensures { IfOk result (λ table. length table.items ≡ 1024) }
+{
+    let mut table = Vec::with_capacity(alloc, 1024)?;
+    for _ in 0..1024 {
+        table.push(None)?;
+    }
+    Ok(table)
+}
+
+/// Lists the blocks of a directory by handles, none of them marked.
+pub(crate) fn list(table: &mut Vec<Option<Held>>, directory: &Directory)
+    requires { length table.old.items ≡ 1024 }
+    ensures long { length table.new.items ≡ 1024 }
+    ensures each { (h : ℕ) → IsHandle h → at_handle None table.new.items h ≡ held_in directory.now h }
+{
+    for i in 0..1024 {
+        table[i] = match directory.entry(i as u16 + 1) {
+            Some(e) => Some(Held {
+                uid: e.uid,
+                len: e.len,
+                marked: false,
+            }),
+            None => None,
+        };
+    }
+}

@@ -1,0 +1,61 @@
+//! Why calls on VM blocks refuse.
+use thiserror::Error;
+
+/// No stretch of the region has room, though every other block of the file that is neither
+/// marked nor locked was discarded.
+#[derive(Clone, Copy, Debug, Drop, PartialEq, Eq, Error)]
+#[error("no room in the region")]
+pub struct NoRoom;
+
+/// Why a block was not brought into memory.
+#[derive(Clone, Copy, Debug, Drop, PartialEq, Eq, Error)]
+pub enum BringError {
+    /// No block has this handle.
+    #[error("no block has this handle")]
+    BadHandle,
+    /// No stretch of the region has room.
+    #[error("no room in the region")]
+    NoRoom,
+    /// The device failed, or gave bytes that are no heap under this handle.
+    #[error("disk")]
+    Disk,
+}
+
+/// Why a block was not locked.
+#[derive(Clone, Copy, Debug, Drop, PartialEq, Eq, Error)]
+pub enum LockError {
+    /// No block has this handle.
+    #[error("no block has this handle")]
+    BadHandle,
+    /// Its lock count can't rise.
+    #[error("the block is locked")]
+    Locked,
+    /// No stretch of the region has room.
+    #[error("no room in the region")]
+    NoRoom,
+    /// The device failed, or gave bytes that are no heap under this handle.
+    #[error("disk")]
+    Disk,
+}
+
+/// Why no block was made.
+#[derive(Clone, Copy, Debug, Drop, PartialEq, Eq, Error)]
+pub enum NewError {
+    /// All 1,024 handles are listed.
+    #[error("no handle is free")]
+    NoHandle,
+    /// No stretch of the region has room.
+    #[error("no room in the region")]
+    NoRoom,
+}
+
+/// Why a block was not freed. Nothing has changed.
+#[derive(Clone, Copy, Debug, Drop, PartialEq, Eq, Error)]
+pub enum FreeError {
+    /// No block has this handle.
+    #[error("no block has this handle")]
+    BadHandle,
+    /// The block is locked.
+    #[error("the block is locked")]
+    Locked,
+}
