@@ -83,3 +83,13 @@ pub freed : (old new : Store) (slot : ℕ) (r : Result (Unit {0}) HandleError) �
 freed old new slot (Ok done) ok bad locked there free = ok
 freed old new slot (Err BadHandle) ok bad locked there free = absurd (bad.0 refl there)
 freed old new slot (Err Locked) ok bad locked there free = absurd (omega (arith, locked.0 refl, free))
+
+-- what is not there is nothing
+pub no-block : (o : Option Block) → (IsBlock o → ⊥) → o ≡ None
+no-block None absent = refl
+no-block (Some b) absent = absurd (absent tt)
+
+-- what is there is some block
+pub some-block : (o : Option Block) → IsBlock o → (b : Block) × (o ≡ Some b)
+some-block None there = absurd there
+some-block (Some b) there = (b, refl)

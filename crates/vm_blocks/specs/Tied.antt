@@ -42,9 +42,10 @@ pub record AreMapped {D : Type 0} (v : VmState D) : Type 0 where
   pub group : v.map_item.0 ≢ 0 → IsSomeAnd (held_at v v.map_item.0) (λ e. e.uid ≡ group_uid)
   pub no_item : v.map_item.0 ≡ 0 → v.map_item.1 ≡ 0
 
--- blocks lie in the region, each handle is tied, and what is mapped is listed
+-- blocks lie in the region, there are 1,024 handles, each is tied, and what is mapped is listed
 pub record IsTied {D : Type 0} (image : D → List ℕ) (honest : D → Type 0) (v : VmState D) (s : Store) : Type 0 where
   pub laid : IsLaidOut s
+  pub long : length v.entries ≡ 1024
   pub each : (h : ℕ) → IsHandle h → TiedAt image honest v.file h (held_at v h) (block_at s (vm_slot h))
   pub maps : AreMapped v
 

@@ -6,7 +6,7 @@ ghost use Rattle.block_handles.specs.Store.{Store};
 ghost use Rattle.vm_blocks.specs.Blocks.{uid_of, is_marked_in};
 ghost use Rattle.vm_blocks.specs.Listed.{IsListOf};
 ghost use Rattle.vm_blocks.specs.Tied.{IsTied, NoneResident};
-ghost use Rattle.vm_blocks.specs.View.{held_at};
+ghost use Rattle.vm_blocks.specs.View.{held_at, with_held};
 
 use crate::entries::{Held, empty_table, list};
 use geos_model::Name;
@@ -110,5 +110,13 @@ impl<D: Device + Drop> VmBlocks<D> {
             Some(held) => held.marked,
             None => false,
         }
+    }
+
+    /// Lists this, or nothing, under a handle.
+    pub(crate) fn put(&mut self, h: u16, held: Option<Held>)
+        requires { IsHandle h }
+        ensures { self.new ≡ with_held self.old h held }
+    {
+        self.entries[h as usize - 1] = held;
     }
 }

@@ -22,11 +22,7 @@ pub struct Held {
 pub(crate) fn empty_table(alloc: Global) -> Result<Vec<Option<Held>>, AllocError>
     ensures { IfOk result (λ table. length table.items ≡ 1024) }
 {
-    let mut table = Vec::with_capacity(alloc, 1024)?;
-    for _ in 0..1024 {
-        table.push(None)?;
-    }
-    Ok(table)
+    Vec::from_elem(alloc, None, 1024)
 }
 
 /// Lists the blocks of a directory by handles, none of them marked.

@@ -6,8 +6,11 @@
 #![tactic(auto)]
 
 mod blocks;
+mod bring;
 mod entries;
 mod error;
+mod locks;
+mod room;
 mod resident;
 
 pub use blocks::VmBlocks;

@@ -1,0 +1,65 @@
+use Rattle.std.proofs.Common.{◌≡◌, ◌≤◌, ℕ, ap, sym, subst, ◌∙◌, Some}
+use Rattle.geos_model.specs.Heap.{IsBlockSize}
+use Rattle.geos_model.specs.Names.{vm}
+use Rattle.geos_model.specs.declared.name.Name.{Name}
+use Rattle.block_handles.specs.Store.{bytes_of, locks_in}
+use Rattle.vm_file.specs.State.{FileState, pair_of}
+use Rattle.vm_blocks.specs.declared.entries.Held.{Held}
+use Rattle.vm_blocks.specs.View.{VmState, bytes_read, held_at, vm_slot}
+use Rattle.vm_blocks.specs.Tied.{IsTied}
+use Rattle.vm_blocks.specs.Room.{MakesRoom}
+use Rattle.vm_blocks.specs.Bring.{Keeps}
+use Rattle.vm_blocks.proofs.Brings.{absent-is, filled-keeps, filled-locks, filled-there, made-room, read-tied, dropped-keeps, dropped-tied}
+use Rattle.vm_blocks.proofs.blocks.VmBlocks.fetch.Goals.{in-Ok-read_into, in-Err-read_into}
+use Rattle.vm_blocks.proofs.blocks.VmBlocks.fetch.Goals as goal
+
+pub make_room-requires-clause-size : goal.make_room-requires-clause-size
+make_room-requires-clause-size g c =
+    let d = g.D.Device in
+    let a = absent-is d.image d.honest c.args.self.now c.args.blocks.now c.args.h c.args.held c.requires.handle c.requires.tied c.requires.listed c.requires.absent in
+    subst IsBlockSize (sym c.from.ensures) a.size
+
+pub returns-clause-keeps : goal.returns-clause-keeps
+returns-clause-keeps g c =
+    let d = g.D.Device in let now = c.args.self.now in let old = c.args.blocks.now in let mid = c.make_room.new.blocks in let t = c.read_into.new.blocks in let h = c.args.h in let e = c.args.held in let q = c.requires in
+    let made = made-room now old mid c.vm.result h c.vm.ensures (subst (MakesRoom now old mid c.vm.result) c.from.ensures c.in-Ok.ensures.ok) in
+    elim c.match-read_into.branch [
+      | in-Ok-read_into w ↦ filled-keeps d.image d.honest now old h e q.handle q.tied q.listed q.absent mid t made w.in-Ok-read_into.ensures.ok
+      | in-Err-read_into w ↦ dropped-keeps d.image d.honest now old h e q.handle q.tied q.listed q.absent mid t made w.in-Err-read_into.ensures.err
+    ]
+
+pub returns-clause-locks : goal.returns-clause-locks
+returns-clause-locks g c =
+    let d = g.D.Device in let now = c.args.self.now in let old = c.args.blocks.now in let mid = c.make_room.new.blocks in let t = c.read_into.new.blocks in let h = c.args.h in let e = c.args.held in let q = c.requires in
+    let made = made-room now old mid c.vm.result h c.vm.ensures (subst (MakesRoom now old mid c.vm.result) c.from.ensures c.in-Ok.ensures.ok) in
+    elim c.match-read_into.branch [
+      | in-Ok-read_into w ↦ filled-locks d.image d.honest now old h e q.handle q.tied q.listed q.absent mid t made w.in-Ok-read_into.ensures.ok
+      | in-Err-read_into w ↦ ap locks_in w.in-Err-read_into.ensures.err.gone
+    ]
+
+pub returns-clause-there : goal.returns-clause-there
+returns-clause-there g c =
+    let d = g.D.Device in let now = c.args.self.now in let old = c.args.blocks.now in let mid = c.make_room.new.blocks in let t = c.read_into.new.blocks in let h = c.args.h in let e = c.args.held in let q = c.requires in
+    let made = made-room now old mid c.vm.result h c.vm.ensures (subst (MakesRoom now old mid c.vm.result) c.from.ensures c.in-Ok.ensures.ok) in
+    elim c.match-read_into.branch [
+      | in-Ok-read_into w ↦ rw w.result-is (filled-there d.image d.honest now old h e q.handle q.tied q.listed q.absent mid t made w.in-Ok-read_into.ensures.ok)
+      | in-Err-read_into w ↦ rw w.result-is tt
+    ]
+
+pub returns-clause-tied : goal.returns-clause-tied
+returns-clause-tied g c =
+    let d = g.D.Device in let now = c.args.self.now in let old = c.args.blocks.now in let mid = c.make_room.new.blocks in let t = c.read_into.new.blocks in let h = c.args.h in let e = c.args.held in let q = c.requires in
+    let made = made-room now old mid c.vm.result h c.vm.ensures (subst (MakesRoom now old mid c.vm.result) c.from.ensures c.in-Ok.ensures.ok) in
+    let f = c.read_into.new.file in let r = c.read_into.ensures in
+    let same : f ≡ record now.file { device = f.device } = r.same ∙ ap (λ (w : VmState g.row.D.Denot). let x : FileState g.row.D.Denot = record w.file { device = f.device } in x) c.self.view_is in
+    let pair : pair_of d.image f ≡ pair_of d.image now.file = r.pair ∙ ap (λ (w : VmState g.row.D.Denot). pair_of d.image w.file) c.self.view_is in
+    let was : d.honest f.device → d.honest now.file.device = subst (λ (w : VmState g.row.D.Denot). d.honest f.device → d.honest w.file.device) c.self.view_is r.reads.was in
+    let at_now : IsTied d.image d.honest (record now { file = f }) t = elim c.match-read_into.branch [
+      | in-Ok-read_into w ↦ (
+          let read : d.honest now.file.device → bytes_of t (vm_slot h) ≡ bytes_read d.image now.file h =
+          subst (λ (w : VmState g.row.D.Denot). d.honest w.file.device → bytes_of t (vm_slot h) ≡ bytes_read d.image w.file h) c.self.view_is w.in-Ok-read_into.ensures.bytes in
+          read-tied d.image d.honest now old h e q.handle q.tied q.listed q.absent mid t made w.in-Ok-read_into.ensures.ok read f same pair was
+          )
+      | in-Err-read_into w ↦ dropped-tied d.image d.honest now old h e q.handle q.tied q.listed q.absent mid t made w.in-Err-read_into.ensures.err f same pair was
+    ] in
+    subst (λ (w : VmState g.row.D.Denot). IsTied d.image d.honest (record w { file = f }) t) (sym c.self.view_is) at_now

@@ -1,0 +1,21 @@
+use Rattle.std.proofs.Common.{◌≡◌, ℕ, length, ap, ◌∙◌}
+use Rattle.block_handles.specs.Change.{with_bytes}
+use Rattle.block_handles.specs.Names.{slot_of}
+use Rattle.block_handles.specs.Store.{bytes_of, size_of}
+use Rattle.block_handles.proofs.Laws.{bytes-same}
+use Rattle.vm_blocks.specs.View.{vm_slot}
+use Rattle.vm_blocks.proofs.Brings.{read-failed}
+use Rattle.vm_blocks.proofs.bring.read_into.Goals as goal
+
+pub returns-in-Ok-clause-bytes : goal.returns-in-Ok-clause-bytes
+returns-in-Ok-clause-bytes g c = λ good.
+    let old = c.args.blocks.now in let ws = c.block.new.into in
+    let i : slot_of c.vm.result ≡ vm_slot c.args.h = ap slot_of c.vm.ensures in
+    let long : length ws ≡ size_of old (vm_slot c.args.h) = c.block.auto.into ∙ ap length c.bytes_mut.ensures.value ∙ ap (size_of old) i in
+    ap (λ j. bytes_of (with_bytes old j ws) (vm_slot c.args.h)) i ∙ bytes-same old (vm_slot c.args.h) ws c.requires.there long ∙ c.in-Ok.ensures.bytes good
+
+pub returns-in-Err-clause-err : goal.returns-in-Err-clause-err
+returns-in-Err-clause-err g c =
+    let old = c.args.blocks.now in let ws = c.block.new.into in let e = c.free.ensures in
+    let long : length ws ≡ size_of old (slot_of c.vm.result) = c.block.auto.into ∙ ap length c.bytes_mut.ensures.value in
+    read-failed old c.free.new.self c.args.h c.vm.result c.vm-in-Err.result ws c.free.result c.vm.ensures c.vm-in-Err.ensures c.requires.there c.requires.free long e.ok e.bad_handle e.locked

@@ -1,0 +1,85 @@
+//! Locks of blocks of the file, and marks.
+ghost use Rattle.std.specs.Prelude.{◌≡◌, ◌<◌, ◌↔◌, ℕ, None, Err, IfSome, OnOk, OnErr, option_map};
+ghost use Rattle.geos_model.specs.Names.{vm};
+ghost use Rattle.block_handles.specs.Change.{with_lock_less};
+ghost use Rattle.block_handles.specs.Names.{IsHandle};
+ghost use Rattle.block_handles.specs.Store.{IsThere, locks_of};
+ghost use Rattle.vm_file.specs.Device.{Rose};
+ghost use Rattle.vm_file.specs.Outcomes.{ReadsOnly};
+ghost use Rattle.vm_file.specs.State.{pair_of};
+ghost use Rattle.vm_blocks.specs.Blocks.{marked};
+ghost use Rattle.vm_blocks.specs.Bring.{Keeps, LockedMore, NotBrought};
+ghost use Rattle.vm_blocks.specs.Room.{LacksRoom};
+ghost use Rattle.vm_blocks.specs.Tied.{IsTied};
+ghost use Rattle.vm_blocks.specs.View.{held_at, vm_slot, with_device, with_held};
+
+use crate::blocks::VmBlocks;
+use crate::entries::Held;
+use crate::error::{BringError, LockError};
+use block_handles::Blocks;
+use geos_model::Name;
+use vm_file::Device;
+
+impl<D: Device + Drop> VmBlocks<D> {
+    /// Brings a block into memory and locks it once more: it stays there, at its place, until
+    /// its count is 0 again. `BadHandle` where none has this handle, `Locked` where its count is
+    /// 65,535; `NoRoom` and `Disk` as `bring` has them.
+    pub fn vlock(&mut self, blocks: &mut Blocks, h: u16) -> Result<(), LockError>
+        requires { IsTied D.image D.honest self.old blocks.old }
+        ensures tied { IsTied D.image D.honest self.new blocks.new }
+        ensures same { self.new ≡ with_device self.old self.new.file.device }
+        ensures bad_handle { (result ≡ Err LockError.BadHandle) ↔ (held_at self.old h ≡ None) }
+        ensures locked { (result ≡ Err LockError.Locked) ↔ (locks_of blocks.old (vm_slot h) ≡ 65535) }
+        ensures ok { OnOk result (LockedMore blocks.old blocks.new h) }
+        ensures err { OnErr result (NotBrought blocks.old blocks.new h) }
+        ensures keeps { Keeps self.old blocks.old blocks.new h }
+        ensures no_room { result ≡ Err LockError.NoRoom → IfSome (held_at self.old h) (λ held. LacksRoom self.old blocks.old blocks.new (vm h) held.len) }
+        // The device: nothing is written, and the pair that it keeps is the same.
+        ensures pair { pair_of D.image self.new.file ≡ pair_of D.image self.old.file }
+        ensures reads { ReadsOnly D.image D.honest D.may_leave D.may_have_left self.old.file.device self.new.file.device }
+        ensures cause { D.honest self.old.file.device → result ≡ Err LockError.Disk → Rose (D.failed self.old.file.device) (D.failed self.new.file.device) }
+    {
+        if blocks.locks(Name::vm(h)) == u16::MAX {
+            return Err(LockError::Locked);
+        }
+        match self.bring(blocks, h) {
+            Ok(()) => {}
+            Err(BringError::BadHandle) => return Err(LockError::BadHandle),
+            Err(BringError::NoRoom) => return Err(LockError::NoRoom),
+            Err(BringError::Disk) => return Err(LockError::Disk),
+        }
+        let _ = blocks.lock(Name::vm(h));
+        Ok(())
+    }
+
+    /// Takes back one lock of a block. It stays in memory.
+    pub fn vunlock(&self, blocks: &mut Blocks, h: u16)
+        requires tied { IsTied D.image D.honest self.now blocks.old }
+        requires locked { 0 < locks_of blocks.old (vm_slot h) }
+        ensures tied { IsTied D.image D.honest self.now blocks.new }
+        ensures less { blocks.new ≡ with_lock_less blocks.old (vm_slot h) }
+    {
+        blocks.unlock(Name::vm(h));
+    }
+
+    /// Marks a block that is in memory as changed: it stays there until a commit has written it.
+    pub fn vdirty(&mut self, blocks: &Blocks, h: u16)
+        requires tied { IsTied D.image D.honest self.old blocks.now }
+        requires there { IsThere blocks.now (vm_slot h) }
+        ensures tied { IsTied D.image D.honest self.new blocks.now }
+        ensures marks { self.new ≡ with_held self.old h (option_map marked (held_at self.old h)) }
+    {
+        let _ = blocks.has(Name::vm(h));
+        match self.held(h) {
+            Some(held) => self.put(
+                h,
+                Some(Held {
+                    uid: held.uid,
+                    len: held.len,
+                    marked: true,
+                }),
+            ),
+            None => {}
+        }
+    }
+}

@@ -1,0 +1,112 @@
+//! Room for a block: others, which can be read from the file again, are discarded for it.
+ghost use Rattle.std.specs.Prelude.{◌≡◌, ◌≢◌, ◌%◌, ◌<◌, ◌≤◌, IsTrue, IfSome, IfNone, OnOk, OnErr, true, false};
+ghost use Rattle.geos_model.specs.Heap.{IsBlockSize};
+ghost use Rattle.block_handles.specs.Names.{IsHandle, slot_of};
+ghost use Rattle.block_handles.specs.Store.{IsThere, size_of};
+ghost use Rattle.vm_blocks.specs.Room.{GrowsRoom, LacksRoom, MakesRoom, NoneIdle, Thins, is_idle, own_handle, there_count};
+ghost use Rattle.vm_blocks.specs.Tied.{IsTied};
+
+use crate::blocks::VmBlocks;
+use crate::error::NoRoom;
+use block_handles::Blocks;
+use geos_model::{Name, Owner};
+use vm_file::Device;
+
+/// The handle that a named block has in the file; 0 for a block of global memory.
+fn own_handle(name: Name) -> u16
+    ensures { result ≡ own_handle name }
+{
+    match name.owner {
+        Owner::Mem => 0,
+        Owner::Vm => name.h,
+    }
+}
+
+impl<D: Device + Drop> VmBlocks<D> {
+    /// Whether a block may be discarded.
+    fn is_idle(&self, blocks: &Blocks, h: u16) -> bool
+        ensures { result ≡ is_idle self.now blocks.now h }
+    {
+        match self.held(h) {
+            Some(held) => {
+                !held.marked && blocks.has(Name::vm(h)) && blocks.locks(Name::vm(h)) == 0
+            }
+            None => false,
+        }
+    }
+
+    /// The lowest handle, but this, of a block that may be discarded.
+    fn first_idle(&self, blocks: &Blocks, but: u16) -> Option<u16>
+        ensures found { IfSome result (λ h. IsHandle h × (h ≢ but) × (is_idle self.now blocks.now h ≡ true)) }
+        ensures none { IfNone result (NoneIdle self.now blocks.now but) }
+    {
+        for h in 1..1025 {
+            if h != but && self.is_idle(blocks, h) {
+                return Some(h);
+            }
+        }
+        None
+    }
+
+    /// Discards a block that is in memory, neither marked nor locked, and another than that of
+    /// the handle `but`, of which 0 names none. `false` where there is none: nothing has changed.
+    pub fn discard_one(&self, blocks: &mut Blocks, but: u16) -> bool
+        requires { IsTied D.image D.honest self.now blocks.old }
+        ensures thins { IsTrue result → Thins self.now blocks.old blocks.new but }
+        ensures fewer { IsTrue result → there_count blocks.new < there_count blocks.old }
+        ensures none { result ≡ false → (blocks.new ≡ blocks.old) × NoneIdle self.now blocks.old but }
+    {
+        match self.first_idle(blocks, but) {
+            Some(h) => {
+                let _ = blocks.free(Name::vm(h));
+                true
+            }
+            None => false,
+        }
+    }
+
+    /// Makes a block of `size` zero bytes, not locked, under a name that is not in use, and
+    /// discards others for it, one after another, until there is room. `NoRoom` where there is
+    /// none though all that may be were discarded.
+    pub fn make_room(&self, blocks: &mut Blocks, name: Name, size: u32) -> Result<(), NoRoom>
+        requires tied { IsTied D.image D.honest self.now blocks.old }
+        requires handle { IsHandle name.h }
+        requires absent { IsThere blocks.old (slot_of name) → ⊥ }
+        requires size { IsBlockSize size }
+        ensures ok { OnOk result (MakesRoom self.now blocks.old blocks.new name size) }
+        ensures err { OnErr result (LacksRoom self.now blocks.old blocks.new name size) }
+    {
+        let but = own_handle(name);
+        loop {
+            match blocks.make(name, size) {
+                Ok(()) => return Ok(()),
+                Err(_) => {}
+            }
+            if !self.discard_one(blocks, but) {
+                return Err(NoRoom);
+            }
+        }
+    }
+
+    /// Grows a block to `size` bytes, zeros behind its own, and discards others for it, one after
+    /// another, until there is room. `NoRoom` where there is none though all that may be were
+    /// discarded.
+    pub fn grow_room(&self, blocks: &mut Blocks, name: Name, size: u32) -> Result<(), NoRoom>
+        requires tied { IsTied D.image D.honest self.now blocks.old }
+        requires there { IsThere blocks.old (slot_of name) }
+        requires size { (size_of blocks.old (slot_of name) ≤ size) × (size ≤ 65520) × (size % 16 ≡ 0) }
+        ensures ok { OnOk result (GrowsRoom self.now blocks.old blocks.new name size) }
+        ensures err { OnErr result (LacksRoom self.now blocks.old blocks.new name size) }
+    {
+        let but = own_handle(name);
+        loop {
+            match blocks.grow(name, size) {
+                Ok(()) => return Ok(()),
+                Err(_) => {}
+            }
+            if !self.discard_one(blocks, but) {
+                return Err(NoRoom);
+            }
+        }
+    }
+}
