@@ -1,24 +1,23 @@
 -- Blocks that come into memory.
-use Rattle.std.proofs.Common.{◌≡◌, ◌≢◌, ℕ, zero, suc, ◌+◌, ◌-◌, ◌≤◌, ◌<◌, List, [], ◌∷◌, length, length-set, replicate, set, get_or, Option, Some, None, Bool, true, false, refl, sym, ap, ◌∙◌, arith, subst, inl, inr}
-use Rattle.std.specs.Prelude.{◌⊎◌, ◌&&◌, not, ◌↔◌, Result, Ok, Err, OnOk}
+use Rattle.std.proofs.Common.{◌≡◌, ◌≢◌, ℕ, zero, suc, ◌<◌, List, [], ◌∷◌, length, length-set, replicate, set, get_or, Option, Some, None, true, sym, ap, ◌∙◌, arith, subst, inl, inr}
+use Rattle.std.specs.Prelude.{◌⊎◌, ◌↔◌, Result, Err, OnOk}
 use Rattle.std.proofs.lemmas.Bool.{cases_eq, cases_lt}
 use Rattle.std.proofs.lemmas.List.{get_or-set_same, get_or-set_other, get_or_past, length-replicate}
 use Rattle.geos_model.specs.declared.name.Name.{Name}
 use Rattle.lmem_raw.proofs.Parts.{with_whole}
 use Rattle.block_handles.specs.declared.error.HandleError.{HandleError}
 use Rattle.block_handles.specs.declared.error.HandleError.TheVariants.{BadHandle, Locked}
-use Rattle.block_handles.specs.Calls.{Makes}
 use Rattle.block_handles.specs.Change.{blocks_with_bytes, with_bytes, without, new_block}
 use Rattle.block_handles.specs.Layout.{IsLaidOut}
 use Rattle.block_handles.specs.Names.{IsHandle, slot_of}
 use Rattle.block_handles.specs.Store.{Block, Store, block_at, bytes_in, bytes_of, IsBlock, IsThere, locks_in, locks_of, place_of, size_of}
-use Rattle.block_handles.proofs.Laws.{laid-without, laid-with_bytes, bytes-same, others-same, slot_of-small, with_block-same, with_block-other}
+use Rattle.block_handles.proofs.Laws.{laid-without, laid-with_bytes, others-same, with_block-same, with_block-other}
 use Rattle.vm_file.specs.State.{FileState, HasBlock, bytes_of_block, pair_of}
 use Rattle.vm_blocks.specs.declared.entries.Held.{Held}
 use Rattle.geos_model.specs.Names.{vm}
-use Rattle.vm_blocks.specs.View.{VmState, bytes_read, held_at, vm_slot, with_device}
-use Rattle.vm_blocks.specs.Tied.{IsTied, IsAbsent, IsClean, IsResident, TiedAt}
-use Rattle.vm_blocks.specs.Room.{MakesRoom, LacksRoom, Thins, Goes, StaysOrGoes, is_idle}
+use Rattle.vm_blocks.specs.View.{VmState, bytes_read, held_at, vm_slot}
+use Rattle.vm_blocks.specs.Tied.{IsTied, IsAbsent, TiedAt}
+use Rattle.vm_blocks.specs.Room.{MakesRoom, Thins, Goes, StaysOrGoes, is_idle}
 use Rattle.vm_blocks.specs.Bring.{Fills, Drops, Keeps}
 use Rattle.vm_blocks.proofs.Slots.{slot-one, slot-is, freed, no-block, some-block}
 use Rattle.vm_blocks.proofs.Thinning.{gone-tied}

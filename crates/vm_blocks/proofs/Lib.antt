@@ -1,8 +1,14 @@
 pub mod Slots
-pub mod Maps
+pub mod Mapping
 pub mod Opened
 pub mod Thinning
 pub mod Discards
 pub mod Brings
 pub mod Table
 pub mod Counts
+pub mod Freed
+pub mod Listing
+pub mod Directory
+pub mod Updating
+pub mod News
+pub mod Frees

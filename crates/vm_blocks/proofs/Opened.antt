@@ -1,23 +1,21 @@
 -- A file whose blocks are listed as its current directory lists them.
-use Rattle.std.proofs.Common.{◌≡◌, ◌≢◌, ◌∙◌, ℕ, zero, suc, ◌<◌, ◌≤◌, Bool, true, false, not, ◌&&◌, ◌||◌, List, [], ◌∷◌, length, Option, Some, None, refl, sym, ap, subst, arith}
+use Rattle.std.proofs.Common.{◌≡◌, ◌≢◌, ◌∙◌, ℕ, Bool, true, false, not, ◌||◌, List, length, Option, Some, None, refl, sym, ap, subst, arith}
 use Rattle.std.specs.Prelude.{IsSomeAnd, option_map}
 use Rattle.std.specs.List.{find}
 use Rattle.std.proofs.Math.Dec.{eqb}
 use Rattle.std.proofs.lemmas.Bool.{eqb-true, eq-eqb, ne_eqb}
 use Rattle.block_handles.specs.Layout.{IsLaidOut}
 use Rattle.block_handles.specs.Names.{IsHandle}
-use Rattle.block_handles.specs.Store.{Block, Store, block_at}
-use Rattle.geos_model.specs.Heap.{IsBlockSize}
+use Rattle.block_handles.specs.Store.{Store}
 use Rattle.vm_file.specs.declared.directory.Entry.{Entry}
 use Rattle.vm_file.specs.declared.directory.Directory.{Directory}
 use Rattle.vm_file.specs.Directories.{has_block, has_group, is_directory}
-use Rattle.vm_file.specs.State.{HasBlock}
-use Rattle.vm_file.proofs.DirectoryLaws.{IsLegal, found_entry, legal_from}
+use Rattle.vm_file.proofs.DirectoryLaws.{found_entry, legal_from}
 use Rattle.vm_blocks.specs.declared.entries.Held.{Held}
-use Rattle.vm_blocks.specs.View.{VmState, held_at, vm_slot}
-use Rattle.vm_blocks.specs.Tied.{AreMapped, IsTied, IsAbsent, NoneResident, TiedAt}
-use Rattle.vm_blocks.specs.Listed.{IsListOf, as_held, held_in}
-use Rattle.vm_blocks.proofs.Maps.{any-find}
+use Rattle.vm_blocks.specs.View.{VmState, held_at}
+use Rattle.vm_blocks.specs.Tied.{AreMapped, IsTied, NoneResident, TiedAt}
+use Rattle.vm_blocks.specs.Listed.{IsListOf, as_held}
+use Rattle.vm_blocks.proofs.Mapping.{any-find}
 
 -- a handle under which something is found is one
 some-handle : (es : List Entry) (h : ℕ) (P : Entry → Type 0) (d : Directory) → d.entries.items ≡ es → is_directory d ≡ true → IsSomeAnd (find (λ e. eqb e.h h) es) P → IsHandle h

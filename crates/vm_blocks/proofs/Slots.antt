@@ -1,16 +1,15 @@
 -- Slots of the file's blocks.
-use Rattle.std.proofs.Common.{◌≡◌, ◌≢◌, ℕ, zero, suc, ◌+◌, ◌-◌, ◌≤◌, ◌<◌, List, [], ◌∷◌, length, set, get_or, Option, Some, None, Bool, true, false, refl, sym, ap, ◌∙◌, arith, subst, inl, inr}
+use Rattle.std.proofs.Common.{◌≡◌, ℕ, zero, suc, ◌+◌, ◌-◌, ◌≤◌, ◌<◌, List, [], ◌∷◌, length, set, get_or, Option, Some, None, Bool, true, false, refl, ap, arith, inl, inr}
 use Rattle.std.specs.Prelude.{◌⊎◌, ◌&&◌, ◌==◌, ◌↔◌, not, Result, Ok, Err, OnOk}
 use Rattle.block_handles.specs.declared.error.HandleError.{HandleError}
 use Rattle.block_handles.specs.declared.error.HandleError.TheVariants.{BadHandle, Locked}
 use Rattle.block_handles.specs.Change.{without}
-use Rattle.std.proofs.lemmas.Bool.{cases_eq, cases_lt}
 use Rattle.std.proofs.lemmas.Bool.Decides.{nat_tests}
 use Rattle.std.proofs.lemmas.List.{get_or_past}
 use Rattle.geos_model.specs.declared.name.Owner.TheVariants.{Vm}
 use Rattle.geos_table.specs.Handles.{at_handle}
 use Rattle.block_handles.specs.Names.{IsHandle}
-use Rattle.block_handles.specs.Store.{Block, Store, block_at, IsBlock, IsThere, locks_in, locks_of}
+use Rattle.block_handles.specs.Store.{Block, Store, IsBlock, IsThere, locks_of}
 use Rattle.block_handles.proofs.Laws.{slot_of-handle}
 use Rattle.vm_blocks.specs.declared.entries.Held.{Held}
 use Rattle.vm_blocks.specs.View.{vm_slot}

@@ -1,11 +1,11 @@
 -- The table of what is listed, by handles.
-use Rattle.std.proofs.Common.{◌≡◌, ◌≢◌, ◌∙◌, ℕ, zero, suc, ◌-◌, ◌≤◌, ◌<◌, List, length, length-set, set, get_or, Option, Some, None, refl, sym, ap, subst, arith}
+use Rattle.std.proofs.Common.{◌≡◌, ◌≢◌, ◌∙◌, ℕ, zero, suc, ◌-◌, ◌≤◌, List, length, length-set, set, Option, Some, None, refl, sym, ap, subst, arith}
 use Rattle.std.specs.Prelude.{IsSomeAnd, option_map}
 use Rattle.std.proofs.lemmas.List.{get_or-set_same, get_or-set_other}
 use Rattle.geos_table.specs.Handles.{at_handle, with_entry_at}
 use Rattle.block_handles.specs.Names.{IsHandle}
 use Rattle.vm_blocks.specs.declared.entries.Held.{Held}
-use Rattle.vm_blocks.specs.View.{VmState, held_at, with_held}
+use Rattle.vm_blocks.specs.View.{VmState, held_at}
 use Rattle.vm_blocks.specs.Tied.{AreMapped}
 
 module _ {X : Type 0} where

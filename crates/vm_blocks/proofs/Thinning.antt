@@ -1,8 +1,6 @@
 -- What discarding does.
-use Rattle.std.proofs.Common.{◌≡◌, ◌≢◌, ℕ, ◌+◌, ◌-◌, ◌≤◌, ◌<◌, List, length, map, get_or, Option, Some, None, Bool, true, false, refl, sym, ap, ◌∙◌, arith, subst, inl, inr}
-use Rattle.std.specs.Prelude.{◌⊎◌, ◌&&◌, ◌==◌, if◌then◌else◌}
+use Rattle.std.proofs.Common.{◌≡◌, ◌≢◌, ℕ, ◌<◌, List, length, Option, Some, None, true, refl, sym, ◌∙◌, arith, subst, inl, inr}
 use Rattle.std.proofs.lemmas.Bool.{cases_eq}
-use Rattle.std.proofs.lemmas.Bool.Decides.{nat_tests}
 use Rattle.std.proofs.lemmas.List.{get_or-set_other}
 use Rattle.block_handles.specs.Change.{without}
 use Rattle.block_handles.specs.Layout.{IsLaidOut}
@@ -10,14 +8,14 @@ use Rattle.geos_model.specs.declared.name.Name.{Name}
 use Rattle.geos_model.specs.declared.name.Owner.{Owner}
 use Rattle.geos_model.specs.declared.name.Owner.TheVariants.{Mem, Vm}
 use Rattle.block_handles.specs.Names.{IsHandle, slot_of}
-use Rattle.block_handles.specs.Store.{Block, Store, block_at, IsBlock, IsThere, place_of}
+use Rattle.block_handles.specs.Store.{Block, Store, block_at, IsBlock, IsThere}
 use Rattle.block_handles.proofs.Laws.{slot_of-handle, laid-without, with_block-same, with_block-other}
 use Rattle.block_handles.proofs.Layouts.{there_small}
 use Rattle.vm_blocks.specs.declared.entries.Held.{Held}
 use Rattle.vm_blocks.specs.View.{VmState, held_at, vm_slot}
-use Rattle.vm_blocks.specs.Tied.{IsTied, TiedAt, IsResident}
-use Rattle.vm_blocks.specs.Room.{Thins, StaysOrGoes, Goes, is_idle, is_idle_in, own_handle, own_handle_of}
-use Rattle.vm_blocks.proofs.Slots.{slot-is, slot-one, Idle, idle, idle-parts}
+use Rattle.vm_blocks.specs.Tied.{IsTied, TiedAt}
+use Rattle.vm_blocks.specs.Room.{Thins, StaysOrGoes, is_idle, is_idle_in, own_handle, own_handle_of}
+use Rattle.vm_blocks.proofs.Slots.{slot-is, slot-one, idle, idle-parts}
 
 module _ {D : Type 0} (v : VmState D) where
   -- nothing was discarded

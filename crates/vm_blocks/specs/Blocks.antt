@@ -1,12 +1,14 @@
 -- How calls change what is listed.
-use Rattle.std.specs.Prelude.{◌≡◌, ◌≢◌, ℕ, ◌<◌, ◌==◌, Bool, true, false, if◌then◌else◌, [], ◌∷◌, length, Option, Some, None, is_some, IsSomeAnd}
+use Rattle.std.specs.Prelude.{◌≡◌, ℕ, ◌<◌, ◌==◌, Bool, true, false, if◌then◌else◌, [], ◌∷◌, length, Option, Some, None, is_some, IsSomeAnd}
 use Rattle.geos_model.specs.Block.{chunks, handle_word}
+use Rattle.geos_model.specs.Names.{vm}
 use Rattle.geos_model.specs.Heap.{IsHeap}
 use Rattle.block_handles.specs.Names.{IsHandle}
 use Rattle.block_handles.specs.Store.{Block, Store, block_at}
 use Rattle.vm_blocks.specs.declared.entries.Held.{Held}
 use Rattle.vm_blocks.specs.View.{VmState, held_at, vm_slot, with_held}
-use Rattle.vm_blocks.specs.Bring.{Keeps}
+use Rattle.vm_blocks.specs.Bring.{Fills, Keeps}
+use Rattle.vm_blocks.specs.Room.{LacksRoom}
 
 -- the user ID of what is listed
 abbrev pub uid_of : Held → ℕ
@@ -50,6 +52,11 @@ pub record IsNextWith {D : Type 0} (v : VmState D) (start uid h : ℕ) : Type 0 
 abbrev pub NoneWith : {D : Type 0} → VmState D → ℕ → ℕ → Type 0
 NoneWith v start uid = (k : ℕ) → start < k → HasUid v uid k → ⊥
 
+-- a new block became a heap without a chunk under its handle, and every other is as it was
+pub record Begins (old new : Store) (h : ℕ) : Type 0 where
+  pub fills : Fills old new h
+  pub chunks : chunks fills.bytes ≡ None ∷ None ∷ []
+
 -- a new block in memory: 64 bytes, a heap without a chunk under its handle, locked n times
 pub record IsNew (s : Store) (h n : ℕ) : Type 0 where
   pub block : Block
@@ -66,6 +73,12 @@ pub record Adds {D : Type 0} (v w : VmState D) (old new : Store) (uid n h : ℕ)
   pub state : w ≡ with_held v h (Some (new_held uid))
   pub keeps : Keeps v old new h
   pub is : IsNew new h n
+
+-- no room for a new block under the lowest handle that is not listed
+pub record LacksRoomForNew {D : Type 0} (v : VmState D) (old new : Store) : Type 0 where
+  pub h : ℕ
+  pub lowest : IsLowestUnlisted v h
+  pub lacks : LacksRoom v old new (vm h) 64
 
 -- what is listed without a block: it is mapped no more
 abbrev pub without_held : {D : Type 0} → VmState D → ℕ → VmState D

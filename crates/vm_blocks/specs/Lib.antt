@@ -4,3 +4,4 @@ pub mod Room
 pub mod Bring
 pub mod Blocks
 pub mod Listed
+pub mod Commit

@@ -1,5 +1,5 @@
 -- How the blocks in memory are tied to the file.
-use Rattle.std.specs.Prelude.{◌≡◌, ◌≢◌, ℕ, true, false, List, length, Option, Some, None, IsSomeAnd}
+use Rattle.std.specs.Prelude.{◌≡◌, ◌≢◌, ℕ, false, List, length, Option, Some, None, IsSomeAnd}
 use Rattle.geos_model.specs.Block.{handle_word}
 use Rattle.geos_model.specs.Heap.{IsBlockSize, IsHeap}
 use Rattle.block_handles.specs.Layout.{IsLaidOut}

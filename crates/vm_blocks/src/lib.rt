@@ -7,11 +7,14 @@
 
 mod blocks;
 mod bring;
+mod commit;
 mod entries;
 mod error;
 mod locks;
-mod room;
+mod make;
+mod maps;
 mod resident;
+mod room;
 
 pub use blocks::VmBlocks;
 pub use entries::Held;

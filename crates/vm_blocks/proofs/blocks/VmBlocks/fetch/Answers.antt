@@ -1,14 +1,10 @@
-use Rattle.std.proofs.Common.{◌≡◌, ◌≤◌, ℕ, ap, sym, subst, ◌∙◌, Some}
+use Rattle.std.proofs.Common.{◌≡◌, ap, sym, subst, ◌∙◌}
 use Rattle.geos_model.specs.Heap.{IsBlockSize}
-use Rattle.geos_model.specs.Names.{vm}
-use Rattle.geos_model.specs.declared.name.Name.{Name}
 use Rattle.block_handles.specs.Store.{bytes_of, locks_in}
 use Rattle.vm_file.specs.State.{FileState, pair_of}
-use Rattle.vm_blocks.specs.declared.entries.Held.{Held}
-use Rattle.vm_blocks.specs.View.{VmState, bytes_read, held_at, vm_slot}
+use Rattle.vm_blocks.specs.View.{VmState, bytes_read, vm_slot}
 use Rattle.vm_blocks.specs.Tied.{IsTied}
 use Rattle.vm_blocks.specs.Room.{MakesRoom}
-use Rattle.vm_blocks.specs.Bring.{Keeps}
 use Rattle.vm_blocks.proofs.Brings.{absent-is, filled-keeps, filled-locks, filled-there, made-room, read-tied, dropped-keeps, dropped-tied}
 use Rattle.vm_blocks.proofs.blocks.VmBlocks.fetch.Goals.{in-Ok-read_into, in-Err-read_into}
 use Rattle.vm_blocks.proofs.blocks.VmBlocks.fetch.Goals as goal

@@ -1,6 +1,5 @@
-use Rattle.std.proofs.Common.{◌≡◌, ◌≤◌, ◌%◌, ℕ, length, refl, sym, subst}
-use Rattle.block_handles.specs.Names.{slot_of}
-use Rattle.block_handles.specs.Store.{IsBlock, block_at, bytes_in}
+use Rattle.std.proofs.Common.{◌≡◌, ◌≤◌, ◌%◌, length, refl, sym, subst}
+use Rattle.block_handles.specs.Store.{IsBlock, bytes_in}
 use Rattle.block_handles.proofs.Laws.{handle_of_there}
 use Rattle.vm_blocks.proofs.Thinning.{thins-own}
 use Rattle.vm_blocks.proofs.blocks.VmBlocks.grow_room.Goals as goal

@@ -1,4 +1,3 @@
-use Rattle.std.proofs.Common.{◌≡◌, ℕ}
 use Rattle.vm_blocks.specs.Tied.{IsTied}
 use Rattle.vm_blocks.specs.Room.{Thins, own_handle, there_count}
 use Rattle.vm_blocks.proofs.blocks.VmBlocks.grow_room.Given as goal

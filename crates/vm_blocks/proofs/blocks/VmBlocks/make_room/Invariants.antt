@@ -1,4 +1,3 @@
-use Rattle.std.proofs.Common.{◌≡◌, ℕ}
 use Rattle.block_handles.specs.Names.{slot_of}
 use Rattle.block_handles.specs.Store.{IsThere}
 use Rattle.vm_blocks.specs.Tied.{IsTied}

@@ -1,18 +1,15 @@
 -- What is mapped, as a directory of the device says it and as it is held.
-use Rattle.std.proofs.Common.{◌≡◌, ◌≢◌, ◌∙◌, ℕ, ◌<◌, ◌≤◌, Bool, true, false, not, ◌&&◌, ◌||◌, cond, List, [], ◌∷◌, Option, Some, None, refl, sym, ap, subst, arith}
-use Rattle.std.specs.Prelude.{IsSomeAnd, option_map}
+use Rattle.std.proofs.Common.{◌≡◌, ◌∙◌, ℕ, ◌≤◌, Bool, true, false, ◌&&◌, ◌||◌, cond, List, [], ◌∷◌, Some, refl, ap, arith}
+use Rattle.std.specs.Prelude.{IsSomeAnd}
 use Rattle.std.specs.List.{find, list_any}
 use Rattle.std.proofs.Math.Dec.{eqb}
-use Rattle.std.proofs.lemmas.Bool.{eqb-true, eq-eqb, ne_eqb}
+use Rattle.std.proofs.lemmas.Bool.{eqb-true, ne_eqb}
 use Rattle.vm_file.specs.declared.directory.Entry.{Entry}
-use Rattle.vm_file.specs.declared.directory.Directory.{Directory}
-use Rattle.vm_file.specs.Directories.{are_entries, has_block, has_group, is_entry, may_be_map_block, may_be_map_group, may_be_map_item}
-use Rattle.vm_file.proofs.DirectoryLaws.{HasNone, IsLegal, behind_from, none_below}
+use Rattle.vm_file.specs.Directories.{are_entries, is_entry}
+use Rattle.vm_file.proofs.DirectoryLaws.{HasNone, none_below}
 use Rattle.vm_file.proofs.HeapTests.{both}
-use Rattle.vm_blocks.specs.declared.entries.Held.{Held}
-use Rattle.vm_blocks.specs.Listed.{as_held, held_in}
 
-or-true : (a b : Bool) → b ≡ true → (a || b) ≡ true
+pub or-true : (a b : Bool) → b ≡ true → (a || b) ≡ true
 or-true true b e = refl
 or-true false b e = e
 

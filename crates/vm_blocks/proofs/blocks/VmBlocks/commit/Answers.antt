@@ -1,0 +1,39 @@
+use Rattle.std.proofs.Common.{◌≡◌, ap, refl, sym, subst}
+use Rattle.vm_file.specs.Committing.{MayCommit}
+use Rattle.vm_file.specs.State.{FileState}
+use Rattle.vm_file.proofs.DirectoryLaws.{after_current}
+use Rattle.vm_blocks.specs.View.{VmState}
+use Rattle.vm_blocks.specs.Tied.{IsTied}
+use Rattle.vm_blocks.specs.Listed.{IsListOf, directory_of, resident_of}
+use Rattle.vm_blocks.proofs.Listing.{may-commit}
+use Rattle.vm_blocks.proofs.Directory.{listed-legal}
+use Rattle.vm_blocks.proofs.Updating.{committed-tied, recommits, refused-tied}
+use Rattle.vm_blocks.proofs.blocks.VmBlocks.commit.Goals as goal
+
+pub keep-requires : goal.keep-requires
+keep-requires g c =
+    let d = g.D.Device in let now = c.args.self.now in let s = c.args.blocks.now in
+    let file : c.self.inside.file ≡ now.file = ap (λ (w : VmState g.row.D.Denot). w.file) c.self.view_is in
+    let may : MayCommit (resident_of s) now.file.current (directory_of now s) = may-commit d.image d.honest now s c.requires.tied (listed-legal now s d.image d.honest c.requires.tied) in
+    subst (λ (f : FileState g.row.D.Denot). MayCommit (resident_of s) f.current c.listed-cur.result) (sym file) (subst (MayCommit (resident_of s) now.file.current) (sym c.listed-cur.ensures) may)
+
+pub returns-in-Err-clause-tied : goal.returns-in-Err-clause-tied
+returns-in-Err-clause-tied g c =
+    let d = g.D.Device in let now = c.args.self.now in let s = c.args.blocks.now in let k = c.keep.new.file in
+    let file : c.self.inside.file ≡ now.file = ap (λ (w : VmState g.row.D.Denot). w.file) c.self.view_is in
+    let r = recommits c.listed-cur.result (directory_of now s) c.self.inside.file now.file k k c.listed-cur.ensures file refl c.in-Err.ensures in
+    subst (λ (w : VmState g.row.D.Denot). IsTied d.image d.honest (record w { file = k }) s) (sym c.self.view_is)
+    (refused-tied d.image d.honest now s k (after_current c.in-Err.error now.file k r.refused) r.was r.pair c.requires.tied)
+
+pub returns-clause-file : goal.returns-clause-file
+returns-clause-file g c =
+    let d = g.D.Device in let now = c.args.self.now in let s = c.args.blocks.now in
+    let file : c.self.inside.file ≡ now.file = ap (λ (w : VmState g.row.D.Denot). w.file) c.self.view_is in
+    recommits c.listed-cur.result (directory_of now s) c.self.inside.file now.file c.keep.new.file c.relist.new.self.file c.listed-cur.ensures file (sym c.relist.ensures.file) c.in-Ok.ensures
+
+pub returns-clause-tied : goal.returns-clause-tied
+returns-clause-tied g c =
+    let d = g.D.Device in let now = c.args.self.now in let s = c.args.blocks.now in let w = c.relist.new.self in
+    let r = returns-clause-file g c in
+    let lists : IsListOf w w.file.current = subst (λ (f : FileState g.row.D.Denot). IsListOf w f.current) (sym c.relist.ensures.file) c.relist.ensures.lists in
+    committed-tied d.image d.honest c.args.how now w s c.leave.new.blocks c.requires.tied c.relist.ensures.long c.relist.ensures.legal lists (ap (λ (f : FileState g.row.D.Denot). f.current) r.done) r.was r.pair c.leave.ensures

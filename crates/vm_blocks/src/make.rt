@@ -1,0 +1,131 @@
+//! New blocks of the file, and blocks that go.
+ghost use Rattle.std.specs.Prelude.{◌≡◌, ◌<◌, ◌↔◌, ℕ, None, Err, IfOk, OnOk, OnErr};
+ghost use Rattle.geos_model.specs.Names.{vm};
+ghost use Rattle.block_handles.specs.Names.{IsHandle};
+ghost use Rattle.block_handles.specs.Store.{IsThere, locks_of, size_of};
+ghost use Rattle.vm_blocks.specs.Blocks.{Adds, AllListed, Begins, IsNew, LacksRoomForNew, without_held};
+ghost use Rattle.vm_blocks.specs.Bring.{Drops, Keeps};
+ghost use Rattle.vm_blocks.specs.Room.{LacksRoom};
+ghost use Rattle.vm_blocks.specs.Tied.{IsTied};
+ghost use Rattle.vm_blocks.specs.View.{held_at, vm_slot};
+
+use crate::blocks::VmBlocks;
+use crate::entries::Held;
+use crate::error::{FreeError, NewError, NoRoom};
+use block_handles::Blocks;
+use geos_model::Name;
+use vm_file::Device;
+
+/// Makes a heap without a chunk of a new block.
+fn begin(blocks: &mut Blocks, h: u16)
+    requires there { IsThere blocks.old (vm_slot h) }
+    requires size { size_of blocks.old (vm_slot h) ≡ 64 }
+    ensures { Begins blocks.old blocks.new h }
+{
+    lmem_heap::init(blocks.bytes_mut(Name::vm(h)), h);
+}
+
+impl<D: Device + Drop> VmBlocks<D> {
+    /// Makes a block in memory under a handle that is not listed.
+    fn make_heap(&self, blocks: &mut Blocks, h: u16) -> Result<(), NoRoom>
+        requires tied { IsTied D.image D.honest self.now blocks.old }
+        requires handle { IsHandle h }
+        requires free { held_at self.now h ≡ None }
+        ensures ok { OnOk result (IsNew blocks.new h 0) }
+        ensures keeps { OnOk result (Keeps self.now blocks.old blocks.new h) }
+        ensures err { OnErr result (LacksRoom self.now blocks.old blocks.new (vm h) 64) }
+    {
+        match self.make_room(blocks, Name::vm(h), 64) {
+            Ok(()) => {}
+            Err(NoRoom) => return Err(NoRoom),
+        }
+        begin(blocks, h);
+        Ok(())
+    }
+
+    /// Makes a block of 64 bytes without a chunk under the lowest free handle, in memory and
+    /// marked, but not locked. `NoHandle` where all 1,024 are listed; then `NoRoom` where no
+    /// stretch of the region has room, though every block of the file that is neither marked
+    /// nor locked was discarded.
+    pub fn vnew_unlocked(&mut self, blocks: &mut Blocks, uid: u16) -> Result<u16, NewError>
+        requires { IsTied D.image D.honest self.old blocks.old }
+        ensures tied { IsTied D.image D.honest self.new blocks.new }
+        ensures ok { IfOk result (Adds self.old self.new blocks.old blocks.new uid 0) }
+        ensures no_handle { (result ≡ Err NewError.NoHandle) ↔ AllListed self.old }
+        ensures no_room { result ≡ Err NewError.NoRoom → LacksRoomForNew self.old blocks.old blocks.new }
+        ensures stays { result ≡ Err NewError.NoHandle → blocks.new ≡ blocks.old }
+        ensures err { OnErr result (self.new ≡ self.old) }
+    {
+        let Some(h) = self.lowest() else {
+            return Err(NewError::NoHandle);
+        };
+        match self.make_heap(blocks, h) {
+            Ok(()) => {}
+            Err(NoRoom) => return Err(NewError::NoRoom),
+        }
+        self.put(
+            h,
+            Some(Held {
+                uid,
+                len: 64,
+                marked: true,
+            }),
+        );
+        Ok(h)
+    }
+
+    /// Makes such a block, and locks it once. It is refused as `vnew_unlocked` is.
+    pub fn vnew(&mut self, blocks: &mut Blocks, uid: u16) -> Result<u16, NewError>
+        requires { IsTied D.image D.honest self.old blocks.old }
+        ensures tied { IsTied D.image D.honest self.new blocks.new }
+        ensures ok { IfOk result (Adds self.old self.new blocks.old blocks.new uid 1) }
+        ensures no_handle { (result ≡ Err NewError.NoHandle) ↔ AllListed self.old }
+        ensures no_room { result ≡ Err NewError.NoRoom → LacksRoomForNew self.old blocks.old blocks.new }
+        ensures stays { result ≡ Err NewError.NoHandle → blocks.new ≡ blocks.old }
+        ensures err { OnErr result (self.new ≡ self.old) }
+    {
+        match self.vnew_unlocked(blocks, uid) {
+            Ok(h) => {
+                let _ = blocks.lock(Name::vm(h));
+                Ok(h)
+            }
+            Err(error) => Err(error),
+        }
+    }
+
+    /// Lists no block under a handle, and maps it no more.
+    fn unlist(&mut self, h: u16)
+        requires { IsHandle h }
+        ensures { self.new ≡ without_held self.old h }
+    {
+        self.put(h, None);
+        if self.map_block == h {
+            self.map_block = 0;
+        }
+        if self.map_item.0 == h {
+            self.map_item = (0, 0);
+        }
+    }
+
+    /// Frees a block: it is listed and mapped no more, and leaves the memory. `BadHandle` where
+    /// none has this handle, `Locked` where it is locked; nothing changes then.
+    pub fn vfree(&mut self, blocks: &mut Blocks, h: u16) -> Result<(), FreeError>
+        requires { IsTied D.image D.honest self.old blocks.old }
+        ensures tied { IsTied D.image D.honest self.new blocks.new }
+        ensures bad_handle { (result ≡ Err FreeError.BadHandle) ↔ (held_at self.old h ≡ None) }
+        ensures locked { (result ≡ Err FreeError.Locked) ↔ (0 < locks_of blocks.old (vm_slot h)) }
+        ensures state { OnOk result (self.new ≡ without_held self.old h) }
+        ensures drops { OnOk result (Drops blocks.old blocks.new h) }
+        ensures err { OnErr result ((self.new ≡ self.old) × (blocks.new ≡ blocks.old)) }
+    {
+        let Some(_held) = self.held(h) else {
+            return Err(FreeError::BadHandle);
+        };
+        if blocks.locks(Name::vm(h)) > 0 {
+            return Err(FreeError::Locked);
+        }
+        let _ = blocks.free(Name::vm(h));
+        self.unlist(h);
+        Ok(())
+    }
+}
