@@ -4,7 +4,7 @@ use Rattle.vm_file.specs.declared.commit.How.{How}
 use Rattle.vm_file.specs.declared.directory.Directory.{Directory}
 use Rattle.vm_file.specs.declared.error.CommitError.{CommitError}
 use Rattle.vm_file.specs.declared.error.CommitError.TheVariants as error
-use Rattle.vm_file.specs.Committing.{FindsOr, IsAfter, KeepsAfter, current_after, kept_after, length_after, saved_after}
+use Rattle.vm_file.specs.Committing.{FindsOr, IsAfter, KeepsAfter, NeedsNoRead, current_after, kept_after, length_after, saved_after}
 use Rattle.vm_file.specs.Device.{Passes, Rose}
 use Rattle.vm_file.specs.Kept.{SureOf, kept_of}
 use Rattle.vm_file.specs.State.{FileState, Finds, pair_of}
@@ -34,3 +34,4 @@ pub record CommitsFile {D : Type 0} (image : D → List ℕ) (honest : D → Typ
   pub was : honest new.device → honest old.device
   pub ok : OnOk result (failed new.device ≡ failed old.device)
   pub cause : honest old.device → result ≡ Err error.Disk → Rose (failed old.device) (failed new.device)
+  pub no_read : NeedsNoRead resident how cur old.saved → result ≡ Err error.Disk → Rose (failed old.device) (failed new.device)

@@ -35,6 +35,7 @@ fn read_into<D: Device + Drop>(
     ensures pair { pair_of D.image file.new ≡ pair_of D.image file.old }
     ensures reads { ReadsOnly D.image D.honest D.may_leave D.may_have_left file.old.device file.new.device }
     ensures cause { D.honest file.old.device → OnErr result (Rose (D.failed file.old.device) (D.failed file.new.device)) }
+    ensures counted { OnOk result (D.failed file.new.device ≡ D.failed file.old.device) }
 {
     match file.block(h, blocks.bytes_mut(Name::vm(h))) {
         Ok(()) => Ok(()),
@@ -63,6 +64,7 @@ impl<D: Device + Drop> VmBlocks<D> {
         ensures pair { pair_of D.image self.new.file ≡ pair_of D.image self.old.file }
         ensures reads { ReadsOnly D.image D.honest D.may_leave D.may_have_left self.old.file.device self.new.file.device }
         ensures cause { D.honest self.old.file.device → result ≡ Err BringError.Disk → Rose (D.failed self.old.file.device) (D.failed self.new.file.device) }
+        ensures counted { (result ≡ Err BringError.Disk → ⊥) → D.failed self.new.file.device ≡ D.failed self.old.file.device }
     {
         match self.make_room(blocks, Name::vm(h), u32::from(held.len)) {
             Ok(()) => {}
@@ -92,6 +94,7 @@ impl<D: Device + Drop> VmBlocks<D> {
         ensures pair { pair_of D.image self.new.file ≡ pair_of D.image self.old.file }
         ensures reads { ReadsOnly D.image D.honest D.may_leave D.may_have_left self.old.file.device self.new.file.device }
         ensures cause { D.honest self.old.file.device → result ≡ Err BringError.Disk → Rose (D.failed self.old.file.device) (D.failed self.new.file.device) }
+        ensures counted { (result ≡ Err BringError.Disk → ⊥) → D.failed self.new.file.device ≡ D.failed self.old.file.device }
     {
         let Some(held) = self.held(h) else {
             return Err(BringError::BadHandle);

@@ -38,6 +38,7 @@ impl<D: Device + Drop> VmBlocks<D> {
         ensures pair { pair_of D.image self.new.file ≡ pair_of D.image self.old.file }
         ensures reads { ReadsOnly D.image D.honest D.may_leave D.may_have_left self.old.file.device self.new.file.device }
         ensures cause { D.honest self.old.file.device → result ≡ Err LockError.Disk → Rose (D.failed self.old.file.device) (D.failed self.new.file.device) }
+        ensures counted { (result ≡ Err LockError.Disk → ⊥) → D.failed self.new.file.device ≡ D.failed self.old.file.device }
     {
         if blocks.locks(Name::vm(h)) == u16::MAX {
             return Err(LockError::Locked);

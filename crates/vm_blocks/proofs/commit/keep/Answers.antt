@@ -17,4 +17,5 @@ returns g c =
       was = e.was_honest;
       ok = e.ok;
       cause = e.cause;
+      no_read = e.no_read;
     }
