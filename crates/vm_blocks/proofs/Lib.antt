@@ -12,3 +12,4 @@ pub mod Directory
 pub mod Updating
 pub mod News
 pub mod Frees
+pub mod Lasting

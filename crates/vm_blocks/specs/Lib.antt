@@ -5,3 +5,4 @@ pub mod Bring
 pub mod Blocks
 pub mod Listed
 pub mod Commit
+pub mod Keeping

@@ -1,8 +1,9 @@
 //! VM blocks: what a value is, and what it tells.
-ghost use Rattle.std.specs.Prelude.{◌≡◌, ◌≢◌, IsTrue, ◌↔◌, IfOk, IfErr, IfSome, IfNone, OnOk, true, is_some, option_map, length};
+ghost use Rattle.std.specs.Prelude.{ℕ, List, ◌≡◌, ◌≢◌, IsTrue, ◌↔◌, IfOk, IfErr, IfSome, IfNone, OnOk, true, is_some, option_map, length};
 ghost use Rattle.block_handles.specs.Layout.{IsLaidOut};
 ghost use Rattle.block_handles.specs.Names.{IsHandle};
 ghost use Rattle.block_handles.specs.Store.{Store};
+ghost use Rattle.vm_file.specs.State.{Finds};
 ghost use Rattle.vm_blocks.specs.Blocks.{uid_of, is_marked_in};
 ghost use Rattle.vm_blocks.specs.Listed.{IsListOf};
 ghost use Rattle.vm_blocks.specs.Tied.{IsTied, NoneResident};
@@ -71,6 +72,15 @@ impl<D: Device + Drop> VmBlocks<D> {
             map_item: _,
         } = self;
         file
+    }
+
+    /// Whether the file is sure of the pair that it keeps: where it is not, it takes no commit.
+    pub fn is_sure(&self) -> bool
+        ensures sure { result ≡ self.now.file.sure }
+        // What `open` would find after a stop now.
+        ensures stop { D.honest self.now.file.device → (c : List ℕ) → D.may_leave self.now.file.device c → Finds D.image self.now.file c }
+    {
+        self.file.is_sure()
     }
 
     /// What is listed under a handle.

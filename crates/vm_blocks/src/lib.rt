@@ -10,6 +10,7 @@ mod bring;
 mod commit;
 mod entries;
 mod error;
+mod law;
 mod locks;
 mod make;
 mod maps;

@@ -1,0 +1,20 @@
+//! What others may change in the region.
+ghost use Rattle.std.specs.Prelude.{ℕ};
+ghost use Rattle.block_handles.specs.Layout.{IsLaidOut};
+ghost use Rattle.block_handles.specs.Store.{Store};
+ghost use Rattle.vm_blocks.specs.Keeping.{IsMarkedHeap, SameBut};
+ghost use Rattle.vm_blocks.specs.Tied.{IsTied};
+
+use crate::blocks::VmBlocks;
+use vm_file::Device;
+
+impl<D: Device + Drop> VmBlocks<D> {
+    /// Blocks of the file stay tied where other blocks change, and where one that is marked
+    /// changes and still is a heap under its handle: its count of locks, its bytes and its size
+    /// are free to.
+    pub fn blocks_may_change(&self)
+        ensures others { (s t : Store) → IsTied D.image D.honest self.now s → IsLaidOut t → SameBut s t 0 → IsTied D.image D.honest self.now t }
+        ensures marked { (s t : Store) (h : ℕ) → IsTied D.image D.honest self.now s → IsLaidOut t → SameBut s t h → IsMarkedHeap self.now t h
+            → IsTied D.image D.honest self.now t }
+    {}
+}
