@@ -15,6 +15,14 @@ pub four_items : {A : Type 0} (read : ℕ → Result A ℕ) (width at second thi
     → read at ≡ Ok a → read second ≡ Ok b → read third ≡ Ok c → read fourth ≡ Ok d → items_at read width 4 at ≡ Ok (a ∷ b ∷ c ∷ d ∷ [])
 four_items read width at second third fourth a b c d e f g p q r s = rw (p, e, q, f, r, g, s) refl
 
+-- eight of them
+pub eight_items : {A : Type 0} (read : ℕ → Result A ℕ) (width at n2 n3 n4 n5 n6 n7 n8 : ℕ) (a b c d e f g h : A)
+    → at + width ≡ n2 → n2 + width ≡ n3 → n3 + width ≡ n4 → n4 + width ≡ n5 → n5 + width ≡ n6 → n6 + width ≡ n7 → n7 + width ≡ n8
+    → read at ≡ Ok a → read n2 ≡ Ok b → read n3 ≡ Ok c → read n4 ≡ Ok d → read n5 ≡ Ok e → read n6 ≡ Ok f → read n7 ≡ Ok g → read n8 ≡ Ok h
+    → items_at read width 8 at ≡ Ok (a ∷ b ∷ c ∷ d ∷ e ∷ f ∷ g ∷ h ∷ [])
+eight_items read width at n2 n3 n4 n5 n6 n7 n8 a b c d e f g h p2 p3 p4 p5 p6 p7 p8 r1 r2 r3 r4 r5 r6 r7 r8 =
+    rw (r1, p2, r2, p3, r3, p4, r4, p5, r5, p6, r6, p7, r7, p8, r8) refl
+
 -- what was read before, and what is still read
 abbrev pub with_front : {A : Type 0} → List A → Result (List A) ℕ → Result (List A) ℕ
 with_front front read = read >>= λ xs. Ok (front ++ xs)
