@@ -1,5 +1,6 @@
 -- What the commands on the bytes of texts and images answer.
-use Rattle.std.specs.Prelude.{◌≡◌, ℕ, List, Ok, Err, Option}
+use Rattle.std.specs.Prelude.{◌≡◌, ◌⊎◌, ℕ, Bool, ◌==◌, List, [], Ok, Err, Option, codes}
+use Rattle.std.specs.List.{starts_with}
 use Rattle.geos_image.specs.declared.error.ReadError.{ReadError}
 use Rattle.geos_image.specs.declared.error.ReadError.TheVariants as read
 use Rattle.geos_image.specs.Parts.{Parts}
@@ -8,7 +9,11 @@ use Rattle.geos_verify.specs.declared.rule.Reject.{Reject}
 use Rattle.geos_verify.specs.Rules.{Accepted, FirstRefusal}
 use Rattle.geos_listing.specs.Listing.{listing}
 use Rattle.geos_explain.specs.Explanation.{explanation, IsVerdict}
-use Rattle.geos_asm.specs.Assembling.{IsAssembled, IsTextOf}
+use Rattle.geos_explain.specs.Texts.{text_explanation}
+use Rattle.geos_source.specs.InstrLines.{instr_lines}
+use Rattle.geos_explain.specs.Causes.{cause_text}
+use Rattle.geos_infer.specs.declared.cause.Cause.{Cause}
+use Rattle.geos_asm.specs.Assembling.{IsAssembled, IsTextOf, IsCauseOf}
 use Rattle.geos.specs.declared.fault.CheckFault.{CheckFault}
 use Rattle.geos.specs.declared.fault.CheckFault.TheVariants.{BadImage, Rejected, Memory}
 
@@ -23,6 +28,20 @@ IsListed bytes text = (image : Parts) × (image_at bytes ≡ Ok image) × (text 
 -- the bytes spell an image, the refusal is its first, if there is one, and the text is the explanation of both
 abbrev pub IsExplained : List ℕ → List ℕ → Option Reject → Type 0
 IsExplained bytes text reject = (image : Parts) × (image_at bytes ≡ Ok image) × IsVerdict image reject × (text ≡ explanation image reject)
+
+-- the text has an image, the refusal is its first, if there is one, and what is told is the text with what is known at
+-- each instruction
+abbrev pub IsExplainedText : List ℕ → List ℕ → Option Reject → Type 0
+IsExplainedText text told reject =
+    (image : Parts) × IsAssembled text image × IsVerdict image reject × (told ≡ text_explanation text (instr_lines text) image reject)
+
+-- what is told is nothing, or a cause that holds of some routine of the text
+abbrev pub IsCauseTold : List ℕ → List ℕ → Type 0
+IsCauseTold text told = (told ≡ []) ⊎ ((cause : Cause) × IsCauseOf text cause × (told ≡ cause_text (instr_lines text) cause))
+
+-- the bytes begin as an image does
+abbrev pub begins_as_image : List ℕ → Bool
+begins_as_image bytes = starts_with (λ a b. a == b) bytes (codes "GRT1")
 
 -- the bytes spell an image that the verifier accepts
 abbrev pub IsAccepted : List ℕ → Type 0

@@ -1,14 +1,15 @@
 //! The commands.
 
-ghost use Rattle.std.specs.Prelude.{IfOk, IfErr};
+ghost use Rattle.std.specs.Prelude.{◌≡◌, IfOk, IfErr};
 ghost use Rattle.geos_asm.specs.Assembling.{IsWhyNoImage};
 ghost use Rattle.geos_image.specs.Reading.{image_at, Fails};
-ghost use Rattle.geos.specs.Commands.{IsAssembledAs, IsListed, IsAccepted, IsDue, IsExplained};
+ghost use Rattle.geos.specs.Commands.{IsAssembledAs, IsListed, IsAccepted, IsDue, IsExplained, IsExplainedText, IsCauseTold, begins_as_image};
 
 use crate::fault::CheckFault;
-use geos_asm::{AssembleError, assemble, list};
-use geos_explain::explain;
+use geos_asm::{AssembleError, assemble, list, why_no_rows};
+use geos_explain::{explain, explain_cause, explain_text};
 use geos_image::ReadError;
+use geos_source::lines_of_instrs;
 use geos_verify::{Reject, check};
 use std::alloc::Global;
 
@@ -42,7 +43,7 @@ pub fn check_bytes(alloc: Global, bytes: &[u8]) -> Result<(), CheckFault>
     }
 }
 
-/// What there is to say of an image.
+/// What there is to say of an image, or of a text.
 #[derive(Drop)]
 pub struct Explained {
     /// The listing with what is known at each instruction, and what is wrong where the image is
@@ -68,5 +69,44 @@ pub fn explain_bytes(alloc: Global, bytes: &[u8]) -> Result<Explained, ReadError
             text: explain(alloc, &image, Some(reject))?,
             reject: Some(reject),
         }),
+    }
+}
+
+/// Whether bytes are read as an image: they begin as one does.
+pub fn begins_as_image(bytes: &[u8]) -> bool
+    ensures { result ≡ begins_as_image bytes.now }
+{
+    bytes.starts_with(b"GRT1")
+}
+
+/// The lines of a text that assembles, with what is known at each instruction; and whether the verifier accepts its
+/// image. The faults are those of `geos_asm::assemble`.
+pub fn explain_text_bytes(alloc: Global, text: &[u8]) -> Result<Explained, AssembleError>
+    ensures explained { IfOk result (λ explained. IsExplainedText text.now explained.text.items explained.reject) }
+    ensures fault { IfErr result (IsWhyNoImage text.now) }
+{
+    let image = assemble(alloc, text)?;
+    let lines = lines_of_instrs(alloc, text)?;
+    match check(image) {
+        Ok(checked) => Ok(Explained {
+            text: explain_text(alloc, text, &lines, checked.image(), None)?,
+            reject: None,
+        }),
+        Err((image, reject)) => Ok(Explained {
+            text: explain_text(alloc, text, &lines, &image, Some(reject))?,
+            reject: Some(reject),
+        }),
+    }
+}
+
+/// Why no rows are found for the text, in a line of words, where `assemble` answers `NoRows(line)`; nothing where no
+/// routine begins at the line. The errors are those of `assemble`, but for `NoRows`.
+pub fn cause_bytes(alloc: Global, text: &[u8], line: usize) -> Result<Vec<u8>, AssembleError>
+    ensures { IfOk result (λ told. IsCauseTold text.now told.items) }
+{
+    let lines = lines_of_instrs(alloc, text)?;
+    match why_no_rows(alloc, text, line)? {
+        Some(cause) => Ok(explain_cause(alloc, &lines, &cause)?),
+        None => Ok(Vec::new(alloc)),
     }
 }

@@ -1,6 +1,9 @@
 //! What the words on the command line ask for is done.
 
-use crate::commands::{assemble_bytes, check_bytes, explain_bytes, list_bytes};
+use crate::commands::{
+    Explained, assemble_bytes, begins_as_image, cause_bytes, check_bytes, explain_bytes,
+    explain_text_bytes, list_bytes,
+};
 use crate::fault::CheckFault;
 use geos_asm::AssembleError;
 use geos_cli::{Counted, ScriptFault, run_session};
@@ -58,11 +61,34 @@ fn check<'a>(rt: &HostRuntime, path: &'a str) -> Result<(), RequestFault<'a>> {
     Ok(print(rt, b"accepted\n")?)
 }
 
-/// Prints the listing of the image with what is known at each instruction; then says where it is
-/// refused, if it is.
+/// What there is to say of a text. Where no rows are found for it, it prints why.
+fn explained_text<'a>(rt: &HostRuntime, text: &[u8]) -> Result<Explained, RequestFault<'a>> {
+    match explain_text_bytes(rt.alloc(), text) {
+        Ok(explained) => Ok(explained),
+        Err(fault) => {
+            if let AssembleError::NoRows(line) = &fault {
+                let line = *line;
+                print(rt, &cause_bytes(rt.alloc(), text, line)?)?;
+            }
+            Err(RequestFault::Assemble(fault))
+        }
+    }
+}
+
+/// What there is to say of an image, or of a text.
+fn explained<'a>(rt: &HostRuntime, bytes: &[u8]) -> Result<Explained, RequestFault<'a>> {
+    if begins_as_image(bytes) {
+        Ok(explain_bytes(rt.alloc(), bytes)?)
+    } else {
+        explained_text(rt, bytes)
+    }
+}
+
+/// Prints the listing of the image, or the lines of the text, with what is known at each instruction; then says where
+/// the image is refused, if it is.
 fn explain<'a>(rt: &HostRuntime, path: &'a str) -> Result<(), RequestFault<'a>> {
     let bytes = read(rt, path)?;
-    let explained = explain_bytes(rt.alloc(), &bytes)?;
+    let explained = explained(rt, &bytes)?;
     print(rt, &explained.text)?;
     match explained.reject {
         Some(reject) => Err(RequestFault::Reject(reject)),

@@ -8,6 +8,8 @@ use Rattle.geos_source.specs.Texts.{Code, code_of}
 use Rattle.geos_source.specs.Skeletons.{routine_of, skeleton}
 use Rattle.geos_infer.specs.Code.{instrs_of}
 use Rattle.geos_infer.specs.Theorem.{FindsWhatThereIs, NoneIsAccepted, NothingHolds}
+use Rattle.geos_infer.specs.Causes.{Holds}
+use Rattle.geos_infer.specs.declared.cause.Cause.{Cause}
 use Rattle.geos_asm.specs.declared.error.AssembleError.{AssembleError}
 use Rattle.geos_asm.specs.declared.error.AssembleError.TheVariants.{BadLine, NoRows, Memory}
 
@@ -56,3 +58,10 @@ abbrev pub IsWhyNoImage : List ℕ → AssembleError → Type 0
 IsWhyNoImage text (BadLine fault) = code_of text ≡ Err fault
 IsWhyNoImage text (NoRows line) = HasNoRows text line
 IsWhyNoImage text Memory = Unit {0}
+
+-- the cause holds of some routine of the text's code
+pub record IsCauseOf (text : List ℕ) (cause : Cause) : Type 0 where
+  pub code : Code
+  pub read : code_of text ≡ Ok code
+  pub r : ℕ
+  pub holds : Holds (skeleton code) r cause

@@ -4,10 +4,12 @@
 #![tactic(auto)]
 
 mod assembler;
+mod cause;
 mod error;
 mod listing;
 
 pub use assembler::assemble;
+pub use cause::why_no_rows;
 pub use error::AssembleError;
 pub use geos_source::{BadLine, Why};
 pub use listing::list;

@@ -17,14 +17,18 @@ abbrev pub refusal_text : Option Reject → Place → List ℕ
 refusal_text None place = []
 refusal_text (Some reject) place = if reject.pc == place.pc then refusal_line place reject.rule else []
 
+-- what is known at an instruction, up to the end of the line, and what is wrong with it
+unfoldable pub noted : Option Reject → Place → List ℕ
+noted reject place = note place ++ codes "\n" ++ refusal_text reject place
+
 -- an instruction with what is known there, and what is wrong with it
 unfoldable pub point_text : Option Reject → Place → List ℕ
-point_text reject place = instr_code place.image.routines place.i ++ note place.row place.potential ++ codes "\n" ++ refusal_text reject place
+point_text reject place = instr_code place.image.routines place.i ++ noted reject place
 
 -- the same behind its label, where another leads to it
 unfoldable pub place_text : Parts → Option Reject → ℕ → Routine → ℕ → List ℕ
 place_text image reject r routine pc =
-    label_line image.points pc ++ option_map_or (λ point. point_text reject (place_at image r routine pc point)) (slice_get image.points pc) []
+    label_line image.points pc ++ option_map_or (λ point. point_text reject (place_at image [] r routine pc point)) (slice_get image.points pc) []
 
 -- a routine's line, its entry row and its exit row
 unfoldable pub head_text : Routine → List ℕ

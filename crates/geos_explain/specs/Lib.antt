@@ -3,7 +3,10 @@ pub mod Places
 pub mod Notes
 pub mod Lacks
 pub mod Uses
+pub mod Ways
 pub mod Stale
 pub mod Steps
 pub mod Words
 pub mod Explanation
+pub mod Texts
+pub mod Causes

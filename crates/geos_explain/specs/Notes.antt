@@ -1,10 +1,13 @@
 -- What stands behind an instruction: what its row knows, and its potential.
-use Rattle.std.specs.Prelude.{ℕ, Bool, ◌&&◌, ◌==◌, if◌then◌else◌, List, [], ◌++◌, length, slice_index, codes, decimal}
+use Rattle.std.specs.Prelude.{ℕ, Bool, ◌&&◌, ◌==◌, if◌then◌else◌, List, [], ◌++◌, Some, None, slice_get, length, slice_index, codes, decimal}
 use Rattle.std.specs.List.{list_all}
 use Rattle.geos_image.specs.declared.row.Row.{Row}
 use Rattle.geos_image.specs.declared.potential.Potential.{Potential}
 use Rattle.geos_listing.specs.Rows.{texts_below, row_items}
+use Rattle.geos_image.specs.declared.routine.Routine.{Routine}
+use Rattle.geos_listing.specs.Instrs.{name_of}
 use Rattle.geos_explain.specs.Numbers.{steps_word}
+use Rattle.geos_explain.specs.Places.{Place}
 
 -- the items of a row and a comma; nothing for the open row
 unfoldable pub known_text : Row → List ℕ
@@ -27,6 +30,17 @@ unfoldable pub potential_text : Potential → List ℕ
 potential_text p =
     codes " " ++ decimal p.constant ++ coefficients_text p.coefficients ++ steps_word (is_one p)
 
+-- a routine and a pc
+unfoldable pub where_text : Routine → ℕ → List ℕ
+where_text routine pc = codes " ; " ++ name_of routine ++ codes " " ++ decimal pc ++ codes ":"
+
+-- how a note begins: in an author's text by nothing, else by the routine and the pc
+unfoldable pub note_head : Place → List ℕ
+note_head place = elim (slice_get place.lines place.pc) [
+  | None ↦ where_text place.routine place.pc
+  | Some line ↦ codes " ;"
+]
+
 -- what a row knows beyond the open row, and the potential
-unfoldable pub note : Row → Potential → List ℕ
-note row p = codes " ;" ++ known_text row ++ potential_text p
+unfoldable pub note : Place → List ℕ
+note place = note_head place ++ known_text place.row ++ potential_text place.potential

@@ -1,5 +1,5 @@
--- The words that go with a number of steps.
-use Rattle.std.specs.Prelude.{ℕ, Bool, true, false, ◌==◌, List, ◌++◌, codes, decimal}
+-- The words that go with a number of steps, and what a place is called.
+use Rattle.std.specs.Prelude.{ℕ, Bool, true, false, ◌==◌, List, ◌++◌, Some, None, slice_get, codes, decimal}
 
 -- the word for steps, and whether there is just one
 unfoldable pub steps_word : Bool → List ℕ
@@ -18,3 +18,7 @@ owed_text n = decimal n ++ steps_word (n == 1) ++ verb (n == 1) ++ codes " owed"
 -- so many are left
 unfoldable pub left_text : ℕ → List ℕ
 left_text n = codes ", " ++ decimal n ++ verb (n == 1) ++ codes " left"
+
+-- a pc as the reader has it: in an author's text its line, else itself
+unfoldable pub pc_text : List ℕ → ℕ → List ℕ
+pc_text lines pc = elim (slice_get lines pc) [ None ↦ codes " " ++ decimal pc | Some line ↦ codes " line " ++ decimal line ]

@@ -1,5 +1,5 @@
 -- An instruction of a routine, with what is known there.
-use Rattle.std.specs.Prelude.{◌≡◌, ◌<◌, ◌≤◌, ℕ, true, length, slice_get, IfSome}
+use Rattle.std.specs.Prelude.{◌≡◌, ◌<◌, ◌≤◌, ℕ, List, true, length, slice_get, IfSome}
 use Rattle.geos_image.specs.declared.instr.Instr.{Instr}
 use Rattle.geos_image.specs.declared.row.Row.{Row}
 use Rattle.geos_image.specs.declared.potential.Potential.{Potential}
@@ -11,9 +11,11 @@ use Rattle.geos_image.specs.Parts.{Parts, start_of}
 use Rattle.geos_listing.specs.Instrs.{KeepsLimits}
 use Rattle.geos_explain.specs.declared.place.Place as code
 
--- the instruction at a pc of routine r, its row and its potential
+-- the instruction at a pc of routine r, its row and its potential; and the line of each instruction in an author's text,
+-- or nothing
 pub record Place : Type 0 where
   pub image : Parts
+  pub lines : List ℕ
   pub r : ℕ
   pub routine : Routine
   pub pc : ℕ
@@ -22,13 +24,14 @@ pub record Place : Type 0 where
   pub potential : Potential
 
 -- the place of a point
-abbrev pub place_at : Parts → ℕ → Routine → ℕ → Point → Place
-place_at image r routine pc point = record { image = image; r = r; routine = routine; pc = pc; i = point.instr; row = point.row; potential = point.potential }
+abbrev pub place_at : Parts → List ℕ → ℕ → Routine → ℕ → Point → Place
+place_at image lines r routine pc point = record { image = image; lines = lines; r = r; routine = routine; pc = pc; i = point.instr; row = point.row; potential = point.potential }
 
 -- the place that the code has
 abbrev pub place_of : code.Place → Place
 place_of place = record {
   image = place.image.now;
+  lines = place.lines.now;
   r = place.r;
   routine = place.routine.now;
   pc = place.pc;

@@ -1,15 +1,29 @@
--- Which pointers may be stale where they are used, and what may have moved what is behind them.
-use Rattle.std.specs.Prelude.{ℕ, zero, suc, ◌+◌, ◌-◌, Bool, false, ◌&&◌, not, if◌then◌else◌, List, [], ◌++◌, Option, Some, None, slice_get, codes, decimal}
+-- Which pointers may be stale where they are used, and where and by what they became so.
+use Rattle.std.specs.Prelude.{ℕ, ◌==◌, Bool, true, false, ◌&&◌, if◌then◌else◌, List, [], ◌++◌, Option, Some, None, length, slice_get, codes, decimal}
 use Rattle.std.specs.Option.{option_map_or}
 use Rattle.geos_image.specs.declared.instr.Instr.{Instr}
 use Rattle.geos_image.specs.declared.row.Row.{Row}
+use Rattle.geos_image.specs.declared.row.Pointer.{Pointer}
 use Rattle.geos_image.specs.declared.point.Point.{Point}
-use Rattle.geos_image.specs.Parts.{Parts, start_of}
+use Rattle.geos_image.specs.declared.routine.Routine.{Routine}
+use Rattle.geos_image.specs.Parts.{Parts}
+use Rattle.geos_listing.specs.Instrs.{name_of}
 use Rattle.geos_opcodes.specs.Facts.{word_of, uses_of}
+use Rattle.geos_opcodes.specs.declared.uses.SlotUse.{SlotUse}
+use Rattle.geos_opcodes.specs.declared.uses.SlotUse.TheVariants.{Moves, Unlocks}
 use Rattle.geos_opcodes.specs.declared.uses.PointerUse.{PointerUse}
 use Rattle.geos_opcodes.specs.declared.uses.PointerUse.TheVariants.{Copies}
-use Rattle.geos_verify.specs.Rows.{falls_through, pointer_at, is_stale, after}
+use Rattle.geos_verify.specs.Rows.{pointer_at, is_stale}
+use Rattle.geos_explain.specs.Numbers.{pc_text}
 use Rattle.geos_explain.specs.Places.{Place}
+use Rattle.geos_explain.specs.Uses.{slot_behind}
+use Rattle.geos_explain.specs.declared.ways.Way.{Way}
+use Rattle.geos_explain.specs.declared.ways.Way.TheVariants.{Entry, Along, Branch}
+use Rattle.geos_explain.specs.declared.ways.End.{End}
+use Rattle.geos_explain.specs.declared.ways.End.TheVariants.{Lost, Unset, Unreached, Merged}
+use Rattle.geos_explain.specs.declared.ways.Meeting.{Meeting}
+use Rattle.geos_explain.specs.declared.ways.Trace.{Trace}
+use Rattle.geos_explain.specs.Ways.{hint_of, with_hint, forgets, sets, traced}
 
 -- a pointer, where the row knows nothing of it
 abbrev pub if_stale : Row → ℕ → Option ℕ
@@ -25,43 +39,154 @@ abbrev pub pointer_item : Option ℕ → List ℕ
 pointer_item None = []
 pointer_item (Some p) = codes " p" ++ decimal p
 
--- an instruction makes a pointer stale: its row knows the pointer, and the row after it does not
-abbrev pub makes_stale : Parts → ℕ → ℕ → Point → Bool
-makes_stale image p pc point =
-    falls_through point.instr.opcode && not (is_stale (pointer_at point.row p)) && is_stale (pointer_at (after image pc point.row false) p)
+-- where a way comes from
+abbrev pub way_text : List ℕ → Way → List ℕ
+way_text lines Entry = codes " the in line"
+way_text lines (Along from) = pc_text lines from
+way_text lines (Branch from) = pc_text lines from
 
--- the same of the instruction at a pc
-unfoldable pub makes_stale_at : Parts → ℕ → ℕ → Bool
-makes_stale_at image p pc = elim (slice_get image.points pc) [ None ↦ false | Some point ↦ makes_stale image p pc point ]
+-- where ways meet, unless it is here
+abbrev pub meeting_place : Place → ℕ → List ℕ
+meeting_place place to = if to == place.pc then codes ";" else codes "; at" ++ pc_text place.lines to
 
--- of so many instructions from a pc, the last that makes a pointer stale
-unfoldable pub last_making_stale : Parts → ℕ → ℕ → ℕ → Option ℕ
-last_making_stale image p start zero = None
-last_making_stale image p start (suc n) = if makes_stale_at image p (start + n) then Some (start + n) else last_making_stale image p start n
+-- the way that brings a pointer
+unfoldable pub known_from : List ℕ → ℕ → Way → List ℕ
+known_from lines p way = codes " p" ++ decimal p ++ codes " is known from" ++ way_text lines way
 
--- the last instruction before this one in its routine that makes a pointer stale
-abbrev pub mover : Place → ℕ → Option ℕ
-mover place p = let start = start_of place.image.routines place.r in last_making_stale place.image p start (place.pc - start)
+-- the way that does not
+unfoldable pub not_from : List ℕ → Way → List ℕ
+not_from lines way = codes ", and not from" ++ way_text lines way
 
--- the word of the instruction at a pc
-unfoldable pub word_at : Parts → ℕ → List ℕ
-word_at image pc = elim (slice_get image.points pc) [ None ↦ [] | Some point ↦ word_of point.instr.opcode ]
+-- of ways that meet one brings a pointer, and another does not
+unfoldable pub meeting_words : Place → ℕ → Meeting → List ℕ
+meeting_words place p m = meeting_place place m.to ++ known_from place.lines p m.known ++ not_from place.lines m.lost
 
--- what is behind a pointer may have moved
+-- the same, if ways meet
+abbrev pub meeting_item : Place → ℕ → Option Meeting → List ℕ
+meeting_item place p None = []
+meeting_item place p (Some m) = meeting_words place p m
+
+-- the instruction at a pc
+unfoldable pub named : List ℕ → ℕ → Point → List ℕ
+named lines from point = codes "; " ++ word_of point.instr.opcode ++ codes " at" ++ pc_text lines from
+
+-- the name of a routine
+unfoldable pub name_at : Parts → ℕ → List ℕ
+name_at image r = option_map_or name_of (slice_get image.routines r) []
+
+-- the out line does not say a pointer
+unfoldable pub unsaid_words : ℕ → List ℕ
+unsaid_words p = codes " says, and it does not say p" ++ decimal p ++ codes ": say it in the out line, or fetch it again"
+
+-- a call leaves nothing but the exit row, which does not know the pointer
+unfoldable pub call_loss : Parts → ℕ → ℕ → List ℕ
+call_loss image p r = codes " leaves what the out line of " ++ name_at image r ++ unsaid_words p
+
+-- the instruction was to set the pointer and was refused
+unfoldable pub refused_loss : ℕ → List ℕ
+refused_loss p = codes " goes to its label where it is refused, and has not set p" ++ decimal p ++ codes ": give it another label"
+
+-- an instruction that moves chunks moves what the pointer leads to
 unfoldable pub moved_words : ℕ → List ℕ
-moved_words p = codes " may have moved what is behind p" ++ decimal p
+moved_words p = codes " may have moved what is behind p" ++ decimal p ++ []
 
--- by the instruction at a pc
-unfoldable pub mover_words : Parts → ℕ → ℕ → List ℕ
-mover_words image p at = codes "; " ++ word_at image at ++ codes " at " ++ decimal at ++ moved_words p
+-- two slots may hold one block
+unfoldable pub one_block_words : ℕ → ℕ → List ℕ
+one_block_words a b =
+    (codes ", since s" ++ decimal a ++ codes " and s" ++ decimal b) ++ codes " may hold one block: fetch it again, or tell them apart"
 
--- what may have moved what is behind a pointer, if there is a pointer
-abbrev pub mover_item : Place → Option ℕ → List ℕ
-mover_item place None = []
-mover_item place (Some p) = option_map_or (mover_words place.image p) (mover place p) []
+-- the instruction that tells two slots apart
+unfoldable pub sne_words : ℕ → ℕ → List ℕ
+sne_words a b = codes " by SNE s" ++ decimal a ++ codes " s" ++ decimal b
 
--- a pointer that is used may be stale, and what may have moved what is behind it
+-- two slots may hold one block, and what is to be done
+unfoldable pub two_words : ℕ → ℕ → List ℕ
+two_words a b = one_block_words a b ++ sne_words a b
+
+-- the slot of the instruction and that of the pointer, if they are two, may hold one block
+unfoldable pub apart_words : ℕ → ℕ → List ℕ
+apart_words a b = if a == b then codes ": fetch it again" else two_words a b
+
+-- the block that the pointer led into was given back
+unfoldable pub given_words : ℕ → List ℕ
+given_words p = codes " gave back the block behind p" ++ decimal p ++ codes ": lock it and fetch it again"
+
+-- something else
+unfoldable pub left_words : ℕ → List ℕ
+left_words p = codes " leaves p" ++ decimal p ++ codes " stale: fetch it again"
+
+-- what an instruction did to a pointer into slot b by what it does to its slot
+abbrev pub use_loss : Instr → SlotUse → ℕ → ℕ → List ℕ
+use_loss i Moves p b = moved_words p ++ apart_words i.a b
+use_loss i (Unlocks kind) p b = given_words p
+use_loss i _ p b = left_words p
+
+-- how an instruction lost a pointer on one of its ways
+unfoldable pub how_lost : Parts → ℕ → Option Pointer → Bool → Point → List ℕ
+how_lost image p hint branch point =
+    if forgets point.instr.opcode then call_loss image p point.instr.imm
+    else if branch && sets point.instr (uses_of point.instr.opcode).pointer p then refused_loss p
+    else use_loss point.instr (uses_of point.instr.opcode).slot p (slot_behind (with_hint point.row p hint) p)
+
+-- the instruction at a pc lost the pointer
+unfoldable pub lost_point : Place → ℕ → Option Pointer → ℕ → Bool → Point → List ℕ
+lost_point place p hint from branch point = named place.lines from point ++ how_lost place.image p hint branch point
+
+-- the same, if there is an instruction
+unfoldable pub lost_by : Place → ℕ → Option Pointer → ℕ → Bool → List ℕ
+lost_by place p hint from branch = elim (slice_get place.image.points from) [ None ↦ [] | Some point ↦ lost_point place p hint from branch point ]
+
+-- the pointer was lost on a way
+abbrev pub lost_words : Place → ℕ → Option Pointer → Way → List ℕ
+lost_words place p hint Entry = []
+lost_words place p hint (Along from) = lost_by place p hint from false
+lost_words place p hint (Branch from) = lost_by place p hint from true
+
+-- what a caller may bring, where the caller is a routine
+abbrev pub in_wish : Routine → ℕ → List ℕ
+in_wish routine p = if routine.public then [] else codes ", or say p" ++ decimal p ++ codes " in the in line"
+
+-- the pointer is not set from the routine's beginning on
+unfoldable pub unset_words : Place → ℕ → List ℕ
+unset_words place p =
+    (codes "; p" ++ decimal p ++ codes " is not set on the way from the start of the routine: fetch it first") ++ in_wish place.routine p
+
+-- no way leads to a pc
+unfoldable pub unreached_at : List ℕ → ℕ → List ℕ
+unreached_at lines to = codes "; nothing leads to" ++ pc_text lines to
+
+-- no way leads to a pc, which is said of this one elsewhere
+unfoldable pub unreached_words : Place → ℕ → List ℕ
+unreached_words place to = if to == place.pc then [] else unreached_at place.lines to
+
+-- the pointer is known, and then not
+unfoldable pub merged_behind : ℕ → List ℕ
+merged_behind p =
+    codes " knows p" ++ decimal p ++ codes ", and it is not known there, as where it leads into two slots: fetch it again"
+
+-- each way to a pc brings the pointer, which is not known there
+unfoldable pub merged_words : Place → ℕ → ℕ → List ℕ
+merged_words place p to = codes "; each way to" ++ pc_text place.lines to ++ merged_behind p
+
+-- where the way back ends
+abbrev pub end_words : Place → ℕ → Trace → Option End → List ℕ
+end_words place p t None = codes ": fetch it again"
+end_words place p t (Some (Lost way)) = lost_words place p (hint_of t.meeting) way
+end_words place p t (Some Unset) = unset_words place p
+end_words place p t (Some Unreached) = unreached_words place t.at
+end_words place p t (Some Merged) = merged_words place p t.at
+
+-- where a pointer was lost, and by what
+unfoldable pub trace_words : Place → ℕ → Trace → List ℕ
+trace_words place p t = meeting_item place p t.meeting ++ end_words place p t t.end
+
+-- the same, if there is a pointer
+abbrev pub trace_item : Place → Option ℕ → List ℕ
+trace_item place None = []
+trace_item place (Some p) = trace_words place p (traced place p (length place.image.points))
+
+-- a pointer that is used may be stale, and where and by what it became so
 unfoldable pub stale_words : Place → List ℕ
 stale_words place =
     let stale = stale_used place.i (uses_of place.i.opcode).pointer place.row in
-    pointer_item stale.0 ++ pointer_item stale.1 ++ codes " may be stale here" ++ mover_item place stale.0 ++ mover_item place stale.1
+    pointer_item stale.0 ++ pointer_item stale.1 ++ codes " may be stale here" ++ trace_item place stale.0 ++ trace_item place stale.1

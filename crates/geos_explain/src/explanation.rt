@@ -5,7 +5,7 @@ ghost use Rattle.geos_image.specs.Legal.{is_image};
 ghost use Rattle.geos_listing.specs.Rows.{texts_below};
 ghost use Rattle.geos_listing.specs.Instrs.{MarksTargets};
 ghost use Rattle.geos_explain.specs.Places.{HasRoutine, IsPlace, place_of};
-ghost use Rattle.geos_explain.specs.Explanation.{refusal_text, point_text, place_text, head_text, numbered_routine, explanation};
+ghost use Rattle.geos_explain.specs.Explanation.{refusal_text, noted, point_text, place_text, head_text, numbered_routine, explanation};
 
 use crate::notes::put_note;
 use crate::place::Place;
@@ -34,6 +34,22 @@ fn put_refusal(
     put_refusal_line(alloc, out, place, reject.rule)
 }
 
+/// What is known at the instruction, up to the end of the line, and what is wrong with it.
+#[tactic(auto, unfolding(crate::specs::Explanation::noted))]
+pub(crate) fn put_noted(
+    alloc: Global,
+    out: &mut Vec<u8>,
+    reject: Option<Reject>,
+    place: &Place,
+) -> Result<(), AllocError>
+    requires { IsPlace (place_of place.now) }
+    ensures { OnOk result (out.new.items ≡ out.old.items ++ noted reject (place_of place.now)) }
+{
+    put_note(alloc, out, place)?;
+    out.extend_from_slice(b"\n")?;
+    put_refusal(alloc, out, reject, place)
+}
+
 /// An instruction with what is known there, and what is wrong with it.
 #[tactic(auto, unfolding(crate::specs::Explanation::point_text))]
 fn put_point(
@@ -46,9 +62,7 @@ fn put_point(
     ensures { OnOk result (out.new.items ≡ out.old.items ++ point_text reject (place_of place.now)) }
 {
     put_code(out, place.image, place.i)?;
-    put_note(alloc, out, place.row, place.potential)?;
-    out.extend_from_slice(b"\n")?;
-    put_refusal(alloc, out, reject, place)
+    put_noted(alloc, out, reject, place)
 }
 
 /// The same of the instruction at a pc, behind its label where another leads to it.
@@ -70,6 +84,7 @@ fn put_place(
     put_label_line(out, image, targets, pc)?;
     let place = Place {
         image,
+        lines: &[],
         r,
         routine,
         pc,

@@ -4,6 +4,7 @@
 //! docs/FORMATS.md has the form.
 #![tactic(auto)]
 
+mod causes;
 mod explanation;
 mod lacks;
 mod notes;
@@ -11,7 +12,11 @@ mod numbers;
 mod place;
 mod stale;
 mod steps;
+mod texts;
 mod uses;
+mod ways;
 mod words;
 
+pub use causes::explain_cause;
 pub use explanation::explain;
+pub use texts::explain_text;

@@ -2,10 +2,12 @@
 
 ghost use Rattle.std.specs.Prelude.{◌≡◌, ◌++◌, OnOk};
 ghost use Rattle.geos_listing.specs.Rows.{row_items};
-ghost use Rattle.geos_explain.specs.Notes.{known_text, coefficient_text, coefficients_text, is_one, potential_text, note};
+ghost use Rattle.geos_explain.specs.Places.{place_of};
+ghost use Rattle.geos_explain.specs.Notes.{known_text, coefficient_text, coefficients_text, is_one, potential_text, where_text, note_head, note};
 
 use crate::numbers::{put_numbered, steps_word};
-use geos_image::{Potential, Row};
+use crate::place::Place;
+use geos_image::{Potential, Routine, Row};
 use geos_listing::put_items;
 use std::alloc::{AllocError, Global};
 
@@ -63,17 +65,34 @@ pub(crate) fn put_potential(out: &mut Vec<u8>, potential: &Potential) -> Result<
     out.extend_from_slice(steps_word(is_one(potential)).as_bytes())
 }
 
+/// The routine and the pc.
+#[tactic(auto, unfolding(crate::specs::Notes::where_text))]
+fn put_where(out: &mut Vec<u8>, routine: &Routine, pc: u16) -> Result<(), AllocError>
+    ensures { OnOk result (out.new.items ≡ out.old.items ++ where_text routine.now pc) }
+{
+    out.extend_from_slice(b" ; ")?;
+    out.extend_from_slice(routine.name_text())?;
+    put_numbered(out, " ", u64::from(pc))?;
+    out.extend_from_slice(b":")
+}
+
+/// How a note begins: in an author's text by nothing, else by the routine and the pc.
+#[tactic(auto, unfolding(crate::specs::Notes::note_head))]
+fn put_note_head(out: &mut Vec<u8>, place: &Place) -> Result<(), AllocError>
+    ensures { OnOk result (out.new.items ≡ out.old.items ++ note_head (place_of place.now)) }
+{
+    match place.lines.get(usize::from(place.pc)) {
+        Some(_) => out.extend_from_slice(b" ;"),
+        None => put_where(out, place.routine, place.pc),
+    }
+}
+
 /// What the row knows beyond the open row, and the potential.
 #[tactic(auto, unfolding(crate::specs::Notes::note))]
-pub(crate) fn put_note(
-    alloc: Global,
-    out: &mut Vec<u8>,
-    row: &Row,
-    potential: &Potential,
-) -> Result<(), AllocError>
-    ensures { OnOk result (out.new.items ≡ out.old.items ++ note row.now potential.now) }
+pub(crate) fn put_note(alloc: Global, out: &mut Vec<u8>, place: &Place) -> Result<(), AllocError>
+    ensures { OnOk result (out.new.items ≡ out.old.items ++ note (place_of place.now)) }
 {
-    out.extend_from_slice(b" ;")?;
-    put_known(alloc, out, row)?;
-    put_potential(out, potential)
+    put_note_head(out, place)?;
+    put_known(alloc, out, place.row)?;
+    put_potential(out, place.potential)
 }

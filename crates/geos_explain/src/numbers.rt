@@ -1,7 +1,7 @@
 //! Numbers in decimal digits, and the words that go with a number of steps.
 
 ghost use Rattle.std.specs.Prelude.{◌≡◌, ◌++◌, OnOk, decimal};
-ghost use Rattle.geos_explain.specs.Numbers.{steps_word, verb, owed_text, left_text};
+ghost use Rattle.geos_explain.specs.Numbers.{steps_word, verb, owed_text, left_text, pc_text};
 
 use std::alloc::AllocError;
 
@@ -12,6 +12,33 @@ pub(crate) fn put_numbered(out: &mut Vec<u8>, sign: &str, n: u64) -> Result<(), 
     out.extend_from_slice(sign.as_bytes())?;
     let mut digits = itoa::Buffer::new();
     out.extend_from_slice(digits.format(n).as_bytes())
+}
+
+/// A number between two texts.
+pub(crate) fn put_about(
+    out: &mut Vec<u8>,
+    before: &str,
+    n: u8,
+    behind: &str,
+) -> Result<(), AllocError>
+    ensures { OnOk result (out.new.items ≡ out.old.items ++ before.now ++ decimal n ++ behind.now) }
+{
+    put_numbered(out, before, u64::from(n))?;
+    out.extend_from_slice(behind.as_bytes())
+}
+
+/// Two numbers, between and behind texts.
+pub(crate) fn put_both(
+    out: &mut Vec<u8>,
+    before: &str,
+    a: u8,
+    between: &str,
+    b: u8,
+) -> Result<(), AllocError>
+    ensures { OnOk result (out.new.items ≡ out.old.items ++ before.now ++ decimal a ++ between.now ++ decimal b) }
+{
+    put_numbered(out, before, u64::from(a))?;
+    put_numbered(out, between, u64::from(b))
 }
 
 /// The word for steps, and whether there is just one.
@@ -49,4 +76,15 @@ pub(crate) fn put_left(out: &mut Vec<u8>, n: u64) -> Result<(), AllocError>
     put_numbered(out, ", ", n)?;
     out.extend_from_slice(verb(n == 1).as_bytes())?;
     out.extend_from_slice(b" left")
+}
+
+/// A pc as the reader has it: in an author's text its line, else itself.
+#[tactic(auto, unfolding(crate::specs::Numbers::pc_text))]
+pub(crate) fn put_pc(out: &mut Vec<u8>, lines: &[usize], pc: u16) -> Result<(), AllocError>
+    ensures { OnOk result (out.new.items ≡ out.old.items ++ pc_text lines.now pc) }
+{
+    match lines.get(usize::from(pc)) {
+        Some(line) => put_numbered(out, " line ", *line as u64),
+        None => put_numbered(out, " ", u64::from(pc)),
+    }
 }

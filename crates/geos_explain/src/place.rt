@@ -6,6 +6,8 @@ use geos_image::{Image, Instr, Potential, Routine, Row};
 #[derive(Clone, Copy)]
 pub(crate) struct Place<'a> {
     pub image: &'a Image,
+    /// The line of each instruction in an author's text; else nothing.
+    pub lines: &'a [usize],
     pub r: u16,
     pub routine: &'a Routine,
     pub pc: u16,

@@ -98,7 +98,7 @@ pub(crate) fn put_past(
 }
 
 /// The slot that a pointer leads into.
-fn slot_behind(row: &Row, p: u8) -> u8
+pub(crate) fn slot_behind(row: &Row, p: u8) -> u8
     ensures { result ≡ slot_behind row.now p }
 {
     match pointer_at(row, p) {

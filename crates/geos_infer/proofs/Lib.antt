@@ -16,3 +16,4 @@ pub mod Wanted
 pub mod Accepting
 pub mod Finding
 pub mod Copies
+pub mod Came

@@ -7,3 +7,5 @@ pub mod Flow
 pub mod Count
 pub mod Points
 pub mod Theorem
+pub mod Why
+pub mod Causes

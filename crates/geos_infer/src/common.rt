@@ -15,7 +15,7 @@ fn slots_agree(r: SlotState, s: SlotState) -> bool
 }
 
 /// Whether the slots of the rows differ in marks at most.
-fn agree(r: &Row, s: &Row) -> bool
+pub(crate) fn agree(r: &Row, s: &Row) -> bool
     ensures { result ≡ agree r.now s.now }
 {
     let [r0, r1, r2, r3] = r.slots;

@@ -19,7 +19,7 @@ pub(crate) struct Edge {
 }
 
 /// Whether the instruction has the edge: to its target, or to the next instruction.
-fn has_edge(i: &Instr, branch: bool) -> bool
+pub(crate) fn has_edge(i: &Instr, branch: bool) -> bool
     ensures { result ≡ has_edge i.now branch }
 {
     if branch {
@@ -30,7 +30,7 @@ fn has_edge(i: &Instr, branch: bool) -> bool
 }
 
 /// The pc that the edge leads to.
-fn edge_end(pc: u16, i: &Instr, branch: bool) -> u16
+pub(crate) fn edge_end(pc: u16, i: &Instr, branch: bool) -> u16
     requires { pc < 4096 }
     ensures { result ≡ edge_end pc i.now branch }
 {

@@ -3,8 +3,10 @@
 //! docs/VERIFIER.md says what rows and potentials are.
 #![tactic(auto)]
 
+mod apart;
 mod asked;
 mod body;
+mod cause;
 mod common;
 mod count;
 mod cycles;
@@ -25,6 +27,8 @@ mod table;
 mod unreached;
 mod widening;
 
+pub use apart::{Apart, Coming};
+pub use cause::{BackWay, Cause, Within, find_cause};
 pub use common::{clean, join};
 pub use error::InferError;
 pub use inference::infer;

@@ -1,6 +1,6 @@
 //! The command line: which commands there are, and what its words ask for.
 
-use crate::help::{ABOUT, FAULTS, RULES, SESSION, USAGES};
+use crate::help::{ABOUT, EXPLAINED, FAULTS, RULES, SESSION, USAGES};
 use clap::{Arg, ArgMatches, Command};
 use std::alloc::{AllocError, Global};
 
@@ -64,9 +64,9 @@ const COMMANDS: [CommandText; 4] = [
     },
     CommandText {
         name: "explain",
-        about: "Prints the image as text with what is known at each instruction, and why it may not run",
+        about: "Prints an image or a text with what is known at each instruction, and why it may not run",
         words: &[IMAGE],
-        more: "",
+        more: EXPLAINED,
     },
 ];
 

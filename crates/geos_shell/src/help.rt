@@ -54,6 +54,15 @@ If there is a file OUT, it is replaced; after a fault it is as it was. The first
 `no rows: line N` is no fault of a line. In the routine that begins there slots hold one thing on one way
 to an instruction and another on another way, or a loop is not counted by LOOP.";
 
+/// What is said of an image or a text.
+pub(crate) const EXPLAINED: &str = "\
+IMAGE may be a text too: what does not begin as an image does is read as one. Its own lines are printed,
+each behind its number; behind an instruction stands what is known there, and how many steps are owed.
+Of an image each instruction is printed, with the routine and the pc in front of that.
+Where a rule refuses, a line says why, and what to do; of a stale pointer from where it is known, from
+where not, and what has moved there. `no rows: line N` has a line that says where slots differ, or which
+loop is not paid for.";
+
 /// Why an image may not run.
 pub(crate) const RULES: &str = "\
 `rejected at N by VK` names the first instruction, counted from 0, that may not stand as it does, and the

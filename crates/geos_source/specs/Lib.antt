@@ -1,6 +1,7 @@
 pub mod Faults
 pub mod Names
 pub mod Tables
+pub mod InstrLines
 pub mod Lines
 pub mod Operands
 pub mod Readings

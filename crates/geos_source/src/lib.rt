@@ -5,6 +5,7 @@ mod declarations;
 mod draft;
 mod fault;
 mod headers;
+mod instr_lines;
 mod items;
 mod lines;
 mod names;
@@ -14,6 +15,7 @@ mod progress;
 mod skeletons;
 
 pub use fault::{BadLine, Why};
+pub use instr_lines::lines_of_instrs;
 pub use parser::{MOST_BYTES, ParseError, Parsed, parse};
 pub use progress::TextRoutine;
 pub use skeletons::skeleton;

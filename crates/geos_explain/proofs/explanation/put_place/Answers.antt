@@ -1,4 +1,4 @@
-use Rattle.std.proofs.Common.{arith}
+use Rattle.std.proofs.Common.{arith, []}
 use Rattle.std.proofs.lemmas.Grind.{common_steps}
 use Rattle.geos_image.specs.declared.instr.Instr.{Instr}
 use Rattle.geos_image.specs.declared.row.Row.{Row}
@@ -27,5 +27,5 @@ pub returns : goal.returns
 unfolding place_text
 returns c =
     let image = c.args.image.now in
-    rw (point-at (λ (i : Instr) (row : Row) (p : Potential). point_text c.args.reject (place_at image c.args.r c.args.routine.now c.args.pc (record { instr = i; row = row; potential = p }))) image.points c.args.pc c.instr.result.now c.row.result.now c.potential.result.now c.requires.within c.instr.ensures.there c.row.ensures c.potential.ensures)
+    rw (point-at (λ (i : Instr) (row : Row) (p : Potential). point_text c.args.reject (place_at image [] c.args.r c.args.routine.now c.args.pc (record { instr = i; row = row; potential = p }))) image.points c.args.pc c.instr.result.now c.row.result.now c.potential.result.now c.requires.within c.instr.ensures.there c.row.ensures c.potential.ensures)
     (grind (arith, common_steps))

@@ -1,0 +1,27 @@
+//! Why no rows are found for a text.
+
+ghost use Rattle.std.specs.Prelude.{IfOk, IfSome};
+ghost use Rattle.geos_asm.specs.Assembling.{IsCauseOf};
+
+use crate::error::AssembleError;
+use geos_infer::{Cause, find_cause};
+use geos_source::{parse, skeleton};
+use std::alloc::Global;
+
+/// Why no rows, or no numbers of steps, are found for the routine that begins at a line of the text, which
+/// `AssembleError::NoRows` names; `None` where no routine begins there. What the cause says holds of the text's code.
+/// The errors are those of `assemble`, but for `NoRows`.
+pub fn why_no_rows(alloc: Global, text: &[u8], line: usize) -> Result<Option<Cause>, AssembleError>
+    ensures { IfOk result (λ cause. IfSome cause (IsCauseOf text.now)) }
+{
+    let parsed = parse(alloc, text)?;
+    let blank = skeleton(alloc, &parsed)?;
+    for r in 0..blank.count() {
+        if let Some(routine) = parsed.routines.get(usize::from(r)) {
+            if routine.line == line {
+                return Ok(Some(find_cause(alloc, &blank, r)?));
+            }
+        }
+    }
+    Ok(None)
+}

@@ -1,0 +1,18 @@
+use Rattle.std.proofs.Common.{sym, refl, arith}
+use Rattle.std.proofs.lemmas.Grind.{common_steps}
+use Rattle.std.proofs.lemmas.Option.{slice_get_read, slice_get_past}
+use Rattle.geos_explain.specs.Notes.{note_head}
+use Rattle.geos_explain.proofs.notes.put_note_head.Goals as goal
+
+pub returns-in-Some : goal.returns-in-Some
+unfolding note_head
+returns-in-Some c =
+    let lookup = c.in-Some.ensures.lookup in
+    let there = slice_get_read c.args.place.now.lines.now _ c.from.result _ refl lookup.3.0 lookup.1 in
+    rw (sym c.from.ensures, there) (grind (arith, common_steps))
+
+pub returns-in-None : goal.returns-in-None
+unfolding note_head
+returns-in-None c =
+    rw (sym c.from.ensures, slice_get_past c.args.place.now.lines.now c.from.result c.in-None.ensures.lookup.3)
+    (grind (arith, common_steps))

@@ -1,0 +1,82 @@
+-- Why no rows or no numbers of steps are found, in an author's words.
+use Rattle.std.specs.Prelude.{ℕ, ◌||◌, if◌then◌else◌, List, [], ◌++◌, Some, None, slice_index_or, codes, decimal}
+use Rattle.geos_image.specs.declared.row.Row.{Row}
+use Rattle.geos_image.specs.declared.row.SlotState.{SlotState}
+use Rattle.geos_image.specs.declared.row.SlotState.TheVariants.{Empty}
+use Rattle.geos_listing.specs.Rows.{texts_below, state_word}
+use Rattle.geos_verify.specs.Rows.{slot_fits, is_empty}
+use Rattle.geos_infer.specs.declared.apart.Apart.{Apart}
+use Rattle.geos_infer.specs.declared.apart.Coming.{Coming}
+use Rattle.geos_infer.specs.declared.cause.BackWay.{BackWay}
+use Rattle.geos_infer.specs.declared.cause.Within.{Within}
+use Rattle.geos_infer.specs.declared.cause.Cause.{Cause}
+use Rattle.geos_infer.specs.declared.cause.Cause.TheVariants.{SlotsDiffer, NoLoop, SetWithin, NoSteps, Unknown}
+use Rattle.geos_explain.specs.Numbers.{pc_text}
+
+-- what a slot holds
+abbrev pub state_text : SlotState → List ℕ
+state_text state = if is_empty state then codes " empty" else codes "=" ++ state_word state
+
+-- a slot, where two states of it differ in more than the mark
+abbrev pub differing_item : ℕ → SlotState → SlotState → List ℕ
+differing_item i state other = if slot_fits state other || slot_fits other state then [] else codes " s" ++ decimal i ++ state_text state
+
+-- the slots of a row that differ in more than marks from those of another
+abbrev pub differing_items : ℕ → List SlotState → List SlotState → List ℕ
+differing_items n slots others = texts_below n (λ i. differing_item i (slice_index_or slots i Empty) (slice_index_or others i Empty))
+
+-- where control comes from
+unfoldable pub coming_from : List ℕ → Coming → List ℕ
+coming_from lines coming = elim coming.from [ None ↦ codes " the in line:" | Some pc ↦ pc_text lines pc ++ codes ":" ]
+
+-- how control comes to a place, and the slots that differ from those of another way
+unfoldable pub coming_text : List ℕ → Coming → Coming → List ℕ
+coming_text lines coming other = codes " from" ++ coming_from lines coming ++ differing_items 4 coming.row.slots other.row.slots
+
+-- the place where ways meet
+unfoldable pub meeting_text : List ℕ → ℕ → List ℕ
+meeting_text lines to = codes "at" ++ pc_text lines to ++ codes ","
+
+-- the other way
+unfoldable pub other_text : List ℕ → Coming → Coming → List ℕ
+other_text lines coming other = codes ";" ++ coming_text lines coming other
+
+-- slots differ where ways meet
+unfoldable pub apart_text : List ℕ → Apart → List ℕ
+apart_text lines apart = meeting_text lines apart.to ++ coming_text lines apart.first apart.second ++ other_text lines apart.second apart.first
+
+-- a way leads back
+unfoldable pub back_text : List ℕ → BackWay → List ℕ
+back_text lines back = (pc_text lines back.from ++ codes " goes back to") ++ pc_text lines back.to
+
+-- a counter is set
+unfoldable pub set_text : List ℕ → Within → List ℕ
+set_text lines within = codes "k" ++ decimal within.counter ++ codes " is set at" ++ pc_text lines within.at
+
+-- a counter is set within its loop
+unfoldable pub within_text : List ℕ → Within → List ℕ
+within_text lines within = set_text lines within ++ codes ", within its own loop:" ++ back_text lines within.back
+
+-- nothing pays for a way back
+unfoldable pub no_loop_text : List ℕ → BackWay → List ℕ
+no_loop_text lines back = codes "nothing pays for the way back:" ++ back_text lines back
+
+-- no numbers of steps were found
+unfoldable pub no_steps_text : List ℕ → BackWay → List ℕ
+no_steps_text lines back = codes "no steps were found for the loop:" ++ back_text lines back
+
+-- the same where there is no loop
+unfoldable pub unknown_text : List ℕ
+unknown_text = codes "no steps were found"
+
+-- why no rows or no numbers of steps are found
+abbrev pub cause_words : List ℕ → Cause → List ℕ
+cause_words lines (SlotsDiffer apart) = apart_text lines apart
+cause_words lines (NoLoop back) = no_loop_text lines back
+cause_words lines (SetWithin within) = within_text lines within
+cause_words lines (NoSteps back) = no_steps_text lines back
+cause_words lines Unknown = unknown_text
+
+-- the same as a line
+unfoldable pub cause_text : List ℕ → Cause → List ℕ
+cause_text lines cause = cause_words lines cause ++ codes "\n"

@@ -1,0 +1,58 @@
+-- An author's text with what is known at each instruction, and what is wrong where a rule refuses first.
+use Rattle.std.specs.Prelude.{ℕ, zero, suc, ◌+◌, Bool, false, ◌&&◌, nat_le, nat_lt, ◌==◌, if◌then◌else◌, List, [], ◌∷◌, ◌++◌, Option, Some, None, length, slice_get, codes, decimal}
+use Rattle.std.specs.Option.{option_map_or}
+use Rattle.std.specs.Str.Lines.{lines}
+use Rattle.geos_image.specs.declared.routine.Routine.{Routine}
+use Rattle.geos_image.specs.Parts.{Parts, start_of}
+use Rattle.geos_verify.specs.declared.rule.Reject.{Reject}
+use Rattle.geos_explain.specs.Places.{Place, place_at}
+use Rattle.geos_explain.specs.Explanation.{noted}
+
+-- of the first n routines, the last that begins at the pc or before
+unfoldable pub last_begun : Parts → ℕ → ℕ → Option ℕ
+last_begun image pc zero = None
+last_begun image pc (suc n) = if nat_le (start_of image.routines n) pc then Some n else last_begun image pc n
+
+-- what is said of the instruction at a pc of a routine; the table has the line of each instruction
+unfoldable pub noted_in : Parts → List ℕ → Option Reject → ℕ → ℕ → Routine → List ℕ
+noted_in image table reject pc r routine =
+    option_map_or (λ point. noted reject (place_at image table r routine pc point)) (slice_get image.points pc) []
+
+-- the same of a routine's number
+unfoldable pub noted_of : Parts → List ℕ → Option Reject → ℕ → ℕ → List ℕ
+noted_of image table reject pc r = option_map_or (noted_in image table reject pc r) (slice_get image.routines r) []
+
+-- the same of the routine that the pc lies in
+unfoldable pub noted_at : Parts → List ℕ → Option Reject → ℕ → List ℕ
+noted_at image table reject pc = elim (last_begun image pc (length image.routines)) [ None ↦ [] | Some r ↦ noted_of image table reject pc r ]
+
+-- the table has the line as that of the instruction at a pc
+unfoldable pub is_line_of : List ℕ → ℕ → ℕ → Bool
+is_line_of table pc number = elim (slice_get table pc) [ None ↦ false | Some line ↦ line == number ]
+
+-- a line with its number
+unfoldable pub numbered : ℕ → List ℕ → List ℕ
+numbered number line = decimal number ++ codes "\t" ++ line
+
+-- what stands behind a line: what is said of its instruction, or nothing
+abbrev pub behind_line : Parts → List ℕ → Option Reject → ℕ → ℕ → List ℕ
+behind_line image table reject pc number =
+    if is_line_of table pc number && nat_lt pc (length image.points) then noted_at image table reject pc else codes "\n"
+
+-- a line with its number, and what stands behind it, where pc is the next instruction
+unfoldable pub line_text : Parts → List ℕ → Option Reject → ℕ → ℕ → List ℕ → List ℕ
+line_text image table reject pc number line = numbered number line ++ behind_line image table reject pc number
+
+-- the next instruction behind a line
+unfoldable pub next_pc : List ℕ → ℕ → ℕ → ℕ
+next_pc table pc number = if is_line_of table pc number && nat_lt pc 4096 then pc + 1 else pc
+
+-- lines from a number on, where pc is the next instruction
+abbrev pub lines_text : Parts → List ℕ → Option Reject → ℕ → ℕ → List (List ℕ) → List ℕ
+lines_text image table reject pc number [] = []
+lines_text image table reject pc number (line ∷ rest) =
+    line_text image table reject pc number line ++ lines_text image table reject (next_pc table pc number) (number + 1) rest
+
+-- a text with what is known at each instruction, whose lines the table has, and at most one refusal
+abbrev pub text_explanation : List ℕ → List ℕ → Parts → Option Reject → List ℕ
+text_explanation text table image reject = lines_text image table reject 0 1 (lines text)

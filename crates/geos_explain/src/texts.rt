@@ -1,0 +1,194 @@
+//! An author's text with what is known at each instruction.
+
+ghost use Rattle.std.specs.Prelude.{◌≡◌, ◌<◌, ◌≤◌, ◌++◌, true, OnOk, IfOk, length, slice_get};
+ghost use Rattle.geos_image.specs.Legal.{is_image};
+ghost use Rattle.geos_explain.specs.Places.{HasRoutine};
+ghost use Rattle.geos_explain.specs.Texts.{last_begun, noted_in, noted_of, noted_at, is_line_of, numbered, behind_line, line_text, next_pc, text_explanation};
+
+use crate::explanation::put_noted;
+use crate::numbers::put_numbered;
+use crate::place::Place;
+use geos_image::{Image, Routine};
+use geos_text::first_line;
+use geos_verify::Reject;
+use std::alloc::{AllocError, Global};
+
+/// The last routine that begins at the pc or before.
+#[tactic(auto, unfolding(crate::specs::Texts::last_begun))]
+fn last_begun(image: &Image, pc: u16) -> Option<u16>
+    ensures { result ≡ last_begun image.now pc (length image.now.routines) }
+{
+    let mut last = None;
+    for r in 0..image.count() {
+        if image.start(r) <= pc {
+            last = Some(r);
+        }
+    }
+    last
+}
+
+/// What is said of the instruction at a pc of a routine; the table has the line of each instruction.
+fn put_noted_in(
+    alloc: Global,
+    out: &mut Vec<u8>,
+    image: &Image,
+    lines: &[usize],
+    reject: Option<Reject>,
+    pc: u16,
+    r: u16,
+    routine: &Routine,
+) -> Result<(), AllocError>
+    requires routine { HasRoutine image.now r }
+    requires within { pc < length image.now.points }
+    ensures { OnOk result (out.new.items ≡ out.old.items ++ noted_in image.now lines.now reject pc r routine.now) }
+{
+    let place = Place {
+        image,
+        lines,
+        r,
+        routine,
+        pc,
+        i: image.instr(pc),
+        row: image.row(pc),
+        potential: image.potential(pc),
+    };
+    put_noted(alloc, out, reject, &place)
+}
+
+/// The same of a routine's number.
+#[tactic(auto, unfolding(crate::specs::Texts::noted_of))]
+fn put_noted_of(
+    alloc: Global,
+    out: &mut Vec<u8>,
+    image: &Image,
+    lines: &[usize],
+    reject: Option<Reject>,
+    pc: u16,
+    r: u16,
+) -> Result<(), AllocError>
+    requires { pc < length image.now.points }
+    ensures { OnOk result (out.new.items ≡ out.old.items ++ noted_of image.now lines.now reject pc r) }
+{
+    if r < image.count() {
+        let routine = image.routine(r);
+        let _start = image.start(r);
+        put_noted_in(alloc, out, image, lines, reject, pc, r, routine)
+    } else {
+        Ok(())
+    }
+}
+
+/// The same of the routine that the pc lies in.
+#[tactic(auto, unfolding(crate::specs::Texts::noted_at))]
+fn put_noted_at(
+    alloc: Global,
+    out: &mut Vec<u8>,
+    image: &Image,
+    lines: &[usize],
+    reject: Option<Reject>,
+    pc: u16,
+) -> Result<(), AllocError>
+    requires { pc < length image.now.points }
+    ensures { OnOk result (out.new.items ≡ out.old.items ++ noted_at image.now lines.now reject pc) }
+{
+    match last_begun(image, pc) {
+        Some(r) => put_noted_of(alloc, out, image, lines, reject, pc, r),
+        None => Ok(()),
+    }
+}
+
+/// Whether the table has the line as that of the instruction at the pc.
+#[tactic(auto, unfolding(crate::specs::Texts::is_line_of))]
+fn is_line_of(lines: &[usize], pc: u16, number: usize) -> bool
+    ensures { result ≡ is_line_of lines.now pc number }
+{
+    match lines.get(usize::from(pc)) {
+        Some(line) => *line == number,
+        None => false,
+    }
+}
+
+/// A line with its number.
+#[tactic(auto, unfolding(crate::specs::Texts::numbered))]
+fn put_numbered_line(out: &mut Vec<u8>, number: usize, line: &[u8]) -> Result<(), AllocError>
+    ensures { OnOk result (out.new.items ≡ out.old.items ++ numbered number line.now) }
+{
+    put_numbered(out, "", number as u64)?;
+    out.extend_from_slice(b"\t")?;
+    out.extend_from_slice(line)
+}
+
+/// What stands behind a line: what is said of its instruction, or nothing.
+fn put_behind_line(
+    alloc: Global,
+    out: &mut Vec<u8>,
+    image: &Image,
+    lines: &[usize],
+    reject: Option<Reject>,
+    pc: u16,
+    number: usize,
+) -> Result<(), AllocError>
+    ensures { OnOk result (out.new.items ≡ out.old.items ++ behind_line image.now lines.now reject pc number) }
+{
+    if is_line_of(lines, pc, number) && pc < image.len() {
+        put_noted_at(alloc, out, image, lines, reject, pc)
+    } else {
+        out.extend_from_slice(b"\n")
+    }
+}
+
+/// A line with its number, and what stands behind it, where `pc` is the next instruction.
+#[tactic(auto, unfolding(crate::specs::Texts::line_text))]
+fn put_line(
+    alloc: Global,
+    out: &mut Vec<u8>,
+    image: &Image,
+    lines: &[usize],
+    reject: Option<Reject>,
+    pc: u16,
+    number: usize,
+    line: &[u8],
+) -> Result<(), AllocError>
+    ensures { OnOk result (out.new.items ≡ out.old.items ++ line_text image.now lines.now reject pc number line.now) }
+{
+    put_numbered_line(out, number, line)?;
+    put_behind_line(alloc, out, image, lines, reject, pc, number)
+}
+
+/// The next instruction behind a line.
+#[tactic(auto, unfolding(crate::specs::Texts::next_pc))]
+fn next_pc(lines: &[usize], pc: u16, number: usize) -> u16
+    ensures { result ≡ next_pc lines.now pc number }
+{
+    if is_line_of(lines, pc, number) && pc < 4096 {
+        pc + 1
+    } else {
+        pc
+    }
+}
+
+/// The author's text, each line behind its number, and behind each instruction what is known there and a line for the
+/// refusal, if it is there. `lines` has the number of each instruction's line, as `geos_source::lines_of_instrs` gives
+/// them, and the image is one of the text. It takes time in proportion to the text.
+pub fn explain_text(
+    alloc: Global,
+    text: &[u8],
+    lines: &[usize],
+    image: &Image,
+    reject: Option<Reject>,
+) -> Result<Vec<u8>, AllocError>
+    ensures { IfOk result (λ explained. explained.items ≡ text_explanation text.now lines.now image.now reject) }
+{
+    let mut out = Vec::new(alloc);
+    let mut rest = text;
+    let mut number: usize = 0;
+    let mut pc: u16 = 0;
+    while !rest.is_empty() {
+        let (line, behind) = first_line(rest);
+        rest = behind;
+        number += 1;
+        put_line(alloc, &mut out, image, lines, reject, pc, number, line)?;
+        pc = next_pc(lines, pc, number);
+    }
+    Ok(out)
+}

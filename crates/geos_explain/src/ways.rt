@@ -1,0 +1,417 @@
+//! Which ways lead to an instruction, which of them bring a pointer, and where going back it was lost.
+
+ghost use Rattle.std.specs.Prelude.{◌≡◌, ◌<◌, Some, length, slice_get, IfSome};
+ghost use Rattle.geos_verify.specs.Rows.{is_stale};
+ghost use Rattle.geos_explain.specs.Places.{IsPlace, place_of};
+ghost use Rattle.geos_explain.specs.Ways.{is_as, leads_along, leads_branching, way_of, way_at, or_way, first_way, entry_way, way_to, behind, brought, meets, or_meeting, hint_of, with_hint, goes_stale, makes_stale, behind_point, sets, forgets, has_edge, loses, loses_at, back_by, back_along, without_way, back_from, step_back, traced};
+
+use crate::place::Place;
+use geos_image::{Image, Instr, Opcode, Point, Pointer, Row};
+use geos_opcodes::PointerUse;
+use geos_verify::{after, branches, falls_through, pointer_at, uses_at};
+
+/// A way to an instruction.
+#[derive(Clone, Copy)]
+pub(crate) enum Way {
+    /// From the routine's caller.
+    Entry,
+    /// From the instruction at a pc, on to the next.
+    Along(u16),
+    /// From the instruction at a pc, to its target.
+    Branch(u16),
+}
+
+/// Ways meet, of which one brings a pointer and another does not.
+#[derive(Clone, Copy)]
+pub(crate) struct Meeting {
+    /// Where they lead.
+    pub to: u16,
+    /// The first that brings it.
+    pub known: Way,
+    /// The first that does not.
+    pub lost: Way,
+    /// What is known of it on the first.
+    pub pointer: Option<Pointer>,
+}
+
+/// Where a way back ends.
+#[derive(Clone, Copy)]
+pub(crate) enum End {
+    /// At an instruction that loses the pointer on this way.
+    Lost(Way),
+    /// At the beginning of the routine, whose entry row does not know it.
+    Unset,
+    /// Where no way leads.
+    Unreached,
+    /// Where each way brings it, and the row still does not know it.
+    Merged,
+}
+
+/// How far a pointer that is not known was followed back.
+#[derive(Clone, Copy)]
+pub(crate) struct Trace {
+    pub at: u16,
+    /// The first place on the way back where one way brings the pointer and another does not.
+    pub meeting: Option<Meeting>,
+    pub end: Option<End>,
+}
+
+/// Whether nothing is known of the pointer.
+pub(crate) fn is_stale(pointer: Option<Pointer>) -> bool
+    ensures { result ≡ is_stale pointer }
+{
+    pointer.is_none()
+}
+
+/// Whether the pointer is known, or is not, as is asked.
+fn is_as(known: bool, pointer: Option<Pointer>) -> bool
+    ensures { result ≡ is_as known pointer }
+{
+    if known {
+        !is_stale(pointer)
+    } else {
+        is_stale(pointer)
+    }
+}
+
+/// Whether the instruction goes on to another, and the pointer is known behind it, or is not, as is asked.
+fn leads_along(image: &Image, p: u8, to: u16, known: bool, from: u16, point: &Point) -> bool
+    requires { slice_get image.now.points from ≡ Some point.now }
+    ensures { result ≡ leads_along image.now p to known from point.now }
+{
+    falls_through(point.instr.opcode)
+        && u32::from(from) + 1 == u32::from(to)
+        && is_as(known, pointer_at(&after(image, from, &point.row, false), p))
+}
+
+/// The same of its way to its target.
+fn leads_branching(image: &Image, p: u8, to: u16, known: bool, from: u16, point: &Point) -> bool
+    requires { slice_get image.now.points from ≡ Some point.now }
+    ensures { result ≡ leads_branching image.now p to known from point.now }
+{
+    branches(point.instr.opcode)
+        && point.instr.target == to
+        && is_as(known, pointer_at(&after(image, from, &point.row, true), p))
+}
+
+/// The first way of the instruction to another on which the pointer is known, or is not, as is asked.
+fn way_of(image: &Image, p: u8, to: u16, known: bool, from: u16, point: &Point) -> Option<Way>
+    requires { slice_get image.now.points from ≡ Some point.now }
+    ensures { result ≡ way_of image.now p to known from point.now }
+{
+    if leads_along(image, p, to, known, from, point) {
+        Some(Way::Along(from))
+    } else if leads_branching(image, p, to, known, from, point) {
+        Some(Way::Branch(from))
+    } else {
+        None
+    }
+}
+
+/// The same, if there is an instruction.
+#[tactic(auto, unfolding(crate::specs::Ways::way_at))]
+fn way_at(image: &Image, p: u8, to: u16, known: bool, from: u16) -> Option<Way>
+    ensures { result ≡ way_at image.now p to known from }
+{
+    match image.points().get(usize::from(from)) {
+        Some(point) => way_of(image, p, to, known, from, point),
+        None => None,
+    }
+}
+
+/// The first of two ways, if there is one.
+fn or_way(way: Option<Way>, other: Option<Way>) -> Option<Way>
+    ensures { result ≡ or_way way other }
+{
+    match way {
+        Some(way) => Some(way),
+        None => other,
+    }
+}
+
+/// Of all instructions, the first way to a pc on which the pointer is known, or is not, as is asked.
+#[tactic(auto, unfolding(crate::specs::Ways::first_way))]
+fn first_way(image: &Image, p: u8, to: u16, known: bool) -> Option<Way>
+    ensures { result ≡ first_way image.now p to known (length image.now.points) }
+{
+    let mut first = None;
+    for from in 0..image.len() {
+        first = or_way(first, way_at(image, p, to, known, from));
+    }
+    first
+}
+
+/// The way from the caller, where the pc is the routine's first, and the entry row knows the pointer, or does not.
+fn entry_way(place: &Place, p: u8, to: u16, known: bool) -> Option<Way>
+    requires { IsPlace (place_of place.now) }
+    ensures { result ≡ entry_way (place_of place.now) p to known }
+{
+    if to == place.image.start(place.r) && is_as(known, pointer_at(&place.routine.entry, p)) {
+        Some(Way::Entry)
+    } else {
+        None
+    }
+}
+
+/// The first way to a pc on which the pointer is known, or is not, as is asked.
+#[tactic(auto, unfolding(crate::specs::Ways::way_to))]
+fn way_to(place: &Place, p: u8, to: u16, known: bool) -> Option<Way>
+    requires { IsPlace (place_of place.now) }
+    ensures { result ≡ way_to (place_of place.now) p to known }
+{
+    let entry = entry_way(place, p, to, known);
+    or_way(entry, first_way(place.image, p, to, known))
+}
+
+/// What is known of the pointer behind an instruction.
+fn behind_point(image: &Image, p: u8, from: u16, branch: bool, point: &Point) -> Option<Pointer>
+    requires { slice_get image.now.points from ≡ Some point.now }
+    ensures { result ≡ behind_point image.now p from branch point.now }
+{
+    if has_edge(&point.instr, branch) {
+        pointer_at(&after(image, from, &point.row, branch), p)
+    } else {
+        None
+    }
+}
+
+/// What is known of the pointer behind the instruction at a pc, on an edge that it has.
+#[tactic(auto, unfolding(crate::specs::Ways::behind))]
+fn behind(image: &Image, p: u8, from: u16, branch: bool) -> Option<Pointer>
+    ensures { result ≡ behind image.now p from branch }
+{
+    match image.points().get(usize::from(from)) {
+        Some(point) => behind_point(image, p, from, branch, point),
+        None => None,
+    }
+}
+
+/// What a way brings of the pointer.
+fn brought(place: &Place, p: u8, way: Way) -> Option<Pointer>
+    ensures { result ≡ brought (place_of place.now) p way }
+{
+    match way {
+        Way::Entry => pointer_at(&place.routine.entry, p),
+        Way::Along(from) => behind(place.image, p, from, false),
+        Way::Branch(from) => behind(place.image, p, from, true),
+    }
+}
+
+/// Ways to a pc meet: one brings the pointer, and another does not.
+fn meets(place: &Place, p: u8, to: u16, lost: Way) -> Option<Meeting>
+    requires { IsPlace (place_of place.now) }
+    ensures { result ≡ meets (place_of place.now) p to lost }
+{
+    match way_to(place, p, to, true) {
+        Some(known) => Some(Meeting {
+            to,
+            known,
+            lost,
+            pointer: brought(place, p, known),
+        }),
+        None => None,
+    }
+}
+
+/// The meeting so far, or else this one.
+fn or_meeting(meeting: Option<Meeting>, other: Option<Meeting>) -> Option<Meeting>
+    ensures { result ≡ or_meeting meeting other }
+{
+    match meeting {
+        Some(meeting) => Some(meeting),
+        None => other,
+    }
+}
+
+/// What is known of the pointer on the way that brings it.
+pub(crate) fn hint_of(meeting: Option<Meeting>) -> Option<Pointer>
+    ensures { result ≡ hint_of meeting }
+{
+    match meeting {
+        Some(meeting) => meeting.pointer,
+        None => None,
+    }
+}
+
+/// The row; where it knows nothing of the pointer, with what is known of it on another way.
+pub(crate) fn with_hint(row: &Row, p: u8, hint: Option<Pointer>) -> Row
+    ensures { result ≡ with_hint row.now p hint }
+{
+    let mut hinted = *row;
+    if p < 4 && is_stale(pointer_at(row, p)) {
+        hinted.pointers[usize::from(p)] = hint;
+    }
+    hinted
+}
+
+/// Whether the pointer is known before, and not behind.
+fn goes_stale(p: u8, before: &Row, next: &Row) -> bool
+    ensures { result ≡ goes_stale p before.now next.now }
+{
+    !is_stale(pointer_at(before, p)) && is_stale(pointer_at(next, p))
+}
+
+/// Whether the instruction sets the pointer.
+pub(crate) fn sets(i: &Instr, pointer: PointerUse, p: u8) -> bool
+    ensures { result ≡ sets i.now pointer p }
+{
+    match pointer {
+        PointerUse::Sets => i.b == p,
+        _ => false,
+    }
+}
+
+/// Whether behind the instruction nothing counts of what was known before it.
+pub(crate) fn forgets(opcode: Opcode) -> bool
+    ensures { result ≡ forgets opcode }
+{
+    match opcode {
+        Opcode::Call => true,
+        _ => false,
+    }
+}
+
+/// Whether the instruction has the edge.
+fn has_edge(i: &Instr, branch: bool) -> bool
+    ensures { result ≡ has_edge i.now branch }
+{
+    if branch {
+        branches(i.opcode)
+    } else {
+        falls_through(i.opcode)
+    }
+}
+
+/// Whether the instruction makes the pointer stale on this edge.
+fn makes_stale(image: &Image, p: u8, from: u16, branch: bool, i: &Instr, row: &Row) -> bool
+    requires here { IfSome (slice_get image.now.points from) (λ point. i.now ≡ point.instr) }
+    requires there { from < length image.now.points }
+    ensures { result ≡ makes_stale image.now p from branch i.now row.now }
+{
+    has_edge(i, branch) && goes_stale(p, row, &after(image, from, row, branch))
+}
+
+/// Whether the instruction loses the pointer on this edge: it is a call, or was to set it and was refused, or makes it
+/// stale.
+fn loses(
+    image: &Image,
+    p: u8,
+    hint: Option<Pointer>,
+    from: u16,
+    branch: bool,
+    point: &Point,
+) -> bool
+    requires { slice_get image.now.points from ≡ Some point.now }
+    ensures { result ≡ loses image.now p hint from branch point.now }
+{
+    let i = &point.instr;
+    forgets(i.opcode)
+        || (branch && sets(i, i.opcode.uses().pointer, p))
+        || makes_stale(image, p, from, branch, i, &with_hint(&point.row, p, hint))
+}
+
+/// The same of the instruction at a pc.
+#[tactic(auto, unfolding(crate::specs::Ways::loses_at))]
+fn loses_at(image: &Image, p: u8, hint: Option<Pointer>, from: u16, branch: bool) -> bool
+    ensures { result ≡ loses_at image.now p hint from branch }
+{
+    match image.points().get(usize::from(from)) {
+        Some(point) => loses(image, p, hint, from, branch, point),
+        None => false,
+    }
+}
+
+/// Going back along an edge: the pointer was lost there, or the way goes on back.
+fn back_by(
+    image: &Image,
+    p: u8,
+    meeting: Option<Meeting>,
+    from: u16,
+    branch: bool,
+    way: Way,
+) -> Trace
+    ensures { result ≡ back_by image.now p meeting from branch way }
+{
+    let end = if loses_at(image, p, hint_of(meeting), from, branch) {
+        Some(End::Lost(way))
+    } else {
+        None
+    };
+    Trace {
+        at: from,
+        meeting,
+        end,
+    }
+}
+
+/// Going back along a way.
+fn back_along(place: &Place, p: u8, to: u16, meeting: Option<Meeting>, way: Way) -> Trace
+    ensures { result ≡ back_along (place_of place.now) p to meeting way }
+{
+    match way {
+        Way::Entry => Trace {
+            at: to,
+            meeting,
+            end: Some(End::Unset),
+        },
+        Way::Along(from) => back_by(place.image, p, meeting, from, false, way),
+        Way::Branch(from) => back_by(place.image, p, meeting, from, true, way),
+    }
+}
+
+/// No way to a pc lacks the pointer: each brings it, or there is none.
+fn without_way(known: Option<Way>) -> End
+    ensures { result ≡ without_way known }
+{
+    match known {
+        Some(_) => End::Merged,
+        None => End::Unreached,
+    }
+}
+
+/// One step back from a pc, along the first way that does not bring the pointer.
+#[tactic(auto, unfolding(crate::specs::Ways::back_from))]
+fn back_from(place: &Place, p: u8, to: u16, met: Option<Meeting>) -> Trace
+    requires { IsPlace (place_of place.now) }
+    ensures { result ≡ back_from (place_of place.now) p to met }
+{
+    match way_to(place, p, to, false) {
+        Some(way) => {
+            let met = or_meeting(met, meets(place, p, to, way));
+            back_along(place, p, to, met, way)
+        }
+        None => Trace {
+            at: to,
+            meeting: met,
+            end: Some(without_way(way_to(place, p, to, true))),
+        },
+    }
+}
+
+/// One more step back, unless the end was found.
+fn step_back(place: &Place, p: u8, trace: Trace) -> Trace
+    requires { IsPlace (place_of place.now) }
+    ensures { result ≡ step_back (place_of place.now) p trace }
+{
+    match trace.end {
+        None => back_from(place, p, trace.at, trace.meeting),
+        Some(_) => trace,
+    }
+}
+
+/// As many steps back from the place as there are instructions.
+#[tactic(auto, unfolding(crate::specs::Ways::traced))]
+pub(crate) fn traced(place: &Place, p: u8) -> Trace
+    requires { IsPlace (place_of place.now) }
+    ensures { result ≡ traced (place_of place.now) p (length place.now.image.now.points) }
+{
+    let mut trace = Trace {
+        at: place.pc,
+        meeting: None,
+        end: None,
+    };
+    for n in 0..place.image.len() {
+        trace = step_back(place, p, trace);
+    }
+    trace
+}

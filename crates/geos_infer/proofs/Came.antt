@@ -1,0 +1,37 @@
+-- What is known at places comes there.
+use Rattle.std.proofs.Common.{◌≡◌, ◌≢◌, ℕ, ◌<◌, List, ◌∷◌, length, Option, Some, None, set, refl, sym, ap, ◌∙◌, subst, inl, inr}
+use Rattle.std.proofs.lemmas.Bool.{cases_eq, cases_lt}
+use Rattle.std.proofs.lemmas.List.{get_or-set_same, get_or-set_other, set_past}
+use Rattle.geos_image.specs.declared.row.Row.{Row}
+use Rattle.geos_image.specs.Parts.{Parts}
+use Rattle.geos_infer.specs.Flow.{known_at}
+use Rattle.geos_infer.specs.Why.{Comes, ComesBy, AllCome}
+
+some-row : (x y : Row) → Some x ≡ Some y → x ≡ y
+some-row x y e = cc
+
+all_come-within : (image : Parts) (r : ℕ) (known : List (Option Row)) (to : ℕ) (row : Row) → to < length known → AllCome image r known → Comes image r to row
+    → AllCome image r (set known to (Some row))
+all_come-within image r known to row within all comes = λ pc other e. elim (cases_eq pc to) [
+  | inl same ↦
+      let at : known_at (set known to (Some row)) to ≡ Some other = ap (known_at (set known to (Some row))) (sym same) ∙ e in
+      let is : row ≡ other = some-row row other (sym (get_or-set_same known to (Some row) None within) ∙ at) in
+      subst (λ (n : ℕ). Comes image r n other) (sym same) (subst (Comes image r to) is comes)
+  | inr ne ↦ all pc other (sym (get_or-set_other known to pc (Some row) None ne) ∙ e)
+]
+
+-- also where a row that comes to a place is known there
+pub all_come-set : (image : Parts) (r : ℕ) (known : List (Option Row)) (to : ℕ) (row : Row) → AllCome image r known → Comes image r to row → AllCome image r (set known to (Some row))
+all_come-set image r known to row all comes = elim (cases_lt to (length known)) [
+  | inl within ↦ all_come-within image r known to row within all comes
+  | inr past ↦ subst (AllCome image r) (sym (set_past known to (Some row) past)) all
+]
+
+-- what comes to a place by an edge comes there
+pub comes-by : (image : Parts) (r to from : ℕ) (row : Row) → ComesBy image r to from row → Comes image r to row
+comes-by image r to from row by = record {
+  routine = by.comes.routine;
+  there = by.comes.there;
+  edges = (from, by.branch) ∷ by.comes.edges;
+  way = (by.before, by.comes.way, by.leads, by.row_is);
+}

@@ -1,0 +1,64 @@
+-- Causes for which no rows or no numbers of steps are found for a routine, and what each says.
+use Rattle.std.specs.Prelude.{◌≡◌, ◌≤◌, ℕ, Bool, true, false, ◌&&◌, ◌==◌, Option, Some, None, slice_get, slice_index_or}
+use Rattle.geos_opcodes.specs.declared.opcode.Opcode.{Opcode}
+use Rattle.geos_opcodes.specs.declared.opcode.Opcode.TheVariants.{Setk, Setkw, Loop, Call}
+use Rattle.geos_image.specs.declared.instr.Instr.{Instr}
+use Rattle.geos_image.specs.declared.point.Point.{Point}
+use Rattle.geos_image.specs.Parts.{Parts}
+use Rattle.geos_verify.specs.Rows.{at_point}
+use Rattle.geos_infer.specs.Why.{LeadsTo, AreApart}
+use Rattle.geos_infer.specs.declared.cause.BackWay.{BackWay}
+use Rattle.geos_infer.specs.declared.cause.Within.{Within}
+use Rattle.geos_infer.specs.declared.cause.Cause.{Cause}
+use Rattle.geos_infer.specs.declared.cause.Cause.TheVariants.{SlotsDiffer, NoLoop, SetWithin, NoSteps, Unknown}
+
+-- an instruction leads back by its target
+pub record LeadsBack (image : Parts) (back : BackWay) : Type 0 where
+  pub leads : LeadsTo image back.from true back.to
+  pub order : back.to ≤ back.from
+
+-- the instruction is a LOOP
+abbrev pub is_loop : Opcode → Bool
+is_loop Loop = true
+is_loop _ = false
+
+-- an instruction leads back, and from where it leads to up to itself no LOOP stands
+pub record NoLoopBack (image : Parts) (back : BackWay) : Type 0 where
+  pub leads : LeadsBack image back
+  pub none : (pc : ℕ) (point : Point) → back.to ≤ pc → pc ≤ back.from → slice_get image.points pc ≡ Some point → is_loop point.instr.opcode ≡ false
+
+-- the instruction is a LOOP on this counter
+abbrev pub loops_on : ℕ → Instr → Opcode → Bool
+loops_on k i Loop = i.a == k
+loops_on k i _ = false
+
+-- the instruction sets this counter
+abbrev pub sets_counter : ℕ → Instr → Opcode → Bool
+sets_counter k i Setk = i.a == k
+sets_counter k i Setkw = i.a == k
+sets_counter k i _ = false
+
+-- the instruction at a pc passes a test
+abbrev pub PassesAt : Parts → ℕ → (Instr → Bool) → Type 0
+PassesAt image pc test = (point : Point) × (slice_get image.points pc ≡ Some point) × (test point.instr ≡ true)
+
+-- a LOOP leads back, and between its target and itself an instruction sets its counter
+pub record SetsWithin (image : Parts) (within : Within) : Type 0 where
+  pub leads : LeadsBack image within.back
+  pub loops : PassesAt image within.back.from (λ i. loops_on within.counter i i.opcode)
+  pub sets : PassesAt image within.at (λ i. sets_counter within.counter i i.opcode)
+  pub above : within.back.to ≤ within.at
+  pub below : within.at ≤ within.back.from
+
+-- the cause holds of the image's routine r
+abbrev pub Holds : Parts → ℕ → Cause → Type 0
+Holds image r (SlotsDiffer apart) = AreApart image r apart
+Holds image r (NoLoop back) = NoLoopBack image back
+Holds image r (SetWithin within) = SetsWithin image within
+Holds image r (NoSteps back) = LeadsBack image back
+Holds image r Unknown = Unit {0}
+
+-- if there is a cause, it holds
+abbrev pub HoldsIf : Parts → ℕ → Option Cause → Type 0
+HoldsIf image r None = Unit {0}
+HoldsIf image r (Some cause) = Holds image r cause

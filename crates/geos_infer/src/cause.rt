@@ -1,0 +1,222 @@
+//! Why no rows or no numbers of steps are found for a routine.
+
+ghost use Rattle.std.specs.Prelude.{◌≡◌, ◌<◌, ◌≤◌, ℕ, true, false, Some, length, slice_get, IfSome, IfOk};
+ghost use Rattle.geos_infer.specs.Causes.{LeadsBack, NoLoopBack, PassesAt, is_loop, loops_on, sets_counter, SetsWithin, Holds};
+ghost use Rattle.geos_image.specs.declared.point.Point.{Point};
+
+use crate::apart::{Apart, find_apart};
+use crate::body::{Body, body_of};
+use crate::cycles::has_unpaid_cycle;
+use crate::edges::{edge_end, has_edge};
+use crate::table::Table;
+use geos_image::{Image, Instr, Opcode};
+use std::alloc::{AllocError, Global};
+
+/// An edge that leads back.
+#[derive(Clone, Copy)]
+pub struct BackWay {
+    /// The pc of the instruction that it comes from.
+    pub from: u16,
+    /// The pc that it leads to, the same or one before.
+    pub to: u16,
+}
+
+/// What is wrong at a place of a loop that a LOOP closes.
+#[derive(Clone, Copy)]
+pub struct Within {
+    /// LOOP's way back.
+    pub back: BackWay,
+    /// The counter that it takes from.
+    pub counter: u8,
+    /// The pc of the place.
+    pub at: u16,
+}
+
+/// Why no rows or no numbers of steps are found for a routine.
+#[derive(Clone, Copy)]
+pub enum Cause {
+    /// Ways of control meet, and slots differ in more than marks.
+    SlotsDiffer(Apart),
+    /// A way leads back, and no LOOP stands on it or before its end.
+    NoLoop(BackWay),
+    /// The counter of a loop is set within it.
+    SetWithin(Within),
+    /// None of these was found; a way leads back.
+    NoSteps(BackWay),
+    /// None of these was found, nor a way back.
+    Unknown,
+}
+
+/// The edge of the instruction to its target, if that leads back.
+fn back_at(body: &Body, from: u16) -> Option<BackWay>
+    requires { from < body.now.end }
+    ensures leads { IfSome result (LeadsBack body.now.image.now) }
+    ensures here { IfSome result (λ back. back.from ≡ from) }
+{
+    let i = body.image.instr(from);
+    if !has_edge(i, true) {
+        return None;
+    }
+    let to = edge_end(from, i, true);
+    if body.start <= to && to <= from {
+        Some(BackWay { from, to })
+    } else {
+        None
+    }
+}
+
+fn is_loop(opcode: Opcode) -> bool
+    ensures { result ≡ is_loop opcode }
+{
+    match opcode {
+        Opcode::Loop => true,
+        _ => false,
+    }
+}
+
+/// Whether no LOOP stands from a pc on up to another.
+fn no_loop(body: &Body, from: u16, to: u16) -> bool
+    requires { to < body.now.end }
+    ensures { result ≡ true → (pc : ℕ) (point : Point) → from ≤ pc → pc ≤ to → slice_get body.now.image.now.points pc ≡ Some point → is_loop point.instr.opcode ≡ false }
+{
+    for pc in from..to + 1 {
+        if is_loop(body.image.instr(pc).opcode) {
+            return false;
+        }
+    }
+    true
+}
+
+/// The first way that leads back without a LOOP.
+fn find_no_loop(body: &Body) -> Option<BackWay>
+    ensures { IfSome result (NoLoopBack body.now.image.now) }
+{
+    for from in body.start..body.end {
+        if let Some(back) = back_at(body, from) {
+            if no_loop(body, back.to, back.from) {
+                return Some(back);
+            }
+        }
+    }
+    None
+}
+
+/// The first way that leads back.
+fn find_back(body: &Body) -> Option<BackWay>
+    ensures { IfSome result (LeadsBack body.now.image.now) }
+{
+    for from in body.start..body.end {
+        if let Some(back) = back_at(body, from) {
+            return Some(back);
+        }
+    }
+    None
+}
+
+/// Whether the instruction sets the counter.
+fn sets_counter(counter: u8, i: &Instr) -> bool
+    ensures { result ≡ sets_counter counter i.now i.now.opcode }
+{
+    match i.opcode {
+        Opcode::Setk | Opcode::Setkw => i.a == counter,
+        _ => false,
+    }
+}
+
+/// The first place from a pc on up to another where the counter is set.
+fn find_setting(body: &Body, counter: u8, from: u16, to: u16) -> Option<u16>
+    requires { to < body.now.end }
+    ensures sets { IfSome result (λ at. PassesAt body.now.image.now at (λ i. sets_counter counter i i.opcode)) }
+    ensures above { IfSome result (λ at. from ≤ at) }
+    ensures below { IfSome result (λ at. at ≤ to) }
+{
+    for pc in from..to + 1 {
+        if sets_counter(counter, body.image.instr(pc)) {
+            return Some(pc);
+        }
+    }
+    None
+}
+
+/// Whether the instruction is a LOOP on the counter.
+fn loops_on(counter: u8, i: &Instr) -> bool
+    ensures { result ≡ loops_on counter i.now i.now.opcode }
+{
+    match i.opcode {
+        Opcode::Loop => i.a == counter,
+        _ => false,
+    }
+}
+
+/// The same of the instruction at a pc.
+fn loops_at(body: &Body, counter: u8, from: u16) -> bool
+    requires { from < body.now.end }
+    ensures { result ≡ true → PassesAt body.now.image.now from (λ i. loops_on counter i i.opcode) }
+{
+    loops_on(counter, body.image.instr(from))
+}
+
+/// Where the counter of the LOOP at a pc is set within its loop.
+fn set_within(body: &Body, from: u16) -> Option<Within>
+    requires { from < body.now.end }
+    ensures { IfSome result (SetsWithin body.now.image.now) }
+{
+    let counter = body.image.instr(from).a;
+    if !loops_at(body, counter, from) {
+        return None;
+    }
+    let Some(back) = back_at(body, from) else {
+        return None;
+    };
+    match find_setting(body, counter, back.to, back.from) {
+        Some(at) => Some(Within { back, counter, at }),
+        None => None,
+    }
+}
+
+/// The first counter that is set within its loop.
+fn find_set_within(body: &Body) -> Option<Within>
+    ensures { IfSome result (SetsWithin body.now.image.now) }
+{
+    for from in body.start..body.end {
+        if let Some(within) = set_within(body, from) {
+            return Some(within);
+        }
+    }
+    None
+}
+
+/// Why no numbers of steps are found.
+fn cause_of_steps(body: &Body, unpaid: bool) -> Cause
+    ensures { Holds body.now.image.now body.now.r result }
+{
+    if unpaid {
+        if let Some(back) = find_no_loop(body) {
+            return Cause::NoLoop(back);
+        }
+    }
+    if let Some(within) = find_set_within(body) {
+        return Cause::SetWithin(within);
+    }
+    match find_back(body) {
+        Some(back) => Cause::NoSteps(back),
+        None => Cause::Unknown,
+    }
+}
+
+/// Why `infer` finds no rows or no numbers of steps for routine r, which it names in `NoRows`: of what may be the
+/// cause, the first that is found. What the cause says holds of the image. `AllocError` where the allocator refuses
+/// memory.
+pub fn find_cause(alloc: Global, image: &Image, r: u16) -> Result<Cause, AllocError>
+    requires { r < length image.now.routines }
+    ensures { IfOk result (Holds image.now r) }
+{
+    let body = body_of(image, r);
+    if let Some(apart) = find_apart(alloc, &body)? {
+        return Ok(Cause::SlotsDiffer(apart));
+    }
+    let mut into = Table::new(alloc, 0)?;
+    let mut listed = Table::new(alloc, 0)?;
+    let unpaid = has_unpaid_cycle(&body, &mut into, &mut listed);
+    Ok(cause_of_steps(&body, unpaid))
+}

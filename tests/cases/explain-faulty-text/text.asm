@@ -1,0 +1,2 @@
+routine one public budget 1
+        RTE
