@@ -13,8 +13,9 @@ from collections import Counter
 import image_reading
 from damaged_images import Lines, image_of
 
-ROW = [(2 * i, 2) for i in range(8)] + [(16 + i, 1) for i in range(4)] + [(at, 1) for at in (20, 24, 28, 32, 36)] + [(at, 2) for at in (22, 26, 30, 34)]
-# Bounds, slots and pointers are changed about as often as each other, and so are the operands of instructions.
+# The fields of a row, an instruction and a potential: where each stands and its bytes.
+ROW = [(2 * i, 2) for i in range(8)] + [(16 + i, 1) for i in range(4)]
+ROW += [(at, 1) for at in (20, 24, 28, 32, 36)] + [(at, 2) for at in (22, 26, 30, 34)]
 INSTR = [(i, 1) for i in range(5)] + [(6, 2), (8, 2)]
 POTENTIAL = [(at, 4) for at in range(0, 20, 4)]
 SMALL = [*range(12), 255, 65535]

@@ -24,7 +24,8 @@ def words(*numbers):
 
 # Two entries that are not in use, and one free chunk.
 FRESH = words(1, 16, 0, 0, 64, 2, 20, 44, 0, 0, 44, 0).ljust(SIZE, b"\0")
-# Four entries: chunks of five and of three bytes with a hole between them and one behind, one of no byte, and one not in use. Padding is not 0.
+# Four entries: chunks of five and of three bytes with a hole between them and one behind, one of no byte, and one not in use. Padding is
+# not 0.
 HOLES = (
     words(1, 16, 0, 0, 64, 4, 32, 24, 26, 0, 46, 65535)
     + words(7)
