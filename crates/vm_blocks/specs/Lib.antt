@@ -4,5 +4,11 @@ pub mod Room
 pub mod Bring
 pub mod Blocks
 pub mod Listed
+pub mod Spelled
+pub mod Matches
+pub mod FileOf
+pub mod DoesRow
+pub mod ListedCalls
+pub mod Refused
 pub mod Commit
 pub mod Keeping

@@ -3,10 +3,14 @@ ghost use Rattle.std.specs.Prelude.{◌≡◌, ℕ, ◌↔◌, Some, None, Ok, E
 ghost use Rattle.geos_model.specs.Names.{vm};
 ghost use Rattle.block_handles.specs.Names.{IsHandle};
 ghost use Rattle.block_handles.specs.Store.{IsThere, bytes_of, locks_of, size_of};
+ghost use Rattle.geos_table.specs.Legal.{AreBytes};
+ghost use Rattle.geos_table.specs.VmCalls.{bring};
 ghost use Rattle.vm_file.specs.Device.{Rose};
 ghost use Rattle.vm_file.specs.Outcomes.{ReadsOnly};
 ghost use Rattle.vm_file.specs.State.{HasBlock, pair_of};
 ghost use Rattle.vm_blocks.specs.Bring.{Brought, Drops, Fills, Keeps, NotBrought};
+ghost use Rattle.vm_blocks.specs.DoesRow.{DoesRow};
+ghost use Rattle.vm_blocks.specs.Refused.{of_bring};
 ghost use Rattle.vm_blocks.specs.Room.{LacksRoom};
 ghost use Rattle.vm_blocks.specs.Tied.{IsTied};
 ghost use Rattle.vm_blocks.specs.View.{bytes_read, held_at, vm_slot, with_device};
@@ -30,6 +34,7 @@ fn read_into<D: Device + Drop>(
     requires listed { HasBlock file.old.current h (size_of blocks.old (vm_slot h)) }
     ensures ok { OnOk result (Fills blocks.old blocks.new h) }
     ensures bytes { D.honest file.old.device → OnOk result (bytes_of blocks.new (vm_slot h) ≡ bytes_read D.image file.old h) }
+    ensures values { OnOk result (AreBytes (bytes_of blocks.new (vm_slot h))) }
     ensures err { OnErr result (Drops blocks.old blocks.new h) }
     ensures same { file.new ≡ record file.old { device = file.new.device } }
     ensures pair { pair_of D.image file.new ≡ pair_of D.image file.old }
@@ -38,7 +43,10 @@ fn read_into<D: Device + Drop>(
     ensures counted { OnOk result (D.failed file.new.device ≡ D.failed file.old.device) }
 {
     match file.block(h, blocks.bytes_mut(Name::vm(h))) {
-        Ok(()) => Ok(()),
+        Ok(()) => {
+            let _ = blocks.region();
+            Ok(())
+        }
         Err(Disk) => {
             let _ = blocks.free(Name::vm(h));
             Err(Disk)
@@ -57,6 +65,7 @@ impl<D: Device + Drop> VmBlocks<D> {
         ensures same { self.new ≡ with_device self.old self.new.file.device }
         ensures known { result ≡ Err BringError.BadHandle → ⊥ }
         ensures locks { locks_of blocks.new (vm_slot h) ≡ 0 }
+        ensures values { AreBytes (bytes_of blocks.new (vm_slot h)) }
         ensures there { OnOk result (IsThere blocks.new (vm_slot h)) }
         ensures absent { OnErr result (IsThere blocks.new (vm_slot h) → ⊥) }
         ensures keeps { Keeps self.old blocks.old blocks.new h }
@@ -90,6 +99,8 @@ impl<D: Device + Drop> VmBlocks<D> {
         ensures err { OnErr result (NotBrought blocks.old blocks.new h) }
         ensures keeps { Keeps self.old blocks.old blocks.new h }
         ensures no_room { result ≡ Err BringError.NoRoom → IfSome (held_at self.old h) (λ held. LacksRoom self.old blocks.old blocks.new (vm h) held.len) }
+        // Its row of the table of calls, in each memory that the model may have before it.
+        ensures row { DoesRow D.image D.honest D.failed (bring h) (of_bring result) self.old blocks.old self.new blocks.new }
         // The device: nothing is written, and the pair that it keeps is the same.
         ensures pair { pair_of D.image self.new.file ≡ pair_of D.image self.old.file }
         ensures reads { ReadsOnly D.image D.honest D.may_leave D.may_have_left self.old.file.device self.new.file.device }

@@ -1,7 +1,9 @@
-use Rattle.std.proofs.Common.{◌≡◌, length, ap, ◌∙◌}
+use Rattle.std.proofs.Common.{◌≡◌, length, ap, sym, subst, ◌∙◌}
 use Rattle.block_handles.specs.Change.{with_bytes}
 use Rattle.block_handles.specs.Names.{slot_of}
-use Rattle.block_handles.specs.Store.{bytes_of, size_of}
+use Rattle.block_handles.specs.Store.{Store, bytes_of, place_of, size_of}
+use Rattle.geos_table.specs.Legal.{AreBytes}
+use Rattle.geos_table.proofs.LegalBytes.{bytes-part}
 use Rattle.block_handles.proofs.Laws.{bytes-same}
 use Rattle.vm_blocks.specs.View.{vm_slot}
 use Rattle.vm_blocks.proofs.Brings.{read-failed}
@@ -19,3 +21,10 @@ returns-in-Err-clause-err g c =
     let old = c.args.blocks.now in let ws = c.block.new.into in let e = c.free.ensures in
     let long : length ws ≡ size_of old (slot_of c.vm.result) = c.block.auto.into ∙ ap length c.bytes_mut.ensures.value in
     read-failed old c.free.new.self c.args.h c.vm.result c.vm-in-Err.result ws c.free.result c.vm.ensures c.vm-in-Err.ensures c.requires.there c.requires.free long e.ok e.bad_handle e.locked
+
+pub returns-in-Ok-clause-values : goal.returns-in-Ok-clause-values
+returns-in-Ok-clause-values g c =
+    let old = c.args.blocks.now in let slot = vm_slot c.args.h in
+    let new : Store = with_bytes old (slot_of c.vm.result) c.block.new.into in
+    let r = c.region.ensures in
+    subst AreBytes (sym (r.region.blocks slot)) (bytes-part c.region.result.now (place_of new slot) (size_of new slot) r.bytes)

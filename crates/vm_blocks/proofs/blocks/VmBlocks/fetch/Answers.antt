@@ -1,12 +1,13 @@
 use Rattle.std.proofs.Common.{◌≡◌, ap, sym, subst, ◌∙◌}
 use Rattle.geos_model.specs.Heap.{IsBlockSize}
-use Rattle.block_handles.specs.Store.{bytes_of, locks_in}
+use Rattle.block_handles.specs.Store.{IsBlock, block_at, bytes_of, locks_in}
 use Rattle.vm_file.specs.State.{FileState, pair_of}
 use Rattle.vm_blocks.specs.View.{VmState, bytes_read, vm_slot}
 use Rattle.vm_blocks.specs.Tied.{IsTied}
-use Rattle.vm_blocks.specs.Room.{MakesRoom}
+use Rattle.vm_blocks.specs.Room.{MakesRoom, own_handle}
 use Rattle.vm_blocks.proofs.Brings.{absent-is, filled-keeps, filled-locks, filled-there, made-room, read-tied, dropped-keeps, dropped-tied}
 use Rattle.vm_blocks.proofs.blocks.VmBlocks.fetch.Goals.{in-Ok-read_into, in-Err-read_into}
+use Rattle.vm_blocks.proofs.BringRows.{absent-bytes, thins-absent}
 use Rattle.vm_blocks.proofs.blocks.VmBlocks.fetch.Goals as goal
 
 pub make_room-requires-clause-size : goal.make_room-requires-clause-size
@@ -59,3 +60,17 @@ returns-clause-tied g c =
       | in-Err-read_into w ↦ dropped-tied d.image d.honest now old h e q.handle q.tied q.listed q.absent mid t made w.in-Err-read_into.ensures.err f same pair was
     ] in
     subst (λ (w : VmState g.row.D.Denot). IsTied d.image d.honest (record w { file = f }) t) (sym c.self.view_is) at_now
+
+pub returns-in-Err-clause-values : goal.returns-in-Err-clause-values
+returns-in-Err-clause-values g c =
+    let now = c.args.self.now in let old = c.args.blocks.now in let mid = c.make_room.new.blocks in let h = c.args.h in
+    let thins = c.in-Err.ensures.err.thins in
+    absent-bytes (block_at mid (vm_slot h)) (thins-absent now old mid (own_handle c.vm.result) (vm_slot h) thins c.requires.absent)
+
+pub returns-clause-values : goal.returns-clause-values
+returns-clause-values g c =
+    let h = c.args.h in
+    elim c.match-read_into.branch [
+      | in-Ok-read_into w ↦ w.in-Ok-read_into.ensures.values
+      | in-Err-read_into w ↦ (let gone = w.in-Err-read_into.ensures.err.gone in absent-bytes (block_at c.read_into.new.blocks (vm_slot h)) (λ there. subst IsBlock gone there))
+    ]

@@ -1,0 +1,134 @@
+-- The model's memory of a file that was opened, none of whose blocks is in memory.
+use Rattle.std.proofs.Common.{◌≡◌, ◌≢◌, ℕ, ◌<◌, List, length, map, take, Option, Some, None, true, refl, sym, ap, ◌∙◌, subst, inl, inr}
+use Rattle.std.specs.Prelude.{IfSome, IsSomeAnd, option_map}
+use Rattle.std.specs.List.{range_with_len}
+use Rattle.std.proofs.lemmas.List.{length-map}
+use Rattle.std.proofs.lemmas.List.FromFn.{length-map-range_with_len}
+use Rattle.geos_table.specs.Directories.{KeptBlock, group_uid, idle_block, with_each}
+use Rattle.geos_table.specs.Directories as model
+use Rattle.geos_table.specs.Handles.{at_handle}
+use Rattle.geos_table.specs.Legal.{IsLegalKept, IsStored}
+use Rattle.geos_table.specs.Memory.{Memory}
+use Rattle.geos_table.specs.VmFile.{VmFile, Sure}
+use Rattle.geos_table.proofs.HandleLists.{entry-each}
+use Rattle.geos_table.proofs.LegalDirectories.{loaded-legal}
+use Rattle.block_handles.specs.Names.{IsHandle}
+use Rattle.block_handles.specs.Store.{Store, block_at}
+use Rattle.vm_file.specs.declared.directory.Directory.{Directory}
+use Rattle.vm_file.specs.declared.directory.Entry.{Entry}
+use Rattle.vm_file.specs.Contents.{Block}
+use Rattle.vm_file.specs.Directories.{is_directory}
+use Rattle.vm_file.specs.State.{bytes_of_block, pair_of}
+use Rattle.vm_file.proofs.DirectoryLaws.{found_entry, legal_from}
+use Rattle.vm_blocks.specs.declared.entries.Held.{Held}
+use Rattle.vm_blocks.specs.View.{VmState, bytes_read, held_at, vm_slot}
+use Rattle.vm_blocks.specs.Tied.{AreMapped, NoneResident}
+use Rattle.vm_blocks.specs.Listed.{IsListOf, as_held, held_in}
+use Rattle.vm_blocks.specs.Spelled.{block_in}
+use Rattle.vm_blocks.specs.Matches.{IsListedAs, entry_at, stored_block, stored_directory}
+use Rattle.vm_blocks.specs.FileOf.{IsMemoryOf}
+use Rattle.vm_blocks.proofs.Committed.{idle-away}
+use Rattle.vm_blocks.proofs.HeapsRead.{read-legal}
+use Rattle.vm_blocks.proofs.Opened.{list-maps}
+use Rattle.vm_blocks.proofs.Stored.{directory-is}
+use Rattle.vm_blocks.proofs.Tables.{handle-or, table-made, table-past}
+
+-- the user IDs of a directory, and its map item, are words
+pub record AreWords (d : Directory) : Type 0 where
+  pub uids : (h : ℕ) (e : Entry) → entry_at d h ≡ Some e → e.uid < 65536
+  pub item : d.map_item.1 < 65536
+
+module _ {D : Type 0} (v : VmState D) (d : Directory) (blocks : List Block) (legal : is_directory d ≡ true) (words : AreWords d) where
+  abbrev stored_at : ℕ → Option KeptBlock
+  stored_at h = option_map (stored_block (bytes_of_block blocks h)) (entry_at d h)
+
+  -- what is listed where nothing is in memory
+  abbrev begun : VmState D
+  begun = record { file = v.file; entries = map (held_in d) (range_with_len 1 1024); map_block = d.map_block; map_item = d.map_item }
+
+  begun-lists : IsListOf begun d
+  begun-lists = record { each = λ h p. table-made None (held_in d) h p; map_block = refl; map_item = refl }
+
+  long : length (map stored_at (range_with_len 1 1024)) ≡ 1024
+  long = length-map-range_with_len stored_at 1 1024
+
+  long-held : length (map (held_in d) (range_with_len 1 1024)) ≡ 1024
+  long-held = length-map-range_with_len (held_in d) 1 1024
+
+  uid-some : (P : ℕ → Type 0) (read : List ℕ) (o : Option Entry) → IsSomeAnd (option_map as_held o) (λ (e : Held). P e.uid) → IsSomeAnd (option_map (λ (b : KeptBlock). b.uid) (option_map (stored_block read) o)) P
+  uid-some P read None some = some
+  uid-some P read (Some e) some = some
+
+  listed-uid : (P : ℕ → Type 0) (h : ℕ) → IsSomeAnd (held_at begun h) (λ (e : Held). P e.uid) → IsSomeAnd (option_map (λ (b : KeptBlock). b.uid) (at_handle None (map stored_at (range_with_len 1 1024)) h)) P
+  listed-uid P h some = elim (handle-or {X = ℕ} 0 h) [
+    | inl p ↦ subst (λ o. IsSomeAnd (option_map (λ (b : KeptBlock). b.uid) o) P) (sym (table-made None stored_at h p))
+        (uid-some P (bytes_of_block blocks h) (entry_at d h) (subst (λ o. IsSomeAnd o (λ (e : Held). P e.uid)) (table-made None (held_in d) h p) some))
+    | inr past ↦ absurd (subst (λ o. IsSomeAnd o (λ (e : Held). P e.uid)) (table-past None (map (held_in d) (range_with_len 1 1024)) h long-held past) some)
+  ]
+
+  kept-legal-at : (h : ℕ) (o : Option Entry) → entry_at d h ≡ o → IfSome (option_map (stored_block (bytes_of_block blocks h)) o) IsLegalKept
+  kept-legal-at h None is = tt
+  kept-legal-at h (Some e) is = record { uid = words.uids h e is; heap = read-legal e.len (bytes_of_block blocks h) (found_entry d.entries.items 0 h e (legal_from d legal).entries is).1.size }
+
+  pub stored-legal : IsStored (stored_directory d blocks)
+  stored-legal =
+      let maps : AreMapped begun = list-maps begun d legal begun-lists in
+      record {
+        handles = long;
+        blocks = λ h. elim (handle-or {X = ℕ} 0 h) [
+          | inl p ↦ subst (λ o. IfSome o IsLegalKept) (sym (table-made None stored_at h p)) (kept-legal-at h (entry_at d h) refl)
+          | inr past ↦ subst (λ o. IfSome o IsLegalKept) (sym (table-past None (map stored_at (range_with_len 1 1024)) h long past)) tt
+        ];
+        maps = record {
+          map_block = λ some. listed-uid (λ u. u ≢ group_uid) d.map_block (maps.block some);
+          map_group = λ some. listed-uid (λ u. u ≡ group_uid) d.map_item.0 (maps.group some);
+          no_item = maps.no_item;
+          word = words.item;
+        };
+      }
+
+-- the file, as the device holds it
+module _ {D : Type 0} (image : D → List ℕ) (honest : D → Type 0) (v : VmState D) (s : Store) (lists : IsListOf v v.file.current) (none : NoneResident s) (sure : v.file.sure ≡ true)
+    (cur_legal : is_directory v.file.current ≡ true) (saved_legal : is_directory v.file.saved ≡ true) (cur_words : AreWords v.file.current) (saved_words : AreWords v.file.saved) where
+  abbrev cur : model.Directory KeptBlock
+  cur = stored_directory v.file.current (pair_of image v.file).cur.blocks
+
+  abbrev saved : model.Directory KeptBlock
+  saved = stored_directory v.file.saved (pair_of image v.file).saved.blocks
+
+  abbrev pub opened_file : VmFile
+  opened_file = record { cur = with_each idle_block cur; saved = saved; kept = Sure (record { cur = cur; saved = saved }); area = v.file.area }
+
+  abbrev pub opened_memory : Memory
+  opened_memory = record { blocks = map block_in (take 1024 s.blocks); file = opened_file; region = s.len }
+
+  -- it is the model's memory
+  pub memory-opened : IsMemoryOf image honest v s opened_memory
+  memory-opened =
+      let fair = honest v.file.device in
+      let one = directory-is fair v.file.current (pair_of image v.file).cur.blocks in
+      let two = directory-is fair v.file.saved (pair_of image v.file).saved.blocks in
+      let cur_is = stored-legal v v.file.current (pair_of image v.file).cur.blocks cur_legal cur_words in
+      let saved_is = stored-legal v v.file.saved (pair_of image v.file).saved.blocks saved_legal saved_words in
+      let each : (h : ℕ) → IsHandle h → IsListedAs fair (bytes_read image v.file h) (held_at v h) (block_at s (vm_slot h)) (at_handle None (with_each idle_block cur).blocks h) =
+      (λ h p. subst (λ x. IsListedAs fair (bytes_read image v.file h) x (block_at s (vm_slot h)) (at_handle None (with_each idle_block cur).blocks h)) (sym (lists.each h p))
+      (subst (λ x. IsListedAs fair (bytes_read image v.file h) (held_in v.file.current h) x (at_handle None (with_each idle_block cur).blocks h)) (sym (none h p))
+      (subst (IsListedAs fair (bytes_read image v.file h) (held_in v.file.current h) None) (sym (entry-each idle_block cur.blocks h))
+      (idle-away fair (bytes_read image v.file h) (entry_at v.file.current h) (at_handle None cur.blocks h) (one.each h p))))) in
+      record {
+        blocks = refl;
+        file = record {
+          area = refl;
+          cur = record {
+            handles = length-map cur.blocks (option_map idle_block) ∙ one.handles;
+            each = each;
+            map_block = sym lists.map_block;
+            map_group = sym (ap (λ (i : ℕ × ℕ). i.0) lists.map_item);
+            map_item = sym (ap (λ (i : ℕ × ℕ). i.1) lists.map_item);
+          };
+          saved = two;
+          kept = (sure, record { cur = one; saved = two });
+          legal = record { cur = loaded-legal cur cur_is; saved = saved_is; kept = (cur_is, saved_is) };
+        };
+        region = refl;
+      }

@@ -1,0 +1,22 @@
+-- When a call does what its row says.
+use Rattle.std.specs.Prelude.{◌≡◌, ℕ, true, List, [], Result}
+use Rattle.geos_model.specs.declared.refusal.Refusal.{Refusal}
+use Rattle.geos_table.specs.Effects.{Call, Choice, effect_of, outcome}
+use Rattle.geos_table.specs.Memory.{Memory}
+use Rattle.block_handles.specs.Store.{Store}
+use Rattle.vm_file.specs.Device.{Rose}
+use Rattle.vm_blocks.specs.View.{VmState}
+use Rattle.vm_blocks.specs.FileOf.{IsMemoryOf}
+
+-- what came from outside at a call: an honest device gives nothing, and refuses only where it
+-- failed
+pub record IsChosen {D : Type 0} (honest : D → Type 0) (failed : D → ℕ) (old new : D) (choice : Choice) : Type 0 where
+  pub given : honest old → choice.given ≡ []
+  pub device : honest old → choice.device ≡ true → Rose (failed old) (failed new)
+
+-- a call answers, and leaves memory, as its row says, in each memory of the model's that its
+-- state may be
+abbrev pub DoesRow : {D : Type 0} → (D → List ℕ) → (D → Type 0) → (D → ℕ) → {A : Type 0} → Call A → Result A Refusal → VmState D → Store → VmState D → Store → Type 0
+DoesRow image honest failed call result v s w t =
+    (m : Memory) → IsMemoryOf image honest v s m
+    → (choice : Choice) × IsChosen honest failed v.file.device w.file.device choice × (n : Memory) × IsMemoryOf image honest w t n × (outcome (effect_of call choice m) ≡ (result, n))
