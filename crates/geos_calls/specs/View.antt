@@ -8,10 +8,16 @@ use Rattle.geos_table.specs.Memory as model
 use Rattle.geos_table.specs.Directories.{is_held_in}
 use Rattle.geos_table.specs.VmFile.{VmFile}
 use Rattle.geos_table.specs.Legal.{IsFile}
+use Rattle.vm_file.specs.State.{FileState}
 
 -- a kernel, as its calls see it: the blocks in its region
 pub record KernelState : Type 0 where
   pub blocks : store.Store
+
+-- a kernel on a device: what its calls on blocks of global memory see, and its VM file there
+pub record KernelOn (D : Type 0) : Type 0 where
+  pub core : KernelState
+  pub file : FileState D
 
 -- what the bytes of a block spell
 abbrev pub block_in : Option store.Block → Option model.Block

@@ -7,8 +7,9 @@ ghost use Rattle.std.specs.Prelude.{[], ◌∷◌, ◌+◌, ◌<◌, ◌≤◌, 
 
 use crate::kernel::Kernel;
 use crate::span::Span;
+use vm_file::Device;
 
-impl Kernel {
+impl<D: Device + Drop> Kernel<D> {
     ghost use Rattle.geos_model.specs.Bytes.{word_bytes};
     ghost use Rattle.geos_table.specs.Calls as table;
     ghost use Rattle.geos_table.specs.VmFile.{VmFile};
@@ -19,28 +20,28 @@ impl Kernel {
 
     /// The byte at the offset `i` of a span, which has one there.
     pub fn load8(&self, span: Span, i: u16) -> u8
-        requires stands { IsStanding self.now span }
+        requires stands { IsStanding self.now.core span }
         requires within { i < span.len }
-        ensures { (ref : Reference) → Stands self.now span ref → Calls (table.load8 ref i) (Ok result) self.now self.now }
+        ensures { (ref : Reference) → Stands self.now.core span ref → Calls (table.load8 ref i) (Ok result) self.now.core self.now.core }
     {
         self.blocks.read8(span.at + u32::from(i))
     }
 
     /// The word at the offset `i` of a span, little end first. The span has both bytes.
     pub fn load16(&self, span: Span, i: u16) -> u16
-        requires stands { IsStanding self.now span }
+        requires stands { IsStanding self.now.core span }
         requires within { i + 2 ≤ span.len }
-        ensures { (ref : Reference) → Stands self.now span ref → Calls (table.load16 ref i) (Ok result) self.now self.now }
+        ensures { (ref : Reference) → Stands self.now.core span ref → Calls (table.load16 ref i) (Ok result) self.now.core self.now.core }
     {
         self.blocks.read16(span.at + u32::from(i))
     }
 
     /// Writes a byte at the offset `i` of a span, which has one there. All spans stay.
     pub fn store8(&mut self, span: Span, i: u16, byte: u8)
-        requires stands { IsStanding self.old span }
+        requires stands { IsStanding self.old.core span }
         requires within { i < span.len }
-        ensures row { (ref : Reference) → Stands self.old span ref → Calls (table.store ref i (byte ∷ [])) (Ok tt) self.old self.new }
-        ensures spans { (f : VmFile) → IsFileOf self.old f → SpansStay self.old self.new f Nothing }
+        ensures row { (ref : Reference) → Stands self.old.core span ref → Calls (table.store ref i (byte ∷ [])) (Ok tt) self.old.core self.new.core }
+        ensures spans { (f : VmFile) → IsFileOf self.old.core f → SpansStay self.old.core self.new.core f Nothing }
     {
         self.blocks.write8(span.at + u32::from(i), byte);
     }
@@ -48,10 +49,10 @@ impl Kernel {
     /// Writes a word at the offset `i` of a span, little end first. The span has both bytes.
     /// All spans stay.
     pub fn store16(&mut self, span: Span, i: u16, word: u16)
-        requires stands { IsStanding self.old span }
+        requires stands { IsStanding self.old.core span }
         requires within { i + 2 ≤ span.len }
-        ensures row { (ref : Reference) → Stands self.old span ref → Calls (table.store ref i (word_bytes word)) (Ok tt) self.old self.new }
-        ensures spans { (f : VmFile) → IsFileOf self.old f → SpansStay self.old self.new f Nothing }
+        ensures row { (ref : Reference) → Stands self.old.core span ref → Calls (table.store ref i (word_bytes word)) (Ok tt) self.old.core self.new.core }
+        ensures spans { (f : VmFile) → IsFileOf self.old.core f → SpansStay self.old.core self.new.core f Nothing }
     {
         self.blocks.write16(span.at + u32::from(i), word);
     }
@@ -59,11 +60,11 @@ impl Kernel {
     /// Copies the first `n` bytes of `from`, as they were before, to the beginning of `to`,
     /// also where both overlap. Both spans have so many bytes. All spans stay.
     pub fn copy(&mut self, to: Span, from: Span, n: u16)
-        requires to { IsStanding self.old to × (n ≤ to.len) }
-        requires from { IsStanding self.old from × (n ≤ from.len) }
-        ensures row { (target source : Reference) → Stands self.old to target → Stands self.old from source →
-            Calls (table.copy target source n) (Ok tt) self.old self.new }
-        ensures spans { (f : VmFile) → IsFileOf self.old f → SpansStay self.old self.new f Nothing }
+        requires to { IsStanding self.old.core to × (n ≤ to.len) }
+        requires from { IsStanding self.old.core from × (n ≤ from.len) }
+        ensures row { (target source : Reference) → Stands self.old.core to target → Stands self.old.core from source →
+            Calls (table.copy target source n) (Ok tt) self.old.core self.new.core }
+        ensures spans { (f : VmFile) → IsFileOf self.old.core f → SpansStay self.old.core self.new.core f Nothing }
     {
         let blocks = &mut self.blocks;
         if n == 0 {

@@ -6,8 +6,9 @@ use crate::kernel::Kernel;
 use crate::span::Span;
 use geos_model::{Name, Refusal};
 use geos_table::{Ask, Change, Make, Refer};
+use vm_file::Device;
 
-impl Kernel {
+impl<D: Device + Drop> Kernel<D> {
     ghost use Rattle.geos_model.specs.declared.refusal.Refusal.TheVariants.{NoRoom};
     ghost use Rattle.geos_table.specs.ArrayCalls as table;
     ghost use Rattle.geos_model.specs.ArrayEdits.{create_array, append_element, insert_element, resize_element};
@@ -20,9 +21,9 @@ impl Kernel {
     /// each, or sizes of their own where that is 0. Refused as `lalloc` is. Spans into the
     /// block are stale after it, also where it is refused.
     pub fn canew(&mut self, name: Name, element_size: u16) -> Result<u16, Refusal>
-        requires { IsLocked self.old name }
-        ensures calls { Calls (table.canew name element_size) result self.old self.new }
-        ensures no_room { result ≡ Err NoRoom → HasNoRoomFor self.new name (create_array element_size (chunks_at self.old.blocks name)).chunks }
+        requires { IsLocked self.old.core name }
+        ensures calls { Calls (table.canew name element_size) result self.old.core self.new.core }
+        ensures no_room { result ≡ Err NoRoom → HasNoRoomFor self.new.core name (create_array element_size (chunks_at self.old.core.blocks name)).chunks }
     {
         self.make(name, Make::Canew { element_size })
     }
@@ -32,9 +33,9 @@ impl Kernel {
     /// else refused as `lalloc` is, by the room that the larger array needs, and makes stale
     /// what `canew` does.
     pub fn caadd(&mut self, name: Name, c: u16, n: u16) -> Result<(), Refusal>
-        requires { IsLocked self.old name }
-        ensures calls { Calls (table.caadd name c n) result self.old self.new }
-        ensures no_room { result ≡ Err NoRoom → HasNoRoomFor self.new name (append_element c n (chunks_at self.old.blocks name)).chunks }
+        requires { IsLocked self.old.core name }
+        ensures calls { Calls (table.caadd name c n) result self.old.core self.new.core }
+        ensures no_room { result ≡ Err NoRoom → HasNoRoomFor self.new.core name (append_element c n (chunks_at self.old.core.blocks name)).chunks }
     {
         self.change(name, Change::Caadd { c, n })
     }
@@ -43,9 +44,9 @@ impl Kernel {
     /// vary. `BadChunk` and `BadArray` as `caadd`, `BadElement` where the index is above the
     /// count; else refused, and makes stale, as `caadd`.
     pub fn cains(&mut self, name: Name, c: u16, i: u16, n: u16) -> Result<(), Refusal>
-        requires { IsLocked self.old name }
-        ensures calls { Calls (table.cains name c i n) result self.old self.new }
-        ensures no_room { result ≡ Err NoRoom → HasNoRoomFor self.new name (insert_element c i n (chunks_at self.old.blocks name)).chunks }
+        requires { IsLocked self.old.core name }
+        ensures calls { Calls (table.cains name c i n) result self.old.core self.new.core }
+        ensures no_room { result ≡ Err NoRoom → HasNoRoomFor self.new.core name (insert_element c i n (chunks_at self.old.core.blocks name)).chunks }
     {
         self.change(name, Change::Cains { c, i, n })
     }
@@ -53,8 +54,8 @@ impl Kernel {
     /// Takes an element out. `BadChunk` and `BadArray` as `caadd`, `BadElement` where no
     /// element has this index. Makes stale what `canew` does.
     pub fn cadel(&mut self, name: Name, c: u16, i: u16) -> Result<(), Refusal>
-        requires { IsLocked self.old name }
-        ensures { Calls (table.cadel name c i) result self.old self.new }
+        requires { IsLocked self.old.core name }
+        ensures { Calls (table.cadel name c i) result self.old.core self.new.core }
     {
         self.change(name, Change::Cadel { c, i })
     }
@@ -62,8 +63,8 @@ impl Kernel {
     /// The count of an array's elements. `BadChunk` where no chunk of the block has this
     /// handle, `BadArray` where its bytes are no array.
     pub fn cacount(&self, name: Name, c: u16) -> Result<u16, Refusal>
-        requires { IsLocked self.now name }
-        ensures { Calls (table.cacount name c) result self.now self.now }
+        requires { IsLocked self.now.core name }
+        ensures { Calls (table.cacount name c) result self.now.core self.now.core }
     {
         self.ask(name, Ask::Cacount { c })
     }
@@ -73,9 +74,9 @@ impl Kernel {
     /// it has no element of this index, `Short` where the element has fewer bytes. The span
     /// stands until a call makes the chunk's references stale.
     pub fn caelt(&self, name: Name, c: u16, i: u16, n: u16) -> Result<Span, Refusal>
-        requires { IsLocked self.now name }
-        ensures gives { GivesSpan (table.caelt name c i n) result self.now }
-        ensures stands { IfOk result (λ span. IsStanding self.now span × (n ≤ span.len)) }
+        requires { IsLocked self.now.core name }
+        ensures gives { GivesSpan (table.caelt name c i n) result self.now.core }
+        ensures stands { IfOk result (λ span. IsStanding self.now.core span × (n ≤ span.len)) }
     {
         self.refer(name, Refer::Caelt { c, i, n })
     }
@@ -83,8 +84,8 @@ impl Kernel {
     /// Takes all elements out; their size stays. `BadChunk` and `BadArray` as `caadd`. Makes
     /// stale what `canew` does.
     pub fn cazero(&mut self, name: Name, c: u16) -> Result<(), Refusal>
-        requires { IsLocked self.old name }
-        ensures { Calls (table.cazero name c) result self.old self.new }
+        requires { IsLocked self.old.core name }
+        ensures { Calls (table.cazero name c) result self.old.core self.new.core }
     {
         self.change(name, Change::Cazero { c })
     }
@@ -94,9 +95,9 @@ impl Kernel {
     /// array or its elements have one size, `BadElement` as `cadel`; else refused, and makes
     /// stale, as `caadd`.
     pub fn caresize(&mut self, name: Name, c: u16, i: u16, n: u16) -> Result<(), Refusal>
-        requires { IsLocked self.old name }
-        ensures calls { Calls (table.caresize name c i n) result self.old self.new }
-        ensures no_room { result ≡ Err NoRoom → HasNoRoomFor self.new name (resize_element c i n (chunks_at self.old.blocks name)).chunks }
+        requires { IsLocked self.old.core name }
+        ensures calls { Calls (table.caresize name c i n) result self.old.core self.new.core }
+        ensures no_room { result ≡ Err NoRoom → HasNoRoomFor self.new.core name (resize_element c i n (chunks_at self.old.core.blocks name)).chunks }
     {
         self.change(name, Change::Caresize { c, i, n })
     }

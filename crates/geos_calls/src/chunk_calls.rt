@@ -6,8 +6,9 @@ use crate::kernel::Kernel;
 use crate::span::Span;
 use geos_model::{Name, Refusal};
 use geos_table::{Ask, Change, Make, Refer};
+use vm_file::Device;
 
-impl Kernel {
+impl<D: Device + Drop> Kernel<D> {
     ghost use Rattle.geos_model.specs.declared.refusal.Refusal.TheVariants.{NoRoom};
     ghost use Rattle.geos_model.specs.Chunks.{with_new, with_resized, with_inserted};
     ghost use Rattle.geos_table.specs.Calls as table;
@@ -20,9 +21,9 @@ impl Kernel {
     /// bytes, `NoRoom` where it must grow and no stretch of the region has room for it. Spans
     /// into the block are stale after it, also where it is refused.
     pub fn lalloc(&mut self, name: Name, n: u16) -> Result<u16, Refusal>
-        requires { IsLocked self.old name }
-        ensures calls { Calls (table.lalloc name n) result self.old self.new }
-        ensures no_room { result ≡ Err NoRoom → HasNoRoomFor self.new name (with_new (chunks_at self.old.blocks name) n) }
+        requires { IsLocked self.old.core name }
+        ensures calls { Calls (table.lalloc name n) result self.old.core self.new.core }
+        ensures no_room { result ≡ Err NoRoom → HasNoRoomFor self.new.core name (with_new (chunks_at self.old.core.blocks name) n) }
     {
         self.make(name, Make::Lalloc { n })
     }
@@ -30,8 +31,8 @@ impl Kernel {
     /// Frees a chunk of a locked block. `BadChunk` where no chunk of the block has this
     /// handle. Spans into the block are stale after it, also where it is refused.
     pub fn lfree(&mut self, name: Name, c: u16) -> Result<(), Refusal>
-        requires { IsLocked self.old name }
-        ensures { Calls (table.lfree name c) result self.old self.new }
+        requires { IsLocked self.old.core name }
+        ensures { Calls (table.lfree name c) result self.old.core self.new.core }
     {
         self.change(name, Change::Lfree { c })
     }
@@ -40,9 +41,9 @@ impl Kernel {
     /// them. `BadChunk` where no chunk of the block has this handle; else refused as `lalloc`
     /// is, and makes stale what `lalloc` does.
     pub fn lrealloc(&mut self, name: Name, c: u16, n: u16) -> Result<(), Refusal>
-        requires { IsLocked self.old name }
-        ensures calls { Calls (table.lrealloc name c n) result self.old self.new }
-        ensures no_room { result ≡ Err NoRoom → HasNoRoomFor self.new name (with_resized (chunks_at self.old.blocks name) c n) }
+        requires { IsLocked self.old.core name }
+        ensures calls { Calls (table.lrealloc name c n) result self.old.core self.new.core }
+        ensures no_room { result ≡ Err NoRoom → HasNoRoomFor self.new.core name (with_resized (chunks_at self.old.core.blocks name) c n) }
     {
         self.change(name, Change::Lrealloc { c, n })
     }
@@ -51,9 +52,9 @@ impl Kernel {
     /// chunk of the block has this handle, `Range` where the offset is past its length; else
     /// refused as `lalloc` is, and makes stale what `lalloc` does.
     pub fn lins(&mut self, name: Name, c: u16, at: u16, n: u16) -> Result<(), Refusal>
-        requires { IsLocked self.old name }
-        ensures calls { Calls (table.lins name c at n) result self.old self.new }
-        ensures no_room { result ≡ Err NoRoom → HasNoRoomFor self.new name (with_inserted (chunks_at self.old.blocks name) c at n) }
+        requires { IsLocked self.old.core name }
+        ensures calls { Calls (table.lins name c at n) result self.old.core self.new.core }
+        ensures no_room { result ≡ Err NoRoom → HasNoRoomFor self.new.core name (with_inserted (chunks_at self.old.core.blocks name) c at n) }
     {
         self.change(name, Change::Lins { c, at, n })
     }
@@ -62,16 +63,16 @@ impl Kernel {
     /// of the block has this handle, `Range` where they reach past its length. Makes stale
     /// what `lalloc` does.
     pub fn ldel(&mut self, name: Name, c: u16, at: u16, n: u16) -> Result<(), Refusal>
-        requires { IsLocked self.old name }
-        ensures { Calls (table.ldel name c at n) result self.old self.new }
+        requires { IsLocked self.old.core name }
+        ensures { Calls (table.ldel name c at n) result self.old.core self.new.core }
     {
         self.change(name, Change::Ldel { c, at, n })
     }
 
     /// The length of a chunk in bytes. `BadChunk` where no chunk of the block has this handle.
     pub fn lsize(&self, name: Name, c: u16) -> Result<u16, Refusal>
-        requires { IsLocked self.now name }
-        ensures { Calls (table.lsize name c) result self.now self.now }
+        requires { IsLocked self.now.core name }
+        ensures { Calls (table.lsize name c) result self.now.core self.now.core }
     {
         self.ask(name, Ask::Lsize { c })
     }
@@ -80,9 +81,9 @@ impl Kernel {
     /// block has this handle, `Short` where it has fewer bytes. The span stands until a call
     /// makes the chunk's references stale.
     pub fn deref(&self, name: Name, c: u16, n: u16) -> Result<Span, Refusal>
-        requires { IsLocked self.now name }
-        ensures gives { GivesSpan (table.deref name c n) result self.now }
-        ensures stands { IfOk result (λ span. IsStanding self.now span × (n ≤ span.len)) }
+        requires { IsLocked self.now.core name }
+        ensures gives { GivesSpan (table.deref name c n) result self.now.core }
+        ensures stands { IfOk result (λ span. IsStanding self.now.core span × (n ≤ span.len)) }
     {
         self.refer(name, Refer::Deref { c, n })
     }

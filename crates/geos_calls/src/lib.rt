@@ -10,6 +10,7 @@ mod array_calls;
 mod changes;
 mod chunk_calls;
 mod growth;
+mod in_memory;
 mod kernel;
 mod law;
 mod looks;
@@ -19,6 +20,7 @@ mod span;
 
 pub use geos_model::{Name, Owner, Refusal};
 pub use geos_table::{Ask, Change, Make, Refer};
+pub use in_memory::kernel_in_memory;
 pub use kernel::Kernel;
 pub use law::calls_answer_in_turn;
 pub use span::Span;

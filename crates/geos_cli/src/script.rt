@@ -22,6 +22,7 @@ use geos_text::{first_line, first_word, number, without_comment};
 use geos_verify::{Checked, check};
 use std::alloc::Global;
 use std::io::Write;
+use vm_file::Device;
 
 /// The most bytes of a script or a session.
 pub const MOST_BYTES: usize = 1_048_576;
@@ -66,7 +67,12 @@ fn registers_of(numbers: &[u8]) -> Option<[u16; 8]>
 }
 
 /// The call of the routine of that name on those numbers, if the machine may be asked for it.
-fn call_named(checked: &Checked, name: &[u8], numbers: &[u8], kernel: &Kernel) -> Option<Call>
+fn call_named<D: Device + Drop>(
+    checked: &Checked,
+    name: &[u8],
+    numbers: &[u8],
+    kernel: &Kernel<D>,
+) -> Option<Call>
     ensures { result ≡ call_named checked.now name.now (words numbers.now) }
 {
     let routine = routine_named(checked.image(), name)?;
@@ -79,7 +85,7 @@ fn call_named(checked: &Checked, name: &[u8], numbers: &[u8], kernel: &Kernel) -
 }
 
 /// The call of a line without its comment, if the machine may be asked for it.
-fn call_of(checked: &Checked, line: &[u8], kernel: &Kernel) -> Option<Call>
+fn call_of<D: Device + Drop>(checked: &Checked, line: &[u8], kernel: &Kernel<D>) -> Option<Call>
     ensures { result ≡ call_of checked.now (words line.now) }
 {
     let (command, rest) = first_word(line)?;
@@ -92,11 +98,11 @@ fn call_of(checked: &Checked, line: &[u8], kernel: &Kernel) -> Option<Call>
 }
 
 /// The calls of a script, or the number of its first bad line.
-fn calls_of(
+fn calls_of<D: Device + Drop>(
     alloc: Global,
     checked: &Checked,
     script: &[u8],
-    kernel: &Kernel,
+    kernel: &Kernel<D>,
 ) -> Result<Vec<Call>, ScriptFault>
     ensures calls { IfOk result (λ calls. (first_bad checked.now (lines script.now) ≡ None) × (calls.items ≡ calls_of checked.now (lines script.now))) }
     ensures bad { IfErr result (IsBadLine checked.now (lines script.now)) }
@@ -148,16 +154,16 @@ fn print<W: Write>(words: &[u16], out: &mut Counted<W>) -> Result<(), ScriptFaul
 
 /// Runs the calls one after another, and prints what each puts out. Each finds the kernel as
 /// the one before left it.
-fn run_calls<W: Write>(
+fn run_calls<W: Write, D: Device + Drop>(
     checked: &Checked,
     calls: &[Call],
-    kernel: &mut Kernel,
+    kernel: &mut Kernel<D>,
     out: &mut Counted<W>,
 ) -> Result<(), ScriptFault>
     requires { All (IsAdmitted checked.now) calls.now }
-    ensures ok { IfOk result (λ _. RanCalls checked.now calls.now kernel.old kernel.new
+    ensures ok { IfOk result (λ _. RanCalls checked.now calls.now kernel.old.core kernel.new.core
         (W.contents out.old.stream) (W.contents out.new.stream)) }
-    ensures stopped { IfErr result (λ _. StoppedCalls checked.now calls.now kernel.old kernel.new
+    ensures stopped { IfErr result (λ _. StoppedCalls checked.now calls.now kernel.old.core kernel.new.core
         (W.contents out.old.stream) (W.contents out.new.stream)) }
     ensures kept { IfOk result (λ _. out.new.failures ≡ out.old.failures) }
     ensures failed { IfErr result (λ fault. (fault ≡ Write) × Rose out.old.failures out.new.failures) }
@@ -193,18 +199,18 @@ fn load(alloc: Global, image: &[u8]) -> Result<Checked, ScriptFault>
 /// comes where the writer failed: it got all that the calls before print and a beginning of
 /// what the call prints that was run last, and no other call was begun; the kernel stands
 /// where that call ended. Where `Write` is not answered, no call of the writer failed.
-pub fn run_script<W: Write>(
+pub fn run_script<W: Write, D: Device + Drop>(
     alloc: Global,
     image: &[u8],
     script: &[u8],
-    kernel: &mut Kernel,
+    kernel: &mut Kernel<D>,
     out: &mut Counted<W>,
 ) -> Result<(), ScriptFault>
-    ensures ran { IfOk result (λ _. RanScript image.now script.now kernel.old kernel.new
+    ensures ran { IfOk result (λ _. RanScript image.now script.now kernel.old.core kernel.new.core
         (W.contents out.old.stream) (W.contents out.new.stream)) }
     ensures due { IfErr result (ScriptEndsBy image.now script.now) }
     ensures stopped { IfErr result (λ fault. fault ≡ Write →
-        StoppedScript image.now script.now kernel.old kernel.new
+        StoppedScript image.now script.now kernel.old.core kernel.new.core
         (W.contents out.old.stream) (W.contents out.new.stream)) }
 
     // Nothing runs before a fault other than `Write`.

@@ -12,7 +12,7 @@ use crate::counted::Counted;
 use crate::fault::ScriptFault;
 use crate::hex::image_and_script;
 use crate::script::{MOST_BYTES, run_script};
-use geos_calls::Kernel;
+use geos_calls::kernel_in_memory;
 use std::alloc::Global;
 use std::io::{Read, Write};
 
@@ -76,7 +76,7 @@ fn run_bytes<W: Write>(alloc: Global, bytes: &[u8], out: &mut Counted<W>) -> Res
     ensures writer_kept { KeptUnless Write result out.old.failures out.new.failures }
 {
     let (image, script) = image_and_script(alloc, bytes)?;
-    let mut kernel = Kernel::new(alloc, REGION)?;
+    let mut kernel = kernel_in_memory(alloc, REGION)?;
     match run_script(alloc, &image, script, &mut kernel, out) {
         Ok(()) => flush(out),
         Err(fault) => Err(fault),
@@ -85,7 +85,7 @@ fn run_bytes<W: Write>(alloc: Global, bytes: &[u8], out: &mut Counted<W>) -> Res
 
 /// Reads a session to its end, runs it, and flushes the writer: an image in hexadecimal
 /// digits, a line `end`, and a script as of `run_script`. It begins with no memory block, in a
-/// region of 65,536 bytes.
+/// region of 65,536 bytes, and on a new VM file in memory.
 ///
 /// Of the faults, the first that is due is answered: `TooLong` where there are more than
 /// 1,048,576 bytes; `BadHex`; then those of `run_script`. `Read` comes where the reader

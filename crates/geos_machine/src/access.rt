@@ -9,6 +9,7 @@ use crate::step::{Goes, refuse};
 use geos_calls::{Kernel, Span};
 use geos_image::{Instr, Opcode};
 use geos_model::Refusal;
+use vm_file::Device;
 
 /// The low byte of a word.
 fn low_byte(word: u16) -> u8
@@ -18,10 +19,15 @@ fn low_byte(word: u16) -> u8
 }
 
 /// Reads a byte.
-pub(crate) fn ldb(m: &mut Machine, kernel: &Kernel, i: &Instr, a: usize) -> Goes
+pub(crate) fn ldb<D: Device + Drop>(
+    m: &mut Machine,
+    kernel: &Kernel<D>,
+    i: &Instr,
+    a: usize,
+) -> Goes
     requires instr { IsInstr Opcode.Ldb i.now a }
-    requires ready { Ready i.now kernel.now m.old }
-    ensures { Works i.now kernel.now m.old kernel.now m.new result }
+    requires ready { Ready i.now kernel.now.core m.old }
+    ensures { Works i.now kernel.now.core m.old kernel.now.core m.new result }
 {
     let (span, at) = (m.pointers[i.b as usize], i.imm);
     m.words[a] = u16::from(kernel.load8(span, at));
@@ -29,10 +35,15 @@ pub(crate) fn ldb(m: &mut Machine, kernel: &Kernel, i: &Instr, a: usize) -> Goes
 }
 
 /// Reads a word.
-pub(crate) fn ldw(m: &mut Machine, kernel: &Kernel, i: &Instr, operands: usize) -> Goes
+pub(crate) fn ldw<D: Device + Drop>(
+    m: &mut Machine,
+    kernel: &Kernel<D>,
+    i: &Instr,
+    operands: usize,
+) -> Goes
     requires instr { HasOperands Opcode.Ldw i.now operands }
-    requires ready { Ready i.now kernel.now m.old }
-    ensures { Works i.now kernel.now m.old kernel.now m.new result }
+    requires ready { Ready i.now kernel.now.core m.old }
+    ensures { Works i.now kernel.now.core m.old kernel.now.core m.new result }
 {
     let (a, b) = (index_a(i, operands), index_b(i, operands));
     let (span, at) = (m.pointers[b], i.imm);
@@ -41,10 +52,15 @@ pub(crate) fn ldw(m: &mut Machine, kernel: &Kernel, i: &Instr, operands: usize) 
 }
 
 /// Writes a byte.
-pub(crate) fn stb(m: &Machine, kernel: &mut Kernel, i: &Instr, a: usize) -> Goes
+pub(crate) fn stb<D: Device + Drop>(
+    m: &Machine,
+    kernel: &mut Kernel<D>,
+    i: &Instr,
+    a: usize,
+) -> Goes
     requires instr { IsInstr Opcode.Stb i.now a }
-    requires ready { Ready i.now kernel.old m.now }
-    ensures { Works i.now kernel.old m.now kernel.new m.now result }
+    requires ready { Ready i.now kernel.old.core m.now }
+    ensures { Works i.now kernel.old.core m.now kernel.new.core m.now result }
 {
     let (span, at) = (m.pointers[i.b as usize], i.imm);
     kernel.store8(span, at, low_byte(m.words[a]));
@@ -52,10 +68,15 @@ pub(crate) fn stb(m: &Machine, kernel: &mut Kernel, i: &Instr, a: usize) -> Goes
 }
 
 /// Writes a word.
-pub(crate) fn stw(m: &Machine, kernel: &mut Kernel, i: &Instr, operands: usize) -> Goes
+pub(crate) fn stw<D: Device + Drop>(
+    m: &Machine,
+    kernel: &mut Kernel<D>,
+    i: &Instr,
+    operands: usize,
+) -> Goes
     requires instr { HasOperands Opcode.Stw i.now operands }
-    requires ready { Ready i.now kernel.old m.now }
-    ensures { Works i.now kernel.old m.now kernel.new m.now result }
+    requires ready { Ready i.now kernel.old.core m.now }
+    ensures { Works i.now kernel.old.core m.now kernel.new.core m.now result }
 {
     let (a, b) = (index_a(i, operands), index_b(i, operands));
     let (span, at) = (m.pointers[b], i.imm);
@@ -64,10 +85,15 @@ pub(crate) fn stw(m: &Machine, kernel: &mut Kernel, i: &Instr, operands: usize) 
 }
 
 /// Reads a byte at an index.
-pub(crate) fn ldxb(m: &mut Machine, kernel: &Kernel, i: &Instr, a: usize) -> Goes
+pub(crate) fn ldxb<D: Device + Drop>(
+    m: &mut Machine,
+    kernel: &Kernel<D>,
+    i: &Instr,
+    a: usize,
+) -> Goes
     requires instr { IsInstr Opcode.Ldxb i.now a }
-    requires ready { Ready i.now kernel.now m.old }
-    ensures { Works i.now kernel.now m.old kernel.now m.new result }
+    requires ready { Ready i.now kernel.now.core m.old }
+    ensures { Works i.now kernel.now.core m.old kernel.now.core m.new result }
 {
     let (span, at) = (m.pointers[i.b as usize], m.words[i.c as usize]);
     m.words[a] = u16::from(kernel.load8(span, at));
@@ -75,10 +101,15 @@ pub(crate) fn ldxb(m: &mut Machine, kernel: &Kernel, i: &Instr, a: usize) -> Goe
 }
 
 /// Reads a word at an index.
-pub(crate) fn ldxw(m: &mut Machine, kernel: &Kernel, i: &Instr, operands: usize) -> Goes
+pub(crate) fn ldxw<D: Device + Drop>(
+    m: &mut Machine,
+    kernel: &Kernel<D>,
+    i: &Instr,
+    operands: usize,
+) -> Goes
     requires instr { HasOperands Opcode.Ldxw i.now operands }
-    requires ready { Ready i.now kernel.now m.old }
-    ensures { Works i.now kernel.now m.old kernel.now m.new result }
+    requires ready { Ready i.now kernel.now.core m.old }
+    ensures { Works i.now kernel.now.core m.old kernel.now.core m.new result }
 {
     let (a, b, c) = (
         index_a(i, operands),
@@ -91,10 +122,15 @@ pub(crate) fn ldxw(m: &mut Machine, kernel: &Kernel, i: &Instr, operands: usize)
 }
 
 /// Writes a byte at an index.
-pub(crate) fn stxb(m: &Machine, kernel: &mut Kernel, i: &Instr, a: usize) -> Goes
+pub(crate) fn stxb<D: Device + Drop>(
+    m: &Machine,
+    kernel: &mut Kernel<D>,
+    i: &Instr,
+    a: usize,
+) -> Goes
     requires instr { IsInstr Opcode.Stxb i.now a }
-    requires ready { Ready i.now kernel.old m.now }
-    ensures { Works i.now kernel.old m.now kernel.new m.now result }
+    requires ready { Ready i.now kernel.old.core m.now }
+    ensures { Works i.now kernel.old.core m.now kernel.new.core m.now result }
 {
     let (span, at) = (m.pointers[i.b as usize], m.words[i.c as usize]);
     kernel.store8(span, at, low_byte(m.words[a]));
@@ -102,10 +138,15 @@ pub(crate) fn stxb(m: &Machine, kernel: &mut Kernel, i: &Instr, a: usize) -> Goe
 }
 
 /// Writes a word at an index.
-pub(crate) fn stxw(m: &Machine, kernel: &mut Kernel, i: &Instr, operands: usize) -> Goes
+pub(crate) fn stxw<D: Device + Drop>(
+    m: &Machine,
+    kernel: &mut Kernel<D>,
+    i: &Instr,
+    operands: usize,
+) -> Goes
     requires instr { HasOperands Opcode.Stxw i.now operands }
-    requires ready { Ready i.now kernel.old m.now }
-    ensures { Works i.now kernel.old m.now kernel.new m.now result }
+    requires ready { Ready i.now kernel.old.core m.now }
+    ensures { Works i.now kernel.old.core m.now kernel.new.core m.now result }
 {
     let (a, b, c) = (
         index_a(i, operands),
@@ -126,10 +167,15 @@ fn reaches(span: Span, at: u16, n: u32) -> bool
 }
 
 /// Reads a byte at an index that is tested.
-pub(crate) fn ldcb(m: &mut Machine, kernel: &Kernel, i: &Instr, a: usize) -> Goes
+pub(crate) fn ldcb<D: Device + Drop>(
+    m: &mut Machine,
+    kernel: &Kernel<D>,
+    i: &Instr,
+    a: usize,
+) -> Goes
     requires instr { IsInstr Opcode.Ldcb i.now a }
-    requires ready { Ready i.now kernel.now m.old }
-    ensures { Works i.now kernel.now m.old kernel.now m.new result }
+    requires ready { Ready i.now kernel.now.core m.old }
+    ensures { Works i.now kernel.now.core m.old kernel.now.core m.new result }
 {
     let (span, at) = (m.pointers[i.b as usize], m.words[i.c as usize]);
     if !reaches(span, at, 1) {
@@ -140,10 +186,15 @@ pub(crate) fn ldcb(m: &mut Machine, kernel: &Kernel, i: &Instr, a: usize) -> Goe
 }
 
 /// Reads a word at an index that is tested.
-pub(crate) fn ldcw(m: &mut Machine, kernel: &Kernel, i: &Instr, a: usize) -> Goes
+pub(crate) fn ldcw<D: Device + Drop>(
+    m: &mut Machine,
+    kernel: &Kernel<D>,
+    i: &Instr,
+    a: usize,
+) -> Goes
     requires instr { IsInstr Opcode.Ldcw i.now a }
-    requires ready { Ready i.now kernel.now m.old }
-    ensures { Works i.now kernel.now m.old kernel.now m.new result }
+    requires ready { Ready i.now kernel.now.core m.old }
+    ensures { Works i.now kernel.now.core m.old kernel.now.core m.new result }
 {
     let (span, at) = (m.pointers[i.b as usize], m.words[i.c as usize]);
     if !reaches(span, at, 2) {
@@ -154,10 +205,15 @@ pub(crate) fn ldcw(m: &mut Machine, kernel: &Kernel, i: &Instr, a: usize) -> Goe
 }
 
 /// Writes a byte at an index that is tested.
-pub(crate) fn stcb(m: &mut Machine, kernel: &mut Kernel, i: &Instr, a: usize) -> Goes
+pub(crate) fn stcb<D: Device + Drop>(
+    m: &mut Machine,
+    kernel: &mut Kernel<D>,
+    i: &Instr,
+    a: usize,
+) -> Goes
     requires instr { IsInstr Opcode.Stcb i.now a }
-    requires ready { Ready i.now kernel.old m.old }
-    ensures { Works i.now kernel.old m.old kernel.new m.new result }
+    requires ready { Ready i.now kernel.old.core m.old }
+    ensures { Works i.now kernel.old.core m.old kernel.new.core m.new result }
 {
     let (span, at) = (m.pointers[i.b as usize], m.words[i.c as usize]);
     if !reaches(span, at, 1) {
@@ -168,10 +224,15 @@ pub(crate) fn stcb(m: &mut Machine, kernel: &mut Kernel, i: &Instr, a: usize) ->
 }
 
 /// Writes a word at an index that is tested.
-pub(crate) fn stcw(m: &mut Machine, kernel: &mut Kernel, i: &Instr, a: usize) -> Goes
+pub(crate) fn stcw<D: Device + Drop>(
+    m: &mut Machine,
+    kernel: &mut Kernel<D>,
+    i: &Instr,
+    a: usize,
+) -> Goes
     requires instr { IsInstr Opcode.Stcw i.now a }
-    requires ready { Ready i.now kernel.old m.old }
-    ensures { Works i.now kernel.old m.old kernel.new m.new result }
+    requires ready { Ready i.now kernel.old.core m.old }
+    ensures { Works i.now kernel.old.core m.old kernel.new.core m.new result }
 {
     let (span, at) = (m.pointers[i.b as usize], m.words[i.c as usize]);
     if !reaches(span, at, 2) {
@@ -182,10 +243,15 @@ pub(crate) fn stcw(m: &mut Machine, kernel: &mut Kernel, i: &Instr, a: usize) ->
 }
 
 /// Sets a pointer to what another one is.
-pub(crate) fn movp(m: &mut Machine, kernel: &Kernel, i: &Instr, a: usize) -> Goes
+pub(crate) fn movp<D: Device + Drop>(
+    m: &mut Machine,
+    kernel: &Kernel<D>,
+    i: &Instr,
+    a: usize,
+) -> Goes
     requires instr { IsInstr Opcode.Movp i.now a }
-    requires ready { Ready i.now kernel.now m.old }
-    ensures { Works i.now kernel.now m.old kernel.now m.new result }
+    requires ready { Ready i.now kernel.now.core m.old }
+    ensures { Works i.now kernel.now.core m.old kernel.now.core m.new result }
 {
     m.pointers[a] = m.pointers[i.b as usize];
     Goes::Along
@@ -193,20 +259,30 @@ pub(crate) fn movp(m: &mut Machine, kernel: &Kernel, i: &Instr, a: usize) -> Goe
 
 /// Copies bytes from one pointer to another.
 #[inline(never)]
-pub(crate) fn copy(m: &Machine, kernel: &mut Kernel, i: &Instr, a: usize) -> Goes
+pub(crate) fn copy<D: Device + Drop>(
+    m: &Machine,
+    kernel: &mut Kernel<D>,
+    i: &Instr,
+    a: usize,
+) -> Goes
     requires instr { IsInstr Opcode.Copy i.now a }
-    requires ready { Ready i.now kernel.old m.now }
-    ensures { Works i.now kernel.old m.now kernel.new m.now result }
+    requires ready { Ready i.now kernel.old.core m.now }
+    ensures { Works i.now kernel.old.core m.now kernel.new.core m.now result }
 {
     kernel.copy(m.pointers[a], m.pointers[i.b as usize], i.imm);
     Goes::Along
 }
 
 /// Tells the length of what a pointer leads to.
-pub(crate) fn plen(m: &mut Machine, kernel: &Kernel, i: &Instr, a: usize) -> Goes
+pub(crate) fn plen<D: Device + Drop>(
+    m: &mut Machine,
+    kernel: &Kernel<D>,
+    i: &Instr,
+    a: usize,
+) -> Goes
     requires instr { IsInstr Opcode.Plen i.now a }
-    requires ready { Ready i.now kernel.now m.old }
-    ensures { Works i.now kernel.now m.old kernel.now m.new result }
+    requires ready { Ready i.now kernel.now.core m.old }
+    ensures { Works i.now kernel.now.core m.old kernel.now.core m.new result }
 {
     m.words[a] = m.pointers[i.b as usize].len;
     Goes::Along

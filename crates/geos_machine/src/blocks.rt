@@ -10,13 +10,19 @@ use crate::step::{Goes, refuse, to_if};
 use geos_calls::Kernel;
 use geos_image::{Instr, Opcode};
 use geos_model::Name;
+use vm_file::Device;
 
 /// Makes a block, and locks it into a slot.
 #[inline(never)]
-pub(crate) fn mnew(m: &mut Machine, kernel: &mut Kernel, i: &Instr, a: usize) -> Goes
+pub(crate) fn mnew<D: Device + Drop>(
+    m: &mut Machine,
+    kernel: &mut Kernel<D>,
+    i: &Instr,
+    a: usize,
+) -> Goes
     requires instr { IsInstr Opcode.Mnew i.now a }
-    requires ready { Ready i.now kernel.old m.old }
-    ensures { Works i.now kernel.old m.old kernel.new m.new result }
+    requires ready { Ready i.now kernel.old.core m.old }
+    ensures { Works i.now kernel.old.core m.old kernel.new.core m.new result }
 {
     match kernel.mnew() {
         Ok(h) => {
@@ -30,10 +36,15 @@ pub(crate) fn mnew(m: &mut Machine, kernel: &mut Kernel, i: &Instr, a: usize) ->
 
 /// Locks a block into a slot.
 #[inline]
-pub(crate) fn mlock(m: &mut Machine, kernel: &mut Kernel, i: &Instr, operands: usize) -> Goes
+pub(crate) fn mlock<D: Device + Drop>(
+    m: &mut Machine,
+    kernel: &mut Kernel<D>,
+    i: &Instr,
+    operands: usize,
+) -> Goes
     requires instr { HasOperands Opcode.Mlock i.now operands }
-    requires ready { Ready i.now kernel.old m.old }
-    ensures { Works i.now kernel.old m.old kernel.new m.new result }
+    requires ready { Ready i.now kernel.old.core m.old }
+    ensures { Works i.now kernel.old.core m.old kernel.new.core m.new result }
 {
     let (a, b) = (index_a(i, operands), index_b(i, operands));
     let h = m.words[b];
@@ -48,10 +59,15 @@ pub(crate) fn mlock(m: &mut Machine, kernel: &mut Kernel, i: &Instr, operands: u
 
 /// Unlocks the block of a slot, which is empty then.
 #[inline]
-pub(crate) fn munlock(m: &Machine, kernel: &mut Kernel, i: &Instr, a: usize) -> Goes
+pub(crate) fn munlock<D: Device + Drop>(
+    m: &Machine,
+    kernel: &mut Kernel<D>,
+    i: &Instr,
+    a: usize,
+) -> Goes
     requires instr { IsInstr Opcode.Munlock i.now a }
-    requires ready { Ready i.now kernel.old m.now }
-    ensures { Works i.now kernel.old m.now kernel.new m.now result }
+    requires ready { Ready i.now kernel.old.core m.now }
+    ensures { Works i.now kernel.old.core m.now kernel.new.core m.now result }
 {
     kernel.munlock(m.slots[a]);
     Goes::Past
@@ -59,10 +75,15 @@ pub(crate) fn munlock(m: &Machine, kernel: &mut Kernel, i: &Instr, a: usize) -> 
 
 /// Frees a block.
 #[inline(never)]
-pub(crate) fn mfree(m: &mut Machine, kernel: &mut Kernel, i: &Instr, a: usize) -> Goes
+pub(crate) fn mfree<D: Device + Drop>(
+    m: &mut Machine,
+    kernel: &mut Kernel<D>,
+    i: &Instr,
+    a: usize,
+) -> Goes
     requires instr { IsInstr Opcode.Mfree i.now a }
-    requires ready { Ready i.now kernel.old m.old }
-    ensures { Works i.now kernel.old m.old kernel.new m.new result }
+    requires ready { Ready i.now kernel.old.core m.old }
+    ensures { Works i.now kernel.old.core m.old kernel.new.core m.new result }
 {
     match kernel.mfree(m.words[a]) {
         Ok(()) => Goes::Along,
@@ -79,10 +100,10 @@ fn are_same(name: Name, other: Name) -> bool
 
 /// To the target where two slots hold one block.
 #[inline(never)]
-pub(crate) fn sne(m: &Machine, kernel: &Kernel, i: &Instr, a: usize) -> Goes
+pub(crate) fn sne<D: Device + Drop>(m: &Machine, kernel: &Kernel<D>, i: &Instr, a: usize) -> Goes
     requires instr { IsInstr Opcode.Sne i.now a }
-    requires ready { Ready i.now kernel.now m.now }
-    ensures { Works i.now kernel.now m.now kernel.now m.now result }
+    requires ready { Ready i.now kernel.now.core m.now }
+    ensures { Works i.now kernel.now.core m.now kernel.now.core m.now result }
 {
     let (name, other) = (m.slots[a], m.slots[i.b as usize]);
     to_if(are_same(name, other), i)

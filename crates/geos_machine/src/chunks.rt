@@ -10,6 +10,7 @@ use crate::machine::Machine;
 use crate::step::{Goes, refuse};
 use geos_calls::{Ask, Change, Kernel, Make, Span};
 use geos_image::{Instr, Opcode};
+use vm_file::Device;
 
 /// The change that an instruction makes.
 fn change_at(m: &Machine, i: &Instr) -> Change
@@ -97,12 +98,17 @@ fn ask_at(m: &Machine, i: &Instr) -> Ask
 
 /// Changes chunks.
 #[inline(never)]
-pub(crate) fn change(m: &mut Machine, kernel: &mut Kernel, i: &Instr, a: usize) -> Goes
+pub(crate) fn change<D: Device + Drop>(
+    m: &mut Machine,
+    kernel: &mut Kernel<D>,
+    i: &Instr,
+    a: usize,
+) -> Goes
     requires fields { FieldsFit i.now.opcode i.now }
     requires a { a ≡ i.now.a }
     requires changes { changes_chunks i.now.opcode ≡ true }
-    requires ready { Ready i.now kernel.old m.old }
-    ensures { Works i.now kernel.old m.old kernel.new m.new result }
+    requires ready { Ready i.now kernel.old.core m.old }
+    ensures { Works i.now kernel.old.core m.old kernel.new.core m.new result }
 {
     let change = change_at(m, i);
     match kernel.change(m.slots[a], change) {
@@ -113,12 +119,17 @@ pub(crate) fn change(m: &mut Machine, kernel: &mut Kernel, i: &Instr, a: usize) 
 
 /// Makes a chunk.
 #[inline(never)]
-pub(crate) fn make(m: &mut Machine, kernel: &mut Kernel, i: &Instr, a: usize) -> Goes
+pub(crate) fn make<D: Device + Drop>(
+    m: &mut Machine,
+    kernel: &mut Kernel<D>,
+    i: &Instr,
+    a: usize,
+) -> Goes
     requires fields { FieldsFit i.now.opcode i.now }
     requires a { a ≡ i.now.a }
     requires makes { makes_chunks i.now.opcode ≡ true }
-    requires ready { Ready i.now kernel.old m.old }
-    ensures { Works i.now kernel.old m.old kernel.new m.new result }
+    requires ready { Ready i.now kernel.old.core m.old }
+    ensures { Works i.now kernel.old.core m.old kernel.new.core m.new result }
 {
     let make = make_at(m, i);
     match kernel.make(m.slots[a], make) {
@@ -132,12 +143,17 @@ pub(crate) fn make(m: &mut Machine, kernel: &mut Kernel, i: &Instr, a: usize) ->
 
 /// Tells a number.
 #[inline(never)]
-pub(crate) fn ask(m: &mut Machine, kernel: &Kernel, i: &Instr, a: usize) -> Goes
+pub(crate) fn ask<D: Device + Drop>(
+    m: &mut Machine,
+    kernel: &Kernel<D>,
+    i: &Instr,
+    a: usize,
+) -> Goes
     requires fields { FieldsFit i.now.opcode i.now }
     requires a { a ≡ i.now.a }
     requires asks { asks_of_chunks i.now.opcode ≡ true }
-    requires ready { Ready i.now kernel.now m.old }
-    ensures { Works i.now kernel.now m.old kernel.now m.new result }
+    requires ready { Ready i.now kernel.now.core m.old }
+    ensures { Works i.now kernel.now.core m.old kernel.now.core m.new result }
 {
     let ask = ask_at(m, i);
     match kernel.ask(m.slots[a], ask) {
@@ -151,10 +167,15 @@ pub(crate) fn ask(m: &mut Machine, kernel: &Kernel, i: &Instr, a: usize) -> Goes
 
 /// Sets a pointer to a chunk.
 #[inline]
-pub(crate) fn deref(m: &mut Machine, kernel: &Kernel, i: &Instr, operands: usize) -> Goes
+pub(crate) fn deref<D: Device + Drop>(
+    m: &mut Machine,
+    kernel: &Kernel<D>,
+    i: &Instr,
+    operands: usize,
+) -> Goes
     requires instr { HasOperands Opcode.Deref i.now operands }
-    requires ready { Ready i.now kernel.now m.old }
-    ensures { Works i.now kernel.now m.old kernel.now m.new result }
+    requires ready { Ready i.now kernel.now.core m.old }
+    ensures { Works i.now kernel.now.core m.old kernel.now.core m.new result }
 {
     let (a, b, c) = (
         index_a(i, operands),
@@ -173,10 +194,15 @@ pub(crate) fn deref(m: &mut Machine, kernel: &Kernel, i: &Instr, operands: usize
 
 /// Sets a pointer to an element.
 #[inline(never)]
-pub(crate) fn caelt(m: &mut Machine, kernel: &Kernel, i: &Instr, a: usize) -> Goes
+pub(crate) fn caelt<D: Device + Drop>(
+    m: &mut Machine,
+    kernel: &Kernel<D>,
+    i: &Instr,
+    a: usize,
+) -> Goes
     requires instr { IsInstr Opcode.Caelt i.now a }
-    requires ready { Ready i.now kernel.now m.old }
-    ensures { Works i.now kernel.now m.old kernel.now m.new result }
+    requires ready { Ready i.now kernel.now.core m.old }
+    ensures { Works i.now kernel.now.core m.old kernel.now.core m.new result }
 {
     let (c, index) = (m.words[i.c as usize], m.words[i.d as usize]);
     match kernel.caelt(m.slots[a], c, index, i.imm) {

@@ -7,6 +7,7 @@ use crate::spans::length;
 use geos_calls::{Ask, Change, Kernel, Make, Refer};
 use geos_model::Name;
 use trial_lines::Line;
+use vm_file::MemoryDevice;
 
 /// A call on a locked block.
 #[derive(Clone, Copy)]
@@ -41,8 +42,8 @@ impl BlockCall {
     }
 
     /// Makes the call.
-    pub(crate) fn make(self, kernel: &mut Kernel, name: Name) -> Answer
-        requires { IsLocked kernel.old name }
+    pub(crate) fn make(self, kernel: &mut Kernel<MemoryDevice>, name: Name) -> Answer
+        requires { IsLocked kernel.old.core name }
     {
         match self {
             BlockCall::Unlock => {

@@ -7,6 +7,7 @@ use geos_calls::Kernel;
 use geos_model::{Name, Owner};
 use std::alloc::{AllocError, Global};
 use trial_lines::{Line, Series};
+use vm_file::MemoryDevice;
 
 /// What keeps a call from being made on a block that is not locked.
 pub(crate) const NOT_LOCKED: &str = "not locked";
@@ -24,7 +25,7 @@ pub(crate) fn block_of<'a>(line: &Line<'a>) -> (Name, &'a str) {
 }
 
 /// Makes the call of a line.
-pub(crate) fn answer(kernel: &mut Kernel, line: &Line<'_>) -> Answer {
+pub(crate) fn answer(kernel: &mut Kernel<MemoryDevice>, line: &Line<'_>) -> Answer {
     match line.word {
         "mnew" => kernel.mnew().into(),
         "mlock" => kernel.mlock(line.word_at(0)).into(),
@@ -37,7 +38,12 @@ pub(crate) fn answer(kernel: &mut Kernel, line: &Line<'_>) -> Answer {
 }
 
 /// Makes a call on a named block.
-fn named_call(kernel: &mut Kernel, name: Name, word: &str, line: &Line<'_>) -> Answer {
+fn named_call(
+    kernel: &mut Kernel<MemoryDevice>,
+    name: Name,
+    word: &str,
+    line: &Line<'_>,
+) -> Answer {
     if word == "locks" {
         return Answer::Number(u32::from(kernel.locks(name)));
     }
@@ -58,7 +64,7 @@ fn named_call(kernel: &mut Kernel, name: Name, word: &str, line: &Line<'_>) -> A
 /// answers to `mnew` run, and those to `lalloc`.
 pub(crate) fn fill(
     alloc: Global,
-    kernel: &mut Kernel,
+    kernel: &mut Kernel<MemoryDevice>,
     line: &Line<'_>,
 ) -> Result<Answer, AllocError> {
     let [from, to, n] = [line.word_at(0), line.word_at(1), line.word_at(2)];
@@ -73,7 +79,7 @@ pub(crate) fn fill(
 }
 
 /// Makes a chunk in a block, where it is locked.
-fn alloc_in(kernel: &mut Kernel, name: Name, n: u16) -> Answer {
+fn alloc_in(kernel: &mut Kernel<MemoryDevice>, name: Name, n: u16) -> Answer {
     if kernel.locks(name) == 0 {
         return Answer::NotAsked(NOT_LOCKED);
     }

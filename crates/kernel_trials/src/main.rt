@@ -14,11 +14,12 @@ mod block_call;
 mod calls;
 mod spans;
 
-use geos_calls::Kernel;
+use geos_calls::{Kernel, kernel_in_memory};
 use geos_model::Refusal;
 use std::alloc::{AllocError, Global};
 use std::io;
 use trial_lines::{Line, run};
+use vm_file::MemoryDevice;
 
 /// What a call answers.
 type Answer = trial_lines::Answer<Refusal>;
@@ -32,7 +33,7 @@ const MOST: u32 = 16_777_216;
 /// The kernel that calls are made on.
 #[derive(Drop)]
 struct Trial {
-    kernel: Kernel,
+    kernel: Kernel<MemoryDevice>,
 }
 
 impl Trial {
@@ -41,7 +42,7 @@ impl Trial {
         if region < LEAST || region > MOST {
             return Ok(Answer::NotAsked("no region of this size"));
         }
-        self.kernel = Kernel::new(alloc, region)?;
+        self.kernel = kernel_in_memory(alloc, region)?;
         Ok(Answer::Done)
     }
 }
@@ -61,7 +62,7 @@ impl trial_lines::Trial for Trial {
 
 fn main(rt: HostRuntime) -> io::Result<()> {
     let mut trial = Trial {
-        kernel: Kernel::new(rt.alloc(), LEAST)?,
+        kernel: kernel_in_memory(rt.alloc(), LEAST)?,
     };
     run(&rt, rt.alloc(), &mut trial)
 }

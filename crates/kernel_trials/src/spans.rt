@@ -11,6 +11,7 @@ use geos_model::{Name, Refusal};
 use std::alloc::{AllocError, Global};
 use std::fmt::Write;
 use trial_lines::Line;
+use vm_file::MemoryDevice;
 
 /// Whether a word is of a call that begins with a span.
 pub(crate) fn is_span_call(word: &str) -> bool {
@@ -22,8 +23,13 @@ pub(crate) fn is_span_call(word: &str) -> bool {
 }
 
 /// Makes a call that begins with a span of a locked block.
-pub(crate) fn span_call(kernel: &mut Kernel, name: Name, word: &str, line: &Line<'_>) -> Answer
-    requires { IsLocked kernel.old name }
+pub(crate) fn span_call(
+    kernel: &mut Kernel<MemoryDevice>,
+    name: Name,
+    word: &str,
+    line: &Line<'_>,
+) -> Answer
+    requires { IsLocked kernel.old.core name }
 {
     let [c, second, third, fourth] = [
         line.word_at(1),
@@ -55,8 +61,14 @@ pub(crate) fn length(given: Result<Span, Refusal>) -> Answer {
 }
 
 /// Copies the first bytes of the chunk `from` to the beginning of the chunk `to`.
-fn copy(kernel: &mut Kernel, name: Name, to: u16, from: u16, n: u16) -> Result<(), Refusal>
-    requires { IsLocked kernel.old name }
+fn copy(
+    kernel: &mut Kernel<MemoryDevice>,
+    name: Name,
+    to: u16,
+    from: u16,
+    n: u16,
+) -> Result<(), Refusal>
+    requires { IsLocked kernel.old.core name }
 {
     let to = kernel.deref(name, to, n)?;
     let from = kernel.deref(name, from, n)?;
@@ -66,13 +78,13 @@ fn copy(kernel: &mut Kernel, name: Name, to: u16, from: u16, n: u16) -> Result<(
 
 /// Reads or writes at an offset of a span.
 fn access(
-    kernel: &mut Kernel,
+    kernel: &mut Kernel<MemoryDevice>,
     span: Result<Span, Refusal>,
     word: &str,
     at: u16,
     value: u16,
 ) -> Answer
-    requires { IfOk span (λ span. IsStanding kernel.old span) }
+    requires { IfOk span (λ span. IsStanding kernel.old.core span) }
 {
     let span = match span {
         Ok(span) => span,
@@ -96,7 +108,11 @@ fn access(
 }
 
 /// All bytes of a chunk.
-pub(crate) fn bytes(alloc: Global, kernel: &Kernel, line: &Line<'_>) -> Result<Answer, AllocError> {
+pub(crate) fn bytes(
+    alloc: Global,
+    kernel: &Kernel<MemoryDevice>,
+    line: &Line<'_>,
+) -> Result<Answer, AllocError> {
     let name = Name::mem(line.word_at(0));
     if kernel.locks(name) == 0 {
         return Ok(Answer::NotAsked(NOT_LOCKED));
@@ -108,8 +124,8 @@ pub(crate) fn bytes(alloc: Global, kernel: &Kernel, line: &Line<'_>) -> Result<A
 }
 
 /// The bytes of a span, with a space between each two.
-fn text_of(alloc: Global, kernel: &Kernel, span: Span) -> Result<String, AllocError>
-    requires { IsStanding kernel.now span }
+fn text_of(alloc: Global, kernel: &Kernel<MemoryDevice>, span: Span) -> Result<String, AllocError>
+    requires { IsStanding kernel.now.core span }
 {
     let mut text = String::new(alloc);
     for at in 0..span.len {

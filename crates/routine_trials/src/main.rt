@@ -10,7 +10,7 @@
 //! | `call WORD ..` | how the routine's run ends on these words, over a kernel with no block |
 #![tactic(auto)]
 
-use geos_calls::Kernel;
+use geos_calls::kernel_in_memory;
 use geos_image::{Image, read, write};
 use geos_machine::{Machine, Outcome, admits};
 use geos_verify::{Checked, check};
@@ -138,7 +138,7 @@ impl Trial {
             return Ok(Answer::NotAsked("no image is accepted"));
         };
         let words = line.words();
-        let mut kernel = Kernel::new(alloc, REGION)?;
+        let mut kernel = kernel_in_memory(alloc, REGION)?;
         if !admits(checked, self.routine, &words, &kernel) {
             return Ok(Answer::Said("not admitted"));
         }

@@ -8,10 +8,10 @@ use Rattle.geos_cli.proofs.Parts.{IfErr-any}
 use Rattle.geos_cli.proofs.script.run_calls.Goals as goal
 
 pub loop-call-init : goal.loop-call-init
-loop-call-init g c = (ran-none c.args.checked.now c.args.kernel.now (g.W.Write.contents c.args.out.now.stream), refl)
+loop-call-init g c = (ran-none c.args.checked.now c.args.kernel.now.core (g.W.Write.contents c.args.out.now.stream), refl)
 
 pub returns-clause-ok : goal.returns-clause-ok
-returns-clause-ok g c = ran-all c.args.checked.now c.args.calls.now c.loop-call.call-index c.args.kernel.now c.loop-call.kernel _ _ (omega (arith, c.loop-call-test.false)) c.loop-call.invariant.0
+returns-clause-ok g c = ran-all c.args.checked.now c.args.calls.now c.loop-call.call-index c.args.kernel.now.core c.loop-call.kernel.core _ _ (omega (arith, c.loop-call-test.false)) c.loop-call.invariant.0
 
 pub loop-call-preserved : goal.loop-call-preserved
 loop-call-preserved g c =

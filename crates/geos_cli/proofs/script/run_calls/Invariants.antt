@@ -4,6 +4,6 @@ use Rattle.geos_cli.proofs.script.run_calls.Given as goal
 
 abbrev pub invariant-loop-call : goal.invariant-loop-call
 invariant-loop-call g l =
-    RanCalls l.fn.checked (take l.call-index l.fn.calls) l.fn.kernel l.kernel
+    RanCalls l.fn.checked (take l.call-index l.fn.calls) l.fn.kernel.core l.kernel.core
     (g.W.Write.contents l.fn.out.stream) (g.W.Write.contents l.out.stream)
     × (l.out.failures ≡ l.fn.out.failures)

@@ -10,17 +10,17 @@ use Rattle.geos_machine.proofs.Safe.{stores-safe}
 use Rattle.geos_machine.proofs.access.stb.Goals as goal
 
 pub store8-requires-clause-stands : goal.store8-requires-clause-stands
-store8-requires-clause-stands c =
+store8-requires-clause-stands g c =
     let i = c.args.i.now in
-    pointer-stands i c.args.kernel.now c.args.m.now i.b (record { at = 0; len = 0 }) c.requires.ready (λ beside pc safe. (stores-safe i _ Byte Fixed (rw c.requires.instr.is refl) safe).0)
+    pointer-stands i c.args.kernel.now.core c.args.m.now i.b (record { at = 0; len = 0 }) c.requires.ready (λ beside pc safe. (stores-safe i _ Byte Fixed (rw c.requires.instr.is refl) safe).0)
 
 pub store8-requires-clause-within : goal.store8-requires-clause-within
-store8-requires-clause-within c =
+store8-requires-clause-within g c =
     let i = c.args.i.now in
-    (let long = pointer-long i c.args.kernel.now c.args.m.now i.b (i.imm + 1) (record { at = 0; len = 0 }) c.requires.ready (λ beside pc safe. stores-safe i _ Byte Fixed (rw c.requires.instr.is refl) safe) in omega (arith, long))
+    (let long = pointer-long i c.args.kernel.now.core c.args.m.now i.b (i.imm + 1) (record { at = 0; len = 0 }) c.requires.ready (λ beside pc safe. stores-safe i _ Byte Fixed (rw c.requires.instr.is refl) safe) in omega (arith, long))
 
 pub returns : goal.returns
-returns c =
+returns g c =
     let i = c.args.i.now in
-    through-done i c.args.kernel.now c.store8.new.self c.args.m.now _ (record { at = 0; len = 0 }) i.b (λ ref. store ref i.imm (low_bytes Byte (get_or c.args.m.now.words i.a 0))) nowhere tt (λ ref choice memory. refl) (λ beside pc safe. (stores-safe i _ Byte Fixed (rw c.requires.instr.is refl) safe).0) (λ image choice beside pc. rw c.requires.instr.is refl)
-    (λ ref stands. subst (λ b. Calls (store ref i.imm (b ∷ [])) (Ok tt) c.args.kernel.now c.store8.new.self) (c.low_byte.ensures ∙ rw c.requires.instr.a_is refl) (c.store8.ensures.row ref stands)) (λ beside pc. refl) refl refl
+    through-done i c.args.kernel.now.core c.store8.new.self.core c.args.m.now _ (record { at = 0; len = 0 }) i.b (λ ref. store ref i.imm (low_bytes Byte (get_or c.args.m.now.words i.a 0))) nowhere tt (λ ref choice memory. refl) (λ beside pc safe. (stores-safe i _ Byte Fixed (rw c.requires.instr.is refl) safe).0) (λ image choice beside pc. rw c.requires.instr.is refl)
+    (λ ref stands. subst (λ b. Calls (store ref i.imm (b ∷ [])) (Ok tt) c.args.kernel.now.core c.store8.new.self.core) (c.low_byte.ensures ∙ rw c.requires.instr.a_is refl) (c.store8.ensures.row ref stands)) (λ beside pc. refl) refl refl

@@ -7,12 +7,12 @@ use Rattle.geos_machine.proofs.Safe.{unlocks-held}
 use Rattle.geos_machine.proofs.blocks.munlock.Goals as goal
 
 pub munlock-requires : goal.munlock-requires
-munlock-requires c =
+munlock-requires g c =
     let i = c.args.i.now in
-    rw c.requires.instr.a_is (slot-locked i c.args.kernel.now c.args.m.now (mem 0) c.requires.ready (λ beside pc safe. unlocks-held i _ MemBlock (rw c.requires.instr.is refl) safe))
+    rw c.requires.instr.a_is (slot-locked i c.args.kernel.now.core c.args.m.now (mem 0) c.requires.ready (λ beside pc safe. unlocks-held i _ MemBlock (rw c.requires.instr.is refl) safe))
 
 pub returns : goal.returns
-returns c =
+returns g c =
     let i = c.args.i.now in
-    on-past i c.args.kernel.now c.munlock.new.self c.args.m.now c.args.m.now (slot-unlocked i c.args.kernel.now c.munlock.new.self c.args.m.now (mem 0) unlock (λ name choice memory. refl) (λ beside pc safe. unlocks-held i _ MemBlock (rw c.requires.instr.is refl) safe)
+    on-past i c.args.kernel.now.core c.munlock.new.self.core c.args.m.now c.args.m.now (slot-unlocked i c.args.kernel.now.core c.munlock.new.self.core c.args.m.now (mem 0) unlock (λ name choice memory. refl) (λ beside pc safe. unlocks-held i _ MemBlock (rw c.requires.instr.is refl) safe)
     (λ image choice beside pc. rw c.requires.instr.is refl) (rw c.requires.instr.a_is at c.munlock.ensures))

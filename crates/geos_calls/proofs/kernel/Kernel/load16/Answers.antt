@@ -8,20 +8,20 @@ use Rattle.geos_calls.proofs.AccessReads.{IsGood, good-of, good-region, same-len
 use Rattle.geos_calls.proofs.kernel.Kernel.load16.Goals as goal
 
 pub overflow_add-span : goal.overflow_add-span
-overflow_add-span c =
-    let good : IsGood (with_store c.self.inside.blocks) c.args.span c.args.i 2 = good-of c.args.self.now (with_store c.self.inside.blocks) c.args.span c.args.i 2 c.self.view_is c.requires.stands (omega (arith, c.requires.within)) in
+overflow_add-span g c =
+    let good : IsGood (with_store c.self.inside.blocks) c.args.span c.args.i 2 = good-of c.args.self.now.core (with_store c.self.inside.blocks) c.args.span c.args.i 2 (ap (λ k. k.core) c.self.view_is) c.requires.stands (omega (arith, c.requires.within)) in
     omega (arith, good-region (with_store c.self.inside.blocks) c.args.span c.args.i 2 c.self.invariant.laid good (omega arith), c.self.invariant.small, c.from.ensures)
 
 pub read16-requires : goal.read16-requires
-read16-requires c =
-    let good : IsGood (with_store c.self.inside.blocks) c.args.span c.args.i 2 = good-of c.args.self.now (with_store c.self.inside.blocks) c.args.span c.args.i 2 c.self.view_is c.requires.stands (omega (arith, c.requires.within)) in
+read16-requires g c =
+    let good : IsGood (with_store c.self.inside.blocks) c.args.span c.args.i 2 = good-of c.args.self.now.core (with_store c.self.inside.blocks) c.args.span c.args.i 2 (ap (λ k. k.core) c.self.view_is) c.requires.stands (omega (arith, c.requires.within)) in
     omega (arith, good-region (with_store c.self.inside.blocks) c.args.span c.args.i 2 c.self.invariant.laid good (omega arith), c.from.ensures)
 
 pub returns : goal.returns
-returns c =
+returns g c =
     let s = with_store c.self.inside.blocks in
     let span = c.args.span in
     let i = c.args.i in
-    let good : IsGood s span i 2 = good-of c.args.self.now (with_store c.self.inside.blocks) c.args.span c.args.i 2 c.self.view_is c.requires.stands (omega (arith, c.requires.within)) in
-    subst (λ s. (ref : Reference) → Stands s span ref → Calls (table.load16 ref i) (Ok c.read16.result) s s) c.self.view_is
+    let good : IsGood s span i 2 = good-of c.args.self.now.core (with_store c.self.inside.blocks) c.args.span c.args.i 2 (ap (λ k. k.core) c.self.view_is) c.requires.stands (omega (arith, c.requires.within)) in
+    subst (λ s. (ref : Reference) → Stands s.core span ref → Calls (table.load16 ref i) (Ok c.read16.result) s.core s.core) c.self.view_is
     (λ ref stands. load16-calls s span ref stands c.self.invariant i (span.at + c.from.result) c.read16.result (same-length s span i 2 ref good stands) (ap (λ j. span.at + j) c.from.ensures) c.read16.ensures)

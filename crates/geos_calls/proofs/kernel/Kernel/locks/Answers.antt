@@ -9,9 +9,9 @@ use Rattle.geos_calls.proofs.Views.{locks-view}
 use Rattle.geos_calls.proofs.kernel.Kernel.locks.Goals as goal
 
 pub returns-clause-count : goal.returns-clause-count
-returns-clause-count c = c.locks.ensures ∙ ap (λ s. store.locks_of s.blocks (slot_of c.args.name)) c.self.view_is
+returns-clause-count g c = c.locks.ensures ∙ ap (λ s. store.locks_of s.core.blocks (slot_of c.args.name)) c.self.view_is
 
 pub returns-clause-model : goal.returns-clause-model
-returns-clause-model c =
+returns-clause-model g c =
     let s = with_store c.self.inside.blocks in
-    subst (λ t. (f : VmFile) → IsFileOf t f → c.locks.result ≡ locks_of (memory_of t f) c.args.name) c.self.view_is (λ f tied. c.locks.ensures ∙ locks-view s f tied c.args.name c.self.invariant)
+    subst (λ t. (f : VmFile) → IsFileOf t.core f → c.locks.result ≡ locks_of (memory_of t.core f) c.args.name) c.self.view_is (λ f tied. c.locks.ensures ∙ locks-view s f tied c.args.name c.self.invariant)

@@ -4,7 +4,7 @@ use Rattle.geos_calls.proofs.Locks.{mfree-calls, mfree-kernel, FreesSlot, with_s
 use Rattle.geos_calls.proofs.kernel.Kernel.mfree.Goals as goal
 
 pub invariant_of-self : goal.invariant_of-self
-invariant_of-self c =
+invariant_of-self g c =
     let old = c.self.inside.blocks in
     let new = c.free-freed.new.self in
     let e = c.free-freed.ensures in
@@ -12,7 +12,7 @@ invariant_of-self c =
     mfree-kernel (with_store old) c.args.h c.self.invariant new c.free-freed.result (subst (λ name. FreesSlot old new (slot_of name) c.free-freed.result) c.mem.ensures facts)
 
 pub returns : goal.returns
-returns c =
+returns g c =
     let old = c.self.inside.blocks in
     let new = c.free-freed.new.self in
     let e = c.free-freed.ensures in

@@ -4,7 +4,7 @@ use Rattle.geos_calls.proofs.Locks.{mlock-calls, mlock-kernel, LocksSlot, with_s
 use Rattle.geos_calls.proofs.kernel.Kernel.mlock.Goals as goal
 
 pub invariant_of-self : goal.invariant_of-self
-invariant_of-self c =
+invariant_of-self g c =
     let old = c.self.inside.blocks in
     let new = c.lock-locked.new.self in
     let e = c.lock-locked.ensures in
@@ -12,7 +12,7 @@ invariant_of-self c =
     mlock-kernel (with_store old) c.args.h c.self.invariant new c.lock-locked.result (subst (λ name. LocksSlot old new (slot_of name) c.lock-locked.result) c.mem.ensures facts)
 
 pub returns : goal.returns
-returns c =
+returns g c =
     let old = c.self.inside.blocks in
     let new = c.lock-locked.new.self in
     let e = c.lock-locked.ensures in

@@ -9,10 +9,10 @@ use Rattle.geos_calls.proofs.kernel.Kernel.mnew.Goals.{in-Ok, in-Err}
 use Rattle.geos_calls.proofs.kernel.Kernel.mnew.Goals as goal
 
 pub returns-in_default-clause-calls : goal.returns-in_default-clause-calls
-returns-in_default-clause-calls c = rw (sym c.self.view_is) (mnew-full-calls (with_store c.self.inside.blocks) c.self.invariant c.in_default.ensures.none)
+returns-in_default-clause-calls g c = rw (sym c.self.view_is) (mnew-full-calls (with_store c.self.inside.blocks) c.self.invariant c.in_default.ensures.none)
 
 pub invariant_of-self : goal.invariant_of-self
-invariant_of-self c = elim c.match-make_heap.branch [
+invariant_of-self g c = elim c.match-make_heap.branch [
   | in-Ok w ↦ (
       let made = subst (λ name. MakesHeap c.self.inside.blocks c.make_heap.new.blocks (slot_of name) name.h) c.mem.ensures w.in-Ok.ensures.ok in
       kernel-made (with_store c.self.inside.blocks) c.self.invariant c.make_heap.new.blocks c.in-Some.h c.in-Some.ensures.found made
@@ -21,7 +21,7 @@ invariant_of-self c = elim c.match-make_heap.branch [
 ]
 
 pub returns : goal.returns
-returns c = elim c.match-make_heap.branch [
+returns g c = elim c.match-make_heap.branch [
   | in-Ok w ↦ (
       let old = with_store c.self.inside.blocks in
       let new = c.make_heap.new.blocks in
@@ -43,7 +43,7 @@ returns c = elim c.match-make_heap.branch [
       let full = subst (λ name. HasNoRoom c.self.inside.blocks (slot_of name) 64) c.mem.ensures room.1 in
       record {
         calls = rw (w.result-is, room.0, sym c.self.view_is) (mnew-tight-calls old c.self.invariant new h low full room.2);
-        no_room = λ e. subst (λ s. NewHasNoRoom s (with_store new)) c.self.view_is (h, low, subst (λ s. HasNoRoom s (slot_of (record { owner = Mem; h = h })) 64) (sym room.2) full);
+        no_room = λ e. subst (λ s. NewHasNoRoom s.core (with_store new)) c.self.view_is (h, low, subst (λ s. HasNoRoom s (slot_of (record { owner = Mem; h = h })) 64) (sym room.2) full);
         locked = rw w.result-is tt;
       }
       )

@@ -9,8 +9,8 @@ use Rattle.geos_calls.proofs.Views.{empty-view}
 use Rattle.geos_calls.proofs.kernel.Kernel.new.Goals as goal
 
 pub invariant_of-result : goal.invariant_of-result
-invariant_of-result c =
-    let empty = c.in_ok-new.ensures in
+invariant_of-result g c =
+    let empty = c.in-Ok.ensures in
     record {
       laid = empty.laid;
       heaps = λ name there. absurd (subst IsBlock (empty.none (slot_of name)) there);
@@ -20,8 +20,8 @@ invariant_of-result c =
       small = rw empty.long c.requires.1;
     }
 
-pub returns-clause-file : goal.returns-clause-file
-returns-clause-file c = empty-tied (with_store c.in_ok-new.field-0) 0
+pub returns-in-Ok-clause-tied : goal.returns-in-Ok-clause-tied
+returns-in-Ok-clause-tied g c = empty-tied (with_store c.in-Ok.blocks) 0
 
-pub returns-clause-memory : goal.returns-clause-memory
-returns-clause-memory c = λ f. empty-view (with_store c.in_ok-new.field-0) f c.args.region c.in_ok-new.ensures
+pub returns-in-Ok-clause-memory : goal.returns-in-Ok-clause-memory
+returns-in-Ok-clause-memory g c = λ f. empty-view (with_store c.in-Ok.blocks) f c.args.region c.in-Ok.ensures
