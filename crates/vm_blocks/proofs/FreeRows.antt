@@ -83,13 +83,13 @@ module _ {D : Type 0} (image : D → List ℕ) (honest : D → Type 0) (failed :
           (chosen false false [], record { given = λ g. refl; device = λ g t. absurd cc }, without_listed m h, subst (λ x. IsMemoryOf image honest x t (without_listed m h)) (sym same) (memory-without m is), rw (there, unlocked) refl)
 
 -- the same of what a call ensures
-drops-keeps : {D : Type 0} (v : VmState D) (s t : Store) (h : ℕ) → IsLaidOut s → Drops s t h → Keeps v s t h
+pub drops-keeps : {D : Type 0} (v : VmState D) (s t : Store) (h : ℕ) → IsLaidOut s → Drops s t h → Keeps v s t h
 drops-keeps v s t h laid drops = record { each = λ slot ne. inl (drops.others slot ne, λ some. drops.places slot ne); laid = drops.laid laid; len = drops.len }
 
-locked-test : (n : ℕ) → 0 < n → nat_lt 0 n ≡ true
+pub locked-test : (n : ℕ) → 0 < n → nat_lt 0 n ≡ true
 locked-test n some = grind (arith, some)
 
-free-test : (n : ℕ) → (0 < n → ⊥) → nat_lt 0 n ≡ false
+pub free-test : (n : ℕ) → (0 < n → ⊥) → nat_lt 0 n ≡ false
 free-test zero none = refl
 free-test (suc n) none = absurd (none (omega arith))
 

@@ -5,9 +5,15 @@ use Rattle.vm_file.specs.declared.directory.Directory.{Directory}
 use Rattle.vm_file.specs.declared.error.CommitError.{CommitError}
 use Rattle.vm_file.specs.declared.error.CommitError.TheVariants as error
 use Rattle.vm_file.specs.Committing.{FindsOr, IsAfter, KeepsAfter, NeedsNoRead, current_after, kept_after, length_after, saved_after}
+use Rattle.vm_file.specs.Contents.{listed}
 use Rattle.vm_file.specs.Device.{Passes, Rose}
 use Rattle.vm_file.specs.Kept.{SureOf, kept_of}
 use Rattle.vm_file.specs.State.{FileState, Finds, pair_of}
+
+-- a file lists the directories of the pair that it keeps
+pub record Lists {D : Type 0} (image : D → List ℕ) (f : FileState D) : Type 0 where
+  pub cur : listed (pair_of image f).cur ≡ f.current
+  pub saved : listed (pair_of image f).saved ≡ f.saved
 
 -- a file after a commit of this directory, where these blocks are resident
 pub record CommitsFile {D : Type 0} (image : D → List ℕ) (honest : D → Type 0) (failed : D → ℕ) (may_leave : D → List ℕ → Type 0) (left : D → D → List ℕ → Type 0)

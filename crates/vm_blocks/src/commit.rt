@@ -1,9 +1,13 @@
 //! Commits of the blocks of a file.
 ghost use Rattle.std.specs.Prelude.{◌≡◌, ℕ, List, length, true, OnOk, OnErr};
+ghost use Rattle.geos_table.specs.VmCalls.{commit};
 ghost use Rattle.vm_file.specs.Committing.{MayCommit};
 ghost use Rattle.vm_file.specs.Directories.{is_directory};
-ghost use Rattle.vm_blocks.specs.Commit.{CommitsFile};
+ghost use Rattle.vm_blocks.specs.Commit.{CommitsFile, Lists};
+ghost use Rattle.vm_blocks.specs.DoesRow.{DoesRow};
 ghost use Rattle.vm_blocks.specs.Listed.{DropsAll, IsListOf, NoneLocked, StoreAfter, directory_of, len_now, resident_of};
+ghost use Rattle.vm_blocks.specs.ListedCalls.{keeper_of};
+ghost use Rattle.vm_blocks.specs.Refused.{of_commit};
 ghost use Rattle.vm_blocks.specs.Tied.{IsTied};
 ghost use Rattle.vm_blocks.specs.View.{vm_slot};
 ghost use Rattle.block_handles.specs.Store.{block_at};
@@ -35,8 +39,12 @@ fn keep<D: Device + Drop>(
     cur: &Directory,
 ) -> Result<(), CommitError>
     requires { MayCommit (resident_of blocks.now) file.old.current cur.now }
-    ensures { CommitsFile D.image D.honest D.failed D.may_leave D.may_have_left how (resident_of blocks.now) cur.now file.old file.new result }
+    ensures commits { CommitsFile D.image D.honest D.failed D.may_leave D.may_have_left how (resident_of blocks.now) cur.now file.old file.new result }
+    ensures lists { Lists D.image file.old }
+    ensures legal { is_directory file.old.saved ≡ true }
 {
+    let _ = file.current();
+    let _ = file.saved();
     file.commit(how, cur, &Resident { blocks })
 }
 
@@ -119,6 +127,8 @@ impl<D: Device + Drop> VmBlocks<D> {
         ensures lists { OnOk result (IsListOf self.new self.new.file.current) }
         ensures store { OnOk result (StoreAfter how blocks.old blocks.new) }
         ensures refused { OnErr result ((self.new ≡ record self.old { file = self.new.file }) × (blocks.new ≡ blocks.old)) }
+        // Its row of the table of calls, in each memory that the model may have before it.
+        ensures row { DoesRow D.image D.honest D.failed (commit (keeper_of how)) (of_commit result) self.old blocks.old self.new blocks.new }
     {
         let cur = self.listed(blocks);
         match keep(&mut self.file, blocks, how, &cur) {

@@ -1,9 +1,10 @@
 //! Locks of blocks of the file, and marks.
-ghost use Rattle.std.specs.Prelude.{◌≡◌, ◌<◌, ◌↔◌, ℕ, None, Err, IfSome, OnOk, OnErr, option_map};
+ghost use Rattle.std.specs.Prelude.{◌≡◌, ◌<◌, ◌↔◌, ℕ, None, Ok, Err, IfSome, OnOk, OnErr, option_map};
 ghost use Rattle.geos_model.specs.Names.{vm};
 ghost use Rattle.block_handles.specs.Change.{with_lock_less};
 ghost use Rattle.block_handles.specs.Names.{IsHandle};
 ghost use Rattle.block_handles.specs.Store.{IsThere, locks_of};
+ghost use Rattle.geos_table.specs.VmCalls.{vdirty, vunlock};
 ghost use Rattle.vm_file.specs.Device.{Rose};
 ghost use Rattle.vm_file.specs.Outcomes.{ReadsOnly};
 ghost use Rattle.vm_file.specs.State.{pair_of};
@@ -64,6 +65,8 @@ impl<D: Device + Drop> VmBlocks<D> {
         requires locked { 0 < locks_of blocks.old (vm_slot h) }
         ensures tied { IsTied D.image D.honest self.now blocks.new }
         ensures less { blocks.new ≡ with_lock_less blocks.old (vm_slot h) }
+        // Its row of the table of calls, in each memory that the model may have before it.
+        ensures row { DoesRow D.image D.honest D.failed (vunlock h) (Ok tt) self.now blocks.old self.now blocks.new }
     {
         blocks.unlock(Name::vm(h));
     }
@@ -74,6 +77,8 @@ impl<D: Device + Drop> VmBlocks<D> {
         requires there { IsThere blocks.now (vm_slot h) }
         ensures tied { IsTied D.image D.honest self.new blocks.now }
         ensures marks { self.new ≡ with_held self.old h (option_map marked (held_at self.old h)) }
+        // Its row of the table of calls, in each memory that the model may have before it.
+        ensures row { DoesRow D.image D.honest D.failed (vdirty h) (Ok tt) self.old blocks.now self.new blocks.now }
     {
         let _ = blocks.has(Name::vm(h));
         match self.held(h) {

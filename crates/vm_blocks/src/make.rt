@@ -5,6 +5,9 @@ ghost use Rattle.block_handles.specs.Names.{IsHandle};
 ghost use Rattle.block_handles.specs.Store.{IsThere, locks_of, size_of};
 ghost use Rattle.vm_blocks.specs.Blocks.{Adds, AllListed, Begins, IsNew, LacksRoomForNew, without_held};
 ghost use Rattle.vm_blocks.specs.Bring.{Drops, Keeps};
+ghost use Rattle.vm_blocks.specs.DoesRow.{DoesRow};
+ghost use Rattle.vm_blocks.specs.ListedCalls.{free_listed, make_listed};
+ghost use Rattle.vm_blocks.specs.Refused.{of_free, of_new};
 ghost use Rattle.vm_blocks.specs.Room.{LacksRoom};
 ghost use Rattle.vm_blocks.specs.Tied.{IsTied};
 ghost use Rattle.vm_blocks.specs.View.{held_at, vm_slot};
@@ -55,6 +58,8 @@ impl<D: Device + Drop> VmBlocks<D> {
         ensures no_room { result ≡ Err NewError.NoRoom → LacksRoomForNew self.old blocks.old blocks.new }
         ensures stays { result ≡ Err NewError.NoHandle → blocks.new ≡ blocks.old }
         ensures err { OnErr result (self.new ≡ self.old) }
+        // Its row of the table of calls, in each memory that the model may have before it.
+        ensures row { DoesRow D.image D.honest D.failed (make_listed uid 0) (of_new result) self.old blocks.old self.new blocks.new }
     {
         let Some(h) = self.lowest() else {
             return Err(NewError::NoHandle);
@@ -83,6 +88,8 @@ impl<D: Device + Drop> VmBlocks<D> {
         ensures no_room { result ≡ Err NewError.NoRoom → LacksRoomForNew self.old blocks.old blocks.new }
         ensures stays { result ≡ Err NewError.NoHandle → blocks.new ≡ blocks.old }
         ensures err { OnErr result (self.new ≡ self.old) }
+        // Its row of the table of calls, in each memory that the model may have before it.
+        ensures row { DoesRow D.image D.honest D.failed (make_listed uid 1) (of_new result) self.old blocks.old self.new blocks.new }
     {
         match self.vnew_unlocked(blocks, uid) {
             Ok(h) => {
@@ -117,6 +124,8 @@ impl<D: Device + Drop> VmBlocks<D> {
         ensures state { OnOk result (self.new ≡ without_held self.old h) }
         ensures drops { OnOk result (Drops blocks.old blocks.new h) }
         ensures err { OnErr result ((self.new ≡ self.old) × (blocks.new ≡ blocks.old)) }
+        // Its row of the table of calls, in each memory that the model may have before it.
+        ensures row { DoesRow D.image D.honest D.failed (free_listed h) (of_free result) self.old blocks.old self.new blocks.new }
     {
         let Some(_held) = self.held(h) else {
             return Err(FreeError::BadHandle);

@@ -1,7 +1,7 @@
 use Rattle.vm_blocks.proofs.commit.keep.Goals as goal
 
-pub returns : goal.returns
-returns g c =
+pub returns-clause-commits : goal.returns-clause-commits
+returns-clause-commits g c =
     let e = c.commit.ensures in
     record {
       unsure = e.unsure;

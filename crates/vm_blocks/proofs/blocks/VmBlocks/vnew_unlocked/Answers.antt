@@ -1,0 +1,22 @@
+use Rattle.std.proofs.Common.{rules, ◌<◌, arith}
+use Rattle.vm_blocks.specs.Blocks.{Adds, AllListed}
+use Rattle.vm_blocks.proofs.NewRows.{new-crowded, new-done, new-full}
+use Rattle.vm_blocks.proofs.blocks.VmBlocks.vnew_unlocked.Goals as goal
+
+pub returns-in_default-clause-row : goal.returns-in_default-clause-row
+returns-in_default-clause-row g c =
+    let d = g.D.Device in let now = c.args.self.now in
+    let all : AllListed now = search rules in
+    new-full d.image d.honest d.failed now c.args.blocks.now c.requires c.args.uid 0 all
+
+pub returns-in-Err-clause-row : goal.returns-in-Err-clause-row
+returns-in-Err-clause-row g c =
+    let d = g.D.Device in let now = c.args.self.now in
+    new-crowded d.image d.honest d.failed now c.args.blocks.now c.requires c.args.uid 0 c.in-Some.h c.make_heap.new.blocks c.in-Some.ensures.found c.in-Err.ensures.err
+
+pub returns-clause-row : goal.returns-clause-row
+returns-clause-row g c =
+    let d = g.D.Device in let now = c.args.self.now in let s = c.args.blocks.now in let w = c.put.new.self in let t = c.make_heap.new.blocks in let h = c.in-Some.h in
+    let word : c.args.uid < 65536 = omega arith in
+    let adds : Adds now w s t c.args.uid 0 h = record { lowest = c.in-Some.ensures.found; state = c.put.ensures; keeps = c.in-Ok.ensures.keeps; is = c.in-Ok.ensures.ok } in
+    new-done d.image d.honest d.failed now s c.requires c.args.uid 0 h w t word (omega arith) adds
