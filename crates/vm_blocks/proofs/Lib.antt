@@ -15,6 +15,8 @@ pub mod Brings
 pub mod Table
 pub mod Counts
 pub mod LockRows
+pub mod Told
+pub mod MapRows
 pub mod FreeRows
 pub mod NewRows
 pub mod Stored

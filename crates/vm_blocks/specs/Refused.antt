@@ -1,5 +1,5 @@
 -- Refusals of calls on VM blocks, as the kernel's.
-use Rattle.std.specs.Prelude.{ℕ, Result, Ok, Err}
+use Rattle.std.specs.Prelude.{ℕ, Option, Some, None, Result, Ok, Err}
 use Rattle.geos_model.specs.declared.refusal.Refusal.{Refusal}
 use Rattle.geos_model.specs.declared.refusal.Refusal.TheVariants as refusal
 use Rattle.vm_blocks.specs.declared.error.BringError.{BringError}
@@ -55,6 +55,11 @@ why_not_freed free.Locked = refusal.Locked
 abbrev pub of_free : Result (Unit {0}) FreeError → Result (Unit {0}) Refusal
 of_free (Ok done) = Ok tt
 of_free (Err why) = Err (why_not_freed why)
+
+-- the user ID of a block, where one has the handle
+abbrev pub of_uid : Option ℕ → Result ℕ Refusal
+of_uid None = Err refusal.BadHandle
+of_uid (Some uid) = Ok uid
 
 -- why nothing was committed
 abbrev pub why_not_kept : CommitError → Refusal

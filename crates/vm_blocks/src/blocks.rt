@@ -3,9 +3,14 @@ ghost use Rattle.std.specs.Prelude.{ℕ, List, ◌≡◌, ◌≢◌, IsTrue, ◌
 ghost use Rattle.block_handles.specs.Layout.{IsLaidOut};
 ghost use Rattle.block_handles.specs.Names.{IsHandle};
 ghost use Rattle.block_handles.specs.Store.{Store};
+ghost use Rattle.geos_table.specs.Memory.{Memory, is_marked};
+ghost use Rattle.geos_table.specs.VmCalls.{vuid};
 ghost use Rattle.vm_file.specs.State.{Finds};
 ghost use Rattle.vm_blocks.specs.Blocks.{uid_of, is_marked_in};
+ghost use Rattle.vm_blocks.specs.DoesRow.{DoesRow};
+ghost use Rattle.vm_blocks.specs.FileOf.{IsMemoryOf};
 ghost use Rattle.vm_blocks.specs.Listed.{IsListOf};
+ghost use Rattle.vm_blocks.specs.Refused.{of_uid};
 ghost use Rattle.vm_blocks.specs.Tied.{IsTied, NoneResident};
 ghost use Rattle.vm_blocks.specs.View.{held_at, with_held};
 
@@ -104,7 +109,8 @@ impl<D: Device + Drop> VmBlocks<D> {
 
     /// The user ID of a block.
     pub fn uid(&self, h: u16) -> Option<u16>
-        ensures { result ≡ option_map uid_of (held_at self.now h) }
+        ensures uid { result ≡ option_map uid_of (held_at self.now h) }
+        ensures row { (s : Store) → IsTied D.image D.honest self.now s → DoesRow D.image D.honest D.failed (vuid h) (of_uid result) self.now s self.now s }
     {
         match self.held(h) {
             Some(held) => Some(held.uid),
@@ -114,7 +120,9 @@ impl<D: Device + Drop> VmBlocks<D> {
 
     /// Whether a block is marked as changed; `false` where none has this handle.
     pub fn marked(&self, h: u16) -> bool
-        ensures { result ≡ is_marked_in (held_at self.now h) }
+        ensures mark { result ≡ is_marked_in (held_at self.now h) }
+        // The model's mark of it, in each memory that it may have.
+        ensures told { (s : Store) (m : Memory) → IsTied D.image D.honest self.now s → IsMemoryOf D.image D.honest self.now s m → is_marked m h ≡ result }
     {
         match self.held(h) {
             Some(held) => held.marked,

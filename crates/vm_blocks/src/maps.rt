@@ -1,8 +1,11 @@
 //! What is mapped, and blocks that are found by their user IDs.
-ghost use Rattle.std.specs.Prelude.{◌≡◌, ◌≢◌, ◌↔◌, ℕ, IfSome, IfNone, IsSomeAnd, IsTrue};
+ghost use Rattle.std.specs.Prelude.{◌≡◌, ◌≢◌, ◌↔◌, ℕ, Ok, IfSome, IfNone, IsSomeAnd, IsTrue};
 ghost use Rattle.block_handles.specs.Store.{Store};
+ghost use Rattle.geos_table.specs.ItemCalls.{igetmap, isetmap};
+ghost use Rattle.geos_table.specs.VmCalls.{vfind, vgetmap, vsetmap};
 ghost use Rattle.vm_file.specs.Directories.{group_uid};
 ghost use Rattle.vm_blocks.specs.Blocks.{AllListed, HasUid, IsLowestUnlisted, IsNextWith, NoneWith};
+ghost use Rattle.vm_blocks.specs.DoesRow.{DoesRow};
 ghost use Rattle.vm_blocks.specs.Tied.{IsTied};
 ghost use Rattle.vm_blocks.specs.View.{held_at};
 
@@ -38,6 +41,9 @@ impl<D: Device + Drop> VmBlocks<D> {
     pub fn find(&self, start: u16, uid: u16) -> u16
         ensures found { result ≢ 0 → IsNextWith self.now start uid result }
         ensures none { result ≡ 0 → NoneWith self.now start uid }
+        // Its row of the table of calls, but for the user ID of groups, which that refuses.
+        ensures row { uid ≢ group_uid → (s : Store) → IsTied D.image D.honest self.now s
+            → DoesRow D.image D.honest D.failed (vfind start uid) (Ok result) self.now s self.now s }
     {
         let _ = &self.entries;
         for h in 1..1025 {
@@ -50,7 +56,8 @@ impl<D: Device + Drop> VmBlocks<D> {
 
     /// The map block; 0 for none.
     pub fn map(&self) -> u16
-        ensures { result ≡ self.now.map_block }
+        ensures map { result ≡ self.now.map_block }
+        ensures row { (s : Store) → IsTied D.image D.honest self.now s → DoesRow D.image D.honest D.failed vgetmap (Ok result) self.now s self.now s }
     {
         self.map_block
     }
@@ -60,13 +67,16 @@ impl<D: Device + Drop> VmBlocks<D> {
         requires { h ≢ 0 → IsSomeAnd (held_at self.old h) (λ e. e.uid ≢ group_uid) }
         ensures state { self.new ≡ record self.old { map_block = h } }
         ensures tied { (s : Store) → IsTied D.image D.honest self.old s → IsTied D.image D.honest self.new s }
+        // Its row of the table of calls, in each memory that the model may have before it.
+        ensures row { (s : Store) → IsTied D.image D.honest self.old s → DoesRow D.image D.honest D.failed (vsetmap h) (Ok tt) self.old s self.new s }
     {
         self.map_block = h;
     }
 
     /// The map item: a group, 0 for none, and an item of it.
     pub fn map_item(&self) -> (u16, u16)
-        ensures { result ≡ self.now.map_item }
+        ensures item { result ≡ self.now.map_item }
+        ensures row { (s : Store) → IsTied D.image D.honest self.now s → DoesRow D.image D.honest D.failed igetmap (Ok result) self.now s self.now s }
     {
         self.map_item
     }
@@ -77,6 +87,8 @@ impl<D: Device + Drop> VmBlocks<D> {
         requires no_item { group ≡ 0 → item ≡ 0 }
         ensures state { self.new ≡ record self.old { map_item = (group, item) } }
         ensures tied { (s : Store) → IsTied D.image D.honest self.old s → IsTied D.image D.honest self.new s }
+        // Its row of the table of calls, in each memory that the model may have before it.
+        ensures row { (s : Store) → IsTied D.image D.honest self.old s → DoesRow D.image D.honest D.failed (isetmap group item) (Ok tt) self.old s self.new s }
     {
         self.map_item = (group, item);
     }
