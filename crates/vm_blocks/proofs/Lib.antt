@@ -31,5 +31,6 @@ pub mod Committed
 pub mod CommitTests
 pub mod CommitDoes
 pub mod Lasting
+pub mod MemoryKept
 pub mod Whole
 pub mod Begun

@@ -12,3 +12,4 @@ pub mod ListedCalls
 pub mod Refused
 pub mod Commit
 pub mod Keeping
+pub mod MemoryKeeping

@@ -3,6 +3,7 @@ ghost use Rattle.std.specs.Prelude.{ℕ};
 ghost use Rattle.block_handles.specs.Layout.{IsLaidOut};
 ghost use Rattle.block_handles.specs.Store.{Store};
 ghost use Rattle.vm_blocks.specs.Keeping.{IsMarkedHeap, SameBut};
+ghost use Rattle.vm_blocks.specs.MemoryKeeping.{BlocksMayGo, MarkedMayChange, OthersMayChange, RoomMayWant};
 ghost use Rattle.vm_blocks.specs.Tied.{IsTied};
 
 use crate::blocks::VmBlocks;
@@ -16,5 +17,14 @@ impl<D: Device + Drop> VmBlocks<D> {
         ensures others { (s t : Store) → IsTied D.image D.honest self.now s → IsLaidOut t → SameBut s t 0 → IsTied D.image D.honest self.now t }
         ensures marked { (s t : Store) (h : ℕ) → IsTied D.image D.honest self.now s → IsLaidOut t → SameBut s t h → IsMarkedHeap self.now t h
             → IsTied D.image D.honest self.now t }
+    {}
+
+    /// What those changes make of the model's memory, and of blocks that are discarded; and where
+    /// room may be wanting in it.
+    pub fn memory_may_change(&self)
+        ensures others { OthersMayChange D.image D.honest self.now }
+        ensures discarded { BlocksMayGo D.image D.honest self.now }
+        ensures marked { MarkedMayChange D.image D.honest self.now }
+        ensures room { RoomMayWant D.image D.honest self.now }
     {}
 }
