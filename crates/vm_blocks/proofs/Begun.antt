@@ -1,6 +1,6 @@
 -- The model's memory of a file that was opened, none of whose blocks is in memory.
-use Rattle.std.proofs.Common.{◌≡◌, ◌≢◌, ℕ, ◌<◌, List, length, map, take, Option, Some, None, true, refl, sym, ap, ◌∙◌, subst, inl, inr}
-use Rattle.std.specs.Prelude.{IfSome, IsSomeAnd, option_map}
+use Rattle.std.proofs.Common.{◌≡◌, ◌≢◌, ℕ, suc, ◌<◌, List, [], ◌∷◌, length, map, Option, Some, None, Bool, true, false, refl, sym, ap, ◌∙◌, subst, inl, inr, arith}
+use Rattle.std.specs.Prelude.{All, IfSome, IsSomeAnd, ◌==◌, find, if◌then◌else◌, option_map}
 use Rattle.std.specs.List.{range_with_len}
 use Rattle.std.proofs.lemmas.List.{length-map}
 use Rattle.std.proofs.lemmas.List.FromFn.{length-map-range_with_len}
@@ -8,8 +8,6 @@ use Rattle.geos_table.specs.Directories.{KeptBlock, group_uid, idle_block, with_
 use Rattle.geos_table.specs.Directories as model
 use Rattle.geos_table.specs.Handles.{at_handle}
 use Rattle.geos_table.specs.Legal.{IsLegalKept, IsStored}
-use Rattle.geos_table.specs.Memory.{Memory}
-use Rattle.geos_table.specs.VmFile.{VmFile, Sure}
 use Rattle.geos_table.proofs.HandleLists.{entry-each}
 use Rattle.geos_table.proofs.LegalDirectories.{loaded-legal}
 use Rattle.block_handles.specs.Names.{IsHandle}
@@ -24,19 +22,23 @@ use Rattle.vm_blocks.specs.declared.entries.Held.{Held}
 use Rattle.vm_blocks.specs.View.{VmState, bytes_read, held_at, vm_slot}
 use Rattle.vm_blocks.specs.Tied.{AreMapped, NoneResident}
 use Rattle.vm_blocks.specs.Listed.{IsListOf, as_held, held_in}
-use Rattle.vm_blocks.specs.Spelled.{block_in}
 use Rattle.vm_blocks.specs.Matches.{IsListedAs, entry_at, stored_block, stored_directory}
 use Rattle.vm_blocks.specs.FileOf.{IsMemoryOf}
+use Rattle.vm_blocks.specs.Opened.{AreWords, opened_memory}
 use Rattle.vm_blocks.proofs.Committed.{idle-away}
 use Rattle.vm_blocks.proofs.HeapsRead.{read-legal}
 use Rattle.vm_blocks.proofs.Opened.{list-maps}
 use Rattle.vm_blocks.proofs.Stored.{directory-is}
 use Rattle.vm_blocks.proofs.Tables.{handle-or, table-made, table-past}
 
--- the user IDs of a directory, and its map item, are words
-pub record AreWords (d : Directory) : Type 0 where
-  pub uids : (h : ℕ) (e : Entry) → entry_at d h ≡ Some e → e.uid < 65536
-  pub item : d.map_item.1 < 65536
+-- what holds of each entry holds of the one that is found
+found-each : (P : Entry → Type 0) (h : ℕ) (es : List Entry) (e : Entry) → All P es → find (λ x. x.h == h) es ≡ Some e → P e
+found-each P h [] e all is = absurd cc
+found-each P h (x ∷ es) e all is = on (x.h == h) is (found-each P h es e (λ k d l. all (suc k) d (omega (arith, l))))
+  where
+    on : (t : Bool) → (if t then Some x else find (λ y. y.h == h) es) ≡ Some e → (find (λ y. y.h == h) es ≡ Some e → P e) → P e
+    on true is more = let same : x ≡ e = cc in subst P same (all 0 x (omega arith))
+    on false is more = more is
 
 module _ {D : Type 0} (v : VmState D) (d : Directory) (blocks : List Block) (legal : is_directory d ≡ true) (words : AreWords d) where
   abbrev stored_at : ℕ → Option KeptBlock
@@ -68,7 +70,7 @@ module _ {D : Type 0} (v : VmState D) (d : Directory) (blocks : List Block) (leg
 
   kept-legal-at : (h : ℕ) (o : Option Entry) → entry_at d h ≡ o → IfSome (option_map (stored_block (bytes_of_block blocks h)) o) IsLegalKept
   kept-legal-at h None is = tt
-  kept-legal-at h (Some e) is = record { uid = words.uids h e is; heap = read-legal e.len (bytes_of_block blocks h) (found_entry d.entries.items 0 h e (legal_from d legal).entries is).1.size }
+  kept-legal-at h (Some e) is = record { uid = found-each (λ x. x.uid < 65536) h d.entries.items e words.uids is; heap = read-legal e.len (bytes_of_block blocks h) (found_entry d.entries.items 0 h e (legal_from d legal).entries is).1.size }
 
   pub stored-legal : IsStored (stored_directory d blocks)
   stored-legal =
@@ -96,14 +98,8 @@ module _ {D : Type 0} (image : D → List ℕ) (honest : D → Type 0) (v : VmSt
   abbrev saved : model.Directory KeptBlock
   saved = stored_directory v.file.saved (pair_of image v.file).saved.blocks
 
-  abbrev pub opened_file : VmFile
-  opened_file = record { cur = with_each idle_block cur; saved = saved; kept = Sure (record { cur = cur; saved = saved }); area = v.file.area }
-
-  abbrev pub opened_memory : Memory
-  opened_memory = record { blocks = map block_in (take 1024 s.blocks); file = opened_file; region = s.len }
-
   -- it is the model's memory
-  pub memory-opened : IsMemoryOf image honest v s opened_memory
+  pub memory-opened : IsMemoryOf image honest v s (opened_memory image v.file s)
   memory-opened =
       let fair = honest v.file.device in
       let one = directory-is fair v.file.current (pair_of image v.file).cur.blocks in

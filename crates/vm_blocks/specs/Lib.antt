@@ -7,6 +7,7 @@ pub mod Listed
 pub mod Spelled
 pub mod Matches
 pub mod FileOf
+pub mod Opened
 pub mod DoesRow
 pub mod ListedCalls
 pub mod Refused

@@ -10,11 +10,12 @@ ghost use Rattle.vm_blocks.specs.Blocks.{uid_of, is_marked_in};
 ghost use Rattle.vm_blocks.specs.DoesRow.{DoesRow};
 ghost use Rattle.vm_blocks.specs.FileOf.{IsMemoryOf};
 ghost use Rattle.vm_blocks.specs.Listed.{IsListOf};
+ghost use Rattle.vm_blocks.specs.Opened.{opened_memory};
 ghost use Rattle.vm_blocks.specs.Refused.{of_uid};
 ghost use Rattle.vm_blocks.specs.Tied.{IsTied, NoneResident};
 ghost use Rattle.vm_blocks.specs.View.{held_at, with_held};
 
-use crate::entries::{Held, empty_table, list};
+use crate::entries::{Held, are_words, empty_table, list};
 use geos_model::Name;
 use std::alloc::{AllocError, Global};
 use std::marker::Model;
@@ -47,11 +48,15 @@ impl<D: Device + Drop> VmBlocks<D> {
         ensures file { IfOk result (λ v. v.file ≡ file) }
         ensures lists { IfOk result (λ v. IsListOf v file.current) }
         ensures tied { IfOk result (λ v. (s : Store) → IsLaidOut s → NoneResident s → IsTied D.image D.honest v s) }
+        // The model's memory to begin with, where the file is sure.
+        ensures memory { IfOk result (λ v. file.sure ≡ true → (s : Store) → NoneResident s → IsMemoryOf D.image D.honest v s (opened_memory D.image file s)) }
         ensures back { IfErr result (λ e. e.0 ≡ file) }
     {
         match empty_table(alloc) {
             Ok(mut entries) => {
+                are_words(file.saved());
                 let current = file.current();
+                are_words(current);
                 list(&mut entries, current);
                 let map_block = current.map_block;
                 let map_item = current.map_item;

@@ -1,8 +1,9 @@
 //! What is listed of the blocks of a file.
-ghost use Rattle.std.specs.Prelude.{◌≡◌, ℕ, length, IfOk, None};
+ghost use Rattle.std.specs.Prelude.{◌≡◌, ◌<◌, ℕ, length, IfOk, None};
 ghost use Rattle.geos_table.specs.Handles.{at_handle};
 ghost use Rattle.block_handles.specs.Names.{IsHandle};
 ghost use Rattle.vm_blocks.specs.Listed.{held_in};
+ghost use Rattle.vm_blocks.specs.Opened.{AreWords};
 
 use std::alloc::{AllocError, Global};
 use vm_file::Directory;
@@ -40,5 +41,20 @@ pub(crate) fn list(table: &mut Vec<Option<Held>>, directory: &Directory)
             }),
             None => None,
         };
+    }
+}
+
+/// A word is below 65,536.
+fn is_word(word: u16)
+    ensures { word < 65536 }
+{}
+
+/// The user IDs of a directory, and its map item, are words.
+pub(crate) fn are_words(directory: &Directory)
+    ensures { AreWords directory.now }
+{
+    is_word(directory.map_item.1);
+    for entry in directory.entries.as_slice() {
+        is_word(entry.uid);
     }
 }
