@@ -11,7 +11,7 @@ use Rattle.geos_listing.specs.Listing.{listing}
 use Rattle.geos_explain.specs.Explanation.{explanation, IsVerdict}
 use Rattle.geos_explain.specs.Texts.{text_explanation}
 use Rattle.geos_source.specs.InstrLines.{instr_lines}
-use Rattle.geos_explain.specs.Causes.{cause_text}
+use Rattle.geos_causes.specs.Causes.{cause_text}
 use Rattle.geos_infer.specs.declared.cause.Cause.{Cause}
 use Rattle.geos_asm.specs.Assembling.{IsAssembled, IsTextOf, IsCauseOf}
 use Rattle.geos.specs.declared.fault.CheckFault.{CheckFault}

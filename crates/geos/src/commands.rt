@@ -7,7 +7,8 @@ ghost use Rattle.geos.specs.Commands.{IsAssembledAs, IsListed, IsAccepted, IsDue
 
 use crate::fault::CheckFault;
 use geos_asm::{AssembleError, assemble, list, why_no_rows};
-use geos_explain::{explain, explain_cause, explain_text};
+use geos_causes::explain_cause;
+use geos_explain::{explain, explain_text};
 use geos_image::ReadError;
 use geos_source::lines_of_instrs;
 use geos_verify::{Reject, check};

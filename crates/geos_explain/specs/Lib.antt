@@ -9,4 +9,3 @@ pub mod Steps
 pub mod Words
 pub mod Explanation
 pub mod Texts
-pub mod Causes

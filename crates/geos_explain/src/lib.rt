@@ -4,7 +4,6 @@
 //! docs/FORMATS.md has the form.
 #![tactic(auto)]
 
-mod causes;
 mod explanation;
 mod lacks;
 mod notes;
@@ -17,6 +16,6 @@ mod uses;
 mod ways;
 mod words;
 
-pub use causes::explain_cause;
 pub use explanation::explain;
+pub use numbers::{put_numbered, put_pc};
 pub use texts::explain_text;

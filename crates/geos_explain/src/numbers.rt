@@ -5,8 +5,8 @@ ghost use Rattle.geos_explain.specs.Numbers.{steps_word, verb, owed_text, left_t
 
 use std::alloc::AllocError;
 
-/// A sign and a number.
-pub(crate) fn put_numbered(out: &mut Vec<u8>, sign: &str, n: u64) -> Result<(), AllocError>
+/// A sign and a number in decimal digits are written behind what there is. An error says that an allocation was refused.
+pub fn put_numbered(out: &mut Vec<u8>, sign: &str, n: u64) -> Result<(), AllocError>
     ensures { OnOk result (out.new.items ≡ out.old.items ++ sign.now ++ decimal n) }
 {
     out.extend_from_slice(sign.as_bytes())?;
@@ -78,9 +78,10 @@ pub(crate) fn put_left(out: &mut Vec<u8>, n: u64) -> Result<(), AllocError>
     out.extend_from_slice(b" left")
 }
 
-/// A pc as the reader has it: in an author's text its line, else itself.
+/// A pc as the reader has it: in an author's text its line, else itself. `lines` has the number of each instruction's line,
+/// or nothing. An error says that an allocation was refused.
 #[tactic(auto, unfolding(crate::specs::Numbers::pc_text))]
-pub(crate) fn put_pc(out: &mut Vec<u8>, lines: &[usize], pc: u16) -> Result<(), AllocError>
+pub fn put_pc(out: &mut Vec<u8>, lines: &[usize], pc: u16) -> Result<(), AllocError>
     ensures { OnOk result (out.new.items ≡ out.old.items ++ pc_text lines.now pc) }
 {
     match lines.get(usize::from(pc)) {

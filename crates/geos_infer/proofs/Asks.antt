@@ -17,6 +17,7 @@ use Rattle.geos_verify.specs.Touched.{calls}
 use Rattle.geos_verify.specs.Potentials.{asks, asks_setting, asks_calling, asked_along, asked_branching, budget_of}
 use Rattle.geos_verify.proofs.Places.{item_at, if_some}
 use Rattle.geos_infer.specs.declared.edges.Edge.{Edge}
+use Rattle.geos_infer.specs.Causes.{is_loop}
 use Rattle.geos_infer.specs.Code.{Forward, has_edge, edge_end}
 use Rattle.geos_infer.specs.Edges.{leads_ahead, edge_of, edge_ahead}
 use Rattle.geos_infer.specs.Numbers.{Numbers, zeros}
@@ -128,6 +129,11 @@ module _ (image : Parts) (limit pc : ℕ) (branch : Bool) (lt : pc < length imag
       by_branch true has free = asks-branching image i i.opcode q has free
       by_branch false has free = asks-along image i i.opcode row q free
 
+-- what is a LOOP has that opcode
+pub loop-only : (opcode : Opcode) → is_loop opcode ≡ true → opcode ≡ Loop
+loop-only Loop e = refl
+loop-only _ e = absurd cc
+
 -- there is no LOOP
 pub no-loop : (image : Parts) → Forward image → (pc : ℕ) (i : Instr) → pc < length image.points → IfSome (slice_get image.points pc) (λ point. i ≡ point.instr) → i.opcode ≢ Loop
 no-loop image forward pc i lt there =
@@ -138,10 +144,10 @@ no-loop image forward pc i lt there =
 -- Both edges of an instruction
 
 module _ (image : Parts) (limit pc : ℕ) (steps : List ℕ) (i : Instr) (along branching : Option Asked) (coefficients : List ℕ) (first second value : ℕ)
-    (lt : pc < length image.points) (forward : Forward image) (there : IfSome (slice_get image.points pc) (λ point. i ≡ point.instr))
+    (lt : pc < length image.points) (there : IfSome (slice_get image.points pc) (λ point. i ≡ point.instr))
     (A : IfSome (slice_get image.points pc) (λ point. AsksFor (edge_steps image limit pc point.instr false steps) along))
     (B : IfSome (slice_get image.points pc) (λ point. AsksFor (edge_steps image limit pc point.instr true steps) branching))
-    (joins : i.opcode ≢ Loop → coefficients ≡ zip2 max (asked_coefficients along) (asked_coefficients branching))
+    (joins : coefficients ≡ zip2 max (asked_coefficients along) (asked_coefficients branching))
     (owes : coefficients ≡ zeros → first ≡ asked_steps along) (owes_too : coefficients ≡ zeros → second ≡ asked_steps branching)
     (is : value ≡ max (return_steps i) (max first second)) where
   at_point : (point : Point) × (slice_get image.points pc ≡ Some point) × (coefficients ≡ zeros) × (value ≡ steps_at image limit pc point.instr steps)
@@ -150,7 +156,7 @@ module _ (image : Parts) (limit pc : ℕ) (steps : List ℕ) (i : Instr) (along 
       let same : i ≡ found.0.instr = if_some (λ point. i ≡ point.instr) (slice_get image.points pc) found.0 found.1 there in
       let a = if_some (λ point. AsksFor (edge_steps image limit pc point.instr false steps) along) (slice_get image.points pc) found.0 found.1 A in
       let b = if_some (λ point. AsksFor (edge_steps image limit pc point.instr true steps) branching) (slice_get image.points pc) found.0 found.1 B in
-      let free : coefficients ≡ zeros = joins (no-loop image forward pc i lt there) ∙ ap (λ (x : List ℕ). zip2 max x (asked_coefficients branching)) a.zero ∙ ap (λ (x : List ℕ). zip2 max zeros x) b.zero in
+      let free : coefficients ≡ zeros = joins ∙ ap (λ (x : List ℕ). zip2 max x (asked_coefficients branching)) a.zero ∙ ap (λ (x : List ℕ). zip2 max zeros x) b.zero in
       let returning : return_steps i ≡ return_steps found.0.instr = ap return_steps same in
       let one : first ≡ edge_steps image limit pc found.0.instr false steps = owes free ∙ a.steps in
       let two : second ≡ edge_steps image limit pc found.0.instr true steps = owes_too free ∙ b.steps in

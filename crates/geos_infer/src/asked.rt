@@ -1,8 +1,6 @@
 //! What the instruction at a pc asks of the potential there.
 
-ghost use Rattle.std.specs.Prelude.{◌≡◌, ◌≢◌, ◌<◌, max, zip, length};
-ghost use Rattle.geos_opcodes.specs.declared.opcode.Opcode.TheVariants.{Loop};
-ghost use Rattle.geos_image.specs.Fields.{FieldsFit};
+ghost use Rattle.std.specs.Prelude.{◌≡◌, ◌<◌, max, zip, length};
 ghost use Rattle.geos_verify.specs.Lists.{zip2};
 ghost use Rattle.geos_infer.specs.Numbers.{zeros};
 ghost use Rattle.geos_infer.specs.Count.{asked_steps, asked_coefficients, return_steps, AsksSteps, IsFound};
@@ -48,7 +46,7 @@ fn asked_coefficients(asked: &Option<Asked>) -> [u32; 4]
 }
 
 /// What an edge asks of the constant, where these are the coefficients.
-pub(crate) fn owed(asked: &Option<Asked>, coefficients: &[u32; 4]) -> u64
+fn owed(asked: &Option<Asked>, coefficients: &[u32; 4]) -> u64
     ensures { coefficients.now ≡ zeros → result ≡ asked_steps asked.now }
 {
     match asked {
@@ -66,7 +64,7 @@ fn larger(a: u32, b: u32) -> u32
     a.max(b)
 }
 
-fn coefficients_join(p: &[u32; 4], q: &[u32; 4]) -> [u32; 4]
+pub(crate) fn coefficients_join(p: &[u32; 4], q: &[u32; 4]) -> [u32; 4]
     ensures { result ≡ zip2 max p.now q.now }
 {
     let [p0, p1, p2, p3] = *p;
@@ -79,23 +77,8 @@ fn coefficients_join(p: &[u32; 4], q: &[u32; 4]) -> [u32; 4]
     ]
 }
 
-/// The coefficients, with that of a LOOP's counter at what a unit of it pays for at least.
-fn raised(i: &Instr, pays: u32, coefficients: [u32; 4]) -> [u32; 4]
-    requires { FieldsFit i.now.opcode i.now }
-    ensures { i.now.opcode ≢ Loop → result ≡ coefficients }
-{
-    match i.opcode {
-        Opcode::Loop => {
-            let mut next = coefficients;
-            next[i.a as usize] = larger(next[i.a as usize], pays);
-            next
-        }
-        _ => coefficients,
-    }
-}
-
 /// What a return asks for.
-fn return_steps(i: &Instr) -> u64
+pub(crate) fn return_steps(i: &Instr) -> u64
     ensures { result ≡ return_steps i.now }
 {
     match i.opcode {
@@ -110,29 +93,20 @@ fn larger64(a: u64, b: u64) -> u64
     a.max(b)
 }
 
-/// The least coefficients that pay for both edges of the instruction at a pc, where a unit of a
-/// LOOP's counter pays for so much.
-pub(crate) fn coefficients_at(
-    i: &Instr,
-    along: &Option<Asked>,
-    branching: &Option<Asked>,
-    pays: u32,
-) -> [u32; 4]
-    requires { FieldsFit i.now.opcode i.now }
-    ensures { i.now.opcode ≢ Loop → result ≡ zip2 max (asked_coefficients along.now) (asked_coefficients branching.now) }
+/// The least coefficients that pay for both edges of an instruction.
+fn coefficients_at(along: &Option<Asked>, branching: &Option<Asked>) -> [u32; 4]
+    ensures { result ≡ zip2 max (asked_coefficients along.now) (asked_coefficients branching.now) }
 {
-    let both = coefficients_join(&asked_coefficients(along), &asked_coefficients(branching));
-    raised(i, pays, both)
+    coefficients_join(&asked_coefficients(along), &asked_coefficients(branching))
 }
 
-/// The least potential that pays for what the instruction at a pc asks, where a unit of a LOOP's
-/// counter pays for so much; `None` where its constant is past what a potential can say.
+/// The least potential that pays for what the instruction at a pc asks; `None` where its constant is
+/// past what a potential can say.
 pub(crate) fn potential_at(
     body: &Body,
     known: &Known,
     potentials: &Potentials,
     pc: u16,
-    pays: u32,
 ) -> Option<Potential>
     requires { pc < body.now.end }
     ensures { IsFound body.now.image.now body.now.end pc potentials.now result }
@@ -140,7 +114,7 @@ pub(crate) fn potential_at(
     let i = body.image.instr(pc);
     let along = asked_over(body, known, potentials, pc, false);
     let branching = asked_over(body, known, potentials, pc, true);
-    let coefficients = coefficients_at(i, &along, &branching, pays);
+    let coefficients = coefficients_at(&along, &branching);
     let edges = larger64(owed(&along, &coefficients), owed(&branching, &coefficients));
     match u32::try_from(larger64(return_steps(i), edges)) {
         Ok(constant) => Some(Potential {

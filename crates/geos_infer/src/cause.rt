@@ -7,7 +7,7 @@ ghost use Rattle.geos_image.specs.declared.point.Point.{Point};
 use crate::apart::{Apart, find_apart};
 use crate::body::{Body, body_of};
 use crate::cycles::has_unpaid_cycle;
-use crate::edges::{edge_end, has_edge};
+use crate::edges::{edge_end, has_edge, is_loop};
 use crate::table::Table;
 use geos_image::{Image, Instr, Opcode};
 use std::alloc::{AllocError, Global};
@@ -62,15 +62,6 @@ fn back_at(body: &Body, from: u16) -> Option<BackWay>
         Some(BackWay { from, to })
     } else {
         None
-    }
-}
-
-fn is_loop(opcode: Opcode) -> bool
-    ensures { result ≡ is_loop opcode }
-{
-    match opcode {
-        Opcode::Loop => true,
-        _ => false,
     }
 }
 

@@ -1,44 +1,59 @@
-//! Steps are counted from behind, sweep after sweep, until the edges that lead back are paid
-//! too.
+//! How many steps are left at most, and what units of counters pay for, routine by routine.
 
-ghost use Rattle.std.specs.Prelude.{◌≡◌, ◌<◌, ◌≤◌, ℕ, is_some, length, IfOk, IfErr, IfSome};
+ghost use Rattle.std.specs.Prelude.{◌≡◌, ◌<◌, ◌≤◌, ℕ, false, is_some, length, IfOk, IfErr, IfSome};
 ghost use Rattle.geos_infer.specs.declared.error.InferError.TheVariants.{NoRows};
+ghost use Rattle.geos_infer.specs.Code.{Forward};
 ghost use Rattle.geos_infer.specs.Solutions.{NoStepsHold};
 ghost use Rattle.geos_infer.specs.Count.{CountsOn, CountsAll, AreCounted};
 ghost use Rattle.geos_infer.specs.Theorem.{NamesRoutine};
 
 use crate::asked::potential_at;
 use crate::body::{Body, body_of};
+use crate::costly::note_costly;
 use crate::cycles::has_unpaid_cycle;
+use crate::edges::{edge_back, is_loop};
 use crate::error::InferError;
 use crate::known::Known;
-use crate::loops::find_units;
-use crate::paid::{are_paid, back_edges};
+use crate::paid::are_paid;
 use crate::potentials::Potentials;
 use crate::spent::{calls_are_spent, find_touched};
 use crate::table::Table;
-use geos_image::Image;
+use crate::units::find_units;
+use crate::ways::Ways;
+use geos_image::{Image, Potential};
 use geos_verify::Touched;
 use std::alloc::{AllocError, Global};
 
-/// Steps of a routine are counted from its last instruction to its first, where a unit of a LOOP's
-/// counter pays for so much; whether some potential is another now, and `None` where a number is
+/// Steps of a routine are counted from its last instruction to its first; `None` where a number is
 /// past what a potential can say.
-fn sweep(
-    body: &Body,
-    known: &Known,
-    units: &Table<u32>,
-    potentials: &mut Potentials,
-) -> Option<bool>
+fn sweep(body: &Body, known: &Known, potentials: &mut Potentials) -> Option<()>
     ensures { CountsOn body.now.image.now body.now.r potentials.old potentials.new (is_some result) }
 {
-    let mut changed = false;
     for pc in (body.start..body.end).rev() {
-        let next = potential_at(body, known, potentials, pc, units.at(pc))?;
-        changed |= next != potentials.at(pc);
+        let next = potential_at(body, known, potentials, pc)?;
         potentials.set(pc, next);
     }
-    Some(changed)
+    Some(())
+}
+
+/// Whether the instruction at a pc is a LOOP, or leads back.
+fn loops_at(body: &Body, pc: u16) -> bool
+    requires { pc < body.now.end }
+    ensures { Forward body.now.image.now → result ≡ false }
+{
+    is_loop(body.image.instr(pc).opcode) || edge_back(body, pc, true).is_some()
+}
+
+/// Whether some instruction of a routine does.
+fn has_loops(body: &Body) -> bool
+    ensures { Forward body.now.image.now → result ≡ false }
+{
+    for pc in body.start..body.end {
+        if loops_at(body, pc) {
+            return true;
+        }
+    }
+    false
 }
 
 /// Tables that counting writes.
@@ -46,10 +61,7 @@ fn sweep(
 struct Tables {
     into: Table<u16>,
     listed: Table<u16>,
-    ends: Table<u16>,
-    heads: Table<u16>,
-    ways: Potentials,
-    units: Table<u32>,
+    ways: Ways,
 }
 
 impl Tables {
@@ -57,16 +69,50 @@ impl Tables {
         Ok(Tables {
             into: Table::new(alloc, 0)?,
             listed: Table::new(alloc, 0)?,
-            ends: Table::new(alloc, 0)?,
-            heads: Table::new(alloc, 0)?,
-            ways: Potentials::new(alloc)?,
-            units: Table::new(alloc, 0)?,
+            ways: Ways::new(alloc)?,
         })
     }
 }
 
-/// Counts the steps of a routine; `false` where no number of them is found to be enough, or a
+/// The potentials of a routine are the steps of the longest ways, and what units pay for; `false` where a number is past
+/// what a potential can say.
+fn put_ways(body: &Body, ways: &Ways, potentials: &mut Potentials) -> bool {
+    for pc in body.start..body.end {
+        let Ok(constant) = u32::try_from(ways.steps.at(pc)) else {
+            return false;
+        };
+        potentials.set(
+            pc,
+            Potential {
+                constant,
+                coefficients: ways.units.at(pc),
+            },
+        );
+    }
+    true
+}
+
+/// Counts the steps of a routine with loops; `false` where no number of them is found to be enough, or a
 /// counter is wanted behind a call that touches it.
+fn count_loops(
+    body: &Body,
+    known: &Known,
+    touched: &Touched,
+    tables: &mut Tables,
+    potentials: &mut Potentials,
+) -> bool {
+    if has_unpaid_cycle(body, &mut tables.into, &mut tables.listed) {
+        return false;
+    }
+    tables.ways.arcs.note(body, known, touched);
+    note_costly(body, &mut tables.ways);
+    find_units(body, &mut tables.ways)
+        && put_ways(body, &tables.ways, potentials)
+        && are_paid(body, known, potentials)
+        && calls_are_spent(body, touched, potentials)
+}
+
+/// Counts the steps of a routine; `false` where no number of them is found to be enough.
 fn count_in(
     body: &Body,
     known: &Known,
@@ -76,31 +122,11 @@ fn count_in(
 ) -> bool
     ensures { CountsOn body.now.image.now body.now.r potentials.old potentials.new result }
 {
-    if has_unpaid_cycle(body, &mut tables.into, &mut tables.listed) {
-        return false;
+    if has_loops(body) {
+        count_loops(body, known, touched, tables, potentials)
+    } else {
+        sweep(body, known, potentials).is_some()
     }
-    find_units(
-        body,
-        known,
-        &mut tables.ends,
-        &mut tables.heads,
-        &mut tables.ways,
-        &mut tables.units,
-    );
-    // Each sweep carries what an edge that leads back asks for over one such edge: first the
-    // coefficients, then the constants.
-    for _ in 0..2 * back_edges(body) + 3 {
-        let Some(changed) = sweep(body, known, &tables.units, potentials) else {
-            return false;
-        };
-        if are_paid(body, known, potentials) {
-            return calls_are_spent(body, touched, potentials);
-        }
-        if !changed {
-            return false;
-        }
-    }
-    false
 }
 
 /// Counts the steps of so many routines, from the last to the first; the first one for which no

@@ -1,11 +1,12 @@
 //! Where control goes from an instruction, within its routine.
 
 ghost use Rattle.std.specs.Prelude.{◌≡◌, ◌<◌, None, slice_get, IfSome};
+ghost use Rattle.geos_infer.specs.Causes.{is_loop};
 ghost use Rattle.geos_infer.specs.Code.{Forward, has_edge, edge_end};
 ghost use Rattle.geos_infer.specs.Edges.{edge_ahead, IsInside};
 
 use crate::body::Body;
-use geos_image::Instr;
+use geos_image::{Instr, Opcode};
 use geos_verify::{branches, falls_through};
 
 /// An edge of the instruction at a pc: to its target where `branch` says so, else to the next
@@ -16,6 +17,16 @@ pub(crate) struct Edge {
     pub(crate) branch: bool,
     /// Where it leads.
     pub(crate) to: u16,
+}
+
+/// Whether the instruction is a LOOP.
+pub(crate) fn is_loop(opcode: Opcode) -> bool
+    ensures { result ≡ is_loop opcode }
+{
+    match opcode {
+        Opcode::Loop => true,
+        _ => false,
+    }
 }
 
 /// Whether the instruction has the edge: to its target, or to the next instruction.

@@ -4,10 +4,12 @@
 #![tactic(auto)]
 
 mod apart;
+mod arcs;
 mod asked;
 mod body;
 mod cause;
 mod common;
+mod costly;
 mod count;
 mod cycles;
 mod descent;
@@ -16,7 +18,7 @@ mod error;
 mod flow;
 mod inference;
 mod known;
-mod loops;
+mod longest;
 mod paid;
 mod potentials;
 mod rounds;
@@ -24,7 +26,9 @@ mod rows;
 mod seeds;
 mod spent;
 mod table;
+mod units;
 mod unreached;
+mod ways;
 mod widening;
 
 pub use apart::{Apart, Coming};

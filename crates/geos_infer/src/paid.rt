@@ -1,6 +1,6 @@
-//! Whether the edges that lead back are paid for.
+//! Whether edges are paid for, and how many of them lead back.
 
-ghost use Rattle.std.specs.Prelude.{◌≡◌, ◌<◌, ◌≤◌, true, false};
+ghost use Rattle.std.specs.Prelude.{◌≡◌, ◌<◌, ◌≤◌};
 ghost use Rattle.geos_infer.specs.Code.{Forward};
 
 use crate::asked::asked_over;
@@ -9,26 +9,23 @@ use crate::edges::edge_back;
 use crate::known::Known;
 use crate::potentials::Potentials;
 
-/// Whether the edge to the target is paid for, if it leads back.
-fn is_paid(body: &Body, known: &Known, potentials: &Potentials, pc: u16) -> bool
+/// Whether an edge is paid for, if the instruction at the pc has it and it stays in the routine.
+fn is_paid(body: &Body, known: &Known, potentials: &Potentials, pc: u16, branch: bool) -> bool
     requires { pc < body.now.end }
-    ensures { Forward body.now.image.now → result ≡ true }
 {
-    let None = edge_back(body, pc, true) else {
-        return match asked_over(body, known, potentials, pc, true) {
-            Some(asked) => asked.is_paid(&potentials.at(pc)),
-            None => true,
-        };
-    };
-    true
+    match asked_over(body, known, potentials, pc, branch) {
+        Some(asked) => asked.is_paid(&potentials.at(pc)),
+        None => true,
+    }
 }
 
-/// Whether each edge of a routine that leads back is paid for; no instruction is its own next.
-pub(crate) fn are_paid(body: &Body, known: &Known, potentials: &Potentials) -> bool
-    ensures { Forward body.now.image.now → result ≡ true }
-{
+/// Whether each edge of a routine is paid for.
+pub(crate) fn are_paid(body: &Body, known: &Known, potentials: &Potentials) -> bool {
     for pc in body.start..body.end {
-        if !is_paid(body, known, potentials, pc) {
+        if !is_paid(body, known, potentials, pc, false) {
+            return false;
+        }
+        if !is_paid(body, known, potentials, pc, true) {
             return false;
         }
     }

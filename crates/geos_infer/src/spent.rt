@@ -1,15 +1,12 @@
 //! Behind a call nothing is known of the counters that the routine touches, so that no coefficient
 //! may be left on them.
 
-ghost use Rattle.std.specs.Prelude.{◌≡◌, ◌<◌, true};
-ghost use Rattle.geos_infer.specs.Count.{ZerosFrom};
-ghost use Rattle.geos_infer.specs.Numbers.{zeros};
-ghost use Rattle.geos_image.specs.Parts.{start_of};
+ghost use Rattle.std.specs.Prelude.{◌<◌};
 
 use crate::body::Body;
 use crate::potentials::Potentials;
-use geos_image::{Image, Opcode, Potential};
-use geos_verify::{Touched, touched_in};
+use geos_image::{Image, Opcode};
+use geos_verify::{Touched, are_spent, touched_in};
 
 /// Which counters each routine touches; a routine may call those before it.
 pub(crate) fn find_touched(image: &Image) -> Touched {
@@ -21,24 +18,17 @@ pub(crate) fn find_touched(image: &Image) -> Touched {
 }
 
 /// Which counters a routine touches, as the table says it.
-fn touched_by(table: &Touched, r: u16) -> [bool; 4] {
+pub(crate) fn touched_by(table: &Touched, r: u16) -> [bool; 4] {
     match table.get(usize::from(r)) {
         Some(touched) => *touched,
         None => [false; 4],
     }
 }
 
-fn are_spent(touched: &[bool; 4], q: &Potential) -> bool
-    ensures { q.now.coefficients ≡ zeros → result ≡ true }
-{
-    geos_verify::are_spent(touched, q)
-}
-
 /// Whether no coefficient is left behind the instruction at the pc, if that is a call, on a counter
 /// that the routine touches.
 fn call_is_spent(body: &Body, touched: &Touched, potentials: &Potentials, pc: u16) -> bool
     requires { pc < body.now.end }
-    ensures { ZerosFrom body.now.image.now pc potentials.now.coefficients → result ≡ true }
 {
     let i = body.image.instr(pc);
     let next = pc + 1;
@@ -52,9 +42,7 @@ fn call_is_spent(body: &Body, touched: &Touched, potentials: &Potentials, pc: u1
 }
 
 /// Whether no coefficient is left behind the calls of a routine.
-pub(crate) fn calls_are_spent(body: &Body, touched: &Touched, potentials: &Potentials) -> bool
-    ensures { ZerosFrom body.now.image.now (start_of body.now.image.now.routines body.now.r) potentials.now.coefficients → result ≡ true }
-{
+pub(crate) fn calls_are_spent(body: &Body, touched: &Touched, potentials: &Potentials) -> bool {
     for pc in body.start..body.end {
         if !call_is_spent(body, touched, potentials, pc) {
             return false;

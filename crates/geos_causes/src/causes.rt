@@ -2,9 +2,9 @@
 
 ghost use Rattle.std.specs.Prelude.{◌≡◌, ◌++◌, OnOk, IfOk, codes};
 ghost use Rattle.geos_explain.specs.Numbers.{pc_text};
-ghost use Rattle.geos_explain.specs.Causes.{state_text, differing_item, differing_items, coming_from, coming_text, meeting_text, other_text, set_text, no_loop_text, no_steps_text, unknown_text, apart_text, back_text, within_text, cause_words, cause_text};
+ghost use Rattle.geos_causes.specs.Causes.{state_text, differing_item, differing_items, coming_from, coming_text, meeting_text, other_text, set_text, no_loop_text, no_steps_text, unknown_text, apart_text, back_text, within_text, cause_words, cause_text};
 
-use crate::numbers::{put_numbered, put_pc};
+use geos_explain::{put_numbered, put_pc};
 use geos_image::SlotState;
 use geos_infer::{Apart, BackWay, Cause, Coming, Within};
 use geos_listing::state_word;

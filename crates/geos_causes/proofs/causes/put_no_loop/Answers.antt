@@ -1,8 +1,8 @@
 use Rattle.std.proofs.Common.{sym}
 use Rattle.std.specs.Prelude.{codes}
 use Rattle.std.proofs.lemmas.List.{append_assoc}
-use Rattle.geos_explain.specs.Causes.{no_loop_text, back_text}
-use Rattle.geos_explain.proofs.causes.put_no_loop.Goals as goal
+use Rattle.geos_causes.specs.Causes.{no_loop_text, back_text}
+use Rattle.geos_causes.proofs.causes.put_no_loop.Goals as goal
 
 pub returns : goal.returns
 unfolding no_loop_text

@@ -1,0 +1,133 @@
+//! The edges of a routine with what they cost, and what they do to counters.
+
+ghost use Rattle.std.specs.Prelude.{◌≡◌, ◌<◌, IfSome};
+ghost use Rattle.geos_image.specs.Fields.{FieldsFit, CalleeFits};
+
+use crate::body::Body;
+use crate::edges::{Edge, edge_in};
+use crate::flow::row_of;
+use crate::known::Known;
+use crate::spent::touched_by;
+use crate::table::Table;
+use geos_image::{Opcode, Row};
+use geos_verify::Touched;
+use std::alloc::{AllocError, Global};
+
+/// What an edge does to counters.
+#[derive(Clone, Copy, Debug, PartialEq, Eq)]
+pub(crate) enum Counting {
+    Nothing,
+    /// The counter is so much behind it, at most.
+    Sets(u8, u16),
+    /// A unit is taken from the counter.
+    Takes(u8),
+    /// Nothing is known of these counters behind it.
+    Forgets([bool; 4]),
+}
+
+/// An edge that stays in its routine.
+#[derive(Clone, Copy, Debug, PartialEq, Eq)]
+pub(crate) struct Arc {
+    /// Where it leads.
+    pub(crate) to: u16,
+    /// Its step, and the budget of a routine that is called.
+    pub(crate) steps: u64,
+    pub(crate) counting: Counting,
+    ghost inside: { to < 4096 },
+}
+
+/// The bound of a word; a row has no other word.
+fn bound_of(row: &Row, word: u8) -> u16 {
+    match row.bounds.get(usize::from(word)) {
+        Some(bound) => *bound,
+        None => u16::MAX,
+    }
+}
+
+/// What the edge to the next instruction does to counters.
+fn counting_along(body: &Body, known: &Known, touched: &Touched, pc: u16) -> Counting
+    requires { pc < body.now.end }
+{
+    let i = body.image.instr(pc);
+    match i.opcode {
+        Opcode::Setk => Counting::Sets(i.a, i.imm),
+        Opcode::Setkw => Counting::Sets(i.a, bound_of(&row_of(&known.at(pc)), i.b)),
+        Opcode::Loop => Counting::Sets(i.a, 0),
+        Opcode::Call => Counting::Forgets(touched_by(touched, i.imm)),
+        _ => Counting::Nothing,
+    }
+}
+
+/// What an edge does to counters.
+fn counting_over(body: &Body, known: &Known, touched: &Touched, edge: Edge) -> Counting
+    requires { edge.pc < body.now.end }
+{
+    if !edge.branch {
+        return counting_along(body, known, touched, edge.pc);
+    }
+    let i = body.image.instr(edge.pc);
+    match i.opcode {
+        Opcode::Loop => Counting::Takes(i.a),
+        _ => Counting::Nothing,
+    }
+}
+
+/// The step of the instruction at a pc, and the budget of the routine that it calls.
+fn steps_of(body: &Body, pc: u16) -> u64
+    requires { pc < body.now.end }
+{
+    let i = body.image.instr(pc);
+    match i.opcode {
+        Opcode::Call => u64::from(body.image.routine(i.imm).budget) + 1,
+        _ => 1,
+    }
+}
+
+/// The edge of the instruction at a pc, if it stays in the routine.
+fn arc_of(body: &Body, known: &Known, touched: &Touched, pc: u16, branch: bool) -> Option<Arc>
+    requires { pc < body.now.end }
+{
+    let edge = edge_in(body, pc, branch)?;
+    Some(Arc {
+        to: edge.to,
+        steps: steps_of(body, pc),
+        counting: counting_over(body, known, touched, edge),
+    })
+}
+
+/// The edges of a routine, by the pc that they lead from.
+#[derive(Drop)]
+pub(crate) struct Arcs {
+    along: Table<Option<Arc>>,
+    branching: Table<Option<Arc>>,
+}
+
+impl Arcs {
+    /// No edges.
+    pub(crate) fn new(alloc: Global) -> Result<Arcs, AllocError> {
+        Ok(Arcs {
+            along: Table::new(alloc, None)?,
+            branching: Table::new(alloc, None)?,
+        })
+    }
+
+    /// The edge from a pc, to the target where `branch` says so.
+    pub(crate) fn at(&self, pc: u16, branch: bool) -> Option<Arc>
+        requires { pc < 4096 }
+    {
+        if branch {
+            self.branching.at(pc)
+        } else {
+            self.along.at(pc)
+        }
+    }
+
+    /// Notes the edges of a routine.
+    pub(crate) fn note(&mut self, body: &Body, known: &Known, touched: &Touched) {
+        for pc in body.start..body.end {
+            self.along.set(pc, arc_of(body, known, touched, pc, false));
+            self.branching
+                .set(pc, arc_of(body, known, touched, pc, true));
+        }
+    }
+}

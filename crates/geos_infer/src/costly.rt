@@ -1,0 +1,88 @@
+//! Where a unit of a counter costs something: on some way to the place the counter may have come to be above 0.
+
+ghost use Rattle.std.specs.Prelude.{◌<◌};
+
+use crate::arcs::{Arc, Counting};
+use crate::body::Body;
+use crate::paid::back_edges;
+use crate::ways::Ways;
+use geos_image::Opcode;
+
+/// The counters, with what is said of one of them in the place of that.
+fn with_counter(counters: &[bool; 4], counter: u8, costs: bool) -> [bool; 4] {
+    let mut next = *counters;
+    if counter < 4 {
+        next[usize::from(counter)] = costs;
+    }
+    next
+}
+
+fn either(a: &[bool; 4], b: &[bool; 4]) -> [bool; 4] {
+    let [a0, a1, a2, a3] = *a;
+    let [b0, b1, b2, b3] = *b;
+    [a0 | b0, a1 | b1, a2 | b2, a3 | b3]
+}
+
+/// The counters that cost something behind an edge.
+fn costly_behind(arc: &Arc, here: &[bool; 4]) -> [bool; 4] {
+    match arc.counting {
+        Counting::Sets(counter, most) => with_counter(here, counter, 0 < most),
+        Counting::Forgets(counters) => either(here, &counters),
+        _ => *here,
+    }
+}
+
+/// What costs something at a pc does so behind an edge; whether that is new there.
+fn go_along(ways: &mut Ways, pc: u16, branch: bool) -> bool
+    requires { pc < 4096 }
+{
+    let Some(arc) = ways.arcs.at(pc, branch) else {
+        return false;
+    };
+    let old = ways.costly.at(arc.to);
+    let new = either(&old, &costly_behind(&arc, &ways.costly.at(pc)));
+    ways.costly.set(arc.to, new);
+    new != old
+}
+
+/// The same over each edge of a routine.
+fn go_along_all(body: &Body, ways: &mut Ways) -> bool {
+    let mut changed = false;
+    for pc in body.start..body.end {
+        changed |= go_along(ways, pc, false);
+        changed |= go_along(ways, pc, true);
+    }
+    changed
+}
+
+/// Whether the instruction at a pc is a LOOP whose counter costs nothing.
+fn is_free(body: &Body, ways: &Ways, pc: u16) -> bool
+    requires { pc < body.now.end }
+{
+    let i = body.image.instr(pc);
+    match i.opcode {
+        Opcode::Loop => match ways.costly.at(pc).get(usize::from(i.a)) {
+            Some(costs) => !*costs,
+            None => false,
+        },
+        _ => false,
+    }
+}
+
+/// Notes which counters cost something at each place of a routine, and at which LOOPs theirs does not. Nothing is known of
+/// counters where the routine begins.
+pub(crate) fn note_costly(body: &Body, ways: &mut Ways) {
+    for pc in body.start..body.end {
+        ways.costly.set(pc, [pc == body.start; 4]);
+    }
+    // A way that passes no place twice goes along each edge back once at most.
+    for _ in 0..back_edges(body) + 2 {
+        if !go_along_all(body, ways) {
+            break;
+        }
+    }
+    for pc in body.start..body.end {
+        let free = is_free(body, ways, pc);
+        ways.free.set(pc, free);
+    }
+}

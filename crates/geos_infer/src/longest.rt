@@ -1,0 +1,169 @@
+//! The longest ways from each place of a routine, where units of counters pay for so much; and ways round that they do not pay for.
+
+ghost use Rattle.std.specs.Prelude.{◌<◌};
+
+use crate::arcs::Arc;
+use crate::asked::return_steps;
+use crate::body::Body;
+use crate::paid::back_edges;
+use crate::table::MOST_INSTRS;
+use crate::ways::{Ways, cost};
+
+/// What came of going over edges.
+#[derive(Clone, Copy, Debug, PartialEq, Eq)]
+enum Growth {
+    /// No way is longer.
+    Same,
+    Longer,
+    /// The longest way from the pc comes back to it.
+    Round(u16),
+}
+
+/// Each way ends where it begins: a return takes a step.
+fn begin(body: &Body, ways: &mut Ways) {
+    for pc in body.start..body.end {
+        ways.steps.set(pc, return_steps(body.image.instr(pc)));
+        ways.first.set(pc, None);
+    }
+}
+
+/// The longest way from a pc over an edge, if it is longer than what was known; whether it is.
+fn lengthen(ways: &mut Ways, pc: u16, branch: bool, arc: &Arc) -> bool
+    requires { pc < 4096 }
+{
+    let (costs, paid) = cost(arc, &ways.units.at(pc), &ways.units.at(arc.to));
+    let steps = ways
+        .steps
+        .at(arc.to)
+        .saturating_add(costs)
+        .saturating_sub(paid);
+    if steps <= ways.steps.at(pc) {
+        return false;
+    }
+    ways.steps.set(pc, steps);
+    ways.first.set(pc, Some(branch));
+    true
+}
+
+/// The same, if the edge leads ahead, or back, as is asked.
+fn lengthen_over(ways: &mut Ways, pc: u16, branch: bool, ahead: bool) -> bool
+    requires { pc < 4096 }
+{
+    match ways.counted(pc, branch) {
+        Some(arc) if (pc < arc.to) == ahead => lengthen(ways, pc, branch, &arc),
+        _ => false,
+    }
+}
+
+/// Goes over the edges that lead ahead, from the last to the first; whether some way is longer.
+fn go_ahead(body: &Body, ways: &mut Ways) -> bool {
+    let mut longer = false;
+    for pc in (body.start..body.end).rev() {
+        longer |= lengthen_over(ways, pc, false, true);
+        longer |= lengthen_over(ways, pc, true, true);
+    }
+    longer
+}
+
+/// Follows the longest way from a pc up to where one was followed before; the pc where it comes to what it has itself passed.
+fn round_from(ways: &mut Ways, from: u16, mark: u16) -> Option<u16>
+    requires { from < 4096 }
+{
+    let mut at = from;
+    for _ in 0..MOST_INSTRS {
+        let passed = ways.passed.at(at);
+        if passed == mark {
+            return Some(at);
+        }
+        if passed != 0 {
+            return None;
+        }
+        ways.passed.set(at, mark);
+        at = ways.next(at)?.to;
+    }
+    None
+}
+
+/// A pc from which the longest way comes back to it.
+fn find_round(body: &Body, ways: &mut Ways) -> Option<u16> {
+    for pc in body.start..body.end {
+        ways.passed.set(pc, 0);
+    }
+    for pc in body.start..body.end {
+        if let Some(at) = round_from(ways, pc, pc + 1) {
+            return Some(at);
+        }
+    }
+    None
+}
+
+/// Whether the longest way from a pc leads to another.
+fn leads_to(ways: &Ways, from: u16, to: u16) -> bool
+    requires { from < 4096 }
+{
+    let mut at = from;
+    for _ in 0..MOST_INSTRS {
+        if at == to {
+            return true;
+        }
+        match ways.next(at) {
+            Some(arc) => at = arc.to,
+            None => return false,
+        }
+    }
+    false
+}
+
+/// Goes over the edge to the target, if it leads back.
+fn go_back_from(ways: &mut Ways, pc: u16) -> Growth
+    requires { pc < 4096 }
+{
+    if !lengthen_over(ways, pc, true, false) {
+        return Growth::Same;
+    }
+    match ways.next(pc) {
+        Some(arc) if leads_to(ways, arc.to, pc) => Growth::Round(pc),
+        _ => Growth::Longer,
+    }
+}
+
+/// Goes over the edges that lead back, from the first to the last, so that the loops in a loop come before it.
+fn go_back(body: &Body, ways: &mut Ways) -> Growth {
+    let mut growth = Growth::Same;
+    for pc in body.start..body.end {
+        match go_back_from(ways, pc) {
+            Growth::Same => {}
+            Growth::Longer => growth = Growth::Longer,
+            Growth::Round(at) => return Growth::Round(at),
+        }
+    }
+    growth
+}
+
+/// Goes over all edges once.
+fn go_on(body: &Body, ways: &mut Ways) -> Growth {
+    let longer = go_ahead(body, ways);
+    if longer {
+        if let Some(at) = find_round(body, ways) {
+            return Growth::Round(at);
+        }
+    }
+    match go_back(body, ways) {
+        Growth::Same if longer => Growth::Longer,
+        growth => growth,
+    }
+}
+
+/// Finds the longest way from each pc of a routine; a pc from which the longest comes back to it, if ways have no end.
+pub(crate) fn find_longest(body: &Body, ways: &mut Ways) -> Option<u16> {
+    begin(body, ways);
+    // A way that passes no place twice goes along each edge back once at most, and the last time nothing is longer.
+    for _ in 0..back_edges(body) + 2 {
+        match go_on(body, ways) {
+            Growth::Same => return None,
+            Growth::Longer => {}
+            Growth::Round(at) => return Some(at),
+        }
+    }
+    None
+}

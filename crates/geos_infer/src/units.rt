@@ -1,0 +1,285 @@
+//! What a unit of each counter pays for: as much as ways round lack that go through its LOOPs.
+
+ghost use Rattle.std.specs.Prelude.{◌<◌};
+
+use crate::arcs::{Arc, Counting};
+use crate::asked::coefficients_join;
+use crate::body::Body;
+use crate::longest::find_longest;
+use crate::paid::back_edges;
+use crate::table::MOST_INSTRS;
+use crate::ways::{Ways, cost, unit_of};
+use geos_image::Opcode;
+
+/// What a way round costs, what the units of counters pay of that, how many it takes of each counter, and which it sets.
+#[derive(Clone, Copy)]
+struct Round {
+    costs: u64,
+    paid: u64,
+    takes: [u32; 4],
+    sets: [bool; 4],
+}
+
+impl Round {
+    const NOTHING: Round = Round {
+        costs: 0,
+        paid: 0,
+        takes: [0; 4],
+        sets: [false; 4],
+    };
+}
+
+/// The way round with one more edge.
+fn with_arc(round: &Round, ways: &Ways, pc: u16, arc: &Arc) -> Round
+    requires { pc < 4096 }
+{
+    let (costs, paid) = cost(arc, &ways.units.at(pc), &ways.units.at(arc.to));
+    let mut next = *round;
+    next.costs = next.costs.saturating_add(costs);
+    next.paid = next.paid.saturating_add(paid);
+    match arc.counting {
+        Counting::Sets(counter, most) if counter < 4 => {
+            next.sets[usize::from(counter)] |= 0 < most;
+        }
+        Counting::Takes(counter) if counter < 4 => {
+            let taken = next.takes[usize::from(counter)];
+            next.takes[usize::from(counter)] = taken.saturating_add(1);
+        }
+        _ => {}
+    }
+    next
+}
+
+/// The way round from a pc.
+fn round_at(ways: &Ways, from: u16) -> Round
+    requires { from < 4096 }
+{
+    let mut round = Round::NOTHING;
+    let mut at = from;
+    for _ in 0..MOST_INSTRS {
+        let Some(arc) = ways.next(at) else {
+            return round;
+        };
+        round = with_arc(&round, ways, at, &arc);
+        at = arc.to;
+        if at == from {
+            return round;
+        }
+    }
+    round
+}
+
+/// The counter that is to pay for a way round: the first that it takes from and does not set, else the first that it takes
+/// from.
+fn paying(round: &Round) -> Option<u8> {
+    let mut first = None;
+    for counter in 0..4u8 {
+        if round.takes[usize::from(counter)] != 0 {
+            if !round.sets[usize::from(counter)] {
+                return Some(counter);
+            }
+            if first.is_none() {
+                first = Some(counter);
+            }
+        }
+    }
+    first
+}
+
+/// What each unit of the counter has to pay for beside what it does, so that the way round is paid for.
+fn lacking(round: &Round, counter: u8) -> u64 {
+    let lacks = round.costs.saturating_sub(round.paid);
+    match round.takes.get(usize::from(counter)) {
+        Some(takes) if *takes != 0 => lacks.div_ceil(u64::from(*takes)),
+        _ => lacks,
+    }
+}
+
+/// The unit of a counter at a LOOP, so much more; twice as much at least, where it was raised more often than there are LOOPs.
+fn raised_unit(unit: u32, by: u64, raised: u16, loops: u16) -> Option<u32> {
+    let more = u64::from(unit).saturating_add(by);
+    let next = if raised <= loops {
+        more
+    } else {
+        more.max(u64::from(unit).saturating_mul(2))
+    };
+    u32::try_from(next).ok()
+}
+
+/// Raises the unit of the counter at a pc, if the edge takes from it; `false` where it is past what a potential can say.
+fn raise_at(ways: &mut Ways, pc: u16, arc: &Arc, counter: u8, by: u64, loops: u16) -> bool
+    requires { pc < 4096 }
+{
+    if arc.counting != Counting::Takes(counter) || 4 <= counter {
+        return true;
+    }
+    let mut units = ways.units.at(pc);
+    let raised = ways.raised.at(pc);
+    let Some(unit) = raised_unit(units[usize::from(counter)], by, raised, loops) else {
+        return false;
+    };
+    units[usize::from(counter)] = unit;
+    ways.units.set(pc, units);
+    ways.raised.set(pc, raised.saturating_add(1));
+    true
+}
+
+/// Raises the units of a counter at the LOOPs of the way round from a pc.
+fn raise_round(ways: &mut Ways, from: u16, counter: u8, by: u64, loops: u16) -> bool
+    requires { from < 4096 }
+{
+    let mut at = from;
+    for _ in 0..MOST_INSTRS {
+        let Some(arc) = ways.next(at) else {
+            return false;
+        };
+        if !raise_at(ways, at, &arc, counter, by, loops) {
+            return false;
+        }
+        at = arc.to;
+        if at == from {
+            return true;
+        }
+    }
+    false
+}
+
+/// The units that an edge asks for before it.
+fn asked_units(arc: &Arc, there: &[u32; 4]) -> [u32; 4] {
+    let mut asked = *there;
+    match arc.counting {
+        Counting::Sets(counter, _) if counter < 4 => asked[usize::from(counter)] = 0,
+        _ => {}
+    }
+    asked
+}
+
+/// What the edge from a pc asks for is there; whether that is new.
+fn carry_over(ways: &mut Ways, pc: u16, branch: bool) -> bool
+    requires { pc < 4096 }
+{
+    let Some(arc) = ways.arcs.at(pc, branch) else {
+        return false;
+    };
+    let old = ways.units.at(pc);
+    let new = coefficients_join(&old, &asked_units(&arc, &ways.units.at(arc.to)));
+    ways.units.set(pc, new);
+    new != old
+}
+
+/// The same over each edge of a routine, from the last to the first.
+fn carry_once(body: &Body, ways: &mut Ways) -> bool {
+    let mut changed = false;
+    for pc in (body.start..body.end).rev() {
+        changed |= carry_over(ways, pc, false);
+        changed |= carry_over(ways, pc, true);
+    }
+    changed
+}
+
+/// Units are carried back to each place from which they are asked for.
+fn carry(body: &Body, ways: &mut Ways) {
+    // A way that passes no place twice goes along each edge back once at most.
+    for _ in 0..back_edges(body) + 2 {
+        if !carry_once(body, ways) {
+            return;
+        }
+    }
+}
+
+/// Raises what a unit pays for, so that the way round from a pc is paid for; `false` where no counter can pay for it.
+fn pay(body: &Body, ways: &mut Ways, at: u16, loops: u16) -> bool {
+    if 4096 <= at {
+        return false;
+    }
+    let round = round_at(ways, at);
+    let Some(counter) = paying(&round) else {
+        return false;
+    };
+    if !raise_round(ways, at, counter, lacking(&round, counter), loops) {
+        return false;
+    }
+    carry(body, ways);
+    true
+}
+
+/// How many LOOPs a routine has.
+fn count_loops(body: &Body) -> u16 {
+    let mut loops: u16 = 0;
+    for pc in body.start..body.end {
+        if let Opcode::Loop = body.image.instr(pc).opcode {
+            loops = loops.saturating_add(1);
+        }
+    }
+    loops
+}
+
+/// Pays for one way round after another, until the longest way from each place ends; `false` where a way can't be paid for.
+fn pay_all(body: &Body, ways: &mut Ways) -> bool {
+    let loops = count_loops(body);
+    let times = u64::from(loops);
+    // Each time a LOOP is raised. One is raised as often as there are LOOPs, and from then on its unit is doubled, so that it
+    // is past what a potential can say after 32 times more.
+    for _ in 0..times.saturating_mul(times + 34).saturating_add(1) {
+        match find_longest(body, ways) {
+            Some(at) => {
+                if !pay(body, ways, at, loops) {
+                    return false;
+                }
+            }
+            None => return true,
+        }
+    }
+    false
+}
+
+/// What a unit has to pay for at a LOOP whose counter costs nothing; `None` where that is past what a potential can say.
+fn free_unit(ways: &Ways, pc: u16) -> Option<u32>
+    requires { pc < 4096 }
+{
+    match ways.arcs.at(pc, true) {
+        Some(arc) => {
+            let asked = ways.steps.at(arc.to).saturating_add(arc.steps);
+            u32::try_from(asked.saturating_sub(ways.steps.at(pc))).ok()
+        }
+        None => Some(0),
+    }
+}
+
+/// Sets the unit at a LOOP whose counter costs nothing, if the instruction at a pc is one.
+fn pay_free_at(body: &Body, ways: &mut Ways, pc: u16) -> bool
+    requires { pc < body.now.end }
+{
+    let counter = body.image.instr(pc).a;
+    if !ways.free.at(pc) || 4 <= counter {
+        return true;
+    }
+    let Some(unit) = free_unit(ways, pc) else {
+        return false;
+    };
+    let mut units = ways.units.at(pc);
+    units[usize::from(counter)] = unit.max(units[usize::from(counter)]);
+    ways.units.set(pc, units);
+    true
+}
+
+/// The same for each instruction of a routine.
+fn pay_free(body: &Body, ways: &mut Ways) -> bool {
+    for pc in body.start..body.end {
+        if !pay_free_at(body, ways, pc) {
+            return false;
+        }
+    }
+    carry(body, ways);
+    true
+}
+
+/// Finds what a unit of each counter has to pay for at each place of a routine, and the longest way from there; `false` where
+/// a way round can't be paid for.
+pub(crate) fn find_units(body: &Body, ways: &mut Ways) -> bool {
+    for pc in body.start..body.end {
+        ways.units.set(pc, [0; 4]);
+        ways.raised.set(pc, 0);
+    }
+    pay_all(body, ways) && pay_free(body, ways)
+}
