@@ -1,13 +1,19 @@
 //! A file that is replaced whole, or left as it was.
 
-use std::fs::{self, File, Permissions};
+use std::fs::{self, File, Metadata, Permissions};
 use std::io::{self, ErrorKind, Write};
 use std::path::{Path, PathBuf};
 
 /// The most links that are followed from one to the next.
 const MOST_LINKS: u32 = 40;
 
-/// Where the path leads, through links, also to a file that is not there.
+/// Whether the system says that a path names no link: a file, a folder, or nothing that is there.
+fn is_of_no_link(error: &io::Error) -> bool {
+    matches!(error.kind(), ErrorKind::InvalidInput | ErrorKind::NotFound)
+}
+
+/// Where the path leads, through links, also to a file that is not there. An error where the system
+/// does not say so: else a link might be replaced in the place of its file.
 fn behind_links(rt: &HostRuntime, path: &str) -> io::Result<PathBuf> {
     let mut path = PathBuf::from_str(rt.alloc(), path)?;
     for _ in 0..MOST_LINKS {
@@ -16,11 +22,21 @@ fn behind_links(rt: &HostRuntime, path: &str) -> io::Result<PathBuf> {
                 path.pop();
                 path.push(target.as_path())?;
             }
-            Err(error) if error.kind() == ErrorKind::OutOfMemory => return Err(error),
-            Err(_) => return Ok(path),
+            Err(error) if is_of_no_link(&error) => return Ok(path),
+            Err(error) => return Err(error),
         }
     }
     Err(io::Error::from(ErrorKind::Other))
+}
+
+/// What the system says of a file, if there is one. An error where it does not say so: else its
+/// permissions might be lost.
+fn found(rt: &HostRuntime, path: Path<'_>) -> io::Result<Option<Metadata>> {
+    match fs::metadata(rt, path) {
+        Ok(found) => Ok(Some(found)),
+        Err(error) if error.kind() == ErrorKind::NotFound => Ok(None),
+        Err(error) => Err(error),
+    }
 }
 
 /// Makes a file beside the one with the path, under a name that no file has: also not one that an
@@ -53,7 +69,7 @@ fn fill(mut file: File, permissions: Option<Permissions>, bytes: &[u8]) -> io::R
 pub(crate) fn replace(rt: &HostRuntime, path: &str, bytes: &[u8]) -> io::Result<()> {
     let path = behind_links(rt, path)?;
     let path = path.as_path();
-    let found = fs::metadata(rt, path).ok();
+    let found = found(rt, path)?;
     if found.as_ref().is_some_and(|found| !found.is_file()) {
         return fs::create(rt, path)?.write_all(bytes);
     }
