@@ -1,0 +1,12 @@
+pub mod Lent
+pub mod Regrown
+pub mod Room
+pub mod Looked
+pub mod Lending
+pub mod Asking
+pub mod Coming
+pub mod Named
+pub mod Values
+pub mod Kept
+pub mod Changing
+pub mod Rows

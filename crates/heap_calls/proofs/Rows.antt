@@ -1,0 +1,183 @@
+-- Edits of the chunks of a named block do their rows, in each memory that the model may have.
+use Rattle.std.proofs.Common.{◌≡◌, ℕ, ◌≤◌, Bool, true, false, List, Option, Some, None, refl, sym, ap, ◌∙◌, arith, inl, inr, subst}
+use Rattle.std.specs.Prelude.{Result, Ok, Err, OnOk, max}
+use Rattle.geos_model.specs.declared.name.Name.{Name}
+use Rattle.geos_model.specs.declared.name.Owner.{Owner}
+use Rattle.geos_model.specs.declared.name.Owner.TheVariants.{Mem, Vm}
+use Rattle.geos_model.specs.declared.refusal.Refusal.{Refusal}
+use Rattle.geos_model.specs.declared.refusal.Refusal.TheVariants as refusal
+use Rattle.geos_model.specs.Names.{named}
+use Rattle.geos_model.specs.Chunks.{need}
+use Rattle.geos_model.specs.Edits.{Edit, Part}
+use Rattle.geos_model.specs.Heap.{IsHeap}
+use Rattle.geos_model.specs.Refusals.{first_refusal}
+use Rattle.geos_table.specs.Blocks.{rechunked_block}
+use Rattle.geos_table.specs.Calls as table
+use Rattle.geos_table.specs.ChunkCalls.{row_in}
+use Rattle.geos_table.specs.Effects.{Call, Choice, effect_of, outcome}
+use Rattle.geos_table.specs.Legal.{AreBytes}
+use Rattle.geos_table.specs.Memory as model
+use Rattle.geos_table.specs.Memory.{Memory}
+use Rattle.geos_table.specs.Tight.{is_tight}
+use Rattle.geos_table.proofs.Laws.{willing, cramped, enlarges-ok, enlarges-refused, enlarges-big, enlarges-tight, changes-ok, changes-refused, reads-ok, reads-refused, refers-ok, refers-refused}
+use Rattle.block_handles.specs.Names.{IsHandle, slot_of}
+use Rattle.block_handles.specs.Stretch.{IsCrowded}
+use Rattle.block_handles.specs.Store.{Block, Store, IsBlock, IsThere, block_at, bytes_in, bytes_of, locks_in, locks_of}
+use Rattle.block_handles.proofs.Laws.{handle_of_there}
+use Rattle.vm_blocks.specs.View.{VmState}
+use Rattle.vm_blocks.specs.Tied.{IsTied}
+use Rattle.vm_blocks.specs.Room.{NoneIdle, own_handle, own_handle_of}
+use Rattle.vm_blocks.specs.Spelled.{spelled}
+use Rattle.vm_blocks.specs.FileOf.{IsMemoryOf}
+use Rattle.vm_blocks.specs.DoesRow.{DoesRow, IsChosen}
+use Rattle.vm_blocks.proofs.Changed.{memory-thins}
+use Rattle.vm_blocks.proofs.HeapsRead.{spelled-legal}
+use Rattle.vm_blocks.proofs.LockRows.{few-locks}
+use Rattle.vm_blocks.proofs.Thinning.{tied-thins}
+use Rattle.vm_blocks.proofs.Tightness.{tight-mem, tight-vm}
+use Rattle.heap_calls.specs.Edits.{Tells, Changes, Grows, Comes, Carries}
+use Rattle.heap_calls.specs.Heaps as heaps
+use Rattle.heap_calls.specs.Heaps.{HoldsHeap, chunks_at, size_at}
+use Rattle.heap_calls.proofs.Changing.{rechunked-keeps}
+use Rattle.heap_calls.proofs.Kept.{named-changed}
+use Rattle.heap_calls.proofs.Named.{chunks-known, size-known, slot_of-mem}
+use Rattle.heap_calls.proofs.Regrown.{kept-size, rechunked, regrown-small}
+
+-- what is in a slot, by its parts
+pub there-is : (o : Option Block) → IsBlock o → o ≡ Some (record { locks = locks_in o; bytes = bytes_in o })
+there-is None there = absurd there
+there-is (Some b) there = refl
+
+-- nothing was given, and no device refused
+pub willing-chosen : {D : Type 0} (honest : D → Type 0) (failed : D → ℕ) (d e : D) → IsChosen honest failed d e willing
+willing-chosen honest failed d e = record { given = λ good. refl; device = λ good fails. absurd cc }
+
+pub cramped-chosen : {D : Type 0} (honest : D → Type 0) (failed : D → ℕ) (d e : D) → IsChosen honest failed d e cramped
+cramped-chosen honest failed d e = record { given = λ good. refl; device = λ good fails. absurd cc }
+
+module _ {D : Type 0} (image : D → List ℕ) (honest : D → Type 0) (v : VmState D) (s : Store) (tied : IsTied image honest v s) (m : Memory) (is : IsMemoryOf image honest v s m) where
+  -- a block of the file that is in memory is locked no more often than one can be
+  pub few-named : (name : Name) → IsThere s (slot_of name) → name.owner ≡ Vm → locks_of s (slot_of name) ≤ 65535
+  few-named name there own = at name.owner name.h there own
+    where
+      at : (owner : Owner) (h : ℕ) → IsThere s (slot_of (named owner h)) → owner ≡ Vm → locks_of s (slot_of (named owner h)) ≤ 65535
+      at Mem h there own = absurd cc
+      at Vm h there own = few-locks image honest v s h tied m is there 0 (omega arith)
+
+  -- where no stretch has room, and no other block may be discarded, room may be wanting
+  pub tight-named : (name : Name) (size : ℕ) → IsHandle name.h → NoneIdle v s (own_handle name) → IsCrowded s (slot_of name) size → is_tight m name size ≡ true
+  tight-named name size p none crowded = at name.owner none crowded
+    where
+      at : (owner : Owner) → NoneIdle v s (own_handle_of owner name.h) → IsCrowded s (slot_of (named owner name.h)) size → is_tight m (named owner name.h) size ≡ true
+      at Mem none crowded = tight-mem image honest v s m tied is name.h size p none (subst (λ i. IsCrowded s i size) (slot_of-mem name.h p) crowded)
+      at Vm none crowded = tight-vm image honest v s m tied is name.h size p none crowded
+
+  -- the block has other chunks
+  pub regrown-memory : (t : Store) (name : Name) (cs : List (Option (List ℕ))) → HoldsHeap s name → heaps.Regrows s t name cs → AreBytes (bytes_of t (slot_of name)) → IsMemoryOf image honest v t (model.with_chunks m name cs)
+  regrown-memory t name cs holds r are =
+      let slot = slot_of name in
+      let b : Block = record { locks = locks_of s slot; bytes = bytes_of s slot } in
+      let c : Block = record { locks = locks_of s slot; bytes = r.bytes } in
+      let now = rechunked s t slot holds.there cs (max (size_at s name) (need cs)) r in
+      let keeps = rechunked-keeps v s t name tied.laid holds cs (max (size_at s name) (need cs)) r in
+      let same : rechunked_block cs (spelled b.locks b.bytes) ≡ spelled c.locks c.bytes = λ i. record { locks = locks_of s slot; heap = record { chunks = sym r.spells i; size = sym r.long i } } in
+      named-changed image honest v s t name tied keeps.others m is b c (there-is (block_at s slot) holds.there) now (rechunked_block cs) same
+      (λ own. record { heap = spelled-legal r.bytes r.heap (subst (λ o. AreBytes (bytes_in o)) now are); few = few-named name holds.there own })
+
+module _ {D : Type 0} (image : D → List ℕ) (honest : D → Type 0) (failed : D → ℕ) (v : VmState D) where
+  -- a row that comes to this where nothing is refused from outside, and to this memory
+  willing-row : {A : Type 0} (call : Call A) (r : Result A Refusal) (s t : Store) → ((m : Memory) → IsMemoryOf image honest v s m → (n : Memory) × IsMemoryOf image honest v t n × (outcome (effect_of call willing m) ≡ (r, n)))
+      → DoesRow image honest failed call r v s v t
+  willing-row call r s t comes m is = let c = comes m is in (willing, willing-chosen honest failed v.file.device v.file.device, c.0, c.1, c.2)
+
+  module _ {A : Type 0} (edit : List (Option (List ℕ)) → Edit A) (s : Store) (name : Name) (tied : IsTied image honest v s) (holds : HoldsHeap s name) where
+    -- what holds of the chunks that the block spells holds of those that the model knows
+    known : (m : Memory) → IsMemoryOf image honest v s m → edit (chunks_at s name) ≡ edit (model.chunks_at m name)
+    known m is = ap edit (sym (chunks-known image honest v s tied m is name holds.there))
+
+    passes : (m : Memory) → IsMemoryOf image honest v s m → first_refusal (edit (chunks_at s name)).refusals ≡ None → first_refusal (edit (model.chunks_at m name)).refusals ≡ None
+    passes m is h = subst (λ (e : Edit A). first_refusal e.refusals ≡ None) (known m is) h
+
+    came : (m : Memory) → IsMemoryOf image honest v s m → (why : Refusal) → first_refusal (edit (chunks_at s name)).refusals ≡ Some why → first_refusal (edit (model.chunks_at m name)).refusals ≡ Some why
+    came m is why h = subst (λ (e : Edit A). first_refusal e.refusals ≡ Some why) (known m is) h
+
+    answer-known : (m : Memory) → IsMemoryOf image honest v s m → (answer : A) → answer ≡ (edit (chunks_at s name)).answer → answer ≡ (edit (model.chunks_at m name)).answer
+    answer-known m is answer h = h ∙ ap (λ (e : Edit A). e.answer) (known m is)
+
+    -- a call that tells something of the chunks
+    pub tells-row : (r : Result A Refusal) → Tells edit (chunks_at s name) r → DoesRow image honest failed (table.reads edit name) r v s v s
+    tells-row (Ok answer) h = willing-row (table.reads edit name) (Ok answer) s s (λ m is.
+        (m, is, reads-ok edit name m (passes m is h.1) ∙ ap (λ a. (Ok a, m)) (sym (answer-known m is answer h.0))))
+    tells-row (Err why) h = willing-row (table.reads edit name) (Err why) s s (λ m is. (m, is, reads-refused edit name m why (came m is why h)))
+
+    module _ (t : Store) where
+      -- a call that changes the chunks of a block that stays as large as it is
+      pub changes-row : (r : Result A Refusal) → Changes edit s t name r → OnOk r (AreBytes (bytes_of t (slot_of name))) → DoesRow image honest failed (table.changes edit name) r v s v t
+      changes-row (Ok answer) h are = willing-row (table.changes edit name) (Ok answer) s t (λ m is.
+          let grown : heaps.Regrows s t name (edit (model.chunks_at m name)).chunks = subst (λ (e : Edit A). heaps.Regrows s t name e.chunks) (known m is) (kept-size s t name (edit (chunks_at s name)).chunks h.1) in
+          let after : Memory = model.with_chunks m name (edit (model.chunks_at m name)).chunks in (
+            after,
+            regrown-memory image honest v s tied m is t name (edit (model.chunks_at m name)).chunks holds grown are,
+            changes-ok edit name m (passes m is h.0.1) ∙ ap (λ a. (Ok a, after)) (sym (answer-known m is answer h.0.0)),
+          ))
+      changes-row (Err why) h are = willing-row (table.changes edit name) (Err why) s t (λ m is.
+          (m, subst (λ u. IsMemoryOf image honest v u m) (sym h.1) is, changes-refused edit name m why (came m is why h.0)))
+
+      -- the room that it needs is wanting
+      lacks-row : t ≡ s → (why : Refusal) → first_refusal (edit (chunks_at s name)).refusals ≡ None → heaps.LacksRoom why s name (edit (chunks_at s name)).chunks
+          → (◌≡◌ {A = Result A Refusal} (Err why) (Err refusal.NoRoom) → NoneIdle v t (own_handle name)) → DoesRow image honest failed (table.enlarges edit name) (Err why) v s v t
+      lacks-row same why passed lacks none m is = lacking why (passes m is passed) (subst (λ (e : Edit A). heaps.LacksRoom why s name e.chunks) (known m is) lacks) none
+        where
+          still : IsMemoryOf image honest v t m
+          still = subst (λ u. IsMemoryOf image honest v u m) (sym same) is
+
+          lacking : (w : Refusal) → first_refusal (edit (model.chunks_at m name)).refusals ≡ None → heaps.LacksRoom w s name (edit (model.chunks_at m name)).chunks → (◌≡◌ {A = Result A Refusal} (Err w) (Err refusal.NoRoom) → NoneIdle v t (own_handle name))
+              → (choice : Choice) × IsChosen honest failed v.file.device v.file.device choice × (n : Memory) × IsMemoryOf image honest v t n × (outcome (effect_of (table.enlarges edit name) choice m) ≡ (Err w, n))
+          lacking refusal.TooBig passed big none = (willing, willing-chosen honest failed v.file.device v.file.device, m, still, enlarges-big edit name m passed big)
+          lacking refusal.NoRoom passed room none =
+              let p : IsHandle name.h = handle_of_there s s name refl tied.laid holds.there in
+              let idle : NoneIdle v s (own_handle name) = subst (λ u. NoneIdle v u (own_handle name)) same (none refl) in
+              let size = size-known image honest v s tied m is name holds.there in (
+                cramped,
+                cramped-chosen honest failed v.file.device v.file.device,
+                m,
+                still,
+                enlarges-tight edit name m passed room.1 (omega (arith, room.0, size)) (tight-named image honest v s tied m is name (need (edit (model.chunks_at m name)).chunks) p idle room.2.crowded),
+              )
+          lacking w passed never none = absurd never
+
+      -- a call for which the block may grow among blocks that stay
+      grows-row : (r : Result A Refusal) → Grows edit s t name r → (r ≡ Err refusal.NoRoom → NoneIdle v t (own_handle name)) → OnOk r (AreBytes (bytes_of t (slot_of name)))
+          → DoesRow image honest failed (table.enlarges edit name) r v s v t
+      grows-row (Ok answer) h none are = willing-row (table.enlarges edit name) (Ok answer) s t (λ m is.
+          let grown : heaps.Regrows s t name (edit (model.chunks_at m name)).chunks = subst (λ (e : Edit A). heaps.Regrows s t name e.chunks) (known m is) h.1 in
+          let after : Memory = model.with_chunks m name (edit (model.chunks_at m name)).chunks in (
+            after,
+            regrown-memory image honest v s tied m is t name (edit (model.chunks_at m name)).chunks holds grown are,
+            enlarges-ok edit name m (passes m is h.0.1) (regrown-small s t name (edit (model.chunks_at m name)).chunks grown) ∙ ap (λ a. (Ok a, after)) (sym (answer-known m is answer h.0.0)),
+          ))
+      grows-row (Err why) (inl refused, same) none are = willing-row (table.enlarges edit name) (Err why) s t (λ m is.
+          (m, subst (λ u. IsMemoryOf image honest v u m) (sym same) is, enlarges-refused edit name m why (came m is why refused)))
+      grows-row (Err why) (inr lacks, same) none are = lacks-row same why lacks.0 lacks.1 none
+
+  -- a call that gives a reference into the block
+  module _ (edit : List (Option (List ℕ)) → Edit Part) (s : Store) (name : Name) (tied : IsTied image honest v s) (holds : HoldsHeap s name) where
+    pub refers-row : first_refusal (edit (chunks_at s name)).refusals ≡ None → DoesRow image honest failed (table.refers edit name) (Ok (table.in_block name (edit (chunks_at s name)).answer)) v s v s
+    refers-row passed = willing-row (table.refers edit name) (Ok (table.in_block name (edit (chunks_at s name)).answer)) s s (λ m is.
+        (m, is, refers-ok edit name m (passes edit s name tied holds m is passed) ∙ ap (λ (e : Edit Part). (Ok (table.in_block name e.answer), m)) (sym (known edit s name tied holds m is))))
+
+    pub refers-not-row : (why : Refusal) → first_refusal (edit (chunks_at s name)).refusals ≡ Some why → DoesRow image honest failed (table.refers edit name) (Err why) v s v s
+    refers-not-row why refused = willing-row (table.refers edit name) (Err why) s s (λ m is. (m, is, refers-refused edit name m why (came edit s name tied holds m is why refused)))
+
+  module _ {A : Type 0} (edit : List (Option (List ℕ)) → Edit A) (s t : Store) (name : Name) (tied : IsTied image honest v s) (holds : HoldsHeap s name) where
+    -- a call for which the block may grow, and others be discarded
+    pub comes-row : (r : Result A Refusal) → Comes v edit s t name r → OnOk r (AreBytes (bytes_of t (slot_of name))) → DoesRow image honest failed (table.enlarges edit name) r v s v t
+    comes-row r c are m is =
+        let still : HoldsHeap c.mid name = record { there = subst IsBlock (sym c.own) holds.there; heap = subst (λ o. IsHeap (bytes_in o)) (sym c.own) holds.heap } in
+        grows-row edit c.mid name (tied-thins image honest v s c.mid (own_handle name) tied c.thins) still t r c.grows c.none are m (memory-thins image honest v s c.mid m is (own_handle name) tied c.thins)
+
+  module _ (edit : List (Option (List ℕ)) → Edit (Unit {0})) (s t : Store) (name : Name) (tied : IsTied image honest v s) (holds : HoldsHeap s name) where
+    -- a change, for which it may grow or not
+    pub carries-row : (grows : Bool) (r : Result (Unit {0}) Refusal) → Carries grows v edit s t name r → OnOk r (AreBytes (bytes_of t (slot_of name))) → DoesRow image honest failed (row_in grows edit name) r v s v t
+    carries-row true r h are = comes-row edit s t name tied holds r h are
+    carries-row false r h are = changes-row edit s name tied holds t r h are

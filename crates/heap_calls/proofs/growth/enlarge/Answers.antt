@@ -1,0 +1,33 @@
+use Rattle.std.proofs.Common.{subst, sym, arith, ap, length, ◌≤◌, ◌<◌, ◌∙◌}
+use Rattle.block_handles.specs.Calls.{Grows}
+use Rattle.block_handles.specs.Names.{slot_of}
+use Rattle.block_handles.specs.Store.{IsBlock, bytes_in, size_of}
+use Rattle.geos_model.specs.Heap.{IsHeap}
+use Rattle.heap_calls.proofs.Regrown.{grown-front, grown-heap}
+use Rattle.heap_calls.proofs.growth.enlarge.Goals as goal
+
+pub enlarged-requires-clause-heap : goal.enlarged-requires-clause-heap
+enlarged-requires-clause-heap g c =
+    let r = c.in-Ok.ensures.ok in let slot = slot_of c.args.name in let q = c.requires.heap in
+    let there = subst IsBlock (sym r.own) q.there in
+    let grows = subst (Grows r.mid c.grow_room.new.blocks slot) c.from.ensures r.grows in
+    let same = c.size-old_size.ensures.size ∙ sym (ap (λ o. length (bytes_in o)) r.own) in
+    let first = grown-front r.mid c.grow_room.new.blocks slot c.args.size there grows c.bytes_mut.result.now c.size-old_size.result same c.bytes_mut.ensures.value in
+    subst IsHeap (sym first) (subst (λ o. IsHeap (bytes_in o)) (sym r.own) q.heap)
+
+pub returns : goal.returns
+returns g c =
+    let r = c.in-Ok.ensures.ok in let slot = slot_of c.args.name in let q = c.requires.heap in
+    let there = subst IsBlock (sym r.own) q.there in
+    let grows = subst (Grows r.mid c.grow_room.new.blocks slot) c.from.ensures r.grows in
+    let same = c.size-old_size.ensures.size ∙ sym (ap (λ o. length (bytes_in o)) r.own) in
+    let larger : size_of r.mid slot < c.args.size = subst (λ o. length (bytes_in o) < c.args.size) (sym r.own) c.requires.larger in
+    let some : 2 ≤ c.size-old_size.result = omega (arith, c.size-old_size.ensures.legal.0) in
+    record {
+      mid = r.mid;
+      thins = r.thins;
+      own = r.own;
+      ok = grown-heap r.mid c.grow_room.new.blocks slot c.args.size there grows c.bytes_mut.result.now c.enlarged.new.block c.size-old_size.result larger
+          same c.bytes_mut.ensures.value c.enlarged.auto.block c.enlarged.ensures.heap some c.enlarged.ensures.handle c.enlarged.ensures.chunks;
+      no_room = tt;
+    }

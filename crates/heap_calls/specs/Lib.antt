@@ -1,0 +1,4 @@
+pub mod Heaps
+pub mod Edits
+pub mod Refused
+pub mod Others

@@ -1,0 +1,136 @@
+//! Changes of the chunks of a block of the region, which may have to grow for them.
+
+ghost use Rattle.std.specs.Prelude.{Ok, Err, OnOk};
+ghost use Rattle.geos_model.specs.Edits.{contract};
+ghost use Rattle.geos_model.specs.Heap.{IsCompact};
+ghost use Rattle.block_handles.specs.Names.{slot_of};
+ghost use Rattle.block_handles.specs.Store.{bytes_of};
+ghost use Rattle.geos_table.specs.ChunkCalls.{change_edit, change_row, may_grow};
+ghost use Rattle.geos_table.specs.Legal.{AreBytes};
+ghost use Rattle.vm_blocks.specs.DoesRow.{DoesRow};
+ghost use Rattle.vm_blocks.specs.Tied.{IsTied};
+ghost use Rattle.heap_calls.specs.Edits.{Carries, Comes, IsOwn, Tries};
+ghost use Rattle.heap_calls.specs.Heaps.{HoldsHeap};
+ghost use Rattle.heap_calls.specs.Others.{IsMarkedIfVm, KeepsOthers};
+ghost use Rattle.heap_calls.specs.declared.obstacle.Obstacle.TheVariants.{Room};
+
+use crate::growth::make_room;
+use crate::obstacle::{
+    Obstacle, of_append, of_array, of_delete, of_element, of_free, of_growth, of_insert, of_realloc,
+};
+use block_handles::Blocks;
+use geos_model::{Name, Refusal};
+use geos_table::Change;
+use lmem_heap::RoomError;
+use vm_blocks::VmBlocks;
+use vm_file::Device;
+
+/// Makes a change in a block that is in memory, for which it grows where it must, and blocks of the
+/// file that can be read again are discarded where that needs room. `BadChunk`, `BadArray`,
+/// `BadElement` and `Range` as the value's row says; `TooBig` where the block would need more than
+/// 65,520 bytes; `NoRoom` where it must grow and no stretch of the region has room for it, though
+/// none is left that could be discarded. A refusal leaves every block that is not discarded as it
+/// was.
+///
+/// A block of the file is not marked by it: that is to be done before, or at once behind it.
+pub fn change<D: Device + Drop>(
+    vm: &VmBlocks<D>,
+    blocks: &mut Blocks,
+    name: Name,
+    change: Change,
+) -> Result<(), Refusal>
+    requires tied { IsTied D.image D.honest vm.now blocks.old }
+    requires heap { HoldsHeap blocks.old name }
+    ensures carries { Carries (may_grow change) vm.now (change_edit change) blocks.old blocks.new name result }
+    // Other blocks are as they were, or were discarded; and table, region and file stay tied.
+    ensures keeps { KeepsOthers vm.now blocks.old blocks.new name }
+    ensures tied { IsMarkedIfVm vm.now name → IsTied D.image D.honest vm.now blocks.new }
+    // Its row of the table of calls, in each memory that the model may have before it.
+    ensures row { DoesRow D.image D.honest D.failed (change_row name change) result vm.now blocks.old vm.now blocks.new }
+{
+    match try_change(blocks, name, change) {
+        Ok(()) => {
+            // what lies in the region are bytes, as the block is to spell
+            let _ = blocks.region();
+            Ok(())
+        }
+        Err(Obstacle::Refused(refusal)) => Err(refusal),
+        Err(Obstacle::Room(room)) => grow_and_change(vm, blocks, name, change, room),
+    }
+}
+
+/// Makes the room that a change wants, and makes the change.
+// By itself, so that the changes that want no room are made in place.
+#[inline(never)]
+fn grow_and_change<D: Device + Drop>(
+    vm: &VmBlocks<D>,
+    blocks: &mut Blocks,
+    name: Name,
+    change: Change,
+    room: RoomError,
+) -> Result<(), Refusal>
+    requires tied { IsTied D.image D.honest vm.now blocks.old }
+    requires heap { HoldsHeap blocks.old name }
+    requires tried { Tries (change_edit change) blocks.old blocks.old name (Err (Room room)) }
+    ensures comes { Comes vm.now (change_edit change) blocks.old blocks.new name result }
+    ensures bytes { OnOk result (AreBytes (bytes_of blocks.new (slot_of name))) }
+{
+    match make_room(vm, blocks, name, room) {
+        Ok(()) => {}
+        Err(refusal) => return Err(refusal),
+    }
+    match try_change(blocks, name, change) {
+        Ok(()) => {
+            let _ = blocks.region();
+            Ok(())
+        }
+        Err(_) => unreachable!(),
+    }
+}
+
+/// Moves the chunks of a block together, so that its free bytes are in one piece, at its end.
+/// Handles and bytes stay.
+#[inline(never)]
+pub fn contract(blocks: &mut Blocks, name: Name)
+    requires { HoldsHeap blocks.old name }
+    ensures tries { Tries contract blocks.old blocks.new name (Ok tt) }
+    ensures compact { IsCompact (bytes_of blocks.new (slot_of name)) }
+{
+    lmem_heap::contract(blocks.bytes_mut(name));
+}
+
+/// Makes a change in a block that stays as large as it is.
+// Each arm takes the block's bytes for itself, so that the compiler makes one of this match and of
+// the match by which a caller chose the change.
+#[inline(always)]
+fn try_change(blocks: &mut Blocks, name: Name, change: Change) -> Result<(), Obstacle>
+    requires { HoldsHeap blocks.old name }
+    ensures tries { Tries (change_edit change) blocks.old blocks.new name result }
+    ensures own { IsOwn (may_grow change) result }
+{
+    match change {
+        Change::Lfree { c } => of_free(lmem_heap::free(blocks.bytes_mut(name), c)),
+        Change::Lrealloc { c, n } => of_realloc(lmem_heap::realloc(blocks.bytes_mut(name), c, n)),
+        Change::Lins { c, at, n } => of_insert(lmem_heap::insert(blocks.bytes_mut(name), c, at, n)),
+        Change::Ldel { c, at, n } => of_delete(lmem_heap::delete(blocks.bytes_mut(name), c, at, n)),
+        Change::Lcontract => {
+            contract(blocks, name);
+            Ok(())
+        }
+        Change::Caadd { c, n } => of_append(chunk_array::append(blocks.bytes_mut(name), c, n)),
+        Change::Cains { c, i, n } => of_growth(chunk_array::insert(
+            blocks.bytes_mut(name),
+            c,
+            i,
+            n,
+        )),
+        Change::Cadel { c, i } => of_element(chunk_array::remove(blocks.bytes_mut(name), c, i)),
+        Change::Cazero { c } => of_array(chunk_array::clear(blocks.bytes_mut(name), c)),
+        Change::Caresize { c, i, n } => of_growth(chunk_array::resize_element(
+            blocks.bytes_mut(name),
+            c,
+            i,
+            n,
+        )),
+    }
+}

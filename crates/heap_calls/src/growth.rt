@@ -1,0 +1,52 @@
+//! Blocks that grow where their heaps need more room.
+
+ghost use Rattle.std.specs.Prelude.{◌≡◌, ◌<◌, ◌≤◌, ◌%◌};
+ghost use Rattle.vm_blocks.specs.Tied.{IsTied};
+ghost use Rattle.heap_calls.specs.Heaps.{HoldsHeap, AsksFor, Enlarges, MakesRoom, size_at};
+
+use block_handles::Blocks;
+use geos_model::{Name, Refusal};
+use lmem_heap::{RoomError, enlarged};
+use vm_blocks::{NoRoom, VmBlocks};
+use vm_file::Device;
+
+/// Makes a block larger, and what is new in it free. `NoRoom` where no stretch of the region
+/// has room for it, though all that may be were discarded.
+fn enlarge<D: Device + Drop>(
+    vm: &VmBlocks<D>,
+    blocks: &mut Blocks,
+    name: Name,
+    size: u16,
+) -> Result<(), Refusal>
+    requires tied { IsTied D.image D.honest vm.now blocks.old }
+    requires heap { HoldsHeap blocks.old name }
+    requires larger { size_at blocks.old name < size }
+    requires legal { (size ≤ 65520) × (size % 16 ≡ 0) }
+    ensures { Enlarges vm.now blocks.old blocks.new name size result }
+{
+    let old_size = blocks.size(name) as u16;
+    match vm.grow_room(blocks, name, u32::from(size)) {
+        Ok(()) => {}
+        Err(NoRoom) => return Err(Refusal::NoRoom),
+    }
+    enlarged(blocks.bytes_mut(name), old_size);
+    Ok(())
+}
+
+/// Makes the room that a heap asked for.
+pub(crate) fn make_room<D: Device + Drop>(
+    vm: &VmBlocks<D>,
+    blocks: &mut Blocks,
+    name: Name,
+    room: RoomError,
+) -> Result<(), Refusal>
+    requires tied { IsTied D.image D.honest vm.now blocks.old }
+    requires heap { HoldsHeap blocks.old name }
+    requires asks { AsksFor room (size_at blocks.old name) }
+    ensures { MakesRoom vm.now room result blocks.old blocks.new name }
+{
+    match room {
+        RoomError::TooBig => Err(Refusal::TooBig),
+        RoomError::NeedMore(size) => enlarge(vm, blocks, name, size),
+    }
+}

@@ -1,0 +1,95 @@
+//! New chunks in a block of the region, which may have to grow for them.
+
+ghost use Rattle.std.specs.Prelude.{Err, OnOk};
+ghost use Rattle.block_handles.specs.Names.{slot_of};
+ghost use Rattle.block_handles.specs.Store.{bytes_of};
+ghost use Rattle.geos_table.specs.ChunkCalls.{make_edit, make_row};
+ghost use Rattle.geos_table.specs.Legal.{AreBytes};
+ghost use Rattle.vm_blocks.specs.DoesRow.{DoesRow};
+ghost use Rattle.vm_blocks.specs.Tied.{IsTied};
+ghost use Rattle.heap_calls.specs.Edits.{Comes, Tries};
+ghost use Rattle.heap_calls.specs.Heaps.{HoldsHeap};
+ghost use Rattle.heap_calls.specs.Others.{IsMarkedIfVm, KeepsOthers};
+ghost use Rattle.heap_calls.specs.declared.obstacle.Obstacle.TheVariants.{Room};
+
+use crate::growth::make_room;
+use crate::obstacle::{Obstacle, of_room};
+use block_handles::Blocks;
+use geos_model::{Name, Refusal};
+use geos_table::Make;
+use lmem_heap::RoomError;
+use vm_blocks::VmBlocks;
+use vm_file::Device;
+
+/// Makes a chunk in a block that is in memory, and answers its handle: the lowest one of the block
+/// that is free. The block grows, and others are discarded, as `change` has it; `TooBig` and
+/// `NoRoom` too. A block of the file is not marked by it.
+pub fn make<D: Device + Drop>(
+    vm: &VmBlocks<D>,
+    blocks: &mut Blocks,
+    name: Name,
+    make: Make,
+) -> Result<u16, Refusal>
+    requires tied { IsTied D.image D.honest vm.now blocks.old }
+    requires heap { HoldsHeap blocks.old name }
+    ensures comes { Comes vm.now (make_edit make) blocks.old blocks.new name result }
+    // Other blocks are as they were, or were discarded; and table, region and file stay tied.
+    ensures keeps { KeepsOthers vm.now blocks.old blocks.new name }
+    ensures tied { IsMarkedIfVm vm.now name → IsTied D.image D.honest vm.now blocks.new }
+    // Its row of the table of calls, in each memory that the model may have before it.
+    ensures row { DoesRow D.image D.honest D.failed (make_row name make) result vm.now blocks.old vm.now blocks.new }
+{
+    match try_make(blocks, name, make) {
+        Ok(c) => {
+            let _ = blocks.region();
+            Ok(c)
+        }
+        Err(Obstacle::Refused(refusal)) => Err(refusal),
+        Err(Obstacle::Room(room)) => grow_and_make(vm, blocks, name, make, room),
+    }
+}
+
+/// Makes the room that a chunk wants, and makes the chunk.
+// By itself, so that the chunks that want no room are made in place.
+#[inline(never)]
+fn grow_and_make<D: Device + Drop>(
+    vm: &VmBlocks<D>,
+    blocks: &mut Blocks,
+    name: Name,
+    make: Make,
+    room: RoomError,
+) -> Result<u16, Refusal>
+    requires tied { IsTied D.image D.honest vm.now blocks.old }
+    requires heap { HoldsHeap blocks.old name }
+    requires tried { Tries (make_edit make) blocks.old blocks.old name (Err (Room room)) }
+    ensures comes { Comes vm.now (make_edit make) blocks.old blocks.new name result }
+    ensures bytes { OnOk result (AreBytes (bytes_of blocks.new (slot_of name))) }
+{
+    match make_room(vm, blocks, name, room) {
+        Ok(()) => {}
+        Err(refusal) => return Err(refusal),
+    }
+    match try_make(blocks, name, make) {
+        Ok(c) => {
+            let _ = blocks.region();
+            Ok(c)
+        }
+        Err(_) => unreachable!(),
+    }
+}
+
+/// Makes a chunk in a block that stays as large as it is.
+// Each arm takes the bytes for itself, as for changes.
+#[inline(always)]
+fn try_make(blocks: &mut Blocks, name: Name, make: Make) -> Result<u16, Obstacle>
+    requires { HoldsHeap blocks.old name }
+    ensures { Tries (make_edit make) blocks.old blocks.new name result }
+{
+    match make {
+        Make::Lalloc { n } => of_room(lmem_heap::alloc(blocks.bytes_mut(name), n)),
+        Make::Canew { element_size } => of_room(chunk_array::create(
+            blocks.bytes_mut(name),
+            element_size,
+        )),
+    }
+}
