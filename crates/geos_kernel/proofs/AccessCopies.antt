@@ -1,0 +1,76 @@
+-- What a copy between spans makes of the kernel's memory.
+use Rattle.std.proofs.Common.{◌≡◌, ℕ, ◌+◌, ◌-◌, ◌<◌, ◌≤◌, List, [], length, take, drop, refl, sym, ap, ◌∙◌, subst, arith, length-take, length-drop}
+use Rattle.std.specs.Prelude.{Ok}
+use Rattle.std.proofs.lemmas.List.Elements.{All-nil}
+use Rattle.lmem_raw.specs.Bytes.{part}
+use Rattle.block_handles.specs.Names.{slot_of}
+use Rattle.block_handles.specs.Store as store
+use Rattle.block_handles.specs.Store.{Store}
+use Rattle.block_handles.specs.Change.{with_bytes}
+use Rattle.block_handles.specs.Offsets.{WritesCovered, CopiesCovered}
+use Rattle.block_handles.proofs.Laws.{with_own}
+use Rattle.geos_table.specs.Legal.{AreBytes}
+use Rattle.geos_table.specs.Memory.{Memory}
+use Rattle.geos_table.specs.Effects.{Reference}
+use Rattle.geos_table.specs.Calls as table
+use Rattle.geos_table.proofs.LegalBytes.{bytes-part}
+use Rattle.geos_model.proofs.Words.{with_nothing}
+use Rattle.vm_blocks.specs.FileOf.{IsMemoryOf}
+use Rattle.vm_blocks.specs.View.{VmState}
+use Rattle.geos_kernel.specs.declared.span.Span.{Span}
+use Rattle.geos_kernel.specs.View.{KernelState, core_of, MayChange}
+use Rattle.geos_kernel.specs.Spans.{Stands}
+use Rattle.geos_kernel.specs.Kernel.{IsKernel, Calls}
+use Rattle.geos_kernel.proofs.AccessReads.{Lies, has-place, lies, stands-there, first-named}
+use Rattle.geos_kernel.proofs.AccessWrites.{written-store, copied-in, stored-kernel, copied-over}
+
+-- a copy of no byte changes nothing
+pub nothing-copied : {D : Type 0} (image : D → List ℕ) (honest : D → Type 0) (failed : D → ℕ) (v : VmState D) (s : Store) (to : Span) (target source : Reference) (n : ℕ) → IsKernel image honest v s → n ≡ 0 → Stands (core_of image failed v s) to target
+    → Calls (honest v.file.device) (table.copy target source n) (Ok tt) (core_of image failed v s) (core_of image failed v s)
+nothing-copied image honest failed v s to target source n k none t =
+    let old = core_of image failed v s in
+    let there = stands-there image honest failed v s to target t k in
+    let place = has-place old to target t in
+    let slot = slot_of target.name in
+    let fits : 0 + length {A = ℕ} [] ≤ target.len = omega arith in
+    let are : AreBytes [] = All-nil (λ b. b < 256) in
+    let same : written-store image honest failed v s k target there place 0 [] fits are ≡ s = ap (with_bytes s slot) (with_nothing (store.bytes_of s slot) (place.place.at + (target.start + 0))) ∙ with_own s slot in
+    let calls : Calls (honest v.file.device) (table.copy target source 0) (Ok tt) old old =
+    subst (λ u. Calls (honest v.file.device) (table.copy target source 0) (Ok tt) old (core_of image failed v u)) same (copied-in image honest failed v s k target there place 0 [] fits are source 0 (λ m is. refl) refl) in
+    subst (λ n. Calls (honest v.file.device) (table.copy target source n) (Ok tt) old old) (sym none) calls
+
+module _ {D : Type 0} (image : D → List ℕ) (honest : D → Type 0) (failed : D → ℕ) (v : VmState D) (s t : Store) (k : IsKernel image honest v s) (to from : Span) (target source : Reference)
+    (x : Stands (core_of image failed v s) to target) (y : Stands (core_of image failed v s) from source) (n : ℕ) (some : 0 < n) (room : n ≤ target.len) (fits : n ≤ source.len) (are : (slot : ℕ) → AreBytes (store.bytes_of s slot))
+    (copied : CopiesCovered s t from.at to.at n) where
+  abbrev core : Store → KernelState
+  core u = core_of image failed v u
+
+  abbrev taken : List ℕ
+  taken = part (store.bytes_of s (slot_of source.name)) (from.at - store.place_of s (slot_of source.name)) n
+
+  source-lies : Lies (core s) from source
+  source-lies = lies (core s) from source y (omega (arith, some, fits))
+
+  is-taken : (m : Memory) → IsMemoryOf image honest v s m → taken ≡ take n (table.named_bytes m source)
+  is-taken m is = first-named image honest failed v s from source y k m is source-lies n fits
+
+  covered : WritesCovered s t to.at taken
+  covered =
+      let l = source-lies in
+      copied (slot_of source.name) (omega (arith, l.at), omega (arith, l.at, l.within, fits))
+
+  long : length taken ≡ n
+  long =
+      let l = source-lies in
+      let bytes = store.bytes_of s (slot_of source.name) in
+      let at = from.at - store.place_of s (slot_of source.name) in
+      omega (arith, length-take n (drop at bytes), length-drop at bytes, l.at, l.within, fits)
+
+  taken-bytes : AreBytes taken
+  taken-bytes = bytes-part (store.bytes_of s (slot_of source.name)) (from.at - store.place_of s (slot_of source.name)) n (are (slot_of source.name))
+
+  pub copied-kernel : MayChange (core s) target.name → IsKernel image honest v t
+  copied-kernel = stored-kernel image honest failed v s t k to target x 0 to.at taken (omega (arith, long, room)) (omega (arith, long, some)) (omega arith) taken-bytes covered
+
+  pub copied-calls : Calls (honest v.file.device) (table.copy target source n) (Ok tt) (core s) (core t)
+  copied-calls = copied-over image honest failed v s t k to target x 0 to.at taken (omega (arith, long, room)) (omega (arith, long, some)) (omega arith) taken-bytes covered source n is-taken refl

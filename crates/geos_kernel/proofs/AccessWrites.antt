@@ -1,0 +1,232 @@
+-- What bytes that are written within a chunk make of the kernel's memory.
+use Rattle.std.proofs.Common.{◌≡◌, ◌≢◌, ℕ, ◌+◌, ◌-◌, ◌<◌, ◌≤◌, List, [], length, set, Option, Some, unwrap_or, refl, sym, ap, ◌∙◌, subst, arith, inl, inr, length-take, length-drop, take, drop}
+use Rattle.std.specs.Prelude.{Ok, max}
+use Rattle.std.specs.Option.{option_map}
+use Rattle.std.proofs.lemmas.Bool.{cases_eq}
+use Rattle.lmem_raw.specs.Bytes.{with_part}
+use Rattle.lmem_raw.proofs.Parts.{length-with_part, with_whole}
+use Rattle.geos_model.specs.declared.name.Owner.TheVariants.{Vm}
+use Rattle.block_handles.specs.Layout.{IsLaidOut}
+use Rattle.block_handles.specs.Names.{IsHandle, slot_of}
+use Rattle.block_handles.specs.Store as store
+use Rattle.block_handles.specs.Store.{Block, Store}
+use Rattle.block_handles.specs.Change.{with_bytes}
+use Rattle.block_handles.specs.Offsets.{WritesCovered}
+use Rattle.block_handles.proofs.Laws.{handle_of_there, laid-with_bytes}
+use Rattle.block_handles.proofs.Writes.{blocks_with_bytes-set}
+use Rattle.geos_model.specs.Block as block
+use Rattle.geos_model.specs.Chunks as chunks
+use Rattle.geos_model.specs.Heap.{IsHeap}
+use Rattle.geos_table.specs.Blocks.{rechunked_block}
+use Rattle.geos_table.specs.Legal.{AreBytes, IsLegalBlock}
+use Rattle.geos_table.specs.Memory as model
+use Rattle.geos_table.specs.Memory.{Memory}
+use Rattle.geos_table.specs.VmFile.{VmFile}
+use Rattle.geos_table.specs.Effects.{Reference, Nothing}
+use Rattle.geos_table.specs.Calls as table
+use Rattle.geos_table.proofs.LegalBlocks.{rechunked-legal}
+use Rattle.geos_table.proofs.LegalChunks.{with_written-legal}
+use Rattle.geos_model.specs.Writes.{ChangesChunk}
+use Rattle.geos_model.proofs.Fits.{need-fits}
+use Rattle.geos_model.proofs.Places.{chunk-place}
+use Rattle.geos_model.proofs.Writes.{writes-stay}
+use Rattle.vm_blocks.specs.DoesRow.{DoesRow}
+use Rattle.vm_blocks.specs.FileOf.{IsMemoryOf}
+use Rattle.vm_blocks.specs.Spelled.{spelled}
+use Rattle.vm_blocks.specs.Tied.{IsTied}
+use Rattle.vm_blocks.specs.View.{VmState}
+use Rattle.geos_kernel.specs.declared.span.Span.{Span}
+use Rattle.geos_kernel.specs.View.{KernelState, core_of, MayChange}
+use Rattle.geos_kernel.specs.Spans.{Stands, SpansStay}
+use Rattle.geos_kernel.specs.Kernel.{IsKernel, Calls}
+use Rattle.geos_kernel.proofs.AccessReads.{HasPlace, Lies, chunk-placed, lies, stands-there}
+use Rattle.heap_calls.specs.Others.{KeepsBut, KeepsOthers}
+use Rattle.heap_calls.proofs.Kept.{named-changed, named-tied}
+use Rattle.heap_calls.proofs.Named.{chunks-known}
+use Rattle.heap_calls.proofs.Rows.{there-is}
+use Rattle.geos_kernel.proofs.Changed.{slot-keeps, slot-other, slot-own}
+use Rattle.geos_kernel.proofs.Named.{named-legal}
+use Rattle.geos_kernel.proofs.Rowed.{does-willing, row-calls}
+use Rattle.geos_kernel.proofs.Seen.{row-known}
+use Rattle.geos_kernel.proofs.Stays.{kernel-set, stands-same}
+
+-- the greater of two numbers
+max-is : (n m k : ℕ) → n ≡ m → k ≤ n → max m k ≡ n
+max-is n m k e le = omega (arith, e, le)
+
+-- chunks whose places stay keep their lengths
+chunk-kept : (b d : List ℕ) (c : ℕ) (bytes : List ℕ) → length d ≡ length b → block.place_of d c ≡ block.place_of b c → chunks.chunk_of (block.chunks b) c ≡ Some bytes
+    → (kept : List ℕ) × (chunks.chunk_of (block.chunks d) c ≡ Some kept) × (length kept ≡ length bytes)
+chunk-kept b d c bytes long places is =
+    let q = chunk-placed (block.place_of b c) b bytes (sym (chunk-place b c) ∙ is) in
+    let p = q.0 in (
+      block.bytes_at d p,
+      chunk-place d c ∙ ap (option_map (block.bytes_at d)) (places ∙ q.1),
+      omega (arith, long, ap length q.2, length-take p.len (drop p.at d), length-drop p.at d, length-take p.len (drop p.at b), length-drop p.at b),
+    )
+
+module _ {D : Type 0} (image : D → List ℕ) (honest : D → Type 0) (failed : D → ℕ) (v : VmState D) (s : Store) (k : IsKernel image honest v s) (ref : Reference) (there : store.IsThere s (slot_of ref.name)) (place : HasPlace (core_of image failed v s) ref)
+    (i : ℕ) (ws : List ℕ) (fits : i + length ws ≤ ref.len) (are : AreBytes ws) where
+  abbrev slot : ℕ
+  slot = slot_of ref.name
+
+  abbrev before : List ℕ
+  before = store.bytes_of s slot
+
+  -- the block with these bytes at an offset of the reference
+  abbrev written : List ℕ
+  written = with_part before (place.place.at + (ref.start + i)) ws
+
+  abbrev pub written-store : Store
+  written-store = with_bytes s slot written
+
+  abbrev sees : Store → KernelState
+  sees t = core_of image failed v t
+
+  abbrev own : Block
+  own = record { locks = store.locks_of s slot; bytes = written }
+
+  handle : IsHandle ref.name.h
+  handle = handle_of_there s s ref.name refl k.laid there
+
+  long : length written ≡ length before
+  long = length-with_part before (place.place.at + (ref.start + i)) ws
+
+  changes : ChangesChunk before written ref.chunk place.place (ref.start + i) ws
+  changes = writes-stay before ref.chunk place.place (ref.start + i) ws (k.heaps ref.name there) place.is (omega (arith, fits, place.room))
+
+  blocks-set : written-store.blocks ≡ set s.blocks slot (Some own)
+  blocks-set =
+      let b : Block = record { locks = store.locks_of s slot; bytes = before } in
+      let locked : List ℕ → List (Option Block) = λ bs. set s.blocks slot (Some (record { locks = store.locks_of s slot; bytes = bs })) in
+      blocks_with_bytes-set s.blocks slot written b (there-is (store.block_at s slot) there) ∙ ap locked (with_whole before written long)
+
+  written-laid : IsLaidOut written-store
+  written-laid = laid-with_bytes s k.laid slot written
+
+  block-own : store.block_at written-store slot ≡ Some own
+  block-own = slot-own s written-store ref.name (Some own) blocks-set k.laid handle
+
+  keeps : KeepsBut v s written-store ref.name
+  keeps = slot-keeps s written-store ref.name (Some own) blocks-set v (λ j ne some. refl) written-laid refl
+
+  other : (j : ℕ) → j ≢ slot → store.block_at written-store j ≡ store.block_at s j
+  other = slot-other s written-store ref.name (Some own) blocks-set
+
+  -- a span in this block: its chunk has the place and the length that it had
+  stands-own : (span : Span) (r : Reference) → slot_of r.name ≡ slot → Stands (sees s) span r → Stands (sees written-store) span r
+  stands-own span r e st =
+      let was : store.bytes_of s (slot_of r.name) ≡ before = ap (store.bytes_of s) e in
+      let is : store.bytes_of written-store (slot_of r.name) ≡ written = ap (store.bytes_of written-store) e ∙ ap store.bytes_in block-own in
+      let kept = chunk-kept before written r.chunk st.bytes long (changes.places r.chunk) (subst (λ b. chunks.chunk_of (block.chunks b) r.chunk ≡ Some st.bytes) was st.chunk) in
+      let stays : block.place_of (store.bytes_of written-store (slot_of r.name)) r.chunk ≡ block.place_of (store.bytes_of s (slot_of r.name)) r.chunk =
+      ap (λ b. block.place_of b r.chunk) is ∙ changes.places r.chunk ∙ sym (ap (λ b. block.place_of b r.chunk) was) in
+      let locks : store.locks_of written-store (slot_of r.name) ≡ store.locks_of s (slot_of r.name) = ap (store.locks_of written-store) e ∙ ap store.locks_in block-own ∙ sym (ap (store.locks_of s) e) in
+      record {
+        bytes = kept.0;
+        locked = rw locks st.locked;
+        chunk = subst (λ b. chunks.chunk_of (block.chunks b) r.chunk ≡ Some kept.0) (sym is) kept.1;
+        fits = omega (arith, kept.2, st.fits);
+        len = st.len;
+        place = λ some. rw stays (st.place some);
+      }
+
+  -- every span stays
+  pub written-spans : (f : VmFile) → SpansStay (sees s) (sees written-store) f Nothing
+  written-spans f span r st fresh = elim (cases_eq (slot_of r.name) slot) [
+    | inl same ↦ stands-own span r same st
+    | inr apart ↦ stands-same (sees s) (sees written-store) span r (other (slot_of r.name) apart) refl st
+  ]
+
+  written-bytes : chunks.bytes_of (block.chunks before) ref.chunk ≡ block.bytes_at before place.place
+  written-bytes = ap (λ o. unwrap_or o []) (chunk-place before ref.chunk ∙ ap (option_map (block.bytes_at before)) place.is)
+
+  -- the chunks that the row gives the block
+  abbrev row_chunks : List (Option (List ℕ))
+  row_chunks = chunks.with_bytes (block.chunks before) ref.chunk (with_part (chunks.bytes_of (block.chunks before) ref.chunk) (ref.start + i) ws)
+
+  spells : block.chunks written ≡ row_chunks
+  spells = changes.chunks ∙ ap (λ bs. chunks.with_bytes (block.chunks before) ref.chunk (with_part bs (ref.start + i) ws)) (sym written-bytes)
+
+  needs : chunks.need row_chunks ≤ length written
+  needs = subst (λ cs. chunks.need cs ≤ length written) spells (need-fits written changes.heap)
+
+  size : max (length before) (chunks.need row_chunks) ≡ length written
+  size = max-is (length written) (length before) (chunks.need row_chunks) long needs
+
+  same-block : rechunked_block row_chunks (spelled (store.locks_of s slot) before) ≡ spelled (store.locks_of s slot) written
+  same-block = λ j. record { locks = store.locks_of s slot; heap = record { chunks = sym spells j; size = size j } }
+
+  -- a block of the file is a legal one then
+  written-legal : (m : Memory) → IsMemoryOf image honest v s m → ref.name.owner ≡ Vm → IsLegalBlock (spelled (store.locks_of s slot) written)
+  written-legal m is of_file =
+      let b : Block = record { locks = store.locks_of s slot; bytes = before } in
+      let legal = named-legal image honest v s m k.tied is ref.name of_file b (there-is (store.block_at s slot) there) in
+      subst IsLegalBlock same-block
+      (rechunked-legal row_chunks (spelled (store.locks_of s slot) before) (with_written-legal (block.chunks before) ref.chunk (ref.start + i) ws are legal.heap.chunks) (omega (arith, needs, long, legal.heap.most)) legal)
+
+  -- memory is as the row says
+  pub written-memory : (m : Memory) → IsMemoryOf image honest v s m → IsMemoryOf image honest v written-store (table.written m ref i ws)
+  written-memory m is =
+      let b : Block = record { locks = store.locks_of s slot; bytes = before } in
+      let after = named-changed image honest v s written-store ref.name k.tied keeps m is b own (there-is (store.block_at s slot) there) block-own (rechunked_block row_chunks) same-block (written-legal m is) in
+      subst (λ cs. IsMemoryOf image honest v written-store (model.with_chunks m ref.name (chunks.with_bytes cs ref.chunk (with_part (chunks.bytes_of cs ref.chunk) (ref.start + i) ws)))) (sym (chunks-known image honest v s k.tied m is ref.name there)) after
+
+  written-row : DoesRow image honest failed (table.store ref i ws) (Ok tt) v s v written-store
+  written-row = does-willing image honest failed (table.store ref i ws) (Ok tt) v s written-store (λ m is. (table.written m ref i ws, written-memory m is, refl))
+
+  pub written-calls : Calls (honest v.file.device) (table.store ref i ws) (Ok tt) (sees s) (sees written-store)
+  written-calls = row-calls image honest failed (table.store ref i ws) (Ok tt) v s written-store written-row (λ f tied choice. written-spans f)
+
+  -- a copy of these bytes is this call
+  pub copied-in : (source : Reference) (n : ℕ) → ((m : Memory) → IsMemoryOf image honest v s m → ws ≡ take n (table.named_bytes m source)) → i ≡ 0 → Calls (honest v.file.device) (table.copy ref source n) (Ok tt) (sees s) (sees written-store)
+  copied-in source n same first = row-calls image honest failed (table.copy ref source n) (Ok tt) v s written-store
+      (does-willing image honest failed (table.copy ref source n) (Ok tt) v s written-store (λ m is. (
+        table.written m ref 0 (take n (table.named_bytes m source)),
+        subst (λ bs. IsMemoryOf image honest v written-store (table.written m ref 0 bs)) (same m is) (subst (λ j. IsMemoryOf image honest v written-store (table.written m ref j ws)) first (written-memory m is)),
+        refl,
+      )))
+      (λ f tied choice. written-spans f)
+
+  -- the blocks still are a kernel's
+  pub written-kernel : MayChange (sees s) ref.name → IsKernel image honest v written-store
+  written-kernel may =
+      let word : block.handle_word written ≡ ref.name.h = changes.handle ∙ k.handles ref.name there in
+      let others : KeepsOthers v s written-store ref.name = record {
+        others = keeps;
+        there = subst store.IsBlock (sym block-own) tt;
+        locks = ap store.locks_in block-own;
+        heap = subst (λ o. IsHeap (store.bytes_in o)) (sym block-own) changes.heap;
+        handle = ap (λ o. block.handle_word (store.bytes_in o)) block-own ∙ changes.handle;
+      } in
+      let tied : IsTied image honest v written-store = named-tied image honest v s written-store ref.name k.tied there others may in
+      kernel-set image honest v s written-store k tied (row-known image honest failed (table.store ref i ws) (Ok tt) v s v written-store written-row k.known) refl ref.name own handle blocks-set changes.heap word (k.few ref.name)
+
+-- a write that covers bytes of a span is a write to the chunk for which it stands
+module _ {D : Type 0} (image : D → List ℕ) (honest : D → Type 0) (failed : D → ℕ) (v : VmState D) (s t : Store) (k : IsKernel image honest v s) (span : Span) (ref : Reference) (stands : Stands (core_of image failed v s) span ref)
+    (i at : ℕ) (ws : List ℕ) (fits : i + length ws ≤ ref.len) (some : 0 < length ws) (e : at ≡ span.at + i) (are : AreBytes ws) (covered : WritesCovered s t at ws) where
+  abbrev core : Store → KernelState
+  core u = core_of image failed v u
+
+  abbrev is-there : store.IsThere s (slot_of ref.name)
+  is-there = stands-there image honest failed v s span ref stands k
+
+  abbrev place : Lies (core s) span ref
+  place = lies (core s) span ref stands (omega (arith, fits, some))
+
+  stored : t ≡ written-store image honest failed v s k ref is-there place.chunk i ws fits are
+  stored =
+      let slot = slot_of ref.name in
+      let before = store.bytes_of s slot in
+      let index : at - store.place_of s slot ≡ place.chunk.place.at + (ref.start + i) = omega (arith, e, place.at) in
+      covered slot some (omega (arith, e, place.at), omega (arith, e, fits, place.at, place.within)) ∙ ap (λ j. with_bytes s slot (with_part before j ws)) index
+
+  pub stored-kernel : MayChange (core s) ref.name → IsKernel image honest v t
+  stored-kernel may = subst (IsKernel image honest v) (sym stored) (written-kernel image honest failed v s k ref is-there place.chunk i ws fits are may)
+
+  pub stored-calls : Calls (honest v.file.device) (table.store ref i ws) (Ok tt) (core s) (core t)
+  stored-calls = subst (λ u. Calls (honest v.file.device) (table.store ref i ws) (Ok tt) (core s) (core u)) (sym stored) (written-calls image honest failed v s k ref is-there place.chunk i ws fits are)
+
+  pub copied-over : (source : Reference) (n : ℕ) → ((m : Memory) → IsMemoryOf image honest v s m → ws ≡ take n (table.named_bytes m source)) → i ≡ 0 → Calls (honest v.file.device) (table.copy ref source n) (Ok tt) (core s) (core t)
+  copied-over source n is first =
+      subst (λ u. Calls (honest v.file.device) (table.copy ref source n) (Ok tt) (core s) (core u)) (sym stored) (copied-in image honest failed v s k ref is-there place.chunk i ws fits are source n is first)

@@ -1,0 +1,32 @@
+-- The memory of a kernel is legal.
+use Rattle.std.proofs.Common.{ℕ, ◌≤◌, List, Option, Some, None}
+use Rattle.std.specs.Prelude.{IfSome}
+use Rattle.geos_model.specs.Names.{mem}
+use Rattle.geos_model.specs.Heap.{IsHeap}
+use Rattle.geos_table.specs.Legal.{AreBytes, IsLegalBlock, IsMemory}
+use Rattle.geos_table.specs.Memory.{Memory, block_of}
+use Rattle.geos_table.proofs.LegalHeaps.{heap-legal}
+use Rattle.block_handles.specs.Names.{slot_of}
+use Rattle.block_handles.specs.Layout.{IsRegion}
+use Rattle.block_handles.specs.Store.{Block, Store, block_at, bytes_in, IsBlock, locks_in}
+use Rattle.vm_blocks.specs.FileOf.{IsMemoryOf}
+use Rattle.vm_blocks.specs.Spelled.{block_in}
+use Rattle.vm_blocks.specs.View.{VmState}
+use Rattle.geos_kernel.specs.Kernel.{IsKernel}
+use Rattle.geos_kernel.proofs.Lowest.{count}
+use Rattle.heap_calls.proofs.Named.{mem-known}
+use Rattle.heap_calls.proofs.Values.{values-of}
+
+-- a block of bytes that are a heap spells a legal one
+block-legal : (o : Option Block) → (IsBlock o → IsHeap (bytes_in o)) → AreBytes (bytes_in o) → locks_in o ≤ 65535 → IfSome (block_in o) IsLegalBlock
+block-legal None heap bytes few = tt
+block-legal (Some b) heap bytes few = record { heap = heap-legal b.bytes (heap tt) bytes; few = few }
+
+-- where the region is of bytes, memory is legal
+pub memory-legal : {D : Type 0} (image : D → List ℕ) (honest : D → Type 0) (v : VmState D) (s : Store) (region : List ℕ) → IsKernel image honest v s → IsRegion s region → AreBytes region → (m : Memory) → IsMemoryOf image honest v s m → IsMemory m
+memory-legal image honest v s region k lies bytes m is = record { handles = count image honest v s m k.tied is; blocks = blocks; file = is.file.legal }
+  where
+    blocks : (h : ℕ) → IfSome (block_of m (mem h)) IsLegalBlock
+    blocks h =
+        let name = mem h in
+        rw (mem-known image honest v s k.tied m is h) (block-legal (block_at s (slot_of name)) (k.heaps name) (values-of s (slot_of name) region lies bytes) (k.few name))

@@ -1,0 +1,146 @@
+-- What holds of a kernel on its device holds of what its calls see; and a call that does its row
+-- answers as its row says.
+use Rattle.std.proofs.Common.{◌≡◌, ℕ, List, Option, Some, None, refl, ap, ◌∙◌, arith, inl, inr}
+use Rattle.std.specs.Prelude.{Result}
+use Rattle.geos_model.specs.declared.refusal.Refusal.{Refusal}
+use Rattle.geos_table.specs.Effects.{Call}
+use Rattle.geos_table.specs.Handles.{at_handle}
+use Rattle.geos_table.specs.Memory.{Memory}
+use Rattle.geos_table.specs.VmFile.{VmFile, Kept, Sure, Unsure}
+use Rattle.block_handles.specs.Store.{Block, Store, block_at}
+use Rattle.vm_file.specs.Device.{Rose}
+use Rattle.vm_file.specs.State.{pair_of}
+use Rattle.vm_blocks.specs.declared.entries.Held.{Held}
+use Rattle.vm_blocks.specs.DoesRow.{DoesRow}
+use Rattle.vm_blocks.specs.FileOf as vm
+use Rattle.vm_blocks.specs.FileOf.{IsKeptOf, IsMemoryOf}
+use Rattle.vm_blocks.specs.Tied.{IsTied, TiedAt}
+use Rattle.vm_blocks.specs.View.{VmState, bytes_read, held_at, vm_slot}
+use Rattle.vm_blocks.proofs.Matching.{directory-on, listed-on, pair-on}
+use Rattle.geos_kernel.specs.View.{KernelOn, KernelState, core_of, image_seen, kernel_of, memory_of, IsFileOf}
+use Rattle.geos_kernel.specs.Kernel.{AnswersWith, HasRisen, LeavesVm, NeverFell}
+
+-- What is tied to the device is tied to what is seen of it
+
+module _ {D : Type 0} (image : D → List ℕ) (honest : D → Type 0) (failed : D → ℕ) (v : VmState D) (s : Store) where
+  -- the device is honest
+  abbrev good : Type 0
+  good = honest v.file.device
+
+  -- what calls see
+  abbrev core : KernelState
+  core = core_of image failed v s
+
+  kept-seen : (kept : Kept) → IsKeptOf image honest v.file kept → IsKeptOf image_seen (λ d. good) core.vm.file kept
+  kept-seen (Sure p) k = k
+  kept-seen (Unsure p q) k = k
+
+  kept-known : (kept : Kept) → IsKeptOf image_seen (λ d. good) core.vm.file kept → IsKeptOf image honest v.file kept
+  kept-known (Sure p) k = k
+  kept-known (Unsure p q) k = k
+
+  pub file-seen : (f : VmFile) → vm.IsFileOf image honest v s f → IsFileOf good core f
+  file-seen f is = record {
+    area = is.area;
+    cur = record { handles = is.cur.handles; each = is.cur.each; map_block = is.cur.map_block; map_group = is.cur.map_group; map_item = is.cur.map_item };
+    saved = is.saved;
+    kept = kept-seen f.kept is.kept;
+    legal = is.legal;
+  }
+
+  pub file-known : (f : VmFile) → IsFileOf good core f → vm.IsFileOf image honest v s f
+  file-known f is = record {
+    area = is.area;
+    cur = record { handles = is.cur.handles; each = is.cur.each; map_block = is.cur.map_block; map_group = is.cur.map_group; map_item = is.cur.map_item };
+    saved = is.saved;
+    kept = kept-known f.kept is.kept;
+    legal = is.legal;
+  }
+
+  -- the model's memory, where the model knows such a file
+  pub memory-known : (f : VmFile) → IsFileOf good core f → IsMemoryOf image honest v s (memory_of core f)
+  memory-known f is = record { blocks = refl; file = file-known f is; region = refl }
+
+  tied-at : (h : ℕ) (e : Option Held) (b : Option Block) → TiedAt image honest v.file h e b → TiedAt image_seen (λ d. good) core.vm.file h e b
+  tied-at h None None t = t
+  tied-at h None (Some b) t = t
+  tied-at h (Some e) None t = record { size = t.size; clean = t.clean; kept = t.kept }
+  tied-at h (Some e) (Some b) t = record {
+    size = t.size;
+    heap = t.heap;
+    handle = t.handle;
+    kept = t.kept;
+    clean = λ m. (let c = t.clean m in record { long = c.long; same = c.same });
+  }
+
+  pub tied-seen : IsTied image honest v s → IsTied image_seen (λ d. good) core.vm s
+  tied-seen tied = record {
+    laid = tied.laid;
+    long = tied.long;
+    each = λ h p. tied-at h (held_at v h) (block_at s (vm_slot h)) (tied.each h p);
+    maps = record { block = tied.maps.block; group = tied.maps.group; no_item = tied.maps.no_item };
+  }
+
+-- Where no more is said to be honest than was
+
+-- a file that the model may know still is one
+pub file-on : (A B : Type 0) → (B → A) → (core : KernelState) (f : VmFile) → IsFileOf A core f → IsFileOf B core f
+file-on A B more core f is = record {
+  area = is.area;
+  cur = record {
+    handles = is.cur.handles;
+    each = λ h p. (let read = bytes_read image_seen core.vm.file h in listed-on A B more read read (held_at core.vm h) (block_at core.blocks (vm_slot h)) (at_handle None f.cur.blocks h) (λ b. refl) (is.cur.each h p));
+    map_block = is.cur.map_block;
+    map_group = is.cur.map_group;
+    map_item = is.cur.map_item;
+  };
+  saved = (let bs = (pair_of image_seen core.vm.file).saved.blocks in directory-on A B more core.vm.file.saved bs bs f.saved (λ b. refl) is.saved);
+  kept = on f.kept is.kept;
+  legal = is.legal;
+}
+  where
+    on : (kept : Kept) → IsKeptOf image_seen (λ d. A) core.vm.file kept → IsKeptOf image_seen (λ d. B) core.vm.file kept
+    on (Sure p) k = (let q = pair_of image_seen core.vm.file in (k.0, pair-on A B more core.vm.file.current core.vm.file.saved q q p (λ b. refl) k.1))
+    on (Unsure p q) k = (let r = pair_of image_seen core.vm.file in (k.0, pair-on A B more core.vm.file.current core.vm.file.saved r r p (λ b. refl) k.1, λ b. k.2 (more b)))
+
+-- The counts of failures
+
+pub risen : (a b : ℕ) → Rose a b → HasRisen a b
+risen a b (inl less) = inl less
+risen a b (inr most) = inr (omega (arith, most))
+
+-- Calls
+
+module _ {D : Type 0} (image : D → List ℕ) (honest : D → Type 0) (failed : D → ℕ) {A : Type 0} (call : Call A) (result : Result A Refusal) (v : VmState D) (s : Store) (w : VmState D) (t : Store) where
+  abbrev old : KernelState
+  old = core_of image failed v s
+
+  abbrev new : KernelState
+  new = core_of image failed w t
+
+  same-memory : (n : Memory) → IsMemoryOf image honest w t n → n ≡ memory_of new n.file
+  same-memory n is = (let blocks = is.blocks in let region = is.region in λ k. record { blocks = blocks k; file = n.file; region = region k })
+
+  -- a call that does its row answers as the row says
+  pub row-answers : DoesRow image honest failed call result v s w t → (honest v.file.device → honest w.file.device) → NeverFell (honest v.file.device) old new
+      → (f : VmFile) → IsFileOf (honest v.file.device) old f → AnswersWith (honest v.file.device) call result old new f
+  row-answers row still lasts f tied =
+      let b = row (memory_of old f) (memory-known image honest failed v s f tied) in
+      record {
+        choice = b.0;
+        chosen = record { given = b.1.given; device = λ g t. risen (failed v.file.device) (failed w.file.device) (b.1.device g t) };
+        lasts = lasts;
+        file = b.2.file;
+        tied = file-on (honest w.file.device) (honest v.file.device) still new b.2.file (file-seen image honest failed w t b.2.file b.3.file);
+        comes = b.4 ∙ ap (λ m. (result, m)) (same-memory b.2 b.3);
+      }
+
+  -- and the model knows a file afterwards
+  pub row-known : DoesRow image honest failed call result v s w t → (f : VmFile) × vm.IsFileOf image honest v s f → (f : VmFile) × vm.IsFileOf image honest w t f
+  row-known row (f, is) =
+      let b = row (memory_of old f) (record { blocks = refl; file = is; region = refl }) in
+      (b.2.file, b.3.file)
+
+-- a call that changes blocks alone
+pub blocks-alone : {D : Type 0} (image : D → List ℕ) (failed : D → ℕ) (v : VmState D) (s t : Store) (k : KernelOn D) → kernel_of image failed v s ≡ k → LeavesVm k (kernel_of image failed v t)
+blocks-alone image failed v s t k is = record { device = ap (λ k. k.device) is; vm = ap (λ k. k.core.vm) is }

@@ -1,0 +1,24 @@
+-- What the kernel tells of locks is what the model has.
+use Rattle.std.proofs.Common.{◌≡◌, ℕ, Bool, List, None, sym, ap, ◌∙◌, inl, inr}
+use Rattle.std.specs.Prelude.{◌↔◌, IsTrue, option_map}
+use Rattle.geos_model.specs.Names.{vm}
+use Rattle.geos_table.specs.Directories.{VmBlock}
+use Rattle.geos_table.specs.Memory.{Memory, locks_in, locks_of}
+use Rattle.block_handles.specs.Store.{Store}
+use Rattle.vm_blocks.specs.FileOf.{IsMemoryOf}
+use Rattle.vm_blocks.specs.Listed.{NoneLocked}
+use Rattle.vm_blocks.specs.Tied.{IsTied}
+use Rattle.vm_blocks.specs.View.{VmState}
+use Rattle.vm_blocks.proofs.Tables.{handle-or, table-past}
+use Rattle.heap_calls.proofs.Named.{locks-known}
+
+module _ {D : Type 0} (image : D → List ℕ) (honest : D → Type 0) (v : VmState D) (s : Store) (m : Memory) (tied : IsTied image honest v s) (is : IsMemoryOf image honest v s m) where
+  -- no block of the file is locked
+  pub none-told : (b : Bool) → IsTrue b ↔ NoneLocked s → IsTrue b ↔ ((h : ℕ) → locks_of m (vm h) ≡ 0)
+  none-told b same = (
+    λ t h. elim (handle-or {X = ℕ} 0 h) [
+      | inl p ↦ locks-known image honest v s tied m is (vm h) ∙ same.0 t h p
+      | inr past ↦ ap (λ l. locks_in (option_map (λ (x : VmBlock). x.block) l)) (table-past None m.file.cur.blocks h is.file.cur.handles past)
+    ],
+    λ none. same.1 (λ h p. sym (locks-known image honest v s tied m is (vm h)) ∙ none h),
+  )

@@ -1,0 +1,105 @@
+-- Calls answered one after another.
+use Rattle.std.proofs.Common.{◌≡◌, ℕ, List, [], ◌∷◌, refl, sym, ap, subst, arith, inl, inr}
+use Rattle.std.specs.Prelude.{◌⊎◌}
+use Rattle.geos_table.specs.VmFile.{VmFile}
+use Rattle.geos_table.specs.Effects.{Choice, Reference}
+use Rattle.geos_kernel.specs.declared.span.Span.{Span}
+use Rattle.geos_kernel.specs.Spans.{Stands, IsFresh}
+use Rattle.geos_kernel.specs.Kernel.{HasRisen, IsChosen, NeverFell}
+use Rattle.geos_kernel.specs.Turns.{Turn, Does, Tells, Refers, Answered, InTurn, Step, Comes, stale_by, AreChosen, AnsweredByRows, CallsAnswerInTurn}
+use Rattle.geos_kernel.specs.View.{KernelState, IsFileOf, failed_in, memory_of}
+
+-- Counts of failures, which stay or rise
+
+rises-more : (a b c : ℕ) → HasRisen a b → (c ≡ b) ⊎ HasRisen b c → HasRisen a c
+rises-more a b c (inl less) (inl same) = inl (omega (arith, less, same))
+rises-more a b c (inl less) (inr (inl more)) = inl (omega (arith, less, more))
+rises-more a b c (inr most) (inl same) = inr (omega (arith, most, same))
+rises-more a b c (inr most) (inr (inl more)) = inr (omega (arith, most, more))
+rises-more a b c first (inr (inr most)) = inr most
+
+rises-later : (a b c : ℕ) → (b ≡ a) ⊎ HasRisen a b → HasRisen b c → HasRisen a c
+rises-later a b c (inl same) (inl less) = inl (omega (arith, same, less))
+rises-later a b c (inr (inl more)) (inl less) = inl (omega (arith, more, less))
+rises-later a b c (inr (inr most)) (inl less) = inr (omega (arith, most, less))
+rises-later a b c first (inr most) = inr most
+
+stays-or-rises : (a b c : ℕ) → (b ≡ a) ⊎ HasRisen a b → (c ≡ b) ⊎ HasRisen b c → (c ≡ a) ⊎ HasRisen a c
+stays-or-rises a b c (inl same) (inl still) = inl (omega (arith, same, still))
+stays-or-rises a b c (inr risen) later = inr (rises-more a b c risen later)
+stays-or-rises a b c first (inr risen) = inr (rises-later a b c first risen)
+
+module _ (good : Type 0) where
+  -- what may come from outside up to one kernel may come up to a later one
+  chosen-before : (old mid new : KernelState) (choice : Choice) → NeverFell good mid new → IsChosen good old mid choice → IsChosen good old new choice
+  chosen-before old mid new choice later chosen = record { given = chosen.given; device = λ g t. rises-more (failed_in old) (failed_in mid) (failed_in new) (chosen.device g t) (later g) }
+
+  -- and what may come from one kernel on, from an earlier one on
+  chosen-after : (old mid new : KernelState) (choice : Choice) → NeverFell good old mid → IsChosen good mid new choice → IsChosen good old new choice
+  chosen-after old mid new choice before chosen = record { given = chosen.given; device = λ g t. rises-later (failed_in old) (failed_in mid) (failed_in new) (before g) (chosen.device g t) }
+
+  -- the count of failures stays or rises over both of two stretches
+  lasts-on : (old mid new : KernelState) → NeverFell good old mid → NeverFell good mid new → NeverFell good old new
+  lasts-on old mid new first later g = stays-or-rises (failed_in old) (failed_in mid) (failed_in new) (first g) (later g)
+
+  -- what the row of one call comes to, in memory with this VM file
+  record One (turn : Turn) (old new : KernelState) (f : VmFile) : Type 0 where
+    choice : Choice
+    chosen : IsChosen good old new choice
+    lasts : NeverFell good old new
+    file : VmFile
+    tied : IsFileOf good new file
+    comes : Comes turn choice (memory_of old f) (memory_of new file)
+    spans : (span : Span) (ref : Reference) → Stands old span ref → IsFresh (memory_of old f) (stale_by turn choice (memory_of old f)) ref → Stands new span ref
+
+  -- the row of one call answers so, and spans that it does not make stale stay
+  one : (turn : Turn) (old new : KernelState) → Answered good turn old new → (f : VmFile) → IsFileOf good old f → One turn old new f
+  one (Does row result) old new calls f tied =
+      let a = calls.answers f tied in record { choice = a.choice; chosen = a.chosen; lasts = a.lasts; file = a.file; tied = a.tied; comes = a.comes; spans = calls.spans f tied a.choice }
+  one (Tells row result) old new calls f tied =
+      let a = calls.answers f tied in record { choice = a.choice; chosen = a.chosen; lasts = a.lasts; file = a.file; tied = a.tied; comes = a.comes; spans = calls.spans f tied a.choice }
+  one (Refers row result) old new calls f tied =
+      let a = calls.answers f tied in record { choice = a.choice; chosen = a.chosen; lasts = a.lasts; file = a.file; tied = a.tied; comes = a.comes; spans = calls.spans f tied a.choice }
+
+  -- what may come from one kernel on, from an earlier one on
+  all-after : (old mid new : KernelState) → NeverFell good old mid → (steps : List Step) → AreChosen good mid new steps → AreChosen good old new steps
+  all-after old mid new before [] h = tt
+  all-after old mid new before (step ∷ steps) h = (chosen-after old mid new step.choice before h.0, all-after old mid new before steps h.1)
+
+  -- calls one after another, and the count of failures over them
+  record All (turns : List Turn) (old new : KernelState) (f : VmFile) : Type 0 where
+    by_rows : AnsweredByRows good turns old new f
+    lasts : NeverFell good old new
+
+  all : (turns : List Turn) (old new : KernelState) → InTurn good turns old new → (f : VmFile) → IsFileOf good old f → All turns old new f
+  all [] old new same f tied = record {
+    by_rows = record {
+      steps = [];
+      calls = refl;
+      chosen = tt;
+      file = f;
+      tied = subst (λ s. IsFileOf good s f) (sym same) tied;
+      run = ap (λ s. memory_of s f) same;
+      spans = λ span ref stands spared. subst (λ s. Stands s span ref) (sym same) stands;
+    };
+    lasts = λ g. inl (ap failed_in same);
+  }
+  all (turn ∷ turns) old new made f tied =
+      let first = one turn old made.0 made.1 f tied in
+      let later = all turns made.0 new made.2 first.file first.tied in
+      let rest = later.by_rows in
+      record {
+        by_rows = record {
+          steps = record { turn = turn; choice = first.choice } ∷ rest.steps;
+          calls = ap (λ l. turn ∷ l) rest.calls;
+          chosen = (chosen-before old made.0 new first.choice later.lasts first.chosen, all-after old made.0 new first.lasts rest.steps rest.chosen);
+          file = rest.file;
+          tied = rest.tied;
+          run = (memory_of made.0 first.file, first.comes, rest.run);
+          spans = λ span ref stands spared. rest.spans span ref (first.spans span ref stands spared.0) spared.1;
+        };
+        lasts = lasts-on old made.0 new first.lasts later.lasts;
+      }
+
+  pub calls_answer_in_turn : CallsAnswerInTurn good
+  calls_answer_in_turn = record { lists = λ turns old new made f tied. (all turns old new made f tied).by_rows; given = λ row result s gives. gives }

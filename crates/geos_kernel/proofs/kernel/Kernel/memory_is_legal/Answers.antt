@@ -1,0 +1,21 @@
+use Rattle.std.proofs.Common.{subst}
+use Rattle.geos_table.specs.Legal.{IsMemory}
+use Rattle.geos_table.specs.VmFile.{VmFile}
+use Rattle.geos_kernel.specs.View.{IsFileOf, core_of, memory_of}
+use Rattle.geos_kernel.proofs.Lawful.{memory-legal}
+use Rattle.geos_kernel.proofs.Seen.{file-seen, memory-known}
+use Rattle.geos_kernel.proofs.kernel.Kernel.memory_is_legal.Goals as goal
+
+pub returns-clause-file : goal.returns-clause-file
+returns-clause-file g c =
+    let f = c.self.invariant.known in
+    subst (λ k. (f : VmFile) × IsFileOf (g.D.Device.honest k.device) k.core f) c.self.view_is (f.0, file-seen g.D.Device.image g.D.Device.honest g.D.Device.failed c.self.inside.vm c.self.inside.blocks f.0 f.1)
+
+pub returns-clause-legal : goal.returns-clause-legal
+returns-clause-legal g c =
+    let v = c.self.inside.vm in
+    let blocks = c.self.inside.blocks in
+    let region = c.region-region in
+    subst (λ k. (f : VmFile) → IsFileOf (g.D.Device.honest k.device) k.core f → IsMemory (memory_of k.core f)) c.self.view_is
+    (λ f tied. memory-legal g.D.Device.image g.D.Device.honest v blocks region.result.now c.self.invariant region.ensures.region region.ensures.bytes
+    (memory_of (core_of g.D.Device.image g.D.Device.failed v blocks) f) (memory-known g.D.Device.image g.D.Device.honest g.D.Device.failed v blocks f tied))

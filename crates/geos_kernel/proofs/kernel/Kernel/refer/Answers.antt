@@ -1,0 +1,59 @@
+use Rattle.std.proofs.Common.{◌+◌, ◌<◌, subst, sym}
+use Rattle.std.specs.Prelude.{Ok, Err}
+use Rattle.block_handles.specs.Names.{slot_of}
+use Rattle.block_handles.specs.Store.{locks_of}
+use Rattle.block_handles.proofs.Layouts.{there_of_locks}
+use Rattle.geos_model.specs.Heap.{IsHeap}
+use Rattle.geos_table.specs.ChunkCalls.{refer_edit, refer_row}
+use Rattle.heap_calls.specs.Edits.{Finds}
+use Rattle.geos_kernel.specs.Kernel.{GivesSpan}
+use Rattle.geos_kernel.specs.View.{IsLocked}
+use Rattle.geos_kernel.proofs.Chunks.{locked-heap}
+use Rattle.geos_kernel.proofs.Looks.{found, refers-not, gives-standing}
+use Rattle.geos_kernel.proofs.kernel.Kernel.refer.Goals as goal
+
+pub bytes-requires : goal.bytes-requires
+bytes-requires g c =
+    let v = c.self.inside.vm in
+    let s = c.self.inside.blocks in
+    let locked : 0 < locks_of s (slot_of c.args.name) = subst (λ k. IsLocked k.core c.args.name) (sym c.self.view_is) c.requires in
+    there_of_locks s (slot_of c.args.name) locked
+
+pub find-requires : goal.find-requires
+find-requires g c =
+    let v = c.self.inside.vm in
+    let s = c.self.inside.blocks in
+    let locked : 0 < locks_of s (slot_of c.args.name) = subst (λ k. IsLocked k.core c.args.name) (sym c.self.view_is) c.requires in
+    subst IsHeap (sym c.bytes.ensures) (locked-heap g.D.Device.image g.D.Device.honest v s c.args.name c.self.invariant locked).heap
+
+pub place-requires : goal.place-requires
+place-requires g c =
+    let v = c.self.inside.vm in
+    let s = c.self.inside.blocks in
+    let locked : 0 < locks_of s (slot_of c.args.name) = subst (λ k. IsLocked k.core c.args.name) (sym c.self.view_is) c.requires in
+    there_of_locks s (slot_of c.args.name) locked
+
+pub returns-in-Ok-clause-gives : goal.returns-in-Ok-clause-gives
+returns-in-Ok-clause-gives g c =
+    let v = c.self.inside.vm in
+    let s = c.self.inside.blocks in
+    let locked : 0 < locks_of s (slot_of c.args.name) = subst (λ k. IsLocked k.core c.args.name) (sym c.self.view_is) c.requires in
+    let edit = refer_edit c.args.refer in
+    let finds = subst (λ bytes. Finds edit bytes (Ok (c.in-Ok.at, c.in-Ok.len))) c.bytes.ensures c.in-Ok.ensures.finds in
+    let gives = found g.D.Device.image g.D.Device.honest g.D.Device.failed v s c.args.name c.self.invariant locked edit c.in-Ok.at c.in-Ok.len c.place.result c.place.ensures.place finds in
+    subst (λ k. GivesSpan (g.D.Device.honest k.device) (refer_row c.args.name c.args.refer) (Ok (record { at = c.place.result + c.in-Ok.at; len = c.in-Ok.len })) k.core) c.self.view_is gives
+
+pub returns-in-Ok-clause-stands : goal.returns-in-Ok-clause-stands
+returns-in-Ok-clause-stands g c = (
+  gives-standing (g.D.Device.honest c.args.self.now.device) (refer_row c.args.name c.args.refer) (record { at = c.place.result + c.in-Ok.at; len = c.in-Ok.len }) c.args.self.now.core (returns-in-Ok-clause-gives g c),
+  c.in-Ok.ensures.within.1,
+)
+
+pub returns-in-Err-clause-gives : goal.returns-in-Err-clause-gives
+returns-in-Err-clause-gives g c =
+    let v = c.self.inside.vm in
+    let s = c.self.inside.blocks in
+    let locked : 0 < locks_of s (slot_of c.args.name) = subst (λ k. IsLocked k.core c.args.name) (sym c.self.view_is) c.requires in
+    let edit = refer_edit c.args.refer in
+    let finds = subst (λ bytes. Finds edit bytes (Err c.in-Err.refusal)) c.bytes.ensures c.in-Err.ensures.finds in
+    subst (λ k. GivesSpan (g.D.Device.honest k.device) (refer_row c.args.name c.args.refer) (Err c.in-Err.refusal) k.core) c.self.view_is (refers-not g.D.Device.image g.D.Device.honest g.D.Device.failed v s c.args.name c.self.invariant locked edit c.in-Err.refusal finds)

@@ -1,0 +1,6 @@
+pub mod View
+pub mod Spans
+pub mod Kernel
+pub mod Refused
+pub mod Turns
+pub mod Files

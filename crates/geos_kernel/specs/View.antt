@@ -1,0 +1,87 @@
+-- The memory of the model that a kernel's blocks spell, beside a VM file.
+use Rattle.std.specs.Prelude.{ℕ, ◌≡◌, ◌<◌, true, List, take, map}
+use Rattle.geos_model.specs.declared.name.Name.{Name}
+use Rattle.geos_model.specs.declared.name.Owner.TheVariants.{Vm}
+use Rattle.block_handles.specs.Names.{slot_of}
+use Rattle.block_handles.specs.Store as store
+use Rattle.geos_table.specs.Memory as model
+use Rattle.geos_table.specs.VmFile.{VmFile}
+use Rattle.vm_file.specs.State.{FileState}
+use Rattle.vm_blocks.specs.View.{VmState, held_at}
+use Rattle.vm_blocks.specs.Blocks.{is_marked_in}
+use Rattle.vm_blocks.specs.FileOf as vm
+pub use Rattle.vm_blocks.specs.Spelled.{block_in, spelled}
+pub use Rattle.heap_calls.specs.Heaps.{chunks_at, size_at}
+
+-- what contracts see of a device: the bytes that it gives, and how often it has failed
+pub record Seen : Type 0 where
+  pub image : List ℕ
+  pub failed : ℕ
+
+-- a kernel, as its calls see it: the blocks in its region, and its VM file over what is seen of
+-- the device
+pub record KernelState : Type 0 where
+  pub blocks : store.Store
+  pub vm : VmState Seen
+
+-- a kernel on a device: what its calls see, which knows no device, and the device
+pub record KernelOn (D : Type 0) : Type 0 where
+  pub core : KernelState
+  pub device : D
+
+-- what is seen of a device
+abbrev pub seen : {D : Type 0} → (D → List ℕ) → (D → ℕ) → D → Seen
+seen image failed d = record { image = image d; failed = failed d }
+
+-- a file over another state of a device, or over what is seen of it
+abbrev pub file_over : {D E : Type 0} → E → FileState D → FileState E
+file_over device f = record {
+  device = device;
+  area = f.area;
+  second = f.second;
+  sure = f.sure;
+  current = f.current;
+  saved = f.saved;
+}
+
+-- VM blocks over another state of a device, or over what is seen of it
+abbrev pub vm_over : {D E : Type 0} → E → VmState D → VmState E
+vm_over device v = record { file = file_over device v.file; entries = v.entries; map_block = v.map_block; map_item = v.map_item }
+
+-- a kernel of these blocks, as its calls see it
+abbrev pub core_of : {D : Type 0} → (D → List ℕ) → (D → ℕ) → VmState D → store.Store → KernelState
+core_of image failed v s = record { blocks = s; vm = vm_over (seen image failed v.file.device) v }
+
+-- a kernel of these blocks on its device
+abbrev pub kernel_of : {D : Type 0} → (D → List ℕ) → (D → ℕ) → VmState D → store.Store → KernelOn D
+kernel_of image failed v s = record { core = core_of image failed v s; device = v.file.device }
+
+-- the bytes that are seen
+abbrev pub image_seen : Seen → List ℕ
+image_seen d = d.image
+
+-- how often a kernel's device has failed
+abbrev pub failed_in : KernelState → ℕ
+failed_in s = s.vm.file.device.failed
+
+-- what all blocks of global memory spell, beside the VM file that the model knows
+abbrev pub memory_of : KernelState → VmFile → model.Memory
+memory_of s f = record { blocks = map block_in (take 1024 s.blocks.blocks); file = f; region = s.blocks.len }
+
+-- what the VM file that the model knows has to do with a kernel, where `good` says that its
+-- device is honest: it lists what the kernel lists, and has what is in memory; and, of an honest
+-- device, what the device gives
+abbrev pub IsFileOf : Type 0 → KernelState → VmFile → Type 0
+IsFileOf good s f = vm.IsFileOf image_seen (λ d. good) s.vm s.blocks f
+
+-- a named block is locked
+abbrev pub IsLocked : KernelState → Name → Type 0
+IsLocked s name = 0 < store.locks_of s.blocks (slot_of name)
+
+-- a block of the VM file is marked as changed
+abbrev pub IsMarked : KernelState → ℕ → Type 0
+IsMarked s h = is_marked_in (held_at s.vm h) ≡ true
+
+-- the bytes of a named block may be changed: where it is one of the VM file, it is marked
+abbrev pub MayChange : KernelState → Name → Type 0
+MayChange s name = name.owner ≡ Vm → IsMarked s name.h

@@ -1,0 +1,81 @@
+//! Loads, stores and copies over spans.
+//!
+//! Each call does what its row says at every reference that a span stands for. No span is
+//! tested when it runs: the caller knows that its spans are good.
+
+ghost use Rattle.std.specs.Prelude.{[], ◌∷◌, ◌+◌, ◌<◌, ◌≤◌, Ok};
+
+use crate::kernel::Kernel;
+use crate::span::Span;
+use vm_file::Device;
+
+impl<D: Device + Drop> Kernel<D> {
+    ghost use Rattle.geos_model.specs.Bytes.{word_bytes};
+    ghost use Rattle.geos_table.specs.Calls as table;
+    ghost use Rattle.geos_table.specs.VmFile.{VmFile};
+    ghost use Rattle.geos_table.specs.Effects.{Reference, Nothing};
+    ghost use Rattle.geos_kernel.specs.Kernel.{Calls, LeavesVm};
+    ghost use Rattle.geos_kernel.specs.Spans.{Stands, IsStanding, IsWritable, SpansStay};
+    ghost use Rattle.geos_kernel.specs.View.{IsFileOf};
+
+    /// The byte at the offset `i` of a span, which has one there.
+    pub fn load8(&self, span: Span, i: u16) -> u8
+        requires stands { IsStanding self.now.core span }
+        requires within { i < span.len }
+        ensures { (ref : Reference) → Stands self.now.core span ref → Calls (D.honest self.now.device) (table.load8 ref i) (Ok result) self.now.core self.now.core }
+    {
+        self.blocks.read8(span.at + u32::from(i))
+    }
+
+    /// The word at the offset `i` of a span, little end first. The span has both bytes.
+    pub fn load16(&self, span: Span, i: u16) -> u16
+        requires stands { IsStanding self.now.core span }
+        requires within { i + 2 ≤ span.len }
+        ensures { (ref : Reference) → Stands self.now.core span ref → Calls (D.honest self.now.device) (table.load16 ref i) (Ok result) self.now.core self.now.core }
+    {
+        self.blocks.read16(span.at + u32::from(i))
+    }
+
+    /// Writes a byte at the offset `i` of a span, which has one there. A block of the VM file that it
+    /// lies in is marked. All spans stay.
+    pub fn store8(&mut self, span: Span, i: u16, byte: u8)
+        requires stands { IsWritable self.old.core span }
+        requires within { i < span.len }
+        ensures row { (ref : Reference) → Stands self.old.core span ref → Calls (D.honest self.old.device) (table.store ref i (byte ∷ [])) (Ok tt) self.old.core self.new.core }
+        ensures spans { (f : VmFile) → IsFileOf (D.honest self.old.device) self.old.core f → SpansStay self.old.core self.new.core f Nothing }
+        ensures vm { LeavesVm self.old self.new }
+    {
+        self.blocks.write8(span.at + u32::from(i), byte);
+    }
+
+    /// Writes a word at the offset `i` of a span, little end first. The span has both bytes, and a
+    /// block of the VM file that it lies in is marked. All spans stay.
+    pub fn store16(&mut self, span: Span, i: u16, word: u16)
+        requires stands { IsWritable self.old.core span }
+        requires within { i + 2 ≤ span.len }
+        ensures row { (ref : Reference) → Stands self.old.core span ref → Calls (D.honest self.old.device) (table.store ref i (word_bytes word)) (Ok tt) self.old.core self.new.core }
+        ensures spans { (f : VmFile) → IsFileOf (D.honest self.old.device) self.old.core f → SpansStay self.old.core self.new.core f Nothing }
+        ensures vm { LeavesVm self.old self.new }
+    {
+        self.blocks.write16(span.at + u32::from(i), word);
+    }
+
+    /// Copies the first `n` bytes of `from`, as they were before, to the beginning of `to`,
+    /// also where both overlap. Both spans have so many bytes, and a block of the VM file that `to`
+    /// lies in is marked. All spans stay.
+    pub fn copy(&mut self, to: Span, from: Span, n: u16)
+        requires to { IsWritable self.old.core to × (n ≤ to.len) }
+        requires from { IsStanding self.old.core from × (n ≤ from.len) }
+        ensures row { (target source : Reference) → Stands self.old.core to target → Stands self.old.core from source →
+            Calls (D.honest self.old.device) (table.copy target source n) (Ok tt) self.old.core self.new.core }
+        ensures spans { (f : VmFile) → IsFileOf (D.honest self.old.device) self.old.core f → SpansStay self.old.core self.new.core f Nothing }
+        ensures vm { LeavesVm self.old self.new }
+    {
+        let blocks = &mut self.blocks;
+        if n == 0 {
+            return;
+        }
+        let _ = blocks.region();
+        blocks.copy(from.at, to.at, u32::from(n));
+    }
+}

@@ -1,0 +1,110 @@
+//! The kernel's calls on arrays in chunks, by their names.
+
+ghost use Rattle.std.specs.Prelude.{◌≡◌, ◌≤◌, IfOk, Err};
+
+use crate::kernel::Kernel;
+use crate::span::Span;
+use geos_model::{Name, Refusal};
+use geos_table::{Ask, Change, Make, Refer};
+use vm_file::Device;
+
+impl<D: Device + Drop> Kernel<D> {
+    ghost use Rattle.geos_model.specs.declared.refusal.Refusal.TheVariants.{NoRoom};
+    ghost use Rattle.geos_table.specs.ArrayCalls as table;
+    ghost use Rattle.geos_model.specs.ArrayEdits.{create_array, append_element, insert_element, resize_element};
+    ghost use Rattle.geos_kernel.specs.Kernel.{Calls, GivesSpan, HasNoRoomFor};
+    ghost use Rattle.geos_kernel.specs.Spans.{IsStanding};
+    ghost use Rattle.geos_kernel.specs.View.{chunks_at, IsLocked, MayChange};
+
+    /// Makes an empty array in a new chunk of a locked block, and answers the chunk's handle:
+    /// the lowest one of the block that is free. Its elements will have `element_size` bytes
+    /// each, or sizes of their own where that is 0. Refused as `lalloc` is. Spans into the
+    /// block are stale after it, also where it is refused.
+    pub fn canew(&mut self, name: Name, element_size: u16) -> Result<u16, Refusal>
+        requires locked { IsLocked self.old.core name }
+        requires marked { MayChange self.old.core name }
+        ensures calls { Calls (D.honest self.old.device) (table.canew name element_size) result self.old.core self.new.core }
+        ensures no_room { result ≡ Err NoRoom → HasNoRoomFor self.new.core name (create_array element_size (chunks_at self.old.core.blocks name)).chunks }
+    {
+        self.make(name, Make::Canew { element_size })
+    }
+
+    /// Puts an element of zeros behind the others, of `n` bytes where sizes vary. `BadChunk`
+    /// where no chunk of the block has this handle, `BadArray` where its bytes are no array;
+    /// else refused as `lalloc` is, by the room that the larger array needs, and makes stale
+    /// what `canew` does.
+    pub fn caadd(&mut self, name: Name, c: u16, n: u16) -> Result<(), Refusal>
+        requires locked { IsLocked self.old.core name }
+        requires marked { MayChange self.old.core name }
+        ensures calls { Calls (D.honest self.old.device) (table.caadd name c n) result self.old.core self.new.core }
+        ensures no_room { result ≡ Err NoRoom → HasNoRoomFor self.new.core name (append_element c n (chunks_at self.old.core.blocks name)).chunks }
+    {
+        self.change(name, Change::Caadd { c, n })
+    }
+
+    /// Puts an element of zeros at an index, which may be the count, of `n` bytes where sizes
+    /// vary. `BadChunk` and `BadArray` as `caadd`, `BadElement` where the index is above the
+    /// count; else refused, and makes stale, as `caadd`.
+    pub fn cains(&mut self, name: Name, c: u16, i: u16, n: u16) -> Result<(), Refusal>
+        requires locked { IsLocked self.old.core name }
+        requires marked { MayChange self.old.core name }
+        ensures calls { Calls (D.honest self.old.device) (table.cains name c i n) result self.old.core self.new.core }
+        ensures no_room { result ≡ Err NoRoom → HasNoRoomFor self.new.core name (insert_element c i n (chunks_at self.old.core.blocks name)).chunks }
+    {
+        self.change(name, Change::Cains { c, i, n })
+    }
+
+    /// Takes an element out. `BadChunk` and `BadArray` as `caadd`, `BadElement` where no
+    /// element has this index. Makes stale what `canew` does.
+    pub fn cadel(&mut self, name: Name, c: u16, i: u16) -> Result<(), Refusal>
+        requires locked { IsLocked self.old.core name }
+        requires marked { MayChange self.old.core name }
+        ensures { Calls (D.honest self.old.device) (table.cadel name c i) result self.old.core self.new.core }
+    {
+        self.change(name, Change::Cadel { c, i })
+    }
+
+    /// The count of an array's elements. `BadChunk` where no chunk of the block has this
+    /// handle, `BadArray` where its bytes are no array.
+    pub fn cacount(&self, name: Name, c: u16) -> Result<u16, Refusal>
+        requires { IsLocked self.now.core name }
+        ensures { Calls (D.honest self.now.device) (table.cacount name c) result self.now.core self.now.core }
+    {
+        self.ask(name, Ask::Cacount { c })
+    }
+
+    /// Where an element's bytes lie, which must be `n` at least. `BadChunk` where no chunk of
+    /// the block has this handle, `BadArray` where its bytes are no array, `BadElement` where
+    /// it has no element of this index, `Short` where the element has fewer bytes. The span
+    /// stands until a call makes the chunk's references stale.
+    pub fn caelt(&self, name: Name, c: u16, i: u16, n: u16) -> Result<Span, Refusal>
+        requires { IsLocked self.now.core name }
+        ensures gives { GivesSpan (D.honest self.now.device) (table.caelt name c i n) result self.now.core }
+        ensures stands { IfOk result (λ span. IsStanding self.now.core span × (n ≤ span.len)) }
+    {
+        self.refer(name, Refer::Caelt { c, i, n })
+    }
+
+    /// Takes all elements out; their size stays. `BadChunk` and `BadArray` as `caadd`. Makes
+    /// stale what `canew` does.
+    pub fn cazero(&mut self, name: Name, c: u16) -> Result<(), Refusal>
+        requires locked { IsLocked self.old.core name }
+        requires marked { MayChange self.old.core name }
+        ensures { Calls (D.honest self.old.device) (table.cazero name c) result self.old.core self.new.core }
+    {
+        self.change(name, Change::Cazero { c })
+    }
+
+    /// Gives an element of an array whose sizes vary `n` bytes: its first ones that fit, and
+    /// zeros behind them. `BadChunk` as `caadd`, `BadArray` where the chunk's bytes are no
+    /// array or its elements have one size, `BadElement` as `cadel`; else refused, and makes
+    /// stale, as `caadd`.
+    pub fn caresize(&mut self, name: Name, c: u16, i: u16, n: u16) -> Result<(), Refusal>
+        requires locked { IsLocked self.old.core name }
+        requires marked { MayChange self.old.core name }
+        ensures calls { Calls (D.honest self.old.device) (table.caresize name c i n) result self.old.core self.new.core }
+        ensures no_room { result ≡ Err NoRoom → HasNoRoomFor self.new.core name (resize_element c i n (chunks_at self.old.core.blocks name)).chunks }
+    {
+        self.change(name, Change::Caresize { c, i, n })
+    }
+}

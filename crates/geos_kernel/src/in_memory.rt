@@ -1,0 +1,37 @@
+//! Kernels whose VM file lies in memory.
+
+ghost use Rattle.std.specs.Prelude.{◌≡◌, ◌≤◌, IfOk, None, replicate};
+ghost use Rattle.block_handles.specs.Layout.{IsEmpty};
+ghost use Rattle.geos_table.specs.VmFile.{VmFile, empty_file};
+ghost use Rattle.vm_file.specs.Memory.{IsHonest};
+ghost use Rattle.geos_kernel.specs.View.{IsFileOf, memory_of};
+
+use crate::kernel::Kernel;
+use std::alloc::{AllocError, Global};
+use vm_file::MemoryDevice;
+
+/// How long a pair of directories may be in the file, in bytes.
+const AREA: u32 = 65_536;
+
+/// How many bytes the device has: the header and the selectors, and two areas.
+const DEVICE: u64 = 1_024 + 2 * 65_536;
+
+/// A kernel without a block, in a region of `region` bytes, 65,536 to 16,777,216, on a new VM
+/// file in memory with an area of 65,536 bytes. `AllocError` where there is no memory.
+pub fn kernel_in_memory(alloc: Global, region: u32) -> Result<Kernel<MemoryDevice>, AllocError>
+    requires { (65536 ≤ region) × (region ≤ 16777216) }
+    ensures store { IfOk result (λ kernel. IsEmpty kernel.core.blocks region) }
+    ensures tied { IfOk result (λ kernel. IsFileOf (IsHonest kernel.device) kernel.core (empty_file 65536)) }
+    ensures memory { IfOk result (λ kernel. (f : VmFile) → memory_of kernel.core f ≡ record { blocks = replicate 1024 None; file = f; region = region }) }
+{
+    let device = MemoryDevice::new(alloc, DEVICE)?;
+    // The device has room for the file, and fails at nothing else: so no fault comes here.
+    let file = match vm_file::VmFile::create(alloc, device, AREA) {
+        Ok(file) => file,
+        Err(_) => return Err(AllocError),
+    };
+    match Kernel::new(alloc, region, file) {
+        Ok(kernel) => Ok(kernel),
+        Err((_file, error)) => Err(error),
+    }
+}

@@ -1,0 +1,293 @@
+//! The kernel: blocks of global memory, each with a heap of chunks, beside those of a VM file.
+
+ghost use Rattle.std.specs.Prelude.{All, true, ◌≡◌, ◌<◌, ◌≤◌, ◌↔◌, IfOk, IfErr, IsTrue, OnOk, OnErr, Ok, Err};
+ghost use Rattle.block_handles.specs.Names.{IsHandle, slot_of};
+ghost use Rattle.block_handles.specs.Store.{IsThere};
+ghost use Rattle.vm_blocks.specs.Listed.{NoneLocked};
+ghost use Rattle.vm_blocks.specs.Room as room;
+ghost use Rattle.vm_blocks.specs.Tied.{IsTied};
+ghost use Rattle.geos_kernel.specs.Kernel.{MakesRoomFor};
+ghost use Rattle.geos_kernel.specs.Refused.{of_handle};
+
+use crate::span::Span;
+use block_handles::{Blocks, HandleError};
+use geos_model::{Name, Owner, Refusal};
+use geos_table::{Ask, Change, Make, Refer};
+use heap_calls::{find, tell};
+use lmem_heap::init;
+use std::alloc::{AllocError, Global};
+use std::marker::Model;
+use vm_blocks::{NoRoom, VmBlocks};
+use vm_file::{Device, VmFile};
+
+/// The size of a new block in bytes.
+const NEW_SIZE: u32 = 64;
+
+/// Blocks of global memory in one region, each with a heap of chunks, and a VM file on a device, of
+/// which some blocks are in the region too.
+#[derive(Drop)]
+pub struct Kernel<D: Device + Drop> {
+    pub(crate) blocks: Blocks,
+    pub(crate) vm: VmBlocks<D>,
+}
+
+impl<D: Device + Drop> Model for Kernel<D> {
+    ghost use Rattle.geos_kernel.specs.View.{KernelOn};
+
+    ghost Value = { KernelOn D };
+
+    ghost use Rattle.geos_kernel.specs.View.{kernel_of};
+    ghost use Rattle.geos_kernel.specs.Kernel.{IsKernel};
+
+    ghost view = { λ k. kernel_of D.image D.failed k.vm k.blocks };
+
+    ghost invariant = { λ k. IsKernel D.image D.honest k.vm k.blocks };
+}
+
+impl<D: Device + Drop> Kernel<D> {
+    ghost use Rattle.std.specs.Prelude.{ℕ, None, replicate};
+    ghost use Rattle.block_handles.specs.Layout.{IsEmpty};
+    ghost use Rattle.block_handles.specs.Store.{bytes_of};
+    ghost use Rattle.block_handles.specs.Store as store;
+    ghost use Rattle.geos_table.specs.Calls as table;
+    ghost use Rattle.geos_table.specs.ChunkCalls.{change_edit, change_row, make_edit, make_row, ask_row, refer_row, least};
+    ghost use Rattle.geos_model.specs.Heap.{IsCompact};
+    ghost use Rattle.geos_table.specs.Legal.{IsMemory};
+    ghost use Rattle.geos_table.specs.Memory as model;
+    ghost use Rattle.geos_table.specs.VmFile as model_file;
+    ghost use Rattle.geos_model.specs.Names.{mem, vm};
+    ghost use Rattle.vm_blocks.specs.Blocks.{is_marked_in};
+    ghost use Rattle.vm_blocks.specs.Listed.{IsListOf};
+    ghost use Rattle.vm_blocks.specs.View.{held_at};
+    ghost use Rattle.geos_kernel.specs.Kernel.{Calls, GivesSpan, HasNoRoomFor, LeavesVm, NewHasNoRoom};
+    ghost use Rattle.geos_kernel.specs.Spans.{IsStanding};
+    ghost use Rattle.geos_kernel.specs.View.{chunks_at, file_over, IsFileOf, IsLocked, MayChange, memory_of};
+
+    /// No block in memory, in a region of `region` bytes, 65,536 to 16,777,216, and a VM file that is
+    /// sure of what its device holds, as each is that was made or opened. This is the only call but
+    /// commits that takes memory; `AllocError` where there is none, and the file comes back.
+    pub fn new(
+        alloc: Global,
+        region: u32,
+        file: VmFile<D>,
+    ) -> Result<Kernel<D>, (VmFile<D>, AllocError)>
+        requires region { (65536 ≤ region) × (region ≤ 16777216) }
+        requires sure { file.sure ≡ true }
+        ensures store { IfOk result (λ kernel. IsEmpty kernel.core.blocks region) }
+        ensures file { IfOk result (λ kernel. file_over kernel.device kernel.core.vm.file ≡ file) }
+        ensures lists { IfOk result (λ kernel. IsListOf kernel.core.vm file.current) }
+        ensures memory { IfOk result (λ kernel. (f : model_file.VmFile) → memory_of kernel.core f ≡ record { blocks = replicate 1024 None; file = f; region = region }) }
+        ensures back { IfErr result (λ e. e.0 ≡ file) }
+    {
+        let blocks = match Blocks::new(alloc, region) {
+            Ok(blocks) => blocks,
+            Err(error) => return Err((file, error)),
+        };
+        match VmBlocks::new(alloc, file) {
+            Ok(vm) => Ok(Kernel { blocks, vm }),
+            Err(error) => Err(error),
+        }
+    }
+
+    /// The device of the VM file. Nothing is written: what is marked is lost.
+    pub fn close(self) -> D
+        ensures { result ≡ self.device }
+    {
+        let Kernel { blocks: _, vm } = self;
+        vm.into_file().into_device()
+    }
+
+    /// How often a block is locked; 0 where there is none.
+    pub fn locks(&self, name: Name) -> u16
+        ensures count { result ≡ store.locks_of self.now.core.blocks (slot_of name) }
+        ensures model { (f : model_file.VmFile) → IsFileOf (D.honest self.now.device) self.now.core f → result ≡ model.locks_of (memory_of self.now.core f) name }
+    {
+        self.blocks.locks(name)
+    }
+
+    /// Whether a block of the VM file is marked as changed; `false` where there is none.
+    pub fn marked(&self, h: u16) -> bool
+        ensures mark { result ≡ is_marked_in (held_at self.now.core.vm h) }
+        ensures model { (f : model_file.VmFile) → IsFileOf (D.honest self.now.device) self.now.core f → result ≡ model.is_marked (memory_of self.now.core f) h }
+    {
+        self.vm.marked(h)
+    }
+
+    /// Whether no block of the VM file is locked.
+    pub fn vm_unlocked(&self) -> bool
+        ensures locks { IsTrue result ↔ NoneLocked self.now.core.blocks }
+        ensures model { (f : model_file.VmFile) → IsFileOf (D.honest self.now.device) self.now.core f
+            → IsTrue result ↔ ((h : ℕ) → model.locks_of (memory_of self.now.core f) (vm h) ≡ 0) }
+    {
+        none_locked(&self.blocks)
+    }
+
+    /// What holds of the kernel's memory at all times: there is a VM file that the model may know
+    /// beside it; sizes of blocks are legal and have room for their chunks, chunks are lists of
+    /// bytes, and no block is locked more often than it can be.
+    pub fn memory_is_legal(&self)
+        ensures file { (f : model_file.VmFile) × IsFileOf (D.honest self.now.device) self.now.core f }
+        ensures legal { (f : model_file.VmFile) → IsFileOf (D.honest self.now.device) self.now.core f → IsMemory (memory_of self.now.core f) }
+    {
+        let _region = self.blocks.region();
+    }
+
+    /// Makes a block of 64 bytes with no chunk, under the lowest handle that is free, and
+    /// locks it. `NoHandle` where all 1,024 are in use, `NoRoom` where no stretch of the
+    /// region has room for it, though no block is left that could be discarded.
+    pub fn mnew(&mut self) -> Result<u16, Refusal>
+        ensures calls { Calls (D.honest self.old.device) table.mnew result self.old.core self.new.core }
+        ensures no_room { result ≡ Err Refusal.NoRoom → NewHasNoRoom self.old.core self.new.core }
+        ensures locked { IfOk result (λ h. store.locks_of self.new.core.blocks (slot_of (mem h)) ≡ 1) }
+        ensures vm { LeavesVm self.old self.new }
+    {
+        let Some(h) = self.blocks.lowest(Owner::Mem) else {
+            return Err(Refusal::NoHandle);
+        };
+        match make_heap(&self.vm, &mut self.blocks, Name::mem(h)) {
+            Ok(()) => Ok(h),
+            Err(NoRoom) => Err(Refusal::NoRoom),
+        }
+    }
+
+    /// Locks a block of global memory once more. `BadHandle` where there is none, `Locked` where
+    /// its count is 65,535.
+    pub fn mlock(&mut self, h: u16) -> Result<(), Refusal>
+        ensures calls { Calls (D.honest self.old.device) (table.mlock h) result self.old.core self.new.core }
+        ensures vm { LeavesVm self.old self.new }
+    {
+        let locked = self.blocks.lock(Name::mem(h));
+        of_handle(locked)
+    }
+
+    /// Unlocks a block once. When it is locked no more, references into it are stale.
+    pub fn munlock(&mut self, name: Name)
+        requires { IsLocked self.old.core name }
+        ensures calls { Calls (D.honest self.old.device) (table.unlock name) (Ok tt) self.old.core self.new.core }
+        ensures vm { LeavesVm self.old self.new }
+    {
+        self.blocks.unlock(name);
+    }
+
+    /// Frees a block of global memory. `BadHandle` where there is none, `Locked` where it is locked.
+    pub fn mfree(&mut self, h: u16) -> Result<(), Refusal>
+        ensures calls { Calls (D.honest self.old.device) (table.mfree h) result self.old.core self.new.core }
+        ensures vm { LeavesVm self.old self.new }
+    {
+        let freed = self.blocks.free(Name::mem(h));
+        of_handle(freed)
+    }
+
+    /// Changes the chunks of a locked block, as the value says; one of the VM file is marked.
+    /// `BadChunk`, `BadArray`, `BadElement` and `Range` as the named calls say; `TooBig` where the
+    /// block would need more than 65,520 bytes, `NoRoom` where it must grow and no stretch of the
+    /// region has room for it, though no other block is left that could be discarded. Spans into the
+    /// block are stale after it, also where it is refused.
+    pub fn change(&mut self, name: Name, change: Change) -> Result<(), Refusal>
+        requires locked { IsLocked self.old.core name }
+        requires marked { MayChange self.old.core name }
+        ensures calls { Calls (D.honest self.old.device) (change_row name change) result self.old.core self.new.core }
+        ensures no_room { result ≡ Err Refusal.NoRoom → HasNoRoomFor self.new.core name (change_edit change (chunks_at self.old.core.blocks name)).chunks }
+        ensures vm { LeavesVm self.old self.new }
+    {
+        heap_calls::change(&self.vm, &mut self.blocks, name, change)
+    }
+
+    /// Makes a chunk in a locked block, as the value says, and answers its handle: the lowest
+    /// one of the block that is free. A block of the VM file is marked. `TooBig` and `NoRoom` as
+    /// `change`. Spans into the block are stale after it, also where it is refused.
+    pub fn make(&mut self, name: Name, make: Make) -> Result<u16, Refusal>
+        requires locked { IsLocked self.old.core name }
+        requires marked { MayChange self.old.core name }
+        ensures calls { Calls (D.honest self.old.device) (make_row name make) result self.old.core self.new.core }
+        ensures no_room { result ≡ Err Refusal.NoRoom → HasNoRoomFor self.new.core name (make_edit make (chunks_at self.old.core.blocks name)).chunks }
+        ensures vm { LeavesVm self.old self.new }
+    {
+        heap_calls::make(&self.vm, &mut self.blocks, name, make)
+    }
+
+    /// Tells a number of the chunks of a locked block, as the value says. `BadChunk` where no
+    /// chunk of the block has this handle, `BadArray` where its bytes are no array.
+    pub fn ask(&self, name: Name, ask: Ask) -> Result<u16, Refusal>
+        requires { IsLocked self.now.core name }
+        ensures { Calls (D.honest self.now.device) (ask_row name ask) result self.now.core self.now.core }
+    {
+        tell(self.blocks.bytes(name), ask)
+    }
+
+    /// Where the bytes lie that the value names, in a chunk of a locked block. `BadChunk`,
+    /// `BadArray`, `BadElement` and `Short` as `deref` and `caelt` say. The span stands until a
+    /// call makes the chunk's references stale.
+    #[inline(always)]
+    pub fn refer(&self, name: Name, refer: Refer) -> Result<Span, Refusal>
+        requires { IsLocked self.now.core name }
+        ensures gives { GivesSpan (D.honest self.now.device) (refer_row name refer) result self.now.core }
+        ensures stands { IfOk result (λ span. IsStanding self.now.core span × (least refer ≤ span.len)) }
+    {
+        match find(self.blocks.bytes(name), refer) {
+            Ok((at, len)) => Ok(Span {
+                at: self.blocks.place(name) + at as u32,
+                len,
+            }),
+            Err(refusal) => Err(refusal),
+        }
+    }
+
+    /// Moves the chunks of a locked block together, so that its free bytes are in one piece,
+    /// at its end; one of the VM file is marked. Handles and bytes stay; spans into the block are
+    /// stale after it.
+    pub fn lcontract(&mut self, name: Name)
+        requires locked { IsLocked self.old.core name }
+        requires marked { MayChange self.old.core name }
+        ensures calls { Calls (D.honest self.old.device) (table.lcontract name) (Ok tt) self.old.core self.new.core }
+        ensures compact { IsCompact (bytes_of self.new.core.blocks (slot_of name)) }
+        ensures vm { LeavesVm self.old self.new }
+    {
+        heap_calls::contract(&mut self.blocks, name);
+        let _ = self.blocks.region();
+    }
+}
+
+/// Whether no block of the VM file is locked.
+fn none_locked(blocks: &Blocks) -> bool
+    ensures { IsTrue result ↔ NoneLocked blocks.now }
+{
+    for h in 1..1025 {
+        if blocks.locks(Name::vm(h)) != 0 {
+            return false;
+        }
+    }
+    true
+}
+
+/// Why a block was not locked or freed, as the kernel says it.
+fn of_handle(done: Result<(), HandleError>) -> Result<(), Refusal>
+    ensures { result ≡ of_handle done }
+{
+    match done {
+        Ok(()) => Ok(()),
+        Err(HandleError::BadHandle) => Err(Refusal::BadHandle),
+        Err(HandleError::Locked) => Err(Refusal::Locked),
+    }
+}
+
+/// Makes a block of 64 bytes with no chunk, for which others are discarded, and locks it.
+fn make_heap<D: Device + Drop>(
+    vm: &VmBlocks<D>,
+    blocks: &mut Blocks,
+    name: Name,
+) -> Result<(), NoRoom>
+    requires tied { IsTied D.image D.honest vm.now blocks.old }
+    requires handle { IsHandle name.h }
+    requires free { IsThere blocks.old (slot_of name) → ⊥ }
+    ensures ok { OnOk result (MakesRoomFor vm.now blocks.old blocks.new name) }
+    ensures err { OnErr result (room.LacksRoom vm.now blocks.old blocks.new name 64) }
+{
+    match vm.make_room(blocks, name, NEW_SIZE) {
+        Ok(()) => {}
+        Err(NoRoom) => return Err(NoRoom),
+    }
+    init(blocks.bytes_mut(name), name.h);
+    let _ = blocks.lock(name);
+    Ok(())
+}

@@ -1,0 +1,22 @@
+//! The kernel's calls on blocks of global memory and of a VM file, on the chunks in them, and on the
+//! arrays in chunks.
+//!
+//! Each call is a row of one table (docs/MODEL.md): its refusals in order, what it does to
+//! memory, its answer, and which references it makes stale. (GEOS SDK Concepts Book, chapters
+//! Memory Management and Local Memory.)
+#![tactic(auto)]
+
+mod access;
+mod array_calls;
+mod chunk_calls;
+mod in_memory;
+mod kernel;
+mod law;
+mod span;
+
+pub use geos_model::{Name, Owner, Refusal};
+pub use geos_table::{Ask, Change, Make, Refer};
+pub use in_memory::kernel_in_memory;
+pub use kernel::Kernel;
+pub use law::calls_answer_in_turn;
+pub use span::Span;
