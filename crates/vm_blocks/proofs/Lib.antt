@@ -32,5 +32,6 @@ pub mod CommitTests
 pub mod CommitDoes
 pub mod Lasting
 pub mod MemoryKept
+pub mod Marking
 pub mod Whole
 pub mod Begun

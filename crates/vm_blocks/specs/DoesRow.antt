@@ -1,5 +1,5 @@
 -- When a call does what its row says.
-use Rattle.std.specs.Prelude.{◌≡◌, ℕ, true, List, [], Result}
+use Rattle.std.specs.Prelude.{◌≡◌, ℕ, true, false, List, [], Result}
 use Rattle.geos_model.specs.declared.refusal.Refusal.{Refusal}
 use Rattle.geos_table.specs.Effects.{Call, Choice, effect_of, outcome}
 use Rattle.geos_table.specs.Memory.{Memory}
@@ -20,3 +20,9 @@ abbrev pub DoesRow : {D : Type 0} → (D → List ℕ) → (D → Type 0) → (D
 DoesRow image honest failed call result v s w t =
     (m : Memory) → IsMemoryOf image honest v s m
     → (choice : Choice) × IsChosen honest failed v.file.device w.file.device choice × (n : Memory) × IsMemoryOf image honest w t n × (outcome (effect_of call choice m) ≡ (result, n))
+
+-- a call that has no part of the device does so: nothing is given, and the device refused nowhere
+abbrev pub DoesRowAlone : {D : Type 0} → (D → List ℕ) → (D → Type 0) → {A : Type 0} → Call A → Result A Refusal → VmState D → Store → VmState D → Store → Type 0
+DoesRowAlone image honest call result v s w t =
+    (m : Memory) → IsMemoryOf image honest v s m
+    → (choice : Choice) × ((choice.given ≡ []) × (choice.device ≡ false)) × (n : Memory) × IsMemoryOf image honest w t n × (outcome (call choice m) ≡ (result, n))

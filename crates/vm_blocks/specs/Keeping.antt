@@ -1,10 +1,12 @@
 -- Changes of the region by others, over which blocks of the file stay tied.
-use Rattle.std.specs.Prelude.{◌≡◌, ◌≢◌, ℕ, true, Some}
+use Rattle.std.specs.Prelude.{◌≡◌, ◌≢◌, ℕ, true, List, Some}
 use Rattle.geos_model.specs.Block.{handle_word}
 use Rattle.geos_model.specs.Heap.{IsHeap}
 use Rattle.block_handles.specs.Names.{IsHandle}
-use Rattle.block_handles.specs.Store.{Block, Store, block_at}
+use Rattle.block_handles.specs.Store.{Block, Store, IsThere, block_at, bytes_of}
 use Rattle.vm_blocks.specs.declared.entries.Held.{Held}
+use Rattle.vm_blocks.specs.Bring.{Keeps}
+use Rattle.vm_blocks.specs.Tied.{IsTied}
 use Rattle.vm_blocks.specs.View.{VmState, held_at, vm_slot}
 
 -- the blocks of the file that are in memory are the same, but that of a handle; 0 is for no handle
@@ -21,3 +23,14 @@ pub record IsMarkedHeap {D : Type 0} (v : VmState D) (s : Store) (h : ℕ) : Typ
   pub at : block_at s (vm_slot h) ≡ Some block
   pub heap : IsHeap block.bytes
   pub word : handle_word block.bytes ≡ h
+
+-- a block of the file has changed in memory, and is a heap under its handle; before that all were
+-- tied, and every other block is as it was, or was discarded
+pub record IsChanged {D : Type 0} (image : D → List ℕ) (honest : D → Type 0) (v : VmState D) (s : Store) (h : ℕ) : Type 0 where
+  pub before : Store
+  pub tied : IsTied image honest v before
+  pub was : IsThere before (vm_slot h)
+  pub keeps : Keeps v before s h
+  pub there : IsThere s (vm_slot h)
+  pub heap : IsHeap (bytes_of s (vm_slot h))
+  pub word : handle_word (bytes_of s (vm_slot h)) ≡ h

@@ -95,6 +95,7 @@ impl<D: Device + Drop> VmBlocks<D> {
         ensures tied { IsTied D.image D.honest self.new blocks.new }
         ensures same { self.new ≡ with_device self.old self.new.file.device }
         ensures bad_handle { (result ≡ Err BringError.BadHandle) ↔ (held_at self.old h ≡ None) }
+        ensures known { IsThere blocks.old (vm_slot h) → result ≡ Ok tt }
         ensures ok { OnOk result (Brought blocks.old blocks.new h) }
         ensures err { OnErr result (NotBrought blocks.old blocks.new h) }
         ensures keeps { Keeps self.old blocks.old blocks.new h }

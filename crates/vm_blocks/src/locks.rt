@@ -1,16 +1,19 @@
 //! Locks of blocks of the file, and marks.
-ghost use Rattle.std.specs.Prelude.{◌≡◌, ◌<◌, ◌↔◌, ℕ, None, Ok, Err, IfSome, OnOk, OnErr, option_map};
+ghost use Rattle.std.specs.Prelude.{true, ◌≡◌, ◌<◌, ◌↔◌, ℕ, None, Ok, Err, IfSome, OnOk, OnErr, option_map};
 ghost use Rattle.geos_model.specs.Names.{vm};
 ghost use Rattle.block_handles.specs.Change.{with_lock_less};
 ghost use Rattle.block_handles.specs.Names.{IsHandle};
 ghost use Rattle.block_handles.specs.Store.{IsThere, locks_of};
 ghost use Rattle.geos_table.specs.VmCalls.{vdirty, vunlock};
+ghost use Rattle.geos_table.specs.Memory.{Memory, with_mark};
 ghost use Rattle.vm_file.specs.Device.{Rose};
 ghost use Rattle.vm_file.specs.Outcomes.{ReadsOnly};
 ghost use Rattle.vm_file.specs.State.{pair_of};
 ghost use Rattle.vm_blocks.specs.Blocks.{marked};
 ghost use Rattle.vm_blocks.specs.Bring.{Keeps, LockedMore, NotBrought};
 ghost use Rattle.vm_blocks.specs.DoesRow.{DoesRow};
+ghost use Rattle.vm_blocks.specs.FileOf.{IsMemoryOf};
+ghost use Rattle.vm_blocks.specs.Keeping.{IsChanged};
 ghost use Rattle.vm_blocks.specs.ListedCalls.{lock_listed};
 ghost use Rattle.vm_blocks.specs.Refused.{of_lock};
 ghost use Rattle.vm_blocks.specs.Room.{LacksRoom};
@@ -79,6 +82,18 @@ impl<D: Device + Drop> VmBlocks<D> {
         ensures marks { self.new ≡ with_held self.old h (option_map marked (held_at self.old h)) }
         // Its row of the table of calls, in each memory that the model may have before it.
         ensures row { DoesRow D.image D.honest D.failed (vdirty h) (Ok tt) self.old blocks.now self.new blocks.now }
+    {
+        self.vdirty_changed(blocks, h);
+    }
+
+    /// Marks a block that is in memory and has changed there: till then it is not what the file has,
+    /// though it is not marked. A block that was marked before it changed stays so.
+    pub fn vdirty_changed(&mut self, blocks: &Blocks, h: u16)
+        requires { IsChanged D.image D.honest self.old blocks.now h }
+        ensures tied { IsTied D.image D.honest self.new blocks.now }
+        ensures marks { self.new ≡ with_held self.old h (option_map marked (held_at self.old h)) }
+        // Each memory that the model may have before it goes on, with the mark.
+        ensures memory { (m : Memory) → IsMemoryOf D.image D.honest self.old blocks.now m → IsMemoryOf D.image D.honest self.new blocks.now (with_mark m h true) }
     {
         let _ = blocks.has(Name::vm(h));
         match self.held(h) {
