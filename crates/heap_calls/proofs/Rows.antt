@@ -1,5 +1,5 @@
 -- Edits of the chunks of a named block do their rows, in each memory that the model may have.
-use Rattle.std.proofs.Common.{◌≡◌, ℕ, ◌≤◌, Bool, true, false, List, Option, Some, None, refl, sym, ap, ◌∙◌, arith, inl, inr, subst}
+use Rattle.std.proofs.Common.{◌≡◌, ℕ, ◌≤◌, Bool, true, false, List, [], Option, Some, None, refl, sym, ap, ◌∙◌, arith, inl, inr, subst}
 use Rattle.std.specs.Prelude.{Result, Ok, Err, OnOk, max}
 use Rattle.geos_model.specs.declared.name.Name.{Name}
 use Rattle.geos_model.specs.declared.name.Owner.{Owner}
@@ -15,6 +15,7 @@ use Rattle.geos_table.specs.Blocks.{rechunked_block}
 use Rattle.geos_table.specs.Calls as table
 use Rattle.geos_table.specs.ChunkCalls.{row_in}
 use Rattle.geos_table.specs.Effects.{Call, Choice, effect_of, outcome}
+use Rattle.geos_table.specs.Given.{given_memory}
 use Rattle.geos_table.specs.Legal.{AreBytes}
 use Rattle.geos_table.specs.Memory as model
 use Rattle.geos_table.specs.Memory.{Memory}
@@ -29,7 +30,7 @@ use Rattle.vm_blocks.specs.Tied.{IsTied}
 use Rattle.vm_blocks.specs.Room.{NoneIdle, own_handle, own_handle_of}
 use Rattle.vm_blocks.specs.Spelled.{spelled}
 use Rattle.vm_blocks.specs.FileOf.{IsMemoryOf}
-use Rattle.vm_blocks.specs.DoesRow.{DoesRow, IsChosen}
+use Rattle.vm_blocks.specs.DoesRow.{DoesRow, DoesRowAlone, IsChosen}
 use Rattle.vm_blocks.proofs.Changed.{memory-thins}
 use Rattle.vm_blocks.proofs.HeapsRead.{spelled-legal}
 use Rattle.vm_blocks.proofs.LockRows.{few-locks}
@@ -51,9 +52,6 @@ there-is (Some b) there = refl
 -- nothing was given, and no device refused
 pub willing-chosen : {D : Type 0} (honest : D → Type 0) (failed : D → ℕ) (d e : D) → IsChosen honest failed d e willing
 willing-chosen honest failed d e = record { given = λ good. refl; device = λ good fails. absurd cc }
-
-pub cramped-chosen : {D : Type 0} (honest : D → Type 0) (failed : D → ℕ) (d e : D) → IsChosen honest failed d e cramped
-cramped-chosen honest failed d e = record { given = λ good. refl; device = λ good fails. absurd cc }
 
 module _ {D : Type 0} (image : D → List ℕ) (honest : D → Type 0) (v : VmState D) (s : Store) (tied : IsTied image honest v s) (m : Memory) (is : IsMemoryOf image honest v s m) where
   -- a block of the file that is in memory is locked no more often than one can be
@@ -84,8 +82,23 @@ module _ {D : Type 0} (image : D → List ℕ) (honest : D → Type 0) (v : VmSt
       named-changed image honest v s t name tied keeps.others m is b c (there-is (block_at s slot) holds.there) now (rechunked_block cs) same
       (λ own. record { heap = spelled-legal r.bytes r.heap (subst (λ o. AreBytes (bytes_in o)) now are); few = few-named name holds.there own })
 
+-- a call that has no part of the device does its row
+pub alone-does : {D A : Type 0} (image : D → List ℕ) (honest : D → Type 0) (failed : D → ℕ) (call : Call A) (r : Result A Refusal) (v : VmState D) (s t : Store) → DoesRowAlone image honest call r v s v t → DoesRow image honest failed call r v s v t
+alone-does image honest failed call r v s t row m is =
+    let c = row m is in (
+      c.0,
+      record { given = λ good. c.1.0; device = λ good fails. absurd (let no : true ≡ false = sym fails ∙ c.1.1 in cc) },
+      c.2,
+      c.3,
+      ap (λ given. outcome (call c.0 (given_memory given m))) c.1.0 ∙ c.4,
+    )
+
 module _ {D : Type 0} (image : D → List ℕ) (honest : D → Type 0) (failed : D → ℕ) (v : VmState D) where
   -- a row that comes to this where nothing is refused from outside, and to this memory
+  willing-alone : {A : Type 0} (call : Call A) (r : Result A Refusal) (s t : Store) → ((m : Memory) → IsMemoryOf image honest v s m → (n : Memory) × IsMemoryOf image honest v t n × (outcome (call willing m) ≡ (r, n)))
+      → DoesRowAlone image honest call r v s v t
+  willing-alone call r s t comes m is = let c = comes m is in (willing, (refl, refl), c.0, c.1, c.2)
+
   willing-row : {A : Type 0} (call : Call A) (r : Result A Refusal) (s t : Store) → ((m : Memory) → IsMemoryOf image honest v s m → (n : Memory) × IsMemoryOf image honest v t n × (outcome (effect_of call willing m) ≡ (r, n)))
       → DoesRow image honest failed call r v s v t
   willing-row call r s t comes m is = let c = comes m is in (willing, willing-chosen honest failed v.file.device v.file.device, c.0, c.1, c.2)
@@ -112,34 +125,37 @@ module _ {D : Type 0} (image : D → List ℕ) (honest : D → Type 0) (failed :
 
     module _ (t : Store) where
       -- a call that changes the chunks of a block that stays as large as it is
-      pub changes-row : (r : Result A Refusal) → Changes edit s t name r → OnOk r (AreBytes (bytes_of t (slot_of name))) → DoesRow image honest failed (table.changes edit name) r v s v t
-      changes-row (Ok answer) h are = willing-row (table.changes edit name) (Ok answer) s t (λ m is.
+      pub changes-alone : (r : Result A Refusal) → Changes edit s t name r → OnOk r (AreBytes (bytes_of t (slot_of name))) → DoesRowAlone image honest (table.changes edit name) r v s v t
+      changes-alone (Ok answer) h are = willing-alone (table.changes edit name) (Ok answer) s t (λ m is.
           let grown : heaps.Regrows s t name (edit (model.chunks_at m name)).chunks = subst (λ (e : Edit A). heaps.Regrows s t name e.chunks) (known m is) (kept-size s t name (edit (chunks_at s name)).chunks h.1) in
           let after : Memory = model.with_chunks m name (edit (model.chunks_at m name)).chunks in (
             after,
             regrown-memory image honest v s tied m is t name (edit (model.chunks_at m name)).chunks holds grown are,
             changes-ok edit name m (passes m is h.0.1) ∙ ap (λ a. (Ok a, after)) (sym (answer-known m is answer h.0.0)),
           ))
-      changes-row (Err why) h are = willing-row (table.changes edit name) (Err why) s t (λ m is.
+      changes-alone (Err why) h are = willing-alone (table.changes edit name) (Err why) s t (λ m is.
           (m, subst (λ u. IsMemoryOf image honest v u m) (sym h.1) is, changes-refused edit name m why (came m is why h.0)))
 
+      pub changes-row : (r : Result A Refusal) → Changes edit s t name r → OnOk r (AreBytes (bytes_of t (slot_of name))) → DoesRow image honest failed (table.changes edit name) r v s v t
+      changes-row r h are = alone-does image honest failed (table.changes edit name) r v s t (changes-alone r h are)
+
       -- the room that it needs is wanting
-      lacks-row : t ≡ s → (why : Refusal) → first_refusal (edit (chunks_at s name)).refusals ≡ None → heaps.LacksRoom why s name (edit (chunks_at s name)).chunks
-          → (◌≡◌ {A = Result A Refusal} (Err why) (Err refusal.NoRoom) → NoneIdle v t (own_handle name)) → DoesRow image honest failed (table.enlarges edit name) (Err why) v s v t
-      lacks-row same why passed lacks none m is = lacking why (passes m is passed) (subst (λ (e : Edit A). heaps.LacksRoom why s name e.chunks) (known m is) lacks) none
+      lacks-alone : t ≡ s → (why : Refusal) → first_refusal (edit (chunks_at s name)).refusals ≡ None → heaps.LacksRoom why s name (edit (chunks_at s name)).chunks
+          → (◌≡◌ {A = Result A Refusal} (Err why) (Err refusal.NoRoom) → NoneIdle v t (own_handle name)) → DoesRowAlone image honest (table.enlarges edit name) (Err why) v s v t
+      lacks-alone same why passed lacks none m is = lacking why (passes m is passed) (subst (λ (e : Edit A). heaps.LacksRoom why s name e.chunks) (known m is) lacks) none
         where
           still : IsMemoryOf image honest v t m
           still = subst (λ u. IsMemoryOf image honest v u m) (sym same) is
 
           lacking : (w : Refusal) → first_refusal (edit (model.chunks_at m name)).refusals ≡ None → heaps.LacksRoom w s name (edit (model.chunks_at m name)).chunks → (◌≡◌ {A = Result A Refusal} (Err w) (Err refusal.NoRoom) → NoneIdle v t (own_handle name))
-              → (choice : Choice) × IsChosen honest failed v.file.device v.file.device choice × (n : Memory) × IsMemoryOf image honest v t n × (outcome (effect_of (table.enlarges edit name) choice m) ≡ (Err w, n))
-          lacking refusal.TooBig passed big none = (willing, willing-chosen honest failed v.file.device v.file.device, m, still, enlarges-big edit name m passed big)
+              → (choice : Choice) × ((choice.given ≡ []) × (choice.device ≡ false)) × (n : Memory) × IsMemoryOf image honest v t n × (outcome (table.enlarges edit name choice m) ≡ (Err w, n))
+          lacking refusal.TooBig passed big none = (willing, (refl, refl), m, still, enlarges-big edit name m passed big)
           lacking refusal.NoRoom passed room none =
               let p : IsHandle name.h = handle_of_there s s name refl tied.laid holds.there in
               let idle : NoneIdle v s (own_handle name) = subst (λ u. NoneIdle v u (own_handle name)) same (none refl) in
               let size = size-known image honest v s tied m is name holds.there in (
                 cramped,
-                cramped-chosen honest failed v.file.device v.file.device,
+                (refl, refl),
                 m,
                 still,
                 enlarges-tight edit name m passed room.1 (omega (arith, room.0, size)) (tight-named image honest v s tied m is name (need (edit (model.chunks_at m name)).chunks) p idle room.2.crowded),
@@ -147,18 +163,18 @@ module _ {D : Type 0} (image : D → List ℕ) (honest : D → Type 0) (failed :
           lacking w passed never none = absurd never
 
       -- a call for which the block may grow among blocks that stay
-      grows-row : (r : Result A Refusal) → Grows edit s t name r → (r ≡ Err refusal.NoRoom → NoneIdle v t (own_handle name)) → OnOk r (AreBytes (bytes_of t (slot_of name)))
-          → DoesRow image honest failed (table.enlarges edit name) r v s v t
-      grows-row (Ok answer) h none are = willing-row (table.enlarges edit name) (Ok answer) s t (λ m is.
+      grows-alone : (r : Result A Refusal) → Grows edit s t name r → (r ≡ Err refusal.NoRoom → NoneIdle v t (own_handle name)) → OnOk r (AreBytes (bytes_of t (slot_of name)))
+          → DoesRowAlone image honest (table.enlarges edit name) r v s v t
+      grows-alone (Ok answer) h none are = willing-alone (table.enlarges edit name) (Ok answer) s t (λ m is.
           let grown : heaps.Regrows s t name (edit (model.chunks_at m name)).chunks = subst (λ (e : Edit A). heaps.Regrows s t name e.chunks) (known m is) h.1 in
           let after : Memory = model.with_chunks m name (edit (model.chunks_at m name)).chunks in (
             after,
             regrown-memory image honest v s tied m is t name (edit (model.chunks_at m name)).chunks holds grown are,
             enlarges-ok edit name m (passes m is h.0.1) (regrown-small s t name (edit (model.chunks_at m name)).chunks grown) ∙ ap (λ a. (Ok a, after)) (sym (answer-known m is answer h.0.0)),
           ))
-      grows-row (Err why) (inl refused, same) none are = willing-row (table.enlarges edit name) (Err why) s t (λ m is.
+      grows-alone (Err why) (inl refused, same) none are = willing-alone (table.enlarges edit name) (Err why) s t (λ m is.
           (m, subst (λ u. IsMemoryOf image honest v u m) (sym same) is, enlarges-refused edit name m why (came m is why refused)))
-      grows-row (Err why) (inr lacks, same) none are = lacks-row same why lacks.0 lacks.1 none
+      grows-alone (Err why) (inr lacks, same) none are = lacks-alone same why lacks.0 lacks.1 none
 
   -- a call that gives a reference into the block
   module _ (edit : List (Option (List ℕ)) → Edit Part) (s : Store) (name : Name) (tied : IsTied image honest v s) (holds : HoldsHeap s name) where
@@ -171,13 +187,19 @@ module _ {D : Type 0} (image : D → List ℕ) (honest : D → Type 0) (failed :
 
   module _ {A : Type 0} (edit : List (Option (List ℕ)) → Edit A) (s t : Store) (name : Name) (tied : IsTied image honest v s) (holds : HoldsHeap s name) where
     -- a call for which the block may grow, and others be discarded
-    pub comes-row : (r : Result A Refusal) → Comes v edit s t name r → OnOk r (AreBytes (bytes_of t (slot_of name))) → DoesRow image honest failed (table.enlarges edit name) r v s v t
-    comes-row r c are m is =
+    pub comes-alone : (r : Result A Refusal) → Comes v edit s t name r → OnOk r (AreBytes (bytes_of t (slot_of name))) → DoesRowAlone image honest (table.enlarges edit name) r v s v t
+    comes-alone r c are m is =
         let still : HoldsHeap c.mid name = record { there = subst IsBlock (sym c.own) holds.there; heap = subst (λ o. IsHeap (bytes_in o)) (sym c.own) holds.heap } in
-        grows-row edit c.mid name (tied-thins image honest v s c.mid (own_handle name) tied c.thins) still t r c.grows c.none are m (memory-thins image honest v s c.mid m is (own_handle name) tied c.thins)
+        grows-alone edit c.mid name (tied-thins image honest v s c.mid (own_handle name) tied c.thins) still t r c.grows c.none are m (memory-thins image honest v s c.mid m is (own_handle name) tied c.thins)
+
+    pub comes-row : (r : Result A Refusal) → Comes v edit s t name r → OnOk r (AreBytes (bytes_of t (slot_of name))) → DoesRow image honest failed (table.enlarges edit name) r v s v t
+    comes-row r c are = alone-does image honest failed (table.enlarges edit name) r v s t (comes-alone r c are)
 
   module _ (edit : List (Option (List ℕ)) → Edit (Unit {0})) (s t : Store) (name : Name) (tied : IsTied image honest v s) (holds : HoldsHeap s name) where
     -- a change, for which it may grow or not
+    pub carries-alone : (grows : Bool) (r : Result (Unit {0}) Refusal) → Carries grows v edit s t name r → OnOk r (AreBytes (bytes_of t (slot_of name))) → DoesRowAlone image honest (row_in grows edit name) r v s v t
+    carries-alone true r h are = comes-alone edit s t name tied holds r h are
+    carries-alone false r h are = changes-alone edit s name tied holds t r h are
+
     pub carries-row : (grows : Bool) (r : Result (Unit {0}) Refusal) → Carries grows v edit s t name r → OnOk r (AreBytes (bytes_of t (slot_of name))) → DoesRow image honest failed (row_in grows edit name) r v s v t
-    carries-row true r h are = comes-row edit s t name tied holds r h are
-    carries-row false r h are = changes-row edit s name tied holds t r h are
+    carries-row grows r h are = alone-does image honest failed (row_in grows edit name) r v s t (carries-alone grows r h are)
