@@ -1,0 +1,225 @@
+-- Calls on the chunks of a group, put together: it is brought, its chunks change, it is marked.
+use Rattle.std.proofs.Common.{◌≡◌, ◌≢◌, ◌∙◌, ℕ, List, Option, Some, None, Bool, true, false, refl, sym, ap, inl, inr, subst}
+use Rattle.std.specs.Prelude.{◌⊎◌, IfSome, IsSomeAnd, Result, Ok, Err, option_map}
+use Rattle.std.proofs.lemmas.Bool.{cases_eq}
+use Rattle.geos_model.specs.Block.{chunks}
+use Rattle.geos_model.specs.Chunks.{need}
+use Rattle.geos_model.specs.Edits.{Edit}
+use Rattle.geos_model.specs.Names.{vm}
+use Rattle.geos_model.specs.Refusals.{first_refusal}
+use Rattle.geos_model.specs.declared.refusal.Refusal.{Refusal}
+use Rattle.geos_model.specs.declared.refusal.Refusal.TheVariants as refusal
+use Rattle.geos_table.specs.Effects.{Call}
+use Rattle.geos_table.specs.ItemCalls.{on_group}
+use Rattle.geos_table.specs.Memory.{Memory, with_mark}
+use Rattle.block_handles.specs.Store.{Block, Store, IsBlock, IsThere, block_at, bytes_in, locks_in, locks_of}
+use Rattle.block_handles.specs.Stretch.{HasNoRoom}
+use Rattle.vm_file.specs.Directories.{group_uid}
+use Rattle.vm_file.specs.Outcomes.{ReadsOnly}
+use Rattle.vm_file.specs.State.{FileState, pair_of}
+use Rattle.vm_blocks.specs.declared.entries.Held.{Held}
+use Rattle.vm_blocks.specs.Blocks.{marked}
+use Rattle.vm_blocks.specs.Bring.{NotBrought}
+use Rattle.vm_blocks.specs.DoesRow.{DoesRow, DoesRowAlone}
+use Rattle.vm_blocks.specs.FileOf.{IsMemoryOf}
+use Rattle.vm_blocks.specs.Keeping.{IsChanged}
+use Rattle.vm_blocks.specs.Room.{LacksRoom, NoneIdle}
+use Rattle.vm_blocks.specs.Tied.{IsTied}
+use Rattle.vm_blocks.specs.View.{VmState, held_at, vm_slot, with_device, with_held}
+use Rattle.vm_blocks.proofs.Marking.{stays-changed}
+use Rattle.vm_blocks.proofs.Thinning.{tied-thins}
+use Rattle.heap_calls.specs.Edits.{Carries, Comes}
+use Rattle.heap_calls.specs.Heaps as heaps
+use Rattle.heap_calls.specs.Others.{KeepsOthers}
+use Rattle.heap_calls.proofs.Kept.{vm-keeps}
+use Rattle.db_items.specs.Groups.{BringsGroup, IsGroup, ReadsDevice}
+use Rattle.db_items.specs.Items.{ChangesItem, LacksItemRoom, room_wanted}
+use Rattle.db_items.proofs.Asking.{AsksInside, carries-no_disk}
+use Rattle.db_items.proofs.Keeping.{keeps-then}
+use Rattle.db_items.proofs.OnGroups.{IsOnChunks, no_group-row, not_brought-row, on_group-err, on_group-ok}
+
+-- Refusals of calls that answer something, and of those that answer nothing
+
+pub refused-so : {A B : Type 0} (why other : Refusal) → ◌≡◌ {A = Result A Refusal} (Err why) (Err other) → ◌≡◌ {A = Result B Refusal} (Err why) (Err other)
+refused-so why other e = let same : why ≡ other = cc in ap Err same
+
+-- Groups, or not
+
+group-or-not : (o : Option Held) → IsSomeAnd o (λ e. e.uid ≡ group_uid) ⊎ (IsSomeAnd o (λ e. e.uid ≡ group_uid) → ⊥)
+group-or-not None = inr (λ none. none)
+group-or-not (Some e) = cases_eq e.uid group_uid
+
+pub group-or : {D : Type 0} (v : VmState D) (g : ℕ) → IsGroup v g ⊎ (IsGroup v g → ⊥)
+group-or v g = group-or-not (held_at v g)
+
+-- A group that was not brought
+
+no-block : (o : Option Block) → (IsBlock o ⊎ (IsBlock o → ⊥))
+no-block None = inr (λ there. there)
+no-block (Some b) = inl tt
+
+-- it is locked as often as it was
+pub not_brought-locks : (s t : Store) (g : ℕ) → NotBrought s t g → locks_of t (vm_slot g) ≡ locks_of s (vm_slot g)
+not_brought-locks s t g not = elim (no-block (block_at s (vm_slot g))) [
+  | inl there ↦ ap (λ u. locks_of u (vm_slot g)) (not.stays there)
+  | inr absent ↦ ap locks_in (not.absent absent) ∙ sym (ap locks_in (gone (block_at s (vm_slot g)) absent))
+]
+  where
+    gone : (o : Option Block) → (IsBlock o → ⊥) → o ≡ None
+    gone None absent = refl
+    gone (Some b) absent = absurd (absent tt)
+
+-- What room is wanted
+
+module _ {A : Type 0} (edit : List (Option (List ℕ)) → Edit A) where
+  wanted-away : (P : ℕ → Type 0) (o : Option Held) (b : Option Block) → b ≡ None → IsSomeAnd o (λ e. e.uid ≡ group_uid) → IfSome o (λ e. P e.len) → P (room_wanted edit o b)
+  wanted-away P None b away group has = absurd group
+  wanted-away P (Some e) b away group has = subst (λ x. P (room_wanted edit (Some e) x)) (sym away) has
+
+  wanted-there : (o : Option Held) (b : Option Block) → IsBlock b → IsSomeAnd o (λ e. e.uid ≡ group_uid) → room_wanted edit o b ≡ need (edit (chunks (bytes_in b))).chunks
+  wanted-there None b there group = absurd group
+  wanted-there (Some e) None there group = absurd there
+  wanted-there (Some e) (Some b) there group = refl
+
+-- The device was only read
+
+module _ {D : Type 0} (image : D → List ℕ) (honest : D → Type 0) (may_leave : D → List ℕ → Type 0) (left : D → D → List ℕ → Type 0) (failed : D → ℕ) (v : VmState D) where
+  -- it failed in the same cases
+  pub reads-as : {P Q : Type 0} (w : VmState D) → (Q → P) → (P → Q) → ReadsDevice image honest may_leave left failed P v w → ReadsDevice image honest may_leave left failed Q v w
+  reads-as w back forth r = record { pair = r.pair; reads = r.reads; cause = λ good fails. r.cause good (back fails); counted = λ never. r.counted (λ p. never (forth p)) }
+
+  -- it did not fail, and the file went on as it was
+  pub reads-on : {P Q : Type 0} (w x : VmState D) → x.file ≡ w.file → (P → ⊥) → (Q → ⊥) → ReadsDevice image honest may_leave left failed P v w → ReadsDevice image honest may_leave left failed Q v x
+  reads-on w x same passed never r = record {
+    pair = ap (pair_of image) same ∙ r.pair;
+    reads = subst (λ (f : FileState D). ReadsOnly image honest may_leave left v.file.device f.device) (sym same) r.reads;
+    cause = λ good fails. absurd (never fails);
+    counted = λ q. ap (λ (f : FileState D). failed f.device) same ∙ r.counted passed;
+  }
+
+  module _ (g : ℕ) (w : VmState D) (s t : Store) where
+    abbrev Brings : Result (Unit {0}) Refusal → Type 0
+    Brings r = BringsGroup image honest may_leave left failed g r v w s t
+
+    -- a group is one still
+    pub still-group : w ≡ with_device v w.file.device → IsGroup v g → IsGroup w g
+    still-group same group = subst (λ (x : VmState D). IsGroup x g) (sym same) group
+
+    module _ {A : Type 0} (call : Call A) (on : IsOnChunks call) (edit : List (Option (List ℕ)) → Edit A) where
+      -- the group was not brought
+      pub item-not_brought : (why : Refusal) → IsTied image honest v s → Brings (Err why) → ChangesItem image honest may_leave left failed (on_group g call) edit g (Err why) v w s t
+      item-not_brought why tied b = record {
+        tied = b.tied;
+        row = row (group-or v g);
+        listed = b.same;
+        no_group = λ none. (let n = b.no_group none in (refused-so why refusal.BadHandle n.0, n.1, n.2));
+        keeps = b.keeps;
+        locks = not_brought-locks s t g b.err;
+        refused = λ there. ap (λ u. block_at u (vm_slot g)) (b.err.stays there);
+        no_room = λ e. room (b.no_room (refused-so why refusal.NoRoom e)) (group-or v g) e;
+        device = reads-as w (refused-so why refusal.Disk) (refused-so why refusal.Disk) b.device;
+      }
+        where
+          row : IsGroup v g ⊎ (IsGroup v g → ⊥) → DoesRow image honest failed (on_group g call) (Err why) v s w t
+          row (inl group) = not_brought-row image honest failed v w s t g b.tied (still-group b.same group) call on why (b.row group)
+          row (inr none) =
+              let n = b.no_group none in
+              let is : why ≡ refusal.BadHandle = (let x = n.0 in cc) in
+              subst (λ r. DoesRow image honest failed (on_group g call) (Err r) v s w t) (sym is)
+              (subst (λ x. DoesRow image honest failed (on_group g call) (Err refusal.BadHandle) v s x t) (sym n.1)
+              (subst (DoesRow image honest failed (on_group g call) (Err refusal.BadHandle) v s v) (sym n.2) (no_group-row image honest failed v s g tied none call on)))
+
+          room : (IsThere s (vm_slot g) → ⊥) × IfSome (held_at v g) (λ e. LacksRoom v s t (vm g) e.len) → IsGroup v g ⊎ (IsGroup v g → ⊥) → ◌≡◌ {A = Result A Refusal} (Err why) (Err refusal.NoRoom) → LacksItemRoom v t g edit
+          room n (inl group) e = record { none = none (held_at v g) group n.1; no_room = wanted-away edit (HasNoRoom t (vm_slot g)) (held_at v g) (block_at t (vm_slot g)) (b.err.absent n.0) group (lacks (held_at v g) n.1) }
+            where
+              none : (o : Option Held) → IsSomeAnd o (λ e. e.uid ≡ group_uid) → IfSome o (λ e. LacksRoom v s t (vm g) e.len) → NoneIdle v t g
+              none None group l = absurd group
+              none (Some e) group l = l.none
+
+              lacks : (o : Option Held) → IfSome o (λ e. LacksRoom v s t (vm g) e.len) → IfSome o (λ e. HasNoRoom t (vm_slot g) e.len)
+              lacks None l = tt
+              lacks (Some e) l = l.no_room
+          room n (inr none) e = let x = (b.no_group none).0 in absurd cc
+
+      -- it was
+      module _ (b : Brings (Ok tt)) (u : Store) (keeps : KeepsOthers w t u (vm g)) where
+        group : IsGroup v g
+        group = b.known
+
+        others : (k : ℕ) → k ≢ g → held_at w k ≡ held_at v k
+        others k ne = ap (λ (x : VmState D). held_at x k) b.same
+
+        -- its chunks have changed, and it is marked
+        pub item-changed : (x : VmState D) (a : A) → IsTied image honest x u → x ≡ with_held w g (option_map marked (held_at w g)) → ((n : Memory) → IsMemoryOf image honest w u n → IsMemoryOf image honest x u (with_mark n g true))
+            → DoesRowAlone image honest call (Ok a) w t w u → ChangesItem image honest may_leave left failed (on_group g call) edit g (Ok a) v x s u
+        item-changed x a tied marks memory row =
+            let file : x.file ≡ w.file = ap (λ (y : VmState D). y.file) marks in
+            let device : x.file.device ≡ w.file.device = ap (λ (f : FileState D). f.device) file in
+            let now : VmState D = with_held v g (option_map marked (held_at v g)) in
+            let was : x ≡ with_device now w.file.device = marks ∙ ap (λ (y : VmState D). with_held y g (option_map marked (held_at y g))) b.same in
+            record {
+              tied = tied;
+              row = on_group-ok image honest failed v w s t g b.tied (still-group b.same group) call on (b.row group) u x a device row memory;
+              listed = was ∙ ap (with_device now) (sym device);
+              no_group = λ none. absurd (none group);
+              keeps = keeps-then v w s t u g others b.keeps (vm-keeps w t u g keeps.others);
+              locks = keeps.locks ∙ b.ok.locks;
+              refused = tt;
+              no_room = λ e. absurd cc;
+              device = reads-on w x file (λ e. absurd cc) (λ e. absurd cc) b.device;
+            }
+
+        -- they have not
+        pub item-refused : (grows : Bool) (why : Refusal) → AsksInside edit → Carries grows w edit t u (vm g) (Err why) → DoesRowAlone image honest call (Err why) w t w u
+            → ChangesItem image honest may_leave left failed (on_group g call) edit g (Err why) v w s u
+        item-refused grows why asks carries row = record {
+          tied = tied grows carries;
+          row = on_group-err image honest failed v w s t g b.tied (still-group b.same group) call on (b.row group) u why row;
+          listed = b.same;
+          no_group = λ none. absurd (none group);
+          keeps = keeps-then v w s t u g others b.keeps (vm-keeps w t u g keeps.others);
+          locks = keeps.locks ∙ b.ok.locks;
+          refused = λ there. own grows carries ∙ ap (λ x. block_at x (vm_slot g)) (b.ok.stays there);
+          no_room = λ e. room grows carries e;
+          device = reads-on w w refl (λ e. absurd cc) (λ e. let is : why ≡ refusal.Disk = cc in carries-no_disk edit w t u (vm g) grows why asks carries is) b.device;
+        }
+          where
+            tied : (x : Bool) → Carries x w edit t u (vm g) (Err why) → IsTied image honest w u
+            tied true c = subst (IsTied image honest w) (sym c.grows.1) (tied-thins image honest w t c.mid g b.tied c.thins)
+            tied false c = subst (IsTied image honest w) (sym c.1) b.tied
+
+            own : (x : Bool) → Carries x w edit t u (vm g) (Err why) → block_at u (vm_slot g) ≡ block_at t (vm_slot g)
+            own true c = ap (λ x. block_at x (vm_slot g)) c.grows.1 ∙ c.own
+            own false c = ap (λ x. block_at x (vm_slot g)) c.1
+
+            lacks : (c : Comes w edit t u (vm g) (Err why)) → why ≡ refusal.NoRoom → (first_refusal (edit (heaps.chunks_at c.mid (vm g))).refusals ≡ Some why) ⊎ ((first_refusal (edit (heaps.chunks_at c.mid (vm g))).refusals ≡ None) × heaps.LacksRoom why c.mid (vm g) (edit (heaps.chunks_at c.mid (vm g))).chunks)
+                → HasNoRoom c.mid (vm_slot g) (need (edit (heaps.chunks_at c.mid (vm g))).chunks)
+            lacks c is (inl first) = absurd (asks (heaps.chunks_at c.mid (vm g)) refusal.NoRoom refl (first ∙ ap Some is))
+            lacks c is (inr room) = (subst (λ r. heaps.LacksRoom r c.mid (vm g) (edit (heaps.chunks_at c.mid (vm g))).chunks) is room.1).2
+
+            room : (x : Bool) → Carries x w edit t u (vm g) (Err why) → ◌≡◌ {A = Result A Refusal} (Err why) (Err refusal.NoRoom) → LacksItemRoom v u g edit
+            room true c e =
+                let is : why ≡ refusal.NoRoom = cc in
+                let none : NoneIdle w u g = c.none e in
+                record {
+                  none = subst (λ (x : VmState D). NoneIdle x u g) b.same none;
+                  no_room = subst (HasNoRoom u (vm_slot g)) (sym (wanted-there edit (held_at v g) (block_at u (vm_slot g)) keeps.there group))
+                      (subst (λ x. HasNoRoom x (vm_slot g) (need (edit (heaps.chunks_at x (vm g))).chunks)) (sym c.grows.1) (lacks c is c.grows.0));
+                }
+            room false c e = let is : why ≡ refusal.NoRoom = cc in absurd (asks (heaps.chunks_at t (vm g)) refusal.NoRoom refl (c.0 ∙ ap Some is))
+
+        -- they have changed, and it is not yet marked
+        pub item-unmarked : IsChanged image honest w u g
+        item-unmarked = record {
+          before = t;
+          tied = b.tied;
+          was = b.ok.there;
+          keeps = vm-keeps w t u g keeps.others;
+          there = keeps.there;
+          heap = keeps.heap;
+          word = keeps.handle ∙ (stays-changed image honest w t g b.tied b.ok.there).word;
+        }
+
+-- a group that was brought holds a heap
+pub holds-heap : {D : Type 0} (image : D → List ℕ) (honest : D → Type 0) (w : VmState D) (t : Store) (g : ℕ) → IsTied image honest w t → IsThere t (vm_slot g) → heaps.HoldsHeap t (vm g)
+holds-heap image honest w t g tied there = record { there = there; heap = (stays-changed image honest w t g tied there).heap }

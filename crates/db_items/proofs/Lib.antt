@@ -1,0 +1,9 @@
+pub mod Told
+pub mod Fronts
+pub mod OnGroups
+pub mod GroupRows
+pub mod LockedItems
+pub mod Keeping
+pub mod Asking
+pub mod Changing
+pub mod Locking

@@ -1,0 +1,47 @@
+-- Groups, and how one is brought into memory.
+use Rattle.std.specs.Prelude.{◌≡◌, ℕ, List, IsSomeAnd, IfSome, OnErr, OnOk, Result, Err}
+use Rattle.geos_model.specs.Names.{vm}
+use Rattle.geos_model.specs.declared.refusal.Refusal.{Refusal}
+use Rattle.geos_model.specs.declared.refusal.Refusal.TheVariants.{BadHandle, Disk, NoRoom, Short}
+use Rattle.geos_table.specs.VmCalls.{bring}
+use Rattle.block_handles.specs.Store.{Store, IsThere}
+use Rattle.vm_file.specs.Device.{Rose}
+use Rattle.vm_file.specs.Directories.{group_uid}
+use Rattle.vm_file.specs.Outcomes.{ReadsOnly}
+use Rattle.vm_file.specs.State.{pair_of}
+use Rattle.vm_blocks.specs.Bring.{Brought, Keeps, NotBrought}
+use Rattle.vm_blocks.specs.DoesRow.{DoesRow}
+use Rattle.vm_blocks.specs.Room.{LacksRoom}
+use Rattle.vm_blocks.specs.Tied.{IsTied}
+use Rattle.vm_blocks.specs.View.{VmState, held_at, vm_slot, with_device}
+
+-- a handle names a group: a block of the file with the user ID of groups
+abbrev pub IsGroup : {D : Type 0} → VmState D → ℕ → Type 0
+IsGroup v g = IsSomeAnd (held_at v g) (λ e. e.uid ≡ group_uid)
+
+-- a call reads the device at most: it writes nothing, the pair that the file keeps is the same, and
+-- it fails, on an honest device, only where the count of failures rose, which it does nowhere else
+pub record ReadsDevice {D : Type 0} (image : D → List ℕ) (honest : D → Type 0) (may_leave : D → List ℕ → Type 0) (left : D → D → List ℕ → Type 0) (failed : D → ℕ) (fails : Type 0) (v w : VmState D) : Type 0 where
+  pub pair : pair_of image w.file ≡ pair_of image v.file
+  pub reads : ReadsOnly image honest may_leave left v.file.device w.file.device
+  pub cause : honest v.file.device → fails → Rose (failed v.file.device) (failed w.file.device)
+  pub counted : (fails → ⊥) → failed w.file.device ≡ failed v.file.device
+
+-- a handle of no group is refused, and nothing changes
+abbrev pub RefusesNoGroup : {D A : Type 0} → ℕ → Result A Refusal → VmState D → VmState D → Store → Store → Type 0
+RefusesNoGroup g result v w s t = (IsGroup v g → ⊥) → (result ≡ Err BadHandle) × (w ≡ v) × (t ≡ s)
+
+-- a group is brought into memory, or refused; a handle of no group is
+pub record BringsGroup {D : Type 0} (image : D → List ℕ) (honest : D → Type 0) (may_leave : D → List ℕ → Type 0) (left : D → D → List ℕ → Type 0) (failed : D → ℕ)
+    (g : ℕ) (result : Result (Unit {0}) Refusal) (v w : VmState D) (s t : Store) : Type 0 where
+  pub tied : IsTied image honest w t
+  pub same : w ≡ with_device v w.file.device
+  pub no_group : RefusesNoGroup g result v w s t
+  pub known : OnOk result (IsGroup v g)
+  pub not_short : result ≡ Err Short → ⊥
+  pub row : IsGroup v g → DoesRow image honest failed (bring g) result v s w t
+  pub ok : OnOk result (Brought s t g)
+  pub err : OnErr result (NotBrought s t g)
+  pub keeps : Keeps v s t g
+  pub no_room : result ≡ Err NoRoom → (IsThere s (vm_slot g) → ⊥) × IfSome (held_at v g) (λ e. LacksRoom v s t (vm g) e.len)
+  pub device : ReadsDevice image honest may_leave left failed (result ≡ Err Disk) v w

@@ -1,0 +1,78 @@
+-- What calls on items make of the blocks, the table and the device.
+use Rattle.std.specs.Prelude.{◌≡◌, ℕ, ◌+◌, ◌≤◌, ◌<◌, List, length, Option, Some, None, IfOk, IfSome, OnErr, OnOk, Result, Ok, Err, option_map}
+use Rattle.geos_model.specs.Block.{chunks}
+use Rattle.geos_model.specs.Chunks.{need}
+use Rattle.geos_model.specs.Edits.{Edit, refer}
+use Rattle.geos_model.specs.Names.{vm}
+use Rattle.geos_model.specs.declared.refusal.Refusal.{Refusal}
+use Rattle.geos_model.specs.declared.refusal.Refusal.TheVariants.{Disk, NoRoom, Short}
+use Rattle.geos_table.specs.Calls.{in_block}
+use Rattle.geos_table.specs.Effects.{Call, Reference}
+use Rattle.geos_table.specs.ItemCalls.{ilock}
+use Rattle.block_handles.specs.Store.{Block, Store, IsThere, block_at, bytes_of, locks_of}
+use Rattle.block_handles.specs.Stretch.{HasNoRoom}
+use Rattle.vm_blocks.specs.declared.entries.Held.{Held}
+use Rattle.vm_blocks.specs.Blocks.{marked}
+use Rattle.vm_blocks.specs.Bring.{Keeps, LockedMore}
+use Rattle.vm_blocks.specs.DoesRow.{DoesRow}
+use Rattle.vm_blocks.specs.Room.{LacksRoom, NoneIdle}
+use Rattle.vm_blocks.specs.Tied.{IsTied}
+use Rattle.vm_blocks.specs.View.{VmState, held_at, vm_slot, with_device, with_held}
+use Rattle.heap_calls.specs.Edits.{Finds}
+use Rattle.db_items.specs.Groups.{ReadsDevice, RefusesNoGroup}
+
+-- what a group needs for a call: its listed length where it is not in memory, else what its chunks
+-- need after the call
+abbrev pub room_wanted : {A : Type 0} → (List (Option (List ℕ)) → Edit A) → Option Held → Option Block → ℕ
+room_wanted edit None b = 0
+room_wanted edit (Some e) None = e.len
+room_wanted edit (Some e) (Some b) = need (edit (chunks b.bytes)).chunks
+
+-- no stretch of the region has room for that, as the call leaves it, though no other block is left
+-- that may be discarded
+pub record LacksItemRoom {D A : Type 0} (v : VmState D) (t : Store) (g : ℕ) (edit : List (Option (List ℕ)) → Edit A) : Type 0 where
+  pub none : NoneIdle v t g
+  pub no_room : HasNoRoom t (vm_slot g) (room_wanted edit (held_at v g) (block_at t (vm_slot g)))
+
+-- what is listed after a call on a group, which is marked where it is done
+abbrev pub listed_after : {D A : Type 0} → Result A Refusal → VmState D → ℕ → VmState D
+listed_after (Ok answer) v g = with_held v g (option_map marked (held_at v g))
+listed_after (Err why) v g = v
+
+-- a call changes the chunks of a group, which it brings into memory first and marks behind it; every
+-- other block is as it was, or was discarded. A refusal leaves the marks, the counts and a group that
+-- was in memory as they were
+pub record ChangesItem {D A : Type 0} (image : D → List ℕ) (honest : D → Type 0) (may_leave : D → List ℕ → Type 0) (left : D → D → List ℕ → Type 0) (failed : D → ℕ)
+    (call : Call A) (edit : List (Option (List ℕ)) → Edit A) (g : ℕ) (result : Result A Refusal) (v w : VmState D) (s t : Store) : Type 0 where
+  pub tied : IsTied image honest w t
+  pub row : DoesRow image honest failed call result v s w t
+  pub listed : w ≡ with_device (listed_after result v g) w.file.device
+  pub no_group : RefusesNoGroup g result v w s t
+  pub keeps : Keeps v s t g
+  pub locks : locks_of t (vm_slot g) ≡ locks_of s (vm_slot g)
+  pub refused : OnErr result (IsThere s (vm_slot g) → block_at t (vm_slot g) ≡ block_at s (vm_slot g))
+  pub no_room : result ≡ Err NoRoom → LacksItemRoom v t g edit
+  pub device : ReadsDevice image honest may_leave left failed (result ≡ Err Disk) v w
+
+-- the reference to an item that was found: the whole of it
+abbrev pub refers_to : ℕ → ℕ → Result (ℕ × ℕ) Refusal → Result Reference Refusal
+refers_to g i (Ok place) = Ok (in_block (vm g) (record { chunk = i; start = 0; len = place.1 }))
+refers_to g i (Err why) = Err why
+
+-- a group is locked once more, and an item of it, of n bytes at least, found in its bytes; where
+-- that is refused it is locked as often as it was
+pub record LocksItem {D : Type 0} (image : D → List ℕ) (honest : D → Type 0) (may_leave : D → List ℕ → Type 0) (left : D → D → List ℕ → Type 0) (failed : D → ℕ)
+    (g i n : ℕ) (result : Result (ℕ × ℕ) Refusal) (v w : VmState D) (s t : Store) : Type 0 where
+  pub tied : IsTied image honest w t
+  pub row : DoesRow image honest failed (ilock g i n) (refers_to g i result) v s w t
+  pub same : w ≡ with_device v w.file.device
+  pub no_group : RefusesNoGroup g result v w s t
+  pub keeps : Keeps v s t g
+  pub ok : OnOk result (LockedMore s t g)
+  pub locks : OnErr result (locks_of t (vm_slot g) ≡ locks_of s (vm_slot g))
+  pub refused : OnErr result (IsThere s (vm_slot g) → t ≡ s)
+  pub short : result ≡ Err Short → 0 < n
+  pub finds : OnOk result (Finds (refer i n) (bytes_of t (vm_slot g)) result)
+  pub within : IfOk result (λ place. (place.0 + place.1 ≤ length (bytes_of t (vm_slot g))) × (n ≤ place.1))
+  pub no_room : result ≡ Err NoRoom → IfSome (held_at v g) (λ e. LacksRoom v s t (vm g) e.len)
+  pub device : ReadsDevice image honest may_leave left failed (result ≡ Err Disk) v w

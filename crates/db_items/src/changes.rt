@@ -1,0 +1,64 @@
+//! Calls that change the chunks of a group: the two ways in.
+ghost use Rattle.geos_model.specs.Names.{vm as vm_name};
+ghost use Rattle.geos_table.specs.ChunkCalls.{change_edit, change_row, make_edit, make_row};
+ghost use Rattle.geos_table.specs.ItemCalls.{on_group};
+ghost use Rattle.vm_blocks.specs.Tied.{IsTied};
+ghost use Rattle.db_items.specs.Items.{ChangesItem};
+
+use crate::groups::bring_group;
+use block_handles::Blocks;
+use geos_model::{Name, Refusal};
+use geos_table::{Change, Make};
+use heap_calls::{change as change_chunks, make as make_chunk};
+use vm_blocks::VmBlocks;
+use vm_file::Device;
+
+/// Makes a change in a group, which is brought into memory first, and marked where the change is
+/// made. `BadHandle` where no group has this handle; `NoRoom` and `Disk` where it does not come into
+/// memory; then what `heap_calls::change` refuses.
+pub fn item_change<D: Device + Drop>(
+    vm: &mut VmBlocks<D>,
+    blocks: &mut Blocks,
+    g: u16,
+    change: Change,
+) -> Result<(), Refusal>
+    requires { IsTied D.image D.honest vm.old blocks.old }
+    ensures { ChangesItem D.image D.honest D.may_leave D.may_have_left D.failed (on_group g (change_row (vm_name g) change)) (change_edit change) g result vm.old vm.new blocks.old blocks.new }
+{
+    match bring_group(vm, blocks, g) {
+        Ok(()) => {}
+        Err(refusal) => return Err(refusal),
+    }
+    match change_chunks(vm, blocks, Name::vm(g), change) {
+        Ok(()) => {}
+        Err(refusal) => return Err(refusal),
+    }
+    // what lies in the region are bytes, as the group is to spell
+    let _ = blocks.region();
+    vm.vdirty_changed(blocks, g);
+    Ok(())
+}
+
+/// Makes a chunk in a group, which is brought into memory first and marked behind it, and answers its
+/// handle: the lowest one of the group that is free. It is refused as `item_change` is.
+pub fn item_make<D: Device + Drop>(
+    vm: &mut VmBlocks<D>,
+    blocks: &mut Blocks,
+    g: u16,
+    make: Make,
+) -> Result<u16, Refusal>
+    requires { IsTied D.image D.honest vm.old blocks.old }
+    ensures { ChangesItem D.image D.honest D.may_leave D.may_have_left D.failed (on_group g (make_row (vm_name g) make)) (make_edit make) g result vm.old vm.new blocks.old blocks.new }
+{
+    match bring_group(vm, blocks, g) {
+        Ok(()) => {}
+        Err(refusal) => return Err(refusal),
+    }
+    let item = match make_chunk(vm, blocks, Name::vm(g), make) {
+        Ok(item) => item,
+        Err(refusal) => return Err(refusal),
+    };
+    let _ = blocks.region();
+    vm.vdirty_changed(blocks, g);
+    Ok(item)
+}

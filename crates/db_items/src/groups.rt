@@ -1,0 +1,130 @@
+//! Groups: which blocks are groups, new ones, those that go, and those that come into memory.
+ghost use Rattle.std.specs.Prelude.{◌≡◌, ◌<◌, ◌↔◌, Err, IsTrue, IfOk, OnOk, OnErr};
+ghost use Rattle.block_handles.specs.Store.{locks_of};
+ghost use Rattle.geos_table.specs.ItemCalls.{gfree, gnew};
+ghost use Rattle.vm_file.specs.Directories.{group_uid};
+ghost use Rattle.vm_blocks.specs.Blocks.{Adds, AllListed, LacksRoomForNew, without_held};
+ghost use Rattle.vm_blocks.specs.Bring.{Drops};
+ghost use Rattle.vm_blocks.specs.DoesRow.{DoesRow};
+ghost use Rattle.vm_blocks.specs.Tied.{IsTied};
+ghost use Rattle.vm_blocks.specs.View.{vm_slot};
+ghost use Rattle.db_items.specs.Groups.{BringsGroup, IsGroup, RefusesNoGroup};
+ghost use Rattle.vm_blocks.specs.Refused.{why_not_brought, why_not_freed, why_not_made};
+
+use block_handles::Blocks;
+use geos_model::Refusal;
+use vm_blocks::{BringError, FreeError, NewError, VmBlocks};
+use vm_file::{Device, GROUP_UID};
+
+/// Whether a handle names a group.
+pub(crate) fn is_group<D: Device + Drop>(vm: &VmBlocks<D>, g: u16) -> bool
+    ensures { IsTrue result ↔ IsGroup vm.now g }
+{
+    match vm.uid(g) {
+        Some(uid) => uid == GROUP_UID,
+        None => false,
+    }
+}
+
+/// Why a group was not made, as the kernel says it.
+fn why_not_made(why: NewError) -> Refusal
+    ensures { result ≡ why_not_made why }
+{
+    match why {
+        NewError::NoHandle => Refusal::NoHandle,
+        NewError::NoRoom => Refusal::NoRoom,
+    }
+}
+
+/// Why a group was not freed, as the kernel says it.
+fn why_not_freed(why: FreeError) -> Refusal
+    ensures { result ≡ why_not_freed why }
+{
+    match why {
+        FreeError::BadHandle => Refusal::BadHandle,
+        FreeError::Locked => Refusal::Locked,
+    }
+}
+
+/// Why a group was not brought into memory, as the kernel says it.
+fn why_not_brought(why: BringError) -> Refusal
+    ensures { result ≡ why_not_brought why }
+{
+    match why {
+        BringError::BadHandle => Refusal::BadHandle,
+        BringError::NoRoom => Refusal::NoRoom,
+        BringError::Disk => Refusal::Disk,
+    }
+}
+
+/// Makes a group of 64 bytes without an item under the lowest handle of the file that is free, in
+/// memory and marked, but not locked. `NoHandle` where all 1,024 are listed; then `NoRoom` where no
+/// stretch of the region has room, though every block of the file that is neither marked nor locked
+/// was discarded.
+pub fn group_new<D: Device + Drop>(
+    vm: &mut VmBlocks<D>,
+    blocks: &mut Blocks,
+) -> Result<u16, Refusal>
+    requires { IsTied D.image D.honest vm.old blocks.old }
+    ensures tied { IsTied D.image D.honest vm.new blocks.new }
+    // Its row of the table of calls, in each memory that the model may have before it.
+    ensures row { DoesRow D.image D.honest D.failed gnew result vm.old blocks.old vm.new blocks.new }
+    ensures ok { IfOk result (Adds vm.old vm.new blocks.old blocks.new group_uid 0) }
+    ensures no_handle { (result ≡ Err Refusal.NoHandle) ↔ AllListed vm.old }
+    ensures no_room { result ≡ Err Refusal.NoRoom → LacksRoomForNew vm.old blocks.old blocks.new }
+    ensures stays { result ≡ Err Refusal.NoHandle → blocks.new ≡ blocks.old }
+    ensures err { OnErr result (vm.new ≡ vm.old) }
+    ensures file { vm.new.file ≡ vm.old.file }
+{
+    match vm.vnew_unlocked(blocks, GROUP_UID) {
+        Ok(g) => Ok(g),
+        Err(why) => Err(why_not_made(why)),
+    }
+}
+
+/// Frees a group, and its items with it: it is listed no more, the map item is none where it was
+/// mapped, and it leaves the memory. `BadHandle` where no group has this handle, `Locked` where it is
+/// locked; nothing changes then.
+pub fn group_free<D: Device + Drop>(
+    vm: &mut VmBlocks<D>,
+    blocks: &mut Blocks,
+    g: u16,
+) -> Result<(), Refusal>
+    requires { IsTied D.image D.honest vm.old blocks.old }
+    ensures tied { IsTied D.image D.honest vm.new blocks.new }
+    // Its row of the table of calls, in each memory that the model may have before it.
+    ensures row { DoesRow D.image D.honest D.failed (gfree g) result vm.old blocks.old vm.new blocks.new }
+    ensures no_group { RefusesNoGroup g result vm.old vm.new blocks.old blocks.new }
+    ensures locked { IsGroup vm.old g → (result ≡ Err Refusal.Locked) ↔ (0 < locks_of blocks.old (vm_slot g)) }
+    ensures state { OnOk result (vm.new ≡ without_held vm.old g) }
+    ensures drops { OnOk result (Drops blocks.old blocks.new g) }
+    ensures err { OnErr result ((vm.new ≡ vm.old) × (blocks.new ≡ blocks.old)) }
+    ensures file { vm.new.file ≡ vm.old.file }
+{
+    if !is_group(vm, g) {
+        return Err(Refusal::BadHandle);
+    }
+    match vm.vfree(blocks, g) {
+        Ok(()) => Ok(()),
+        Err(why) => Err(why_not_freed(why)),
+    }
+}
+
+/// Brings a group into memory, and does not lock it. `BadHandle` where no group has this handle;
+/// `NoRoom` and `Disk` as `VmBlocks::bring` has them.
+pub(crate) fn bring_group<D: Device + Drop>(
+    vm: &mut VmBlocks<D>,
+    blocks: &mut Blocks,
+    g: u16,
+) -> Result<(), Refusal>
+    requires { IsTied D.image D.honest vm.old blocks.old }
+    ensures { BringsGroup D.image D.honest D.may_leave D.may_have_left D.failed g result vm.old vm.new blocks.old blocks.new }
+{
+    if !is_group(vm, g) {
+        return Err(Refusal::BadHandle);
+    }
+    match vm.bring(blocks, g) {
+        Ok(()) => Ok(()),
+        Err(why) => Err(why_not_brought(why)),
+    }
+}

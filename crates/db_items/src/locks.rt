@@ -1,0 +1,94 @@
+//! Groups that are locked for an item, unlocked and marked.
+ghost use Rattle.std.specs.Prelude.{◌≡◌, ◌<◌, ◌↔◌, IsTrue, Ok, Err, option_map};
+ghost use Rattle.geos_table.specs.ItemCalls.{idirty, iunlock};
+ghost use Rattle.block_handles.specs.Change.{with_lock_less};
+ghost use Rattle.block_handles.specs.Store.{IsThere, locks_of};
+ghost use Rattle.vm_blocks.specs.Blocks.{marked};
+ghost use Rattle.vm_blocks.specs.DoesRow.{DoesRow};
+ghost use Rattle.vm_blocks.specs.Tied.{IsTied};
+ghost use Rattle.vm_blocks.specs.View.{held_at, vm_slot, with_held};
+ghost use Rattle.db_items.specs.Groups.{IsGroup};
+ghost use Rattle.db_items.specs.Items.{LocksItem};
+
+use crate::groups::{bring_group, is_group};
+use block_handles::Blocks;
+use geos_model::{Name, Refusal};
+use geos_table::Refer;
+use heap_calls::find;
+use vm_blocks::VmBlocks;
+use vm_file::Device;
+
+/// Whether a handle names a group whose count of locks can't rise.
+fn is_full<D: Device + Drop>(vm: &VmBlocks<D>, blocks: &Blocks, g: u16) -> bool
+    ensures { IsTrue result ↔ IsGroup vm.now g × (locks_of blocks.now (vm_slot g) ≡ 65535) }
+{
+    is_group(vm, g) && blocks.locks(Name::vm(g)) == u16::MAX
+}
+
+/// Locks a group once more, which brings it into memory, for an item of `n` bytes at least: answers
+/// the item's offset in the group, and its length. `BadHandle` where no group has this handle, `Locked`
+/// where its count is 65,535, `NoRoom` and `Disk` where it does not come into memory, `BadChunk` where it
+/// has no such item, `Short` where that has fewer bytes. It is locked only where none of these comes.
+pub fn item_lock_part<D: Device + Drop>(
+    vm: &mut VmBlocks<D>,
+    blocks: &mut Blocks,
+    g: u16,
+    i: u16,
+    n: u16,
+) -> Result<(usize, u16), Refusal>
+    requires { IsTied D.image D.honest vm.old blocks.old }
+    ensures { LocksItem D.image D.honest D.may_leave D.may_have_left D.failed g i n result vm.old vm.new blocks.old blocks.new }
+{
+    if is_full(vm, blocks, g) {
+        return Err(Refusal::Locked);
+    }
+    match bring_group(vm, blocks, g) {
+        Ok(()) => {}
+        Err(refusal) => return Err(refusal),
+    }
+    let place = match find(blocks.bytes(Name::vm(g)), Refer::Deref { c: i, n }) {
+        Ok(place) => place,
+        Err(why) => return Err(why),
+    };
+    let _ = blocks.lock(Name::vm(g));
+    Ok(place)
+}
+
+/// Locks a group once more for an item of any length. It is refused as `item_lock_part` is, but never
+/// with `Short`.
+pub fn item_lock<D: Device + Drop>(
+    vm: &mut VmBlocks<D>,
+    blocks: &mut Blocks,
+    g: u16,
+    i: u16,
+) -> Result<(usize, u16), Refusal>
+    requires { IsTied D.image D.honest vm.old blocks.old }
+    ensures not_short { result ≡ Err Refusal.Short → ⊥ }
+    ensures locks { LocksItem D.image D.honest D.may_leave D.may_have_left D.failed g i 0 result vm.old vm.new blocks.old blocks.new }
+{
+    item_lock_part(vm, blocks, g, i, 0)
+}
+
+/// Marks a group that is in memory as changed.
+pub fn item_dirty<D: Device + Drop>(vm: &mut VmBlocks<D>, blocks: &Blocks, g: u16)
+    requires tied { IsTied D.image D.honest vm.old blocks.now }
+    requires there { IsThere blocks.now (vm_slot g) }
+    ensures tied { IsTied D.image D.honest vm.new blocks.now }
+    ensures marks { vm.new ≡ with_held vm.old g (option_map marked (held_at vm.old g)) }
+    // Its row of the table of calls, in each memory that the model may have before it.
+    ensures row { DoesRow D.image D.honest D.failed (idirty g) (Ok tt) vm.old blocks.now vm.new blocks.now }
+{
+    vm.vdirty(blocks, g);
+}
+
+/// Takes back one lock of a group. It stays in memory.
+pub fn item_unlock<D: Device + Drop>(vm: &VmBlocks<D>, blocks: &mut Blocks, g: u16)
+    requires tied { IsTied D.image D.honest vm.now blocks.old }
+    requires locked { 0 < locks_of blocks.old (vm_slot g) }
+    ensures tied { IsTied D.image D.honest vm.now blocks.new }
+    ensures less { blocks.new ≡ with_lock_less blocks.old (vm_slot g) }
+    // Its row of the table of calls, in each memory that the model may have before it.
+    ensures row { DoesRow D.image D.honest D.failed (iunlock g) (Ok tt) vm.now blocks.old vm.now blocks.new }
+{
+    vm.vunlock(blocks, g);
+}

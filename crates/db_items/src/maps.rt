@@ -1,0 +1,42 @@
+//! The map item.
+ghost use Rattle.std.specs.Prelude.{◌≡◌, ◌≢◌, ◌↔◌, Ok, Err, OnOk, OnErr};
+ghost use Rattle.block_handles.specs.Store.{Store};
+ghost use Rattle.geos_table.specs.ItemCalls.{igetmap, isetmap};
+ghost use Rattle.vm_blocks.specs.DoesRow.{DoesRow};
+ghost use Rattle.vm_blocks.specs.Tied.{IsTied};
+ghost use Rattle.db_items.specs.Groups.{IsGroup};
+
+use crate::groups::is_group;
+use geos_model::Refusal;
+use vm_blocks::VmBlocks;
+use vm_file::Device;
+
+/// The map item: its group, 0 for none, and the item.
+pub fn map_item<D: Device + Drop>(vm: &VmBlocks<D>) -> (u16, u16)
+    ensures item { result ≡ vm.now.map_item }
+    // Its row of the table of calls, in each memory that the model may have before it.
+    ensures row { (s : Store) → IsTied D.image D.honest vm.now s → DoesRow D.image D.honest D.failed igetmap (Ok result) vm.now s vm.now s }
+{
+    vm.map_item()
+}
+
+/// Names the map item: a group, and any number for an item of it; or 0 and 0 for none. `BadHandle` where
+/// the group is neither 0 nor a group, `Range` where it is 0 and the item is not; nothing changes then.
+pub fn set_map_item<D: Device + Drop>(vm: &mut VmBlocks<D>, g: u16, i: u16) -> Result<(), Refusal>
+    ensures tied { (s : Store) → IsTied D.image D.honest vm.old s → IsTied D.image D.honest vm.new s }
+    ensures bad_handle { (result ≡ Err Refusal.BadHandle) ↔ (g ≢ 0) × (IsGroup vm.old g → ⊥) }
+    ensures range { (result ≡ Err Refusal.Range) ↔ (g ≡ 0) × (i ≢ 0) }
+    ensures ok { OnOk result (vm.new ≡ record vm.old { map_item = (g, i) }) }
+    ensures err { OnErr result (vm.new ≡ vm.old) }
+    // Its row of the table of calls, in each memory that the model may have before it.
+    ensures row { (s : Store) → IsTied D.image D.honest vm.old s → DoesRow D.image D.honest D.failed (isetmap g i) result vm.old s vm.new s }
+{
+    if g != 0 && !is_group(vm, g) {
+        return Err(Refusal::BadHandle);
+    }
+    if g == 0 && i != 0 {
+        return Err(Refusal::Range);
+    }
+    vm.put_map_item(g, i);
+    Ok(())
+}
