@@ -1,5 +1,5 @@
 //! Groups: which blocks are groups, new ones, those that go, and those that come into memory.
-ghost use Rattle.std.specs.Prelude.{◌≡◌, ◌<◌, ◌↔◌, Err, IsTrue, IfOk, OnOk, OnErr};
+ghost use Rattle.std.specs.Prelude.{◌≡◌, ◌⊎◌, ◌<◌, ◌↔◌, Err, IsTrue, IfOk, IfErr, OnOk, OnErr};
 ghost use Rattle.block_handles.specs.Store.{locks_of};
 ghost use Rattle.geos_table.specs.ItemCalls.{gfree, gnew};
 ghost use Rattle.vm_file.specs.Directories.{group_uid};
@@ -17,7 +17,7 @@ use vm_blocks::{BringError, FreeError, NewError, VmBlocks};
 use vm_file::{Device, GROUP_UID};
 
 /// Whether a handle names a group.
-pub(crate) fn is_group<D: Device + Drop>(vm: &VmBlocks<D>, g: u16) -> bool
+pub fn is_group<D: Device + Drop>(vm: &VmBlocks<D>, g: u16) -> bool
     ensures { IsTrue result ↔ IsGroup vm.now g }
 {
     match vm.uid(g) {
@@ -70,6 +70,7 @@ pub fn group_new<D: Device + Drop>(
     // Its row of the table of calls, in each memory that the model may have before it.
     ensures row { DoesRow D.image D.honest D.failed gnew result vm.old blocks.old vm.new blocks.new }
     ensures ok { IfOk result (Adds vm.old vm.new blocks.old blocks.new group_uid 0) }
+    ensures why { IfErr result (λ why. (why ≡ Refusal.NoHandle) ⊎ (why ≡ Refusal.NoRoom)) }
     ensures no_handle { (result ≡ Err Refusal.NoHandle) ↔ AllListed vm.old }
     ensures no_room { result ≡ Err Refusal.NoRoom → LacksRoomForNew vm.old blocks.old blocks.new }
     ensures stays { result ≡ Err Refusal.NoHandle → blocks.new ≡ blocks.old }

@@ -12,7 +12,7 @@ mod locks;
 mod maps;
 
 pub use changes::{item_change, item_make};
-pub use groups::{group_free, group_new};
+pub use groups::{group_free, group_new, is_group};
 pub use items::{item_delete, item_free, item_insert, item_new, item_realloc};
 pub use locks::{item_dirty, item_lock, item_lock_part, item_unlock};
 pub use maps::{map_item, set_map_item};

@@ -16,4 +16,8 @@ pub mod Looks
 pub mod Lawful
 pub mod Told
 pub mod Opened
+pub mod Listed
+pub mod ListedRows
+pub mod VmCalls
+pub mod ItemCalls
 pub mod Turns

@@ -26,6 +26,27 @@ pub gives-standing : (good : Type 0) (call : Call Reference) (span : Span) (s : 
 gives-standing good call span s (Ok ref, answers, stands) = (ref, stands)
 gives-standing good call span s (Err refusal, answers, stands) = absurd stands
 
+-- a span stands for bytes that were found in a locked block
+pub found-stands : (s : KernelState) (name : Name) → 0 < store.locks_of s.blocks (slot_of name) → (edit : List (Option (List ℕ)) → Edit Part) (at len place : ℕ) → place ≡ store.place_of s.blocks (slot_of name)
+    → Finds edit (store.bytes_of s.blocks (slot_of name)) (Ok (at, len)) → Stands s (record { at = place + at; len = len }) (table.in_block name (edit (chunks_at s.blocks name)).answer)
+found-stands s name locked edit at len place e h =
+    let lies = h.2 in
+    record {
+      bytes = lies.whole;
+      locked = locked;
+      chunk = lies.chunk;
+      fits = lies.fits;
+      len = h.1;
+      place = λ some. moved (block.place_of (store.bytes_of s.blocks (slot_of name)) answer.chunk) (lies.place some);
+    }
+  where
+    answer : Part
+    answer = (edit (chunks_at s.blocks name)).answer
+
+    moved : (o : Option block.Place) → IfSome o (λ q. at ≡ q.at + answer.start) → IfSome o (λ q. place + at ≡ store.place_of s.blocks (slot_of name) + q.at + answer.start)
+    moved None h = tt
+    moved (Some q) h = omega (arith, e, h)
+
 module _ {D : Type 0} (image : D → List ℕ) (honest : D → Type 0) (failed : D → ℕ) (v : VmState D) (s : Store) (name : Name) (k : IsKernel image honest v s) (locked : 0 < store.locks_of s (slot_of name)) where
   abbrev sees : KernelState
   sees = core_of image failed v s
@@ -46,23 +67,8 @@ module _ {D : Type 0} (image : D → List ℕ) (honest : D → Type 0) (failed :
   -- bytes that were found
   pub found : (edit : List (Option (List ℕ)) → Edit Part) (at len place : ℕ) → place ≡ store.place_of s (slot_of name) → Finds edit (store.bytes_of s (slot_of name)) (Ok (at, len))
       → GivesSpan (honest v.file.device) (table.refers edit name) (Ok (record { at = place + at; len = len })) sees
-  found edit at len place e h =
-      let lies = h.2 in
-      let span : Span = record { at = place + at; len = len } in
-      let answer = (edit (chunks_at s name)).answer in
-      let stands : Stands sees span (table.in_block name answer) = record {
-        bytes = lies.whole;
-        locked = locked;
-        chunk = lies.chunk;
-        fits = lies.fits;
-        len = h.1;
-        place = λ some. moved (block.place_of (store.bytes_of s (slot_of name)) answer.chunk) (lies.place some);
-      } in (
-        Ok (table.in_block name answer),
-        row-calls image honest failed (table.refers edit name) (Ok (table.in_block name answer)) v s s (refers-row image honest failed v edit s name k.tied (locked-heap image honest v s name k locked) h.0) (λ f tied choice span ref stands fresh. stands),
-        stands,
-      )
-    where
-      moved : (o : Option block.Place) → IfSome o (λ q. at ≡ q.at + (edit (chunks_at s name)).answer.start) → IfSome o (λ q. place + at ≡ store.place_of s (slot_of name) + q.at + (edit (chunks_at s name)).answer.start)
-      moved None h = tt
-      moved (Some q) h = omega (arith, e, h)
+  found edit at len place e h = (
+    Ok (table.in_block name (edit (chunks_at s name)).answer),
+    row-calls image honest failed (table.refers edit name) (Ok (table.in_block name (edit (chunks_at s name)).answer)) v s s (refers-row image honest failed v edit s name k.tied (locked-heap image honest v s name k locked) h.0) (λ f tied choice span ref stands fresh. stands),
+    found-stands sees name locked edit at len place e h,
+  )

@@ -137,8 +137,8 @@ module _ {D : Type 0} (image : D → List ℕ) (honest : D → Type 0) (failed :
 
   -- and the model knows a file afterwards
   pub row-known : DoesRow image honest failed call result v s w t → (f : VmFile) × vm.IsFileOf image honest v s f → (f : VmFile) × vm.IsFileOf image honest w t f
-  row-known row (f, is) =
-      let b = row (memory_of old f) (record { blocks = refl; file = is; region = refl }) in
+  row-known does (f, is) =
+      let b = does (memory_of old f) (record { blocks = refl; file = is; region = refl }) in
       (b.2.file, b.3.file)
 
 -- a call that changes blocks alone

@@ -1,12 +1,11 @@
 -- What the kernel's calls make of the VM file on its device.
-use Rattle.std.specs.Prelude.{◌≡◌, ℕ, List, Bool, false, ◌==◌, Option, Some, None, Result}
+use Rattle.std.specs.Prelude.{◌≡◌, ℕ, List, Result}
 use Rattle.geos_model.specs.declared.refusal.Refusal.{Refusal}
 use Rattle.vm_file.specs.declared.commit.How.{How}
 use Rattle.vm_file.specs.declared.error.CommitError.{CommitError}
-use Rattle.vm_file.specs.Directories.{group_uid}
+use Rattle.vm_file.specs.Device.{Rose}
 use Rattle.vm_file.specs.Outcomes.{ReadsOnly}
 use Rattle.vm_file.specs.State.{FileState}
-use Rattle.vm_blocks.specs.declared.entries.Held.{Held}
 use Rattle.vm_blocks.specs.Commit.{CommitsFile}
 use Rattle.vm_blocks.specs.Listed.{directory_of, resident_of}
 use Rattle.vm_blocks.specs.Refused.{of_commit}
@@ -16,20 +15,19 @@ use Rattle.geos_kernel.specs.View.{KernelOn, file_over}
 abbrev pub file_of : {D : Type 0} → KernelOn D → FileState D
 file_of k = file_over k.device k.core.vm.file
 
--- what is listed is a group
-abbrev pub is_group_in : Option Held → Bool
-is_group_in None = false
-is_group_in (Some e) = e.uid == group_uid
-
 -- a call that asks the device nothing, and leaves what the file keeps
 pub record AsksNothing {D : Type 0} (old new : KernelOn D) : Type 0 where
   pub device : new.device ≡ old.device
   pub file : new.core.vm.file ≡ old.core.vm.file
 
--- a call that writes nothing to the device, and leaves what the file keeps
-pub record LeavesFile {D : Type 0} (image : D → List ℕ) (honest : D → Type 0) (may_leave : D → List ℕ → Type 0) (left : D → D → List ℕ → Type 0) (old new : KernelOn D) : Type 0 where
+-- a call that reads the device at most: it writes nothing, what the file keeps is the same, and
+-- the device fails, if it is honest, only where the count of failures rose, which it does nowhere
+-- else
+pub record ReadsFile {D : Type 0} (image : D → List ℕ) (honest : D → Type 0) (may_leave : D → List ℕ → Type 0) (left : D → D → List ℕ → Type 0) (failed : D → ℕ) (fails : Type 0) (old new : KernelOn D) : Type 0 where
   pub reads : ReadsOnly image honest may_leave left old.device new.device
-  pub file : file_over new.device new.core.vm.file ≡ file_over new.device old.core.vm.file
+  pub file : file_of new ≡ file_over new.device old.core.vm.file
+  pub cause : honest old.device → fails → Rose (failed old.device) (failed new.device)
+  pub counted : (fails → ⊥) → failed new.device ≡ failed old.device
 
 -- a commit of the current directory, with the blocks as they are in memory or else as the file has
 -- them: what it keeps, what each refusal leaves, and what a stop at any moment does

@@ -1,7 +1,7 @@
 -- What holds of a kernel, and what its calls promise.
 use Rattle.std.specs.Prelude.{List, [], ◌∷◌, length, set, true, Some, ◌≡◌, ◌⊎◌, ℕ, ◌-◌, ◌^◌, ◌<◌, ◌≤◌, Option, None, IsSomeAnd, Result, Ok, Err}
 use Rattle.block_handles.specs.Names.{slot_of}
-use Rattle.block_handles.specs.Store.{Store, IsThere, bytes_of, locks_of, region_len}
+use Rattle.block_handles.specs.Store.{Store, IsThere, block_at, bytes_of, locks_of, region_len}
 use Rattle.block_handles.specs.Change.{LockedStay}
 use Rattle.block_handles.specs.Layout.{IsLaidOut}
 use Rattle.block_handles.specs.Used.{IsLowest}
@@ -11,6 +11,7 @@ use Rattle.geos_model.specs.declared.name.Name.{Name}
 use Rattle.geos_model.specs.Names.{mem, vm}
 use Rattle.geos_model.specs.Block as block
 use Rattle.geos_model.specs.Chunks.{need}
+use Rattle.geos_model.specs.Edits.{Edit}
 use Rattle.geos_model.specs.Heap.{IsHeap}
 use Rattle.geos_model.specs.declared.refusal.Refusal.{Refusal}
 use Rattle.geos_table.specs.VmFile.{VmFile}
@@ -19,7 +20,8 @@ use Rattle.vm_blocks.specs.FileOf as vm
 use Rattle.vm_blocks.specs.Room.{NoneIdle, Thins, own_handle}
 use Rattle.vm_blocks.specs.Tied.{IsTied}
 use Rattle.vm_blocks.specs.Blocks.{IsLowestUnlisted}
-use Rattle.vm_blocks.specs.View.{VmState, held_at}
+use Rattle.vm_blocks.specs.View.{VmState, held_at, vm_slot}
+use Rattle.db_items.specs.Items.{room_wanted}
 use Rattle.geos_kernel.specs.declared.span.Span.{Span}
 use Rattle.geos_kernel.specs.View.{KernelState, KernelOn, failed_in, memory_of, IsFileOf}
 use Rattle.geos_kernel.specs.Spans.{Stands, SpansStay}
@@ -112,13 +114,23 @@ NewListedHasNoRoom old new = (h : ℕ) × IsLowestUnlisted old.vm h × LacksRoom
 abbrev pub ListedHasNoRoom : KernelState → ℕ → Type 0
 ListedHasNoRoom s h = IsSomeAnd (held_at s.vm h) (λ held. LacksRoom s (vm h) held.len)
 
+-- no room for a group, in the size that is listed where it is not in memory, else as large as its
+-- items need after the call
+pub record ItemHasNoRoom {A : Type 0} (s : KernelState) (g : ℕ) (edit : List (Option (List ℕ)) → Edit A) : Type 0 where
+  pub none : NoneIdle s.vm s.blocks g
+  pub no_room : HasNoRoom s.blocks (vm_slot g) (room_wanted edit (held_at s.vm g) (block_at s.blocks (vm_slot g)))
+
 -- a span stands for the reference that a row gives, or both are refused alike
 abbrev pub StandsFor : KernelState → Result Span Refusal → Result Reference Refusal → Type 0
 StandsFor s (Ok span) (Ok ref) = Stands s span ref
 StandsFor s (Err a) (Err b) = a ≡ b
 StandsFor s _ _ = ⊥
 
--- a call answers a span that stands for the reference that its row gives, or refuses as the
--- row does; nothing changes
+-- a call answers a span that stands then for the reference that its row gives, or refuses as the
+-- row does
+abbrev pub LeadsToSpan : Type 0 → Call Reference → Result Span Refusal → KernelState → KernelState → Type 0
+LeadsToSpan good call result old new = (given : Result Reference Refusal) × Calls good call given old new × StandsFor new result given
+
+-- the same of a call that changes nothing
 abbrev pub GivesSpan : Type 0 → Call Reference → Result Span Refusal → KernelState → Type 0
-GivesSpan good call result s = (given : Result Reference Refusal) × Calls good call given s s × StandsFor s result given
+GivesSpan good call result s = LeadsToSpan good call result s s

@@ -7,10 +7,10 @@ ghost use Rattle.vm_blocks.specs.Listed.{NoneLocked};
 ghost use Rattle.vm_blocks.specs.Room as room;
 ghost use Rattle.vm_blocks.specs.Tied.{IsTied};
 ghost use Rattle.geos_kernel.specs.Kernel.{MakesRoomFor};
-ghost use Rattle.geos_kernel.specs.Refused.{of_handle};
 
+use crate::refused::of_handle;
 use crate::span::Span;
-use block_handles::{Blocks, HandleError};
+use block_handles::Blocks;
 use geos_model::{Name, Owner, Refusal};
 use geos_table::{Ask, Change, Make, Refer};
 use heap_calls::{find, tell};
@@ -258,17 +258,6 @@ fn none_locked(blocks: &Blocks) -> bool
         }
     }
     true
-}
-
-/// Why a block was not locked or freed, as the kernel says it.
-fn of_handle(done: Result<(), HandleError>) -> Result<(), Refusal>
-    ensures { result ≡ of_handle done }
-{
-    match done {
-        Ok(()) => Ok(()),
-        Err(HandleError::BadHandle) => Err(Refusal::BadHandle),
-        Err(HandleError::Locked) => Err(Refusal::Locked),
-    }
 }
 
 /// Makes a block of 64 bytes with no chunk, for which others are discarded, and locks it.

@@ -10,9 +10,12 @@ mod access;
 mod array_calls;
 mod chunk_calls;
 mod in_memory;
+mod item_calls;
 mod kernel;
 mod law;
+mod refused;
 mod span;
+mod vm_calls;
 
 pub use geos_model::{Name, Owner, Refusal};
 pub use geos_table::{Ask, Change, Make, Refer};

@@ -1,9 +1,20 @@
-use Rattle.std.proofs.Common.{sym, subst}
+use Rattle.std.proofs.Common.{◌≡◌, ◌⊎◌, inl, inr, refl, sym, subst}
 use Rattle.std.specs.Prelude.{Err}
 use Rattle.geos_model.specs.declared.refusal.Refusal.{Refusal}
+use Rattle.geos_model.specs.declared.refusal.Refusal.TheVariants as refusal
 use Rattle.geos_table.specs.ItemCalls.{gnew}
+use Rattle.vm_blocks.specs.declared.error.NewError.{NewError}
+use Rattle.vm_blocks.specs.declared.error.NewError.TheVariants as error
+use Rattle.vm_blocks.specs.Refused.{why_not_made}
 use Rattle.vm_blocks.specs.DoesRow.{DoesRow}
 use Rattle.db_items.proofs.groups.group_new.Goals as goal
+
+only-two : (why : NewError) → (why_not_made why ≡ refusal.NoHandle) ⊎ (why_not_made why ≡ refusal.NoRoom)
+only-two error.NoHandle = inl refl
+only-two error.NoRoom = inr refl
+
+pub returns-in-Err-clause-why : goal.returns-in-Err-clause-why
+returns-in-Err-clause-why g c = subst (λ (r : Refusal). (r ≡ refusal.NoHandle) ⊎ (r ≡ refusal.NoRoom)) (sym c.why_not_made.ensures) (only-two c.in-Err.why)
 
 pub returns-in-Err-clause-row : goal.returns-in-Err-clause-row
 returns-in-Err-clause-row g c =

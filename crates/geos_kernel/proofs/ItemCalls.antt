@@ -1,0 +1,154 @@
+-- The calls on groups and items, by what was done below.
+use Rattle.std.proofs.Common.{◌≡◌, ◌≢◌, ℕ, ◌<◌, ◌⊎◌, ◌+◌, Bool, true, false, List, Option, refl, sym, ap, ◌∙◌, arith, subst, inl, inr}
+use Rattle.std.specs.Prelude.{Result, Ok, Err, OnErr, OnOk}
+use Rattle.std.proofs.lemmas.Bool.{cases_eq}
+use Rattle.geos_model.specs.declared.refusal.Refusal.{Refusal}
+use Rattle.geos_model.specs.declared.refusal.Refusal.TheVariants as refusal
+use Rattle.geos_model.specs.Edits.{Edit, refer}
+use Rattle.geos_model.specs.Names.{vm}
+use Rattle.geos_table.specs.Calls.{in_block}
+use Rattle.geos_table.specs.Effects.{Call, Choice, InBlock, Reference, effect_of}
+use Rattle.geos_table.specs.Given.{given_memory}
+use Rattle.geos_table.specs.ItemCalls.{ilock, in_group}
+use Rattle.geos_table.specs.Memory.{is_group}
+use Rattle.geos_table.specs.VmFile.{VmFile}
+use Rattle.block_handles.specs.Names.{slot_of}
+use Rattle.block_handles.specs.Store.{Store, IsThere, locks_of, place_of}
+use Rattle.block_handles.proofs.Laws.{handle_of_there, same-name}
+use Rattle.block_handles.proofs.Layouts.{there_of_locks}
+use Rattle.vm_blocks.specs.Bring.{Keeps, LockedMore}
+use Rattle.vm_blocks.specs.DoesRow.{DoesRow}
+use Rattle.vm_blocks.specs.View.{VmState, vm_slot, with_device}
+use Rattle.heap_calls.proofs.Changing.{goes-free}
+use Rattle.db_items.specs.Groups.{IsGroup, ReadsDevice}
+use Rattle.db_items.specs.Items.{ChangesItem, LocksItem, refers_to}
+use Rattle.db_items.proofs.Told.{group-told, is_group-given}
+use Rattle.geos_kernel.specs.declared.span.Span.{Span}
+use Rattle.geos_kernel.specs.Files.{ReadsFile}
+use Rattle.geos_kernel.specs.Kernel.{Calls, IsKernel, LeadsToSpan, NeverFell}
+use Rattle.geos_kernel.specs.Spans.{IsStanding, SpansStay, Stands}
+use Rattle.geos_kernel.specs.View.{KernelOn, KernelState, core_of, kernel_of, memory_of, IsFileOf}
+use Rattle.geos_kernel.proofs.Listed.{StaysLocked, calls-beside, keeps-locked, more-locked, same-locked}
+use Rattle.geos_kernel.proofs.Looks.{found-stands}
+use Rattle.geos_kernel.proofs.Seen.{memory-known, row-answers}
+use Rattle.geos_kernel.proofs.Stays.{spans-same, stands-same}
+use Rattle.geos_kernel.proofs.VmCalls.{stayed-or-rose}
+
+-- the device refused, or it did not
+refused-disk : {A : Type 0} (r : Result A Refusal) → (r ≡ Err refusal.Disk) ⊎ (r ≡ Err refusal.Disk → ⊥)
+refused-disk (Ok answer) = inr (λ e. absurd cc)
+refused-disk (Err refusal.BadHandle) = inr (λ e. absurd cc)
+refused-disk (Err refusal.BadChunk) = inr (λ e. absurd cc)
+refused-disk (Err refusal.Short) = inr (λ e. absurd cc)
+refused-disk (Err refusal.NoRoom) = inr (λ e. absurd cc)
+refused-disk (Err refusal.NoHandle) = inr (λ e. absurd cc)
+refused-disk (Err refusal.TooBig) = inr (λ e. absurd cc)
+refused-disk (Err refusal.Locked) = inr (λ e. absurd cc)
+refused-disk (Err refusal.BadArray) = inr (λ e. absurd cc)
+refused-disk (Err refusal.BadElement) = inr (λ e. absurd cc)
+refused-disk (Err refusal.Full) = inr (λ e. absurd cc)
+refused-disk (Err refusal.Disk) = inl refl
+refused-disk (Err refusal.Unsure) = inr (λ e. absurd cc)
+refused-disk (Err refusal.Memory) = inr (λ e. absurd cc)
+refused-disk (Err refusal.Range) = inr (λ e. absurd cc)
+refused-disk (Err refusal.Reserved) = inr (λ e. absurd cc)
+
+module _ {D : Type 0} (image : D → List ℕ) (honest : D → Type 0) (may_leave : D → List ℕ → Type 0) (left : D → D → List ℕ → Type 0) (failed : D → ℕ) (v w : VmState D) (s t : Store) (g : ℕ) (k : IsKernel image honest v s) where
+  -- an honest device has failed more often, or as often
+  item-lasts : {A : Type 0} (r : Result A Refusal) → ReadsDevice image honest may_leave left failed (r ≡ Err refusal.Disk) v w → NeverFell (honest v.file.device) (core_of image failed v s) (core_of image failed w t)
+  item-lasts r device = stayed-or-rose (honest v.file.device) (r ≡ Err refusal.Disk) (failed v.file.device) (failed w.file.device) (refused-disk r) device.cause device.counted
+
+  -- spans in other blocks stay
+  others-stand : Keeps v s t g → (f : VmFile) → SpansStay (core_of image failed v s) (core_of image failed w t) f (InBlock (vm g))
+  others-stand keeps f span ref stands fresh = elim (cases_eq (slot_of ref.name) (vm_slot g)) [
+    | inl same ↦ (
+        let there = there_of_locks s (slot_of ref.name) stands.locked in
+        absurd (fresh (same-name ref.name (vm g) (handle_of_there s s ref.name refl k.laid there) (handle_of_there s s (vm g) refl k.laid (subst (IsThere s) same there)) same))
+        )
+    | inr apart ↦ (let kept = goes-free v s t g (slot_of ref.name) stands.locked (keeps.each (slot_of ref.name) apart) in stands-same (core_of image failed v s) (core_of image failed w t) span ref kept.0 kept.1 stands)
+  ]
+
+  module _ {A : Type 0} (call : Call A) (edit : List (Option (List ℕ)) → Edit A) (r : Result A Refusal) (changes : ChangesItem image honest may_leave left failed call edit g r v w s t) where
+    -- in a group they go stale, and where there is none nothing has changed
+    item-spans : (f : VmFile) → IsFileOf (honest v.file.device) (core_of image failed v s) f → (choice : Choice) → SpansStay (core_of image failed v s) (core_of image failed w t) f (in_group (given_memory choice.given (memory_of (core_of image failed v s) f)) g)
+    item-spans f tied choice = on (is_group (given_memory choice.given (memory_of (core_of image failed v s) f)) g) refl
+      where
+        on : (is : Bool) → is_group (given_memory choice.given (memory_of (core_of image failed v s) f)) g ≡ is
+            → SpansStay (core_of image failed v s) (core_of image failed w t) f (in_group (given_memory choice.given (memory_of (core_of image failed v s) f)) g)
+        on true e = rw e (others-stand changes.keeps f)
+        on false e =
+            let none : IsGroup v g → ⊥ = λ group.
+                let is : is_group (memory_of (core_of image failed v s) f) g ≡ true = group-told image honest v s k.tied (memory_of (core_of image failed v s) f) (memory-known image honest failed v s f tied) g group in
+                let given = is_group-given choice.given (memory_of (core_of image failed v s) f) g in
+                let both : false ≡ true = sym e ∙ given ∙ is in
+                absurd cc in
+            spans-same (core_of image failed v s) (core_of image failed w t) f (in_group (given_memory choice.given (memory_of (core_of image failed v s) f)) g) (changes.no_group none).2
+
+    pub item-calls : ((choice : Choice) (f : VmFile) → (effect_of call choice (memory_of (core_of image failed v s) f)).stale ≡ in_group (given_memory choice.given (memory_of (core_of image failed v s) f)) g)
+        → Calls (honest v.file.device) call r (core_of image failed v s) (core_of image failed w t)
+    item-calls stale = record {
+      answers = row-answers image honest failed call r v s w t changes.row changes.device.reads.stays (item-lasts r changes.device);
+      spans = λ f tied choice. subst (SpansStay (core_of image failed v s) (core_of image failed w t) f) (sym (stale choice f)) (item-spans f tied choice);
+    }
+
+  -- a group that is locked for an item
+  module _ (i n : ℕ) (r : Result (ℕ × ℕ) Refusal) (locks : LocksItem image honest may_leave left failed g i n r v w s t) where
+    own-locked : StaysLocked s t (vm_slot g)
+    own-locked = on r locks.ok locks.refused
+      where
+        on : (r : Result (ℕ × ℕ) Refusal) → OnOk r (LockedMore s t g) → OnErr r (IsThere s (vm_slot g) → t ≡ s) → StaysLocked s t (vm_slot g)
+        on (Ok place) ok refused = more-locked s t g ok
+        on (Err why) ok refused = λ some. same-locked s t (refused (there_of_locks s (vm_slot g) some)) (vm_slot g) some
+
+    pub ilock-calls : Calls (honest v.file.device) (ilock g i n) (refers_to g i r) (core_of image failed v s) (core_of image failed w t)
+    ilock-calls = calls-beside image honest failed v w s t (ilock g i n) (refers_to g i r) locks.row locks.device.reads.stays (item-lasts r locks.device) (keeps-locked v s t g locks.keeps own-locked)
+
+  -- the item was found
+  pub ilock-gives : (i n at len place : ℕ) → LocksItem image honest may_leave left failed g i n (Ok (at, len)) v w s t → place ≡ place_of t (vm_slot g)
+      → LeadsToSpan (honest v.file.device) (ilock g i n) (Ok (record { at = place + at; len = len })) (core_of image failed v s) (core_of image failed w t)
+  ilock-gives i n at len place locks e =
+      let more = locks.ok in
+      let locked : 0 < locks_of t (vm_slot g) = omega (arith, more.locks) in
+      let stands = found-stands (core_of image failed w t) (vm g) locked (refer i n) at len place e locks.finds in (
+        refers_to g i (Ok (at, len)),
+        ilock-calls i n (Ok (at, len)) locks,
+        subst (λ l. Stands (core_of image failed w t) (record { at = place + at; len = len }) (in_block (vm g) (record { chunk = i; start = 0; len = l }))) (sym locks.finds.1) stands,
+      )
+
+  pub ilock-refuses : (i n : ℕ) (why : Refusal) → LocksItem image honest may_leave left failed g i n (Err why) v w s t
+      → LeadsToSpan (honest v.file.device) (ilock g i n) (Err why) (core_of image failed v s) (core_of image failed w t)
+  ilock-refuses i n why locks = (Err why, ilock-calls i n (Err why) locks, refl)
+
+-- a span that a call gives stands for some reference
+pub leads-standing : (good : Type 0) (call : Call Reference) (span : Span) (s t : KernelState) → LeadsToSpan good call (Ok span) s t → IsStanding t span
+leads-standing good call span s t (Ok ref, answers, stands) = (ref, stands)
+leads-standing good call span s t (Err refusal, answers, stands) = absurd stands
+
+-- What becomes of the file
+
+same-why : (why : Refusal) → ◌≡◌ {A = Result Span Refusal} (Err why) (Err refusal.Disk) → ◌≡◌ {A = Result (ℕ × ℕ) Refusal} (Err why) (Err refusal.Disk)
+same-why why e = let same : why ≡ refusal.Disk = cc in ap Err same
+
+why-same : (why : Refusal) → ◌≡◌ {A = Result (ℕ × ℕ) Refusal} (Err why) (Err refusal.Disk) → ◌≡◌ {A = Result Span Refusal} (Err why) (Err refusal.Disk)
+why-same why e = let same : why ≡ refusal.Disk = cc in ap Err same
+
+module _ {D : Type 0} (image : D → List ℕ) (honest : D → Type 0) (may_leave : D → List ℕ → Type 0) (left : D → D → List ℕ → Type 0) (failed : D → ℕ) (v w : VmState D) (s t : Store) (k : KernelOn D) (is : kernel_of image failed v s ≡ k) (g i n : ℕ) where
+  reads-file : {fails ends : Type 0} → (ends → fails) → (fails → ends) → w ≡ with_device v w.file.device → ReadsDevice image honest may_leave left failed fails v w → ReadsFile image honest may_leave left failed ends k (kernel_of image failed w t)
+  reads-file {ends = ends} one other same device = subst (λ x. ReadsFile image honest may_leave left failed ends x (kernel_of image failed w t)) is (record {
+    reads = device.reads;
+    file = ap (λ (x : VmState D). x.file) same;
+    cause = λ good failed. device.cause good (one failed);
+    counted = λ never. device.counted (λ failed. never (other failed));
+  })
+
+  pub ilock-reads : (at len : ℕ) (span : Span) → LocksItem image honest may_leave left failed g i n (Ok (at, len)) v w s t → ReadsFile image honest may_leave left failed (◌≡◌ {A = Result Span Refusal} (Ok span) (Err refusal.Disk)) k (kernel_of image failed w t)
+  ilock-reads at len span locks = reads-file (λ e. absurd cc) (λ e. absurd cc) locks.same locks.device
+
+  pub ilock-failed : (why : Refusal) → LocksItem image honest may_leave left failed g i n (Err why) v w s t → ReadsFile image honest may_leave left failed (◌≡◌ {A = Result Span Refusal} (Err why) (Err refusal.Disk)) k (kernel_of image failed w t)
+  ilock-failed why locks = reads-file (same-why why) (why-same why) locks.same locks.device
+
+-- The map item
+
+pub mapped-file : {D A E : Type 0} (v w : VmState D) (item : ℕ × ℕ) (r : Result A E) → OnOk r (w ≡ record v { map_item = item }) → OnErr r (w ≡ v) → w.file ≡ v.file
+mapped-file {D} v w item (Ok done) ok err = ap (λ (x : VmState D). x.file) ok
+mapped-file {D} v w item (Err why) ok err = ap (λ (x : VmState D). x.file) err

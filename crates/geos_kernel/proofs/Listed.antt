@@ -1,0 +1,185 @@
+-- What calls on blocks of the file make of the kernel.
+use Rattle.std.proofs.Common.{◌≡◌, ◌≢◌, ℕ, ◌+◌, ◌-◌, ◌<◌, ◌≤◌, List, Option, Some, None, refl, sym, ap, ◌∙◌, arith, subst, inl, inr}
+use Rattle.std.specs.Prelude.{Result, Ok, Err}
+use Rattle.std.proofs.lemmas.Bool.{cases_eq}
+use Rattle.geos_model.specs.declared.name.Name.{Name}
+use Rattle.geos_model.specs.declared.name.Owner.{Owner}
+use Rattle.geos_model.specs.declared.name.Owner.TheVariants.{Mem, Vm}
+use Rattle.geos_model.specs.declared.refusal.Refusal.{Refusal}
+use Rattle.geos_model.specs.Block as block
+use Rattle.geos_model.specs.Heap.{IsHeap}
+use Rattle.geos_model.specs.Names.{mem, named, vm as vm_name}
+use Rattle.geos_table.specs.Effects.{Call, Staleness, effect_of}
+use Rattle.geos_table.specs.VmFile.{VmFile}
+use Rattle.block_handles.specs.Layout.{IsLaidOut}
+use Rattle.block_handles.specs.Names.{IsHandle, slot_of}
+use Rattle.block_handles.specs.Store.{Block, Store, block_at, bytes_in, bytes_of, IsBlock, IsThere, locks_in, locks_of, place_of}
+use Rattle.block_handles.proofs.Laws.{handle_of_there}
+use Rattle.block_handles.proofs.Layouts.{there_of_locks}
+use Rattle.vm_blocks.specs.declared.entries.Held.{Held}
+use Rattle.vm_file.specs.declared.commit.How.{How}
+use Rattle.vm_file.specs.declared.commit.How.TheVariants.{Update, Save, Revert}
+use Rattle.vm_blocks.specs.Bring.{Drops, Keeps, KeptOrGoes, LockedMore, NotBrought}
+use Rattle.vm_blocks.specs.DoesRow.{DoesRow}
+use Rattle.vm_blocks.specs.FileOf as vm
+use Rattle.vm_blocks.specs.Listed.{DropsAll, NoneLocked, StoreAfter}
+use Rattle.vm_blocks.specs.Room.{StaysOrGoes, Thins}
+use Rattle.vm_blocks.specs.Tied.{IsTied, TiedAt}
+use Rattle.vm_blocks.specs.View.{VmState, held_at, vm_slot}
+use Rattle.vm_blocks.proofs.Slots.{slot-is}
+use Rattle.vm_blocks.proofs.Tables.{handle-or}
+use Rattle.heap_calls.proofs.Changing.{goes-free}
+use Rattle.heap_calls.proofs.Kept.{mem-kept}
+use Rattle.heap_calls.proofs.Named.{slot_of-mem, slot_of-past}
+use Rattle.heap_calls.proofs.Rows.{few-named}
+use Rattle.geos_kernel.specs.View.{core_of, memory_of, IsFileOf}
+use Rattle.geos_kernel.specs.Spans.{SpansStay}
+use Rattle.geos_kernel.specs.Kernel.{Calls, IsKernel, NeverFell}
+use Rattle.geos_kernel.proofs.Seen.{memory-known, row-answers}
+use Rattle.geos_kernel.proofs.Stays.{stands-on, thins-locked}
+
+-- a locked slot keeps its bytes and its place, and stays locked
+abbrev pub StaysLocked : Store → Store → ℕ → Type 0
+StaysLocked s t slot = 0 < locks_of s slot → (bytes_of t slot ≡ bytes_of s slot) × (0 < locks_of t slot) × (place_of t slot ≡ place_of s slot)
+
+-- every locked slot does
+abbrev pub AllStayLocked : Store → Store → Type 0
+AllStayLocked s t = (slot : ℕ) → StaysLocked s t slot
+
+-- each block of global memory is as it was
+abbrev pub MemStays : Store → Store → Type 0
+MemStays s t = (h : ℕ) → IsHandle h → block_at t (slot_of (mem h)) ≡ block_at s (slot_of (mem h))
+
+-- Blocks that stay
+
+pub same-locked : (s t : Store) → t ≡ s → AllStayLocked s t
+same-locked s t same slot some = (ap (λ u. bytes_of u slot) same, subst (λ u. 0 < locks_of u slot) (sym same) some, ap (λ u. place_of u slot) same)
+
+pub same-mem : (s t : Store) → t ≡ s → MemStays s t
+same-mem s t same h p = ap (λ u. block_at u (slot_of (mem h))) same
+
+block-stays : (s t : Store) (slot : ℕ) → (block_at t slot ≡ block_at s slot) × (place_of t slot ≡ place_of s slot) → StaysLocked s t slot
+block-stays s t slot same some = (ap bytes_in same.0, subst (λ o. 0 < locks_in o) (sym same.0) some, same.1)
+
+-- a slot of global memory is none of a block of the file
+apart : (h k : ℕ) → IsHandle h → slot_of (mem h) ≢ vm_slot k
+apart h k p e = elim (handle-or {X = ℕ} 0 k) [
+  | inl q ↦ (let low = slot_of-mem h p in let high = slot-is k q in let some = q.0 in let most = p.1 in omega (arith, low, high, some, most, e))
+  | inr past ↦ (let low = slot_of-mem h p in let high = slot_of-past Vm k past in let most = p.1 in omega (arith, low, high, most, e))
+]
+
+module _ {D : Type 0} (v : VmState D) (s t : Store) (h : ℕ) (keeps : Keeps v s t h) where
+  -- all but one of the file stay
+  pub keeps-locked : StaysLocked s t (vm_slot h) → AllStayLocked s t
+  keeps-locked own slot = elim (cases_eq slot (vm_slot h)) [
+    | inl same ↦ subst (StaysLocked s t) (sym same) own
+    | inr ne ↦ (λ some. block-stays s t slot (goes-free v s t h slot some (keeps.each slot ne)) some)
+  ]
+
+  pub keeps-mem : MemStays s t
+  keeps-mem k p = (let low = slot_of-mem k p in let most = p.1 in mem-kept v s t h (slot_of (mem k)) (omega (arith, low, most)) (keeps.each (slot_of (mem k)) (apart k h p)))
+
+pub more-locked : (s t : Store) (h : ℕ) → LockedMore s t h → StaysLocked s t (vm_slot h)
+more-locked s t h more some =
+    let there = there_of_locks s (vm_slot h) some in
+    (more.bytes there, omega (arith, more.locks), more.place there)
+
+pub not-locked : (s t : Store) (h : ℕ) → NotBrought s t h → StaysLocked s t (vm_slot h)
+not-locked s t h not some = same-locked s t (not.stays (there_of_locks s (vm_slot h) some)) (vm_slot h) some
+
+pub drops-keeps : {D : Type 0} (v : VmState D) (s t : Store) (h : ℕ) → IsLaidOut s → Drops s t h → Keeps v s t h
+drops-keeps v s t h laid drops = record { each = λ slot ne. inl (drops.others slot ne, λ some. drops.places slot ne); laid = drops.laid laid; len = drops.len }
+
+-- blocks were discarded
+module _ {D : Type 0} (v : VmState D) (s t : Store) (but : ℕ) (thins : Thins v s t but) where
+  pub thins-all : AllStayLocked s t
+  thins-all slot some = block-stays s t slot (thins-locked v s t but thins slot some) some
+
+  pub thins-mem : MemStays s t
+  thins-mem k p = (let low = slot_of-mem k p in let most = p.1 in mem-kept v s t but (slot_of (mem k)) (omega (arith, low, most)) (on (thins.each (slot_of (mem k)))))
+    where
+      on : StaysOrGoes v s t but (slot_of (mem k)) → KeptOrGoes v s t but (slot_of (mem k))
+      on (inl same) = inl (same.0, λ some. same.1)
+      on (inr goes) = inr goes
+
+-- the blocks of the file were dropped, none of which was locked
+module _ (s t : Store) (none : NoneLocked s) (drops : DropsAll s t) where
+  other : (slot : ℕ) → 0 < locks_of s slot → (h : ℕ) → IsHandle h → slot ≢ vm_slot h
+  other slot some h p same = (let free = none h p in let here = ap (locks_of s) same in omega (arith, some, free, here))
+
+  pub dropped-all : AllStayLocked s t
+  dropped-all slot some = block-stays s t slot (drops.others slot (other slot some), drops.places slot (other slot some)) some
+
+  pub dropped-mem : MemStays s t
+  dropped-mem k p = drops.others (slot_of (mem k)) (λ h q. apart k h p)
+
+-- what a commit leaves
+pub after-all : (how : How) (s t : Store) → NoneLocked s → StoreAfter how s t → AllStayLocked s t
+after-all Update s t none after = same-locked s t after
+after-all Save s t none after = same-locked s t after
+after-all Revert s t none after = dropped-all s t none after
+
+pub after-mem : (how : How) (s t : Store) → NoneLocked s → StoreAfter how s t → MemStays s t
+after-mem Update s t none after = same-mem s t after
+after-mem Save s t none after = same-mem s t after
+after-mem Revert s t none after = dropped-mem s t none after
+
+pub after-len : (how : How) (s t : Store) → StoreAfter how s t → t.len ≡ s.len
+after-len Update s t after = ap (λ (u : Store). u.len) after
+after-len Save s t after = ap (λ (u : Store). u.len) after
+after-len Revert s t after = after.len
+
+-- Blocks of a kernel
+
+-- a block of the file in memory is a heap under its handle
+tied-heap : {D : Type 0} (image : D → List ℕ) (honest : D → Type 0) (w : VmState D) (h : ℕ) (e : Option Held) (b : Option Block) → TiedAt image honest w.file h e b → IsBlock b → IsHeap (bytes_in b) × (block.handle_word (bytes_in b) ≡ h)
+tied-heap image honest w h None None t there = absurd there
+tied-heap image honest w h None (Some b) t there = absurd t
+tied-heap image honest w h (Some e) None t there = absurd there
+tied-heap image honest w h (Some e) (Some b) t there = (t.heap, t.handle)
+
+no-locks : (o : Option Block) → (IsBlock o → locks_in o ≤ 65535) → locks_in o ≤ 65535
+no-locks None few = omega arith
+no-locks (Some b) few = few tt
+
+module _ {D : Type 0} (image : D → List ℕ) (honest : D → Type 0) (failed : D → ℕ) (v w : VmState D) (s t : Store) where
+  -- they still are one's where those of global memory stay
+  pub kernel-beside : IsKernel image honest v s → IsTied image honest w t → MemStays s t → t.len ≡ s.len → ((f : VmFile) × vm.IsFileOf image honest w t f) → IsKernel image honest w t
+  kernel-beside k tied stays len known = record {
+    laid = tied.laid;
+    heaps = λ n there. (both n.owner n.h there).0;
+    handles = λ n there. (both n.owner n.h there).1;
+    few = λ n. counts n.owner n.h;
+    tied = tied;
+    known = known;
+    small = rw len k.small;
+  }
+    where
+      handle : (owner : Owner) (h : ℕ) → IsThere t (slot_of (named owner h)) → IsHandle h
+      handle owner h there = handle_of_there t t (named owner h) refl tied.laid there
+
+      both : (owner : Owner) (h : ℕ) → IsThere t (slot_of (named owner h)) → IsHeap (bytes_of t (slot_of (named owner h))) × (block.handle_word (bytes_of t (slot_of (named owner h))) ≡ h)
+      both Mem h there =
+          let is = stays h (handle Mem h there) in
+          let before = subst IsBlock is there in
+          (subst (λ o. IsHeap (bytes_in o)) (sym is) (k.heaps (mem h) before), ap (λ o. block.handle_word (bytes_in o)) is ∙ k.handles (mem h) before)
+      both Vm h there = tied-heap image honest w h (held_at w h) (block_at t (vm_slot h)) (tied.each h (handle Vm h there)) there
+
+      counts : (owner : Owner) (h : ℕ) → locks_of t (slot_of (named owner h)) ≤ 65535
+      counts Mem h = no-locks (block_at t (slot_of (mem h))) (λ there. (let is = stays h (handle Mem h there) in subst (λ o. locks_in o ≤ 65535) (sym is) (k.few (mem h))))
+      counts Vm h =
+          no-locks (block_at t (vm_slot h)) (λ there. few-named image honest w t tied (memory_of (core_of image failed w t) known.0) (record { blocks = refl; file = known.1; region = refl }) (vm_name h) there refl)
+
+  -- spans stay where the locked blocks do
+  pub spans-beside : AllStayLocked s t → (f : VmFile) (stale : Staleness) → SpansStay (core_of image failed v s) (core_of image failed w t) f stale
+  spans-beside stay f stale span ref stands fresh =
+      let own = stay (slot_of ref.name) stands.locked in
+      stands-on (core_of image failed v s) (core_of image failed w t) span ref own.0 own.1 own.2 stands
+
+  -- a call that does its row
+  pub calls-beside : {A : Type 0} (call : Call A) (result : Result A Refusal) → DoesRow image honest failed call result v s w t → (honest v.file.device → honest w.file.device)
+      → NeverFell (honest v.file.device) (core_of image failed v s) (core_of image failed w t) → AllStayLocked s t → Calls (honest v.file.device) call result (core_of image failed v s) (core_of image failed w t)
+  calls-beside call result row still lasts stay = record {
+    answers = row-answers image honest failed call result v s w t row still lasts;
+    spans = λ f tied choice. spans-beside stay f (effect_of call choice (memory_of (core_of image failed v s) f)).stale;
+  }

@@ -1,0 +1,39 @@
+use Rattle.std.proofs.Common.{◌≡◌, false, true, ◌<◌, Err, refl, subst}
+use Rattle.geos_model.specs.declared.refusal.Refusal.TheVariants.{Reserved}
+use Rattle.geos_table.specs.VmCalls.{free_listed, vfree}
+use Rattle.block_handles.specs.Store.{locks_of}
+use Rattle.vm_blocks.specs.declared.error.FreeError.TheVariants.{Locked}
+use Rattle.vm_blocks.specs.Refused.{of_free}
+use Rattle.vm_blocks.specs.View.{vm_slot}
+use Rattle.db_items.specs.Groups.{IsGroup}
+use Rattle.geos_kernel.specs.Kernel.{Calls}
+use Rattle.geos_kernel.specs.View.{core_of}
+use Rattle.geos_kernel.proofs.ListedRows.{vfree-group-row, vfree-row}
+use Rattle.geos_kernel.proofs.VmCalls.{freed-calls, freed-kernel, not-locked-ok, still-calls}
+use Rattle.geos_kernel.proofs.kernel.Kernel.vfree.Goals as goal
+
+pub returns-then-is_group-clause-calls : goal.returns-then-is_group-clause-calls
+returns-then-is_group-clause-calls g c =
+    let d = g.D.Device in let v = c.self.inside.vm in let s = c.self.inside.blocks in
+    let h = c.args.h in
+    let row = vfree-group-row d.image d.honest d.failed v s c.self.invariant.tied h (c.if-is_group.ensures.0 refl) in
+    subst (λ k. Calls (d.honest k.device) (vfree h) (Err Reserved) k.core k.core) c.self.view_is (still-calls d.image d.honest d.failed v v s c.self.invariant refl (vfree h) (Err Reserved) row)
+
+pub invariant_of-self : goal.invariant_of-self
+invariant_of-self g c =
+    let d = g.D.Device in let v = c.self.inside.vm in let s = c.self.inside.blocks in
+    let w = c.vfree-freed.new.self in let t = c.vfree-freed.new.blocks in let r = c.vfree-freed.result in let h = c.args.h in
+    let e = c.vfree-freed.ensures in
+    let free = not-locked-ok r Locked (0 < locks_of s (vm_slot h)) e.locked.1 in
+    freed-kernel d.image d.honest d.failed v w s t h c.self.invariant r e.state e.drops e.err free (free_listed h) (of_free r) e.tied e.row
+
+pub returns-clause-calls : goal.returns-clause-calls
+returns-clause-calls g c =
+    let d = g.D.Device in let v = c.self.inside.vm in let s = c.self.inside.blocks in
+    let w = c.vfree-freed.new.self in let t = c.vfree-freed.new.blocks in let r = c.vfree-freed.result in let h = c.args.h in
+    let e = c.vfree-freed.ensures in
+    let free = not-locked-ok r Locked (0 < locks_of s (vm_slot h)) e.locked.1 in
+    let none : IsGroup v h → ⊥ = λ group. (let is : false ≡ true = c.if-is_group.ensures.1 group in absurd cc) in
+    let row = vfree-row d.image d.honest d.failed v s c.self.invariant.tied h none w t (of_free r) e.row in
+    let calls = freed-calls d.image d.honest d.failed v w s t h c.self.invariant r e.state e.drops e.err free (vfree h) (of_free r) row in
+    rw c.of_free.ensures (subst (λ k. Calls (d.honest k.device) (vfree h) (of_free r) k.core (core_of d.image d.failed w t)) c.self.view_is calls)

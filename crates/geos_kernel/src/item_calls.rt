@@ -1,0 +1,174 @@
+//! The kernel's calls on groups of the VM file, and on items.
+
+ghost use Rattle.std.specs.Prelude.{◌≡◌, ◌≤◌, Ok, Err, IfOk};
+
+use crate::kernel::Kernel;
+use crate::span::Span;
+use db_items::{
+    group_free, group_new, item_change, item_lock_part, item_make, map_item, set_map_item,
+};
+use geos_model::{Name, Refusal};
+use geos_table::{Change, Make};
+use vm_file::Device;
+
+impl<D: Device + Drop> Kernel<D> {
+    ghost use Rattle.geos_model.specs.declared.name.Owner.TheVariants as owner;
+    ghost use Rattle.geos_model.specs.Edits.{alloc, delete_bytes, free, insert_bytes, realloc};
+    ghost use Rattle.geos_model.specs.Names.{vm};
+    ghost use Rattle.geos_table.specs.ChunkCalls.{change_edit, change_row, make_edit, make_row};
+    ghost use Rattle.geos_table.specs.ItemCalls as table;
+    ghost use Rattle.geos_kernel.specs.Files.{AsksNothing, ReadsFile};
+    ghost use Rattle.geos_kernel.specs.Kernel.{Calls, ItemHasNoRoom, LeadsToSpan, LeavesVm, ListedHasNoRoom, NewListedHasNoRoom};
+    ghost use Rattle.geos_kernel.specs.Spans.{IsStanding};
+    ghost use Rattle.geos_kernel.specs.View.{IsLocked, IsMarked};
+
+    /// Makes a group of 64 bytes with no item, under the lowest handle of the file that is free, and
+    /// marks it; it is not locked. `NoHandle` where all 1,024 handles are listed, `NoRoom` where no
+    /// stretch of the region has room for it, though no block is left that could be discarded.
+    pub fn gnew(&mut self) -> Result<u16, Refusal>
+        ensures calls { Calls (D.honest self.old.device) table.gnew result self.old.core self.new.core }
+        ensures no_room { result ≡ Err Refusal.NoRoom → NewListedHasNoRoom self.old.core self.new.core }
+        ensures device { AsksNothing self.old self.new }
+    {
+        group_new(&mut self.vm, &mut self.blocks)
+    }
+
+    /// Frees a group, and its items with it; the map item is none then if it was of this group.
+    /// `BadHandle` where there is no such group, `Locked` where it is locked.
+    pub fn gfree(&mut self, g: u16) -> Result<(), Refusal>
+        ensures calls { Calls (D.honest self.old.device) (table.gfree g) result self.old.core self.new.core }
+        ensures device { AsksNothing self.old self.new }
+    {
+        group_free(&mut self.vm, &mut self.blocks, g)
+    }
+
+    /// Changes the items of a group, as the value says, and marks it; it is brought into memory first.
+    /// `BadHandle` where there is no such group, `NoRoom` and `Disk` where it does not come into
+    /// memory, as `vlock` says; then refused as `change` is, an item being a chunk of the group. Spans
+    /// into the group are stale after it, also where it is refused.
+    pub fn item_change(&mut self, g: u16, change: Change) -> Result<(), Refusal>
+        ensures calls { Calls (D.honest self.old.device) (table.on_group g (change_row (vm g) change)) result self.old.core self.new.core }
+        ensures no_room { result ≡ Err Refusal.NoRoom → ItemHasNoRoom self.new.core g (change_edit change) }
+        ensures device { ReadsFile D.image D.honest D.may_leave D.may_have_left D.failed (result ≡ Err Refusal.Disk) self.old self.new }
+    {
+        item_change(&mut self.vm, &mut self.blocks, g, change)
+    }
+
+    /// Makes an item of a group, as the value says, marks the group, and answers the item's handle: the
+    /// lowest one of the group that is free. It is refused, and makes stale, as `item_change`.
+    pub fn item_make(&mut self, g: u16, make: Make) -> Result<u16, Refusal>
+        ensures calls { Calls (D.honest self.old.device) (table.on_group g (make_row (vm g) make)) result self.old.core self.new.core }
+        ensures no_room { result ≡ Err Refusal.NoRoom → ItemHasNoRoom self.new.core g (make_edit make) }
+        ensures device { ReadsFile D.image D.honest D.may_leave D.may_have_left D.failed (result ≡ Err Refusal.Disk) self.old self.new }
+    {
+        item_make(&mut self.vm, &mut self.blocks, g, make)
+    }
+
+    /// Makes an item of `n` zero bytes, and answers its handle. It is refused, and makes stale, as
+    /// `item_make`.
+    pub fn inew(&mut self, g: u16, n: u16) -> Result<u16, Refusal>
+        ensures calls { Calls (D.honest self.old.device) (table.inew g n) result self.old.core self.new.core }
+        ensures no_room { result ≡ Err Refusal.NoRoom → ItemHasNoRoom self.new.core g (alloc n) }
+        ensures device { ReadsFile D.image D.honest D.may_leave D.may_have_left D.failed (result ≡ Err Refusal.Disk) self.old self.new }
+    {
+        self.item_make(g, Make::Lalloc { n })
+    }
+
+    /// Frees an item. `BadHandle`, `NoRoom` and `Disk` as `item_change`, `BadChunk` where the group
+    /// has no such item.
+    pub fn ifree(&mut self, g: u16, i: u16) -> Result<(), Refusal>
+        ensures calls { Calls (D.honest self.old.device) (table.ifree g i) result self.old.core self.new.core }
+        ensures no_room { result ≡ Err Refusal.NoRoom → ItemHasNoRoom self.new.core g (free i) }
+        ensures device { ReadsFile D.image D.honest D.may_leave D.may_have_left D.failed (result ≡ Err Refusal.Disk) self.old self.new }
+    {
+        self.item_change(g, Change::Lfree { c: i })
+    }
+
+    /// Gives an item `n` bytes: its first ones that fit, and zeros behind them. It is refused as
+    /// `ifree` is; then `TooBig` where the group would need more than 65,520 bytes, `NoRoom` where it
+    /// must grow and no stretch of the region has room for it.
+    pub fn irealloc(&mut self, g: u16, i: u16, n: u16) -> Result<(), Refusal>
+        ensures calls { Calls (D.honest self.old.device) (table.irealloc g i n) result self.old.core self.new.core }
+        ensures no_room { result ≡ Err Refusal.NoRoom → ItemHasNoRoom self.new.core g (realloc i n) }
+        ensures device { ReadsFile D.image D.honest D.may_leave D.may_have_left D.failed (result ≡ Err Refusal.Disk) self.old self.new }
+    {
+        self.item_change(g, Change::Lrealloc { c: i, n })
+    }
+
+    /// Inserts `n` zero bytes at an offset of an item. It is refused as `irealloc` is, with `Range`
+    /// behind `BadChunk` where the offset is past the item's length.
+    pub fn iins(&mut self, g: u16, i: u16, at: u16, n: u16) -> Result<(), Refusal>
+        ensures calls { Calls (D.honest self.old.device) (table.iins g i at n) result self.old.core self.new.core }
+        ensures no_room { result ≡ Err Refusal.NoRoom → ItemHasNoRoom self.new.core g (insert_bytes i at n) }
+        ensures device { ReadsFile D.image D.honest D.may_leave D.may_have_left D.failed (result ≡ Err Refusal.Disk) self.old self.new }
+    {
+        self.item_change(g, Change::Lins { c: i, at, n })
+    }
+
+    /// Deletes `n` bytes at an offset of an item. It is refused as `ifree` is, with `Range` behind
+    /// `BadChunk` where they reach past the item's length.
+    pub fn idel(&mut self, g: u16, i: u16, at: u16, n: u16) -> Result<(), Refusal>
+        ensures calls { Calls (D.honest self.old.device) (table.idel g i at n) result self.old.core self.new.core }
+        ensures no_room { result ≡ Err Refusal.NoRoom → ItemHasNoRoom self.new.core g (delete_bytes i at n) }
+        ensures device { ReadsFile D.image D.honest D.may_leave D.may_have_left D.failed (result ≡ Err Refusal.Disk) self.old self.new }
+    {
+        self.item_change(g, Change::Ldel { c: i, at, n })
+    }
+
+    /// Locks a group once more, which brings it into memory, and answers where the bytes of an item
+    /// lie, which must be `n` at least. `BadHandle` where there is no such group, `Locked` where its
+    /// count is 65,535, `NoRoom` and `Disk` where it does not come into memory, as `vlock` says;
+    /// `BadChunk` where it has no such item, `Short` where that has fewer bytes. It is locked only
+    /// where none of these comes.
+    pub fn ilock(&mut self, g: u16, i: u16, n: u16) -> Result<Span, Refusal>
+        ensures gives { LeadsToSpan (D.honest self.old.device) (table.ilock g i n) result self.old.core self.new.core }
+        ensures stands { IfOk result (λ span. IsStanding self.new.core span × (n ≤ span.len)) }
+        ensures no_room { result ≡ Err Refusal.NoRoom → ListedHasNoRoom self.new.core g }
+        ensures device { ReadsFile D.image D.honest D.may_leave D.may_have_left D.failed (result ≡ Err Refusal.Disk) self.old self.new }
+    {
+        match item_lock_part(&mut self.vm, &mut self.blocks, g, i, n) {
+            Ok((at, len)) => Ok(Span {
+                at: self.blocks.place(Name::vm(g)) + at as u32,
+                len,
+            }),
+            Err(refusal) => Err(refusal),
+        }
+    }
+
+    /// Marks a locked group as changed: it stays in memory until a commit has written it.
+    pub fn idirty(&mut self, name: Name)
+        requires kind { name.owner ≡ owner.Vm }
+        requires locked { IsLocked self.old.core name }
+        ensures calls { Calls (D.honest self.old.device) (table.idirty name.h) (Ok tt) self.old.core self.new.core }
+        ensures marked { IsMarked self.new.core name.h }
+        ensures device { AsksNothing self.old self.new }
+    {
+        self.vdirty(name);
+    }
+
+    /// Unlocks a group once. When it is locked no more, references into it are stale.
+    pub fn iunlock(&mut self, name: Name)
+        requires kind { name.owner ≡ owner.Vm }
+        requires locked { IsLocked self.old.core name }
+        ensures calls { Calls (D.honest self.old.device) (table.iunlock name.h) (Ok tt) self.old.core self.new.core }
+        ensures vm { LeavesVm self.old self.new }
+    {
+        self.vunlock(name);
+    }
+
+    /// The map item: its group, 0 for none, and the item.
+    pub fn igetmap(&self) -> (u16, u16)
+        ensures { Calls (D.honest self.now.device) table.igetmap (Ok result) self.now.core self.now.core }
+    {
+        map_item(&self.vm)
+    }
+
+    /// Names the map item: a group, and any number for an item of it; or 0 and 0 for none. `BadHandle`
+    /// where the group is neither 0 nor a group, `Range` where it is 0 and the item is not.
+    pub fn isetmap(&mut self, g: u16, i: u16) -> Result<(), Refusal>
+        ensures calls { Calls (D.honest self.old.device) (table.isetmap g i) result self.old.core self.new.core }
+        ensures device { AsksNothing self.old self.new }
+    {
+        set_map_item(&mut self.vm, g, i)
+    }
+}

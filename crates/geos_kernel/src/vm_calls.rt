@@ -1,0 +1,183 @@
+//! The kernel's calls on blocks of the VM file, on what is mapped, and on the file.
+
+ghost use Rattle.std.specs.Prelude.{◌≡◌, ℕ, List, Ok, Err, IfOk};
+
+use crate::kernel::Kernel;
+use crate::refused::{of_commit, of_free, of_lock, of_new, of_uid};
+use db_items::is_group;
+use geos_model::{Name, Refusal};
+use vm_file::{Device, GROUP_UID, How};
+
+impl<D: Device + Drop> Kernel<D> {
+    ghost use Rattle.geos_model.specs.declared.name.Owner.TheVariants as owner;
+    ghost use Rattle.geos_model.specs.Names.{vm};
+    ghost use Rattle.geos_table.specs.VmCalls as table;
+    ghost use Rattle.vm_blocks.specs.Listed.{NoneLocked};
+    ghost use Rattle.vm_blocks.specs.ListedCalls.{keeper_of};
+    ghost use Rattle.vm_file.specs.State.{Finds};
+    ghost use Rattle.geos_kernel.specs.Files.{AsksNothing, Commits, ReadsFile, file_of};
+    ghost use Rattle.geos_kernel.specs.Kernel.{Calls, LeavesVm, ListedHasNoRoom, NewListedHasNoRoom};
+    ghost use Rattle.geos_kernel.specs.View.{IsLocked, IsMarked};
+
+    /// Whether the VM file is sure of the pair that it keeps: where it is not, it takes no commit.
+    pub fn is_sure(&self) -> bool
+        ensures sure { result ≡ self.now.core.vm.file.sure }
+        // What `open` would find after a stop now.
+        ensures stop { D.honest self.now.device → (c : List ℕ) → D.may_leave self.now.device c → Finds D.image (file_of self.now) c }
+    {
+        self.vm.is_sure()
+    }
+
+    /// Makes a block of the file of 64 bytes with no chunk, under the lowest handle that is free,
+    /// with this user ID, marks it and locks it. `Reserved` where the user ID is that of groups,
+    /// `NoHandle` where all 1,024 handles are listed, `NoRoom` where no stretch of the region has
+    /// room for it, though no block is left that could be discarded.
+    pub fn vnew(&mut self, uid: u16) -> Result<u16, Refusal>
+        ensures calls { Calls (D.honest self.old.device) (table.vnew uid) result self.old.core self.new.core }
+        ensures no_room { result ≡ Err Refusal.NoRoom → NewListedHasNoRoom self.old.core self.new.core }
+        ensures ready { IfOk result (λ h. IsLocked self.new.core (vm h) × IsMarked self.new.core h) }
+        ensures device { AsksNothing self.old self.new }
+    {
+        let _ = &self.vm;
+        if uid == GROUP_UID {
+            return Err(Refusal::Reserved);
+        }
+        let made = self.vm.vnew(&mut self.blocks, uid);
+        of_new(made)
+    }
+
+    /// Locks a block of the file once more, which brings it into memory. `BadHandle` where there is
+    /// none, `Reserved` where it is a group, `Locked` where its count is 65,535, `NoRoom` where no
+    /// stretch of the region has room for it, though no other block is left that could be discarded,
+    /// `Disk` where the device fails, or gives bytes that are no heap under the handle.
+    pub fn vlock(&mut self, h: u16) -> Result<(), Refusal>
+        ensures calls { Calls (D.honest self.old.device) (table.vlock h) result self.old.core self.new.core }
+        ensures no_room { result ≡ Err Refusal.NoRoom → ListedHasNoRoom self.new.core h }
+        ensures device { ReadsFile D.image D.honest D.may_leave D.may_have_left D.failed (result ≡ Err Refusal.Disk) self.old self.new }
+    {
+        if is_group(&self.vm, h) {
+            return Err(Refusal::Reserved);
+        }
+        let locked = self.vm.vlock(&mut self.blocks, h);
+        of_lock(locked)
+    }
+
+    /// Marks a locked block of the file as changed: it stays in memory until a commit has written it.
+    pub fn vdirty(&mut self, name: Name)
+        requires kind { name.owner ≡ owner.Vm }
+        requires locked { IsLocked self.old.core name }
+        ensures calls { Calls (D.honest self.old.device) (table.vdirty name.h) (Ok tt) self.old.core self.new.core }
+        ensures marked { IsMarked self.new.core name.h }
+        ensures device { AsksNothing self.old self.new }
+    {
+        self.vm.vdirty(&self.blocks, name.h);
+    }
+
+    /// Unlocks a block of the file once. When it is locked no more, references into it are stale.
+    pub fn vunlock(&mut self, name: Name)
+        requires kind { name.owner ≡ owner.Vm }
+        requires locked { IsLocked self.old.core name }
+        ensures calls { Calls (D.honest self.old.device) (table.vunlock name.h) (Ok tt) self.old.core self.new.core }
+        ensures vm { LeavesVm self.old self.new }
+    {
+        self.munlock(name);
+    }
+
+    /// Frees a block of the file: it is mapped no more. `BadHandle` where there is none, `Reserved`
+    /// where it is a group, `Locked` where it is locked.
+    pub fn vfree(&mut self, h: u16) -> Result<(), Refusal>
+        ensures calls { Calls (D.honest self.old.device) (table.vfree h) result self.old.core self.new.core }
+        ensures device { AsksNothing self.old self.new }
+    {
+        if is_group(&self.vm, h) {
+            return Err(Refusal::Reserved);
+        }
+        let freed = self.vm.vfree(&mut self.blocks, h);
+        of_free(freed)
+    }
+
+    /// The lowest handle above `start` of a block of the file with this user ID; 0 where there is
+    /// none. `Reserved` where the user ID is that of groups.
+    pub fn vfind(&self, start: u16, uid: u16) -> Result<u16, Refusal>
+        ensures { Calls (D.honest self.now.device) (table.vfind start uid) result self.now.core self.now.core }
+    {
+        let _ = &self.vm;
+        if uid == GROUP_UID {
+            return Err(Refusal::Reserved);
+        }
+        Ok(self.vm.find(start, uid))
+    }
+
+    /// The user ID of a block or group. `BadHandle` where there is none.
+    pub fn vuid(&self, h: u16) -> Result<u16, Refusal>
+        ensures { Calls (D.honest self.now.device) (table.vuid h) result self.now.core self.now.core }
+    {
+        of_uid(self.vm.uid(h))
+    }
+
+    /// The map block; 0 for none.
+    pub fn vgetmap(&self) -> u16
+        ensures { Calls (D.honest self.now.device) table.vgetmap (Ok result) self.now.core self.now.core }
+    {
+        self.vm.map()
+    }
+
+    /// Names the map block; 0 is for none. `BadHandle` where there is no such block, `Reserved` where
+    /// it is a group.
+    pub fn vsetmap(&mut self, h: u16) -> Result<(), Refusal>
+        ensures calls { Calls (D.honest self.old.device) (table.vsetmap h) result self.old.core self.new.core }
+        ensures device { AsksNothing self.old self.new }
+    {
+        if h != 0 && !self.vm.has(h) {
+            return Err(Refusal::BadHandle);
+        }
+        if is_group(&self.vm, h) {
+            return Err(Refusal::Reserved);
+        }
+        self.vm.set_map(h);
+        Ok(())
+    }
+
+    /// Keeps the current directory beside the saved one: no block of the file is marked any more.
+    /// `Unsure` where the file is unsure of what its device holds, `TooBig` where both need more than
+    /// the area, `Memory` where an allocation is refused, `Disk` where the device fails, or gives
+    /// bytes that are no heap under their handle. A refusal leaves blocks and marks as they were; the
+    /// file may be unsure after `Disk`.
+    pub fn vupdate(&mut self) -> Result<(), Refusal>
+        requires { NoneLocked self.old.core.blocks }
+        ensures calls { Calls (D.honest self.old.device) table.vupdate result self.old.core self.new.core }
+        ensures commits { Commits D.image D.honest D.failed D.may_leave D.may_have_left How.Update self.old self.new result }
+    {
+        self.commit(How::Update)
+    }
+
+    /// Keeps the current directory, which is the saved one too from then on. It is refused as
+    /// `vupdate` is.
+    pub fn vsave(&mut self) -> Result<(), Refusal>
+        requires { NoneLocked self.old.core.blocks }
+        ensures calls { Calls (D.honest self.old.device) table.vsave result self.old.core self.new.core }
+        ensures commits { Commits D.image D.honest D.failed D.may_leave D.may_have_left How.Save self.old self.new result }
+    {
+        self.commit(How::Save)
+    }
+
+    /// Goes back to the saved directory, and keeps it: what was not saved is lost. It is refused as
+    /// `vupdate` is.
+    pub fn vrevert(&mut self) -> Result<(), Refusal>
+        requires { NoneLocked self.old.core.blocks }
+        ensures calls { Calls (D.honest self.old.device) table.vrevert result self.old.core self.new.core }
+        ensures commits { Commits D.image D.honest D.failed D.may_leave D.may_have_left How.Revert self.old self.new result }
+    {
+        self.commit(How::Revert)
+    }
+
+    /// Keeps one of the pairs of directories that `How` names.
+    pub fn commit(&mut self, how: How) -> Result<(), Refusal>
+        requires { NoneLocked self.old.core.blocks }
+        ensures calls { Calls (D.honest self.old.device) (table.commit (keeper_of how)) result self.old.core self.new.core }
+        ensures commits { Commits D.image D.honest D.failed D.may_leave D.may_have_left how self.old self.new result }
+    {
+        let done = self.vm.commit(&mut self.blocks, how);
+        of_commit(done)
+    }
+}
