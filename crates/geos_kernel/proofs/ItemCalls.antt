@@ -78,10 +78,10 @@ module _ {D : Type 0} (image : D → List ℕ) (honest : D → Type 0) (may_leav
         on true e = rw e (others-stand changes.keeps f)
         on false e =
             let none : IsGroup v g → ⊥ = λ group.
-                let is : is_group (memory_of (core_of image failed v s) f) g ≡ true = group-told image honest v s k.tied (memory_of (core_of image failed v s) f) (memory-known image honest failed v s f tied) g group in
-                let given = is_group-given choice.given (memory_of (core_of image failed v s) f) g in
-                let both : false ≡ true = sym e ∙ given ∙ is in
-                absurd cc in
+            let is : is_group (memory_of (core_of image failed v s) f) g ≡ true = group-told image honest v s k.tied (memory_of (core_of image failed v s) f) (memory-known image honest failed v s f tied) g group in
+            let given = is_group-given choice.given (memory_of (core_of image failed v s) f) g in
+            let both : false ≡ true = sym e ∙ given ∙ is in
+            absurd cc in
             spans-same (core_of image failed v s) (core_of image failed w t) f (in_group (given_memory choice.given (memory_of (core_of image failed v s) f)) g) (changes.no_group none).2
 
     pub item-calls : ((choice : Choice) (f : VmFile) → (effect_of call choice (memory_of (core_of image failed v s) f)).stale ≡ in_group (given_memory choice.given (memory_of (core_of image failed v s) f)) g)

@@ -1,13 +1,15 @@
 -- Calls answered one after another.
 use Rattle.std.proofs.Common.{◌≡◌, ℕ, List, [], ◌∷◌, refl, sym, ap, subst, arith, inl, inr}
-use Rattle.std.specs.Prelude.{◌⊎◌}
+use Rattle.std.specs.Prelude.{◌⊎◌, ◌↔◌, Result}
+use Rattle.geos_model.specs.declared.refusal.Refusal.{Refusal}
 use Rattle.geos_table.specs.VmFile.{VmFile}
-use Rattle.geos_table.specs.Effects.{Choice, Reference}
+use Rattle.geos_table.specs.Effects.{Call, Choice, Reference}
 use Rattle.geos_kernel.specs.declared.span.Span.{Span}
 use Rattle.geos_kernel.specs.Spans.{Stands, IsFresh}
-use Rattle.geos_kernel.specs.Kernel.{HasRisen, IsChosen, NeverFell}
-use Rattle.geos_kernel.specs.Turns.{Turn, Does, Tells, Refers, Answered, InTurn, Step, Comes, stale_by, AreChosen, AnsweredByRows, CallsAnswerInTurn}
+use Rattle.geos_kernel.specs.Kernel.{Calls, HasRisen, IsChosen, NeverFell}
+use Rattle.geos_kernel.specs.Turns.{Turn, Does, Tells, TellsTwo, Refers, Answered, InTurn, Step, Comes, stale_by, AreChosen, AnsweredByRows, AnswersAlike, CallsAnswerInTurn}
 use Rattle.geos_kernel.specs.View.{KernelState, IsFileOf, failed_in, memory_of}
+use Rattle.geos_kernel.proofs.Seen.{file-on}
 
 -- Counts of failures, which stay or rise
 
@@ -28,6 +30,29 @@ stays-or-rises : (a b c : ℕ) → (b ≡ a) ⊎ HasRisen a b → (c ≡ b) ⊎ 
 stays-or-rises a b c (inl same) (inl still) = inl (omega (arith, same, still))
 stays-or-rises a b c (inr risen) later = inr (rises-more a b c risen later)
 stays-or-rises a b c first (inr risen) = inr (rises-later a b c first risen)
+
+-- Other words for an honest device
+
+calls-alike : (other good : Type 0) → other ↔ good → {A : Type 0} (row : Call A) (result : Result A Refusal) (old new : KernelState) → Calls other row result old new → Calls good row result old new
+calls-alike other good alike row result old new calls = record {
+  answers = λ f tied.
+      let a = calls.answers f (file-on good other alike.0 old f tied) in
+      record {
+        choice = a.choice;
+        chosen = record { given = λ g. a.chosen.given (alike.1 g); device = λ g t. a.chosen.device (alike.1 g) t };
+        lasts = λ g. a.lasts (alike.1 g);
+        file = a.file;
+        tied = file-on other good alike.1 new a.file a.tied;
+        comes = a.comes;
+      };
+  spans = λ f tied. calls.spans f (file-on good other alike.0 old f tied);
+}
+
+pub answered-alike : (other good : Type 0) → other ↔ good → AnswersAlike other good
+answered-alike other good alike (Does row result) old new calls = calls-alike other good alike row result old new calls
+answered-alike other good alike (Tells row result) old new calls = calls-alike other good alike row result old new calls
+answered-alike other good alike (TellsTwo row result) old new calls = calls-alike other good alike row result old new calls
+answered-alike other good alike (Refers row result) old new calls = calls-alike other good alike row result old new calls
 
 module _ (good : Type 0) where
   -- what may come from outside up to one kernel may come up to a later one
@@ -57,6 +82,8 @@ module _ (good : Type 0) where
   one (Does row result) old new calls f tied =
       let a = calls.answers f tied in record { choice = a.choice; chosen = a.chosen; lasts = a.lasts; file = a.file; tied = a.tied; comes = a.comes; spans = calls.spans f tied a.choice }
   one (Tells row result) old new calls f tied =
+      let a = calls.answers f tied in record { choice = a.choice; chosen = a.chosen; lasts = a.lasts; file = a.file; tied = a.tied; comes = a.comes; spans = calls.spans f tied a.choice }
+  one (TellsTwo row result) old new calls f tied =
       let a = calls.answers f tied in record { choice = a.choice; chosen = a.chosen; lasts = a.lasts; file = a.file; tied = a.tied; comes = a.comes; spans = calls.spans f tied a.choice }
   one (Refers row result) old new calls f tied =
       let a = calls.answers f tied in record { choice = a.choice; chosen = a.chosen; lasts = a.lasts; file = a.file; tied = a.tied; comes = a.comes; spans = calls.spans f tied a.choice }
@@ -102,4 +129,7 @@ module _ (good : Type 0) where
       }
 
   pub calls_answer_in_turn : CallsAnswerInTurn good
-  calls_answer_in_turn = record { lists = λ turns old new made f tied. (all turns old new made f tied).by_rows; given = λ row result s gives. gives }
+  calls_answer_in_turn = record {
+    lists = λ turns old new made f tied. (all turns old new made f tied).by_rows;
+    given = λ row result old new gives. gives;
+  }

@@ -5,20 +5,23 @@ use Rattle.geos_table.specs.VmFile.{VmFile}
 use Rattle.geos_table.specs.Memory.{Memory}
 use Rattle.geos_table.specs.Effects.{Choice, Staleness, Reference, Call, outcome, effect_of}
 use Rattle.geos_kernel.specs.declared.span.Span.{Span}
-use Rattle.geos_kernel.specs.Kernel.{IsChosen, Calls, GivesSpan, StandsFor}
+use Rattle.geos_kernel.specs.Kernel.{IsChosen, Calls, LeadsToSpan, StandsFor}
 use Rattle.geos_kernel.specs.Spans.{Stands, IsFresh}
 use Rattle.geos_kernel.specs.View.{KernelState, memory_of, IsFileOf}
 
--- a call that was made, by its row, and what it answered: nothing, a number or a reference
+-- a call that was made, by its row, and what it answered: nothing, a number, two numbers or a
+-- reference
 pub data Turn : Type 0 where
   Does : Call (Unit {0}) → Result (Unit {0}) Refusal → Turn
   Tells : Call ℕ → Result ℕ Refusal → Turn
+  TellsTwo : Call (ℕ × ℕ) → Result (ℕ × ℕ) Refusal → Turn
   Refers : Call Reference → Result Reference Refusal → Turn
 
 -- the kernel answered it so, where `good` says that its device is honest
 abbrev pub Answered : Type 0 → Turn → KernelState → KernelState → Type 0
 Answered good (Does row result) old new = Calls good row result old new
 Answered good (Tells row result) old new = Calls good row result old new
+Answered good (TellsTwo row result) old new = Calls good row result old new
 Answered good (Refers row result) old new = Calls good row result old new
 
 -- calls were answered one after another, each where the one before had left the kernel
@@ -35,12 +38,14 @@ pub record Step : Type 0 where
 abbrev pub Comes : Turn → Choice → Memory → Memory → Type 0
 Comes (Does row result) choice before after = outcome (effect_of row choice before) ≡ (result, after)
 Comes (Tells row result) choice before after = outcome (effect_of row choice before) ≡ (result, after)
+Comes (TellsTwo row result) choice before after = outcome (effect_of row choice before) ≡ (result, after)
 Comes (Refers row result) choice before after = outcome (effect_of row choice before) ≡ (result, after)
 
 -- the references that the row makes stale
 abbrev pub stale_by : Turn → Choice → Memory → Staleness
 stale_by (Does row result) choice before = (effect_of row choice before).stale
 stale_by (Tells row result) choice before = (effect_of row choice before).stale
+stale_by (TellsTwo row result) choice before = (effect_of row choice before).stale
 stale_by (Refers row result) choice before = (effect_of row choice before).stale
 
 -- the rows answer so one after another, and lead from one memory to another
@@ -74,5 +79,9 @@ pub record AnsweredByRows (good : Type 0) (turns : List Turn) (old new : KernelS
 -- answers the reference for which the span stands
 pub record CallsAnswerInTurn (good : Type 0) : Type 0 where
   pub lists : (turns : List Turn) (old new : KernelState) → InTurn good turns old new → (f : VmFile) → IsFileOf good old f → AnsweredByRows good turns old new f
-  pub given : (row : Call Reference) (result : Result Span Refusal) (s : KernelState) → GivesSpan good row result s →
-      (reference : Result Reference Refusal) × Calls good row reference s s × StandsFor s result reference
+  pub given : (row : Call Reference) (result : Result Span Refusal) (old new : KernelState) → LeadsToSpan good row result old new →
+      (reference : Result Reference Refusal) × Calls good row reference old new × StandsFor new result reference
+
+-- where one says that a device is honest, each call was answered as where the other says it
+abbrev pub AnswersAlike : Type 0 → Type 0 → Type 0
+AnswersAlike other good = (turn : Turn) (old new : KernelState) → Answered other turn old new → Answered good turn old new

@@ -1,6 +1,7 @@
 //! The law of lists of calls.
 
-ghost use Rattle.geos_kernel.specs.Turns.{CallsAnswerInTurn};
+ghost use Rattle.std.specs.Prelude.{◌↔◌};
+ghost use Rattle.geos_kernel.specs.Turns.{AnswersAlike, CallsAnswerInTurn};
 
 use vm_file::Device;
 
@@ -9,9 +10,19 @@ use vm_file::Device;
 /// after another, under some choice of what comes from outside at each. A span that stood
 /// before them, and whose reference none of them made stale, stands after them. This is of all
 /// calls of the kernel, loads and stores through spans among them, since each promises `Calls`
-/// of its row, or `GivesSpan`. The device is the kernel's before the calls.
+/// of its row, `GivesSpan` or `LeadsToSpan`. The device is the kernel's before the calls.
 pub fn calls_answer_in_turn<D: Device>(device: &D)
     ensures { CallsAnswerInTurn (D.honest device.now) }
 {
     let _ = device;
+}
+
+/// What a call promises of a kernel on a later device it promises of the same on an earlier one, where
+/// the one is honest exactly if the other is: a call that asks a device leaves it so (`ReadsFile`,
+/// `Commits`). Thus calls that ask the device stand in the lists of the law above, too.
+pub fn later_calls_answer_alike<D: Device>(earlier: &D, later: &D)
+    ensures { (D.honest later.now ↔ D.honest earlier.now) → AnswersAlike (D.honest later.now) (D.honest earlier.now) }
+{
+    let _ = earlier;
+    let _ = later;
 }

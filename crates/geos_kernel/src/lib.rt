@@ -21,5 +21,5 @@ pub use geos_model::{Name, Owner, Refusal};
 pub use geos_table::{Ask, Change, Make, Refer};
 pub use in_memory::kernel_in_memory;
 pub use kernel::Kernel;
-pub use law::calls_answer_in_turn;
+pub use law::{calls_answer_in_turn, later_calls_answer_alike};
 pub use span::Span;
