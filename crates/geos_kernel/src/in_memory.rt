@@ -4,11 +4,11 @@ ghost use Rattle.std.specs.Prelude.{◌≡◌, ◌≤◌, IfOk, None, replicate}
 ghost use Rattle.block_handles.specs.Layout.{IsEmpty};
 ghost use Rattle.geos_table.specs.VmFile.{VmFile, empty_file};
 ghost use Rattle.vm_file.specs.Memory.{IsHonest};
-ghost use Rattle.geos_kernel.specs.View.{IsFileOf, memory_of};
+ghost use Rattle.geos_kernel.specs.View.{failed_in, IsFileOf, memory_of};
 
 use crate::kernel::Kernel;
 use std::alloc::{AllocError, Global};
-use vm_file::MemoryDevice;
+use vm_file::{Device, MemoryDevice};
 
 /// How long a pair of directories may be in the file, in bytes.
 const AREA: u32 = 65_536;
@@ -16,13 +16,23 @@ const AREA: u32 = 65_536;
 /// How many bytes the device has: the header and the selectors, and two areas.
 const DEVICE: u64 = 1_024 + 2 * 65_536;
 
+/// What calls see of how often the device has failed is what the device says.
+fn see_device<D: Device + Drop>(kernel: &Kernel<D>)
+    ensures { failed_in kernel.now.core ≡ D.failed kernel.now.device }
+{
+    let _region = kernel.blocks.region();
+}
+
 /// A kernel without a block, in a region of `region` bytes, 65,536 to 16,777,216, on a new VM
-/// file in memory with an area of 65,536 bytes. `AllocError` where there is no memory.
+/// file in memory with an area of 65,536 bytes. The device is honest, and has not failed.
+/// `AllocError` where there is no memory.
 pub fn kernel_in_memory(alloc: Global, region: u32) -> Result<Kernel<MemoryDevice>, AllocError>
     requires { (65536 ≤ region) × (region ≤ 16777216) }
     ensures store { IfOk result (λ kernel. IsEmpty kernel.core.blocks region) }
     ensures tied { IfOk result (λ kernel. IsFileOf (IsHonest kernel.device) kernel.core (empty_file 65536)) }
     ensures memory { IfOk result (λ kernel. (f : VmFile) → memory_of kernel.core f ≡ record { blocks = replicate 1024 None; file = f; region = region }) }
+    ensures honest { IfOk result (λ kernel. IsHonest kernel.device) }
+    ensures failures { IfOk result (λ kernel. failed_in kernel.core ≡ 0) }
 {
     let device = MemoryDevice::new(alloc, DEVICE)?;
     // The device has room for the file, and fails at nothing else: so no fault comes here.
@@ -31,7 +41,10 @@ pub fn kernel_in_memory(alloc: Global, region: u32) -> Result<Kernel<MemoryDevic
         Err(_) => return Err(AllocError),
     };
     match Kernel::new(alloc, region, file) {
-        Ok(kernel) => Ok(kernel),
+        Ok(kernel) => {
+            see_device(&kernel);
+            Ok(kernel)
+        }
         Err((_file, error)) => Err(error),
     }
 }

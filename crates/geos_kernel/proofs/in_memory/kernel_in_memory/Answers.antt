@@ -1,6 +1,6 @@
 use Rattle.std.proofs.Common.{subst, ap, ◌∙◌}
 use Rattle.vm_file.specs.Contents.{listed}
-use Rattle.vm_file.specs.Memory.{IsHonest}
+use Rattle.vm_file.specs.Memory.{IsHonest, failures_of}
 use Rattle.vm_file.specs.Spelling.{empty_contents}
 use Rattle.vm_file.specs.State.{FileState}
 use Rattle.vm_file.specs.declared.directory.Directory.{Directory}
@@ -18,3 +18,8 @@ returns-in-Ok-new-clause-tied c =
     let lists : IsListOf k.core.vm (listed empty_contents) = subst (λ (d : Directory). IsListOf k.core.vm d) current c.in-Ok-new.ensures.lists in
     file-begun (IsHonest k.device) k.core 65536 (ap (λ (f : FileState MemoryDevice). f.area) file) (ap (λ (f : FileState MemoryDevice). f.sure) file) (ap (λ (f : FileState MemoryDevice). f.current) file)
     (ap (λ (f : FileState MemoryDevice). f.saved) file) lists (λ h p. c.in-Ok-new.ensures.store.none (vm_slot h))
+
+pub returns-in-Ok-new-clause-failures : goal.returns-in-Ok-new-clause-failures
+returns-in-Ok-new-clause-failures c =
+    let device = ap (λ (f : FileState MemoryDevice). f.device) c.in-Ok-new.ensures.file in
+    c.see_device.ensures ∙ ap failures_of device ∙ c.in-Ok.ensures.cause ∙ c.in_ok-device.ensures.failures
