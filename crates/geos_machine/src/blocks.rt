@@ -2,13 +2,14 @@
 
 ghost use Rattle.std.specs.Prelude.{◌≡◌};
 ghost use Rattle.geos_semantics.specs.State.{same_name};
+ghost use Rattle.geos_kernel.specs.Kernel.{LeavesVm};
 ghost use Rattle.geos_machine.specs.Machine.{HasOperands, IsInstr, Ready, Works};
 
 use crate::head::{index_a, index_b};
 use crate::machine::Machine;
 use crate::step::{Goes, refuse, to_if};
-use geos_calls::Kernel;
 use geos_image::{Instr, Opcode};
+use geos_kernel::Kernel;
 use geos_model::Name;
 use vm_file::Device;
 
@@ -21,8 +22,9 @@ pub(crate) fn mnew<D: Device + Drop>(
     a: usize,
 ) -> Goes
     requires instr { IsInstr Opcode.Mnew i.now a }
-    requires ready { Ready i.now kernel.old.core m.old }
-    ensures { Works i.now kernel.old.core m.old kernel.new.core m.new result }
+    requires ready { Ready (D.honest kernel.old.device) i.now kernel.old.core m.old }
+    ensures works { Works (D.honest kernel.old.device) i.now kernel.old.core m.old kernel.new.core m.new result }
+    ensures vm { LeavesVm kernel.old kernel.new }
 {
     match kernel.mnew() {
         Ok(h) => {
@@ -43,8 +45,9 @@ pub(crate) fn mlock<D: Device + Drop>(
     operands: usize,
 ) -> Goes
     requires instr { HasOperands Opcode.Mlock i.now operands }
-    requires ready { Ready i.now kernel.old.core m.old }
-    ensures { Works i.now kernel.old.core m.old kernel.new.core m.new result }
+    requires ready { Ready (D.honest kernel.old.device) i.now kernel.old.core m.old }
+    ensures works { Works (D.honest kernel.old.device) i.now kernel.old.core m.old kernel.new.core m.new result }
+    ensures vm { LeavesVm kernel.old kernel.new }
 {
     let (a, b) = (index_a(i, operands), index_b(i, operands));
     let h = m.words[b];
@@ -66,8 +69,9 @@ pub(crate) fn munlock<D: Device + Drop>(
     a: usize,
 ) -> Goes
     requires instr { IsInstr Opcode.Munlock i.now a }
-    requires ready { Ready i.now kernel.old.core m.now }
-    ensures { Works i.now kernel.old.core m.now kernel.new.core m.now result }
+    requires ready { Ready (D.honest kernel.old.device) i.now kernel.old.core m.now }
+    ensures works { Works (D.honest kernel.old.device) i.now kernel.old.core m.now kernel.new.core m.now result }
+    ensures vm { LeavesVm kernel.old kernel.new }
 {
     kernel.munlock(m.slots[a]);
     Goes::Past
@@ -82,8 +86,9 @@ pub(crate) fn mfree<D: Device + Drop>(
     a: usize,
 ) -> Goes
     requires instr { IsInstr Opcode.Mfree i.now a }
-    requires ready { Ready i.now kernel.old.core m.old }
-    ensures { Works i.now kernel.old.core m.old kernel.new.core m.new result }
+    requires ready { Ready (D.honest kernel.old.device) i.now kernel.old.core m.old }
+    ensures works { Works (D.honest kernel.old.device) i.now kernel.old.core m.old kernel.new.core m.new result }
+    ensures vm { LeavesVm kernel.old kernel.new }
 {
     match kernel.mfree(m.words[a]) {
         Ok(()) => Goes::Along,
@@ -102,8 +107,8 @@ fn are_same(name: Name, other: Name) -> bool
 #[inline(never)]
 pub(crate) fn sne<D: Device + Drop>(m: &Machine, kernel: &Kernel<D>, i: &Instr, a: usize) -> Goes
     requires instr { IsInstr Opcode.Sne i.now a }
-    requires ready { Ready i.now kernel.now.core m.now }
-    ensures { Works i.now kernel.now.core m.now kernel.now.core m.now result }
+    requires ready { Ready (D.honest kernel.now.device) i.now kernel.now.core m.now }
+    ensures { Works (D.honest kernel.now.device) i.now kernel.now.core m.now kernel.now.core m.now result }
 {
     let (name, other) = (m.slots[a], m.slots[i.b as usize]);
     to_if(are_same(name, other), i)

@@ -3,13 +3,14 @@
 ghost use Rattle.std.specs.Prelude.{◌≡◌, true};
 ghost use Rattle.geos_image.specs.Fields.{FieldsFit};
 ghost use Rattle.geos_semantics.specs.Model.{changing, making, asking};
+ghost use Rattle.geos_kernel.specs.Kernel.{LeavesVm};
 ghost use Rattle.geos_machine.specs.Machine.{asks_of_chunks, changes_chunks, Does, HasOperands, IsInstr, makes_chunks, Ready, Works};
 
 use crate::head::{index_a, index_b, index_c};
 use crate::machine::Machine;
 use crate::step::{Goes, refuse};
-use geos_calls::{Ask, Change, Kernel, Make, Span};
 use geos_image::{Instr, Opcode};
+use geos_kernel::{Ask, Change, Kernel, Make, Span};
 use vm_file::Device;
 
 /// The change that an instruction makes.
@@ -107,8 +108,9 @@ pub(crate) fn change<D: Device + Drop>(
     requires fields { FieldsFit i.now.opcode i.now }
     requires a { a ≡ i.now.a }
     requires changes { changes_chunks i.now.opcode ≡ true }
-    requires ready { Ready i.now kernel.old.core m.old }
-    ensures { Works i.now kernel.old.core m.old kernel.new.core m.new result }
+    requires ready { Ready (D.honest kernel.old.device) i.now kernel.old.core m.old }
+    ensures works { Works (D.honest kernel.old.device) i.now kernel.old.core m.old kernel.new.core m.new result }
+    ensures vm { LeavesVm kernel.old kernel.new }
 {
     let change = change_at(m, i);
     match kernel.change(m.slots[a], change) {
@@ -128,8 +130,9 @@ pub(crate) fn make<D: Device + Drop>(
     requires fields { FieldsFit i.now.opcode i.now }
     requires a { a ≡ i.now.a }
     requires makes { makes_chunks i.now.opcode ≡ true }
-    requires ready { Ready i.now kernel.old.core m.old }
-    ensures { Works i.now kernel.old.core m.old kernel.new.core m.new result }
+    requires ready { Ready (D.honest kernel.old.device) i.now kernel.old.core m.old }
+    ensures works { Works (D.honest kernel.old.device) i.now kernel.old.core m.old kernel.new.core m.new result }
+    ensures vm { LeavesVm kernel.old kernel.new }
 {
     let make = make_at(m, i);
     match kernel.make(m.slots[a], make) {
@@ -152,8 +155,8 @@ pub(crate) fn ask<D: Device + Drop>(
     requires fields { FieldsFit i.now.opcode i.now }
     requires a { a ≡ i.now.a }
     requires asks { asks_of_chunks i.now.opcode ≡ true }
-    requires ready { Ready i.now kernel.now.core m.old }
-    ensures { Works i.now kernel.now.core m.old kernel.now.core m.new result }
+    requires ready { Ready (D.honest kernel.now.device) i.now kernel.now.core m.old }
+    ensures { Works (D.honest kernel.now.device) i.now kernel.now.core m.old kernel.now.core m.new result }
 {
     let ask = ask_at(m, i);
     match kernel.ask(m.slots[a], ask) {
@@ -174,8 +177,8 @@ pub(crate) fn deref<D: Device + Drop>(
     operands: usize,
 ) -> Goes
     requires instr { HasOperands Opcode.Deref i.now operands }
-    requires ready { Ready i.now kernel.now.core m.old }
-    ensures { Works i.now kernel.now.core m.old kernel.now.core m.new result }
+    requires ready { Ready (D.honest kernel.now.device) i.now kernel.now.core m.old }
+    ensures { Works (D.honest kernel.now.device) i.now kernel.now.core m.old kernel.now.core m.new result }
 {
     let (a, b, c) = (
         index_a(i, operands),
@@ -201,8 +204,8 @@ pub(crate) fn caelt<D: Device + Drop>(
     a: usize,
 ) -> Goes
     requires instr { IsInstr Opcode.Caelt i.now a }
-    requires ready { Ready i.now kernel.now.core m.old }
-    ensures { Works i.now kernel.now.core m.old kernel.now.core m.new result }
+    requires ready { Ready (D.honest kernel.now.device) i.now kernel.now.core m.old }
+    ensures { Works (D.honest kernel.now.device) i.now kernel.now.core m.old kernel.now.core m.new result }
 {
     let (c, index) = (m.words[i.c as usize], m.words[i.d as usize]);
     match kernel.caelt(m.slots[a], c, index, i.imm) {

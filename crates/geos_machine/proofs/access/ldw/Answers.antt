@@ -10,15 +10,18 @@ use Rattle.geos_machine.proofs.access.ldw.Goals as goal
 pub load16-requires-clause-stands : goal.load16-requires-clause-stands
 load16-requires-clause-stands g c =
     let i = c.args.i.now in
-    rw c.index_b-b.ensures (pointer-stands i c.args.kernel.now.core c.args.m.now i.b (record { at = 0; len = 0 }) c.requires.ready (λ beside pc safe. (loads-safe i _ Both Fixed (rw c.requires.instr.is refl) safe).0))
+    let honest : Type 0 = g.D.Device.honest c.args.kernel.now.device in
+    rw c.index_b-b.ensures (pointer-stands honest i c.args.kernel.now.core c.args.m.now i.b (record { at = 0; len = 0 }) c.requires.ready (λ beside pc safe. (loads-safe i _ Both Fixed (rw c.requires.instr.is refl) safe).0))
 
 pub load16-requires-clause-within : goal.load16-requires-clause-within
 load16-requires-clause-within g c =
     let i = c.args.i.now in
-    rw c.index_b-b.ensures (pointer-long i c.args.kernel.now.core c.args.m.now i.b (i.imm + 2) (record { at = 0; len = 0 }) c.requires.ready (λ beside pc safe. loads-safe i _ Both Fixed (rw c.requires.instr.is refl) safe))
+    let honest : Type 0 = g.D.Device.honest c.args.kernel.now.device in
+    rw c.index_b-b.ensures (pointer-long honest i c.args.kernel.now.core c.args.m.now i.b (i.imm + 2) (record { at = 0; len = 0 }) c.requires.ready (λ beside pc safe. loads-safe i _ Both Fixed (rw c.requires.instr.is refl) safe))
 
 pub returns : goal.returns
 returns g c =
     let i = c.args.i.now in
-    through-done i c.args.kernel.now.core c.args.kernel.now.core c.args.m.now _ (record { at = 0; len = 0 }) i.b (λ ref. load Both ref i.imm) (with_word i.a) c.load16.result (λ ref choice memory. refl) (λ beside pc safe. (loads-safe i _ Both Fixed (rw c.requires.instr.is refl) safe).0) (λ image choice beside pc. rw c.requires.instr.is refl)
+    let honest : Type 0 = g.D.Device.honest c.args.kernel.now.device in
+    through-done honest i c.args.kernel.now.core c.args.kernel.now.core c.args.m.now _ (record { at = 0; len = 0 }) i.b (λ ref. load Both ref i.imm) (with_word i.a) c.load16.result (λ ref choice memory. refl) (λ beside pc safe. (loads-safe i _ Both Fixed (rw c.requires.instr.is refl) safe).0) (λ image choice beside pc. rw c.requires.instr.is refl)
     (rw c.index_b-b.ensures at c.load16.ensures) (λ beside pc. rw c.index_a-a.ensures refl) refl refl
