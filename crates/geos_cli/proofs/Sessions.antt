@@ -1,5 +1,5 @@
 -- A script that ran or was stopped, as the script of a session.
-use Rattle.std.proofs.Common.{◌≡◌, ◌≤◌, ◌∙◌, ℕ, List, length, Option, None, subst, sym, inl, inr}
+use Rattle.std.proofs.Common.{◌≡◌, ◌≤◌, ◌∙◌, ℕ, Bool, true, false, List, length, Option, None, refl, ap, subst, sym, arith, inl, inr}
 use Rattle.std.specs.Prelude.{Result, Ok, Err, IfOk, IfErr, IsErrAnd}
 use Rattle.std.specs.Str.Lines.{lines}
 use Rattle.std.specs.Io.KnownBytes.{Keeps}
@@ -7,8 +7,9 @@ use Rattle.std.proofs.KnownBytes.{Appends-kept}
 use Rattle.geos_table.specs.Memory as model
 use Rattle.geos_table.specs.VmFile.{VmFile, empty_file}
 use Rattle.geos_table.specs.Effects.{Choice}
-use Rattle.geos_calls.specs.View.{KernelState, memory_of, IsFileOf}
-use Rattle.geos_calls.specs.Kernel.{IsChosen}
+use Rattle.vm_blocks.specs.View.{VmState}
+use Rattle.geos_kernel.specs.View.{KernelOn, KernelState, Seen, failed_in, memory_of, IsFileOf}
+use Rattle.geos_kernel.specs.Kernel.{HasRisen, IsChosen, LeavesVm}
 use Rattle.geos_image.specs.Parts.{Parts}
 use Rattle.geos_cli.specs.Hex.{hex_fault, image_bytes, script_lines, IsBadHex}
 use Rattle.geos_cli.specs.Script.{most_bytes, calls_of, Runs, Stops, Loads, RunsScript, RanScript, StoppedScript}
@@ -43,56 +44,70 @@ hex-ends bytes short (BadScript line) h = absurd h
 hex-ends bytes short Read h = absurd h
 hex-ends bytes short Write h = absurd h
 
--- what comes from outside between two kernels is no fault
-faultless : (kernel later : KernelState) (choice : Choice) → IsChosen kernel later choice → IsFaultless choice
-faultless kernel later choice chosen = record { given = chosen.given; device = chosen.device }
+-- a device that is asked nothing does not fail
+pub unfailed : {D : Type 0} (old new : KernelOn D) → LeavesVm old new → failed_in old.core ≡ 0 → failed_in new.core ≡ 0
+unfailed old new leaves fresh = ap (λ (v : VmState Seen). v.file.device.failed) leaves.vm ∙ fresh
 
-runs-faultless : (kernel later : KernelState) (bytes : List ℕ) (ls : List (List ℕ)) (before after : model.Memory) (text : List ℕ) → Runs (IsChosen kernel later) bytes ls before after text → Runs IsFaultless bytes ls before after text
-runs-faultless kernel later bytes ls before after text (image, loads, prints) =
-    (image, loads, prints-wider (IsChosen kernel later) IsFaultless (faultless kernel later) image (calls_of image ls) before after text prints)
+-- what comes from outside between two kernels is no fault, where the device is honest and has not
+-- failed
+module _ (honest : Type 0) (kernel later : KernelState) (good : honest) (fresh : failed_in kernel ≡ 0) (still : failed_in later ≡ 0) where
+  never : HasRisen (failed_in kernel) (failed_in later) → ⊥
+  never (inl less) = omega (arith, still, less)
+  never (inr most) = omega (arith, still, most)
 
-stops-faultless : (kernel later : KernelState) (bytes : List ℕ) (ls : List (List ℕ)) (before after : model.Memory) (text : List ℕ) → Stops (IsChosen kernel later) bytes ls before after text → Stops IsFaultless bytes ls before after text
-stops-faultless kernel later bytes ls before after text (image, loads, part) =
-    (image, loads, part-wider (IsChosen kernel later) IsFaultless (faultless kernel later) image (calls_of image ls) before after text part)
+  faultless : (choice : Choice) → IsChosen honest kernel later choice → IsFaultless choice
+  faultless choice chosen = record { given = chosen.given good; device = refused choice.device (chosen.device good) }
+    where
+      refused : (b : Bool) → (b ≡ true → HasRisen (failed_in kernel) (failed_in later)) → b ≡ false
+      refused false risen = refl
+      refused true risen = absurd (never (risen refl))
+
+  runs-faultless : (bytes : List ℕ) (ls : List (List ℕ)) (before after : model.Memory) (text : List ℕ) → Runs (IsChosen honest kernel later) bytes ls before after text → Runs IsFaultless bytes ls before after text
+  runs-faultless bytes ls before after text (image, loads, prints) =
+      (image, loads, prints-wider (IsChosen honest kernel later) IsFaultless faultless image (calls_of image ls) before after text prints)
+
+  stops-faultless : (bytes : List ℕ) (ls : List (List ℕ)) (before after : model.Memory) (text : List ℕ) → Stops (IsChosen honest kernel later) bytes ls before after text → Stops IsFaultless bytes ls before after text
+  stops-faultless bytes ls before after text (image, loads, part) =
+      (image, loads, part-wider (IsChosen honest kernel later) IsFaultless faultless image (calls_of image ls) before after text part)
 
 -- bytes have an image and a script, which runs on a kernel without a block
-module _ (bytes items image script : List ℕ) (kernel later : KernelState) (short : length bytes ≤ most_bytes) (good : hex_fault (lines bytes) ≡ None)
-    (items_is : items ≡ image_bytes (lines bytes)) (script_is : lines script ≡ script_lines (lines bytes)) (lent : image ≡ items) (tied : IsFileOf kernel (empty_file 0))
+module _ (honest : Type 0) (bytes items image script : List ℕ) (kernel later : KernelState) (good : honest) (fresh : failed_in kernel ≡ 0) (still : failed_in later ≡ 0) (short : length bytes ≤ most_bytes) (digits : hex_fault (lines bytes) ≡ None)
+    (items_is : items ≡ image_bytes (lines bytes)) (script_is : lines script ≡ script_lines (lines bytes)) (lent : image ≡ items) (tied : IsFileOf honest kernel (empty_file 65536))
     (empty : (f : VmFile) → memory_of kernel f ≡ record no_blocks { file = f }) where
   -- what holds of the script holds of the lines behind `end`
-  in-session : (P : List ℕ → List (List ℕ) → model.Memory → Type 0) → P image (lines script) (memory_of kernel (empty_file 0)) → P (image_bytes (lines bytes)) (script_lines (lines bytes)) no_blocks
+  in-session : (P : List ℕ → List (List ℕ) → model.Memory → Type 0) → P image (lines script) (memory_of kernel (empty_file 65536)) → P (image_bytes (lines bytes)) (script_lines (lines bytes)) no_blocks
   in-session P h =
-      let with_image = subst (λ i. P i (lines script) (memory_of kernel (empty_file 0))) (lent ∙ items_is) h in
-      let with_script = subst (λ ls. P (image_bytes (lines bytes)) ls (memory_of kernel (empty_file 0))) script_is with_image in
-      subst (λ m. P (image_bytes (lines bytes)) (script_lines (lines bytes)) m) (empty (empty_file 0)) with_script
+      let with_image = subst (λ i. P i (lines script) (memory_of kernel (empty_file 65536))) (lent ∙ items_is) h in
+      let with_script = subst (λ ls. P (image_bytes (lines bytes)) ls (memory_of kernel (empty_file 65536))) script_is with_image in
+      subst (λ m. P (image_bytes (lines bytes)) (script_lines (lines bytes)) m) (empty (empty_file 65536)) with_script
 
   -- the script ran
-  runs : (text : List ℕ) (g : VmFile) → RunsScript (IsChosen kernel later) image script (memory_of kernel (empty_file 0)) (memory_of later g) text
+  runs : (text : List ℕ) (g : VmFile) → RunsScript (IsChosen honest kernel later) image script (memory_of kernel (empty_file 65536)) (memory_of later g) text
       → (after : model.Memory) × Runs IsFaultless (image_bytes (lines bytes)) (script_lines (lines bytes)) no_blocks after text
   runs text g h =
-      (memory_of later g, in-session (λ i ls m. Runs IsFaultless i ls m (memory_of later g) text) (runs-faultless kernel later image (lines script) (memory_of kernel (empty_file 0)) (memory_of later g) text h.1))
+      (memory_of later g, in-session (λ i ls m. Runs IsFaultless i ls m (memory_of later g) text) (runs-faultless honest kernel later good fresh still image (lines script) (memory_of kernel (empty_file 65536)) (memory_of later g) text h.1))
 
   -- and the flush kept what the writer got
-  pub session-ran : (a b c : Option (List ℕ)) → RanScript image script kernel later a b → Keeps b c → RanBytes bytes a c
-  session-ran a b c (text, leads, appends) kept = (text, (short, good, runs text (leads (empty_file 0) tied).0 (leads (empty_file 0) tied).2), Appends-kept a b c text appends kept)
+  pub session-ran : (a b c : Option (List ℕ)) → RanScript honest image script kernel later a b → Keeps b c → RanBytes bytes a c
+  session-ran a b c (text, leads, appends) kept = (text, (short, digits, runs text (leads (empty_file 65536) tied).0 (leads (empty_file 65536) tied).3), Appends-kept a b c text appends kept)
 
   -- or the flush failed
-  pub session-unflushed : (a b c : Option (List ℕ)) → RanScript image script kernel later a b → Keeps b c → StoppedBytes bytes a c
-  session-unflushed a b c (text, leads, appends) kept = (text, (short, good, inr (runs text (leads (empty_file 0) tied).0 (leads (empty_file 0) tied).2)), Appends-kept a b c text appends kept)
+  pub session-unflushed : (a b c : Option (List ℕ)) → RanScript honest image script kernel later a b → Keeps b c → StoppedBytes bytes a c
+  session-unflushed a b c (text, leads, appends) kept = (text, (short, digits, inr (runs text (leads (empty_file 65536) tied).0 (leads (empty_file 65536) tied).3)), Appends-kept a b c text appends kept)
 
   -- where it ran, the writer may have failed
-  pub session-due : (a b : Option (List ℕ)) → RanScript image script kernel later a b → EndsBytes bytes Write
+  pub session-due : (a b : Option (List ℕ)) → RanScript honest image script kernel later a b → EndsBytes bytes Write
   session-due a b (text, leads, appends) =
-      let h = (leads (empty_file 0) tied).2 in
-      (short, good, in-session (λ i ls m. (parts : Parts) × Loads i ls parts) (h.1.0, h.1.1))
+      let h = (leads (empty_file 65536) tied).3 in
+      (short, digits, in-session (λ i ls m. (parts : Parts) × Loads i ls parts) (h.1.0, h.1.1))
 
   -- the script was stopped
-  pub session-stopped : (a b : Option (List ℕ)) → StoppedScript image script kernel later a b → StoppedBytes bytes a b
+  pub session-stopped : (a b : Option (List ℕ)) → StoppedScript honest image script kernel later a b → StoppedBytes bytes a b
   session-stopped a b (text, leads, appends) =
-      let g = (leads (empty_file 0) tied).0 in
-      let h = (leads (empty_file 0) tied).2 in
-      let stops = in-session (λ i ls m. Stops IsFaultless i ls m (memory_of later g) text) (stops-faultless kernel later image (lines script) (memory_of kernel (empty_file 0)) (memory_of later g) text h.1) in
-      (text, (short, good, inl (memory_of later g, stops)), appends)
+      let g = (leads (empty_file 65536) tied).0 in
+      let h = (leads (empty_file 65536) tied).3 in
+      let stops = in-session (λ i ls m. Stops IsFaultless i ls m (memory_of later g) text) (stops-faultless honest kernel later good fresh still image (lines script) (memory_of kernel (empty_file 65536)) (memory_of later g) text h.1) in
+      (text, (short, digits, inl (memory_of later g, stops)), appends)
 
 -- a fault that is the writer's
 pub if-write : {A : Type 0} (P : Type 0) (Q : ScriptFault → Type 0) (result : Result A ScriptFault) → IfErr result (λ fault. (fault ≡ Write) × P) → Q Write → IfErr result Q

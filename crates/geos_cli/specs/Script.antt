@@ -8,8 +8,8 @@ use Rattle.std.specs.Io.KnownBytes.{Appends}
 use Rattle.geos_table.specs.Memory as model
 use Rattle.geos_table.specs.VmFile.{VmFile}
 use Rattle.geos_table.specs.Effects.{Choice}
-use Rattle.geos_calls.specs.View.{KernelState, memory_of, IsFileOf}
-use Rattle.geos_calls.specs.Kernel.{IsChosen}
+use Rattle.geos_kernel.specs.View.{KernelState, memory_of, IsFileOf}
+use Rattle.geos_kernel.specs.Kernel.{IsChosen, NeverFell}
 use Rattle.geos_image.specs.declared.routine.Routine.{Routine}
 use Rattle.geos_image.specs.Parts.{Parts}
 use Rattle.geos_image.specs.Legal.{text_end}
@@ -107,19 +107,21 @@ pub record PrintsPart (allowed : Choice → Type 0) (image : Parts) (calls : Lis
   pub written : text ≡ earlier ++ part
 
 -- whatever VM file the model knows beside a kernel, this leads from its memory to that of
--- another kernel, with a VM file that the model may know then
-abbrev pub Leads : KernelState → KernelState → ((Choice → Type 0) → model.Memory → model.Memory → Type 0) → Type 0
-Leads kernel later this = (f : VmFile) → IsFileOf kernel f → (g : VmFile) × IsFileOf later g × this (IsChosen kernel later) (memory_of kernel f) (memory_of later g)
+-- another kernel, with a VM file that the model may know then, where `honest` says that the
+-- kernel's device is
+abbrev pub Leads : Type 0 → KernelState → KernelState → ((Choice → Type 0) → model.Memory → model.Memory → Type 0) → Type 0
+Leads honest kernel later this = (f : VmFile) → IsFileOf honest kernel f
+    → (g : VmFile) × IsFileOf honest later g × NeverFell honest kernel later × this (IsChosen honest kernel later) (memory_of kernel f) (memory_of later g)
 
 -- the calls were run, from kernel to kernel, and a writer got their text
-abbrev pub RanCalls : Parts → List Call → KernelState → KernelState → Option (List ℕ) → Option (List ℕ) → Type 0
-RanCalls image calls kernel later old new =
-    (text : List ℕ) × Leads kernel later (λ allowed before after. Prints allowed image calls before after text) × Appends old new text
+abbrev pub RanCalls : Type 0 → Parts → List Call → KernelState → KernelState → Option (List ℕ) → Option (List ℕ) → Type 0
+RanCalls honest image calls kernel later old new =
+    (text : List ℕ) × Leads honest kernel later (λ allowed before after. Prints allowed image calls before after text) × Appends old new text
 
 -- the calls were stopped by a writer that failed, which got the text up to there
-abbrev pub StoppedCalls : Parts → List Call → KernelState → KernelState → Option (List ℕ) → Option (List ℕ) → Type 0
-StoppedCalls image calls kernel later old new =
-    (text : List ℕ) × Leads kernel later (λ allowed before after. PrintsPart allowed image calls before after text) × Appends old new text
+abbrev pub StoppedCalls : Type 0 → Parts → List Call → KernelState → KernelState → Option (List ℕ) → Option (List ℕ) → Type 0
+StoppedCalls honest image calls kernel later old new =
+    (text : List ℕ) × Leads honest kernel later (λ allowed before after. PrintsPart allowed image calls before after text) × Appends old new text
 
 -- bytes spell an image that the verifier accepts, and no line of the script is bad
 pub record Loads (bytes : List ℕ) (lines : List (List ℕ)) (image : Parts) : Type 0 where
@@ -177,14 +179,14 @@ abbrev pub StopsScript : (Choice → Type 0) → List ℕ → List ℕ → model
 StopsScript allowed bytes script before after text = (length script ≤ most_bytes) × Stops allowed bytes (lines script) before after text
 
 -- the script ran, from kernel to kernel, and a writer got its text
-abbrev pub RanScript : List ℕ → List ℕ → KernelState → KernelState → Option (List ℕ) → Option (List ℕ) → Type 0
-RanScript bytes script kernel later old new =
-    (text : List ℕ) × Leads kernel later (λ allowed before after. RunsScript allowed bytes script before after text) × Appends old new text
+abbrev pub RanScript : Type 0 → List ℕ → List ℕ → KernelState → KernelState → Option (List ℕ) → Option (List ℕ) → Type 0
+RanScript honest bytes script kernel later old new =
+    (text : List ℕ) × Leads honest kernel later (λ allowed before after. RunsScript allowed bytes script before after text) × Appends old new text
 
 -- the script was stopped by a writer that failed, which got the text up to there
-abbrev pub StoppedScript : List ℕ → List ℕ → KernelState → KernelState → Option (List ℕ) → Option (List ℕ) → Type 0
-StoppedScript bytes script kernel later old new =
-    (text : List ℕ) × Leads kernel later (λ allowed before after. StopsScript allowed bytes script before after text) × Appends old new text
+abbrev pub StoppedScript : Type 0 → List ℕ → List ℕ → KernelState → KernelState → Option (List ℕ) → Option (List ℕ) → Type 0
+StoppedScript honest bytes script kernel later old new =
+    (text : List ℕ) × Leads honest kernel later (λ allowed before after. StopsScript allowed bytes script before after text) × Appends old new text
 
 -- when a script ends with a fault: first of all, where it is too long
 abbrev pub ScriptEndsBy : List ℕ → List ℕ → ScriptFault → Type 0

@@ -21,9 +21,9 @@ pub record IsFaultless (choice : Choice) : Type 0 where
   pub device : choice.device ≡ false
 
 -- the memory in which a session begins: no block, in a region of 65,536 bytes, and an empty VM
--- file
+-- file with an area of as many
 abbrev pub no_blocks : model.Memory
-no_blocks = record { blocks = replicate 1024 None; file = empty_file 0; region = 65536 }
+no_blocks = record { blocks = replicate 1024 None; file = empty_file 65536; region = 65536 }
 
 -- the script in the lines behind `end` runs on the image in front of it, and prints the text
 abbrev pub RunsLines : List (List ℕ) → List ℕ → Type 0

@@ -9,14 +9,15 @@ ghost use Rattle.geos_cli.specs.Fault.{KeptUnless};
 ghost use Rattle.geos_cli.specs.Script.{IsAdmitted, routine_named, registers_of, call_named, call_of};
 ghost use Rattle.geos_cli.specs.Script.{calls_of, first_bad, IsBadLine, IsBadImage, printed};
 ghost use Rattle.geos_cli.specs.Script.{RanCalls, StoppedCalls, RanScript, StoppedScript, ScriptEndsBy};
+ghost use Rattle.geos_kernel.specs.Kernel.{LeavesVm};
 ghost use Rattle.geos_image.specs.Reading.{image_at};
 ghost use Rattle.geos_verify.specs.Rules.{Accepted};
 ghost use Rattle.geos_text.specs.Words.{words};
 
 use crate::counted::Counted;
 use crate::fault::ScriptFault;
-use geos_calls::Kernel;
 use geos_image::Image;
+use geos_kernel::Kernel;
 use geos_machine::{Machine, admits};
 use geos_text::{first_line, first_word, number, without_comment};
 use geos_verify::{Checked, check};
@@ -161,10 +162,11 @@ fn run_calls<W: Write, D: Device + Drop>(
     out: &mut Counted<W>,
 ) -> Result<(), ScriptFault>
     requires { All (IsAdmitted checked.now) calls.now }
-    ensures ok { IfOk result (λ _. RanCalls checked.now calls.now kernel.old.core kernel.new.core
+    ensures ok { IfOk result (λ _. RanCalls (D.honest kernel.old.device) checked.now calls.now kernel.old.core kernel.new.core
         (W.contents out.old.stream) (W.contents out.new.stream)) }
-    ensures stopped { IfErr result (λ _. StoppedCalls checked.now calls.now kernel.old.core kernel.new.core
+    ensures stopped { IfErr result (λ _. StoppedCalls (D.honest kernel.old.device) checked.now calls.now kernel.old.core kernel.new.core
         (W.contents out.old.stream) (W.contents out.new.stream)) }
+    ensures vm { LeavesVm kernel.old kernel.new }
     ensures kept { IfOk result (λ _. out.new.failures ≡ out.old.failures) }
     ensures failed { IfErr result (λ fault. (fault ≡ Write) × Rose out.old.failures out.new.failures) }
 {
@@ -206,12 +208,15 @@ pub fn run_script<W: Write, D: Device + Drop>(
     kernel: &mut Kernel<D>,
     out: &mut Counted<W>,
 ) -> Result<(), ScriptFault>
-    ensures ran { IfOk result (λ _. RanScript image.now script.now kernel.old.core kernel.new.core
+    ensures ran { IfOk result (λ _. RanScript (D.honest kernel.old.device) image.now script.now kernel.old.core kernel.new.core
         (W.contents out.old.stream) (W.contents out.new.stream)) }
     ensures due { IfErr result (ScriptEndsBy image.now script.now) }
     ensures stopped { IfErr result (λ fault. fault ≡ Write →
-        StoppedScript image.now script.now kernel.old.core kernel.new.core
+        StoppedScript (D.honest kernel.old.device) image.now script.now kernel.old.core kernel.new.core
         (W.contents out.old.stream) (W.contents out.new.stream)) }
+
+    // No call asks the device.
+    ensures vm { LeavesVm kernel.old kernel.new }
 
     // Nothing runs before a fault other than `Write`.
     ensures kernel_kept { IfErr result (λ fault. fault ≢ Write → kernel.new ≡ kernel.old) }

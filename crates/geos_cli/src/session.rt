@@ -12,7 +12,7 @@ use crate::counted::Counted;
 use crate::fault::ScriptFault;
 use crate::hex::image_and_script;
 use crate::script::{MOST_BYTES, run_script};
-use geos_calls::kernel_in_memory;
+use geos_kernel::kernel_in_memory;
 use std::alloc::Global;
 use std::io::{Read, Write};
 
