@@ -10,8 +10,8 @@
 //! | `call WORD ..` | how the routine's run ends on these words, over a kernel with no block |
 #![tactic(auto)]
 
-use geos_calls::kernel_in_memory;
 use geos_image::{Image, read, write};
+use geos_kernel::kernel_in_memory;
 use geos_machine::{Machine, Outcome, admits};
 use geos_verify::{Checked, check};
 use std::alloc::{AllocError, Global};
