@@ -11,7 +11,7 @@ use Rattle.geos_kernel.specs.Kernel.{IsChosen}
 use Rattle.geos_image.specs.Parts.{Parts}
 use Rattle.geos_machine.specs.declared.outcome.Outcome.{Outcome}
 use Rattle.geos_machine.specs.Runs.{RanWith}
-use Rattle.geos_machine.proofs.Chosen.{chosen-before, chosen-after, lasts-on}
+use Rattle.geos_kernel.proofs.Chosen.{chosen-before, chosen-after, lasts-on}
 use Rattle.geos_cli.specs.declared.script.Call.{Call}
 use Rattle.geos_cli.specs.Counted.{AppendsPart}
 use Rattle.geos_cli.specs.Script.{printed, calls_of, most_bytes, Prints, PrintsPart, Leads, RanCalls, StoppedCalls, Loads, RanScript, StoppedScript}

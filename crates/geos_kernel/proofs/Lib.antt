@@ -20,4 +20,5 @@ pub mod Listed
 pub mod ListedRows
 pub mod VmCalls
 pub mod ItemCalls
+pub mod Chosen
 pub mod Turns

@@ -1,35 +1,16 @@
 -- Calls answered one after another.
-use Rattle.std.proofs.Common.{◌≡◌, ℕ, List, [], ◌∷◌, refl, sym, ap, subst, arith, inl, inr}
-use Rattle.std.specs.Prelude.{◌⊎◌, ◌↔◌, Result}
+use Rattle.std.proofs.Common.{◌≡◌, ℕ, List, [], ◌∷◌, refl, sym, ap, subst, inl}
+use Rattle.std.specs.Prelude.{◌↔◌, Result}
 use Rattle.geos_model.specs.declared.refusal.Refusal.{Refusal}
 use Rattle.geos_table.specs.VmFile.{VmFile}
 use Rattle.geos_table.specs.Effects.{Call, Choice, Reference}
 use Rattle.geos_kernel.specs.declared.span.Span.{Span}
 use Rattle.geos_kernel.specs.Spans.{Stands, IsFresh}
-use Rattle.geos_kernel.specs.Kernel.{Calls, HasRisen, IsChosen, NeverFell}
+use Rattle.geos_kernel.specs.Kernel.{Calls, IsChosen, NeverFell}
 use Rattle.geos_kernel.specs.Turns.{Turn, Does, Tells, TellsTwo, Refers, Answered, InTurn, Step, Comes, stale_by, AreChosen, AnsweredByRows, AnswersAlike, CallsAnswerInTurn}
 use Rattle.geos_kernel.specs.View.{KernelState, IsFileOf, failed_in, memory_of}
+use Rattle.geos_kernel.proofs.Chosen.{chosen-after, chosen-before, lasts-on}
 use Rattle.geos_kernel.proofs.Seen.{file-on}
-
--- Counts of failures, which stay or rise
-
-rises-more : (a b c : ℕ) → HasRisen a b → (c ≡ b) ⊎ HasRisen b c → HasRisen a c
-rises-more a b c (inl less) (inl same) = inl (omega (arith, less, same))
-rises-more a b c (inl less) (inr (inl more)) = inl (omega (arith, less, more))
-rises-more a b c (inr most) (inl same) = inr (omega (arith, most, same))
-rises-more a b c (inr most) (inr (inl more)) = inr (omega (arith, most, more))
-rises-more a b c first (inr (inr most)) = inr most
-
-rises-later : (a b c : ℕ) → (b ≡ a) ⊎ HasRisen a b → HasRisen b c → HasRisen a c
-rises-later a b c (inl same) (inl less) = inl (omega (arith, same, less))
-rises-later a b c (inr (inl more)) (inl less) = inl (omega (arith, more, less))
-rises-later a b c (inr (inr most)) (inl less) = inr (omega (arith, most, less))
-rises-later a b c first (inr most) = inr most
-
-stays-or-rises : (a b c : ℕ) → (b ≡ a) ⊎ HasRisen a b → (c ≡ b) ⊎ HasRisen b c → (c ≡ a) ⊎ HasRisen a c
-stays-or-rises a b c (inl same) (inl still) = inl (omega (arith, same, still))
-stays-or-rises a b c (inr risen) later = inr (rises-more a b c risen later)
-stays-or-rises a b c first (inr risen) = inr (rises-later a b c first risen)
 
 -- Other words for an honest device
 
@@ -55,18 +36,6 @@ answered-alike other good alike (TellsTwo row result) old new calls = calls-alik
 answered-alike other good alike (Refers row result) old new calls = calls-alike other good alike row result old new calls
 
 module _ (good : Type 0) where
-  -- what may come from outside up to one kernel may come up to a later one
-  chosen-before : (old mid new : KernelState) (choice : Choice) → NeverFell good mid new → IsChosen good old mid choice → IsChosen good old new choice
-  chosen-before old mid new choice later chosen = record { given = chosen.given; device = λ g t. rises-more (failed_in old) (failed_in mid) (failed_in new) (chosen.device g t) (later g) }
-
-  -- and what may come from one kernel on, from an earlier one on
-  chosen-after : (old mid new : KernelState) (choice : Choice) → NeverFell good old mid → IsChosen good mid new choice → IsChosen good old new choice
-  chosen-after old mid new choice before chosen = record { given = chosen.given; device = λ g t. rises-later (failed_in old) (failed_in mid) (failed_in new) (before g) (chosen.device g t) }
-
-  -- the count of failures stays or rises over both of two stretches
-  lasts-on : (old mid new : KernelState) → NeverFell good old mid → NeverFell good mid new → NeverFell good old new
-  lasts-on old mid new first later g = stays-or-rises (failed_in old) (failed_in mid) (failed_in new) (first g) (later g)
-
   -- what the row of one call comes to, in memory with this VM file
   record One (turn : Turn) (old new : KernelState) (f : VmFile) : Type 0 where
     choice : Choice
@@ -91,7 +60,7 @@ module _ (good : Type 0) where
   -- what may come from one kernel on, from an earlier one on
   all-after : (old mid new : KernelState) → NeverFell good old mid → (steps : List Step) → AreChosen good mid new steps → AreChosen good old new steps
   all-after old mid new before [] h = tt
-  all-after old mid new before (step ∷ steps) h = (chosen-after old mid new step.choice before h.0, all-after old mid new before steps h.1)
+  all-after old mid new before (step ∷ steps) h = (chosen-after good old mid new step.choice before h.0, all-after old mid new before steps h.1)
 
   -- calls one after another, and the count of failures over them
   record All (turns : List Turn) (old new : KernelState) (f : VmFile) : Type 0 where
@@ -119,13 +88,13 @@ module _ (good : Type 0) where
         by_rows = record {
           steps = record { turn = turn; choice = first.choice } ∷ rest.steps;
           calls = ap (λ l. turn ∷ l) rest.calls;
-          chosen = (chosen-before old made.0 new first.choice later.lasts first.chosen, all-after old made.0 new first.lasts rest.steps rest.chosen);
+          chosen = (chosen-before good old made.0 new first.choice later.lasts first.chosen, all-after old made.0 new first.lasts rest.steps rest.chosen);
           file = rest.file;
           tied = rest.tied;
           run = (memory_of made.0 first.file, first.comes, rest.run);
           spans = λ span ref stands spared. rest.spans span ref (first.spans span ref stands spared.0) spared.1;
         };
-        lasts = lasts-on old made.0 new first.lasts later.lasts;
+        lasts = lasts-on good old made.0 new first.lasts later.lasts;
       }
 
   pub calls_answer_in_turn : CallsAnswerInTurn good

@@ -54,7 +54,8 @@ slots-told s laid h = elim (handle-or {X = ℕ} 0 h) [ inl p ↦ in_slot h p | i
         let less : k < length (take 1024 s.blocks) = omega (arith, p.1, length-take 1024 s.blocks, laid.slots) in
         get_or-map block_in (take 1024 s.blocks) k None None less ∙ ap block_in (get_or-take 1024 s.blocks k None (omega (arith, p.1))) ∙ sym (ap (λ j. block_in (block_at s j)) i)
 
-locks-spelled : (o : Option Block) → model.locks_in (block_in o) ≡ store.locks_in o
+-- how often a block of a slot is locked
+pub locks-spelled : (o : Option Block) → model.locks_in (block_in o) ≡ store.locks_in o
 locks-spelled None = refl
 locks-spelled (Some b) = refl
 

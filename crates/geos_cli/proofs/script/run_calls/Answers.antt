@@ -3,7 +3,7 @@ use Rattle.std.specs.Io.KnownBytes.{Appends}
 use Rattle.geos_cli.specs.declared.script.Call.{Call}
 use Rattle.geos_cli.specs.Script.{printed}
 use Rattle.geos_cli.specs.Counted.{AppendsPart}
-use Rattle.geos_machine.proofs.Chosen.{leaves-on}
+use Rattle.geos_kernel.proofs.Chosen.{leaves-on}
 use Rattle.geos_cli.proofs.CallsRun.{ran-none, ran-more, ran-all, still-ran, stopped-at}
 use Rattle.geos_cli.proofs.Parts.{IfErr-any}
 use Rattle.geos_cli.proofs.script.run_calls.Goals as goal
