@@ -28,7 +28,7 @@ use Rattle.geos_kernel.specs.Files.{ReadsFile}
 use Rattle.geos_kernel.specs.Kernel.{Calls, IsKernel, LeadsToSpan, NeverFell}
 use Rattle.geos_kernel.specs.Spans.{IsStanding, SpansStay, Stands}
 use Rattle.geos_kernel.specs.View.{KernelOn, KernelState, core_of, kernel_of, memory_of, IsFileOf}
-use Rattle.geos_kernel.proofs.Listed.{StaysLocked, calls-beside, keeps-locked, more-locked, same-locked}
+use Rattle.geos_kernel.proofs.Listed.{Spares, StaysLocked, calls-beside, keeps-spares, kernel-beside, more-locked, same-spares}
 use Rattle.geos_kernel.proofs.Looks.{found-stands}
 use Rattle.geos_kernel.proofs.Seen.{memory-known, row-answers}
 use Rattle.geos_kernel.proofs.Stays.{spans-same, stands-same}
@@ -93,15 +93,15 @@ module _ {D : Type 0} (image : D → List ℕ) (honest : D → Type 0) (may_leav
 
   -- a group that is locked for an item
   module _ (i n : ℕ) (r : Result (ℕ × ℕ) Refusal) (locks : LocksItem image honest may_leave left failed g i n r v w s t) where
-    own-locked : StaysLocked s t (vm_slot g)
-    own-locked = on r locks.ok locks.refused
+    pub ilock-spares : Spares s t
+    ilock-spares = keeps-spares v s t g locks.keeps (on r locks.ok locks.refused)
       where
         on : (r : Result (ℕ × ℕ) Refusal) → OnOk r (LockedMore s t g) → OnErr r (IsThere s (vm_slot g) → t ≡ s) → StaysLocked s t (vm_slot g)
         on (Ok place) ok refused = more-locked s t g ok
-        on (Err why) ok refused = λ some. same-locked s t (refused (there_of_locks s (vm_slot g) some)) (vm_slot g) some
+        on (Err why) ok refused = λ some. (same-spares s t (refused (there_of_locks s (vm_slot g) some))).locked (vm_slot g) some
 
     pub ilock-calls : Calls (honest v.file.device) (ilock g i n) (refers_to g i r) (core_of image failed v s) (core_of image failed w t)
-    ilock-calls = calls-beside image honest failed v w s t (ilock g i n) (refers_to g i r) locks.row locks.device.reads.stays (item-lasts r locks.device) (keeps-locked v s t g locks.keeps own-locked)
+    ilock-calls = calls-beside image honest failed v w s t (ilock g i n) (refers_to g i r) locks.row locks.device.reads.stays (item-lasts r locks.device) ilock-spares
 
   -- the item was found
   pub ilock-gives : (i n at len place : ℕ) → LocksItem image honest may_leave left failed g i n (Ok (at, len)) v w s t → place ≡ place_of t (vm_slot g)
@@ -133,18 +133,18 @@ why-same : (why : Refusal) → ◌≡◌ {A = Result (ℕ × ℕ) Refusal} (Err 
 why-same why e = let same : why ≡ refusal.Disk = cc in ap Err same
 
 module _ {D : Type 0} (image : D → List ℕ) (honest : D → Type 0) (may_leave : D → List ℕ → Type 0) (left : D → D → List ℕ → Type 0) (failed : D → ℕ) (v w : VmState D) (s t : Store) (k : KernelOn D) (is : kernel_of image failed v s ≡ k) (g i n : ℕ) where
-  reads-file : {fails ends : Type 0} → (ends → fails) → (fails → ends) → w ≡ with_device v w.file.device → ReadsDevice image honest may_leave left failed fails v w → ReadsFile image honest may_leave left failed ends k (kernel_of image failed w t)
-  reads-file {ends = ends} one other same device = subst (λ x. ReadsFile image honest may_leave left failed ends x (kernel_of image failed w t)) is (record {
+  reads-file : {fails ends : Type 0} → (ends → fails) → (fails → ends) → w ≡ with_device v w.file.device → ReadsDevice image honest may_leave left failed fails v w → ReadsFile image honest failed may_leave left ends k (kernel_of image failed w t)
+  reads-file {ends = ends} one other same device = subst (λ x. ReadsFile image honest failed may_leave left ends x (kernel_of image failed w t)) is (record {
     reads = device.reads;
     file = ap (λ (x : VmState D). x.file) same;
     cause = λ good failed. device.cause good (one failed);
     counted = λ never. device.counted (λ failed. never (other failed));
   })
 
-  pub ilock-reads : (at len : ℕ) (span : Span) → LocksItem image honest may_leave left failed g i n (Ok (at, len)) v w s t → ReadsFile image honest may_leave left failed (◌≡◌ {A = Result Span Refusal} (Ok span) (Err refusal.Disk)) k (kernel_of image failed w t)
+  pub ilock-reads : (at len : ℕ) (span : Span) → LocksItem image honest may_leave left failed g i n (Ok (at, len)) v w s t → ReadsFile image honest failed may_leave left (◌≡◌ {A = Result Span Refusal} (Ok span) (Err refusal.Disk)) k (kernel_of image failed w t)
   ilock-reads at len span locks = reads-file (λ e. absurd cc) (λ e. absurd cc) locks.same locks.device
 
-  pub ilock-failed : (why : Refusal) → LocksItem image honest may_leave left failed g i n (Err why) v w s t → ReadsFile image honest may_leave left failed (◌≡◌ {A = Result Span Refusal} (Err why) (Err refusal.Disk)) k (kernel_of image failed w t)
+  pub ilock-failed : (why : Refusal) → LocksItem image honest may_leave left failed g i n (Err why) v w s t → ReadsFile image honest failed may_leave left (◌≡◌ {A = Result Span Refusal} (Err why) (Err refusal.Disk)) k (kernel_of image failed w t)
   ilock-failed why locks = reads-file (same-why why) (why-same why) locks.same locks.device
 
 -- The map item

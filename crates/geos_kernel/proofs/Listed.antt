@@ -42,21 +42,24 @@ use Rattle.geos_kernel.proofs.Stays.{stands-on, thins-locked}
 abbrev pub StaysLocked : Store → Store → ℕ → Type 0
 StaysLocked s t slot = 0 < locks_of s slot → (bytes_of t slot ≡ bytes_of s slot) × (0 < locks_of t slot) × (place_of t slot ≡ place_of s slot)
 
--- every locked slot does
-abbrev pub AllStayLocked : Store → Store → Type 0
-AllStayLocked s t = (slot : ℕ) → StaysLocked s t slot
+-- each block of global memory is as it was, and so is the region's length
+pub record SparesMem (s t : Store) : Type 0 where
+  pub mem : (h : ℕ) → IsHandle h → block_at t (slot_of (mem h)) ≡ block_at s (slot_of (mem h))
+  pub len : t.len ≡ s.len
 
--- each block of global memory is as it was
-abbrev pub MemStays : Store → Store → Type 0
-MemStays s t = (h : ℕ) → IsHandle h → block_at t (slot_of (mem h)) ≡ block_at s (slot_of (mem h))
+-- and each locked slot stays so
+pub record Spares (s t : Store) : Type 0 where
+  pub beside : SparesMem s t
+  pub locked : (slot : ℕ) → StaysLocked s t slot
 
 -- Blocks that stay
 
-pub same-locked : (s t : Store) → t ≡ s → AllStayLocked s t
-same-locked s t same slot some = (ap (λ u. bytes_of u slot) same, subst (λ u. 0 < locks_of u slot) (sym same) some, ap (λ u. place_of u slot) same)
-
-pub same-mem : (s t : Store) → t ≡ s → MemStays s t
-same-mem s t same h p = ap (λ u. block_at u (slot_of (mem h))) same
+-- where nothing has changed
+pub same-spares : (s t : Store) → t ≡ s → Spares s t
+same-spares s t same = record {
+  beside = record { mem = λ h p. ap (λ u. block_at u (slot_of (mem h))) same; len = ap (λ (u : Store). u.len) same };
+  locked = λ slot some. (ap (λ u. bytes_of u slot) same, subst (λ u. 0 < locks_of u slot) (sym same) some, ap (λ u. place_of u slot) same);
+}
 
 block-stays : (s t : Store) (slot : ℕ) → (block_at t slot ≡ block_at s slot) × (place_of t slot ≡ place_of s slot) → StaysLocked s t slot
 block-stays s t slot same some = (ap bytes_in same.0, subst (λ o. 0 < locks_in o) (sym same.0) some, same.1)
@@ -68,16 +71,22 @@ apart h k p e = elim (handle-or {X = ℕ} 0 k) [
   | inr past ↦ (let low = slot_of-mem h p in let high = slot_of-past Vm k past in let most = p.1 in omega (arith, low, high, most, e))
 ]
 
-module _ {D : Type 0} (v : VmState D) (s t : Store) (h : ℕ) (keeps : Keeps v s t h) where
-  -- all but one of the file stay
-  pub keeps-locked : StaysLocked s t (vm_slot h) → AllStayLocked s t
-  keeps-locked own slot = elim (cases_eq slot (vm_slot h)) [
+-- where all others stay
+pub keeps-mem : {D : Type 0} (v : VmState D) (s t : Store) (h : ℕ) → Keeps v s t h → SparesMem s t
+keeps-mem v s t h keeps = record {
+  mem = λ k p. (let low = slot_of-mem k p in let most = p.1 in mem-kept v s t h (slot_of (mem k)) (omega (arith, low, most)) (keeps.each (slot_of (mem k)) (apart k h p)));
+  len = keeps.len;
+}
+
+-- and one of the file does, if it is locked
+pub keeps-spares : {D : Type 0} (v : VmState D) (s t : Store) (h : ℕ) → Keeps v s t h → StaysLocked s t (vm_slot h) → Spares s t
+keeps-spares v s t h keeps own = record {
+  beside = keeps-mem v s t h keeps;
+  locked = λ slot. elim (cases_eq slot (vm_slot h)) [
     | inl same ↦ subst (StaysLocked s t) (sym same) own
     | inr ne ↦ (λ some. block-stays s t slot (goes-free v s t h slot some (keeps.each slot ne)) some)
-  ]
-
-  pub keeps-mem : MemStays s t
-  keeps-mem k p = (let low = slot_of-mem k p in let most = p.1 in mem-kept v s t h (slot_of (mem k)) (omega (arith, low, most)) (keeps.each (slot_of (mem k)) (apart k h p)))
+  ];
+}
 
 pub more-locked : (s t : Store) (h : ℕ) → LockedMore s t h → StaysLocked s t (vm_slot h)
 more-locked s t h more some =
@@ -85,49 +94,42 @@ more-locked s t h more some =
     (more.bytes there, omega (arith, more.locks), more.place there)
 
 pub not-locked : (s t : Store) (h : ℕ) → NotBrought s t h → StaysLocked s t (vm_slot h)
-not-locked s t h not some = same-locked s t (not.stays (there_of_locks s (vm_slot h) some)) (vm_slot h) some
+not-locked s t h not some = (same-spares s t (not.stays (there_of_locks s (vm_slot h) some))).locked (vm_slot h) some
 
-pub drops-keeps : {D : Type 0} (v : VmState D) (s t : Store) (h : ℕ) → IsLaidOut s → Drops s t h → Keeps v s t h
-drops-keeps v s t h laid drops = record { each = λ slot ne. inl (drops.others slot ne, λ some. drops.places slot ne); laid = drops.laid laid; len = drops.len }
+-- where one of the file was dropped, which was not locked
+pub drops-spares : {D : Type 0} (v : VmState D) (s t : Store) (h : ℕ) → IsLaidOut s → Drops s t h → (0 < locks_of s (vm_slot h) → ⊥) → Spares s t
+drops-spares v s t h laid drops free =
+    keeps-spares v s t h (record { each = λ slot ne. inl (drops.others slot ne, λ some. drops.places slot ne); laid = drops.laid laid; len = drops.len }) (λ some. absurd (free some))
 
--- blocks were discarded
-module _ {D : Type 0} (v : VmState D) (s t : Store) (but : ℕ) (thins : Thins v s t but) where
-  pub thins-all : AllStayLocked s t
-  thins-all slot some = block-stays s t slot (thins-locked v s t but thins slot some) some
+-- where some were discarded
+pub thins-spares : {D : Type 0} (v : VmState D) (s t : Store) (but : ℕ) → Thins v s t but → Spares s t
+thins-spares v s t but thins = record {
+  beside = record {
+    mem = λ k p. (let low = slot_of-mem k p in let most = p.1 in mem-kept v s t but (slot_of (mem k)) (omega (arith, low, most)) (on (slot_of (mem k)) (thins.each (slot_of (mem k)))));
+    len = thins.len;
+  };
+  locked = λ slot some. block-stays s t slot (thins-locked v s t but thins slot some) some;
+}
+  where
+    on : (slot : ℕ) → StaysOrGoes v s t but slot → KeptOrGoes v s t but slot
+    on slot (inl same) = inl (same.0, λ some. same.1)
+    on slot (inr goes) = inr goes
 
-  pub thins-mem : MemStays s t
-  thins-mem k p = (let low = slot_of-mem k p in let most = p.1 in mem-kept v s t but (slot_of (mem k)) (omega (arith, low, most)) (on (thins.each (slot_of (mem k)))))
-    where
-      on : StaysOrGoes v s t but (slot_of (mem k)) → KeptOrGoes v s t but (slot_of (mem k))
-      on (inl same) = inl (same.0, λ some. same.1)
-      on (inr goes) = inr goes
-
--- the blocks of the file were dropped, none of which was locked
-module _ (s t : Store) (none : NoneLocked s) (drops : DropsAll s t) where
-  other : (slot : ℕ) → 0 < locks_of s slot → (h : ℕ) → IsHandle h → slot ≢ vm_slot h
-  other slot some h p same = (let free = none h p in let here = ap (locks_of s) same in omega (arith, some, free, here))
-
-  pub dropped-all : AllStayLocked s t
-  dropped-all slot some = block-stays s t slot (drops.others slot (other slot some), drops.places slot (other slot some)) some
-
-  pub dropped-mem : MemStays s t
-  dropped-mem k p = drops.others (slot_of (mem k)) (λ h q. apart k h p)
+-- where all of the file were dropped, none of which was locked
+dropped-spares : (s t : Store) → NoneLocked s → DropsAll s t → Spares s t
+dropped-spares s t none drops = record {
+  beside = record { mem = λ k p. drops.others (slot_of (mem k)) (λ h q. apart k h p); len = drops.len };
+  locked = λ slot some. block-stays s t slot (drops.others slot (other slot some), drops.places slot (other slot some)) some;
+}
+  where
+    other : (slot : ℕ) → 0 < locks_of s slot → (h : ℕ) → IsHandle h → slot ≢ vm_slot h
+    other slot some h p same = (let free = none h p in let here = ap (locks_of s) same in omega (arith, some, free, here))
 
 -- what a commit leaves
-pub after-all : (how : How) (s t : Store) → NoneLocked s → StoreAfter how s t → AllStayLocked s t
-after-all Update s t none after = same-locked s t after
-after-all Save s t none after = same-locked s t after
-after-all Revert s t none after = dropped-all s t none after
-
-pub after-mem : (how : How) (s t : Store) → NoneLocked s → StoreAfter how s t → MemStays s t
-after-mem Update s t none after = same-mem s t after
-after-mem Save s t none after = same-mem s t after
-after-mem Revert s t none after = dropped-mem s t none after
-
-pub after-len : (how : How) (s t : Store) → StoreAfter how s t → t.len ≡ s.len
-after-len Update s t after = ap (λ (u : Store). u.len) after
-after-len Save s t after = ap (λ (u : Store). u.len) after
-after-len Revert s t after = after.len
+pub commit-spares : (how : How) (s t : Store) → NoneLocked s → StoreAfter how s t → Spares s t
+commit-spares Update s t none after = same-spares s t after
+commit-spares Save s t none after = same-spares s t after
+commit-spares Revert s t none after = dropped-spares s t none after
 
 -- Blocks of a kernel
 
@@ -143,16 +145,16 @@ no-locks None few = omega arith
 no-locks (Some b) few = few tt
 
 module _ {D : Type 0} (image : D → List ℕ) (honest : D → Type 0) (failed : D → ℕ) (v w : VmState D) (s t : Store) where
-  -- they still are one's where those of global memory stay
-  pub kernel-beside : IsKernel image honest v s → IsTied image honest w t → MemStays s t → t.len ≡ s.len → ((f : VmFile) × vm.IsFileOf image honest w t f) → IsKernel image honest w t
-  kernel-beside k tied stays len known = record {
+  -- they still are one's where those of global memory are spared
+  pub kernel-beside : IsKernel image honest v s → IsTied image honest w t → SparesMem s t → ((f : VmFile) × vm.IsFileOf image honest w t f) → IsKernel image honest w t
+  kernel-beside k tied spares known = record {
     laid = tied.laid;
     heaps = λ n there. (both n.owner n.h there).0;
     handles = λ n there. (both n.owner n.h there).1;
     few = λ n. counts n.owner n.h;
     tied = tied;
     known = known;
-    small = rw len k.small;
+    small = rw spares.len k.small;
   }
     where
       handle : (owner : Owner) (h : ℕ) → IsThere t (slot_of (named owner h)) → IsHandle h
@@ -160,26 +162,26 @@ module _ {D : Type 0} (image : D → List ℕ) (honest : D → Type 0) (failed :
 
       both : (owner : Owner) (h : ℕ) → IsThere t (slot_of (named owner h)) → IsHeap (bytes_of t (slot_of (named owner h))) × (block.handle_word (bytes_of t (slot_of (named owner h))) ≡ h)
       both Mem h there =
-          let is = stays h (handle Mem h there) in
+          let is = spares.mem h (handle Mem h there) in
           let before = subst IsBlock is there in
           (subst (λ o. IsHeap (bytes_in o)) (sym is) (k.heaps (mem h) before), ap (λ o. block.handle_word (bytes_in o)) is ∙ k.handles (mem h) before)
       both Vm h there = tied-heap image honest w h (held_at w h) (block_at t (vm_slot h)) (tied.each h (handle Vm h there)) there
 
       counts : (owner : Owner) (h : ℕ) → locks_of t (slot_of (named owner h)) ≤ 65535
-      counts Mem h = no-locks (block_at t (slot_of (mem h))) (λ there. (let is = stays h (handle Mem h there) in subst (λ o. locks_in o ≤ 65535) (sym is) (k.few (mem h))))
+      counts Mem h = no-locks (block_at t (slot_of (mem h))) (λ there. (let is = spares.mem h (handle Mem h there) in subst (λ o. locks_in o ≤ 65535) (sym is) (k.few (mem h))))
       counts Vm h =
           no-locks (block_at t (vm_slot h)) (λ there. few-named image honest w t tied (memory_of (core_of image failed w t) known.0) (record { blocks = refl; file = known.1; region = refl }) (vm_name h) there refl)
 
   -- spans stay where the locked blocks do
-  pub spans-beside : AllStayLocked s t → (f : VmFile) (stale : Staleness) → SpansStay (core_of image failed v s) (core_of image failed w t) f stale
-  spans-beside stay f stale span ref stands fresh =
-      let own = stay (slot_of ref.name) stands.locked in
+  pub spans-beside : Spares s t → (f : VmFile) (stale : Staleness) → SpansStay (core_of image failed v s) (core_of image failed w t) f stale
+  spans-beside spares f stale span ref stands fresh =
+      let own = spares.locked (slot_of ref.name) stands.locked in
       stands-on (core_of image failed v s) (core_of image failed w t) span ref own.0 own.1 own.2 stands
 
   -- a call that does its row
   pub calls-beside : {A : Type 0} (call : Call A) (result : Result A Refusal) → DoesRow image honest failed call result v s w t → (honest v.file.device → honest w.file.device)
-      → NeverFell (honest v.file.device) (core_of image failed v s) (core_of image failed w t) → AllStayLocked s t → Calls (honest v.file.device) call result (core_of image failed v s) (core_of image failed w t)
-  calls-beside call result row still lasts stay = record {
+      → NeverFell (honest v.file.device) (core_of image failed v s) (core_of image failed w t) → Spares s t → Calls (honest v.file.device) call result (core_of image failed v s) (core_of image failed w t)
+  calls-beside call result row still lasts spares = record {
     answers = row-answers image honest failed call result v s w t row still lasts;
-    spans = λ f tied choice. spans-beside stay f (effect_of call choice (memory_of (core_of image failed v s) f)).stale;
+    spans = λ f tied choice. spans-beside spares f (effect_of call choice (memory_of (core_of image failed v s) f)).stale;
   }

@@ -12,26 +12,25 @@ use Rattle.vm_blocks.specs.Refused.{of_commit}
 use Rattle.geos_kernel.specs.View.{KernelOn, file_over}
 
 -- the VM file of a kernel on its device
-abbrev pub file_of : {D : Type 0} → KernelOn D → FileState D
-file_of k = file_over k.device k.core.vm.file
+abbrev pub vm_file_of : {D : Type 0} → KernelOn D → FileState D
+vm_file_of k = file_over k.device k.core.vm.file
 
 -- a call that asks the device nothing, and leaves what the file keeps
 pub record AsksNothing {D : Type 0} (old new : KernelOn D) : Type 0 where
   pub device : new.device ≡ old.device
   pub file : new.core.vm.file ≡ old.core.vm.file
 
--- a call that reads the device at most: it writes nothing, what the file keeps is the same, and
--- the device fails, if it is honest, only where the count of failures rose, which it does nowhere
--- else
-pub record ReadsFile {D : Type 0} (image : D → List ℕ) (honest : D → Type 0) (may_leave : D → List ℕ → Type 0) (left : D → D → List ℕ → Type 0) (failed : D → ℕ) (fails : Type 0) (old new : KernelOn D) : Type 0 where
+-- a call that reads the device at most: it writes nothing, and what the file keeps is the same; on
+-- an honest device it fails only where the count of failures rose, which it does nowhere else
+pub record ReadsFile {D : Type 0} (image : D → List ℕ) (honest : D → Type 0) (failed : D → ℕ) (may_leave : D → List ℕ → Type 0) (left : D → D → List ℕ → Type 0) (fails : Type 0) (old new : KernelOn D) : Type 0 where
   pub reads : ReadsOnly image honest may_leave left old.device new.device
-  pub file : file_of new ≡ file_over new.device old.core.vm.file
+  pub file : vm_file_of new ≡ file_over new.device old.core.vm.file
   pub cause : honest old.device → fails → Rose (failed old.device) (failed new.device)
   pub counted : (fails → ⊥) → failed new.device ≡ failed old.device
 
 -- a commit of the current directory, with the blocks as they are in memory or else as the file has
 -- them: what it keeps, what each refusal leaves, and what a stop at any moment does
 pub record Commits {D : Type 0} (image : D → List ℕ) (honest : D → Type 0) (failed : D → ℕ) (may_leave : D → List ℕ → Type 0) (left : D → D → List ℕ → Type 0) (how : How) (old new : KernelOn D) (result : Result (Unit {0}) Refusal) : Type 0 where
-  pub done : Result (Unit {0}) CommitError
-  pub same : result ≡ of_commit done
-  pub file : CommitsFile image honest failed may_leave left how (resident_of old.core.blocks) (directory_of old.core.vm old.core.blocks) (file_of old) (file_of new) done
+  pub answer : Result (Unit {0}) CommitError
+  pub same : result ≡ of_commit answer
+  pub file : CommitsFile image honest failed may_leave left how (resident_of old.core.blocks) (directory_of old.core.vm old.core.blocks) (vm_file_of old) (vm_file_of new) answer

@@ -15,6 +15,7 @@ use Rattle.geos_model.specs.Edits.{Edit}
 use Rattle.geos_model.specs.Heap.{IsHeap}
 use Rattle.geos_model.specs.declared.refusal.Refusal.{Refusal}
 use Rattle.geos_table.specs.VmFile.{VmFile}
+use Rattle.geos_table.specs.Calls.{store}
 use Rattle.geos_table.specs.Effects.{Choice, Call, Reference, outcome, effect_of}
 use Rattle.vm_blocks.specs.FileOf as vm
 use Rattle.vm_blocks.specs.Room.{NoneIdle, Thins, own_handle}
@@ -86,7 +87,7 @@ pub record MakesHeap (old new : Store) (slot h : ℕ) : Type 0 where
   pub handle : block.handle_word bytes ≡ h
   pub long : length bytes ≡ 64
 
--- blocks that can be read again were discarded, and then a new heap was made so
+-- blocks that can be read again were discarded, and then a new heap was made under the name
 pub record MakesRoomFor {D : Type 0} (v : VmState D) (old new : Store) (name : Name) : Type 0 where
   pub mid : Store
   pub thins : Thins v old mid (own_handle name)
@@ -94,31 +95,35 @@ pub record MakesRoomFor {D : Type 0} (v : VmState D) (old new : Store) (name : N
 
 -- no stretch of the region has room for a named block of this size, and no other block is left
 -- that could be discarded for it
-pub record LacksRoom (s : KernelState) (name : Name) (size : ℕ) : Type 0 where
+pub record HasNoRoomIn (s : KernelState) (name : Name) (size : ℕ) : Type 0 where
   pub none : NoneIdle s.vm s.blocks (own_handle name)
   pub no_room : HasNoRoom s.blocks (slot_of name) size
 
 -- no room for a named block that is as large as these chunks need
 abbrev pub HasNoRoomFor : KernelState → Name → List (Option (List ℕ)) → Type 0
-HasNoRoomFor s name chunks = LacksRoom s name (need chunks)
+HasNoRoomFor s name chunks = HasNoRoomIn s name (need chunks)
 
 -- no room for a new block, under the lowest handle that was free
 abbrev pub NewHasNoRoom : KernelState → KernelState → Type 0
-NewHasNoRoom old new = (h : ℕ) × IsLowest old.blocks Mem h × LacksRoom new (mem h) 64
+NewHasNoRoom old new = (h : ℕ) × IsLowest old.blocks Mem h × HasNoRoomIn new (mem h) 64
 
 -- no room for a new block of the VM file, under the lowest handle that was not listed
 abbrev pub NewListedHasNoRoom : KernelState → KernelState → Type 0
-NewListedHasNoRoom old new = (h : ℕ) × IsLowestUnlisted old.vm h × LacksRoom new (vm h) 64
+NewListedHasNoRoom old new = (h : ℕ) × IsLowestUnlisted old.vm h × HasNoRoomIn new (vm h) 64
 
 -- no room for a listed block, which is not in memory, in the size that is listed
 abbrev pub ListedHasNoRoom : KernelState → ℕ → Type 0
-ListedHasNoRoom s h = IsSomeAnd (held_at s.vm h) (λ held. LacksRoom s (vm h) held.len)
+ListedHasNoRoom s h = IsSomeAnd (held_at s.vm h) (λ held. HasNoRoomIn s (vm h) held.len)
 
 -- no room for a group, in the size that is listed where it is not in memory, else as large as its
 -- items need after the call
 pub record ItemHasNoRoom {A : Type 0} (s : KernelState) (g : ℕ) (edit : List (Option (List ℕ)) → Edit A) : Type 0 where
   pub none : NoneIdle s.vm s.blocks g
   pub no_room : HasNoRoom s.blocks (vm_slot g) (room_wanted edit (held_at s.vm g) (block_at s.blocks (vm_slot g)))
+
+-- bytes were written at an offset of whatever a span stands for, as the row says
+abbrev pub Stores : Type 0 → Span → ℕ → List ℕ → KernelState → KernelState → Type 0
+Stores good span i bytes old new = (ref : Reference) → Stands old span ref → Calls good (store ref i bytes) (Ok tt) old new
 
 -- a span stands for the reference that a row gives, or both are refused alike
 abbrev pub StandsFor : KernelState → Result Span Refusal → Result Reference Refusal → Type 0

@@ -14,7 +14,7 @@ impl<D: Device + Drop> Kernel<D> {
     ghost use Rattle.geos_table.specs.Calls as table;
     ghost use Rattle.geos_table.specs.VmFile.{VmFile};
     ghost use Rattle.geos_table.specs.Effects.{Reference, Nothing};
-    ghost use Rattle.geos_kernel.specs.Kernel.{Calls, LeavesVm};
+    ghost use Rattle.geos_kernel.specs.Kernel.{Calls, LeavesVm, Stores};
     ghost use Rattle.geos_kernel.specs.Spans.{Stands, IsStanding, IsWritable, SpansStay};
     ghost use Rattle.geos_kernel.specs.View.{IsFileOf};
 
@@ -41,7 +41,7 @@ impl<D: Device + Drop> Kernel<D> {
     pub fn store8(&mut self, span: Span, i: u16, byte: u8)
         requires stands { IsWritable self.old.core span }
         requires within { i < span.len }
-        ensures row { (ref : Reference) → Stands self.old.core span ref → Calls (D.honest self.old.device) (table.store ref i (byte ∷ [])) (Ok tt) self.old.core self.new.core }
+        ensures row { Stores (D.honest self.old.device) span i (byte ∷ []) self.old.core self.new.core }
         ensures spans { (f : VmFile) → IsFileOf (D.honest self.old.device) self.old.core f → SpansStay self.old.core self.new.core f Nothing }
         ensures vm { LeavesVm self.old self.new }
     {
@@ -53,7 +53,7 @@ impl<D: Device + Drop> Kernel<D> {
     pub fn store16(&mut self, span: Span, i: u16, word: u16)
         requires stands { IsWritable self.old.core span }
         requires within { i + 2 ≤ span.len }
-        ensures row { (ref : Reference) → Stands self.old.core span ref → Calls (D.honest self.old.device) (table.store ref i (word_bytes word)) (Ok tt) self.old.core self.new.core }
+        ensures row { Stores (D.honest self.old.device) span i (word_bytes word) self.old.core self.new.core }
         ensures spans { (f : VmFile) → IsFileOf (D.honest self.old.device) self.old.core f → SpansStay self.old.core self.new.core f Nothing }
         ensures vm { LeavesVm self.old self.new }
     {

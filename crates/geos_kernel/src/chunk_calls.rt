@@ -12,7 +12,7 @@ impl<D: Device + Drop> Kernel<D> {
     ghost use Rattle.geos_model.specs.declared.refusal.Refusal.TheVariants.{NoRoom};
     ghost use Rattle.geos_model.specs.Chunks.{with_new, with_resized, with_inserted};
     ghost use Rattle.geos_table.specs.Calls as table;
-    ghost use Rattle.geos_kernel.specs.Kernel.{Calls, GivesSpan, HasNoRoomFor};
+    ghost use Rattle.geos_kernel.specs.Kernel.{Calls, GivesSpan, HasNoRoomFor, LeavesVm};
     ghost use Rattle.geos_kernel.specs.Spans.{IsStanding};
     ghost use Rattle.geos_kernel.specs.View.{chunks_at, IsLocked, MayChange};
 
@@ -25,6 +25,7 @@ impl<D: Device + Drop> Kernel<D> {
         requires marked { MayChange self.old.core name }
         ensures calls { Calls (D.honest self.old.device) (table.lalloc name n) result self.old.core self.new.core }
         ensures no_room { result ≡ Err NoRoom → HasNoRoomFor self.new.core name (with_new (chunks_at self.old.core.blocks name) n) }
+        ensures vm { LeavesVm self.old self.new }
     {
         self.make(name, Make::Lalloc { n })
     }
@@ -34,7 +35,8 @@ impl<D: Device + Drop> Kernel<D> {
     pub fn lfree(&mut self, name: Name, c: u16) -> Result<(), Refusal>
         requires locked { IsLocked self.old.core name }
         requires marked { MayChange self.old.core name }
-        ensures { Calls (D.honest self.old.device) (table.lfree name c) result self.old.core self.new.core }
+        ensures calls { Calls (D.honest self.old.device) (table.lfree name c) result self.old.core self.new.core }
+        ensures vm { LeavesVm self.old self.new }
     {
         self.change(name, Change::Lfree { c })
     }
@@ -47,6 +49,7 @@ impl<D: Device + Drop> Kernel<D> {
         requires marked { MayChange self.old.core name }
         ensures calls { Calls (D.honest self.old.device) (table.lrealloc name c n) result self.old.core self.new.core }
         ensures no_room { result ≡ Err NoRoom → HasNoRoomFor self.new.core name (with_resized (chunks_at self.old.core.blocks name) c n) }
+        ensures vm { LeavesVm self.old self.new }
     {
         self.change(name, Change::Lrealloc { c, n })
     }
@@ -59,6 +62,7 @@ impl<D: Device + Drop> Kernel<D> {
         requires marked { MayChange self.old.core name }
         ensures calls { Calls (D.honest self.old.device) (table.lins name c at n) result self.old.core self.new.core }
         ensures no_room { result ≡ Err NoRoom → HasNoRoomFor self.new.core name (with_inserted (chunks_at self.old.core.blocks name) c at n) }
+        ensures vm { LeavesVm self.old self.new }
     {
         self.change(name, Change::Lins { c, at, n })
     }
@@ -69,7 +73,8 @@ impl<D: Device + Drop> Kernel<D> {
     pub fn ldel(&mut self, name: Name, c: u16, at: u16, n: u16) -> Result<(), Refusal>
         requires locked { IsLocked self.old.core name }
         requires marked { MayChange self.old.core name }
-        ensures { Calls (D.honest self.old.device) (table.ldel name c at n) result self.old.core self.new.core }
+        ensures calls { Calls (D.honest self.old.device) (table.ldel name c at n) result self.old.core self.new.core }
+        ensures vm { LeavesVm self.old self.new }
     {
         self.change(name, Change::Ldel { c, at, n })
     }

@@ -49,7 +49,7 @@ impl<D: Device + Drop> Kernel<D> {
     pub fn item_change(&mut self, g: u16, change: Change) -> Result<(), Refusal>
         ensures calls { Calls (D.honest self.old.device) (table.on_group g (change_row (vm g) change)) result self.old.core self.new.core }
         ensures no_room { result ≡ Err Refusal.NoRoom → ItemHasNoRoom self.new.core g (change_edit change) }
-        ensures device { ReadsFile D.image D.honest D.may_leave D.may_have_left D.failed (result ≡ Err Refusal.Disk) self.old self.new }
+        ensures device { ReadsFile D.image D.honest D.failed D.may_leave D.may_have_left (result ≡ Err Refusal.Disk) self.old self.new }
     {
         item_change(&mut self.vm, &mut self.blocks, g, change)
     }
@@ -59,7 +59,7 @@ impl<D: Device + Drop> Kernel<D> {
     pub fn item_make(&mut self, g: u16, make: Make) -> Result<u16, Refusal>
         ensures calls { Calls (D.honest self.old.device) (table.on_group g (make_row (vm g) make)) result self.old.core self.new.core }
         ensures no_room { result ≡ Err Refusal.NoRoom → ItemHasNoRoom self.new.core g (make_edit make) }
-        ensures device { ReadsFile D.image D.honest D.may_leave D.may_have_left D.failed (result ≡ Err Refusal.Disk) self.old self.new }
+        ensures device { ReadsFile D.image D.honest D.failed D.may_leave D.may_have_left (result ≡ Err Refusal.Disk) self.old self.new }
     {
         item_make(&mut self.vm, &mut self.blocks, g, make)
     }
@@ -69,7 +69,7 @@ impl<D: Device + Drop> Kernel<D> {
     pub fn inew(&mut self, g: u16, n: u16) -> Result<u16, Refusal>
         ensures calls { Calls (D.honest self.old.device) (table.inew g n) result self.old.core self.new.core }
         ensures no_room { result ≡ Err Refusal.NoRoom → ItemHasNoRoom self.new.core g (alloc n) }
-        ensures device { ReadsFile D.image D.honest D.may_leave D.may_have_left D.failed (result ≡ Err Refusal.Disk) self.old self.new }
+        ensures device { ReadsFile D.image D.honest D.failed D.may_leave D.may_have_left (result ≡ Err Refusal.Disk) self.old self.new }
     {
         self.item_make(g, Make::Lalloc { n })
     }
@@ -79,7 +79,7 @@ impl<D: Device + Drop> Kernel<D> {
     pub fn ifree(&mut self, g: u16, i: u16) -> Result<(), Refusal>
         ensures calls { Calls (D.honest self.old.device) (table.ifree g i) result self.old.core self.new.core }
         ensures no_room { result ≡ Err Refusal.NoRoom → ItemHasNoRoom self.new.core g (free i) }
-        ensures device { ReadsFile D.image D.honest D.may_leave D.may_have_left D.failed (result ≡ Err Refusal.Disk) self.old self.new }
+        ensures device { ReadsFile D.image D.honest D.failed D.may_leave D.may_have_left (result ≡ Err Refusal.Disk) self.old self.new }
     {
         self.item_change(g, Change::Lfree { c: i })
     }
@@ -90,7 +90,7 @@ impl<D: Device + Drop> Kernel<D> {
     pub fn irealloc(&mut self, g: u16, i: u16, n: u16) -> Result<(), Refusal>
         ensures calls { Calls (D.honest self.old.device) (table.irealloc g i n) result self.old.core self.new.core }
         ensures no_room { result ≡ Err Refusal.NoRoom → ItemHasNoRoom self.new.core g (realloc i n) }
-        ensures device { ReadsFile D.image D.honest D.may_leave D.may_have_left D.failed (result ≡ Err Refusal.Disk) self.old self.new }
+        ensures device { ReadsFile D.image D.honest D.failed D.may_leave D.may_have_left (result ≡ Err Refusal.Disk) self.old self.new }
     {
         self.item_change(g, Change::Lrealloc { c: i, n })
     }
@@ -100,7 +100,7 @@ impl<D: Device + Drop> Kernel<D> {
     pub fn iins(&mut self, g: u16, i: u16, at: u16, n: u16) -> Result<(), Refusal>
         ensures calls { Calls (D.honest self.old.device) (table.iins g i at n) result self.old.core self.new.core }
         ensures no_room { result ≡ Err Refusal.NoRoom → ItemHasNoRoom self.new.core g (insert_bytes i at n) }
-        ensures device { ReadsFile D.image D.honest D.may_leave D.may_have_left D.failed (result ≡ Err Refusal.Disk) self.old self.new }
+        ensures device { ReadsFile D.image D.honest D.failed D.may_leave D.may_have_left (result ≡ Err Refusal.Disk) self.old self.new }
     {
         self.item_change(g, Change::Lins { c: i, at, n })
     }
@@ -110,7 +110,7 @@ impl<D: Device + Drop> Kernel<D> {
     pub fn idel(&mut self, g: u16, i: u16, at: u16, n: u16) -> Result<(), Refusal>
         ensures calls { Calls (D.honest self.old.device) (table.idel g i at n) result self.old.core self.new.core }
         ensures no_room { result ≡ Err Refusal.NoRoom → ItemHasNoRoom self.new.core g (delete_bytes i at n) }
-        ensures device { ReadsFile D.image D.honest D.may_leave D.may_have_left D.failed (result ≡ Err Refusal.Disk) self.old self.new }
+        ensures device { ReadsFile D.image D.honest D.failed D.may_leave D.may_have_left (result ≡ Err Refusal.Disk) self.old self.new }
     {
         self.item_change(g, Change::Ldel { c: i, at, n })
     }
@@ -119,12 +119,13 @@ impl<D: Device + Drop> Kernel<D> {
     /// lie, which must be `n` at least. `BadHandle` where there is no such group, `Locked` where its
     /// count is 65,535, `NoRoom` and `Disk` where it does not come into memory, as `vlock` says;
     /// `BadChunk` where it has no such item, `Short` where that has fewer bytes. It is locked only
-    /// where none of these comes.
+    /// where none of these comes. The span stands until a call on an item of the group makes it stale, or
+    /// the last lock is given back.
     pub fn ilock(&mut self, g: u16, i: u16, n: u16) -> Result<Span, Refusal>
         ensures gives { LeadsToSpan (D.honest self.old.device) (table.ilock g i n) result self.old.core self.new.core }
         ensures stands { IfOk result (λ span. IsStanding self.new.core span × (n ≤ span.len)) }
         ensures no_room { result ≡ Err Refusal.NoRoom → ListedHasNoRoom self.new.core g }
-        ensures device { ReadsFile D.image D.honest D.may_leave D.may_have_left D.failed (result ≡ Err Refusal.Disk) self.old self.new }
+        ensures device { ReadsFile D.image D.honest D.failed D.may_leave D.may_have_left (result ≡ Err Refusal.Disk) self.old self.new }
     {
         match item_lock_part(&mut self.vm, &mut self.blocks, g, i, n) {
             Ok((at, len)) => Ok(Span {

@@ -4,7 +4,7 @@ ghost use Rattle.std.specs.Prelude.{All, true, ◌≡◌, ◌<◌, ◌≤◌, �
 ghost use Rattle.block_handles.specs.Names.{IsHandle, slot_of};
 ghost use Rattle.block_handles.specs.Store.{IsThere};
 ghost use Rattle.vm_blocks.specs.Listed.{NoneLocked};
-ghost use Rattle.vm_blocks.specs.Room as room;
+ghost use Rattle.vm_blocks.specs.Room.{LacksRoom};
 ghost use Rattle.vm_blocks.specs.Tied.{IsTied};
 ghost use Rattle.geos_kernel.specs.Kernel.{MakesRoomFor};
 
@@ -58,6 +58,7 @@ impl<D: Device + Drop> Kernel<D> {
     ghost use Rattle.geos_model.specs.Names.{mem, vm};
     ghost use Rattle.vm_blocks.specs.Blocks.{is_marked_in};
     ghost use Rattle.vm_blocks.specs.Listed.{IsListOf};
+    ghost use Rattle.vm_blocks.specs.Opened.{opened_file};
     ghost use Rattle.vm_blocks.specs.View.{held_at};
     ghost use Rattle.geos_kernel.specs.Kernel.{Calls, GivesSpan, HasNoRoomFor, LeavesVm, NewHasNoRoom};
     ghost use Rattle.geos_kernel.specs.Spans.{IsStanding};
@@ -76,6 +77,8 @@ impl<D: Device + Drop> Kernel<D> {
         ensures store { IfOk result (λ kernel. IsEmpty kernel.core.blocks region) }
         ensures file { IfOk result (λ kernel. file_over kernel.device kernel.core.vm.file ≡ file) }
         ensures lists { IfOk result (λ kernel. IsListOf kernel.core.vm file.current) }
+        // The model begins with the file as the device holds it.
+        ensures tied { IfOk result (λ kernel. IsFileOf (D.honest kernel.device) kernel.core (opened_file D.image file)) }
         ensures memory { IfOk result (λ kernel. (f : model_file.VmFile) → memory_of kernel.core f ≡ record { blocks = replicate 1024 None; file = f; region = region }) }
         ensures back { IfErr result (λ e. e.0 ≡ file) }
     {
@@ -244,6 +247,7 @@ impl<D: Device + Drop> Kernel<D> {
         ensures vm { LeavesVm self.old self.new }
     {
         heap_calls::contract(&mut self.blocks, name);
+        // what lies in the region are bytes, as the block is to spell
         let _ = self.blocks.region();
     }
 }
@@ -270,7 +274,7 @@ fn make_heap<D: Device + Drop>(
     requires handle { IsHandle name.h }
     requires free { IsThere blocks.old (slot_of name) → ⊥ }
     ensures ok { OnOk result (MakesRoomFor vm.now blocks.old blocks.new name) }
-    ensures err { OnErr result (room.LacksRoom vm.now blocks.old blocks.new name 64) }
+    ensures err { OnErr result (LacksRoom vm.now blocks.old blocks.new name 64) }
 {
     match vm.make_room(blocks, name, NEW_SIZE) {
         Ok(()) => {}

@@ -1,9 +1,9 @@
-//! The kernel's calls on blocks of global memory and of a VM file, on the chunks in them, and on the
-//! arrays in chunks.
+//! The kernel's calls: on blocks of global memory, the chunks in them and the arrays in chunks; on blocks
+//! of a VM file, groups and items; and on the file, which they keep on its device.
 //!
 //! Each call is a row of one table (docs/MODEL.md): its refusals in order, what it does to
 //! memory, its answer, and which references it makes stale. (GEOS SDK Concepts Book, chapters
-//! Memory Management and Local Memory.)
+//! Memory Management, Local Memory, Virtual Memory and Database Library.)
 #![tactic(auto)]
 
 mod access;

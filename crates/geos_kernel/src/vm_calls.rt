@@ -15,7 +15,7 @@ impl<D: Device + Drop> Kernel<D> {
     ghost use Rattle.vm_blocks.specs.Listed.{NoneLocked};
     ghost use Rattle.vm_blocks.specs.ListedCalls.{keeper_of};
     ghost use Rattle.vm_file.specs.State.{Finds};
-    ghost use Rattle.geos_kernel.specs.Files.{AsksNothing, Commits, ReadsFile, file_of};
+    ghost use Rattle.geos_kernel.specs.Files.{AsksNothing, Commits, ReadsFile, vm_file_of};
     ghost use Rattle.geos_kernel.specs.Kernel.{Calls, LeavesVm, ListedHasNoRoom, NewListedHasNoRoom};
     ghost use Rattle.geos_kernel.specs.View.{IsLocked, IsMarked};
 
@@ -23,7 +23,7 @@ impl<D: Device + Drop> Kernel<D> {
     pub fn is_sure(&self) -> bool
         ensures sure { result ≡ self.now.core.vm.file.sure }
         // What `open` would find after a stop now.
-        ensures stop { D.honest self.now.device → (c : List ℕ) → D.may_leave self.now.device c → Finds D.image (file_of self.now) c }
+        ensures stop { D.honest self.now.device → (c : List ℕ) → D.may_leave self.now.device c → Finds D.image (vm_file_of self.now) c }
     {
         self.vm.is_sure()
     }
@@ -38,6 +38,7 @@ impl<D: Device + Drop> Kernel<D> {
         ensures ready { IfOk result (λ h. IsLocked self.new.core (vm h) × IsMarked self.new.core h) }
         ensures device { AsksNothing self.old self.new }
     {
+        // that the kernel's invariant is known, also where it is refused
         let _ = &self.vm;
         if uid == GROUP_UID {
             return Err(Refusal::Reserved);
@@ -53,7 +54,7 @@ impl<D: Device + Drop> Kernel<D> {
     pub fn vlock(&mut self, h: u16) -> Result<(), Refusal>
         ensures calls { Calls (D.honest self.old.device) (table.vlock h) result self.old.core self.new.core }
         ensures no_room { result ≡ Err Refusal.NoRoom → ListedHasNoRoom self.new.core h }
-        ensures device { ReadsFile D.image D.honest D.may_leave D.may_have_left D.failed (result ≡ Err Refusal.Disk) self.old self.new }
+        ensures device { ReadsFile D.image D.honest D.failed D.may_leave D.may_have_left (result ≡ Err Refusal.Disk) self.old self.new }
     {
         if is_group(&self.vm, h) {
             return Err(Refusal::Reserved);
@@ -101,6 +102,7 @@ impl<D: Device + Drop> Kernel<D> {
     pub fn vfind(&self, start: u16, uid: u16) -> Result<u16, Refusal>
         ensures { Calls (D.honest self.now.device) (table.vfind start uid) result self.now.core self.now.core }
     {
+        // as in `vnew`
         let _ = &self.vm;
         if uid == GROUP_UID {
             return Err(Refusal::Reserved);
@@ -171,7 +173,7 @@ impl<D: Device + Drop> Kernel<D> {
         self.commit(How::Revert)
     }
 
-    /// Keeps one of the pairs of directories that `How` names.
+    /// Keeps one of the pairs of directories that `How` names. It is refused as `vupdate` is.
     pub fn commit(&mut self, how: How) -> Result<(), Refusal>
         requires { NoneLocked self.old.core.blocks }
         ensures calls { Calls (D.honest self.old.device) (table.commit (keeper_of how)) result self.old.core self.new.core }

@@ -6,7 +6,8 @@ use Rattle.vm_blocks.specs.Refused.{of_commit}
 use Rattle.geos_kernel.specs.Files.{Commits}
 use Rattle.geos_kernel.specs.Kernel.{Calls}
 use Rattle.geos_kernel.specs.View.{core_of, kernel_of}
-use Rattle.geos_kernel.proofs.VmCalls.{committed-calls, committed-kernel}
+use Rattle.geos_kernel.proofs.Listed.{calls-beside}
+use Rattle.geos_kernel.proofs.VmCalls.{committed-lasts, committed-spares, spared-kernel}
 use Rattle.geos_kernel.proofs.kernel.Kernel.commit.Goals as goal
 
 pub invariant_of-self : goal.invariant_of-self
@@ -15,7 +16,7 @@ invariant_of-self g c =
     let w = c.commit-done.new.self in let t = c.commit-done.new.blocks in let r = c.commit-done.result in let how = c.args.how in
     let e = c.commit-done.ensures in
     let none : NoneLocked s = subst (λ k. NoneLocked k.core.blocks) (sym c.self.view_is) c.requires in
-    committed-kernel d.image d.honest d.failed v w s t how c.self.invariant none r e.store e.refused (table.commit (keeper_of how)) (of_commit r) e.tied e.row
+    spared-kernel d.image d.honest d.failed v w s t c.self.invariant (committed-spares v w how s t none r e.store e.refused).beside (table.commit (keeper_of how)) (of_commit r) e.tied e.row
 
 pub returns-clause-calls : goal.returns-clause-calls
 returns-clause-calls g c =
@@ -24,11 +25,12 @@ returns-clause-calls g c =
     let e = c.commit-done.ensures in
     let none : NoneLocked s = subst (λ k. NoneLocked k.core.blocks) (sym c.self.view_is) c.requires in
     let call = table.commit (keeper_of how) in
-    let calls = committed-calls d.image d.honest d.failed v w s t how c.self.invariant none r e.store e.refused call (of_commit r) e.row e.file.stays e.file.ok e.file.refused e.file.cause in
+    let spares = committed-spares v w how s t none r e.store e.refused in
+    let calls = calls-beside d.image d.honest d.failed v w s t call (of_commit r) e.row e.file.stays (λ good. committed-lasts v w d.failed r e.file.ok e.file.refused (e.file.cause good)) spares in
     rw c.of_commit.ensures (subst (λ k. Calls (d.honest k.device) call (of_commit r) k.core (core_of d.image d.failed w t)) c.self.view_is calls)
 
 pub returns-clause-commits : goal.returns-clause-commits
 returns-clause-commits g c =
     let d = g.D.Device in let v = c.self.inside.vm in let s = c.self.inside.blocks in
     let w = c.commit-done.new.self in let t = c.commit-done.new.blocks in let r = c.commit-done.result in
-    subst (λ k. Commits d.image d.honest d.failed d.may_leave d.may_have_left c.args.how k (kernel_of d.image d.failed w t) c.of_commit.result) c.self.view_is (record { done = r; same = c.of_commit.ensures; file = c.commit-done.ensures.file })
+    subst (λ k. Commits d.image d.honest d.failed d.may_leave d.may_have_left c.args.how k (kernel_of d.image d.failed w t) c.of_commit.result) c.self.view_is (record { answer = r; same = c.of_commit.ensures; file = c.commit-done.ensures.file })

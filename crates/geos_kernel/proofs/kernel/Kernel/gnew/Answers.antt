@@ -3,7 +3,7 @@ use Rattle.geos_table.specs.ItemCalls.{gnew}
 use Rattle.vm_file.specs.Directories.{group_uid}
 use Rattle.geos_kernel.specs.Kernel.{Calls}
 use Rattle.geos_kernel.specs.View.{core_of}
-use Rattle.geos_kernel.proofs.VmCalls.{made-calls, made-group, made-kernel}
+use Rattle.geos_kernel.proofs.VmCalls.{made-file, made-group, made-spares, quiet-calls, spared-kernel}
 use Rattle.geos_kernel.proofs.kernel.Kernel.gnew.Goals as goal
 
 pub invariant_of-self : goal.invariant_of-self
@@ -11,14 +11,15 @@ invariant_of-self g c =
     let d = g.D.Device in let v = c.self.inside.vm in let s = c.self.inside.blocks in
     let w = c.group_new.new.vm in let t = c.group_new.new.blocks in let r = c.group_new.result in
     let e = c.group_new.ensures in
-    let made = made-group d.image d.honest d.failed v w s t group_uid 0 c.self.invariant r e.ok e.why e.no_room e.stays e.err in
-    made-kernel d.image d.honest d.failed v w s t group_uid 0 c.self.invariant made gnew r e.tied e.row
+    let made = made-group d.image d.honest v w s t group_uid 0 c.self.invariant r e.ok e.why e.no_room e.stays e.err in
+    spared-kernel d.image d.honest d.failed v w s t c.self.invariant (made-spares d.image d.honest v w s t group_uid 0 c.self.invariant made).beside gnew r e.tied e.row
 
 pub returns-clause-calls : goal.returns-clause-calls
 returns-clause-calls g c =
     let d = g.D.Device in let v = c.self.inside.vm in let s = c.self.inside.blocks in
     let w = c.group_new.new.vm in let t = c.group_new.new.blocks in let r = c.group_new.result in
     let e = c.group_new.ensures in
-    let made = made-group d.image d.honest d.failed v w s t group_uid 0 c.self.invariant r e.ok e.why e.no_room e.stays e.err in
-    let calls = made-calls d.image d.honest d.failed v w s t group_uid 0 c.self.invariant made gnew r e.row in
+    let made = made-group d.image d.honest v w s t group_uid 0 c.self.invariant r e.ok e.why e.no_room e.stays e.err in
+    let file = made-file d.image d.honest v w s t group_uid 0 c.self.invariant made in
+    let calls = quiet-calls d.image d.honest d.failed v w s t file gnew r e.row (made-spares d.image d.honest v w s t group_uid 0 c.self.invariant made) in
     subst (λ k. Calls (d.honest k.device) gnew r k.core (core_of d.image d.failed w t)) c.self.view_is calls

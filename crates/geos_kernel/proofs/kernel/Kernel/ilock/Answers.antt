@@ -7,7 +7,8 @@ use Rattle.geos_kernel.specs.declared.span.Span.{Span}
 use Rattle.geos_kernel.specs.Kernel.{LeadsToSpan}
 use Rattle.geos_kernel.specs.View.{core_of}
 use Rattle.geos_kernel.proofs.ItemCalls.{ilock-failed, ilock-gives, ilock-reads, ilock-refuses, leads-standing}
-use Rattle.geos_kernel.proofs.VmCalls.{kept-kernel}
+use Rattle.geos_kernel.proofs.Listed.{keeps-mem}
+use Rattle.geos_kernel.proofs.VmCalls.{spared-kernel}
 use Rattle.geos_kernel.proofs.kernel.Kernel.ilock.Goals.{in-Ok, in-Err}
 use Rattle.geos_kernel.proofs.kernel.Kernel.ilock.Goals as goal
 
@@ -15,7 +16,7 @@ pub invariant_of-self : goal.invariant_of-self
 invariant_of-self g c =
     let d = g.D.Device in let v = c.self.inside.vm in let s = c.self.inside.blocks in let x = c.item_lock_part.new.vm in let t = c.item_lock_part.new.blocks in let h = c.args.g in let i = c.args.i in let n = c.args.n in
     let e = c.item_lock_part.ensures in
-    kept-kernel d.image d.honest d.failed v x s t h c.self.invariant e.keeps (ilock h i n) (refers_to h i c.item_lock_part.result) e.tied e.row
+    spared-kernel d.image d.honest d.failed v x s t c.self.invariant (keeps-mem v s t h e.keeps) (ilock h i n) (refers_to h i c.item_lock_part.result) e.tied e.row
 
 pub returns-clause-gives : goal.returns-clause-gives
 returns-clause-gives g c = elim c.match-item_lock_part.branch [

@@ -1,16 +1,17 @@
-use Rattle.std.proofs.Common.{subst}
+use Rattle.std.proofs.Common.{refl, subst}
 use Rattle.geos_table.specs.ItemCalls.{isetmap}
 use Rattle.geos_kernel.specs.Kernel.{Calls}
 use Rattle.geos_kernel.specs.View.{core_of}
 use Rattle.geos_kernel.proofs.ItemCalls.{mapped-file}
-use Rattle.geos_kernel.proofs.VmCalls.{still-calls, still-kernel}
+use Rattle.geos_kernel.proofs.Listed.{same-spares}
+use Rattle.geos_kernel.proofs.VmCalls.{quiet-calls, spared-kernel}
 use Rattle.geos_kernel.proofs.kernel.Kernel.isetmap.Goals as goal
 
 pub invariant_of-self : goal.invariant_of-self
 invariant_of-self g c =
     let d = g.D.Device in let v = c.self.inside.vm in let s = c.self.inside.blocks in
     let e = c.set_map_item.ensures in
-    still-kernel d.image d.honest d.failed v c.set_map_item.new.vm s c.self.invariant (isetmap c.args.g c.args.i) c.set_map_item.result (e.tied s c.self.invariant.tied) (e.row s c.self.invariant.tied)
+    spared-kernel d.image d.honest d.failed v c.set_map_item.new.vm s s c.self.invariant (same-spares s s refl).beside (isetmap c.args.g c.args.i) c.set_map_item.result (e.tied s c.self.invariant.tied) (e.row s c.self.invariant.tied)
 
 pub returns-clause-calls : goal.returns-clause-calls
 returns-clause-calls g c =
@@ -18,5 +19,5 @@ returns-clause-calls g c =
     let w = c.set_map_item.new.vm in let r = c.set_map_item.result in let call = isetmap c.args.g c.args.i in
     let e = c.set_map_item.ensures in
     let file = mapped-file v w (c.args.g, c.args.i) r e.ok e.err in
-    let calls = still-calls d.image d.honest d.failed v w s c.self.invariant file call r (e.row s c.self.invariant.tied) in
+    let calls = quiet-calls d.image d.honest d.failed v w s s file call r (e.row s c.self.invariant.tied) (same-spares s s refl) in
     subst (λ k. Calls (d.honest k.device) call r k.core (core_of d.image d.failed w s)) c.self.view_is calls

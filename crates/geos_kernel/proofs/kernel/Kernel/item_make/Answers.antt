@@ -5,14 +5,15 @@ use Rattle.geos_table.specs.ItemCalls.{on_group}
 use Rattle.geos_kernel.specs.Kernel.{Calls}
 use Rattle.geos_kernel.specs.View.{core_of}
 use Rattle.geos_kernel.proofs.ItemCalls.{item-calls}
-use Rattle.geos_kernel.proofs.VmCalls.{kept-kernel}
+use Rattle.geos_kernel.proofs.Listed.{keeps-mem}
+use Rattle.geos_kernel.proofs.VmCalls.{spared-kernel}
 use Rattle.geos_kernel.proofs.kernel.Kernel.item_make.Goals as goal
 
 pub invariant_of-self : goal.invariant_of-self
 invariant_of-self g c =
     let d = g.D.Device in let v = c.self.inside.vm in let s = c.self.inside.blocks in
     let e = c.item_make.ensures in
-    kept-kernel d.image d.honest d.failed v c.item_make.new.vm s c.item_make.new.blocks c.args.g c.self.invariant e.keeps (on_group c.args.g (make_row (vm c.args.g) c.args.make)) c.item_make.result e.tied e.row
+    spared-kernel d.image d.honest d.failed v c.item_make.new.vm s c.item_make.new.blocks c.self.invariant (keeps-mem v s c.item_make.new.blocks c.args.g e.keeps) (on_group c.args.g (make_row (vm c.args.g) c.args.make)) c.item_make.result e.tied e.row
 
 pub returns-clause-calls : goal.returns-clause-calls
 returns-clause-calls g c =

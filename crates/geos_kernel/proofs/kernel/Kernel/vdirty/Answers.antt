@@ -1,21 +1,22 @@
-use Rattle.std.proofs.Common.{Ok, ap, subst}
+use Rattle.std.proofs.Common.{Ok, ap, refl, subst}
 use Rattle.geos_table.specs.VmCalls.{vdirty}
 use Rattle.vm_blocks.specs.View.{VmState}
 use Rattle.geos_kernel.specs.Kernel.{Calls}
 use Rattle.geos_kernel.specs.View.{core_of}
-use Rattle.geos_kernel.proofs.VmCalls.{still-calls, still-kernel}
+use Rattle.geos_kernel.proofs.Listed.{same-spares}
+use Rattle.geos_kernel.proofs.VmCalls.{quiet-calls, spared-kernel}
 use Rattle.geos_kernel.proofs.kernel.Kernel.vdirty.Goals as goal
 
 pub invariant_of-self : goal.invariant_of-self
 invariant_of-self g c =
     let d = g.D.Device in let v = c.self.inside.vm in let s = c.self.inside.blocks in
     let e = c.vdirty.ensures in
-    still-kernel d.image d.honest d.failed v c.vdirty.new.self s c.self.invariant (vdirty c.args.name.h) (Ok tt) e.tied e.row
+    spared-kernel d.image d.honest d.failed v c.vdirty.new.self s s c.self.invariant (same-spares s s refl).beside (vdirty c.args.name.h) (Ok tt) e.tied e.row
 
 pub returns-clause-calls : goal.returns-clause-calls
 returns-clause-calls g c =
     let d = g.D.Device in let v = c.self.inside.vm in let s = c.self.inside.blocks in
     let w = c.vdirty.new.self in let h = c.args.name.h in
     let e = c.vdirty.ensures in
-    let calls = still-calls d.image d.honest d.failed v w s c.self.invariant (ap (λ (x : VmState g.row.D.Denot). x.file) e.marks) (vdirty h) (Ok tt) e.row in
+    let calls = quiet-calls d.image d.honest d.failed v w s s (ap (λ (x : VmState g.row.D.Denot). x.file) e.marks) (vdirty h) (Ok tt) e.row (same-spares s s refl) in
     subst (λ k. Calls (d.honest k.device) (vdirty h) (Ok tt) k.core (core_of d.image d.failed w s)) c.self.view_is calls

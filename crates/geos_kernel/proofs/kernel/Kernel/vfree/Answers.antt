@@ -9,15 +9,13 @@ use Rattle.db_items.specs.Groups.{IsGroup}
 use Rattle.geos_kernel.specs.Kernel.{Calls}
 use Rattle.geos_kernel.specs.View.{core_of}
 use Rattle.geos_kernel.proofs.ListedRows.{vfree-group-row, vfree-row}
-use Rattle.geos_kernel.proofs.VmCalls.{freed-calls, freed-kernel, not-locked-ok, still-calls}
+use Rattle.geos_kernel.proofs.VmCalls.{freed-file, freed-spares, not-locked-ok, quiet-calls, spared-kernel, told-calls}
 use Rattle.geos_kernel.proofs.kernel.Kernel.vfree.Goals as goal
 
 pub returns-then-is_group-clause-calls : goal.returns-then-is_group-clause-calls
 returns-then-is_group-clause-calls g c =
     let d = g.D.Device in let v = c.self.inside.vm in let s = c.self.inside.blocks in
-    let h = c.args.h in
-    let row = vfree-group-row d.image d.honest d.failed v s c.self.invariant.tied h (c.if-is_group.ensures.0 refl) in
-    subst (λ k. Calls (d.honest k.device) (vfree h) (Err Reserved) k.core k.core) c.self.view_is (still-calls d.image d.honest d.failed v v s c.self.invariant refl (vfree h) (Err Reserved) row)
+    told-calls d.image d.honest d.failed v s c.args.self.now c.self.view_is (vfree c.args.h) (Err Reserved) (vfree-group-row d.image d.honest d.failed v s c.self.invariant.tied c.args.h (c.if-is_group.ensures.0 refl))
 
 pub invariant_of-self : goal.invariant_of-self
 invariant_of-self g c =
@@ -25,7 +23,7 @@ invariant_of-self g c =
     let w = c.vfree-freed.new.self in let t = c.vfree-freed.new.blocks in let r = c.vfree-freed.result in let h = c.args.h in
     let e = c.vfree-freed.ensures in
     let free = not-locked-ok r Locked (0 < locks_of s (vm_slot h)) e.locked.1 in
-    freed-kernel d.image d.honest d.failed v w s t h c.self.invariant r e.state e.drops e.err free (free_listed h) (of_free r) e.tied e.row
+    spared-kernel d.image d.honest d.failed v w s t c.self.invariant (freed-spares v w s t h r c.self.invariant.laid e.drops e.err free).beside (free_listed h) (of_free r) e.tied e.row
 
 pub returns-clause-calls : goal.returns-clause-calls
 returns-clause-calls g c =
@@ -35,5 +33,5 @@ returns-clause-calls g c =
     let free = not-locked-ok r Locked (0 < locks_of s (vm_slot h)) e.locked.1 in
     let none : IsGroup v h → ⊥ = λ group. (let is : false ≡ true = c.if-is_group.ensures.1 group in absurd cc) in
     let row = vfree-row d.image d.honest d.failed v s c.self.invariant.tied h none w t (of_free r) e.row in
-    let calls = freed-calls d.image d.honest d.failed v w s t h c.self.invariant r e.state e.drops e.err free (vfree h) (of_free r) row in
+    let calls = quiet-calls d.image d.honest d.failed v w s t (freed-file v w s t h r e.state e.err) (vfree h) (of_free r) row (freed-spares v w s t h r c.self.invariant.laid e.drops e.err free) in
     rw c.of_free.ensures (subst (λ k. Calls (d.honest k.device) (vfree h) (of_free r) k.core (core_of d.image d.failed w t)) c.self.view_is calls)

@@ -1,11 +1,10 @@
-use Rattle.std.proofs.Common.{Ok, refl, subst}
+use Rattle.std.proofs.Common.{Ok}
 use Rattle.geos_table.specs.VmCalls.{vgetmap}
-use Rattle.geos_kernel.specs.Kernel.{Calls}
-use Rattle.geos_kernel.proofs.VmCalls.{still-calls}
+use Rattle.geos_kernel.proofs.VmCalls.{told-calls}
 use Rattle.geos_kernel.proofs.kernel.Kernel.vgetmap.Goals as goal
 
 pub returns : goal.returns
 returns g c =
     let d = g.D.Device in let v = c.self.inside.vm in let s = c.self.inside.blocks in
     let row = c.map.ensures.row s c.self.invariant.tied in
-    subst (λ k. Calls (d.honest k.device) vgetmap (Ok c.map.result) k.core k.core) c.self.view_is (still-calls d.image d.honest d.failed v v s c.self.invariant refl vgetmap (Ok c.map.result) row)
+    told-calls d.image d.honest d.failed v s c.args.self.now c.self.view_is vgetmap (Ok c.map.result) row
