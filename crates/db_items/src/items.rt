@@ -67,7 +67,8 @@ pub fn item_insert<D: Device + Drop>(
     n: u16,
 ) -> Result<(), Refusal>
     requires { IsTied D.image D.honest vm.old blocks.old }
-    ensures { ChangesItem D.image D.honest D.may_leave D.may_have_left D.failed (iins g i at n) (insert_bytes i at n) g result vm.old vm.new blocks.old blocks.new }
+    ensures { ChangesItem D.image D.honest D.may_leave D.may_have_left D.failed (iins g i at n) (insert_bytes i at n)
+        g result vm.old vm.new blocks.old blocks.new }
 {
     item_change(vm, blocks, g, Change::Lins { c: i, at, n })
 }
@@ -83,7 +84,8 @@ pub fn item_delete<D: Device + Drop>(
     n: u16,
 ) -> Result<(), Refusal>
     requires { IsTied D.image D.honest vm.old blocks.old }
-    ensures { ChangesItem D.image D.honest D.may_leave D.may_have_left D.failed (idel g i at n) (delete_bytes i at n) g result vm.old vm.new blocks.old blocks.new }
+    ensures { ChangesItem D.image D.honest D.may_leave D.may_have_left D.failed (idel g i at n) (delete_bytes i at n)
+        g result vm.old vm.new blocks.old blocks.new }
 {
     item_change(vm, blocks, g, Change::Ldel { c: i, at, n })
 }

@@ -1,5 +1,5 @@
 -- The calls on groups and items, by what was done below.
-use Rattle.std.proofs.Common.{◌≡◌, ◌≢◌, ℕ, ◌<◌, ◌⊎◌, ◌+◌, Bool, true, false, List, Option, refl, sym, ap, ◌∙◌, arith, subst, inl, inr}
+use Rattle.std.proofs.Common.{◌≡◌, ℕ, ◌<◌, ◌⊎◌, ◌+◌, Bool, true, false, List, Option, refl, sym, ap, ◌∙◌, arith, subst, inl, inr}
 use Rattle.std.specs.Prelude.{Result, Ok, Err, OnErr, OnOk}
 use Rattle.std.proofs.lemmas.Bool.{cases_eq}
 use Rattle.geos_model.specs.declared.refusal.Refusal.{Refusal}
@@ -17,7 +17,6 @@ use Rattle.block_handles.specs.Store.{Store, IsThere, locks_of, place_of}
 use Rattle.block_handles.proofs.Laws.{handle_of_there, same-name}
 use Rattle.block_handles.proofs.Layouts.{there_of_locks}
 use Rattle.vm_blocks.specs.Bring.{Keeps, LockedMore}
-use Rattle.vm_blocks.specs.DoesRow.{DoesRow}
 use Rattle.vm_blocks.specs.View.{VmState, vm_slot, with_device}
 use Rattle.heap_calls.proofs.Changing.{goes-free}
 use Rattle.db_items.specs.Groups.{IsGroup, ReadsDevice}
@@ -28,7 +27,7 @@ use Rattle.geos_kernel.specs.Files.{ReadsFile}
 use Rattle.geos_kernel.specs.Kernel.{Calls, IsKernel, LeadsToSpan, NeverFell}
 use Rattle.geos_kernel.specs.Spans.{IsStanding, SpansStay, Stands}
 use Rattle.geos_kernel.specs.View.{KernelOn, KernelState, core_of, kernel_of, memory_of, IsFileOf}
-use Rattle.geos_kernel.proofs.Listed.{Spares, StaysLocked, calls-beside, keeps-spares, kernel-beside, more-locked, same-spares}
+use Rattle.geos_kernel.proofs.Listed.{Spares, StaysLocked, calls-beside, keeps-spares, more-locked, same-spares}
 use Rattle.geos_kernel.proofs.Looks.{found-stands}
 use Rattle.geos_kernel.proofs.Seen.{memory-known, row-answers}
 use Rattle.geos_kernel.proofs.Stays.{spans-same, stands-same}

@@ -1,8 +1,7 @@
 -- What calls on blocks of the file make of the kernel.
-use Rattle.std.proofs.Common.{◌≡◌, ◌≢◌, ℕ, ◌+◌, ◌-◌, ◌<◌, ◌≤◌, List, Option, Some, None, refl, sym, ap, ◌∙◌, arith, subst, inl, inr}
-use Rattle.std.specs.Prelude.{Result, Ok, Err}
+use Rattle.std.proofs.Common.{◌≡◌, ◌≢◌, ℕ, ◌<◌, ◌≤◌, List, Option, Some, None, refl, sym, ap, ◌∙◌, arith, subst, inl, inr}
+use Rattle.std.specs.Prelude.{Result}
 use Rattle.std.proofs.lemmas.Bool.{cases_eq}
-use Rattle.geos_model.specs.declared.name.Name.{Name}
 use Rattle.geos_model.specs.declared.name.Owner.{Owner}
 use Rattle.geos_model.specs.declared.name.Owner.TheVariants.{Mem, Vm}
 use Rattle.geos_model.specs.declared.refusal.Refusal.{Refusal}
@@ -32,10 +31,10 @@ use Rattle.heap_calls.proofs.Changing.{goes-free}
 use Rattle.heap_calls.proofs.Kept.{mem-kept}
 use Rattle.heap_calls.proofs.Named.{slot_of-mem, slot_of-past}
 use Rattle.heap_calls.proofs.Rows.{few-named}
-use Rattle.geos_kernel.specs.View.{core_of, memory_of, IsFileOf}
+use Rattle.geos_kernel.specs.View.{core_of, memory_of}
 use Rattle.geos_kernel.specs.Spans.{SpansStay}
 use Rattle.geos_kernel.specs.Kernel.{Calls, IsKernel, NeverFell}
-use Rattle.geos_kernel.proofs.Seen.{memory-known, row-answers}
+use Rattle.geos_kernel.proofs.Seen.{row-answers}
 use Rattle.geos_kernel.proofs.Stays.{stands-on, thins-locked}
 
 -- a locked slot keeps its bytes and its place, and stays locked

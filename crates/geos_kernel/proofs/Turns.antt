@@ -1,5 +1,5 @@
 -- Calls answered one after another.
-use Rattle.std.proofs.Common.{◌≡◌, ℕ, List, [], ◌∷◌, refl, sym, ap, subst, inl}
+use Rattle.std.proofs.Common.{List, [], ◌∷◌, refl, sym, ap, subst, inl}
 use Rattle.std.specs.Prelude.{◌↔◌, Result}
 use Rattle.geos_model.specs.declared.refusal.Refusal.{Refusal}
 use Rattle.geos_table.specs.VmFile.{VmFile}

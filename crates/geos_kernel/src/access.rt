@@ -22,7 +22,8 @@ impl<D: Device + Drop> Kernel<D> {
     pub fn load8(&self, span: Span, i: u16) -> u8
         requires stands { IsStanding self.now.core span }
         requires within { i < span.len }
-        ensures { (ref : Reference) → Stands self.now.core span ref → Calls (D.honest self.now.device) (table.load8 ref i) (Ok result) self.now.core self.now.core }
+        ensures { (ref : Reference) → Stands self.now.core span ref
+            → Calls (D.honest self.now.device) (table.load8 ref i) (Ok result) self.now.core self.now.core }
     {
         self.blocks.read8(span.at + u32::from(i))
     }
@@ -31,7 +32,8 @@ impl<D: Device + Drop> Kernel<D> {
     pub fn load16(&self, span: Span, i: u16) -> u16
         requires stands { IsStanding self.now.core span }
         requires within { i + 2 ≤ span.len }
-        ensures { (ref : Reference) → Stands self.now.core span ref → Calls (D.honest self.now.device) (table.load16 ref i) (Ok result) self.now.core self.now.core }
+        ensures { (ref : Reference) → Stands self.now.core span ref
+            → Calls (D.honest self.now.device) (table.load16 ref i) (Ok result) self.now.core self.now.core }
     {
         self.blocks.read16(span.at + u32::from(i))
     }

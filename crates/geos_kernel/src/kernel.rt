@@ -79,7 +79,8 @@ impl<D: Device + Drop> Kernel<D> {
         ensures lists { IfOk result (λ kernel. IsListOf kernel.core.vm file.current) }
         // The model begins with the file as the device holds it.
         ensures tied { IfOk result (λ kernel. IsFileOf (D.honest kernel.device) kernel.core (opened_file D.image file)) }
-        ensures memory { IfOk result (λ kernel. (f : model_file.VmFile) → memory_of kernel.core f ≡ record { blocks = replicate 1024 None; file = f; region = region }) }
+        ensures memory { IfOk result (λ kernel. (f : model_file.VmFile)
+            → memory_of kernel.core f ≡ record { blocks = replicate 1024 None; file = f; region = region }) }
         ensures back { IfErr result (λ e. e.0 ≡ file) }
     {
         let blocks = match Blocks::new(alloc, region) {
@@ -103,7 +104,8 @@ impl<D: Device + Drop> Kernel<D> {
     /// How often a block is locked; 0 where there is none.
     pub fn locks(&self, name: Name) -> u16
         ensures count { result ≡ store.locks_of self.now.core.blocks (slot_of name) }
-        ensures model { (f : model_file.VmFile) → IsFileOf (D.honest self.now.device) self.now.core f → result ≡ model.locks_of (memory_of self.now.core f) name }
+        ensures model { (f : model_file.VmFile) → IsFileOf (D.honest self.now.device) self.now.core f
+            → result ≡ model.locks_of (memory_of self.now.core f) name }
     {
         self.blocks.locks(name)
     }
@@ -111,7 +113,8 @@ impl<D: Device + Drop> Kernel<D> {
     /// Whether a block of the VM file is marked as changed; `false` where there is none.
     pub fn marked(&self, h: u16) -> bool
         ensures mark { result ≡ is_marked_in (held_at self.now.core.vm h) }
-        ensures model { (f : model_file.VmFile) → IsFileOf (D.honest self.now.device) self.now.core f → result ≡ model.is_marked (memory_of self.now.core f) h }
+        ensures model { (f : model_file.VmFile) → IsFileOf (D.honest self.now.device) self.now.core f
+            → result ≡ model.is_marked (memory_of self.now.core f) h }
     {
         self.vm.marked(h)
     }
