@@ -1,16 +1,20 @@
 -- Slots that are known to hold different blocks.
-use Rattle.std.proofs.Common.{◌≡◌, ◌≢◌, ℕ, zero, suc, Bool, true, false, Option, Some, None, List, [], ◌∷◌, get_or, set, refl, sym, ap, ◌∙◌, subst, arith, inl, inr, ◌⊎◌}
+use Rattle.std.proofs.Common.{◌≡◌, ◌≢◌, ℕ, zero, suc, Bool, true, false, Option, Some, None, List, [], ◌∷◌, get_or, set, refl, sym, ap, ap₂, ◌∙◌, subst, arith, inl, inr, ◌⊎◌}
 use Rattle.std.specs.Prelude.{◌==◌, ◌&&◌, ◌||◌, not, option_map}
 use Rattle.std.proofs.lemmas.Bool.{and_parts, or_parts, eqb-true, eqb-false, not-true, not-false}
 use Rattle.std.proofs.lemmas.List.{get_or-set_other}
 use Rattle.geos_model.specs.declared.name.Name.{Name}
+use Rattle.geos_model.specs.declared.name.Owner.TheVariants.{Mem, Vm}
+use Rattle.geos_model.specs.Names.{named}
+use Rattle.geos_table.specs.Memory.{Memory, is_group}
 use Rattle.geos_image.specs.declared.row.Row.{Row}
 use Rattle.geos_opcodes.specs.declared.uses.Kind.{Kind}
 use Rattle.geos_opcodes.specs.declared.uses.Kind.TheVariants.{MemBlock, VmBlock, DbGroup}
 use Rattle.geos_verify.specs.Pairs.{slot_pairs, is_pair, has_slot, each_pair, without_slot, with_pair, with_pairs, has_pair, are_apart}
-use Rattle.geos_verify.specs.Rows.{slot_state, are_alike, may_be_same}
+use Rattle.geos_verify.specs.Rows.{slot_state, alike, are_alike, may_be_same}
+use Rattle.geos_verify.specs.Uses.{same_kind}
 use Rattle.geos_semantics.specs.Lists.{Each, Each2}
-use Rattle.geos_semantics.specs.State.{Held, name_of, State, slot, kind_at, same_name}
+use Rattle.geos_semantics.specs.State.{Held, owner_of, name_of, State, slot, same_name}
 use Rattle.geos_semantics.specs.Meets.{Meets, Sound, name_held, Differ, PairMeets, SlotIsSound, IsOfKind}
 use Rattle.geos_semantics.proofs.Memories.{same_name-true}
 use Rattle.geos_semantics.proofs.NoFaults.{kind-known, slot-sound}
@@ -159,34 +163,37 @@ apart-differ slots a b flags h is = go flags slot_pairs h is
 
 -- A slot that may not hold the block of another one does not
 
-held-kind : (base : Name → ℕ) (s : State) (a : ℕ) (name : Name) → Sound base s → name_held (slot s a) ≡ Some name → kind_at s a ≡ Some MemBlock
-held-kind base s a name S e = go (slot s a) e (slot-sound base s a S)
-  where
-    by_kind : (kind : Kind) (name : Name) → IsOfKind s.memory kind name → Some kind ≡ Some MemBlock
-    by_kind MemBlock name h = refl
-    by_kind VmBlock name h = absurd h
-    by_kind DbGroup name h = absurd h
+-- blocks of two kinds have two names
+kinds-apart : (m : Memory) (kind other : Kind) (h k : ℕ) → IsOfKind m kind (named (owner_of kind) h) → IsOfKind m other (named (owner_of other) k) → named (owner_of other) k ≡ named (owner_of kind) h → same_kind other kind ≡ false → ⊥
+kinds-apart m MemBlock MemBlock h k is also same unlike = absurd cc
+kinds-apart m VmBlock VmBlock h k is also same unlike = absurd cc
+kinds-apart m DbGroup DbGroup h k is also same unlike = absurd cc
+kinds-apart m MemBlock VmBlock h k is also same unlike = (let o : Vm ≡ Mem = ap (λ (n : Name). n.owner) same in absurd cc)
+kinds-apart m MemBlock DbGroup h k is also same unlike = (let o : Vm ≡ Mem = ap (λ (n : Name). n.owner) same in absurd cc)
+kinds-apart m VmBlock MemBlock h k is also same unlike = (let o : Mem ≡ Vm = ap (λ (n : Name). n.owner) same in absurd cc)
+kinds-apart m DbGroup MemBlock h k is also same unlike = (let o : Mem ≡ Vm = ap (λ (n : Name). n.owner) same in absurd cc)
+kinds-apart m VmBlock DbGroup h k is also same unlike = (let both : false ≡ true = sym is.1 ∙ ap (is_group m) (ap (λ (n : Name). n.h) (sym same)) ∙ also.1 in absurd cc)
+kinds-apart m DbGroup VmBlock h k is also same unlike = (let both : true ≡ false = sym is.1 ∙ ap (is_group m) (ap (λ (n : Name). n.h) (sym same)) ∙ also.1 in absurd cc)
 
-    go : (o : Option Held) → name_held o ≡ Some name → SlotIsSound s.memory o → option_map (λ (held : Held). held.kind) o ≡ Some MemBlock
-    go None e h = absurd cc
-    go (Some held) e h = by_kind held.kind (name_of held) h
+held-apart : (m : Memory) (o q : Option Held) (name other : Name) → SlotIsSound m o → SlotIsSound m q → name_held o ≡ Some name → name_held q ≡ Some other → other ≡ name
+    → alike (option_map (λ (held : Held). held.kind) q) (option_map (λ (held : Held). held.kind) o) ≡ false → ⊥
+held-apart m None q name other is also held_o held_q same unlike = absurd cc
+held-apart m (Some x) None name other is also held_o held_q same unlike = absurd cc
+held-apart m (Some x) (Some y) name other is also held_o held_q same unlike =
+    let first : name_of x ≡ name = cc in
+    let second : name_of y ≡ other = cc in
+    kinds-apart m x.kind y.kind x.handle y.handle is also (second ∙ same ∙ sym first) unlike
 
 pub not-same : (base : Name → ℕ) (s : State) (row : Row) (a b : ℕ) (name other : Name) → Sound base s → Meets s row → name_held (slot s a) ≡ Some name → name_held (slot s b) ≡ Some other
     → may_be_same row a b ≡ false → same_name other name ≡ false
 not-same base s row a b name other S M held_a held_b may = go (same_name other name) refl
   where
-    kinds : are_alike (slot_state row b) (slot_state row a) ≡ true
-    kinds =
-        let ka = sym (kind-known s row a M) ∙ held-kind base s a name S held_a in
-        let kb = sym (kind-known s row b M) ∙ held-kind base s b other S held_b in
-        rw (ka, kb) refl
-
-    apart : are_apart a b row.pairs ≡ true
-    apart = elim (and-cases (are_alike (slot_state row b) (slot_state row a)) (not (are_apart a b row.pairs)) may) [
-      | inl unlike ↦ (let both : true ≡ false = sym kinds ∙ unlike in absurd cc)
-      | inr known ↦ not-false (are_apart a b row.pairs) known
+    differ : other ≡ name → ⊥
+    differ same = elim (and-cases (are_alike (slot_state row b) (slot_state row a)) (not (are_apart a b row.pairs)) may) [
+      | inl unlike ↦ held-apart s.memory (slot s a) (slot s b) name other (slot-sound base s a S) (slot-sound base s b S) held_a held_b same (ap₂ alike (kind-known s row b M) (kind-known s row a M) ∙ unlike)
+      | inr known ↦ apart-differ s.slots a b row.pairs M.pairs (not-false (are_apart a b row.pairs) known) name held_a (held_b ∙ ap Some same)
     ]
 
     go : (c : Bool) → same_name other name ≡ c → c ≡ false
     go false e = refl
-    go true e = absurd (apart-differ s.slots a b row.pairs M.pairs apart name held_a (held_b ∙ ap Some (same_name-true other name e)))
+    go true e = absurd (differ (same_name-true other name e))

@@ -4,13 +4,14 @@ use Rattle.geos_model.specs.declared.name.Name.{Name}
 use Rattle.geos_table.specs.Memory.{chunks_in, locks_of}
 use Rattle.geos_table.specs.Given.{given_memory}
 use Rattle.geos_table.specs.Effects.{Choice}
-use Rattle.geos_table.proofs.LegalGiven.{memory-given, locks_of-given, there-given, block_of-given}
+use Rattle.geos_table.proofs.LegalGiven.{memory-given, locks_of-given, block_of-given}
 use Rattle.geos_semantics.specs.State.{SlotReference, State}
 use Rattle.geos_semantics.specs.Model.{begun}
 use Rattle.geos_image.specs.declared.row.Row.{Row}
-use Rattle.geos_semantics.specs.Meets.{Meets, SlotIsSound, PointerIsSound, Sound, name_held}
+use Rattle.geos_semantics.specs.Meets.{Meets, PointerIsSound, Sound, name_held}
 use Rattle.geos_semantics.proofs.Locking.{held-counts, holds-once-is}
-use Rattle.geos_semantics.proofs.Kept.{each-same, slot-left, slots-left}
+use Rattle.geos_semantics.proofs.Kept.{each-same}
+use Rattle.geos_semantics.proofs.Stays.{stays-given, slots-sound, slots-left}
 use Rattle.geos_semantics.proofs.Moments.{Moment}
 
 module _ (base : Name → ℕ) (s : State) (choice : Choice) (S : Sound base s) where
@@ -29,14 +30,14 @@ module _ (base : Name → ℕ) (s : State) (choice : Choice) (S : Sound base s) 
   sound-begun = record {
     memory = memory-given choice.given s.memory S.memory;
     four = S.four;
-    slots = each-same (SlotIsSound s.memory) (SlotIsSound (given_memory choice.given s.memory)) (slot-left s.memory (given_memory choice.given s.memory) (there-given choice.given s.memory)) s.slots S.slots;
+    slots = slots-sound s.memory (given_memory choice.given s.memory) s.slots (λ k held e. stays-given choice.given s.memory held) S.slots;
     locks = λ name. locks_of-given choice.given s.memory name ∙ S.locks name;
     pointers = each-same (PointerIsSound s.memory s.slots) (PointerIsSound (given_memory choice.given s.memory) s.slots) pointer-begun s.pointers S.pointers;
   }
 
 -- slots and pointers are as a row says, as before
 pub meets-begun : (s : State) (choice : Choice) (row : Row) → Meets s row → Meets (begun choice s) row
-meets-begun s choice row M = record { words = M.words; slots = slots-left s.memory (given_memory choice.given s.memory) s.slots row.slots M.slots; pointers = M.pointers; pairs = M.pairs }
+meets-begun s choice row M = record { words = M.words; slots = slots-left s.memory (given_memory choice.given s.memory) s.slots row.slots (λ k held e. stays-given choice.given s.memory held) M.slots; pointers = M.pointers; pairs = M.pairs }
 
 -- the moment with that in memory
 abbrev pub begun_moment : Moment → Choice → Moment

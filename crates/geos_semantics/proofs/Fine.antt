@@ -6,7 +6,7 @@ use Rattle.lmem_raw.proofs.Parts.{length-with_part}
 use Rattle.geos_model.specs.declared.name.Name.{Name}
 use Rattle.geos_model.specs.Refusals.{first_refusal}
 use Rattle.geos_model.specs.Chunks.{chunk_of, bytes_of, with_bytes}
-use Rattle.geos_table.specs.Memory.{Memory, chunks_at, with_chunks}
+use Rattle.geos_table.specs.Memory.{Memory, chunks_at, rechunked_block, with_chunks}
 use Rattle.geos_table.specs.Legal.{IsMemory}
 use Rattle.geos_table.specs.Calls.{written}
 use Rattle.geos_table.specs.Effects.{Reference, Nothing, InBlock, Effect, come_to, outcome}
@@ -19,8 +19,9 @@ use Rattle.geos_semantics.specs.Lists.{Each2}
 use Rattle.geos_semantics.specs.State.{SlotReference, State, with_word, slot, with_pointer, kept_pointer, kept_pointers}
 use Rattle.geos_semantics.specs.Meets.{Meets, Sound, PointerMeets, name_held, IsInChunk, PointerIsSound}
 use Rattle.geos_semantics.proofs.Lists.{each2-set}
-use Rattle.geos_semantics.proofs.Memories.{same_name-true, chunks_at-other, chunks_at-same, locks_of-rechunked, there-rechunked, names, names-apart, chunk-kept}
-use Rattle.geos_semantics.proofs.Kept.{Leaves, leaves-all, sound-left, slots-left, kept-nothing, pointer-kept, each2-map}
+use Rattle.geos_semantics.proofs.Memories.{same_name-true, chunks_at-other, chunks_at-same, locks_of-rechunked, names, names-apart, chunk-kept}
+use Rattle.geos_semantics.proofs.Stays.{stays-mapped, slots-left}
+use Rattle.geos_semantics.proofs.Kept.{Leaves, leaves-all, sound-left, kept-nothing, pointer-kept, each2-map}
 use Rattle.geos_semantics.proofs.Locking.{each-set, leads-there}
 use Rattle.geos_semantics.proofs.Apart.{not-same}
 use Rattle.geos_semantics.proofs.Rows.{meets-word}
@@ -57,7 +58,7 @@ module _ (base : Name → ℕ) (s : State) (row : Row) (S : Sound base s) (M : M
   pub fine-nothing : (a : ℕ) (new : Memory) → Leaves a Nothing s.memory new → Fine base s (record s { memory = new; pointers = kept_pointers a Nothing s.pointers }) row
   fine-nothing a new L = record {
     sound = sound-left base s a Nothing new S L;
-    meets = record { words = M.words; slots = slots-left s.memory new s.slots row.slots M.slots; pointers = kept-nothing a s.pointers row.pointers M.pointers; pairs = M.pairs };
+    meets = record { words = M.words; slots = slots-left s.memory new s.slots row.slots (λ k held e. L.held held) M.slots; pointers = kept-nothing a s.pointers row.pointers M.pointers; pairs = M.pairs };
     routine = refl;
     stack = refl;
     counters = refl;
@@ -85,7 +86,7 @@ module _ (base : Name → ℕ) (s : State) (row : Row) (S : Sound base s) (M : M
       → Fine base s (record s { memory = new; pointers = kept_pointers i.a (InBlock name) s.pointers }) (record row { pointers = pointers_kept i Moves row })
   fine-moved i name new held L = record {
     sound = sound-left base s i.a (InBlock name) new S L;
-    meets = record { words = M.words; slots = slots-left s.memory new s.slots row.slots M.slots; pointers = moved-pointers i.a name held; pairs = M.pairs };
+    meets = record { words = M.words; slots = slots-left s.memory new s.slots row.slots (λ k held e. L.held held) M.slots; pointers = moved-pointers i.a name held; pairs = M.pairs };
     routine = refl;
     stack = refl;
     counters = refl;
@@ -96,7 +97,7 @@ module _ (base : Name → ℕ) (s : State) (row : Row) (S : Sound base s) (M : M
   leaves-chunks a name chunks legal = record {
     legal = legal;
     locks = λ other. locks_of-rechunked s.memory name other chunks;
-    there = λ other. there-rechunked s.memory name other chunks;
+    held = λ other. stays-mapped s.memory (rechunked_block chunks) name other;
     chunks = λ target fresh h. record { bytes = h.bytes; there = rw (chunks_at-other s.memory name target.reference.name chunks (names-apart target.reference.name name fresh)) h.there; fits = h.fits };
   }
 
@@ -105,7 +106,7 @@ module _ (base : Name → ℕ) (s : State) (row : Row) (S : Sound base s) (M : M
   leaves-written a ref at ws here legal = record {
     legal = legal;
     locks = λ other. locks_of-rechunked s.memory ref.name other (chunks_written s.memory ref at ws);
-    there = λ other. there-rechunked s.memory ref.name other (chunks_written s.memory ref at ws);
+    held = λ other. stays-mapped s.memory (rechunked_block (chunks_written s.memory ref at ws)) ref.name other;
     chunks = λ target fresh h. kept target.reference h;
   }
     where

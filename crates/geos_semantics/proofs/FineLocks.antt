@@ -4,24 +4,26 @@ use Rattle.std.specs.Prelude.{◌==◌, map, is_none, IsSome}
 use Rattle.geos_model.specs.declared.name.Name.{Name}
 use Rattle.geos_model.specs.declared.name.Owner.TheVariants as owner
 use Rattle.geos_model.specs.Names.{mem}
-use Rattle.geos_table.specs.Memory.{Memory, Block, new_heap, block_of, with_block, locks_in, chunks_in, locks_of, with_locks, lowest_handle}
+use Rattle.geos_table.specs.Memory.{Memory, Block, new_heap, block_of, with_block, locked_block, locks_in, chunks_in, locks_of, with_locks, lowest_handle}
 use Rattle.geos_table.specs.Legal.{IsMemory}
 use Rattle.geos_table.specs.Effects.{Nothing, OfLock}
+use Rattle.geos_table.specs.Leaving.{OneBlock, LeavesOthers}
 use Rattle.geos_image.specs.declared.instr.Instr.{Instr}
 use Rattle.geos_image.specs.declared.row.Row.{Row}
 use Rattle.geos_image.specs.declared.row.Pointer.{Pointer}
-use Rattle.geos_image.specs.declared.row.SlotState.TheVariants.{Empty, Mem}
+use Rattle.geos_image.specs.declared.row.SlotState.TheVariants.{Empty}
 use Rattle.geos_opcodes.specs.declared.uses.Kind.{Kind}
-use Rattle.geos_opcodes.specs.declared.uses.Kind.TheVariants.{MemBlock, VmBlock, DbGroup}
+use Rattle.geos_opcodes.specs.declared.uses.Kind.TheVariants.{MemBlock}
 use Rattle.geos_opcodes.specs.declared.uses.SlotUse.TheVariants.{LocksNew, Locks, Unlocks}
-use Rattle.geos_verify.specs.Rows.{pairs_after, pointers_kept, slots_after, stale_where, slot_state, holds_kind}
+use Rattle.geos_verify.specs.Rows.{pairs_after, pointers_kept, slots_after, stale_where, slot_state, holds_kind, held_state}
 use Rattle.geos_semantics.specs.Lists.{Each2}
 use Rattle.geos_semantics.specs.State.{Held, name_of, SlotReference, State, slot, same_name, kept_pointer, kept_pointers}
 use Rattle.geos_semantics.specs.Meets.{Meets, Sound, SlotMeets, PointerMeets, name_held, IsOfKind, SlotIsSound, PointerIsSound}
 use Rattle.geos_semantics.proofs.Lists.{each2-set}
-use Rattle.geos_semantics.proofs.Memories.{same_name-true, block_of-other, there-locked, locks_of-same, locks_of-other, chunks_at-locked, lowest-free}
-use Rattle.geos_semantics.proofs.Kept.{slots-left, kept-nothing, pointer-kept, each2-map}
-use Rattle.geos_semantics.proofs.Locking.{LocksInto, GivesBack, sound-locked, sound-unlocked, sound-freed, leads-there}
+use Rattle.geos_semantics.proofs.Memories.{same_name-true, block_of-other, locks_of-same, locks_of-other, chunks_at-locked, lowest-free}
+use Rattle.geos_semantics.proofs.Stays.{Stays, kind-some, kind-there, stays-from, stays-mapped, slots-left, meets-held}
+use Rattle.geos_semantics.proofs.Kept.{kept-nothing, pointer-kept, each2-map}
+use Rattle.geos_semantics.proofs.Locking.{LocksInto, GivesBack, there-some, sound-locked, sound-unlocked, held-stay, sound-freed, leads-there}
 use Rattle.geos_semantics.proofs.NoFaults.{slot-sound}
 use Rattle.geos_semantics.proofs.Apart.{pairs-without, pairs-new}
 use Rattle.geos_semantics.proofs.Fine.{Fine}
@@ -31,16 +33,17 @@ none-some None e h = absurd cc
 none-some (Some x) e h = absurd cc
 
 -- memory after one lock more
-pub locks-into : (base : Name → ℕ) (s : State) (name : Name) → is_none (block_of s.memory name) ≡ false → IsMemory (with_locks s.memory name (locks_of s.memory name + 1))
-    → LocksInto base s name (with_locks s.memory name (locks_of s.memory name + 1))
-locks-into base s name there legal =
+pub locks-into : (base : Name → ℕ) (s : State) (locked : Held) → IsOfKind s.memory locked.kind (name_of locked) → IsMemory (with_locks s.memory (name_of locked) (locks_of s.memory (name_of locked) + 1))
+    → LocksInto base s locked (with_locks s.memory (name_of locked) (locks_of s.memory (name_of locked) + 1))
+locks-into base s locked is legal =
+    let name = name_of locked in
     let n = locks_of s.memory name + 1 in
     record {
       legal = legal;
-      there = there-locked s.memory name name n ∙ there;
-      once = locks_of-same s.memory name n there;
+      is = (stays-mapped s.memory (locked_block n) name locked).is is;
+      once = locks_of-same s.memory name n (kind-there s.memory locked.kind name is);
       locks = λ other ne. locks_of-other s.memory name other n ne;
-      others = λ other h. there-locked s.memory name other n ∙ h;
+      held = λ other. stays-mapped s.memory (locked_block n) name other;
       chunks = λ ref h. record { bytes = h.bytes; there = rw (chunks_at-locked s.memory name ref.name n) h.there; fits = h.fits };
     }
 
@@ -56,18 +59,29 @@ not-new m name other none h = go (same_name name other) refl
 abbrev pub new_block : Block
 new_block = record { locks = 1; heap = new_heap }
 
+-- a block of global memory that is held
+abbrev pub held_mem : ℕ → Held
+held_mem h = record { kind = MemBlock; handle = h }
+
+-- what slots know stays so where a block of global memory is made
+stays-made : (m : Memory) (h : ℕ) → block_of m (mem h) ≡ None → (held : Held) → Stays m (with_block m (mem h) (Some new_block)) held
+stays-made m h free held =
+    stays-from m (with_block m (mem h) (Some new_block)) held
+    (λ there. ap is_none (block_of-other m (mem h) (name_of held) (Some new_block) (not-new m (mem h) (name_of held) free there)) ∙ there)
+    refl refl
+
 -- memory after a block was made and locked
-pub makes-into : (base : Name → ℕ) (s : State) (h : ℕ) → lowest_handle s.memory owner.Mem ≡ Some h → IsMemory (with_block s.memory (mem h) (Some new_block)) → LocksInto base s (mem h) (with_block s.memory (mem h) (Some new_block))
+pub makes-into : (base : Name → ℕ) (s : State) (h : ℕ) → lowest_handle s.memory owner.Mem ≡ Some h → IsMemory (with_block s.memory (mem h) (Some new_block)) → LocksInto base s (held_mem h) (with_block s.memory (mem h) (Some new_block))
 makes-into base s h lowest legal =
     let free = lowest-free s.memory h (Some new_block) lowest in
     let was : locks_of s.memory (mem h) ≡ 0 = ap locks_in free.0 in
     let now : locks_of (with_block s.memory (mem h) (Some new_block)) (mem h) ≡ 1 = ap locks_in free.1 in
     record {
       legal = legal;
-      there = ap is_none free.1;
+      is = there-some (block_of (with_block s.memory (mem h) (Some new_block)) (mem h)) (ap is_none free.1);
       once = omega (arith, was, now);
       locks = λ other ne. ap locks_in (block_of-other s.memory (mem h) other (Some new_block) ne);
-      others = λ other there. ap is_none (block_of-other s.memory (mem h) other (Some new_block) (not-new s.memory (mem h) other free.0 there)) ∙ there;
+      held = stays-made s.memory h free.0;
       chunks = λ ref k.
           let ne = not-new s.memory (mem h) ref.name free.0 (leads-there s.memory ref k) in
           record { bytes = k.bytes; there = rw (ap chunks_in (block_of-other s.memory (mem h) ref.name (Some new_block) ne)) k.there; fits = k.fits };
@@ -81,26 +95,26 @@ unlocks s name there legal =
       legal = legal;
       once = locks_of-same s.memory name n there;
       locks = λ other ne. locks_of-other s.memory name other n ne;
-      others = λ other h. there-locked s.memory name other n ∙ h;
+      held = λ other. stays-mapped s.memory (locked_block n) name other;
       chunks = λ ref h. record { bytes = h.bytes; there = rw (chunks_at-locked s.memory name ref.name n) h.there; fits = h.fits };
     }
 
 module _ (base : Name → ℕ) (s : State) (row : Row) (S : Sound base s) (M : Meets s row) (i : Instr) (within : i.a < 4) where
-  -- a slot that held nothing holds a memory block
-  locked-slots : (h : ℕ) (new : Memory) → Each2 (SlotMeets new) (set s.slots i.a (Some (record { kind = MemBlock; handle = h }))) (set row.slots i.a Mem)
-  locked-slots h new = each2-set (SlotMeets new) s.slots row.slots i.a (Some (record { kind = MemBlock; handle = h })) Mem (slots-left s.memory new s.slots row.slots M.slots) refl
+  -- a slot that held nothing holds a block, of which no mark is known
+  locked-slots : (locked : Held) (new : Memory) → LocksInto base s locked new → Each2 (SlotMeets new) (set s.slots i.a (Some locked)) (set row.slots i.a (held_state locked.kind false))
+  locked-slots locked new L = each2-set (SlotMeets new) s.slots row.slots i.a (Some locked) (held_state locked.kind false) (slots-left s.memory new s.slots row.slots (λ k held e. L.held held) M.slots) (meets-held new locked)
 
   -- a block is locked once more
-  pub fine-locked : (h : ℕ) (new : Memory) → slot s i.a ≡ None → LocksInto base s (mem h) new
-      → Fine base s (record s { memory = new; slots = set s.slots i.a (Some (record { kind = MemBlock; handle = h })); pointers = kept_pointers i.a Nothing s.pointers })
-      (record row { slots = slots_after i (Locks MemBlock) row.slots; pairs = pairs_after i (Locks MemBlock) row })
-  fine-locked h new empty L = record {
-    sound = sound-locked base s i.a h new S within empty L;
+  pub fine-locked : (locked : Held) (new : Memory) → slot s i.a ≡ None → LocksInto base s locked new
+      → Fine base s (record s { memory = new; slots = set s.slots i.a (Some locked); pointers = kept_pointers i.a Nothing s.pointers })
+      (record row { slots = slots_after i (Locks locked.kind) row.slots; pairs = pairs_after i (Locks locked.kind) row })
+  fine-locked locked new empty L = record {
+    sound = sound-locked base s i.a locked new S within empty L;
     meets = record {
       words = M.words;
-      slots = locked-slots h new;
+      slots = locked-slots locked new L;
       pointers = kept-nothing i.a s.pointers row.pointers M.pointers;
-      pairs = pairs-without s.slots i.a (Some (record { kind = MemBlock; handle = h })) row.pairs M.pairs;
+      pairs = pairs-without s.slots i.a (Some locked) row.pairs M.pairs;
     };
     routine = refl;
     stack = refl;
@@ -111,28 +125,24 @@ module _ (base : Name → ℕ) (s : State) (row : Row) (S : Sound base s) (M : M
   not-held-yet : (name : Name) → block_of s.memory name ≡ None → (k : ℕ) → name_held (get_or s.slots k None) ≡ Some name → ⊥
   not-held-yet name none k e = go (slot s k) e (slot-sound base s k S)
     where
-      by_kind : (kind : Kind) (other : Name) → other ≡ name → IsOfKind s.memory kind other → ⊥
-      by_kind MemBlock other same h = none-some (block_of s.memory other) (ap (block_of s.memory) same ∙ none) h
-      by_kind VmBlock other same h = absurd h
-      by_kind DbGroup other same h = absurd h
-
       go : (o : Option Held) → name_held o ≡ Some name → SlotIsSound s.memory o → ⊥
       go None e h = absurd cc
-      go (Some held) e h = (let same : name_of held ≡ name = cc in by_kind held.kind (name_of held) same h)
+      go (Some held) e h = (let same : name_of held ≡ name = cc in none-some (block_of s.memory (name_of held)) (ap (block_of s.memory) same ∙ none) (kind-some s.memory held.kind (name_of held) h))
 
   -- a block is made and locked
   pub fine-made : (h : ℕ) → slot s i.a ≡ None → lowest_handle s.memory owner.Mem ≡ Some h → IsMemory (with_block s.memory (mem h) (Some new_block))
-      → Fine base s (record s { memory = with_block s.memory (mem h) (Some new_block); slots = set s.slots i.a (Some (record { kind = MemBlock; handle = h })); pointers = kept_pointers i.a Nothing s.pointers })
+      → Fine base s (record s { memory = with_block s.memory (mem h) (Some new_block); slots = set s.slots i.a (Some (held_mem h)); pointers = kept_pointers i.a Nothing s.pointers })
       (record row { slots = slots_after i (LocksNew MemBlock) row.slots; pairs = pairs_after i (LocksNew MemBlock) row })
   fine-made h empty lowest legal =
       let free = lowest-free s.memory h (Some new_block) lowest in
+      let L = makes-into base s h lowest legal in
       record {
-        sound = sound-locked base s i.a h (with_block s.memory (mem h) (Some new_block)) S within empty (makes-into base s h lowest legal);
+        sound = sound-locked base s i.a (held_mem h) (with_block s.memory (mem h) (Some new_block)) S within empty L;
         meets = record {
           words = M.words;
-          slots = locked-slots h (with_block s.memory (mem h) (Some new_block));
+          slots = locked-slots (held_mem h) (with_block s.memory (mem h) (Some new_block)) L;
           pointers = kept-nothing i.a s.pointers row.pointers M.pointers;
-          pairs = pairs-new s.slots i.a (record { kind = MemBlock; handle = h }) (λ b. holds_kind MemBlock (slot_state row b)) row.pairs empty (not-held-yet (mem h) free.0) M.pairs;
+          pairs = pairs-new s.slots i.a (held_mem h) (λ b. holds_kind MemBlock (slot_state row b)) row.pairs empty (not-held-yet (mem h) free.0) M.pairs;
         };
         routine = refl;
         stack = refl;
@@ -146,14 +156,14 @@ module _ (base : Name → ℕ) (s : State) (row : Row) (S : Sound base s) (M : M
       one p q sound m = pointer-kept i.a (OfLock name) (λ b. b == i.a) p q (λ target is r known slot_is test. rw slot_is test) m
 
   -- a lock is given back, and the slot is empty
-  pub fine-unlocked : (name : Name) (new : Memory) → name_held (slot s i.a) ≡ Some name → GivesBack s name new
+  pub fine-unlocked : (kind : Kind) (name : Name) (new : Memory) → name_held (slot s i.a) ≡ Some name → GivesBack s name new
       → Fine base s (record s { memory = new; slots = set s.slots i.a None; pointers = kept_pointers i.a (OfLock name) s.pointers })
-      (record row { slots = slots_after i (Unlocks MemBlock) row.slots; pointers = pointers_kept i (Unlocks MemBlock) row; pairs = pairs_after i (Unlocks MemBlock) row })
-  fine-unlocked name new full U = record {
+      (record row { slots = slots_after i (Unlocks kind) row.slots; pointers = pointers_kept i (Unlocks kind) row; pairs = pairs_after i (Unlocks kind) row })
+  fine-unlocked kind name new full U = record {
     sound = sound-unlocked base s i.a name new S within full U;
     meets = record {
       words = M.words;
-      slots = each2-set (SlotMeets new) s.slots row.slots i.a None Empty (slots-left s.memory new s.slots row.slots M.slots) tt;
+      slots = each2-set (SlotMeets new) s.slots row.slots i.a None Empty (slots-left s.memory new s.slots row.slots (λ k held e. U.held held) M.slots) tt;
       pointers = unlocked-pointers name;
       pairs = pairs-without s.slots i.a None row.pairs M.pairs;
     };
@@ -163,13 +173,13 @@ module _ (base : Name → ℕ) (s : State) (row : Row) (S : Sound base s) (M : M
   }
 
 -- a block that no one holds is freed
-pub fine-freed : (base : Name → ℕ) (s : State) (row : Row) (S : Sound base s) (M : Meets s row) (a : ℕ) (name : Name) → locks_of s.memory name ≡ 0 → IsMemory (with_block s.memory name None)
-    → block_of (with_block s.memory name None) name ≡ None → Fine base s (record s { memory = with_block s.memory name None; pointers = kept_pointers a Nothing s.pointers }) row
-fine-freed base s row S M a name free legal gone = record {
-  sound = sound-freed base s a name S free legal gone;
+pub fine-freed : (base : Name → ℕ) (s : State) (row : Row) (S : Sound base s) (M : Meets s row) (a : ℕ) (name : Name) (new : Memory) → locks_of s.memory name ≡ 0 → IsMemory new → LeavesOthers (OneBlock name) s.memory new → locks_of new name ≡ 0
+    → Fine base s (record s { memory = new; pointers = kept_pointers a Nothing s.pointers }) row
+fine-freed base s row S M a name new free legal L gone = record {
+  sound = sound-freed base s a name new S free legal L gone;
   meets = record {
     words = M.words;
-    slots = slots-left s.memory (with_block s.memory name None) s.slots row.slots M.slots;
+    slots = slots-left s.memory new s.slots row.slots (held-stay base s a name new S free legal L gone) M.slots;
     pointers = kept-nothing a s.pointers row.pointers M.pointers;
     pairs = M.pairs;
   };

@@ -1,22 +1,16 @@
 -- Soundness, and what a row knows of pointers, over calls that make some pointers stale.
-use Rattle.std.proofs.Common.{◌≡◌, ℕ, Bool, true, false, Option, Some, None, List, [], ◌∷◌, refl, sym, ◌∙◌}
-use Rattle.std.specs.Prelude.{map, cond, IsSome, is_none}
+use Rattle.std.proofs.Common.{◌≡◌, ℕ, Bool, true, false, Option, Some, None, List, [], ◌∷◌, refl, ◌∙◌}
+use Rattle.std.specs.Prelude.{map, cond}
 use Rattle.geos_model.specs.declared.name.Name.{Name}
-use Rattle.geos_table.specs.Memory.{Memory, block_of, locks_of}
+use Rattle.geos_table.specs.Memory.{Memory, locks_of}
 use Rattle.geos_table.specs.Legal.{IsMemory}
 use Rattle.geos_table.specs.Effects.{Staleness, Nothing}
 use Rattle.geos_image.specs.declared.row.Pointer.{Pointer}
-use Rattle.geos_image.specs.declared.row.SlotState.{SlotState}
-use Rattle.geos_image.specs.declared.row.SlotState.TheVariants.{Empty, Mem, Vm, Db}
-use Rattle.geos_opcodes.specs.declared.uses.Kind.{Kind}
-use Rattle.geos_opcodes.specs.declared.uses.Kind.TheVariants.{MemBlock, VmBlock, DbGroup}
 use Rattle.geos_verify.specs.Rows.{stale_where}
 use Rattle.geos_semantics.specs.Lists.{Each, Each2}
-use Rattle.geos_semantics.specs.State.{Held, name_of, SlotReference, State, is_made_stale, kept_pointer, kept_pointers}
-use Rattle.geos_semantics.specs.Faults.{is_unmarked_block}
-use Rattle.geos_semantics.specs.Meets.{SlotMeets, PointerMeets, IsOfKind, SlotIsSound, IsInChunk, PointerIsSound, Sound}
-use Rattle.geos_model.specs.declared.name.Owner.{Owner}
-use Rattle.geos_model.specs.declared.name.Owner.TheVariants as owner
+use Rattle.geos_semantics.specs.State.{Held, SlotReference, State, is_made_stale, kept_pointer, kept_pointers}
+use Rattle.geos_semantics.specs.Meets.{PointerMeets, IsInChunk, PointerIsSound, Sound}
+use Rattle.geos_semantics.proofs.Stays.{Stays, stays-same, slots-sound}
 
 -- a fact of each element is one of each changed element
 pub each-map : {X Y : Type 0} (P : X → Type 0) (Q : Y → Type 0) (f : X → Y) → ((x : X) → P x → Q (f x)) → (xs : List X) → Each P xs → Each Q (map f xs)
@@ -41,38 +35,18 @@ each2-left R T f k [] (y ∷ ys) h = absurd h
 each2-left R T f k (x ∷ xs) [] h = absurd h
 each2-left R T f k (x ∷ xs) (y ∷ ys) h = (k x y h.0, each2-left R T f k xs ys h.1)
 
-pub each2-same : {X Y : Type 0} (R T : X → Y → Type 0) → ((x : X) (y : Y) → R x y → T x y) → (xs : List X) (ys : List Y) → Each2 R xs ys → Each2 T xs ys
-each2-same R T k [] [] h = tt
-each2-same R T k [] (y ∷ ys) h = absurd h
-each2-same R T k (x ∷ xs) [] h = absurd h
-each2-same R T k (x ∷ xs) (y ∷ ys) h = (k x y h.0, each2-same R T k xs ys h.1)
-
 -- what a call does to memory that locks, makes and frees no block: locks are as they were,
--- blocks are there, and each chunk of which the call makes nothing stale is there and as long
+-- blocks stay what slots know of them, and each chunk of which the call makes nothing stale is
+-- there and as long
 pub record Leaves (a : ℕ) (stale : Staleness) (old new : Memory) : Type 0 where
   pub legal : IsMemory new
   pub locks : (name : Name) → locks_of new name ≡ locks_of old name
-  pub there : (name : Name) → is_none (block_of new name) ≡ is_none (block_of old name)
+  pub held : (held : Held) → Stays old new held
   pub chunks : (target : SlotReference) → is_made_stale a stale target ≡ false → IsInChunk old target.reference → IsInChunk new target.reference
 
 -- nothing is done
 pub leaves-all : (a : ℕ) (stale : Staleness) (m : Memory) → IsMemory m → Leaves a stale m m
-leaves-all a stale m legal = record { legal = legal; locks = λ name. refl; there = λ name. refl; chunks = λ target fresh h. h }
-
-pub some-is : {X : Type 0} (o q : Option X) → is_none o ≡ is_none q → IsSome q → IsSome o
-some-is None None e h = h
-some-is None (Some x) e h = absurd cc
-some-is (Some y) None e h = refl
-some-is (Some y) (Some x) e h = refl
-
-pub kind-left : (old new : Memory) → ((name : Name) → is_none (block_of new name) ≡ is_none (block_of old name)) → (kind : Kind) (name : Name) → IsOfKind old kind name → IsOfKind new kind name
-kind-left old new there MemBlock name h = some-is (block_of new name) (block_of old name) (there name) h
-kind-left old new there VmBlock name h = absurd h
-kind-left old new there DbGroup name h = absurd h
-
-pub slot-left : (old new : Memory) → ((name : Name) → is_none (block_of new name) ≡ is_none (block_of old name)) → (slot : Option Held) → SlotIsSound old slot → SlotIsSound new slot
-slot-left old new there None h = tt
-slot-left old new there (Some held) h = kind-left old new there held.kind (name_of held) h
+leaves-all a stale m legal = record { legal = legal; locks = λ name. refl; held = λ held. stays-same m held; chunks = λ target fresh h. h }
 
 pointer-left : (a : ℕ) (stale : Staleness) (old new : Memory) (slots : List (Option Held)) → Leaves a stale old new → (p : Option SlotReference) → PointerIsSound old slots p → PointerIsSound new slots (kept_pointer a stale p)
 pointer-left a stale old new slots L None h = tt
@@ -88,29 +62,10 @@ pub sound-left : (base : Name → ℕ) (s : State) (a : ℕ) (stale : Staleness)
 sound-left base s a stale new S L = record {
   memory = L.legal;
   four = S.four;
-  slots = each-same (SlotIsSound s.memory) (SlotIsSound new) (slot-left s.memory new L.there) s.slots S.slots;
+  slots = slots-sound s.memory new s.slots (λ k held e. L.held held) S.slots;
   locks = λ name. L.locks name ∙ S.locks name;
   pointers = each-map (PointerIsSound s.memory s.slots) (PointerIsSound new s.slots) (kept_pointer a stale) (pointer-left a stale s.memory new s.slots L) s.pointers S.pointers;
 }
-
--- Slots are as a row says whatever is in memory, since no mark is there yet
-
-mark-same : (old new : Memory) (o : Owner) → is_unmarked_block old o ≡ is_unmarked_block new o
-mark-same old new owner.Mem = refl
-mark-same old new owner.Vm = refl
-
-pub slot-meets-left : (old new : Memory) (h : Option Held) (x : SlotState) → SlotMeets old h x → SlotMeets new h x
-slot-meets-left old new None Empty k = k
-slot-meets-left old new None Mem k = k
-slot-meets-left old new None (Vm marked) k = k
-slot-meets-left old new None (Db marked) k = k
-slot-meets-left old new (Some held) Empty k = k
-slot-meets-left old new (Some held) Mem k = k
-slot-meets-left old new (Some held) (Vm marked) k = (k.0, λ is. sym (mark-same old new (name_of held).owner) ∙ k.1 is)
-slot-meets-left old new (Some held) (Db marked) k = (k.0, λ is. sym (mark-same old new (name_of held).owner) ∙ k.1 is)
-
-pub slots-left : (old new : Memory) (hs : List (Option Held)) (xs : List SlotState) → Each2 (SlotMeets old) hs xs → Each2 (SlotMeets new) hs xs
-slots-left old new hs xs h = each2-same (SlotMeets old) (SlotMeets new) (slot-meets-left old new) hs xs h
 
 -- Pointers that the row still knows
 

@@ -3,6 +3,7 @@ pub mod Memories
 pub mod Rows
 pub mod Leads
 pub mod Chains
+pub mod Stays
 pub mod Kept
 pub mod Locking
 pub mod NoFaults

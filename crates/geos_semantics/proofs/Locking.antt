@@ -5,18 +5,17 @@ use Rattle.std.proofs.lemmas.Bool.{eqb-false}
 use Rattle.std.proofs.lemmas.List.{get_or-set_other, length-set}
 use Rattle.std.proofs.lemmas.List.Sums.{sum_by-set, sum_by-cons}
 use Rattle.geos_model.specs.declared.name.Name.{Name}
-use Rattle.geos_model.specs.Names.{mem}
 use Rattle.geos_model.specs.Chunks.{chunk_of}
-use Rattle.geos_table.specs.Memory.{Block, Memory, block_of, with_block, locks_in, chunks_in, locks_of}
+use Rattle.geos_table.specs.Memory.{Block, Memory, block_of, locks_in, chunks_in, locks_of}
 use Rattle.geos_table.specs.Legal.{IsMemory}
 use Rattle.geos_table.specs.Effects.{Reference, Nothing, OfLock}
-use Rattle.geos_opcodes.specs.declared.uses.Kind.{Kind}
-use Rattle.geos_opcodes.specs.declared.uses.Kind.TheVariants.{MemBlock, VmBlock, DbGroup}
+use Rattle.geos_table.specs.Leaving.{OneBlock, LeavesOthers}
 use Rattle.geos_semantics.specs.Lists.{Each}
 use Rattle.geos_semantics.specs.State.{Held, name_of, SlotReference, State, slot, same_name, kept_pointer, kept_pointers}
 use Rattle.geos_semantics.specs.Meets.{name_held, IsOfKind, SlotIsSound, IsInChunk, PointerIsSound, holds_once, holds, Sound}
-use Rattle.geos_semantics.proofs.Memories.{same_name-true, same_name-is, names, block_of-other, some-of}
-use Rattle.geos_semantics.proofs.Kept.{each-map, each-same}
+use Rattle.geos_semantics.proofs.Memories.{same_name-true, same_name-is, names}
+use Rattle.geos_semantics.proofs.Stays.{Stays, HeldStay, block_of-beside, stays-beside, slots-sound}
+use Rattle.geos_semantics.proofs.Kept.{each-map}
 
 pub each-set : {X : Type 0} (P : X → Type 0) (xs : List X) (k : ℕ) (x : X) → Each P xs → P x → Each P (set xs k x)
 each-set P [] k x h new = tt
@@ -60,63 +59,51 @@ leads-there m ref h = go (block_of m ref.name) refl
 
 -- A block that is locked once more into an empty slot, or made and locked
 
-pub record LocksInto (base : Name → ℕ) (s : State) (name : Name) (new : Memory) : Type 0 where
+pub record LocksInto (base : Name → ℕ) (s : State) (locked : Held) (new : Memory) : Type 0 where
   pub legal : IsMemory new
-  pub there : is_none (block_of new name) ≡ false
-  pub once : locks_of new name ≡ locks_of s.memory name + 1
-  pub locks : (other : Name) → same_name name other ≡ false → locks_of new other ≡ locks_of s.memory other
-  pub others : (other : Name) → is_none (block_of s.memory other) ≡ false → is_none (block_of new other) ≡ false
+  pub is : IsOfKind new locked.kind (name_of locked)
+  pub once : locks_of new (name_of locked) ≡ locks_of s.memory (name_of locked) + 1
+  pub locks : (other : Name) → same_name (name_of locked) other ≡ false → locks_of new other ≡ locks_of s.memory other
+  pub held : (held : Held) → Stays s.memory new held
   pub chunks : (ref : Reference) → IsInChunk s.memory ref → IsInChunk new ref
-
-kind-kept : (old new : Memory) → ((other : Name) → is_none (block_of old other) ≡ false → is_none (block_of new other) ≡ false) → (kind : Kind) (name : Name) → IsOfKind old kind name → IsOfKind new kind name
-kind-kept old new others MemBlock name h = some-of (block_of old name) (block_of new name) (others name) h
-kind-kept old new others VmBlock name h = absurd h
-kind-kept old new others DbGroup name h = absurd h
-
-pub slot-kept : (old new : Memory) → ((other : Name) → is_none (block_of old other) ≡ false → is_none (block_of new other) ≡ false) → (held : Option Held) → SlotIsSound old held → SlotIsSound new held
-slot-kept old new others None h = tt
-slot-kept old new others (Some held) h = kind-kept old new others held.kind (name_of held) h
 
 pub there-some : {X : Type 0} (o : Option X) → is_none o ≡ false → IsSome o
 there-some None h = absurd cc
 there-some (Some x) h = refl
 
-module _ (base : Name → ℕ) (s : State) (a h : ℕ) (new : Memory) (S : Sound base s) (within : a < 4) (empty : slot s a ≡ None) (L : LocksInto base s (mem h) new) where
-  abbrev pub locked_held : Held
-  locked_held = record { kind = MemBlock; handle = h }
-
-  pointer-locked : (p : Option SlotReference) → PointerIsSound s.memory s.slots p → PointerIsSound new (set s.slots a (Some locked_held)) (kept_pointer a Nothing p)
+module _ (base : Name → ℕ) (s : State) (a : ℕ) (locked : Held) (new : Memory) (S : Sound base s) (within : a < 4) (empty : slot s a ≡ None) (L : LocksInto base s locked new) where
+  pointer-locked : (p : Option SlotReference) → PointerIsSound s.memory s.slots p → PointerIsSound new (set s.slots a (Some locked)) (kept_pointer a Nothing p)
   pointer-locked None k = tt
-  pointer-locked (Some target) k = (ap name_held (get_or-set_other s.slots a target.slot (Some locked_held) None apart) ∙ k.0, L.chunks target.reference k.1)
+  pointer-locked (Some target) k = (ap name_held (get_or-set_other s.slots a target.slot (Some locked) None apart) ∙ k.0, L.chunks target.reference k.1)
     where
       apart : target.slot ≢ a
       apart e = (let none : name_held (get_or s.slots target.slot None) ≡ None = rw e (ap name_held empty) in let both : None ≡ Some target.reference.name = sym none ∙ k.0 in absurd cc)
 
-  locks-locked : (name : Name) → locks_of new name ≡ base name + holds (set s.slots a (Some locked_held)) name
+  locks-locked : (name : Name) → locks_of new name ≡ base name + holds (set s.slots a (Some locked)) name
   locks-locked name =
-      let more = holds-set s.slots a (Some locked_held) name (omega (arith, S.four, within)) in
+      let more = holds-set s.slots a (Some locked) name (omega (arith, S.four, within)) in
       let none : holds_once name (get_or s.slots a None) ≡ 0 = ap (holds_once name) empty in
-      elim (names (mem h) name) [
+      elim (names (name_of locked) name) [
         | inl is ↦ (
-            let same = same_name-true (mem h) name is in
-            let one : holds_once name (Some locked_held) ≡ 1 = ap (λ b. cond b 1 0) is in
+            let same = same_name-true (name_of locked) name is in
+            let one : holds_once name (Some locked) ≡ 1 = ap (λ b. cond b 1 0) is in
             let lock = subst (λ n. locks_of new n ≡ locks_of s.memory n + 1) same L.once in
             omega (arith, more, none, one, lock, S.locks name)
             )
         | inr ne ↦ (
-            let zero_more : holds_once name (Some locked_held) ≡ 0 = ap (λ b. cond b 1 0) ne in
+            let zero_more : holds_once name (Some locked) ≡ 0 = ap (λ b. cond b 1 0) ne in
             let lock = L.locks name ne in
             omega (arith, more, none, zero_more, lock, S.locks name)
             )
       ]
 
-  pub sound-locked : Sound base (record s { memory = new; slots = set s.slots a (Some locked_held); pointers = kept_pointers a Nothing s.pointers })
+  pub sound-locked : Sound base (record s { memory = new; slots = set s.slots a (Some locked); pointers = kept_pointers a Nothing s.pointers })
   sound-locked = record {
     memory = L.legal;
-    four = length-set s.slots a (Some locked_held) ∙ S.four;
-    slots = each-set (SlotIsSound new) s.slots a (Some locked_held) (each-same (SlotIsSound s.memory) (SlotIsSound new) (slot-kept s.memory new L.others) s.slots S.slots) (there-some (block_of new (mem h)) L.there);
+    four = length-set s.slots a (Some locked) ∙ S.four;
+    slots = each-set (SlotIsSound new) s.slots a (Some locked) (slots-sound s.memory new s.slots (λ k held e. L.held held) S.slots) L.is;
     locks = locks-locked;
-    pointers = each-map (PointerIsSound s.memory s.slots) (PointerIsSound new (set s.slots a (Some locked_held))) (kept_pointer a Nothing) pointer-locked s.pointers S.pointers;
+    pointers = each-map (PointerIsSound s.memory s.slots) (PointerIsSound new (set s.slots a (Some locked))) (kept_pointer a Nothing) pointer-locked s.pointers S.pointers;
   }
 
 -- A lock that is given back: the slot is empty, and what led through it is stale
@@ -125,7 +112,7 @@ pub record GivesBack (s : State) (name : Name) (new : Memory) : Type 0 where
   pub legal : IsMemory new
   pub once : locks_of new name ≡ locks_of s.memory name - 1
   pub locks : (other : Name) → same_name name other ≡ false → locks_of new other ≡ locks_of s.memory other
-  pub others : (other : Name) → is_none (block_of s.memory other) ≡ false → is_none (block_of new other) ≡ false
+  pub held : (held : Held) → Stays s.memory new held
   pub chunks : (ref : Reference) → IsInChunk s.memory ref → IsInChunk new ref
 
 module _ (base : Name → ℕ) (s : State) (a : ℕ) (name : Name) (new : Memory) (S : Sound base s) (within : a < 4) (full : name_held (slot s a) ≡ Some name) (U : GivesBack s name new) where
@@ -166,57 +153,44 @@ module _ (base : Name → ℕ) (s : State) (a : ℕ) (name : Name) (new : Memory
   sound-unlocked = record {
     memory = U.legal;
     four = length-set s.slots a None ∙ S.four;
-    slots = each-set (SlotIsSound new) s.slots a None (each-same (SlotIsSound s.memory) (SlotIsSound new) (slot-kept s.memory new U.others) s.slots S.slots) tt;
+    slots = each-set (SlotIsSound new) s.slots a None (slots-sound s.memory new s.slots (λ k held e. U.held held) S.slots) tt;
     locks = locks-unlocked;
     pointers = each-map (PointerIsSound s.memory s.slots) (PointerIsSound new (set s.slots a None)) (kept_pointer a (OfLock name)) pointer-unlocked s.pointers S.pointers;
   }
 
 -- A block that is freed is held by no slot
 
-module _ (base : Name → ℕ) (s : State) (a : ℕ) (name : Name) (S : Sound base s) (free : locks_of s.memory name ≡ 0) (legal : IsMemory (with_block s.memory name None)) (gone : block_of (with_block s.memory name None) name ≡ None) where
+module _ (base : Name → ℕ) (s : State) (a : ℕ) (name : Name) (new : Memory) (S : Sound base s) (free : locks_of s.memory name ≡ 0) (legal : IsMemory new) (L : LeavesOthers (OneBlock name) s.memory new) (gone : locks_of new name ≡ 0) where
   -- no slot holds it
   none-holds : (k : ℕ) → name_held (get_or s.slots k None) ≡ Some name → ⊥
   none-holds k e = (let one = holds-once-is name (get_or s.slots k None) e in let most = held-counts s.slots k name in absurd (omega (arith, one, most, S.locks name, free)))
 
-  -- another block is as it was
-  other-same : (other : Name) → (name ≡ other → ⊥) → block_of (with_block s.memory name None) other ≡ block_of s.memory other
-  other-same other ne = elim (names name other) [
-    | inl is ↦ absurd (ne (same_name-true name other is))
-    | inr ne2 ↦ block_of-other s.memory name other None ne2
-  ]
+  -- so what slots hold stays what it was
+  pub held-stay : HeldStay s.memory new s.slots
+  held-stay k held e = stays-beside name s.memory new L held (λ same. none-holds k (ap name_held e ∙ ap Some (sym same)))
 
-  kind-freed : (kind : Kind) (other : Name) → (name ≡ other → ⊥) → IsOfKind s.memory kind other → IsOfKind (with_block s.memory name None) kind other
-  kind-freed MemBlock other ne h = rw (other-same other ne) h
-  kind-freed VmBlock other ne h = absurd h
-  kind-freed DbGroup other ne h = absurd h
-
-  slots-freed : (slots : List (Option Held)) → ((k : ℕ) → name_held (get_or slots k None) ≡ Some name → ⊥) → Each (SlotIsSound s.memory) slots → Each (SlotIsSound (with_block s.memory name None)) slots
-  slots-freed [] none h = tt
-  slots-freed (None ∷ slots) none h = (tt, slots-freed slots (λ k e. none (suc k) e) h.1)
-  slots-freed (Some held ∷ slots) none h = (kind-freed held.kind (name_of held) (λ e. none 0 (ap Some (sym e))) h.0, slots-freed slots (λ k e. none (suc k) e) h.1)
-
-  pointer-freed : (p : Option SlotReference) → PointerIsSound s.memory s.slots p → PointerIsSound (with_block s.memory name None) s.slots (kept_pointer a Nothing p)
+  pointer-freed : (p : Option SlotReference) → PointerIsSound s.memory s.slots p → PointerIsSound new s.slots (kept_pointer a Nothing p)
   pointer-freed None k = tt
   pointer-freed (Some target) k =
-      let same = other-same target.reference.name (λ e. none-holds target.slot (k.0 ∙ ap Some (sym e))) in
+      let same = block_of-beside name s.memory new L target.reference.name (λ e. none-holds target.slot (k.0 ∙ ap Some (sym e))) in
       (k.0, record { bytes = k.1.bytes; there = rw (ap chunks_in same) k.1.there; fits = k.1.fits })
 
-  locks-freed : (other : Name) → locks_of (with_block s.memory name None) other ≡ base other + holds s.slots other
+  locks-freed : (other : Name) → locks_of new other ≡ base other + holds s.slots other
   locks-freed other = elim (names name other) [
     | inl is ↦ (
         let same = same_name-true name other is in
-        let now : locks_of (with_block s.memory name None) other ≡ 0 = subst (λ n. locks_of (with_block s.memory name None) n ≡ 0) same (ap locks_in gone) in
+        let now : locks_of new other ≡ 0 = subst (λ n. locks_of new n ≡ 0) same gone in
         let was = subst (λ n. locks_of s.memory n ≡ 0) same free in
         omega (arith, now, was, S.locks other)
         )
-    | inr ne2 ↦ ap locks_in (block_of-other s.memory name other None ne2) ∙ S.locks other
+    | inr ne ↦ ap locks_in (block_of-beside name s.memory new L other (λ e. let both : false ≡ true = sym ne ∙ same_name-is name other e in absurd cc)) ∙ S.locks other
   ]
 
-  pub sound-freed : Sound base (record s { memory = with_block s.memory name None; pointers = kept_pointers a Nothing s.pointers })
+  pub sound-freed : Sound base (record s { memory = new; pointers = kept_pointers a Nothing s.pointers })
   sound-freed = record {
     memory = legal;
     four = S.four;
-    slots = slots-freed s.slots none-holds S.slots;
+    slots = slots-sound s.memory new s.slots held-stay S.slots;
     locks = locks-freed;
-    pointers = each-map (PointerIsSound s.memory s.slots) (PointerIsSound (with_block s.memory name None) s.slots) (kept_pointer a Nothing) pointer-freed s.pointers S.pointers;
+    pointers = each-map (PointerIsSound s.memory s.slots) (PointerIsSound new s.slots) (kept_pointer a Nothing) pointer-freed s.pointers S.pointers;
   }

@@ -78,22 +78,12 @@ locks-rechunked : (cs : List (Option (List ℕ))) (b : Option Block) → locks_i
 locks-rechunked cs None = refl
 locks-rechunked cs (Some b) = refl
 
-some-mapped : (f : Block → Block) (b : Option Block) → is_none (option_map f b) ≡ is_none b
-some-mapped f None = refl
-some-mapped f (Some b) = refl
-
 -- Locking leaves the chunks of each block, and changing chunks leaves the locks
 pub chunks_at-locked : (m : Memory) (name other : Name) (n : ℕ) → chunks_at (with_locks m name n) other ≡ chunks_at m other
 chunks_at-locked m name other n = mapped-at chunks_in m (locked_block n) name other (chunks-locked n (block_of m name))
 
 pub locks_of-rechunked : (m : Memory) (name other : Name) (cs : List (Option (List ℕ))) → locks_of (with_chunks m name cs) other ≡ locks_of m other
 locks_of-rechunked m name other cs = mapped-at locks_in m (rechunked_block cs) name other (locks-rechunked cs (block_of m name))
-
-pub there-locked : (m : Memory) (name other : Name) (n : ℕ) → is_none (block_of (with_locks m name n) other) ≡ is_none (block_of m other)
-there-locked m name other n = mapped-at is_none m (locked_block n) name other (some-mapped (locked_block n) (block_of m name))
-
-pub there-rechunked : (m : Memory) (name other : Name) (cs : List (Option (List ℕ))) → is_none (block_of (with_chunks m name cs) other) ≡ is_none (block_of m other)
-there-rechunked m name other cs = mapped-at is_none m (rechunked_block cs) name other (some-mapped (rechunked_block cs) (block_of m name))
 
 pub chunks_at-other : (m : Memory) (name other : Name) (cs : List (Option (List ℕ))) → same_name name other ≡ false → chunks_at (with_chunks m name cs) other ≡ chunks_at m other
 chunks_at-other m name other cs ne = ap chunks_in (block_of-other m name other (option_map (rechunked_block cs) (block_of m name)) ne)
