@@ -1,14 +1,19 @@
 -- The steps that are faults, each on a state where one thing alone is wrong.
-use Rattle.std.proofs.Common.{◌≡◌, refl}
+use Rattle.std.proofs.Common.{◌≡◌, refl, false, [], ◌∷◌, Some, None}
 use Rattle.geos_opcodes.specs.declared.opcode.Opcode.TheVariants.{Mnew, Mlock, Munlock, Sne, Lalloc, Lsize, Deref, Lcontract, Ldb, Ldw, Stb, Stxw, Ldxb, Ldcb, Stcw, Movp, Copy, Plen, Caadd, Cadel, Cacount, Caelt}
+use Rattle.geos_opcodes.specs.declared.uses.Kind.TheVariants.{VmBlock, DbGroup}
 use Rattle.geos_image.specs.declared.instr.Instr.{Instr}
 use Rattle.geos_semantics.specs.Model.{Outcome, Fault, step}
 use Rattle.worked_examples.proofs.Images.{instr}
-use Rattle.worked_examples.proofs.States.{willing, alone, with_vm, stepped}
+use Rattle.worked_examples.proofs.States.{willing, alone, bytes, listed, with_vm, stepped}
 
--- the step where s3 holds a block of the VM file, and p3 leads into it
+-- the step where s3 holds a block of the VM file that is not marked, and p3 leads into it
 abbrev pub stepped_on_vm : Instr → Outcome
-stepped_on_vm i = step (alone i) willing with_vm
+stepped_on_vm i = step (alone i) willing (with_vm VmBlock (listed 5 false (Some bytes ∷ None ∷ [])))
+
+-- the step where that is a group
+abbrev pub stepped_on_group : Instr → Outcome
+stepped_on_group i = step (alone i) willing (with_vm DbGroup (listed 65280 false (Some bytes ∷ None ∷ [])))
 
 -- p3 is stale, s3 empty, and p0 leads to 4 bytes, p2 to 2; w3 is 3
 pub record Faulty : Type 0 where
@@ -46,6 +51,9 @@ pub record Faulty : Type 0 where
   pub copy_to_unmarked : stepped_on_vm (instr Copy 3 0 0 0 0) ≡ Fault
   pub move_unmarked : stepped_on_vm (instr Lalloc 3 6 2 0 7) ≡ Fault
   pub change_array_unmarked : stepped_on_vm (instr Cadel 3 0 2 0 7) ≡ Fault
+  pub unlock_group : stepped_on_group (instr Munlock 3 0 0 0 0) ≡ Fault
+  pub write_group_unmarked : stepped_on_group (instr Stb 6 3 0 0 0) ≡ Fault
+  pub move_group_unmarked : stepped_on_group (instr Lalloc 3 6 2 0 7) ≡ Fault
 
 pub examples : Faulty
 examples = record {
@@ -82,4 +90,7 @@ examples = record {
   copy_to_unmarked = refl;
   move_unmarked = refl;
   change_array_unmarked = refl;
+  unlock_group = refl;
+  write_group_unmarked = refl;
+  move_group_unmarked = refl;
 }

@@ -9,6 +9,7 @@ pub mod Executed
 pub mod OnSlots
 pub mod OnPointers
 pub mod OnArrays
+pub mod OnFile
 pub mod ArrayImages
 pub mod ArrayRuns
 pub mod Faulty

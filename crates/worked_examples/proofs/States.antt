@@ -1,15 +1,17 @@
 -- States of the model for the worked examples: a memory of three blocks, two slots that hold
--- the first and one that holds the second.
-use Rattle.std.proofs.Common.{ℕ, true, false, List, [], ◌∷◌, Option, Some, None}
+-- the first and one that holds the second; and beside them a VM file that lists a block.
+use Rattle.std.proofs.Common.{ℕ, Bool, true, false, List, [], ◌∷◌, Option, Some, None}
 use Rattle.geos_model.specs.Names.{named, mem}
 use Rattle.geos_model.specs.declared.name.Owner.TheVariants.{Vm}
+use Rattle.geos_table.specs.Directories.{VmBlock as Listed, no_directory}
 use Rattle.geos_table.specs.VmFile.{empty_file}
 use Rattle.geos_table.specs.Memory.{Block, Memory}
 use Rattle.geos_table.specs.Effects.{Choice}
 use Rattle.geos_image.specs.declared.instr.Instr.{Instr}
 use Rattle.geos_image.specs.Open.{open_row}
 use Rattle.geos_image.specs.Parts.{Parts}
-use Rattle.geos_opcodes.specs.declared.uses.Kind.TheVariants.{MemBlock, VmBlock}
+use Rattle.geos_opcodes.specs.declared.uses.Kind.{Kind}
+use Rattle.geos_opcodes.specs.declared.uses.Kind.TheVariants.{MemBlock}
 use Rattle.geos_semantics.specs.State.{Held, SlotReference, State}
 use Rattle.geos_semantics.specs.Model.{Outcome, Next, step}
 use Rattle.worked_examples.proofs.Images.{point, potential, routine}
@@ -113,10 +115,23 @@ before = record {
 abbrev pub leads_into_vm : Option SlotReference
 leads_into_vm = Some (record { slot = 3; reference = record { name = named Vm 1; chunk = 16; start = 0; len = 4 } })
 
--- a slot and a pointer of the VM file, of which nothing is in memory
-abbrev pub with_vm : State
-with_vm = record before {
-  slots = held 1 ∷ held 1 ∷ held 2 ∷ Some (record { kind = VmBlock; handle = 1 }) ∷ [];
+-- a block of the VM file with this user ID, marked or not, with these chunks, which is locked once
+abbrev pub listed : ℕ → Bool → List (Option (List ℕ)) → Option Listed
+listed uid marked chunks = Some (record { uid = uid; marked = marked; block = record { locks = 1; heap = record { chunks = chunks; size = 64 } } })
+
+-- the three blocks beside a VM file that lists this under handle 1
+abbrev pub beside_listed : Option Listed → Memory
+beside_listed entry = record memory { file = record (empty_file 0) { cur = record (no_directory {B = Listed}) { blocks = entry ∷ [] } } }
+
+-- a slot that holds what is listed, as one of this kind
+abbrev pub held_listed : Kind → Option Held
+held_listed kind = Some (record { kind = kind; handle = 1 })
+
+-- it is in s3, and p3 leads into it
+abbrev pub with_vm : Kind → Option Listed → State
+with_vm kind entry = record before {
+  memory = beside_listed entry;
+  slots = held 1 ∷ held 1 ∷ held 2 ∷ held_listed kind ∷ [];
   pointers = leads 0 1 4 ∷ leads 1 1 4 ∷ leads 2 2 2 ∷ leads_into_vm ∷ [];
 }
 
