@@ -1,13 +1,13 @@
 //! Calls on locked blocks, by the words of lines.
 
-ghost use Rattle.geos_calls.specs.View.{IsLocked};
+ghost use Rattle.geos_kernel.specs.View.{IsLocked};
 
-use crate::Answer;
+use crate::calls::{NOT_MARKED, may_change};
 use crate::spans::length;
-use geos_calls::{Ask, Change, Kernel, Make, Refer};
+use crate::{Answer, Kernel};
+use geos_kernel::{Ask, Change, Make, Refer};
 use geos_model::Name;
 use trial_lines::Line;
-use vm_file::MemoryDevice;
 
 /// A call on a locked block.
 #[derive(Clone, Copy)]
@@ -42,7 +42,7 @@ impl BlockCall {
     }
 
     /// Makes the call.
-    pub(crate) fn make(self, kernel: &mut Kernel<MemoryDevice>, name: Name) -> Answer
+    pub(crate) fn make(self, kernel: &mut Kernel, name: Name) -> Answer
         requires { IsLocked kernel.old.core name }
     {
         match self {
@@ -50,8 +50,11 @@ impl BlockCall {
                 kernel.munlock(name);
                 Answer::Done
             }
-            BlockCall::Change(change) => kernel.change(name, change).into(),
-            BlockCall::Make(make) => kernel.make(name, make).into(),
+            BlockCall::Change(change) if may_change(kernel, name) => {
+                kernel.change(name, change).into()
+            }
+            BlockCall::Make(make) if may_change(kernel, name) => kernel.make(name, make).into(),
+            BlockCall::Change(_) | BlockCall::Make(_) => Answer::NotAsked(NOT_MARKED),
             BlockCall::Ask(ask) => kernel.ask(name, ask).into(),
             BlockCall::Refer(refer) => length(kernel.refer(name, refer)),
         }

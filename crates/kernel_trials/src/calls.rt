@@ -1,16 +1,31 @@
 //! Lines with calls of the kernel.
 
-use crate::Answer;
+ghost use Rattle.std.specs.Prelude.{IsTrue};
+ghost use Rattle.geos_kernel.specs.View.{MayChange};
+
 use crate::block_call::BlockCall;
+use crate::file_calls::file_call;
 use crate::spans::{is_span_call, span_call};
-use geos_calls::Kernel;
+use crate::{Answer, Kernel};
 use geos_model::{Name, Owner};
 use std::alloc::{AllocError, Global};
 use trial_lines::{Line, Series};
-use vm_file::MemoryDevice;
 
 /// What keeps a call from being made on a block that is not locked.
 pub(crate) const NOT_LOCKED: &str = "not locked";
+
+/// What keeps a block of the VM file from being changed.
+pub(crate) const NOT_MARKED: &str = "not marked";
+
+/// Whether the bytes of a block may be changed: where it is one of the VM file, it has to be marked.
+pub(crate) fn may_change(kernel: &Kernel, name: Name) -> bool
+    ensures { IsTrue result → MayChange kernel.now.core name }
+{
+    match name.owner {
+        Owner::Mem => true,
+        Owner::Vm => kernel.marked(name.h),
+    }
+}
 
 /// The name of the block of a line, and the word of its call: `vm_` before the word is for a block of a VM file.
 pub(crate) fn block_of<'a>(line: &Line<'a>) -> (Name, &'a str) {
@@ -25,25 +40,23 @@ pub(crate) fn block_of<'a>(line: &Line<'a>) -> (Name, &'a str) {
 }
 
 /// Makes the call of a line.
-pub(crate) fn answer(kernel: &mut Kernel<MemoryDevice>, line: &Line<'_>) -> Answer {
+pub(crate) fn answer(kernel: &mut Kernel, line: &Line<'_>) -> Answer {
     match line.word {
         "mnew" => kernel.mnew().into(),
         "mlock" => kernel.mlock(line.word_at(0)).into(),
         "mfree" => kernel.mfree(line.word_at(0)).into(),
-        _ => {
-            let (name, word) = block_of(line);
-            named_call(kernel, name, word, line)
-        }
+        _ => match file_call(kernel, line) {
+            Answer::NotACall => {
+                let (name, word) = block_of(line);
+                named_call(kernel, name, word, line)
+            }
+            answer => answer,
+        },
     }
 }
 
 /// Makes a call on a named block.
-fn named_call(
-    kernel: &mut Kernel<MemoryDevice>,
-    name: Name,
-    word: &str,
-    line: &Line<'_>,
-) -> Answer {
+fn named_call(kernel: &mut Kernel, name: Name, word: &str, line: &Line<'_>) -> Answer {
     if word == "locks" {
         return Answer::Number(u32::from(kernel.locks(name)));
     }
@@ -64,7 +77,7 @@ fn named_call(
 /// answers to `mnew` run, and those to `lalloc`.
 pub(crate) fn fill(
     alloc: Global,
-    kernel: &mut Kernel<MemoryDevice>,
+    kernel: &mut Kernel,
     line: &Line<'_>,
 ) -> Result<Answer, AllocError> {
     let [from, to, n] = [line.word_at(0), line.word_at(1), line.word_at(2)];
@@ -72,14 +85,15 @@ pub(crate) fn fill(
     let mut chunks = Series::new(alloc);
     for h in from..=to {
         handles.add(kernel.mnew().into())?;
-        chunks.add(alloc_in(kernel, Name::mem(h), n))?;
+        chunks.add(alloc_in(kernel, h, n))?;
     }
     let text = format!(in alloc; "handles {handles}; chunks {chunks}")?;
     Ok(Answer::Text(text))
 }
 
-/// Makes a chunk in a block, where it is locked.
-fn alloc_in(kernel: &mut Kernel<MemoryDevice>, name: Name, n: u16) -> Answer {
+/// Makes a chunk in a block of global memory, where it is locked.
+fn alloc_in(kernel: &mut Kernel, h: u16, n: u16) -> Answer {
+    let name = Name::mem(h);
     if kernel.locks(name) == 0 {
         return Answer::NotAsked(NOT_LOCKED);
     }

@@ -1,17 +1,18 @@
 //! Lines with calls through spans. Each begins with the `deref` or the `caelt` that gives the span.
 
-ghost use Rattle.std.specs.Prelude.{IfOk};
-ghost use Rattle.geos_calls.specs.Spans.{IsStanding};
-ghost use Rattle.geos_calls.specs.View.{IsLocked};
+ghost use Rattle.std.specs.Prelude.{◌≤◌, IfOk};
+ghost use Rattle.geos_table.specs.ChunkCalls.{least};
+ghost use Rattle.geos_kernel.specs.Spans.{IsStanding};
+ghost use Rattle.geos_kernel.specs.View.{IsLocked, MayChange};
+ghost use Rattle.kernel_trials.specs.Spans.{LiesIn};
 
-use crate::Answer;
-use crate::calls::NOT_LOCKED;
-use geos_calls::{Kernel, Span};
+use crate::calls::{NOT_LOCKED, NOT_MARKED, block_of, may_change};
+use crate::{Answer, Kernel};
+use geos_kernel::{Refer, Span};
 use geos_model::{Name, Refusal};
 use std::alloc::{AllocError, Global};
 use std::fmt::Write;
 use trial_lines::Line;
-use vm_file::MemoryDevice;
 
 /// Whether a word is of a call that begins with a span.
 pub(crate) fn is_span_call(word: &str) -> bool {
@@ -22,13 +23,21 @@ pub(crate) fn is_span_call(word: &str) -> bool {
     }
 }
 
+/// Where bytes of a locked block lie.
+fn span_of(kernel: &Kernel, name: Name, refer: Refer) -> Result<Span, Refusal>
+    requires { IsLocked kernel.now.core name }
+    ensures lies { IfOk result (λ span. LiesIn kernel.now.core span name) }
+    ensures least { IfOk result (λ span. least refer ≤ span.len) }
+{
+    kernel.memory_is_legal();
+    match kernel.refer(name, refer) {
+        Ok(span) => Ok(span),
+        Err(refusal) => Err(refusal),
+    }
+}
+
 /// Makes a call that begins with a span of a locked block.
-pub(crate) fn span_call(
-    kernel: &mut Kernel<MemoryDevice>,
-    name: Name,
-    word: &str,
-    line: &Line<'_>,
-) -> Answer
+pub(crate) fn span_call(kernel: &mut Kernel, name: Name, word: &str, line: &Line<'_>) -> Answer
     requires { IsLocked kernel.old.core name }
 {
     let [c, second, third, fourth] = [
@@ -38,15 +47,17 @@ pub(crate) fn span_call(
         line.word_at(4),
     ];
     match word {
-        "copy" => copy(kernel, name, c, second, third).into(),
+        "copy" if may_change(kernel, name) => copy(kernel, name, c, second, third).into(),
+        "copy" => Answer::NotAsked(NOT_MARKED),
         _ => match word.strip_prefix("caelt_") {
             Some(word) => {
-                let element = kernel.caelt(name, c, second, 0);
-                access(kernel, element, word, third, fourth)
+                let (i, n) = (second, 0);
+                let element = span_of(kernel, name, Refer::Caelt { c, i, n });
+                access(kernel, name, element, word, third, fourth)
             }
             None => {
-                let chunk = kernel.deref(name, c, 0);
-                access(kernel, chunk, word, second, third)
+                let chunk = span_of(kernel, name, Refer::Deref { c, n: 0 });
+                access(kernel, name, chunk, word, second, third)
             }
         },
     }
@@ -61,30 +72,26 @@ pub(crate) fn length(given: Result<Span, Refusal>) -> Answer {
 }
 
 /// Copies the first bytes of the chunk `from` to the beginning of the chunk `to`.
-fn copy(
-    kernel: &mut Kernel<MemoryDevice>,
-    name: Name,
-    to: u16,
-    from: u16,
-    n: u16,
-) -> Result<(), Refusal>
-    requires { IsLocked kernel.old.core name }
+fn copy(kernel: &mut Kernel, name: Name, to: u16, from: u16, n: u16) -> Result<(), Refusal>
+    requires locked { IsLocked kernel.old.core name }
+    requires marked { MayChange kernel.old.core name }
 {
-    let to = kernel.deref(name, to, n)?;
-    let from = kernel.deref(name, from, n)?;
+    let to = span_of(kernel, name, Refer::Deref { c: to, n })?;
+    let from = span_of(kernel, name, Refer::Deref { c: from, n })?;
     kernel.copy(to, from, n);
     Ok(())
 }
 
 /// Reads or writes at an offset of a span.
 fn access(
-    kernel: &mut Kernel<MemoryDevice>,
+    kernel: &mut Kernel,
+    name: Name,
     span: Result<Span, Refusal>,
     word: &str,
     at: u16,
     value: u16,
 ) -> Answer
-    requires { IfOk span (λ span. IsStanding kernel.old.core span) }
+    requires { IfOk span (λ span. LiesIn kernel.old.core span name) }
 {
     let span = match span {
         Ok(span) => span,
@@ -95,6 +102,7 @@ fn access(
     match word {
         "load8" if has_byte => Answer::Number(u32::from(kernel.load8(span, at))),
         "load16" if has_word => Answer::Number(u32::from(kernel.load16(span, at))),
+        "store8" | "store16" if !may_change(kernel, name) => Answer::NotAsked(NOT_MARKED),
         "store8" if has_byte => {
             kernel.store8(span, at, value.min(255) as u8);
             Answer::Done
@@ -108,12 +116,8 @@ fn access(
 }
 
 /// All bytes of a chunk.
-pub(crate) fn bytes(
-    alloc: Global,
-    kernel: &Kernel<MemoryDevice>,
-    line: &Line<'_>,
-) -> Result<Answer, AllocError> {
-    let name = Name::mem(line.word_at(0));
+pub(crate) fn bytes(alloc: Global, kernel: &Kernel, line: &Line<'_>) -> Result<Answer, AllocError> {
+    let (name, _) = block_of(line);
     if kernel.locks(name) == 0 {
         return Ok(Answer::NotAsked(NOT_LOCKED));
     }
@@ -124,7 +128,7 @@ pub(crate) fn bytes(
 }
 
 /// The bytes of a span, with a space between each two.
-fn text_of(alloc: Global, kernel: &Kernel<MemoryDevice>, span: Span) -> Result<String, AllocError>
+fn text_of(alloc: Global, kernel: &Kernel, span: Span) -> Result<String, AllocError>
     requires { IsStanding kernel.now.core span }
 {
     let mut text = String::new(alloc);
