@@ -10,6 +10,7 @@ pub mod OnSlots
 pub mod OnPointers
 pub mod OnArrays
 pub mod OnFile
+pub mod HeldOfFile
 pub mod ArrayImages
 pub mod ArrayRuns
 pub mod Faulty

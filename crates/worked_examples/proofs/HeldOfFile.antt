@@ -1,0 +1,103 @@
+-- A sound state in which slots hold a block and a group of the VM file.
+use Rattle.std.proofs.Common.{◌≡◌, refl, ℕ, ◌+◌, ◌<◌, false, [], ◌∷◌, replicate, Some, None, set, arith}
+use Rattle.geos_model.specs.declared.name.Name.{Name}
+use Rattle.geos_model.specs.Names.{vm}
+use Rattle.geos_table.specs.VmFile.{empty_file}
+use Rattle.geos_table.specs.VmCalls.{new_listed}
+use Rattle.geos_table.specs.Memory.{Memory, with_listed, locks_of, with_locks}
+use Rattle.geos_table.specs.Effects.{Nothing}
+use Rattle.geos_table.specs.Legal.{IsLegalListed, IsMemory}
+use Rattle.geos_table.proofs.LegalBlocks.{new_heap-legal, empty-legal, added_listed-legal, with_locks-legal}
+use Rattle.geos_opcodes.specs.declared.uses.Kind.TheVariants.{VmBlock, DbGroup}
+use Rattle.geos_semantics.specs.State.{Held, name_of, State, slot, kept_pointers}
+use Rattle.geos_semantics.specs.Faults.{lacks_mark}
+use Rattle.geos_semantics.specs.Meets.{IsOfKind, Sound}
+use Rattle.geos_semantics.proofs.Locking.{sound-locked}
+use Rattle.geos_semantics.proofs.FineLocks.{locks-into}
+use Rattle.geos_semantics.proofs.Runs.{sound-plain}
+
+-- a block of whatever kind is locked into a slot
+abbrev pub with_lock : ℕ → Held → State → State
+with_lock a held s = record s {
+  memory = with_locks s.memory (name_of held) (locks_of s.memory (name_of held) + 1);
+  slots = set s.slots a (Some held);
+  pointers = kept_pointers a Nothing s.pointers;
+}
+
+-- the state stays sound
+pub lock-sound : (base : Name → ℕ) (s : State) (a : ℕ) (held : Held) → Sound base s → a < 4 → slot s a ≡ None → IsOfKind s.memory held.kind (name_of held) → locks_of s.memory (name_of held) < 65535 → Sound base (with_lock a held s)
+lock-sound base s a held S within empty is few =
+    let name = name_of held in
+    let n = locks_of s.memory name + 1 in
+    sound-locked base s a held (with_locks s.memory name n) S within empty (locks-into base s held is (with_locks-legal s.memory name n (omega (arith, few)) S.memory))
+
+-- memory with no block, and with a block of the file under handle 1 and a group under handle 2,
+-- both marked
+abbrev none : Memory
+none = record { blocks = replicate 1024 None; file = empty_file 0; region = 65536 }
+
+abbrev one : Memory
+one = with_listed none 1 (Some (new_listed 5 0))
+
+abbrev two : Memory
+two = with_listed one 2 (Some (new_listed 65280 0))
+
+new-legal : (uid : ℕ) → uid < 65536 → IsLegalListed (new_listed uid 0)
+new-legal uid small = record { uid = small; block = record { heap = new_heap-legal; few = omega arith } }
+
+two-legal : IsMemory two
+two-legal = added_listed-legal one 2 (new_listed 65280 0) (new-legal 65280 (omega arith)) refl (added_listed-legal none 1 (new_listed 5 0) (new-legal 5 (omega arith)) refl (empty-legal 65536))
+
+-- nothing is held
+abbrev pub idle : State
+idle = record {
+  memory = two;
+  words = replicate 8 0;
+  counters = replicate 4 0;
+  slots = None ∷ None ∷ None ∷ None ∷ [];
+  pointers = None ∷ None ∷ None ∷ None ∷ [];
+  routine = 0;
+  pc = 0;
+  stack = [];
+  output = [];
+}
+
+-- s0 holds the block and s1 the group
+abbrev block_held : Held
+block_held = record { kind = VmBlock; handle = 1 }
+
+abbrev group_held : Held
+group_held = record { kind = DbGroup; handle = 2 }
+
+abbrev pub both : State
+both = with_lock 1 group_held (with_lock 0 block_held idle)
+
+-- how often others lock each block
+abbrev pub others : Name → ℕ
+others name = locks_of two name
+
+pub record HeldOfFile : Type 0 where
+  pub sound : Sound others both
+  pub slots : both.slots ≡ Some block_held ∷ Some group_held ∷ None ∷ None ∷ []
+  pub block_locked : locks_of both.memory (vm 1) ≡ 1
+  pub group_locked : locks_of both.memory (vm 2) ≡ 1
+  pub block_by_others : others (vm 1) ≡ 0
+  pub group_by_others : others (vm 2) ≡ 0
+  pub block_marked : lacks_mark both.memory (vm 1) ≡ false
+  pub group_marked : lacks_mark both.memory (vm 2) ≡ false
+
+pub examples : HeldOfFile
+examples = record {
+  sound = (
+      let plain = sound-plain idle two-legal refl (refl, (refl, (refl, (refl, tt)))) (refl, (refl, (refl, (refl, tt)))) in
+      let first = lock-sound others idle 0 block_held plain (omega arith) refl (refl, refl) (omega arith) in
+      lock-sound others (with_lock 0 block_held idle) 1 group_held first (omega arith) refl (refl, refl) (omega arith)
+      );
+  slots = refl;
+  block_locked = refl;
+  group_locked = refl;
+  block_by_others = refl;
+  group_by_others = refl;
+  block_marked = refl;
+  group_marked = refl;
+}
