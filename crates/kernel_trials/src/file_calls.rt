@@ -82,7 +82,7 @@ pub(crate) fn map_item(alloc: Global, kernel: &Kernel) -> Result<Answer, AllocEr
     Ok(Answer::Text(format!(in alloc; "{group} {item}")?))
 }
 
-/// Locks a block of the file, or a group that has an item, by the call that serves. Tells whether it is locked then.
+/// Locks a block of the file, or a group that has an item, by the call that serves. A group without one stays as it is.
 pub(crate) fn lock_any(kernel: &mut Kernel, h: u16) -> Result<(), Refusal> {
     match kernel.vlock(h) {
         Err(Refusal::Reserved) => lock_group(kernel, h),
