@@ -6,10 +6,19 @@ unfoldable pub steps_word : Bool → List ℕ
 steps_word true = codes " step"
 steps_word false = codes " steps"
 
+-- the word for bytes, and whether there is just one
+unfoldable pub bytes_word : Bool → List ℕ
+bytes_word true = codes " byte"
+bytes_word false = codes " bytes"
+
 -- that it is, where there is just one, or that they are
 unfoldable pub verb : Bool → List ℕ
 verb true = codes " is"
 verb false = codes " are"
+
+-- so many bytes
+unfoldable pub bytes_text : ℕ → List ℕ
+bytes_text n = decimal n ++ bytes_word (n == 1)
 
 -- so many steps are owed
 unfoldable pub owed_text : ℕ → List ℕ

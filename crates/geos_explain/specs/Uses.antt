@@ -1,5 +1,5 @@
 -- What is wrong with the slots and pointers that an instruction uses, rule by rule.
-use Rattle.std.specs.Prelude.{ℕ, nat_lt, if◌then◌else◌, List, [], map, ◌++◌, Option, Some, None, codes, decimal}
+use Rattle.std.specs.Prelude.{ℕ, Bool, ◌-◌, nat_lt, nat_le, ◌==◌, if◌then◌else◌, List, [], map, ◌++◌, Option, Some, None, codes, decimal}
 use Rattle.geos_image.specs.declared.instr.Instr.{Instr}
 use Rattle.geos_image.specs.declared.row.Row.{Row}
 use Rattle.geos_image.specs.declared.row.Pointer.{Pointer}
@@ -10,11 +10,16 @@ use Rattle.geos_opcodes.specs.declared.uses.Kind.{Kind}
 use Rattle.geos_opcodes.specs.declared.uses.Kind.TheVariants.{MemBlock, VmBlock, DbGroup}
 use Rattle.geos_opcodes.specs.declared.uses.SlotUse.{SlotUse}
 use Rattle.geos_opcodes.specs.declared.uses.SlotUse.TheVariants.{Unlocks, Compares}
+use Rattle.geos_opcodes.specs.declared.uses.Width.{Width}
+use Rattle.geos_opcodes.specs.declared.uses.Offset.{Offset}
+use Rattle.geos_opcodes.specs.declared.uses.Offset.TheVariants.{Indexed}
 use Rattle.geos_opcodes.specs.declared.uses.PointerUse.{PointerUse}
 use Rattle.geos_opcodes.specs.declared.uses.PointerUse.TheVariants.{Loads, Stores, Copies}
 use Rattle.geos_listing.specs.Rows.{state_word}
-use Rattle.geos_verify.specs.Rows.{slot_state, pointer_at, leads_nowhere}
+use Rattle.geos_verify.specs.Uses.{bytes_in}
+use Rattle.geos_verify.specs.Rows.{bound, slot_state, pointer_at, leads_nowhere}
 use Rattle.geos_verify.specs.Rules.{reach, least_at}
+use Rattle.geos_explain.specs.Numbers.{bytes_text}
 
 -- a slot, and what the row says that it holds
 unfoldable pub state_item : ℕ → Row → List ℕ
@@ -40,10 +45,46 @@ wanted_bytes p wanted = codes " " ++ decimal wanted ++ codes " bytes are wanted 
 unfoldable pub short_words : ℕ → ℕ → Row → List ℕ
 short_words p wanted row = wanted_bytes p wanted ++ codes ", and " ++ decimal (least_at row p) ++ codes " are known there"
 
+-- a word may be any number
+abbrev pub is_any : ℕ → Bool
+is_any most = most == 65535
+
+-- nothing is known of the word that is the index
+unfoldable pub index_unknown : ℕ → List ℕ
+index_unknown w = codes " nothing is known of w" ++ decimal w ++ codes ", the index"
+
+-- how high the word is at most
+unfoldable pub index_most : ℕ → ℕ → List ℕ
+index_most w most = codes " w" ++ decimal w ++ codes "<=" ++ decimal most ++ codes " is known of the index"
+
+-- what is known of the word that is the index
+abbrev pub index_known : ℕ → ℕ → List ℕ
+index_known w most = if is_any most then index_unknown w else index_most w most
+
+-- what must be known of it for a read or a write so wide; nothing serves where fewer bytes are there
+unfoldable pub index_wanted : ℕ → ℕ → ℕ → List ℕ
+index_wanted w wide least =
+    if nat_le wide least
+    then codes ", and w" ++ decimal w ++ codes "<=" ++ decimal (least - wide) ++ codes " is wanted"
+    else codes ", and none is low enough"
+
+-- how many bytes are known behind a pointer
+unfoldable pub known_bytes : ℕ → ℕ → List ℕ
+known_bytes p least = codes ": p" ++ decimal p ++ codes " is known to have " ++ bytes_text least
+
+-- an index may be too high for the bytes behind its pointer
+unfoldable pub index_words : ℕ → ℕ → ℕ → ℕ → ℕ → List ℕ
+index_words w most wide p least = index_known w most ++ index_wanted w wide least ++ known_bytes p least
+
+-- a read or a write at an offset may reach past the bytes behind its pointer
+abbrev pub reach_words : Instr → Width → Offset → Row → List ℕ
+reach_words i width Indexed row = index_words i.c (bound row i.c) (bytes_in width) i.b (least_at row i.b)
+reach_words i width offset row = short_words i.b (reach i width offset row) row
+
 -- a read or a write may reach past the bytes behind its pointer
 unfoldable pub past_words : Instr → PointerUse → Row → List ℕ
-past_words i (Loads width offset) row = short_words i.b (reach i width offset row) row
-past_words i (Stores width offset) row = short_words i.b (reach i width offset row) row
+past_words i (Loads width offset) row = reach_words i width offset row
+past_words i (Stores width offset) row = reach_words i width offset row
 past_words i _ row = if nat_lt (least_at row i.a) i.imm then short_words i.a i.imm row else short_words i.b i.imm row
 
 -- the slot that a pointer leads into

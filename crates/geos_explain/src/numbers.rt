@@ -1,7 +1,7 @@
 //! Numbers in decimal digits, and the words that go with a number of steps.
 
 ghost use Rattle.std.specs.Prelude.{◌≡◌, ◌++◌, OnOk, decimal};
-ghost use Rattle.geos_explain.specs.Numbers.{steps_word, verb, owed_text, left_text, pc_text};
+ghost use Rattle.geos_explain.specs.Numbers.{steps_word, bytes_word, bytes_text, verb, owed_text, left_text, pc_text};
 
 use std::alloc::AllocError;
 
@@ -49,12 +49,29 @@ pub(crate) fn steps_word(one: bool) -> &'static str
     if one { " step" } else { " steps" }
 }
 
+/// The word for bytes, and whether there is just one.
+#[tactic(auto, unfolding(crate::specs::Numbers::bytes_word))]
+fn bytes_word(one: bool) -> &'static str
+    ensures { result.now ≡ bytes_word one }
+{
+    if one { " byte" } else { " bytes" }
+}
+
 /// That it is, where there is just one, or that they are.
 #[tactic(auto, unfolding(crate::specs::Numbers::verb))]
 pub(crate) fn verb(one: bool) -> &'static str
     ensures { result.now ≡ verb one }
 {
     if one { " is" } else { " are" }
+}
+
+/// A sign, and so many bytes.
+#[tactic(auto, unfolding(crate::specs::Numbers::bytes_text))]
+pub(crate) fn put_bytes(out: &mut Vec<u8>, sign: &str, n: u16) -> Result<(), AllocError>
+    ensures { OnOk result (out.new.items ≡ out.old.items ++ sign.now ++ bytes_text n) }
+{
+    put_numbered(out, sign, u64::from(n))?;
+    out.extend_from_slice(bytes_word(n == 1).as_bytes())
 }
 
 /// A sign, and that so many steps are owed.

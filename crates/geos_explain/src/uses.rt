@@ -1,13 +1,13 @@
 //! What is wrong with the slots and pointers that an instruction uses.
 
 ghost use Rattle.std.specs.Prelude.{◌≡◌, ◌<◌, ◌++◌, OnOk, map};
-ghost use Rattle.geos_verify.specs.Uses.{PointerFits};
-ghost use Rattle.geos_explain.specs.Uses.{state_item, nowhere_only, leading_nowhere, nowhere_words, wanted_bytes, short_words, past_words, slot_behind, changed_slot, unmarked_words, held_words, kind_wish, slot_wish, other_item, slot_words};
+ghost use Rattle.geos_verify.specs.Uses.{bytes_in, OffsetFits, PointerFits};
+ghost use Rattle.geos_explain.specs.Uses.{state_item, nowhere_only, leading_nowhere, nowhere_words, wanted_bytes, short_words, is_any, index_unknown, index_most, index_known, index_wanted, known_bytes, index_words, reach_words, past_words, slot_behind, changed_slot, unmarked_words, held_words, kind_wish, slot_wish, other_item, slot_words};
 
-use crate::numbers::put_numbered;
+use crate::numbers::{put_about, put_bytes, put_numbered};
 use geos_image::{Instr, Pointer, Row, SlotState};
 use geos_listing::{put_items, state_word};
-use geos_opcodes::{Kind, PointerUse, SlotUse};
+use geos_opcodes::{Kind, Offset, PointerUse, SlotUse, Width};
 use geos_verify::{leads_nowhere, least_at, pointer_at, reach, slot_state};
 use std::alloc::AllocError;
 
@@ -75,6 +75,112 @@ fn put_short(out: &mut Vec<u8>, p: u8, wanted: u32, row: &Row) -> Result<(), All
     out.extend_from_slice(b" are known there")
 }
 
+/// How many bytes a read or a write is wide.
+fn bytes_in(width: Width) -> u16
+    ensures { result ≡ bytes_in width }
+{
+    match width {
+        Width::Byte => 1,
+        Width::Both => 2,
+    }
+}
+
+/// Whether a word may be any number.
+fn is_any(most: u16) -> bool
+    ensures { result ≡ is_any most }
+{
+    most == u16::MAX
+}
+
+/// Nothing is known of the word that is the index.
+#[tactic(auto, unfolding(crate::specs::Uses::index_unknown))]
+fn put_index_unknown(out: &mut Vec<u8>, w: u8) -> Result<(), AllocError>
+    ensures { OnOk result (out.new.items ≡ out.old.items ++ index_unknown w) }
+{
+    put_about(out, " nothing is known of w", w, ", the index")
+}
+
+/// How high the word is at most.
+#[tactic(auto, unfolding(crate::specs::Uses::index_most))]
+fn put_index_most(out: &mut Vec<u8>, w: u8, most: u16) -> Result<(), AllocError>
+    ensures { OnOk result (out.new.items ≡ out.old.items ++ index_most w most) }
+{
+    put_numbered(out, " w", u64::from(w))?;
+    put_numbered(out, "<=", u64::from(most))?;
+    out.extend_from_slice(b" is known of the index")
+}
+
+/// What is known of the word that is the index.
+fn put_index_known(out: &mut Vec<u8>, w: u8, most: u16) -> Result<(), AllocError>
+    ensures { OnOk result (out.new.items ≡ out.old.items ++ index_known w most) }
+{
+    if is_any(most) {
+        put_index_unknown(out, w)
+    } else {
+        put_index_most(out, w, most)
+    }
+}
+
+/// What must be known of it for a read or a write so wide; nothing serves where fewer bytes are there.
+#[tactic(auto, unfolding(crate::specs::Uses::index_wanted))]
+fn put_index_wanted(out: &mut Vec<u8>, w: u8, wide: u16, least: u16) -> Result<(), AllocError>
+    ensures { OnOk result (out.new.items ≡ out.old.items ++ index_wanted w wide least) }
+{
+    if wide <= least {
+        put_numbered(out, ", and w", u64::from(w))?;
+        put_numbered(out, "<=", u64::from(least - wide))?;
+        out.extend_from_slice(b" is wanted")
+    } else {
+        out.extend_from_slice(b", and none is low enough")
+    }
+}
+
+/// How many bytes are known behind a pointer.
+#[tactic(auto, unfolding(crate::specs::Uses::known_bytes))]
+fn put_known_bytes(out: &mut Vec<u8>, p: u8, least: u16) -> Result<(), AllocError>
+    ensures { OnOk result (out.new.items ≡ out.old.items ++ known_bytes p least) }
+{
+    put_numbered(out, ": p", u64::from(p))?;
+    put_bytes(out, " is known to have ", least)
+}
+
+/// An index may be too high for the bytes behind its pointer.
+#[tactic(auto, unfolding(crate::specs::Uses::index_words))]
+fn put_index_words(
+    out: &mut Vec<u8>,
+    w: u8,
+    most: u16,
+    wide: u16,
+    p: u8,
+    least: u16,
+) -> Result<(), AllocError>
+    ensures { OnOk result (out.new.items ≡ out.old.items ++ index_words w most wide p least) }
+{
+    put_index_known(out, w, most)?;
+    put_index_wanted(out, w, wide, least)?;
+    put_known_bytes(out, p, least)
+}
+
+/// A read or a write at the offset may reach past the bytes behind its pointer.
+fn put_reach(
+    out: &mut Vec<u8>,
+    i: &Instr,
+    width: Width,
+    offset: Offset,
+    row: &Row,
+) -> Result<(), AllocError>
+    requires { OffsetFits offset i.now }
+    ensures { OnOk result (out.new.items ≡ out.old.items ++ reach_words i.now width offset row.now) }
+{
+    match offset {
+        Offset::Indexed => {
+            let most = row.bounds[usize::from(i.c)];
+            put_index_words(out, i.c, most, bytes_in(width), i.b, least_at(row, i.b))
+        }
+        _ => put_short(out, i.b, reach(i, width, offset, row), row),
+    }
+}
+
 /// A read or a write may reach past the bytes behind its pointer.
 #[tactic(auto, unfolding(crate::specs::Uses::past_words))]
 pub(crate) fn put_past(
@@ -88,7 +194,7 @@ pub(crate) fn put_past(
 {
     match pointer {
         PointerUse::Loads(width, offset) | PointerUse::Stores(width, offset) => {
-            put_short(out, i.b, reach(i, width, offset, row), row)
+            put_reach(out, i, width, offset, row)
         }
         _ => {
             let p = if least_at(row, i.a) < i.imm { i.a } else { i.b };
