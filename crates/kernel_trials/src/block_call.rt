@@ -2,12 +2,13 @@
 
 ghost use Rattle.geos_kernel.specs.View.{IsLocked};
 
+use crate::Answer;
 use crate::calls::{NOT_MARKED, may_change};
 use crate::spans::length;
-use crate::{Answer, Kernel};
-use geos_kernel::{Ask, Change, Make, Refer};
+use geos_kernel::{Ask, Change, Kernel, Make, Refer};
 use geos_model::Name;
 use trial_lines::Line;
+use vm_file::Device;
 
 /// A call on a locked block.
 #[derive(Clone, Copy)]
@@ -42,7 +43,7 @@ impl BlockCall {
     }
 
     /// Makes the call.
-    pub(crate) fn make(self, kernel: &mut Kernel, name: Name) -> Answer
+    pub(crate) fn make<D: Device + Drop>(self, kernel: &mut Kernel<D>, name: Name) -> Answer
         requires { IsLocked kernel.old.core name }
     {
         match self {

@@ -3,13 +3,15 @@
 ghost use Rattle.std.specs.Prelude.{IsTrue};
 ghost use Rattle.geos_kernel.specs.View.{MayChange};
 
+use crate::Answer;
 use crate::block_call::BlockCall;
 use crate::file_calls::file_call;
 use crate::spans::{is_span_call, span_call};
-use crate::{Answer, Kernel};
+use geos_kernel::Kernel;
 use geos_model::{Name, Owner};
 use std::alloc::{AllocError, Global};
 use trial_lines::{Line, Series};
+use vm_file::Device;
 
 /// What keeps a call from being made on a block that is not locked.
 pub(crate) const NOT_LOCKED: &str = "not locked";
@@ -18,7 +20,7 @@ pub(crate) const NOT_LOCKED: &str = "not locked";
 pub(crate) const NOT_MARKED: &str = "not marked";
 
 /// Whether the bytes of a block may be changed: where it is one of the VM file, it has to be marked.
-pub(crate) fn may_change(kernel: &Kernel, name: Name) -> bool
+pub(crate) fn may_change<D: Device + Drop>(kernel: &Kernel<D>, name: Name) -> bool
     ensures { IsTrue result → MayChange kernel.now.core name }
 {
     match name.owner {
@@ -40,7 +42,7 @@ pub(crate) fn block_of<'a>(line: &Line<'a>) -> (Name, &'a str) {
 }
 
 /// Makes the call of a line.
-pub(crate) fn answer(kernel: &mut Kernel, line: &Line<'_>) -> Answer {
+pub(crate) fn answer<D: Device + Drop>(kernel: &mut Kernel<D>, line: &Line<'_>) -> Answer {
     match line.word {
         "mnew" => kernel.mnew().into(),
         "mlock" => kernel.mlock(line.word_at(0)).into(),
@@ -56,7 +58,12 @@ pub(crate) fn answer(kernel: &mut Kernel, line: &Line<'_>) -> Answer {
 }
 
 /// Makes a call on a named block.
-fn named_call(kernel: &mut Kernel, name: Name, word: &str, line: &Line<'_>) -> Answer {
+fn named_call<D: Device + Drop>(
+    kernel: &mut Kernel<D>,
+    name: Name,
+    word: &str,
+    line: &Line<'_>,
+) -> Answer {
     if word == "locks" {
         return Answer::Number(u32::from(kernel.locks(name)));
     }
@@ -75,9 +82,9 @@ fn named_call(kernel: &mut Kernel, name: Name, word: &str, line: &Line<'_>) -> A
 
 /// Makes blocks, which should get the handles `from` to `to`, and a chunk of `n` bytes in each block of these handles. Tells how the
 /// answers to `mnew` run, and those to `lalloc`.
-pub(crate) fn fill(
+pub(crate) fn fill<D: Device + Drop>(
     alloc: Global,
-    kernel: &mut Kernel,
+    kernel: &mut Kernel<D>,
     line: &Line<'_>,
 ) -> Result<Answer, AllocError> {
     let [from, to, n] = [line.word_at(0), line.word_at(1), line.word_at(2)];
@@ -92,7 +99,7 @@ pub(crate) fn fill(
 }
 
 /// Makes a chunk in a block of global memory, where it is locked.
-fn alloc_in(kernel: &mut Kernel, h: u16, n: u16) -> Answer {
+fn alloc_in<D: Device + Drop>(kernel: &mut Kernel<D>, h: u16, n: u16) -> Answer {
     let name = Name::mem(h);
     if kernel.locks(name) == 0 {
         return Answer::NotAsked(NOT_LOCKED);

@@ -2,18 +2,20 @@
 
 ghost use Rattle.std.specs.Prelude.{◌<◌};
 
+use crate::Answer;
 use crate::calls::NOT_LOCKED;
 use crate::spans::length;
-use crate::{Answer, Kernel};
+use geos_kernel::Kernel;
 use geos_model::{Name, Refusal};
 use std::alloc::{AllocError, Global};
 use trial_lines::Line;
+use vm_file::Device;
 
 /// What keeps the file from being committed.
 const FILE_LOCKED: &str = "a block of the file is locked";
 
 /// Makes the call of a line on the VM file.
-pub(crate) fn file_call(kernel: &mut Kernel, line: &Line<'_>) -> Answer {
+pub(crate) fn file_call<D: Device + Drop>(kernel: &mut Kernel<D>, line: &Line<'_>) -> Answer {
     let [h, second, ..] = line.words();
     match line.word {
         "vnew" => kernel.vnew(h).into(),
@@ -33,7 +35,7 @@ pub(crate) fn file_call(kernel: &mut Kernel, line: &Line<'_>) -> Answer {
 }
 
 /// Makes the call of a line on a group, or on an item.
-fn item_call(kernel: &mut Kernel, line: &Line<'_>) -> Answer {
+fn item_call<D: Device + Drop>(kernel: &mut Kernel<D>, line: &Line<'_>) -> Answer {
     let [g, i, third, fourth, ..] = line.words();
     match line.word {
         "gnew" => kernel.gnew().into(),
@@ -50,7 +52,7 @@ fn item_call(kernel: &mut Kernel, line: &Line<'_>) -> Answer {
 }
 
 /// Makes a call on a block or group that has to be locked.
-fn locked_call(kernel: &mut Kernel, word: &str, h: u16) -> Answer {
+fn locked_call<D: Device + Drop>(kernel: &mut Kernel<D>, word: &str, h: u16) -> Answer {
     let name = Name::vm(h);
     if kernel.locks(name) == 0 {
         return Answer::NotAsked(NOT_LOCKED);
@@ -65,7 +67,7 @@ fn locked_call(kernel: &mut Kernel, word: &str, h: u16) -> Answer {
 }
 
 /// Commits the file, where none of its blocks is locked.
-fn commit(kernel: &mut Kernel, word: &str) -> Answer {
+fn commit<D: Device + Drop>(kernel: &mut Kernel<D>, word: &str) -> Answer {
     if !kernel.vm_unlocked() {
         return Answer::NotAsked(FILE_LOCKED);
     }
@@ -77,13 +79,16 @@ fn commit(kernel: &mut Kernel, word: &str) -> Answer {
 }
 
 /// The map item: its group, and the item.
-pub(crate) fn map_item(alloc: Global, kernel: &Kernel) -> Result<Answer, AllocError> {
+pub(crate) fn map_item<D: Device + Drop>(
+    alloc: Global,
+    kernel: &Kernel<D>,
+) -> Result<Answer, AllocError> {
     let (group, item) = kernel.igetmap();
     Ok(Answer::Text(format!(in alloc; "{group} {item}")?))
 }
 
 /// Locks a block of the file, or a group that has an item, by the call that serves. A group without one stays as it is.
-pub(crate) fn lock_any(kernel: &mut Kernel, h: u16) -> Result<(), Refusal> {
+pub(crate) fn lock_any<D: Device + Drop>(kernel: &mut Kernel<D>, h: u16) -> Result<(), Refusal> {
     match kernel.vlock(h) {
         Err(Refusal::Reserved) => lock_group(kernel, h),
         answer => answer,
@@ -91,7 +96,7 @@ pub(crate) fn lock_any(kernel: &mut Kernel, h: u16) -> Result<(), Refusal> {
 }
 
 /// Locks a group, where it has an item.
-fn lock_group(kernel: &mut Kernel, g: u16) -> Result<(), Refusal> {
+fn lock_group<D: Device + Drop>(kernel: &mut Kernel<D>, g: u16) -> Result<(), Refusal> {
     for entry in 0..MOST_CHUNKS {
         match kernel.ilock(g, chunk_of(entry), 0) {
             Ok(_) => return Ok(()),

@@ -2,11 +2,10 @@
 
 ghost use Rattle.geos_model.specs.Heap.{IsHeap};
 
-use crate::Device;
 use lmem_heap::{check, next, size};
 use std::alloc::{AllocError, Global};
 use std::fmt::Write;
-use vm_file::{Directory, Disk, Entry, MOST_BLOCKS, VmFile};
+use vm_file::{Device, Directory, Disk, Entry, MOST_BLOCKS, VmFile};
 
 /// Which of the two directories.
 #[derive(Clone, Copy)]
@@ -25,7 +24,10 @@ struct Kept {
 }
 
 /// Both directories of a file, with their blocks.
-pub(crate) fn listed(alloc: Global, file: &mut VmFile<Device>) -> Result<String, AllocError> {
+pub(crate) fn listed<D: Device + Drop>(
+    alloc: Global,
+    file: &mut VmFile<D>,
+) -> Result<String, AllocError> {
     let mut text = String::new(alloc);
     text.push_str("current")?;
     put_directory(alloc, &mut text, file, Which::Current)?;
@@ -35,10 +37,10 @@ pub(crate) fn listed(alloc: Global, file: &mut VmFile<Device>) -> Result<String,
 }
 
 /// Tells what a directory maps, and its blocks.
-fn put_directory(
+fn put_directory<D: Device + Drop>(
     alloc: Global,
     text: &mut String,
-    file: &mut VmFile<Device>,
+    file: &mut VmFile<D>,
     which: Which,
 ) -> Result<(), AllocError> {
     match which {
@@ -58,9 +60,9 @@ fn put_directory(
 }
 
 /// The block of the current directory with a handle, where there is one.
-fn current_block(
+fn current_block<D: Device + Drop>(
     alloc: Global,
-    file: &mut VmFile<Device>,
+    file: &mut VmFile<D>,
     h: u16,
 ) -> Result<Option<Kept>, AllocError> {
     let Some(entry) = file.current().entry(h) else {
@@ -76,9 +78,9 @@ fn current_block(
 }
 
 /// The block of the saved directory with a handle, where there is one.
-fn saved_block(
+fn saved_block<D: Device + Drop>(
     alloc: Global,
-    file: &mut VmFile<Device>,
+    file: &mut VmFile<D>,
     h: u16,
 ) -> Result<Option<Kept>, AllocError> {
     let Some(entry) = file.saved().entry(h) else {

@@ -28,21 +28,13 @@ mod stand;
 mod state;
 
 use crate::stand::{Fault, Stand};
-use cached_device::CachedDevice;
 use geos_model::Refusal;
 use std::alloc::{AllocError, Global};
 use std::io;
 use trial_lines::{Line, run};
-use vm_file::FaultDevice;
 
 /// What a call answers.
 type Answer = trial_lines::Answer<Refusal>;
-
-/// The device of a kernel.
-type Device = FaultDevice<CachedDevice>;
-
-/// The kernel that calls are made on.
-type Kernel = geos_kernel::Kernel<FaultDevice<CachedDevice>>;
 
 /// The length of the smallest region that a kernel has.
 const LEAST: u32 = 65_536;

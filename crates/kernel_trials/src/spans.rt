@@ -6,13 +6,14 @@ ghost use Rattle.geos_kernel.specs.Spans.{IsStanding};
 ghost use Rattle.geos_kernel.specs.View.{IsLocked, MayChange};
 ghost use Rattle.kernel_trials.specs.Spans.{LiesIn};
 
+use crate::Answer;
 use crate::calls::{NOT_LOCKED, NOT_MARKED, block_of, may_change};
-use crate::{Answer, Kernel};
-use geos_kernel::{Refer, Span};
+use geos_kernel::{Kernel, Refer, Span};
 use geos_model::{Name, Refusal};
 use std::alloc::{AllocError, Global};
 use std::fmt::Write;
 use trial_lines::Line;
+use vm_file::Device;
 
 /// Whether a word is of a call that begins with a span.
 pub(crate) fn is_span_call(word: &str) -> bool {
@@ -24,7 +25,7 @@ pub(crate) fn is_span_call(word: &str) -> bool {
 }
 
 /// Where bytes of a locked block lie.
-fn span_of(kernel: &Kernel, name: Name, refer: Refer) -> Result<Span, Refusal>
+fn span_of<D: Device + Drop>(kernel: &Kernel<D>, name: Name, refer: Refer) -> Result<Span, Refusal>
     requires { IsLocked kernel.now.core name }
     ensures lies { IfOk result (λ span. LiesIn kernel.now.core span name) }
     ensures least { IfOk result (λ span. least refer ≤ span.len) }
@@ -37,7 +38,12 @@ fn span_of(kernel: &Kernel, name: Name, refer: Refer) -> Result<Span, Refusal>
 }
 
 /// Makes a call that begins with a span of a locked block.
-pub(crate) fn span_call(kernel: &mut Kernel, name: Name, word: &str, line: &Line<'_>) -> Answer
+pub(crate) fn span_call<D: Device + Drop>(
+    kernel: &mut Kernel<D>,
+    name: Name,
+    word: &str,
+    line: &Line<'_>,
+) -> Answer
     requires { IsLocked kernel.old.core name }
 {
     let [c, second, third, fourth] = [
@@ -72,7 +78,13 @@ pub(crate) fn length(given: Result<Span, Refusal>) -> Answer {
 }
 
 /// Copies the first bytes of the chunk `from` to the beginning of the chunk `to`.
-fn copy(kernel: &mut Kernel, name: Name, to: u16, from: u16, n: u16) -> Result<(), Refusal>
+fn copy<D: Device + Drop>(
+    kernel: &mut Kernel<D>,
+    name: Name,
+    to: u16,
+    from: u16,
+    n: u16,
+) -> Result<(), Refusal>
     requires locked { IsLocked kernel.old.core name }
     requires marked { MayChange kernel.old.core name }
 {
@@ -83,8 +95,8 @@ fn copy(kernel: &mut Kernel, name: Name, to: u16, from: u16, n: u16) -> Result<(
 }
 
 /// Reads or writes at an offset of a span.
-fn access(
-    kernel: &mut Kernel,
+fn access<D: Device + Drop>(
+    kernel: &mut Kernel<D>,
     name: Name,
     span: Result<Span, Refusal>,
     word: &str,
@@ -116,7 +128,11 @@ fn access(
 }
 
 /// All bytes of a chunk.
-pub(crate) fn bytes(alloc: Global, kernel: &Kernel, line: &Line<'_>) -> Result<Answer, AllocError> {
+pub(crate) fn bytes<D: Device + Drop>(
+    alloc: Global,
+    kernel: &Kernel<D>,
+    line: &Line<'_>,
+) -> Result<Answer, AllocError> {
     let (name, _) = block_of(line);
     if kernel.locks(name) == 0 {
         return Ok(Answer::NotAsked(NOT_LOCKED));
@@ -128,7 +144,11 @@ pub(crate) fn bytes(alloc: Global, kernel: &Kernel, line: &Line<'_>) -> Result<A
 }
 
 /// The bytes of a span, with a space between each two.
-fn text_of(alloc: Global, kernel: &Kernel, span: Span) -> Result<String, AllocError>
+fn text_of<D: Device + Drop>(
+    alloc: Global,
+    kernel: &Kernel<D>,
+    span: Span,
+) -> Result<String, AllocError>
     requires { IsStanding kernel.now.core span }
 {
     let mut text = String::new(alloc);

@@ -2,17 +2,21 @@
 
 ghost use Rattle.std.specs.Prelude.{◌≡◌, ◌≤◌, true};
 
+use crate::Answer;
 use crate::calls::{answer, fill};
 use crate::file_calls::map_item;
 use crate::kept::listed;
 use crate::spans::bytes;
 use crate::state::state;
-use crate::{Answer, Device, Kernel};
 use cached_device::{CachedDevice, Part};
+use geos_kernel::Kernel;
 use std::alloc::{AllocError, Global};
 use std::mem;
 use trial_lines::{Line, told};
-use vm_file::{CreateError, Device as _, FaultDevice, OpenError, VmFile};
+use vm_file::{CreateError, Device, FaultDevice, OpenError, VmFile};
+
+/// The device of a kernel.
+type Faulty = FaultDevice<CachedDevice>;
 
 /// That there is no kernel to make a call on.
 const NO_KERNEL: &str = "no kernel";
@@ -35,7 +39,7 @@ impl Fault {
     };
 
     /// Lets these calls of a device fail.
-    fn on(self, device: CachedDevice) -> Device {
+    fn on(self, device: CachedDevice) -> Faulty {
         FaultDevice::new(device, self.call, self.rest)
     }
 }
@@ -46,9 +50,9 @@ pub(crate) enum Stand {
     /// There is no device.
     Nothing,
     /// There is a device, and no kernel on it.
-    Device(Device),
+    Device(Faulty),
     /// There is a kernel on its device.
-    Kernel(Kernel),
+    Kernel(Kernel<Faulty>),
 }
 
 impl Stand {
@@ -107,7 +111,7 @@ impl Stand {
         &mut self,
         alloc: Global,
         region: u32,
-        file: VmFile<Device>,
+        file: VmFile<Faulty>,
     ) -> Result<Answer, AllocError>
         requires region { (65536 ≤ region) × (region ≤ 16777216) }
         requires sure { file.sure ≡ true }
@@ -127,7 +131,7 @@ impl Stand {
     }
 
     /// Takes the device away. A kernel on it is let go.
-    fn take(&mut self) -> Option<Device> {
+    fn take(&mut self) -> Option<Faulty> {
         match mem::replace(self, Stand::Nothing) {
             Stand::Nothing => None,
             Stand::Device(device) => Some(device),
@@ -189,7 +193,7 @@ impl Stand {
     }
 
     /// Tells what a device holds.
-    fn kept(&mut self, alloc: Global, device: Device) -> Result<Answer, AllocError> {
+    fn kept(&mut self, alloc: Global, device: Faulty) -> Result<Answer, AllocError> {
         match VmFile::open(alloc, Fault::NONE.on(device.into_inner())) {
             Ok(mut file) => {
                 let text = listed(alloc, &mut file)?;
@@ -206,7 +210,11 @@ impl Stand {
 }
 
 /// Makes the call of a line on the kernel.
-fn on_kernel(alloc: Global, kernel: &mut Kernel, line: &Line<'_>) -> Result<Answer, AllocError> {
+fn on_kernel<D: Device + Drop>(
+    alloc: Global,
+    kernel: &mut Kernel<D>,
+    line: &Line<'_>,
+) -> Result<Answer, AllocError> {
     match line.word {
         "fill" => fill(alloc, kernel, line),
         "bytes" | "vm_bytes" => bytes(alloc, kernel, line),

@@ -2,14 +2,19 @@
 
 ghost use Rattle.geos_kernel.specs.View.{IsLocked};
 
+use crate::Answer;
 use crate::file_calls::{MOST_CHUNKS, chunk_of, lock_any};
-use crate::{Answer, Kernel};
+use geos_kernel::Kernel;
 use geos_model::{Name, Refusal};
 use std::alloc::{AllocError, Global};
 use std::fmt::Write;
+use vm_file::Device;
 
 /// What a kernel has: whether it is sure of its file, what is mapped, and each block.
-pub(crate) fn state(alloc: Global, kernel: &mut Kernel) -> Result<Answer, AllocError> {
+pub(crate) fn state<D: Device + Drop>(
+    alloc: Global,
+    kernel: &mut Kernel<D>,
+) -> Result<Answer, AllocError> {
     let mut text = String::new(alloc);
     let (group, item) = kernel.igetmap();
     write!(
@@ -30,7 +35,11 @@ pub(crate) fn state(alloc: Global, kernel: &mut Kernel) -> Result<Answer, AllocE
 }
 
 /// Tells of a block of global memory, where it is there.
-fn put_memory_block(text: &mut String, kernel: &mut Kernel, h: u16) -> Result<(), AllocError> {
+fn put_memory_block<D: Device + Drop>(
+    text: &mut String,
+    kernel: &mut Kernel<D>,
+    h: u16,
+) -> Result<(), AllocError> {
     let name = Name::mem(h);
     let locks = kernel.locks(name);
     match kernel.mlock(h) {
@@ -42,9 +51,9 @@ fn put_memory_block(text: &mut String, kernel: &mut Kernel, h: u16) -> Result<()
 }
 
 /// Tells of a block or group of the file.
-fn put_file_block(
+fn put_file_block<D: Device + Drop>(
     text: &mut String,
-    kernel: &mut Kernel,
+    kernel: &mut Kernel<D>,
     h: u16,
     uid: u16,
 ) -> Result<(), AllocError> {
@@ -62,8 +71,8 @@ fn put_file_block(
 }
 
 /// Tells the chunks of a block, where it is locked, and unlocks it where it is locked more often than so.
-fn unlock_to(
-    kernel: &mut Kernel,
+fn unlock_to<D: Device + Drop>(
+    kernel: &mut Kernel<D>,
     name: Name,
     locks: u16,
     text: &mut String,
@@ -79,7 +88,11 @@ fn unlock_to(
 }
 
 /// Tells the chunks of a locked block, each with its length.
-fn put_chunks(text: &mut String, kernel: &Kernel, name: Name) -> Result<(), AllocError>
+fn put_chunks<D: Device + Drop>(
+    text: &mut String,
+    kernel: &Kernel<D>,
+    name: Name,
+) -> Result<(), AllocError>
     requires { IsLocked kernel.now.core name }
 {
     for entry in 0..MOST_CHUNKS {
