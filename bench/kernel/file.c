@@ -10,7 +10,7 @@
 #include <time.h>
 #include <unistd.h>
 
-enum { BLOCKS = 1000, SIZE = 4096, ROUNDS = 30, PASSES = 20, LOCKS = 4000, WRITES = 64, FIRST = 16, FRAMES = 250 };
+enum { BLOCKS = 1000, SIZE = 4096, ROUNDS = 30, PASSES = 40, LOCKS = 4000, WRITES = 64, FIRST = 16, FRAMES = 250 };
 
 static int file;
 static uint32_t area;
@@ -159,12 +159,13 @@ static void passes(void) {
     uint32_t x = 1;
     memset(frame_of, -1, sizeof frame_of);
     for (int p = 0; p < PASSES; p++) {
+        int far = p < PASSES / 2;
         uint32_t sum = 0;
         int done = 0;
         double start = now();
         for (int k = 0; k < LOCKS; k++) {
             x = x * 1664525u + 1013904223u;
-            int f = lock(1 + (x >> 16) % BLOCKS);
+            int f = lock(1 + (x >> 16) % (far ? BLOCKS : 100));
             if (f < 0) continue;
             unsigned char *block = frames[f];
             unsigned at = word(block, FIRST);
@@ -180,7 +181,7 @@ static void passes(void) {
         double took = now() - start;
         start = now();
         int kept = commit();
-        printf("pass %.0f %.0f %d %u %s\n", took, now() - start, done, sum, kept ? "true" : "false");
+        printf("%s %.0f %.0f %d %u %s\n", far ? "pass" : "near", took, now() - start, done, sum, kept ? "true" : "false");
     }
 }
 

@@ -7,7 +7,7 @@
 #include <time.h>
 #include <unistd.h>
 
-enum { BLOCKS = 1000, PASSES = 20, LOCKS = 4000, WRITES = 64, SIZE = 4000 };
+enum { BLOCKS = 1000, PASSES = 40, LOCKS = 4000, WRITES = 64, SIZE = 4000 };
 
 static double now(void) {
     struct timespec t;
@@ -41,19 +41,20 @@ int main(void) {
     }
     must(sqlite3_exec(file, "COMMIT", 0, 0, 0));
     for (int p = 0; p < PASSES; p++) {
+        int far = p < PASSES / 2;
         uint32_t sum = 0;
         double start = now();
         must(sqlite3_exec(file, "BEGIN", 0, 0, 0));
         for (int k = 0; k < LOCKS; k++) {
             x = x * 1664525u + 1013904223u;
-            must(sqlite3_bind_int(get, 1, 1 + (int)((x >> 16) % BLOCKS)));
+            must(sqlite3_bind_int(get, 1, 1 + (int)((x >> 16) % (far ? BLOCKS : 100))));
             must(sqlite3_step(get));
             const unsigned char *bytes = sqlite3_column_blob(get, 0);
             if (!bytes) return 1;
             if (k % WRITES == 0) {
                 memcpy(blob, bytes, SIZE);
                 blob[0] = (unsigned char)x;
-                must(sqlite3_bind_int(put, 1, 1 + (int)((x >> 16) % BLOCKS)));
+                must(sqlite3_bind_int(put, 1, 1 + (int)((x >> 16) % (far ? BLOCKS : 100))));
                 must(sqlite3_bind_blob(put, 2, blob, SIZE, SQLITE_STATIC));
                 must(sqlite3_reset(get));
                 must(sqlite3_step(put));
@@ -66,7 +67,7 @@ int main(void) {
         double took = now() - start;
         start = now();
         must(sqlite3_exec(file, "COMMIT", 0, 0, 0));
-        printf("pass %.0f %.0f %d %u true\n", took, now() - start, LOCKS, sum);
+        printf("%s %.0f %.0f %d %u true\n", far ? "pass" : "near", took, now() - start, LOCKS, sum);
     }
     sqlite3_finalize(get);
     sqlite3_finalize(put);
