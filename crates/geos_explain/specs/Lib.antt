@@ -3,6 +3,7 @@ pub mod Places
 pub mod Notes
 pub mod Lacks
 pub mod Uses
+pub mod Held
 pub mod Ways
 pub mod Stale
 pub mod Steps

@@ -5,7 +5,7 @@ use Rattle.std.specs.Str.Lines.{lines}
 use Rattle.geos_image.specs.declared.routine.Routine.{Routine}
 use Rattle.geos_image.specs.Parts.{Parts, start_of}
 use Rattle.geos_verify.specs.declared.rule.Reject.{Reject}
-use Rattle.geos_explain.specs.Places.{Place, place_at}
+use Rattle.geos_explain.specs.Places.{place_at}
 use Rattle.geos_explain.specs.Explanation.{noted}
 
 -- of the first n routines, the last that begins at the pc or before

@@ -17,6 +17,7 @@ use Rattle.geos_explain.specs.Places.{Place}
 use Rattle.geos_explain.specs.Numbers.{verb}
 use Rattle.geos_explain.specs.Notes.{is_one, potential_text}
 use Rattle.geos_explain.specs.Lacks.{lacking_items}
+use Rattle.geos_explain.specs.Held.{exit_words}
 use Rattle.geos_explain.specs.Uses.{nowhere_words, past_words, unmarked_words, held_words, slot_words}
 use Rattle.geos_explain.specs.Stale.{stale_words}
 use Rattle.geos_explain.specs.Steps.{unpaid_words}
@@ -64,10 +65,6 @@ call_words place _ = []
 unfoldable pub call_here : Place → List ℕ
 call_here place = call_words place place.i.opcode
 
--- the exit row wants more than the row says
-unfoldable pub exit_words : Routine → Row → List ℕ
-exit_words routine row = lacking_items row routine.exit ++ codes " is wanted by the exit row, and not known here"
-
 -- what the row at a pc wants and another does not say
 unfoldable pub wanted_at : Parts → ℕ → Row → List ℕ
 wanted_at image to row = elim (slice_get image.points to) [ None ↦ [] | Some next ↦ lacking_items row next.row ]
@@ -106,7 +103,7 @@ words place ChangesUnmarked = unmarked_here place.i place.row
 words place LocksIntoHeld = held_words place.i place.row
 words place WrongSlot = slot_here place.i place.row
 words place CallMisfit = call_here place
-words place ExitMisfit = exit_words place.routine place.row
+words place ExitMisfit = exit_words place
 words place EdgeMisfit = edge_words place
 words place EdgeUnpaid = unpaid_words place
 words place OverBudget = budget_words place.routine place.potential

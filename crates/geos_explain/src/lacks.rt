@@ -108,7 +108,7 @@ fn lacking_pairs(known: &[bool; 6], wanted: &[bool; 6]) -> [bool; 6]
 }
 
 /// Of the row that is wanted, what the row that is known does not meet; else the open row.
-fn lacking(known: &Row, wanted: &Row) -> Row
+pub(crate) fn lacking(known: &Row, wanted: &Row) -> Row
     ensures { result ≡ lacking known.now wanted.now }
 {
     Row {

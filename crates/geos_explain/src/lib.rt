@@ -5,6 +5,7 @@
 #![tactic(auto)]
 
 mod explanation;
+mod held;
 mod lacks;
 mod notes;
 mod numbers;

@@ -13,7 +13,7 @@ use std::alloc::AllocError;
 
 /// A slot, and what the row says that it holds.
 #[tactic(auto, unfolding(crate::specs::Uses::state_item))]
-fn put_state(out: &mut Vec<u8>, a: u8, row: &Row) -> Result<(), AllocError>
+pub(crate) fn put_state(out: &mut Vec<u8>, a: u8, row: &Row) -> Result<(), AllocError>
     ensures { OnOk result (out.new.items ≡ out.old.items ++ state_item a row.now) }
 {
     put_numbered(out, " s", u64::from(a))?;

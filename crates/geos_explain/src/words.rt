@@ -3,8 +3,9 @@
 ghost use Rattle.std.specs.Prelude.{◌≡◌, ◌<◌, ◌≤◌, ◌+◌, ◌++◌, ◌&&◌, OnOk};
 ghost use Rattle.geos_image.specs.Fields.{FieldsFit};
 ghost use Rattle.geos_explain.specs.Places.{IsPlace, place_of};
-ghost use Rattle.geos_explain.specs.Words.{leaves_words, entry_words, past_here, unmarked_here, slot_here, callee_words, call_words, call_here, exit_words, wanted_at, wanted_along, wanted_branching, wanted_words, edge_words, budget_words, words, refusal_head, refusal_line};
+ghost use Rattle.geos_explain.specs.Words.{leaves_words, entry_words, past_here, unmarked_here, slot_here, callee_words, call_words, call_here, wanted_at, wanted_along, wanted_branching, wanted_words, edge_words, budget_words, words, refusal_head, refusal_line};
 
+use crate::held::put_exit;
 use crate::lacks::put_lacking;
 use crate::notes::{is_one, put_potential};
 use crate::numbers::{put_numbered, verb};
@@ -117,15 +118,6 @@ fn put_call(out: &mut Vec<u8>, place: &Place) -> Result<(), AllocError>
     }
 }
 
-/// The exit row wants more than the row says.
-#[tactic(auto, unfolding(crate::specs::Words::exit_words))]
-fn put_exit(out: &mut Vec<u8>, routine: &Routine, row: &Row) -> Result<(), AllocError>
-    ensures { OnOk result (out.new.items ≡ out.old.items ++ exit_words routine.now row.now) }
-{
-    put_lacking(out, row, &routine.exit)?;
-    out.extend_from_slice(b" is wanted by the exit row, and not known here")
-}
-
 /// What the row at a pc wants and this one does not say.
 #[tactic(auto, unfolding(crate::specs::Words::wanted_at))]
 fn put_wanted_at(out: &mut Vec<u8>, image: &Image, to: u16, row: &Row) -> Result<(), AllocError>
@@ -220,7 +212,7 @@ fn put_words(alloc: Global, out: &mut Vec<u8>, place: &Place, rule: Rule) -> Res
         Rule::LocksIntoHeld => put_held(out, i, row),
         Rule::WrongSlot => put_slot_here(out, i, row),
         Rule::CallMisfit => put_call(out, place),
-        Rule::ExitMisfit => put_exit(out, place.routine, row),
+        Rule::ExitMisfit => put_exit(alloc, out, place),
         Rule::EdgeMisfit => put_edge(alloc, out, place),
         Rule::EdgeUnpaid => put_unpaid(out, place),
         Rule::OverBudget => put_budget(out, place.routine, place.potential),

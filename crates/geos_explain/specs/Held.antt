@@ -1,0 +1,98 @@
+-- Which slots are still held at a return, and since where.
+use Rattle.std.specs.Prelude.{ℕ, zero, suc, Bool, false, ◌&&◌, not, if◌then◌else◌, ◌==◌, List, [], ◌++◌, Some, None, length, slice_get, codes, decimal}
+use Rattle.geos_image.specs.declared.row.Row.{Row}
+use Rattle.geos_image.specs.declared.point.Point.{Point}
+use Rattle.geos_image.specs.Parts.{Parts, start_of}
+use Rattle.geos_listing.specs.Rows.{row_items}
+use Rattle.geos_verify.specs.Rows.{after, falls_through, is_empty, slot_state}
+use Rattle.geos_verify.specs.Rules.{has_place}
+use Rattle.geos_explain.specs.Lacks.{lacking, lacking_items}
+use Rattle.geos_explain.specs.Numbers.{pc_text}
+use Rattle.geos_explain.specs.Places.{Place}
+use Rattle.geos_explain.specs.Uses.{state_item}
+use Rattle.geos_explain.specs.declared.held.Since.{Since}
+use Rattle.geos_explain.specs.declared.held.Since.TheVariants.{Nowhere, Once, Often}
+
+-- a slot is held, and another row has it empty
+abbrev pub is_kept : ℕ → Row → Row → Bool
+is_kept a known wanted = not (is_empty (slot_state known a)) && is_empty (slot_state wanted a)
+
+-- such a slot, and what it holds
+unfoldable pub kept_item : ℕ → Row → Row → List ℕ
+kept_item a known wanted = if is_kept a known wanted then state_item a known else []
+
+-- the same of each slot
+unfoldable pub kept_items : Row → Row → List ℕ
+kept_items known wanted = kept_item 0 known wanted ++ kept_item 1 known wanted ++ kept_item 2 known wanted ++ kept_item 3 known wanted
+
+-- the slot is empty before the instruction at a pc, and held behind it
+abbrev pub fills : Parts → ℕ → ℕ → Point → Bool
+fills image a from point =
+    falls_through point.instr.opcode && is_empty (slot_state point.row a) && not (is_empty (slot_state (after image from point.row false) a))
+
+-- the same, if there is an instruction
+unfoldable pub fills_at : Parts → ℕ → ℕ → Bool
+fills_at image a from = elim (slice_get image.points from) [ None ↦ false | Some point ↦ fills image a from point ]
+
+-- the instruction at a pc is one of the routine's, and the slot is held behind it and not before
+abbrev pub fills_here : Place → ℕ → ℕ → Bool
+fills_here place a from = has_place (start_of place.image.routines place.r) place.routine.count from && fills_at place.image a from
+
+-- one more such place
+abbrev pub one_more : Since → ℕ → Since
+one_more Nowhere from = Once from
+one_more _ from = Often
+
+-- the same where the pc is such a place
+abbrev pub also : Since → ℕ → Bool → Since
+also since from here = if here then one_more since from else since
+
+-- where in the routine a slot becomes held, of the instructions below n
+unfoldable pub since_below : Place → ℕ → ℕ → Since
+since_below place a zero = Nowhere
+since_below place a (suc n) = also (since_below place a n) n (fills_here place a n)
+
+-- a slot is held since
+unfoldable pub since_head : ℕ → List ℕ
+since_head a = codes "; s" ++ decimal a ++ codes " is held since"
+
+-- since where a slot is held; nothing where it becomes so in several places
+abbrev pub since_text : List ℕ → ℕ → Since → List ℕ
+since_text lines a Nowhere = since_head a ++ codes " the in line"
+since_text lines a (Once from) = since_head a ++ pc_text lines from
+since_text lines a Often = []
+
+-- the same of a slot that the exit row has empty
+unfoldable pub since_item : Place → ℕ → List ℕ
+since_item place a =
+    if is_kept a place.row place.routine.exit
+    then since_text place.lines a (since_below place a (length place.image.points))
+    else []
+
+-- the same of each slot
+unfoldable pub since_items : Place → List ℕ
+since_items place = since_item place 0 ++ since_item place 1 ++ since_item place 2 ++ since_item place 3
+
+-- what else the exit row wants
+unfoldable pub also_wanted : List ℕ → List ℕ
+also_wanted items = if length items == 0 then [] else codes ";" ++ items ++ codes " is wanted by the exit row, and not known here"
+
+-- slots are still held at the return
+unfoldable pub kept_head : List ℕ → List ℕ
+kept_head items = items ++ codes " is still held at the return"
+
+-- what else the exit row of a place wants
+unfoldable pub else_wanted : Place → List ℕ
+else_wanted place = also_wanted (row_items (lacking place.row place.routine.exit))
+
+-- slots are still held at the return, since where, and what else the exit row wants
+unfoldable pub kept_words : Place → List ℕ
+kept_words place = kept_head (kept_items place.row place.routine.exit) ++ since_items place ++ else_wanted place
+
+-- the exit row wants more than the row says
+unfoldable pub unmet_words : Place → List ℕ
+unmet_words place = lacking_items place.row place.routine.exit ++ codes " is wanted by the exit row, and not known here"
+
+-- a row does not fit the exit row: slots are still held, or else it wants more
+unfoldable pub exit_words : Place → List ℕ
+exit_words place = if length (kept_items place.row place.routine.exit) == 0 then unmet_words place else kept_words place

@@ -1,0 +1,238 @@
+//! Which slots are still held at a return, and since where.
+
+ghost use Rattle.std.specs.Prelude.{◌≡◌, ◌<◌, ◌++◌, Some, OnOk, length, slice_get};
+ghost use Rattle.geos_explain.specs.Places.{IsPlace, place_of};
+ghost use Rattle.geos_explain.specs.Held.{is_kept, kept_item, kept_items, fills, fills_at, fills_here, one_more, also, since_below, since_head, since_text, since_item, since_items, also_wanted, kept_head, else_wanted, kept_words, unmet_words, exit_words};
+
+use crate::lacks::{lacking, put_lacking};
+use crate::numbers::{put_numbered, put_pc};
+use crate::place::Place;
+use crate::uses::put_state;
+use geos_image::{Image, Point, Row};
+use geos_listing::put_items;
+use geos_verify::{after, falls_through, has_place, is_empty, slot_state};
+use std::alloc::{AllocError, Global};
+
+/// Where in a routine a slot becomes held.
+#[derive(Clone, Copy)]
+pub(crate) enum Since {
+    /// In no place: it was held when the routine began.
+    Nowhere,
+    /// Behind the instruction at one pc.
+    Once(u16),
+    /// In several places.
+    Often,
+}
+
+/// Whether the slot is held, and another row has it empty.
+fn is_kept(a: u8, known: &Row, wanted: &Row) -> bool
+    ensures { result ≡ is_kept a known.now wanted.now }
+{
+    !is_empty(slot_state(known, a)) && is_empty(slot_state(wanted, a))
+}
+
+/// Such a slot, and what it holds.
+#[tactic(auto, unfolding(crate::specs::Held::kept_item))]
+fn put_kept_item(out: &mut Vec<u8>, a: u8, known: &Row, wanted: &Row) -> Result<(), AllocError>
+    ensures { OnOk result (out.new.items ≡ out.old.items ++ kept_item a known.now wanted.now) }
+{
+    if is_kept(a, known, wanted) {
+        put_state(out, a, known)
+    } else {
+        Ok(())
+    }
+}
+
+/// The same of each slot.
+#[tactic(auto, unfolding(crate::specs::Held::kept_items))]
+fn put_kept_items(out: &mut Vec<u8>, known: &Row, wanted: &Row) -> Result<(), AllocError>
+    ensures { OnOk result (out.new.items ≡ out.old.items ++ kept_items known.now wanted.now) }
+{
+    put_kept_item(out, 0, known, wanted)?;
+    put_kept_item(out, 1, known, wanted)?;
+    put_kept_item(out, 2, known, wanted)?;
+    put_kept_item(out, 3, known, wanted)
+}
+
+/// Whether the slot is empty before the instruction at the pc, and held behind it.
+fn fills(image: &Image, a: u8, from: u16, point: &Point) -> bool
+    requires { slice_get image.now.points from ≡ Some point.now }
+    ensures { result ≡ fills image.now a from point.now }
+{
+    falls_through(point.instr.opcode)
+        && is_empty(slot_state(&point.row, a))
+        && !is_empty(slot_state(&after(image, from, &point.row, false), a))
+}
+
+/// The same, if there is an instruction.
+#[tactic(auto, unfolding(crate::specs::Held::fills_at))]
+fn fills_at(image: &Image, a: u8, from: u16) -> bool
+    ensures { result ≡ fills_at image.now a from }
+{
+    match image.points().get(usize::from(from)) {
+        Some(point) => fills(image, a, from, point),
+        None => false,
+    }
+}
+
+/// Whether the instruction at the pc is one of the routine's, and the slot is held behind it and not before.
+fn fills_here(place: &Place, a: u8, from: u16) -> bool
+    requires { IsPlace (place_of place.now) }
+    ensures { result ≡ fills_here (place_of place.now) a from }
+{
+    let start = u32::from(place.image.start(place.r));
+    has_place(start, place.routine, u32::from(from)) && fills_at(place.image, a, from)
+}
+
+/// One more such place.
+fn one_more(since: Since, from: u16) -> Since
+    ensures { result ≡ one_more since from }
+{
+    match since {
+        Since::Nowhere => Since::Once(from),
+        _ => Since::Often,
+    }
+}
+
+/// The same where the pc is such a place.
+fn also(since: Since, from: u16, here: bool) -> Since
+    ensures { result ≡ also since from here }
+{
+    if here { one_more(since, from) } else { since }
+}
+
+/// Where in the routine the slot becomes held.
+#[tactic(auto, unfolding(crate::specs::Held::since_below))]
+fn held_since(place: &Place, a: u8) -> Since
+    requires { IsPlace (place_of place.now) }
+    ensures { result ≡ since_below (place_of place.now) a (length place.now.image.now.points) }
+{
+    let mut since = Since::Nowhere;
+    for from in 0..place.image.len() {
+        since = also(since, from, fills_here(place, a, from));
+    }
+    since
+}
+
+/// The slot is held since.
+#[tactic(auto, unfolding(crate::specs::Held::since_head))]
+fn put_since_head(out: &mut Vec<u8>, a: u8) -> Result<(), AllocError>
+    ensures { OnOk result (out.new.items ≡ out.old.items ++ since_head a) }
+{
+    put_numbered(out, "; s", u64::from(a))?;
+    out.extend_from_slice(b" is held since")
+}
+
+/// Since where the slot is held; nothing where it becomes so in several places.
+fn put_since_text(out: &mut Vec<u8>, lines: &[usize], a: u8, s: Since) -> Result<(), AllocError>
+    ensures { OnOk result (out.new.items ≡ out.old.items ++ since_text lines.now a s) }
+{
+    match s {
+        Since::Nowhere => {
+            put_since_head(out, a)?;
+            out.extend_from_slice(b" the in line")
+        }
+        Since::Once(from) => {
+            put_since_head(out, a)?;
+            put_pc(out, lines, from)
+        }
+        Since::Often => Ok(()),
+    }
+}
+
+/// The same of a slot that the exit row has empty.
+#[tactic(auto, unfolding(crate::specs::Held::since_item))]
+fn put_since_item(out: &mut Vec<u8>, place: &Place, a: u8) -> Result<(), AllocError>
+    requires { IsPlace (place_of place.now) }
+    ensures { OnOk result (out.new.items ≡ out.old.items ++ since_item (place_of place.now) a) }
+{
+    if is_kept(a, place.row, &place.routine.exit) {
+        put_since_text(out, place.lines, a, held_since(place, a))
+    } else {
+        Ok(())
+    }
+}
+
+/// The same of each slot.
+#[tactic(auto, unfolding(crate::specs::Held::since_items))]
+fn put_since_items(out: &mut Vec<u8>, place: &Place) -> Result<(), AllocError>
+    requires { IsPlace (place_of place.now) }
+    ensures { OnOk result (out.new.items ≡ out.old.items ++ since_items (place_of place.now)) }
+{
+    put_since_item(out, place, 0)?;
+    put_since_item(out, place, 1)?;
+    put_since_item(out, place, 2)?;
+    put_since_item(out, place, 3)
+}
+
+/// What else the exit row wants.
+#[tactic(auto, unfolding(crate::specs::Held::also_wanted))]
+fn put_also_wanted(out: &mut Vec<u8>, items: &[u8]) -> Result<(), AllocError>
+    ensures { OnOk result (out.new.items ≡ out.old.items ++ also_wanted items.now) }
+{
+    if items.is_empty() {
+        return Ok(());
+    }
+    out.extend_from_slice(b";")?;
+    out.extend_from_slice(items)?;
+    out.extend_from_slice(b" is wanted by the exit row, and not known here")
+}
+
+/// Slots are still held at the return.
+#[tactic(auto, unfolding(crate::specs::Held::kept_head))]
+fn put_kept_head(out: &mut Vec<u8>, items: &[u8]) -> Result<(), AllocError>
+    ensures { OnOk result (out.new.items ≡ out.old.items ++ kept_head items.now) }
+{
+    out.extend_from_slice(items)?;
+    out.extend_from_slice(b" is still held at the return")
+}
+
+/// What else the exit row wants.
+#[tactic(auto, unfolding(crate::specs::Held::else_wanted))]
+fn put_else_wanted(alloc: Global, out: &mut Vec<u8>, place: &Place) -> Result<(), AllocError>
+    ensures { OnOk result (out.new.items ≡ out.old.items ++ else_wanted (place_of place.now)) }
+{
+    let mut items = Vec::new(alloc);
+    put_items(&mut items, &lacking(place.row, &place.routine.exit))?;
+    put_also_wanted(out, &items)
+}
+
+/// Slots are still held at the return, since where, and what else the exit row wants.
+#[tactic(auto, unfolding(crate::specs::Held::kept_words))]
+fn put_kept_words(
+    alloc: Global,
+    out: &mut Vec<u8>,
+    place: &Place,
+    kept: &[u8],
+) -> Result<(), AllocError>
+    requires place { IsPlace (place_of place.now) }
+    requires kept { kept.now ≡ kept_items place.now.row.now place.now.routine.now.exit }
+    ensures { OnOk result (out.new.items ≡ out.old.items ++ kept_words (place_of place.now)) }
+{
+    put_kept_head(out, kept)?;
+    put_since_items(out, place)?;
+    put_else_wanted(alloc, out, place)
+}
+
+/// The exit row wants more than the row says.
+#[tactic(auto, unfolding(crate::specs::Held::unmet_words))]
+fn put_unmet(out: &mut Vec<u8>, place: &Place) -> Result<(), AllocError>
+    ensures { OnOk result (out.new.items ≡ out.old.items ++ unmet_words (place_of place.now)) }
+{
+    put_lacking(out, place.row, &place.routine.exit)?;
+    out.extend_from_slice(b" is wanted by the exit row, and not known here")
+}
+
+/// The row does not fit the exit row: slots are still held, or else it wants more.
+#[tactic(auto, unfolding(crate::specs::Held::exit_words))]
+pub(crate) fn put_exit(alloc: Global, out: &mut Vec<u8>, place: &Place) -> Result<(), AllocError>
+    requires { IsPlace (place_of place.now) }
+    ensures { OnOk result (out.new.items ≡ out.old.items ++ exit_words (place_of place.now)) }
+{
+    let mut kept = Vec::new(alloc);
+    put_kept_items(&mut kept, place.row, &place.routine.exit)?;
+    if kept.is_empty() {
+        return put_unmet(out, place);
+    }
+    put_kept_words(alloc, out, place, &kept)
+}
