@@ -7,6 +7,7 @@ pub mod Held
 pub mod Ways
 pub mod Stale
 pub mod Steps
+pub mod Unset
 pub mod Words
 pub mod Explanation
 pub mod Texts

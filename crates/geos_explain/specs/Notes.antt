@@ -6,7 +6,7 @@ use Rattle.geos_image.specs.declared.potential.Potential.{Potential}
 use Rattle.geos_listing.specs.Rows.{texts_below, row_items}
 use Rattle.geos_image.specs.declared.routine.Routine.{Routine}
 use Rattle.geos_listing.specs.Instrs.{name_of}
-use Rattle.geos_explain.specs.Numbers.{steps_word}
+use Rattle.geos_explain.specs.Numbers.{steps_word, verb}
 use Rattle.geos_explain.specs.Places.{Place}
 
 -- the items of a row and a comma; nothing for the open row
@@ -44,3 +44,7 @@ note_head place = elim (slice_get place.lines place.pc) [
 -- what a row knows beyond the open row, and the potential
 unfoldable pub note : Place → List ℕ
 note place = note_head place ++ known_text place.row ++ potential_text place.potential
+
+-- the potential is above the budget
+unfoldable pub budget_words : Routine → Potential → List ℕ
+budget_words routine p = potential_text p ++ verb (is_one p) ++ codes " owed from here, the budget is " ++ decimal routine.budget

@@ -4,7 +4,6 @@ use Rattle.geos_opcodes.specs.declared.opcode.Opcode.{Opcode}
 use Rattle.geos_opcodes.specs.declared.opcode.Opcode.TheVariants.{Call}
 use Rattle.geos_image.specs.declared.instr.Instr.{Instr}
 use Rattle.geos_image.specs.declared.row.Row.{Row}
-use Rattle.geos_image.specs.declared.potential.Potential.{Potential}
 use Rattle.geos_image.specs.declared.routine.Routine.{Routine}
 use Rattle.geos_image.specs.Parts.{Parts, start_of}
 use Rattle.geos_listing.specs.Instrs.{name_of}
@@ -14,8 +13,7 @@ use Rattle.geos_opcodes.specs.Facts.{uses_of}
 use Rattle.geos_verify.specs.Rows.{falls_through, branches, after}
 use Rattle.geos_verify.specs.Rules.{has_place}
 use Rattle.geos_explain.specs.Places.{Place}
-use Rattle.geos_explain.specs.Numbers.{verb}
-use Rattle.geos_explain.specs.Notes.{is_one, potential_text}
+use Rattle.geos_explain.specs.Unset.{over_words}
 use Rattle.geos_explain.specs.Lacks.{lacking_items}
 use Rattle.geos_explain.specs.Held.{exit_words}
 use Rattle.geos_explain.specs.Uses.{nowhere_words, past_words, unmarked_words, held_words, slot_words}
@@ -88,10 +86,6 @@ edge_words place =
     then wanted_words place.i.target (wanted_branching place)
     else wanted_words (place.pc + 1) (wanted_along place)
 
--- the potential is above the budget
-unfoldable pub budget_words : Routine → Potential → List ℕ
-budget_words routine p = potential_text p ++ verb (is_one p) ++ codes " owed from here, the budget is " ++ decimal routine.budget
-
 -- what is wrong at a place, by a rule
 unfoldable pub words : Place → Rule → List ℕ
 words place LeavesRoutine = leaves_words place
@@ -106,7 +100,7 @@ words place CallMisfit = call_here place
 words place ExitMisfit = exit_words place
 words place EdgeMisfit = edge_words place
 words place EdgeUnpaid = unpaid_words place
-words place OverBudget = budget_words place.routine place.potential
+words place OverBudget = over_words place
 
 -- how the line of a refusal by a rule begins
 abbrev pub refusal_head : Rule → List ℕ

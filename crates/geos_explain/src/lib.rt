@@ -13,6 +13,7 @@ mod place;
 mod stale;
 mod steps;
 mod texts;
+mod unset;
 mod uses;
 mod ways;
 mod words;

@@ -3,9 +3,9 @@
 ghost use Rattle.std.specs.Prelude.{◌≡◌, ◌++◌, OnOk};
 ghost use Rattle.geos_listing.specs.Rows.{row_items};
 ghost use Rattle.geos_explain.specs.Places.{place_of};
-ghost use Rattle.geos_explain.specs.Notes.{known_text, coefficient_text, coefficients_text, is_one, potential_text, where_text, note_head, note};
+ghost use Rattle.geos_explain.specs.Notes.{known_text, coefficient_text, coefficients_text, is_one, potential_text, where_text, note_head, note, budget_words};
 
-use crate::numbers::{put_numbered, steps_word};
+use crate::numbers::{put_numbered, steps_word, verb};
 use crate::place::Place;
 use geos_image::{Potential, Routine, Row};
 use geos_listing::put_items;
@@ -49,7 +49,7 @@ pub(crate) fn put_coefficients(out: &mut Vec<u8>, coefficients: &[u32; 4]) -> Re
 
 /// Whether the potential stands for just one step.
 #[tactic(auto, unfolding(crate::specs::Notes::is_one))]
-pub(crate) fn is_one(potential: &Potential) -> bool
+fn is_one(potential: &Potential) -> bool
     ensures { result ≡ is_one potential.now }
 {
     potential.constant == 1 && potential.coefficients.iter().all(|n| *n == 0)
@@ -57,7 +57,7 @@ pub(crate) fn is_one(potential: &Potential) -> bool
 
 /// The steps that the potential stands for.
 #[tactic(auto, unfolding(crate::specs::Notes::potential_text))]
-pub(crate) fn put_potential(out: &mut Vec<u8>, potential: &Potential) -> Result<(), AllocError>
+fn put_potential(out: &mut Vec<u8>, potential: &Potential) -> Result<(), AllocError>
     ensures { OnOk result (out.new.items ≡ out.old.items ++ potential_text potential.now) }
 {
     put_numbered(out, " ", u64::from(potential.constant))?;
@@ -95,4 +95,18 @@ pub(crate) fn put_note(alloc: Global, out: &mut Vec<u8>, place: &Place) -> Resul
     put_note_head(out, place)?;
     put_known(alloc, out, place.row)?;
     put_potential(out, place.potential)
+}
+
+/// The potential is above the budget.
+#[tactic(auto, unfolding(crate::specs::Notes::budget_words))]
+pub(crate) fn put_budget(out: &mut Vec<u8>, routine: &Routine, potential: &Potential) -> Result<(), AllocError>
+    ensures { OnOk result (out.new.items ≡ out.old.items ++ budget_words routine.now potential.now) }
+{
+    put_potential(out, potential)?;
+    out.extend_from_slice(verb(is_one(potential)).as_bytes())?;
+    put_numbered(
+        out,
+        " owed from here, the budget is ",
+        u64::from(routine.budget),
+    )
 }

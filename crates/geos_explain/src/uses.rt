@@ -93,7 +93,6 @@ fn is_any(most: u16) -> bool
 }
 
 /// Nothing is known of the word that is the index.
-#[tactic(auto, unfolding(crate::specs::Uses::index_unknown))]
 fn put_index_unknown(out: &mut Vec<u8>, w: u8) -> Result<(), AllocError>
     ensures { OnOk result (out.new.items ≡ out.old.items ++ index_unknown w) }
 {
@@ -136,7 +135,6 @@ fn put_index_wanted(out: &mut Vec<u8>, w: u8, wide: u16, least: u16) -> Result<(
 }
 
 /// How many bytes are known behind a pointer.
-#[tactic(auto, unfolding(crate::specs::Uses::known_bytes))]
 fn put_known_bytes(out: &mut Vec<u8>, p: u8, least: u16) -> Result<(), AllocError>
     ensures { OnOk result (out.new.items ≡ out.old.items ++ known_bytes p least) }
 {

@@ -3,17 +3,17 @@
 ghost use Rattle.std.specs.Prelude.{◌≡◌, ◌<◌, ◌≤◌, ◌+◌, ◌++◌, ◌&&◌, OnOk};
 ghost use Rattle.geos_image.specs.Fields.{FieldsFit};
 ghost use Rattle.geos_explain.specs.Places.{IsPlace, place_of};
-ghost use Rattle.geos_explain.specs.Words.{leaves_words, entry_words, past_here, unmarked_here, slot_here, callee_words, call_words, call_here, wanted_at, wanted_along, wanted_branching, wanted_words, edge_words, budget_words, words, refusal_head, refusal_line};
+ghost use Rattle.geos_explain.specs.Words.{leaves_words, entry_words, past_here, unmarked_here, slot_here, callee_words, call_words, call_here, wanted_at, wanted_along, wanted_branching, wanted_words, edge_words, words, refusal_head, refusal_line};
 
 use crate::held::put_exit;
 use crate::lacks::put_lacking;
-use crate::notes::{is_one, put_potential};
-use crate::numbers::{put_numbered, verb};
+use crate::numbers::put_numbered;
 use crate::place::Place;
 use crate::stale::put_stale;
 use crate::steps::put_unpaid;
+use crate::unset::put_over;
 use crate::uses::{put_held, put_nowhere, put_past, put_slot, put_unmarked};
-use geos_image::{Image, Instr, Opcode, Potential, Routine, Row};
+use geos_image::{Image, Instr, Opcode, Routine, Row};
 use geos_verify::{Rule, after, branches, falls_through, has_place, uses_at};
 use std::alloc::{AllocError, Global};
 
@@ -181,20 +181,6 @@ fn put_edge(alloc: Global, out: &mut Vec<u8>, place: &Place) -> Result<(), Alloc
     put_wanted(out, u32::from(place.i.target), &branching)
 }
 
-/// The potential is above the budget.
-#[tactic(auto, unfolding(crate::specs::Words::budget_words))]
-fn put_budget(out: &mut Vec<u8>, routine: &Routine, potential: &Potential) -> Result<(), AllocError>
-    ensures { OnOk result (out.new.items ≡ out.old.items ++ budget_words routine.now potential.now) }
-{
-    put_potential(out, potential)?;
-    out.extend_from_slice(verb(is_one(potential)).as_bytes())?;
-    put_numbered(
-        out,
-        " owed from here, the budget is ",
-        u64::from(routine.budget),
-    )
-}
-
 /// What is wrong at the place, by the rule.
 #[tactic(auto, unfolding(crate::specs::Words::words))]
 fn put_words(alloc: Global, out: &mut Vec<u8>, place: &Place, rule: Rule) -> Result<(), AllocError>
@@ -215,7 +201,7 @@ fn put_words(alloc: Global, out: &mut Vec<u8>, place: &Place, rule: Rule) -> Res
         Rule::ExitMisfit => put_exit(alloc, out, place),
         Rule::EdgeMisfit => put_edge(alloc, out, place),
         Rule::EdgeUnpaid => put_unpaid(out, place),
-        Rule::OverBudget => put_budget(out, place.routine, place.potential),
+        Rule::OverBudget => put_over(out, place),
     }
 }
 
