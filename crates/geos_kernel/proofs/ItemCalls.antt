@@ -52,6 +52,15 @@ refused-disk (Err refusal.Memory) = inr (λ e. absurd cc)
 refused-disk (Err refusal.Range) = inr (λ e. absurd cc)
 refused-disk (Err refusal.Reserved) = inr (λ e. absurd cc)
 
+-- a span stands for an item that was found, whose group was locked
+pub ilock-stands : {D : Type 0} (image : D → List ℕ) (honest : D → Type 0) (may_leave : D → List ℕ → Type 0) (left : D → D → List ℕ → Type 0) (failed : D → ℕ) (v w : VmState D) (s t : Store) (g i n at len place : ℕ)
+    → LocksItem image honest may_leave left failed g i n (Ok (at, len)) v w s t → place ≡ place_of t (vm_slot g) → Stands (core_of image failed w t) (record { at = place + at; len = len }) (in_block (vm g) (record { chunk = i; start = 0; len = len }))
+ilock-stands image honest may_leave left failed v w s t g i n at len place locks e =
+    let more = locks.ok in
+    let locked : 0 < locks_of t (vm_slot g) = omega (arith, more.locks) in
+    subst (λ l. Stands (core_of image failed w t) (record { at = place + at; len = len }) (in_block (vm g) (record { chunk = i; start = 0; len = l }))) (sym locks.finds.1)
+    (found-stands (core_of image failed w t) (vm g) locked (refer i n) at len place e locks.finds)
+
 module _ {D : Type 0} (image : D → List ℕ) (honest : D → Type 0) (may_leave : D → List ℕ → Type 0) (left : D → D → List ℕ → Type 0) (failed : D → ℕ) (v w : VmState D) (s t : Store) (g : ℕ) (k : IsKernel image honest v s) where
   -- an honest device has failed more often, or as often
   item-lasts : {A : Type 0} (r : Result A Refusal) → ReadsDevice image honest may_leave left failed (r ≡ Err refusal.Disk) v w → NeverFell (honest v.file.device) (core_of image failed v s) (core_of image failed w t)
@@ -105,14 +114,7 @@ module _ {D : Type 0} (image : D → List ℕ) (honest : D → Type 0) (may_leav
   -- the item was found
   pub ilock-gives : (i n at len place : ℕ) → LocksItem image honest may_leave left failed g i n (Ok (at, len)) v w s t → place ≡ place_of t (vm_slot g)
       → LeadsToSpan (honest v.file.device) (ilock g i n) (Ok (record { at = place + at; len = len })) (core_of image failed v s) (core_of image failed w t)
-  ilock-gives i n at len place locks e =
-      let more = locks.ok in
-      let locked : 0 < locks_of t (vm_slot g) = omega (arith, more.locks) in
-      let stands = found-stands (core_of image failed w t) (vm g) locked (refer i n) at len place e locks.finds in (
-        refers_to g i (Ok (at, len)),
-        ilock-calls i n (Ok (at, len)) locks,
-        subst (λ l. Stands (core_of image failed w t) (record { at = place + at; len = len }) (in_block (vm g) (record { chunk = i; start = 0; len = l }))) (sym locks.finds.1) stands,
-      )
+  ilock-gives i n at len place locks e = (refers_to g i (Ok (at, len)), ilock-calls i n (Ok (at, len)) locks, ilock-stands image honest may_leave left failed v w s t g i n at len place locks e)
 
   pub ilock-refuses : (i n : ℕ) (why : Refusal) → LocksItem image honest may_leave left failed g i n (Err why) v w s t
       → LeadsToSpan (honest v.file.device) (ilock g i n) (Err why) (core_of image failed v s) (core_of image failed w t)

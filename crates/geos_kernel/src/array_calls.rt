@@ -13,7 +13,7 @@ impl<D: Device + Drop> Kernel<D> {
     ghost use Rattle.geos_table.specs.ArrayCalls as table;
     ghost use Rattle.geos_model.specs.ArrayEdits.{create_array, append_element, insert_element, resize_element};
     ghost use Rattle.geos_kernel.specs.Kernel.{Calls, GivesSpan, HasNoRoomFor, LeavesVm};
-    ghost use Rattle.geos_kernel.specs.Spans.{IsStanding};
+    ghost use Rattle.geos_kernel.specs.Spans.{IsStanding, IsWritable};
     ghost use Rattle.geos_kernel.specs.View.{chunks_at, IsLocked, MayChange};
 
     /// Makes an empty array in a new chunk of a locked block, and answers the chunk's handle:
@@ -85,6 +85,7 @@ impl<D: Device + Drop> Kernel<D> {
         requires { IsLocked self.now.core name }
         ensures gives { GivesSpan (D.honest self.now.device) (table.caelt name c i n) result self.now.core }
         ensures stands { IfOk result (λ span. IsStanding self.now.core span × (n ≤ span.len)) }
+        ensures writable { IfOk result (λ span. MayChange self.now.core name → IsWritable self.now.core span) }
     {
         self.refer(name, Refer::Caelt { c, i, n })
     }

@@ -13,7 +13,7 @@ impl<D: Device + Drop> Kernel<D> {
     ghost use Rattle.geos_model.specs.Chunks.{with_new, with_resized, with_inserted};
     ghost use Rattle.geos_table.specs.Calls as table;
     ghost use Rattle.geos_kernel.specs.Kernel.{Calls, GivesSpan, HasNoRoomFor, LeavesVm};
-    ghost use Rattle.geos_kernel.specs.Spans.{IsStanding};
+    ghost use Rattle.geos_kernel.specs.Spans.{IsStanding, IsWritable};
     ghost use Rattle.geos_kernel.specs.View.{chunks_at, IsLocked, MayChange};
 
     /// Makes a chunk of `n` zero bytes in a locked block, and answers its handle: the lowest
@@ -94,6 +94,7 @@ impl<D: Device + Drop> Kernel<D> {
         requires { IsLocked self.now.core name }
         ensures gives { GivesSpan (D.honest self.now.device) (table.deref name c n) result self.now.core }
         ensures stands { IfOk result (λ span. IsStanding self.now.core span × (n ≤ span.len)) }
+        ensures writable { IfOk result (λ span. MayChange self.now.core name → IsWritable self.now.core span) }
     {
         self.refer(name, Refer::Deref { c, n })
     }

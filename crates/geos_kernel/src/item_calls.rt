@@ -19,7 +19,7 @@ impl<D: Device + Drop> Kernel<D> {
     ghost use Rattle.geos_table.specs.ItemCalls as table;
     ghost use Rattle.geos_kernel.specs.Files.{AsksNothing, ReadsFile};
     ghost use Rattle.geos_kernel.specs.Kernel.{Calls, ItemHasNoRoom, LeadsToSpan, LeavesVm, ListedHasNoRoom, NewListedHasNoRoom};
-    ghost use Rattle.geos_kernel.specs.Spans.{IsStanding};
+    ghost use Rattle.geos_kernel.specs.Spans.{IsStanding, IsWritable};
     ghost use Rattle.geos_kernel.specs.View.{IsLocked, IsMarked};
 
     /// Makes a group of 64 bytes with no item, under the lowest handle of the file that is free, and
@@ -124,6 +124,7 @@ impl<D: Device + Drop> Kernel<D> {
     pub fn ilock(&mut self, g: u16, i: u16, n: u16) -> Result<Span, Refusal>
         ensures gives { LeadsToSpan (D.honest self.old.device) (table.ilock g i n) result self.old.core self.new.core }
         ensures stands { IfOk result (λ span. IsStanding self.new.core span × (n ≤ span.len)) }
+        ensures writable { IfOk result (λ span. IsMarked self.new.core g → IsWritable self.new.core span) }
         ensures no_room { result ≡ Err Refusal.NoRoom → ListedHasNoRoom self.new.core g }
         ensures device { ReadsFile D.image D.honest D.failed D.may_leave D.may_have_left (result ≡ Err Refusal.Disk) self.old self.new }
     {

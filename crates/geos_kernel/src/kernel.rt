@@ -61,7 +61,7 @@ impl<D: Device + Drop> Kernel<D> {
     ghost use Rattle.vm_blocks.specs.Opened.{opened_file};
     ghost use Rattle.vm_blocks.specs.View.{held_at};
     ghost use Rattle.geos_kernel.specs.Kernel.{Calls, GivesSpan, HasNoRoomFor, LeavesVm, NewHasNoRoom};
-    ghost use Rattle.geos_kernel.specs.Spans.{IsStanding};
+    ghost use Rattle.geos_kernel.specs.Spans.{IsStanding, IsWritable};
     ghost use Rattle.geos_kernel.specs.View.{chunks_at, file_over, IsFileOf, IsLocked, MayChange, memory_of};
 
     /// No block in memory, in a region of `region` bytes, 65,536 to 16,777,216, and a VM file that is
@@ -229,6 +229,7 @@ impl<D: Device + Drop> Kernel<D> {
         requires { IsLocked self.now.core name }
         ensures gives { GivesSpan (D.honest self.now.device) (refer_row name refer) result self.now.core }
         ensures stands { IfOk result (λ span. IsStanding self.now.core span × (least refer ≤ span.len)) }
+        ensures writable { IfOk result (λ span. MayChange self.now.core name → IsWritable self.now.core span) }
     {
         match find(self.blocks.bytes(name), refer) {
             Ok((at, len)) => Ok(Span {

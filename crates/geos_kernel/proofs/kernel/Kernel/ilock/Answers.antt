@@ -1,4 +1,6 @@
 use Rattle.std.proofs.Common.{◌+◌, Err, Ok, ap, ◌∙◌, subst}
+use Rattle.geos_model.specs.Names.{vm}
+use Rattle.geos_table.specs.Calls.{in_block}
 use Rattle.geos_table.specs.ItemCalls.{ilock}
 use Rattle.block_handles.specs.Names.{slot_of}
 use Rattle.block_handles.specs.Store.{place_of}
@@ -6,7 +8,7 @@ use Rattle.db_items.specs.Items.{refers_to}
 use Rattle.geos_kernel.specs.declared.span.Span.{Span}
 use Rattle.geos_kernel.specs.Kernel.{LeadsToSpan}
 use Rattle.geos_kernel.specs.View.{core_of}
-use Rattle.geos_kernel.proofs.ItemCalls.{ilock-failed, ilock-gives, ilock-reads, ilock-refuses, leads-standing}
+use Rattle.geos_kernel.proofs.ItemCalls.{ilock-failed, ilock-gives, ilock-reads, ilock-refuses, ilock-stands, leads-standing}
 use Rattle.geos_kernel.proofs.Listed.{keeps-mem}
 use Rattle.geos_kernel.proofs.VmCalls.{spared-kernel}
 use Rattle.geos_kernel.proofs.kernel.Kernel.ilock.Goals.{in-Ok, in-Err}
@@ -43,6 +45,17 @@ returns-clause-stands g c = elim c.match-item_lock_part.branch [
       let span : Span = record { at = w.place.result + w.in-Ok.at; len = w.in-Ok.len } in
       let gives = ilock-gives d.image d.honest d.may_leave d.may_have_left d.failed v x s t h c.self.invariant i n w.in-Ok.at w.in-Ok.len w.place.result w.in-Ok.ensures e in
       rw w.result-is (leads-standing (d.honest v.file.device) (ilock h i n) span (core_of d.image d.failed v s) (core_of d.image d.failed x t) gives, w.in-Ok.ensures.within.1)
+      )
+  | in-Err w ↦ rw w.result-is tt
+]
+
+pub returns-clause-writable : goal.returns-clause-writable
+returns-clause-writable g c = elim c.match-item_lock_part.branch [
+  | in-Ok w ↦ (
+      let d = g.D.Device in let v = c.self.inside.vm in let s = c.self.inside.blocks in let x = c.item_lock_part.new.vm in let t = c.item_lock_part.new.blocks in let h = c.args.g in let i = c.args.i in let n = c.args.n in
+      let e = w.place.ensures.place ∙ ap (λ name. place_of t (slot_of name)) w.vm.ensures in
+      let stands = ilock-stands d.image d.honest d.may_leave d.may_have_left d.failed v x s t h i n w.in-Ok.at w.in-Ok.len w.place.result w.in-Ok.ensures e in
+      rw w.result-is (λ marked. (in_block (vm h) (record { chunk = i; start = 0; len = w.in-Ok.len }), stands, λ file. marked))
       )
   | in-Err w ↦ rw w.result-is tt
 ]

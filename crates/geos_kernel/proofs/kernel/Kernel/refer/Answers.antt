@@ -4,12 +4,15 @@ use Rattle.block_handles.specs.Names.{slot_of}
 use Rattle.block_handles.specs.Store.{locks_of}
 use Rattle.block_handles.proofs.Layouts.{there_of_locks}
 use Rattle.geos_model.specs.Heap.{IsHeap}
+use Rattle.geos_table.specs.Calls.{in_block}
 use Rattle.geos_table.specs.ChunkCalls.{refer_edit, refer_row}
 use Rattle.heap_calls.specs.Edits.{Finds}
 use Rattle.geos_kernel.specs.Kernel.{GivesSpan}
-use Rattle.geos_kernel.specs.View.{IsLocked}
+use Rattle.geos_kernel.specs.declared.span.Span.{Span}
+use Rattle.geos_kernel.specs.Spans.{IsWritable}
+use Rattle.geos_kernel.specs.View.{IsLocked, MayChange, chunks_at, core_of}
 use Rattle.geos_kernel.proofs.Chunks.{locked-heap}
-use Rattle.geos_kernel.proofs.Looks.{found, refers-not, gives-standing}
+use Rattle.geos_kernel.proofs.Looks.{found, found-stands, refers-not, gives-standing}
 use Rattle.geos_kernel.proofs.kernel.Kernel.refer.Goals as goal
 
 pub bytes-requires : goal.bytes-requires
@@ -48,6 +51,18 @@ returns-in-Ok-clause-stands g c = (
   gives-standing (g.D.Device.honest c.args.self.now.device) (refer_row c.args.name c.args.refer) (record { at = c.place.result + c.in-Ok.at; len = c.in-Ok.len }) c.args.self.now.core (returns-in-Ok-clause-gives g c),
   c.in-Ok.ensures.within.1,
 )
+
+pub returns-in-Ok-clause-writable : goal.returns-in-Ok-clause-writable
+returns-in-Ok-clause-writable g c =
+    let v = c.self.inside.vm in
+    let s = c.self.inside.blocks in
+    let core = core_of g.D.Device.image g.D.Device.failed v s in
+    let locked : 0 < locks_of s (slot_of c.args.name) = subst (λ k. IsLocked k.core c.args.name) (sym c.self.view_is) c.requires in
+    let edit = refer_edit c.args.refer in
+    let finds = subst (λ bytes. Finds edit bytes (Ok (c.in-Ok.at, c.in-Ok.len))) c.bytes.ensures c.in-Ok.ensures.finds in
+    let span : Span = record { at = c.place.result + c.in-Ok.at; len = c.in-Ok.len } in
+    let stands = found-stands core c.args.name locked edit c.in-Ok.at c.in-Ok.len c.place.result c.place.ensures.place finds in
+    subst (λ k. MayChange k.core c.args.name → IsWritable k.core span) c.self.view_is (λ may. (in_block c.args.name (edit (chunks_at s c.args.name)).answer, stands, may))
 
 pub returns-in-Err-clause-gives : goal.returns-in-Err-clause-gives
 returns-in-Err-clause-gives g c =
