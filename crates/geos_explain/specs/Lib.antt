@@ -1,5 +1,6 @@
 pub mod Numbers
 pub mod Places
+pub mod Led
 pub mod Notes
 pub mod Lacks
 pub mod Uses

@@ -8,6 +8,7 @@ use Rattle.geos_image.specs.declared.routine.Routine.{Routine}
 use Rattle.geos_listing.specs.Instrs.{name_of}
 use Rattle.geos_explain.specs.Numbers.{steps_word, verb}
 use Rattle.geos_explain.specs.Places.{Place}
+use Rattle.geos_explain.specs.Led.{unled_text}
 
 -- the items of a row and a comma; nothing for the open row
 unfoldable pub known_text : Row → List ℕ
@@ -41,9 +42,9 @@ note_head place = elim (slice_get place.lines place.pc) [
   | Some line ↦ codes " ;"
 ]
 
--- what a row knows beyond the open row, and the potential
+-- whether nothing leads to a place, what its row knows beyond the open row, and its potential
 unfoldable pub note : Place → List ℕ
-note place = note_head place ++ known_text place.row ++ potential_text place.potential
+note place = note_head place ++ unled_text place ++ known_text place.row ++ potential_text place.potential
 
 -- the potential is above the budget
 unfoldable pub budget_words : Routine → Potential → List ℕ

@@ -7,6 +7,7 @@
 mod explanation;
 mod held;
 mod lacks;
+mod led;
 mod notes;
 mod numbers;
 mod place;

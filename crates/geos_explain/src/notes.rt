@@ -2,9 +2,10 @@
 
 ghost use Rattle.std.specs.Prelude.{◌≡◌, ◌++◌, OnOk};
 ghost use Rattle.geos_listing.specs.Rows.{row_items};
-ghost use Rattle.geos_explain.specs.Places.{place_of};
+ghost use Rattle.geos_explain.specs.Places.{IsPlace, place_of};
 ghost use Rattle.geos_explain.specs.Notes.{known_text, coefficient_text, coefficients_text, is_one, potential_text, where_text, note_head, note, budget_words};
 
+use crate::led::put_unled;
 use crate::numbers::{put_numbered, steps_word, verb};
 use crate::place::Place;
 use geos_image::{Potential, Routine, Row};
@@ -90,9 +91,11 @@ fn put_note_head(out: &mut Vec<u8>, place: &Place) -> Result<(), AllocError>
 /// What the row knows beyond the open row, and the potential.
 #[tactic(auto, unfolding(crate::specs::Notes::note))]
 pub(crate) fn put_note(alloc: Global, out: &mut Vec<u8>, place: &Place) -> Result<(), AllocError>
+    requires { IsPlace (place_of place.now) }
     ensures { OnOk result (out.new.items ≡ out.old.items ++ note (place_of place.now)) }
 {
     put_note_head(out, place)?;
+    put_unled(out, place)?;
     put_known(alloc, out, place.row)?;
     put_potential(out, place.potential)
 }
