@@ -102,7 +102,11 @@ pub(crate) fn put_note(alloc: Global, out: &mut Vec<u8>, place: &Place) -> Resul
 
 /// The potential is above the budget.
 #[tactic(auto, unfolding(crate::specs::Notes::budget_words))]
-pub(crate) fn put_budget(out: &mut Vec<u8>, routine: &Routine, potential: &Potential) -> Result<(), AllocError>
+pub(crate) fn put_budget(
+    out: &mut Vec<u8>,
+    routine: &Routine,
+    potential: &Potential,
+) -> Result<(), AllocError>
     ensures { OnOk result (out.new.items ≡ out.old.items ++ budget_words routine.now potential.now) }
 {
     put_potential(out, potential)?;

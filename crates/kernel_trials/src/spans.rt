@@ -1,10 +1,8 @@
 //! Lines with calls through spans. Each begins with the `deref` or the `caelt` that gives the span.
 
 ghost use Rattle.std.specs.Prelude.{◌≤◌, IfOk};
-ghost use Rattle.geos_table.specs.ChunkCalls.{least};
-ghost use Rattle.geos_kernel.specs.Spans.{IsStanding};
+ghost use Rattle.geos_kernel.specs.Spans.{IsStanding, IsWritable};
 ghost use Rattle.geos_kernel.specs.View.{IsLocked, MayChange};
-ghost use Rattle.kernel_trials.specs.Spans.{LiesIn};
 
 use crate::Answer;
 use crate::calls::{NOT_LOCKED, NOT_MARKED, block_of, may_change};
@@ -21,19 +19,6 @@ pub(crate) fn is_span_call(word: &str) -> bool {
         "copy" | "load8" | "load16" | "store8" | "store16" => true,
         "caelt_load8" | "caelt_load16" | "caelt_store8" | "caelt_store16" => true,
         _ => false,
-    }
-}
-
-/// Where bytes of a locked block lie.
-fn span_of<D: Device + Drop>(kernel: &Kernel<D>, name: Name, refer: Refer) -> Result<Span, Refusal>
-    requires { IsLocked kernel.now.core name }
-    ensures lies { IfOk result (λ span. LiesIn kernel.now.core span name) }
-    ensures least { IfOk result (λ span. least refer ≤ span.len) }
-{
-    kernel.memory_is_legal();
-    match kernel.refer(name, refer) {
-        Ok(span) => Ok(span),
-        Err(refusal) => Err(refusal),
     }
 }
 
@@ -58,11 +43,11 @@ pub(crate) fn span_call<D: Device + Drop>(
         _ => match word.strip_prefix("caelt_") {
             Some(word) => {
                 let (i, n) = (second, 0);
-                let element = span_of(kernel, name, Refer::Caelt { c, i, n });
+                let element = kernel.refer(name, Refer::Caelt { c, i, n });
                 access(kernel, name, element, word, third, fourth)
             }
             None => {
-                let chunk = span_of(kernel, name, Refer::Deref { c, n: 0 });
+                let chunk = kernel.refer(name, Refer::Deref { c, n: 0 });
                 access(kernel, name, chunk, word, second, third)
             }
         },
@@ -88,8 +73,8 @@ fn copy<D: Device + Drop>(
     requires locked { IsLocked kernel.old.core name }
     requires marked { MayChange kernel.old.core name }
 {
-    let to = span_of(kernel, name, Refer::Deref { c: to, n })?;
-    let from = span_of(kernel, name, Refer::Deref { c: from, n })?;
+    let to = kernel.refer(name, Refer::Deref { c: to, n })?;
+    let from = kernel.refer(name, Refer::Deref { c: from, n })?;
     kernel.copy(to, from, n);
     Ok(())
 }
@@ -103,7 +88,8 @@ fn access<D: Device + Drop>(
     at: u16,
     value: u16,
 ) -> Answer
-    requires { IfOk span (λ span. LiesIn kernel.old.core span name) }
+    requires stands { IfOk span (IsStanding kernel.old.core) }
+    requires writable { IfOk span (λ span. MayChange kernel.old.core name → IsWritable kernel.old.core span) }
 {
     let span = match span {
         Ok(span) => span,

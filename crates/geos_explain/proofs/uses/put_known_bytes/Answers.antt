@@ -11,6 +11,11 @@ returns c =
     let out = c.args.out.now.items in
     let pointer = codes ": p" ++ decimal c.args.p in
     let behind = codes " is known to have " in
-    rw (sym (append_assoc out (pointer ++ behind) (bytes_text c.args.least)), sym (append_assoc out pointer behind), sym (append_assoc out (codes ": p") (decimal c.args.p)),
-      sym c.from.ensures, sym c.in_ok-put_numbered.ensures)
+    rw (
+      sym (append_assoc out (pointer ++ behind) (bytes_text c.args.least)),
+      sym (append_assoc out pointer behind),
+      sym (append_assoc out (codes ": p") (decimal c.args.p)),
+      sym c.from.ensures,
+      sym c.in_ok-put_numbered.ensures,
+    )
     c.put_bytes.ensures
