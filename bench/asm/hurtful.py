@@ -1,0 +1,76 @@
+"""Times `geos asm` on texts that are made to hurt: 4,096 instructions or one MiB of text each. Beside each time stands its ratio to that
+of a text of 4,095 additions, assembled in the same run.
+
+    python3 hurtful.py PROGRAM
+"""
+
+import subprocess
+import sys
+import tempfile
+import time
+from pathlib import Path
+
+HEAD = ["routine a public budget 4294967295"]
+MOST_TEXT = 1_048_576
+RUNS = 5
+
+
+def heads(n):
+    """Places that loops go back to."""
+    return [f"h{i}: LDI w0 1" for i in range(n)]
+
+
+def loops(order):
+    """A LOOP back to each, with the four counters in turn."""
+    return [f"LOOP k{i % 4} h{i}" for i in order]
+
+
+def chain(n, begin):
+    """So many blocks, each of which goes back to the one before it; the first hands the bounds of words on, and goes to the last."""
+    moves = [f"MOV w{i} w{i + 1}" for i in range(7)]
+    first = ["b0: " + moves[0], *moves[1:], "SUB w7 w7 w7", f"JMP b{n - 1}"]
+    others = [line for i in range(1, n) for line in (f"b{i}: LOOP k0 b{i - 1}", "JMP x")]
+    return [*HEAD, *begin, *first, *others, "x: RET"]
+
+
+def texts():
+    """Each text with what it is."""
+    n = 2040
+    words = [f"LDI w{i} 0" for i in range(8)]
+    yield "4,095 additions", [*HEAD, *["ADD w0 w0 w1"] * 4095, "RET"]
+    yield "4,090 LOOPs to one head", [*HEAD, "SETK k0 1", "h: LDI w0 1", *["LOOP k0 h"] * 4090, "RET"]
+    yield "2,040 loops, each in the next", [*HEAD, *heads(n), *loops(reversed(range(n))), "RET"]
+    yield "2,040 loops that cross", [*HEAD, *heads(n), *loops(range(n)), "RET"]
+    yield "2,040 loops round a way back that nothing pays", [*HEAD, *heads(n), "c: BEQ w0 w1 c", *loops(reversed(range(n))), "RET"]
+    yield "2,000 blocks back, one after another", chain(2000, [*words, "SETK k0 65535", "JMP b1999"])
+    yield "the same, reached by nothing", chain(2000, ["RET"])
+    yield "1 MiB of labels", [*HEAD, *(f"L{i}:" for i in range(115_000)), "RET"]
+    yield "1 MiB of one digit", [*HEAD, "LDI w0 " + "0" * 1_048_000 + "1", "RET"]
+    yield "1 MiB of items of an entry row", [*HEAD, "in " + "w0<=9 " * 170_000, "RET"]
+
+
+def least(program, text, image):
+    """The least time of some runs, in seconds."""
+    times = []
+    for _ in range(RUNS):
+        start = time.perf_counter()
+        subprocess.run([program, "asm", text, image], stderr=subprocess.DEVNULL, check=False)
+        times.append(time.perf_counter() - start)
+    return min(times)
+
+
+def main():
+    """Prints a line for each text."""
+    base = None
+    with tempfile.TemporaryDirectory() as folder:
+        text, image = Path(folder, "text.asm"), Path(folder, "image")
+        for name, lines in texts():
+            written = "\n".join(lines) + "\n"
+            assert len(written) <= MOST_TEXT, name
+            text.write_text(written)
+            taken = least(sys.argv[1], text, image)
+            base = base or taken
+            print(f"{name}: {1000 * taken:.0f} ms, {taken / base:.1f}")
+
+
+main()
