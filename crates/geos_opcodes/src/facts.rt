@@ -19,6 +19,8 @@ pub enum Yields {
     WordInA,
     /// Any word in word b.
     WordInB,
+    /// Any word in word a, and then in word b, which may be the same one.
+    WordInAAndB,
 }
 
 /// Where control goes.
@@ -171,12 +173,12 @@ fn block_call(
 }
 
 /// One that gives a reference into it.
-fn refers(code: u8, d: Operand) -> Facts
-    ensures { result ≡ table.refers code d }
+fn refers(code: u8, d: Operand, slot: SlotUse) -> Facts
+    ensures { result ≡ table.refers code d slot }
 {
     Facts {
         uses: Uses {
-            slot: SlotUse::LooksAt,
+            slot,
             pointer: PointerUse::Sets,
         },
         ..refusable(
@@ -187,6 +189,40 @@ fn refers(code: u8, d: Operand) -> Facts
             d,
             Operand::Number,
         )
+    }
+}
+
+/// A call that tells a word, which word a gets.
+fn tells(code: u8, b: Operand, c: Operand) -> Facts
+    ensures { result ≡ table.tells code b c }
+{
+    use Operand::{Unused, Word};
+    Facts {
+        yields: Yields::WordInA,
+        ..refusable(code, Word, b, c, Unused, Unused)
+    }
+}
+
+/// A call on an item of a group, whose handles words have.
+fn item_call(code: u8, c: Operand, d: Operand, yields: Yields) -> Facts
+    ensures { result ≡ table.item_call code c d yields }
+{
+    use Operand::{Unused, Word};
+    Facts {
+        uses: slot_uses(SlotUse::MovesGroup),
+        yields,
+        ..refusable(code, Word, Word, c, d, Unused)
+    }
+}
+
+/// One that writes the VM file.
+fn commits(code: u8) -> Facts
+    ensures { result ≡ table.commits code }
+{
+    use Operand::Unused;
+    Facts {
+        uses: slot_uses(SlotUse::Commits),
+        ..refusable(code, Unused, Unused, Unused, Unused, Unused)
     }
 }
 
@@ -238,7 +274,7 @@ fn pointing(code: u8, a: Operand, imm: Operand, pointer: PointerUse, yields: Yie
 }
 
 /// Every opcode, in the order of the codes.
-pub const OPCODES: [Opcode; 53] = [
+pub const OPCODES: [Opcode; 77] = [
     Opcode::Ldi,
     Opcode::Mov,
     Opcode::Add,
@@ -292,6 +328,30 @@ pub const OPCODES: [Opcode; 53] = [
     Opcode::Caelt,
     Opcode::Cazero,
     Opcode::Caresize,
+    Opcode::Vnew,
+    Opcode::Vlock,
+    Opcode::Vdirty,
+    Opcode::Vunlock,
+    Opcode::Vfree,
+    Opcode::Vfind,
+    Opcode::Vuid,
+    Opcode::Vgetmap,
+    Opcode::Vsetmap,
+    Opcode::Vupdate,
+    Opcode::Vsave,
+    Opcode::Vrevert,
+    Opcode::Gnew,
+    Opcode::Gfree,
+    Opcode::Inew,
+    Opcode::Ifree,
+    Opcode::Irealloc,
+    Opcode::Iins,
+    Opcode::Idel,
+    Opcode::Ilock,
+    Opcode::Idirty,
+    Opcode::Iunlock,
+    Opcode::Igetmap,
+    Opcode::Isetmap,
 ];
 
 impl Opcode {
@@ -301,13 +361,13 @@ impl Opcode {
     {
         use CounterUse::{CountsDown, SetTo, SetToWord};
         use Flow::{Calls, Jumps, Returns};
-        use Kind::MemBlock;
+        use Kind::{DbGroup, MemBlock, VmBlock};
         use Offset::{Fixed, Indexed, Tested};
         use Operand::{Counter, Number, Pointer, Routine, Shift, Slot, Unused, Word};
         use PointerUse::{Copies, Duplicates, Measures};
-        use SlotUse::{Compares, Locks, LocksNew, LooksAt, Moves, Unlocks};
+        use SlotUse::{Compares, Locks, LocksNew, LooksAt, Marks, Moves, Unlocks};
         use Width::{Both, Byte};
-        use Yields::{Computed, Nothing, WordInA, WordInB};
+        use Yields::{Computed, Nothing, WordInA, WordInAAndB, WordInB};
         match self {
             Opcode::Ldi => computes(0x01, Word, Unused, Unused, Number),
             Opcode::Mov => computes(0x02, Word, Word, Unused, Unused),
@@ -377,7 +437,7 @@ impl Opcode {
             Opcode::Lins => block_call(0x1a, Word, Word, Word, Unused, Moves, Nothing),
             Opcode::Ldel => block_call(0x1b, Word, Word, Word, Unused, Moves, Nothing),
             Opcode::Lsize => block_call(0x1c, Word, Word, Unused, Unused, LooksAt, WordInB),
-            Opcode::Deref => refers(0x1d, Unused),
+            Opcode::Deref => refers(0x1d, Unused, LooksAt),
             Opcode::Lcontract => on_slot(0x1e, Unused, Moves),
             Opcode::Ldb => load(0x1f, Byte, Fixed),
             Opcode::Ldw => load(0x20, Both, Fixed),
@@ -399,9 +459,55 @@ impl Opcode {
             Opcode::Cains => block_call(0x30, Word, Word, Word, Unused, Moves, Nothing),
             Opcode::Cadel => block_call(0x31, Word, Word, Unused, Unused, Moves, Nothing),
             Opcode::Cacount => block_call(0x32, Word, Word, Unused, Unused, LooksAt, WordInB),
-            Opcode::Caelt => refers(0x33, Word),
+            Opcode::Caelt => refers(0x33, Word, LooksAt),
             Opcode::Cazero => block_call(0x34, Word, Unused, Unused, Unused, Moves, Nothing),
             Opcode::Caresize => block_call(0x35, Word, Word, Word, Unused, Moves, Nothing),
+            Opcode::Vnew => block_call(
+                0x36,
+                Word,
+                Word,
+                Unused,
+                Unused,
+                LocksNew(VmBlock),
+                WordInB,
+            ),
+            Opcode::Vlock => block_call(
+                0x37,
+                Word,
+                Unused,
+                Unused,
+                Unused,
+                Locks(VmBlock),
+                Nothing,
+            ),
+            Opcode::Vdirty => on_slot(0x38, Unused, Marks(VmBlock)),
+            Opcode::Vunlock => on_slot(0x39, Unused, Unlocks(VmBlock)),
+            Opcode::Vfree => refusable(0x3a, Word, Unused, Unused, Unused, Unused),
+            Opcode::Vfind => tells(0x3b, Word, Word),
+            Opcode::Vuid => tells(0x3c, Word, Unused),
+            Opcode::Vgetmap => Facts {
+                yields: WordInA,
+                ..plain(0x3d, Word, Unused, Unused, Unused)
+            },
+            Opcode::Vsetmap => refusable(0x3e, Word, Unused, Unused, Unused, Unused),
+            Opcode::Vupdate => commits(0x3f),
+            Opcode::Vsave => commits(0x40),
+            Opcode::Vrevert => commits(0x41),
+            Opcode::Gnew => tells(0x42, Unused, Unused),
+            Opcode::Gfree => refusable(0x43, Word, Unused, Unused, Unused, Unused),
+            Opcode::Inew => item_call(0x44, Word, Unused, WordInA),
+            Opcode::Ifree => item_call(0x45, Unused, Unused, Nothing),
+            Opcode::Irealloc => item_call(0x46, Word, Unused, Nothing),
+            Opcode::Iins => item_call(0x47, Word, Word, Nothing),
+            Opcode::Idel => item_call(0x48, Word, Word, Nothing),
+            Opcode::Ilock => refers(0x49, Word, Locks(DbGroup)),
+            Opcode::Idirty => on_slot(0x4a, Unused, Marks(DbGroup)),
+            Opcode::Iunlock => on_slot(0x4b, Unused, Unlocks(DbGroup)),
+            Opcode::Igetmap => Facts {
+                yields: WordInAAndB,
+                ..plain(0x4c, Word, Word, Unused, Unused)
+            },
+            Opcode::Isetmap => refusable(0x4d, Word, Word, Unused, Unused, Unused),
         }
     }
 
@@ -481,6 +587,30 @@ impl Opcode {
             Opcode::Caelt => "CAELT",
             Opcode::Cazero => "CAZERO",
             Opcode::Caresize => "CARESIZE",
+            Opcode::Vnew => "VNEW",
+            Opcode::Vlock => "VLOCK",
+            Opcode::Vdirty => "VDIRTY",
+            Opcode::Vunlock => "VUNLOCK",
+            Opcode::Vfree => "VFREE",
+            Opcode::Vfind => "VFIND",
+            Opcode::Vuid => "VUID",
+            Opcode::Vgetmap => "VGETMAP",
+            Opcode::Vsetmap => "VSETMAP",
+            Opcode::Vupdate => "VUPDATE",
+            Opcode::Vsave => "VSAVE",
+            Opcode::Vrevert => "VREVERT",
+            Opcode::Gnew => "GNEW",
+            Opcode::Gfree => "GFREE",
+            Opcode::Inew => "INEW",
+            Opcode::Ifree => "IFREE",
+            Opcode::Irealloc => "IREALLOC",
+            Opcode::Iins => "IINS",
+            Opcode::Idel => "IDEL",
+            Opcode::Ilock => "ILOCK",
+            Opcode::Idirty => "IDIRTY",
+            Opcode::Iunlock => "IUNLOCK",
+            Opcode::Igetmap => "IGETMAP",
+            Opcode::Isetmap => "ISETMAP",
         }
     }
 

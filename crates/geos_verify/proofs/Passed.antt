@@ -4,7 +4,7 @@ use Rattle.geos_model.specs.Refusals.{first_refusal}
 use Rattle.geos_image.specs.declared.routine.Routine.{Routine}
 use Rattle.geos_image.specs.declared.point.Point.{Point}
 use Rattle.geos_image.specs.Parts.{Parts}
-use Rattle.geos_verify.specs.Rules.{leaves_routine, entry_misfits, stale_pointer, passes_end, changes_unmarked, locks_into_held, wrong_slot, call_misfits, exit_misfits, edge_misfits, edge_unpaid, over_budget, tests, refusal}
+use Rattle.geos_verify.specs.Rules.{leaves_routine, entry_misfits, stale_pointer, passes_end, changes_unmarked, locks_into_held, wrong_slot, commits_with_held, call_misfits, exit_misfits, edge_misfits, edge_unpaid, over_budget, tests, refusal}
 
 -- every test is false
 abbrev pub Passed : {R : Type 0} → List (Bool × R) → Type 0
@@ -25,6 +25,7 @@ pub record NoneRefuses (image : Parts) (r : ℕ) (routine : Routine) (start pc :
   pub marked : changes_unmarked point.instr point.row ≡ false
   pub unheld : locks_into_held point.instr point.row ≡ false
   pub held : wrong_slot point.instr point.row ≡ false
+  pub freed : commits_with_held point.instr point.row ≡ false
   pub call : call_misfits image r point.instr point.row ≡ false
   pub exit : exit_misfits routine point.instr point.row ≡ false
   pub edge : edge_misfits image pc point.instr point.row ≡ false
@@ -44,9 +45,10 @@ none-refuses image r routine start pc point e =
       marked = q.1.1.0;
       unheld = q.1.1.1.0;
       held = q.1.1.1.1.0;
-      call = t.0;
-      exit = t.1.0;
-      edge = t.1.1.0;
-      paid = t.1.1.1.0;
-      budget = t.1.1.1.1.0;
+      freed = t.0;
+      call = t.1.0;
+      exit = t.1.1.0;
+      edge = t.1.1.1.0;
+      paid = t.1.1.1.1.0;
+      budget = t.1.1.1.1.1.0;
     }

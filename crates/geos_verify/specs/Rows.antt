@@ -14,13 +14,13 @@ use Rattle.geos_opcodes.specs.Facts.{facts, operands_of, uses_of}
 use Rattle.geos_opcodes.specs.declared.facts.Flow.{Flow}
 use Rattle.geos_opcodes.specs.declared.facts.Flow.TheVariants.{Jumps, Returns}
 use Rattle.geos_opcodes.specs.declared.facts.Yields.{Yields}
-use Rattle.geos_opcodes.specs.declared.facts.Yields.TheVariants.{Nothing, Computed, ByteInA, WordInA, WordInB}
+use Rattle.geos_opcodes.specs.declared.facts.Yields.TheVariants.{Nothing, Computed, ByteInA, WordInA, WordInB, WordInAAndB}
 use Rattle.geos_image.specs.declared.point.Point.{Point}
 use Rattle.geos_image.specs.Parts.{Parts}
 use Rattle.geos_opcodes.specs.declared.uses.Kind.{Kind}
 use Rattle.geos_opcodes.specs.declared.uses.Kind.TheVariants.{MemBlock, VmBlock, DbGroup}
 use Rattle.geos_opcodes.specs.declared.uses.SlotUse.{SlotUse}
-use Rattle.geos_opcodes.specs.declared.uses.SlotUse.TheVariants.{LocksNew, Locks, Unlocks, Compares, Moves}
+use Rattle.geos_opcodes.specs.declared.uses.SlotUse.TheVariants.{LocksNew, Locks, Unlocks, Marks, Compares, Moves, MovesGroup}
 use Rattle.geos_opcodes.specs.declared.uses.PointerUse.{PointerUse}
 use Rattle.geos_opcodes.specs.declared.uses.PointerUse.TheVariants.{Sets, Duplicates}
 use Rattle.geos_opcodes.specs.declared.uses.Uses.{Uses}
@@ -91,6 +91,7 @@ with_result i opcode Computed row = computed i opcode row
 with_result i opcode ByteInA row = with_bound i.a 255 row
 with_result i opcode WordInA row = with_bound i.a 65535 row
 with_result i opcode WordInB row = with_bound i.b 65535 row
+with_result i opcode WordInAAndB row = with_bound i.b 65535 (with_bound i.a 65535 row)
 
 -- the same where it goes on to the next instruction
 abbrev pub bounded : Instr → Opcode → Row → Row
@@ -101,6 +102,7 @@ abbrev pub YieldsFit : Yields → Instr → Type 0
 YieldsFit ByteInA i = i.a < 8
 YieldsFit WordInA i = i.a < 8
 YieldsFit WordInB i = i.b < 8
+YieldsFit WordInAAndB i = (i.a < 8) × (i.b < 8)
 YieldsFit _ i = Unit {0}
 
 -- Slots
@@ -136,12 +138,19 @@ held_state MemBlock marked = Mem
 held_state VmBlock marked = Vm marked
 held_state DbGroup marked = Db marked
 
+-- the same of a block that was marked: one of the VM file has a mark, which is then known
+abbrev pub marked_state : SlotState → SlotState
+marked_state (Vm marked) = Vm true
+marked_state (Db marked) = Db true
+marked_state state = state
+
 -- the slots after an instruction: of a block that was just made it is known that it is marked, where it
 -- has a mark
 abbrev pub slots_after : Instr → SlotUse → List SlotState → List SlotState
 slots_after i (LocksNew kind) slots = slice_set slots i.a (held_state kind true)
 slots_after i (Locks kind) slots = slice_set slots i.a (held_state kind false)
 slots_after i (Unlocks kind) slots = slice_set slots i.a Empty
+slots_after i (Marks kind) slots = slice_set slots i.a (marked_state (slice_index_or slots i.a Empty))
 slots_after i _ slots = slots
 
 -- Pairs
@@ -173,10 +182,12 @@ stale_where test None = None
 stale_where test (Some p) = if test p.slot then None else Some p
 
 -- the pointers that an instruction does not make stale: one that changes chunks moves those of
--- each slot that may hold the block; an unlock lets those of its slot go
+-- each slot that may hold the block, and where it names a group by its handle, those of each slot
+-- that holds a group; an unlock lets those of its slot go
 abbrev pub pointers_kept : Instr → SlotUse → Row → List (Option Pointer)
 pointers_kept i Moves row = map (stale_where (may_be_same row i.a)) row.pointers
 pointers_kept i (Unlocks kind) row = map (stale_where (λ b. b == i.a)) row.pointers
+pointers_kept i MovesGroup row = map (stale_where (λ b. holds_kind DbGroup (slot_state row b))) row.pointers
 pointers_kept i _ row = row.pointers
 
 -- pointers with the one that an instruction sets

@@ -12,7 +12,7 @@ use Rattle.geos_image.specs.declared.point.Point.{Point}
 use Rattle.geos_image.specs.Parts.{Parts, start_of}
 use Rattle.geos_image.specs.Legal.{is_image}
 use Rattle.geos_verify.specs.declared.rule.Rule.{Rule}
-use Rattle.geos_verify.specs.declared.rule.Rule.TheVariants.{LeavesRoutine, NamesEmptySlot, EntryMisfit, StalePointer, PassesEnd, ChangesUnmarked, LocksIntoHeld, WrongSlot, CallMisfit, ExitMisfit, EdgeMisfit, EdgeUnpaid, OverBudget}
+use Rattle.geos_verify.specs.declared.rule.Rule.TheVariants.{LeavesRoutine, NamesEmptySlot, EntryMisfit, StalePointer, PassesEnd, ChangesUnmarked, LocksIntoHeld, WrongSlot, CommitsHeld, CallMisfit, ExitMisfit, EdgeMisfit, EdgeUnpaid, OverBudget}
 use Rattle.geos_verify.specs.declared.rule.Reject.{Reject}
 use Rattle.geos_image.specs.declared.row.SlotState.{SlotState}
 use Rattle.geos_image.specs.declared.row.SlotState.TheVariants.{Empty, Vm, Db}
@@ -20,7 +20,7 @@ use Rattle.geos_opcodes.specs.declared.uses.Width.{Width}
 use Rattle.geos_opcodes.specs.declared.uses.Offset.{Offset}
 use Rattle.geos_opcodes.specs.declared.uses.Offset.TheVariants.{Fixed, Indexed, Tested}
 use Rattle.geos_opcodes.specs.declared.uses.SlotUse.{SlotUse}
-use Rattle.geos_opcodes.specs.declared.uses.SlotUse.TheVariants.{LocksNew, Locks, Unlocks, Compares, Moves, LooksAt}
+use Rattle.geos_opcodes.specs.declared.uses.SlotUse.TheVariants.{LocksNew, Locks, Unlocks, Marks, Compares, Moves, LooksAt, Commits}
 use Rattle.geos_opcodes.specs.declared.uses.PointerUse.{PointerUse}
 use Rattle.geos_opcodes.specs.declared.uses.PointerUse.TheVariants.{Loads, Stores, Copies, Duplicates, Measures}
 use Rattle.geos_opcodes.specs.Facts.{uses_of}
@@ -131,6 +131,7 @@ locks_into_held i row = locks_held i (uses_of i.opcode).slot row
 -- a slot that must be held is empty or of another kind; two that are compared must be of one
 abbrev pub misuses_slot : Instr → SlotUse → Row → Bool
 misuses_slot i (Unlocks kind) row = not (holds_kind kind (slot_state row i.a))
+misuses_slot i (Marks kind) row = not (holds_kind kind (slot_state row i.a))
 misuses_slot i Compares row = is_empty (slot_state row i.a) || not (are_alike (slot_state row i.a) (slot_state row i.b))
 misuses_slot i Moves row = is_empty (slot_state row i.a)
 misuses_slot i LooksAt row = is_empty (slot_state row i.a)
@@ -139,6 +140,21 @@ misuses_slot i _ row = false
 -- the same, as a rule
 unfoldable pub wrong_slot : Instr → Row → Bool
 wrong_slot i row = misuses_slot i (uses_of i.opcode).slot row
+
+-- the slot holds a block of the VM file
+abbrev pub is_of_file : SlotState → Bool
+is_of_file (Vm marked) = true
+is_of_file (Db marked) = true
+is_of_file _ = false
+
+-- the VM file is written while a slot holds a block of it
+abbrev pub commits_held : SlotUse → Row → Bool
+commits_held Commits row = list_any is_of_file row.slots
+commits_held _ row = false
+
+-- the same, as a rule
+unfoldable pub commits_with_held : Instr → Row → Bool
+commits_with_held i row = commits_held (uses_of i.opcode).slot row
 
 -- what holds of a routine; of no routine, nothing is asked
 abbrev pub at_routine : Parts → ℕ → (Routine → Bool) → Bool
@@ -195,6 +211,7 @@ tests image r routine start pc point =
     ∷ (changes_unmarked i row, ChangesUnmarked)
     ∷ (locks_into_held i row, LocksIntoHeld)
     ∷ (wrong_slot i row, WrongSlot)
+    ∷ (commits_with_held i row, CommitsHeld)
     ∷ (call_misfits image r i row, CallMisfit)
     ∷ (exit_misfits routine i row, ExitMisfit)
     ∷ (edge_misfits image pc i row, EdgeMisfit)

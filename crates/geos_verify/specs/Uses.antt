@@ -8,7 +8,7 @@ use Rattle.geos_opcodes.specs.declared.uses.Width.TheVariants.{Byte, Both}
 use Rattle.geos_opcodes.specs.declared.uses.Offset.{Offset}
 use Rattle.geos_opcodes.specs.declared.uses.Offset.TheVariants.{Fixed, Indexed, Tested}
 use Rattle.geos_opcodes.specs.declared.uses.SlotUse.{SlotUse}
-use Rattle.geos_opcodes.specs.declared.uses.SlotUse.TheVariants.{NoSlot, Compares}
+use Rattle.geos_opcodes.specs.declared.uses.SlotUse.TheVariants.{NoSlot, Compares, MovesGroup, Commits}
 use Rattle.geos_opcodes.specs.declared.uses.PointerUse.{PointerUse}
 use Rattle.geos_opcodes.specs.declared.uses.PointerUse.TheVariants.{NoPointer, Sets, Duplicates, Loads, Stores, Copies, Measures}
 use Rattle.geos_opcodes.specs.declared.uses.Uses.{Uses}
@@ -28,6 +28,8 @@ same_kind _ _ = false
 -- the slots that such an instruction names are ones that there are
 abbrev pub SlotFits : SlotUse → Instr → Type 0
 SlotFits NoSlot i = Unit {0}
+SlotFits MovesGroup i = Unit {0}
+SlotFits Commits i = Unit {0}
 SlotFits Compares i = (i.a < 4) × (i.b < 4)
 SlotFits _ i = i.a < 4
 

@@ -57,5 +57,9 @@ pub(crate) fn bound_result(i: &Instr, row: &mut Row)
         Yields::ByteInA => set_bound(row, i.a, 255),
         Yields::WordInA => set_bound(row, i.a, u16::MAX),
         Yields::WordInB => set_bound(row, i.b, u16::MAX),
+        Yields::WordInAAndB => {
+            set_bound(row, i.a, u16::MAX);
+            set_bound(row, i.b, u16::MAX);
+        }
     }
 }

@@ -1,9 +1,10 @@
 //! The rules on what an instruction does with slots and pointers.
 
 ghost use Rattle.std.specs.Prelude.{◌≡◌, ◌<◌};
+ghost use Rattle.std.specs.List.{list_any};
 ghost use Rattle.geos_opcodes.specs.Facts.{uses_of};
 ghost use Rattle.geos_verify.specs.Uses.{bytes_in, OffsetFits, PointerFits};
-ghost use Rattle.geos_verify.specs.Rules.{reach, least_at, pointed_state, is_unmarked, writes_unmarked, moves_unmarked, stale_pointer, passes_end, changes_unmarked, locks_into_held, wrong_slot};
+ghost use Rattle.geos_verify.specs.Rules.{reach, least_at, pointed_state, is_unmarked, writes_unmarked, moves_unmarked, stale_pointer, passes_end, changes_unmarked, locks_into_held, wrong_slot, is_of_file, commits_with_held};
 
 use crate::fits::{is_empty, is_stale};
 use crate::pointers::pointer_at;
@@ -147,9 +148,38 @@ pub(crate) fn wrong_slot(i: &Instr, slot: SlotUse, row: &Row) -> bool
 {
     let state = slot_state(row, i.a);
     match slot {
-        SlotUse::Unlocks(kind) => !holds_kind(kind, state),
+        SlotUse::Unlocks(kind) | SlotUse::Marks(kind) => !holds_kind(kind, state),
         SlotUse::Compares => is_empty(state) || !are_alike(state, slot_state(row, i.b)),
         SlotUse::Moves | SlotUse::LooksAt => is_empty(state),
+        _ => false,
+    }
+}
+
+/// Whether the slot holds a block of the VM file.
+fn is_of_file(state: SlotState) -> bool
+    ensures { result ≡ is_of_file state }
+{
+    match state {
+        SlotState::Vm { .. } | SlotState::Db { .. } => true,
+        _ => false,
+    }
+}
+
+fn any_of_file(slots: &[SlotState; 4]) -> bool
+    ensures { result ≡ list_any is_of_file slots.now }
+{
+    let [s0, s1, s2, s3] = *slots;
+    is_of_file(s0) || is_of_file(s1) || is_of_file(s2) || is_of_file(s3)
+}
+
+/// Whether the VM file is written while a slot holds a block of it.
+#[tactic(auto, unfolding(crate::specs::Rules::commits_with_held))]
+pub(crate) fn commits_with_held(i: &Instr, slot: SlotUse, row: &Row) -> bool
+    requires { slot ≡ (uses_of i.now.opcode).slot }
+    ensures { result ≡ commits_with_held i.now row.now }
+{
+    match slot {
+        SlotUse::Commits => any_of_file(&row.slots),
         _ => false,
     }
 }

@@ -1,13 +1,14 @@
 //! What a row says of pointers, and what an instruction changes of it.
 
 ghost use Rattle.std.specs.Prelude.{◌≡◌, ◌<◌, ◌==◌, map};
+ghost use Rattle.geos_opcodes.specs.declared.uses.Kind.TheVariants as kind;
 ghost use Rattle.geos_verify.specs.Uses.{PointerFits};
-ghost use Rattle.geos_verify.specs.Rows.{pointer_at, may_be_same, stale_where, pointers_kept, with_pointer};
+ghost use Rattle.geos_verify.specs.Rows.{pointer_at, slot_state, holds_kind, may_be_same, stale_where, pointers_kept, with_pointer};
 
 use crate::pairs::are_apart;
-use crate::slots::{are_alike, slot_state};
+use crate::slots::{are_alike, holds_kind, slot_state};
 use geos_image::{Instr, Pointer, Row};
-use geos_opcodes::{PointerUse, SlotUse};
+use geos_opcodes::{Kind, PointerUse, SlotUse};
 
 /// What the row says of a pointer; of one that there is not, nothing is known.
 pub fn pointer_at(row: &Row, p: u8) -> Option<Pointer>
@@ -46,6 +47,16 @@ fn kept_outside(a: u8, pointer: Option<Pointer>) -> Option<Pointer>
     }
 }
 
+/// The pointer, if it leads into a slot that holds no group.
+fn kept_outside_groups(row: &Row, pointer: Option<Pointer>) -> Option<Pointer>
+    ensures { result ≡ stale_where (λ b. holds_kind kind.DbGroup (slot_state row.now b)) pointer }
+{
+    match pointer {
+        Some(p) if !holds_kind(Kind::DbGroup, slot_state(row, p.slot)) => Some(p),
+        _ => None,
+    }
+}
+
 /// Drops the pointers into slots that may hold the block of slot a.
 fn drop_beside(row: &mut Row, a: u8)
     ensures { row.new ≡ record row.old { pointers = map (stale_where (may_be_same row.old a)) row.old.pointers } }
@@ -72,6 +83,19 @@ fn drop_into(row: &mut Row, a: u8)
     ];
 }
 
+/// Drops the pointers into groups.
+fn drop_into_groups(row: &mut Row)
+    ensures { row.new ≡ record row.old { pointers = map (stale_where (λ b. holds_kind kind.DbGroup (slot_state row.old b))) row.old.pointers } }
+{
+    let [p0, p1, p2, p3] = row.pointers;
+    row.pointers = [
+        kept_outside_groups(row, p0),
+        kept_outside_groups(row, p1),
+        kept_outside_groups(row, p2),
+        kept_outside_groups(row, p3),
+    ];
+}
+
 /// Drops the pointers that an instruction makes stale.
 pub(crate) fn drop_pointers(i: &Instr, slot: SlotUse, row: &mut Row)
     ensures { row.new ≡ record row.old { pointers = pointers_kept i.now slot row.old } }
@@ -79,6 +103,7 @@ pub(crate) fn drop_pointers(i: &Instr, slot: SlotUse, row: &mut Row)
     match slot {
         SlotUse::Moves => drop_beside(row, i.a),
         SlotUse::Unlocks(_) => drop_into(row, i.a),
+        SlotUse::MovesGroup => drop_into_groups(row),
         _ => (),
     }
 }

@@ -12,7 +12,9 @@ ghost use Rattle.geos_verify.specs.Uses.{UsesFit};
 
 use crate::edges::{branches, falls_through, go_along, go_to_target};
 use crate::fits::{fits, is_plain, names_empty_slot};
-use crate::misuse::{changes_unmarked, locks_into_held, passes_end, stale_pointer, wrong_slot};
+use crate::misuse::{
+    changes_unmarked, commits_with_held, locks_into_held, passes_end, stale_pointer, wrong_slot,
+};
 use crate::potentials::{is_within, pays_along, pays_branching};
 use crate::rule::Rule;
 use crate::touched::{Touched, calls};
@@ -235,6 +237,8 @@ pub(crate) fn refusal(
         Some(Rule::LocksIntoHeld)
     } else if wrong_slot(i, uses.slot, row) {
         Some(Rule::WrongSlot)
+    } else if commits_with_held(i, uses.slot, row) {
+        Some(Rule::CommitsHeld)
     } else if call_misfits(image, r, i, row) {
         Some(Rule::CallMisfit)
     } else if exit_misfits(routine, i, row) {

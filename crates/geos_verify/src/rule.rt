@@ -3,8 +3,7 @@
 use std::fmt;
 use thiserror::Error;
 
-/// Why the verifier refuses a point. Rules that speak of opcodes which do not exist yet are
-/// left out.
+/// Why the verifier refuses a point.
 #[derive(Clone, Copy, Debug, PartialEq, Eq)]
 pub enum Rule {
     /// A branch or the fall-through leaves the routine.
@@ -25,6 +24,8 @@ pub enum Rule {
     LocksIntoHeld = 7,
     /// A slot that must be held is empty or of another kind.
     WrongSlot = 8,
+    /// The VM file is written while a slot holds a block of it.
+    CommitsHeld = 9,
     /// A routine calls one that is not below it, or one whose entry row the row does not fit.
     CallMisfit = 10,
     /// A return where the row does not fit the exit row.

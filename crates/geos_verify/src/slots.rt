@@ -2,7 +2,7 @@
 
 ghost use Rattle.std.specs.Prelude.{◌≡◌};
 ghost use Rattle.geos_verify.specs.Uses.{same_kind, SlotFits};
-ghost use Rattle.geos_verify.specs.Rows.{slot_state, kind_in, alike, are_alike, holds_kind, held_state, slots_after};
+ghost use Rattle.geos_verify.specs.Rows.{slot_state, kind_in, alike, are_alike, holds_kind, held_state, marked_state, slots_after};
 
 use geos_image::{Instr, Row, SlotState};
 use geos_opcodes::{Kind, SlotUse};
@@ -75,6 +75,18 @@ fn held_state(kind: Kind, marked: bool) -> SlotState
     }
 }
 
+/// The same of a slot whose block was marked: that it has its mark is known, where it is one of the
+/// VM file.
+fn marked_state(state: SlotState) -> SlotState
+    ensures { result ≡ marked_state state }
+{
+    match state {
+        SlotState::Vm { .. } => SlotState::Vm { marked: true },
+        SlotState::Db { .. } => SlotState::Db { marked: true },
+        _ => state,
+    }
+}
+
 /// Sets the slots to what they are after an instruction.
 pub(crate) fn set_slots(i: &Instr, slot: SlotUse, row: &mut Row)
     requires { SlotFits slot i.now }
@@ -84,6 +96,7 @@ pub(crate) fn set_slots(i: &Instr, slot: SlotUse, row: &mut Row)
         SlotUse::LocksNew(kind) => row.slots[i.a as usize] = held_state(kind, true),
         SlotUse::Locks(kind) => row.slots[i.a as usize] = held_state(kind, false),
         SlotUse::Unlocks(_) => row.slots[i.a as usize] = SlotState::Empty,
+        SlotUse::Marks(_) => row.slots[i.a as usize] = marked_state(row.slots[i.a as usize]),
         _ => (),
     }
 }
