@@ -42,7 +42,7 @@ pub record Fine (base : Name → ℕ) (s t : State) (row : Row) : Type 0 where
 -- a word is written, within the bound that is known of it
 pub fine-word : (base : Name → ℕ) (s t : State) (row : Row) (a v n : ℕ) → Fine base s t row → v ≤ n → Fine base s (with_word a v t) (with_bound a n row)
 fine-word base s t row a v n F le = record {
-  sound = record { memory = F.sound.memory; four = F.sound.four; slots = F.sound.slots; locks = F.sound.locks; pointers = F.sound.pointers };
+  sound = record { none = F.sound.none; memory = F.sound.memory; four = F.sound.four; slots = F.sound.slots; locks = F.sound.locks; pointers = F.sound.pointers };
   meets = meets-word t row a v n F.meets le;
   routine = F.routine;
   stack = F.stack;
@@ -139,6 +139,7 @@ module _ (base : Name → ℕ) (s : State) (row : Row) (S : Sound base s) (M : M
   fine-pointing t p target least F sound le = record {
     sound = record {
       memory = F.sound.memory;
+      none = F.sound.none;
       four = F.sound.four;
       slots = F.sound.slots;
       locks = F.sound.locks;

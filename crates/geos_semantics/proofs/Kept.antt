@@ -61,6 +61,7 @@ pub sound-left : (base : Name → ℕ) (s : State) (a : ℕ) (stale : Staleness)
     → Sound base (record s { memory = new; pointers = kept_pointers a stale s.pointers })
 sound-left base s a stale new S L = record {
   memory = L.legal;
+  none = S.none;
   four = S.four;
   slots = slots-sound s.memory new s.slots (λ k held e. L.held held) S.slots;
   locks = λ name. L.locks name ∙ S.locks name;

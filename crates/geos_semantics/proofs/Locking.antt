@@ -100,6 +100,7 @@ module _ (base : Name → ℕ) (s : State) (a : ℕ) (locked : Held) (new : Memo
   pub sound-locked : Sound base (record s { memory = new; slots = set s.slots a (Some locked); pointers = kept_pointers a Nothing s.pointers })
   sound-locked = record {
     memory = L.legal;
+    none = S.none;
     four = length-set s.slots a (Some locked) ∙ S.four;
     slots = each-set (SlotIsSound new) s.slots a (Some locked) (slots-sound s.memory new s.slots (λ k held e. L.held held) S.slots) L.is;
     locks = locks-locked;
@@ -152,6 +153,7 @@ module _ (base : Name → ℕ) (s : State) (a : ℕ) (name : Name) (new : Memory
   pub sound-unlocked : Sound base (record s { memory = new; slots = set s.slots a None; pointers = kept_pointers a (OfLock name) s.pointers })
   sound-unlocked = record {
     memory = U.legal;
+    none = S.none;
     four = length-set s.slots a None ∙ S.four;
     slots = each-set (SlotIsSound new) s.slots a None (slots-sound s.memory new s.slots (λ k held e. U.held held) S.slots) tt;
     locks = locks-unlocked;
@@ -189,6 +191,7 @@ module _ (base : Name → ℕ) (s : State) (a : ℕ) (name : Name) (new : Memory
   pub sound-freed : Sound base (record s { memory = new; pointers = kept_pointers a Nothing s.pointers })
   sound-freed = record {
     memory = legal;
+    none = S.none;
     four = S.four;
     slots = slots-sound s.memory new s.slots held-stay S.slots;
     locks = locks-freed;

@@ -128,6 +128,7 @@ module _ (moment : Moment) where
       fine-goes moment (with_pointer i.a (pointer s i.b) s) (s.pc + 1) _ (along_edge moment op.Movp is refl) (record {
         sound = record {
           memory = G.sound.memory;
+          none = G.sound.none;
           four = G.sound.four;
           slots = G.sound.slots;
           locks = G.sound.locks;
