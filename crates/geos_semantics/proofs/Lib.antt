@@ -21,6 +21,8 @@ pub mod KernelSteps
 pub mod BlockSteps
 pub mod ChunkSteps
 pub mod PointerSteps
+pub mod FileAnswers
+pub mod FileSteps
 pub mod Steps
 pub mod Ends
 pub mod Runs
