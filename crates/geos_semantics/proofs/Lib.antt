@@ -23,6 +23,7 @@ pub mod ChunkSteps
 pub mod PointerSteps
 pub mod FileAnswers
 pub mod FileSteps
+pub mod CommitSteps
 pub mod Steps
 pub mod Ends
 pub mod Runs

@@ -151,7 +151,7 @@ isetmap-kept g i small choice memory legal =
 
 -- The file
 
-pair-legal : (keeper : Keeper) (memory : Memory) → ((cur saved : Directory KeptBlock) → IsStored cur → IsStored saved → IsPair (keeper cur saved)) → IsMemory memory → IsPair (pair_to_keep keeper memory)
+pub pair-legal : (keeper : Keeper) (memory : Memory) → ((cur saved : Directory KeptBlock) → IsStored cur → IsStored saved → IsPair (keeper cur saved)) → IsMemory memory → IsPair (pair_to_keep keeper memory)
 pair-legal keeper memory keeps legal = keeps (written_directory memory) memory.file.saved (written-legal memory.file.cur legal.file.cur) legal.file.saved
 
 committed-legal : (memory : Memory) (pair : Pair) → IsPair pair → IsMemory memory → IsMemory (committed memory pair)
@@ -170,11 +170,11 @@ faulted-legal true memory pair new legal = record {
   file = record { cur = legal.file.cur; saved = legal.file.saved; kept = doubted-legal memory.file.kept pair legal.file.kept new };
 }
 
-left-legal : (choice : Choice) (memory : Memory) (pair : Pair) (why : Refusal) → IsPair pair → IsMemory memory → IsMemory (left_by_commit choice memory pair why)
+pub left-legal : (choice : Choice) (memory : Memory) (pair : Pair) (why : Refusal) → IsPair pair → IsMemory memory → IsMemory (left_by_commit choice memory pair why)
 left-legal choice memory pair refusal.Disk new legal = faulted-legal choice.unsure memory pair new legal
 left-legal choice memory pair why new legal = legal
 
-commit-kept : (keeper : Keeper) → ((cur saved : Directory KeptBlock) → IsStored cur → IsStored saved → IsPair (keeper cur saved)) → Keeps (commit keeper)
+pub commit-kept : (keeper : Keeper) → ((cur saved : Directory KeptBlock) → IsStored cur → IsStored saved → IsPair (keeper cur saved)) → Keeps (commit keeper)
 commit-kept keeper keeps choice memory legal =
     let pair = pair_to_keep keeper memory in let new = pair-legal keeper memory keeps legal in
     outcome-kept (commit keeper choice memory) (λ r. left-legal choice memory pair r new legal) (λ fine. committed-legal memory pair new legal)

@@ -283,7 +283,7 @@ idle-count m pair h = ap (λ e. locks_in (option_map block_in_file e)) (entry-ea
     idle (Some kept) = refl
 
 -- a commit leaves the counts of a file of which no block is locked
-commit-counts : (m : Memory) (pair : Pair) → NoneLocked m → (name : Name) → locks_of (committed m pair) name ≡ locks_of m name
+pub commit-counts : (m : Memory) (pair : Pair) → NoneLocked m → (name : Name) → locks_of (committed m pair) name ≡ locks_of m name
 commit-counts m pair none name = by name.owner name.h
   where
     by : (owner : Owner) (h : ℕ) → locks_of (committed m pair) (named owner h) ≡ locks_of m (named owner h)
