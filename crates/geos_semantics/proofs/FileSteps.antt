@@ -1,15 +1,14 @@
 -- Each step of an instruction that tells of the VM file, maps or frees goes well.
-use Rattle.std.proofs.Common.{◌≡◌, ℕ, ◌+◌, ◌<◌, ◌≤◌, None, refl, ap, ◌∙◌, subst, arith}
+use Rattle.std.proofs.Common.{◌≡◌, ℕ, ◌+◌, ◌≤◌, None, refl, ap, ◌∙◌, subst, arith}
 use Rattle.std.specs.Prelude.{◌==◌, is_none}
 use Rattle.std.proofs.lemmas.Bool.{ltb-false}
-use Rattle.geos_model.specs.declared.name.Name.{Name}
 use Rattle.geos_model.specs.declared.name.Owner.{Owner}
 use Rattle.geos_model.specs.declared.name.Owner.TheVariants as owner
-use Rattle.geos_model.specs.Names.{named, vm}
+use Rattle.geos_model.specs.Names.{vm}
 use Rattle.geos_model.specs.Refusals.{first_refusal}
 use Rattle.geos_table.specs.Directories.{group_uid, uid_in, is_marked_in}
 use Rattle.geos_table.specs.Handles.{at_handle}
-use Rattle.geos_table.specs.Memory.{Memory, owned_block, block_of, locks_in, chunks_in, locks_of}
+use Rattle.geos_table.specs.Memory.{Memory, owned_block, locks_in, chunks_in, locks_of}
 use Rattle.geos_table.specs.Legal.{IsMemory}
 use Rattle.geos_table.specs.Effects.{Choice, Nothing, come_to}
 use Rattle.geos_table.specs.VmCalls.{vfree, vfind, vuid, vsetmap}
@@ -21,15 +20,14 @@ use Rattle.geos_table.proofs.Leaves.{rows_leave}
 use Rattle.geos_opcodes.specs.declared.opcode.Opcode.TheVariants as op
 use Rattle.geos_opcodes.specs.declared.uses.SlotUse.TheVariants.{NoSlot}
 use Rattle.geos_verify.proofs.Passed.{passed}
-use Rattle.geos_verify.specs.Rows.{with_bound}
-use Rattle.geos_semantics.specs.State.{word, with_word}
-use Rattle.geos_semantics.specs.Model.{nowhere, exec}
+use Rattle.geos_semantics.specs.State.{word}
+use Rattle.geos_semantics.specs.Model.{nowhere}
 use Rattle.geos_semantics.proofs.Stays.{stays-from}
 use Rattle.geos_semantics.proofs.Kept.{Leaves}
 use Rattle.geos_semantics.proofs.FileAnswers.{map_block-small, map_group-small, map_item-small, found-small, uid-small}
 use Rattle.geos_semantics.proofs.Fine.{after-legal, fine-word, fine-nothing}
 use Rattle.geos_semantics.proofs.FineLocks.{fine-freed}
-use Rattle.geos_semantics.proofs.Moments.{Moment, Well, StepsWell, along_edge, branch_edge, fine-goes}
+use Rattle.geos_semantics.proofs.Moments.{Moment, StepsWell, along_edge, branch_edge, fine-goes}
 use Rattle.geos_semantics.proofs.KernelSteps.{fine-unchanged, calls-well, telling-well}
 
 -- memory in which each block is as it was, whatever else of the file is not
