@@ -21,6 +21,7 @@ pub mod KernelSteps
 pub mod BlockSteps
 pub mod ChunkSteps
 pub mod PointerSteps
+pub mod WordBounds
 pub mod FileAnswers
 pub mod FileSteps
 pub mod CommitSteps
