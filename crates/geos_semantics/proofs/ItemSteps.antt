@@ -1,5 +1,5 @@
 -- Each step of an instruction that makes a group, or works on items, goes well.
-use Rattle.std.proofs.Common.{◌≡◌, ℕ, ◌+◌, ◌≤◌, true, Option, None, List, [], ◌∷◌, refl, subst}
+use Rattle.std.proofs.Common.{◌≡◌, ℕ, ◌+◌, true, Option, None, List, ◌∷◌, refl, subst}
 use Rattle.std.proofs.lemmas.Bool.{not-false}
 use Rattle.geos_model.specs.declared.refusal.Refusal.{Refusal}
 use Rattle.geos_model.specs.Names.{vm}
@@ -13,6 +13,7 @@ use Rattle.geos_table.specs.declared.call.Make.{Make}
 use Rattle.geos_table.specs.ChunkCalls.{change_edit, change_row, make_edit, make_row}
 use Rattle.geos_table.specs.ItemCalls.{no_group, in_group, on_group, gnew}
 use Rattle.geos_table.specs.Keeping.{Keeps, HasWordSize}
+use Rattle.geos_table.specs.Leaving.{new_vm}
 use Rattle.geos_table.proofs.Keeps.{rows_keep_memory}
 use Rattle.geos_table.proofs.Laws.{change-shape}
 use Rattle.geos_table.proofs.Passing.{none-behind}
@@ -30,7 +31,7 @@ use Rattle.geos_semantics.proofs.Leads.{Leads}
 use Rattle.geos_semantics.proofs.Kept.{leaves-all}
 use Rattle.geos_semantics.proofs.Fine.{Fine, after-legal, fine-word, fine-nothing}
 use Rattle.geos_semantics.proofs.Items.{with_items, leaves-items, fine-regrouped}
-use Rattle.geos_semantics.proofs.NewListed.{new_handle, with_new, new-small, leaves-new}
+use Rattle.geos_semantics.proofs.NewListed.{with_new, new-small, leaves-new}
 use Rattle.geos_semantics.proofs.Moments.{Moment, Well, StepsWell, along_edge, branch_edge}
 use Rattle.geos_semantics.proofs.KernelSteps.{after_call, Rechunks, fine-unchanged, calls-well}
 
@@ -44,7 +45,7 @@ module _ (moment : Moment) where
       (λ e.
       let legal_after = after-legal (gnew choice s.memory) (rows_keep_memory.by_gnew choice s.memory G.sound.memory) e in
       let F = fine-nothing base s G.point.row G.sound G.meets i.a (with_new s.memory group_uid 0) (leaves-new s.memory group_uid i.a legal_after) in
-      fine-word base s _ G.point.row i.a (new_handle s.memory) 65535 F (new-small s.memory G.sound.memory))
+      fine-word base s _ G.point.row i.a (new_vm s.memory).h 65535 F (new-small s.memory G.sound.memory))
       refl
 
   -- the row where a call is done that may have moved items of some group
@@ -63,7 +64,7 @@ module _ (moment : Moment) where
             let group : is_group s.memory g ≡ true = not-false (is_group s.memory g) (passed (on_group g row choice s.memory).refusals e).0 in
             let legal_after = after-legal (on_group g row choice s.memory) (keeps choice s.memory G.sound.memory) e in
             let legal_items = subst (λ m. IsMemory (with_mark m g true)) shape.0 legal_after in
-            rw (shape.0) (fine-regrouped base s G.point.row G.sound G.meets i g (with_items s.memory g chunks) (leaves-items i.a s.memory g chunks group legal_items))),
+            rw shape.0 (fine-regrouped base s G.point.row G.sound G.meets i g (with_items s.memory g chunks) (leaves-items i.a s.memory g chunks group legal_items))),
       )
 
   pub changing_items-well : Leads image s.routine G.routine (s.pc + 1) regrouped_row (pays G.point.potential)

@@ -1,12 +1,12 @@
 -- What calls on items of a group do to a state that is sound and as a row says.
 use Rattle.std.proofs.Common.{◌≡◌, ℕ, Bool, true, false, Option, Some, None, List, get_or, refl, sym, ap, ◌∙◌, subst}
-use Rattle.std.specs.Prelude.{◌==◌, map, cond, not, is_none, IsSome, option_map}
+use Rattle.std.specs.Prelude.{◌==◌, cond, not, is_none, IsSome, option_map}
 use Rattle.geos_model.specs.declared.name.Name.{Name}
 use Rattle.geos_model.specs.declared.name.Owner.{Owner}
 use Rattle.geos_model.specs.declared.name.Owner.TheVariants.{Mem, Vm}
 use Rattle.geos_model.specs.Names.{vm}
 use Rattle.geos_table.specs.Directories.{VmBlock, group_uid, uid_in, is_marked_in, marked_block}
-use Rattle.geos_table.specs.Memory.{Memory, Block, listed_at, with_listed, is_group, is_marked, with_mark, owned_block, block_of, chunks_in, rechunked_block, with_chunks}
+use Rattle.geos_table.specs.Memory.{Memory, listed_at, with_listed, is_group, is_marked, with_mark, owned_block, block_of, chunks_in, rechunked_block, with_chunks}
 use Rattle.geos_table.specs.Legal.{IsMemory}
 use Rattle.geos_table.specs.Effects.{Nothing, InBlock}
 use Rattle.geos_table.specs.ItemCalls.{in_group}
@@ -21,7 +21,7 @@ use Rattle.geos_verify.specs.Rows.{alike, slot_state, holds_kind, pointers_kept,
 use Rattle.geos_semantics.specs.Lists.{Each2}
 use Rattle.geos_semantics.specs.State.{Held, owner_of, name_of, SlotReference, State, slot, same_name, is_made_stale, kept_pointer, kept_pointers}
 use Rattle.geos_semantics.specs.Faults.{is_unmarked_block}
-use Rattle.geos_semantics.specs.Meets.{Meets, Sound, PointerMeets, name_held, IsOfKind, SlotIsSound, PointerIsSound}
+use Rattle.geos_semantics.specs.Meets.{Meets, Sound, PointerMeets, name_held, SlotIsSound, PointerIsSound}
 use Rattle.geos_semantics.proofs.Memories.{same_name-true, chunks_at-other, locks_of-rechunked, names-apart}
 use Rattle.geos_semantics.proofs.Stays.{Stays, kind-from, stays-mapped, slots-left}
 use Rattle.geos_semantics.proofs.Kept.{Leaves, sound-left, pointer-kept, each2-map}
