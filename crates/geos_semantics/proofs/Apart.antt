@@ -175,7 +175,7 @@ kinds-apart m DbGroup MemBlock h k is also same unlike = (let o : Mem ≡ Vm = a
 kinds-apart m VmBlock DbGroup h k is also same unlike = (let both : false ≡ true = sym is.1 ∙ ap (is_group m) (ap (λ (n : Name). n.h) (sym same)) ∙ also.1 in absurd cc)
 kinds-apart m DbGroup VmBlock h k is also same unlike = (let both : true ≡ false = sym is.1 ∙ ap (is_group m) (ap (λ (n : Name). n.h) (sym same)) ∙ also.1 in absurd cc)
 
-held-apart : (m : Memory) (o q : Option Held) (name other : Name) → SlotIsSound m o → SlotIsSound m q → name_held o ≡ Some name → name_held q ≡ Some other → other ≡ name
+pub held-apart : (m : Memory) (o q : Option Held) (name other : Name) → SlotIsSound m o → SlotIsSound m q → name_held o ≡ Some name → name_held q ≡ Some other → other ≡ name
     → alike (option_map (λ (held : Held). held.kind) q) (option_map (λ (held : Held). held.kind) o) ≡ false → ⊥
 held-apart m None q name other is also held_o held_q same unlike = absurd cc
 held-apart m (Some x) None name other is also held_o held_q same unlike = absurd cc

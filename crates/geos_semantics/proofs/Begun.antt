@@ -30,6 +30,7 @@ module _ (base : Name → ℕ) (s : State) (choice : Choice) (S : Sound base s) 
   sound-begun = record {
     memory = memory-given choice.given s.memory S.memory;
     none = S.none;
+    words = S.words;
     four = S.four;
     slots = slots-sound s.memory (given_memory choice.given s.memory) s.slots (λ k held e. stays-given choice.given s.memory held) S.slots;
     locks = λ name. locks_of-given choice.given s.memory name ∙ S.locks name;

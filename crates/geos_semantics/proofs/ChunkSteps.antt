@@ -1,5 +1,5 @@
 -- Each step of an instruction that works on chunks of a block goes well.
-use Rattle.std.proofs.Common.{◌≡◌, ◌+◌, false, refl, sym}
+use Rattle.std.proofs.Common.{◌≡◌, ◌+◌, false, refl, sym, arith}
 use Rattle.std.specs.Prelude.{is_none}
 use Rattle.geos_table.specs.Memory.{chunks_at}
 use Rattle.geos_table.specs.declared.call.Change.{Change}
@@ -52,7 +52,7 @@ module _ (moment : Moment) where
       → Leads image s.routine G.routine G.point.instr.target (rows.refused G.point.instr LooksAt G.point.row) (pays G.point.potential) → (ask : Ask) (choice : Choice) → Well moment (asking ask choice G.point.instr s)
   asking-well L B ask choice =
       let name = name_at s G.point.instr.a in
-      telling-well moment LooksAt refl G.point.instr.b 65535 L B (ask_row name ask) choice (refl, refl, λ r. refl) (ask-most choice s.memory name ask G.sound.memory)
+      telling-well moment LooksAt refl G.point.instr.b 65535 (omega arith) L B (ask_row name ask) choice (refl, refl, λ r. refl) (ask-most choice s.memory name ask G.sound.memory)
 
   -- the verifier knows of as many bytes as are wanted
   pub referring-well : is_none (kind_at s G.point.instr.a) ≡ false → Leads image s.routine G.routine (s.pc + 1) (pointing_row moment) (pays G.point.potential)

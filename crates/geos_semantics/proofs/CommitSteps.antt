@@ -86,6 +86,7 @@ module _ (base : Name → ℕ) (s : State) (row : Row) (S : Sound base s) (M : M
   fine-beside new legal blocks locks = record {
     sound = record {
       none = S.none;
+      words = S.words;
       memory = legal;
       four = S.four;
       slots = slots-sound s.memory new s.slots stay S.slots;

@@ -22,6 +22,7 @@ use Rattle.geos_opcodes.specs.declared.uses.SlotUse.TheVariants.{NoSlot}
 use Rattle.geos_verify.proofs.Passed.{passed}
 use Rattle.geos_semantics.specs.State.{word}
 use Rattle.geos_semantics.specs.Model.{nowhere}
+use Rattle.geos_semantics.proofs.NoFaults.{word-small}
 use Rattle.geos_semantics.proofs.Stays.{stays-from}
 use Rattle.geos_semantics.proofs.Kept.{Leaves}
 use Rattle.geos_semantics.proofs.FileAnswers.{map_block-small, map_group-small, map_item-small, found-small, uid-small}
@@ -58,27 +59,27 @@ module _ (moment : Moment) where
   pub vfind-well : StepsWell moment op.Vfind
   vfind-well is choice =
       let i = G.point.instr in
-      telling-well moment NoSlot refl i.a 65535 (along_edge moment op.Vfind is refl) (branch_edge moment op.Vfind is refl) (vfind (word s i.b) (word s i.c)) choice (refl, refl, λ r. refl)
+      telling-well moment NoSlot refl i.a 65535 (omega arith) (along_edge moment op.Vfind is refl) (branch_edge moment op.Vfind is refl) (vfind (word s i.b) (word s i.c)) choice (refl, refl, λ r. refl)
       (λ e. found-small s.memory (word s i.b) (word s i.c) G.sound.memory)
 
   pub vuid-well : StepsWell moment op.Vuid
   vuid-well is choice =
       let i = G.point.instr in
-      telling-well moment NoSlot refl i.a 65535 (along_edge moment op.Vuid is refl) (branch_edge moment op.Vuid is refl) (vuid (word s i.b)) choice (refl, refl, λ r. refl)
+      telling-well moment NoSlot refl i.a 65535 (omega arith) (along_edge moment op.Vuid is refl) (branch_edge moment op.Vuid is refl) (vuid (word s i.b)) choice (refl, refl, λ r. refl)
       (λ e. uid-small s.memory (word s i.b) G.sound.memory)
 
   -- what is mapped is told without a refusal
   pub vgetmap-well : StepsWell moment op.Vgetmap
   vgetmap-well is choice =
       let i = G.point.instr in
-      let F = fine-word base s _ G.point.row i.a s.memory.file.cur.map_block 65535 (fine-unchanged moment) (map_block-small s.memory G.sound.memory) in
+      let F = fine-word base s _ G.point.row i.a s.memory.file.cur.map_block 65535 (fine-unchanged moment) (map_block-small s.memory G.sound.memory) (map_block-small s.memory G.sound.memory) in
       fine-goes moment _ (s.pc + 1) _ (along_edge moment op.Vgetmap is refl) F
 
   pub igetmap-well : StepsWell moment op.Igetmap
   igetmap-well is choice =
       let i = G.point.instr in
-      let F = fine-word base s _ G.point.row i.a s.memory.file.cur.map_group 65535 (fine-unchanged moment) (map_group-small s.memory G.sound.memory) in
-      let E = fine-word base s _ _ i.b s.memory.file.cur.map_item 65535 F (map_item-small s.memory G.sound.memory) in
+      let F = fine-word base s _ G.point.row i.a s.memory.file.cur.map_group 65535 (fine-unchanged moment) (map_group-small s.memory G.sound.memory) (map_group-small s.memory G.sound.memory) in
+      let E = fine-word base s _ _ i.b s.memory.file.cur.map_item 65535 F (map_item-small s.memory G.sound.memory) (map_item-small s.memory G.sound.memory) in
       fine-goes moment _ (s.pc + 1) _ (along_edge moment op.Igetmap is refl) E
 
   -- Calls that map
@@ -93,10 +94,10 @@ module _ (moment : Moment) where
       fine-nothing base s G.point.row G.sound G.meets i.a _ (leaves-blocks i.a s.memory _ legal_after refl refl))
       refl
 
-  -- where the item is a word
-  pub isetmap-well : word s G.point.instr.b ≤ 65535 → StepsWell moment op.Isetmap
-  isetmap-well small is choice =
+  pub isetmap-well : StepsWell moment op.Isetmap
+  isetmap-well is choice =
       let i = G.point.instr in
+      let small = word-small base s i.b G.sound in
       let g = word s i.a in
       let item = word s i.b in
       calls-well moment NoSlot _ (isetmap g item) nowhere choice (along_edge moment op.Isetmap is refl) (branch_edge moment op.Isetmap is refl) (λ r. fine-unchanged moment)

@@ -39,10 +39,10 @@ pub record Fine (base : Name → ℕ) (s t : State) (row : Row) : Type 0 where
   pub stack : t.stack ≡ s.stack
   pub counters : t.counters ≡ s.counters
 
--- a word is written, within the bound that is known of it
-pub fine-word : (base : Name → ℕ) (s t : State) (row : Row) (a v n : ℕ) → Fine base s t row → v ≤ n → Fine base s (with_word a v t) (with_bound a n row)
-fine-word base s t row a v n F le = record {
-  sound = record { none = F.sound.none; memory = F.sound.memory; four = F.sound.four; slots = F.sound.slots; locks = F.sound.locks; pointers = F.sound.pointers };
+-- a word is written, within the bound that is known of it and that of all words
+pub fine-word : (base : Name → ℕ) (s t : State) (row : Row) (a v n : ℕ) → Fine base s t row → v ≤ n → v ≤ 65535 → Fine base s (with_word a v t) (with_bound a n row)
+fine-word base s t row a v n F le small = record {
+  sound = record { none = F.sound.none; words = each-set (λ n. n ≤ 65535) t.words a v F.sound.words small; memory = F.sound.memory; four = F.sound.four; slots = F.sound.slots; locks = F.sound.locks; pointers = F.sound.pointers };
   meets = meets-word t row a v n F.meets le;
   routine = F.routine;
   stack = F.stack;
@@ -140,6 +140,7 @@ module _ (base : Name → ℕ) (s : State) (row : Row) (S : Sound base s) (M : M
     sound = record {
       memory = F.sound.memory;
       none = F.sound.none;
+      words = F.sound.words;
       four = F.sound.four;
       slots = F.sound.slots;
       locks = F.sound.locks;

@@ -62,6 +62,7 @@ pub sound-left : (base : Name → ℕ) (s : State) (a : ℕ) (stale : Staleness)
 sound-left base s a stale new S L = record {
   memory = L.legal;
   none = S.none;
+  words = S.words;
   four = S.four;
   slots = slots-sound s.memory new s.slots (λ k held e. L.held held) S.slots;
   locks = λ name. L.locks name ∙ S.locks name;

@@ -1,5 +1,5 @@
 -- What it takes that the step of a kernel call goes well.
-use Rattle.std.proofs.Common.{◌≡◌, ℕ, ◌+◌, ◌≤◌, false, Option, Some, None, List, [], refl, sym, ap, subst, ◌∙◌, set}
+use Rattle.std.proofs.Common.{◌≡◌, ℕ, ◌+◌, ◌≤◌, false, Option, Some, None, List, [], refl, sym, ap, subst, ◌∙◌, set, arith}
 use Rattle.std.specs.Prelude.{is_none}
 use Rattle.geos_model.specs.declared.name.Name.{Name}
 use Rattle.geos_model.specs.declared.refusal.Refusal.{Refusal}
@@ -58,7 +58,7 @@ module _ (moment : Moment) where
       → Fine base s t (record G.point.row { pointers = pointers_kept G.point.instr slot G.point.row }) → Well moment (Next (goto G.point.instr.target (with_word 7 (refusal_number r) t)))
   refused-goes t slot L r F =
       fine-goes moment (with_word 7 (refusal_number r) t) G.point.instr.target (rows.refused G.point.instr slot G.point.row) L
-      (fine-word base s t (record G.point.row { pointers = pointers_kept G.point.instr slot G.point.row }) 7 (refusal_number r) 15 F (refusal_number-le r))
+      (fine-word base s t (record G.point.row { pointers = pointers_kept G.point.instr slot G.point.row }) 7 (refusal_number r) 15 F (refusal_number-le r) (omega (arith, refusal_number-le r)))
 
   -- a call, from what it does where it is refused and where it is done
   pub calls-well : {A : Type 0} (slot : SlotUse) (next : Row) (row : Call A) (put : A → State → State) (choice : Choice)
@@ -80,14 +80,14 @@ module _ (moment : Moment) where
   -- Calls that change nothing
 
   -- one that tells a number, which a word gets
-  pub telling-well : (slot : SlotUse) → pointers_kept G.point.instr slot G.point.row ≡ G.point.row.pointers → (k most : ℕ) → Leads image s.routine G.routine (s.pc + 1) (with_bound k most G.point.row) (pays G.point.potential)
+  pub telling-well : (slot : SlotUse) → pointers_kept G.point.instr slot G.point.row ≡ G.point.row.pointers → (k most : ℕ) → most ≤ 65535 → Leads image s.routine G.routine (s.pc + 1) (with_bound k most G.point.row) (pays G.point.potential)
       → Leads image s.routine G.routine G.point.instr.target (rows.refused G.point.instr slot G.point.row) (pays G.point.potential)
       → (row : Call ℕ) (choice : Choice) → LeavesAll (row choice s.memory) s.memory → (first_refusal (row choice s.memory).refusals ≡ None → (row choice s.memory).answer ≤ most)
       → Well moment (calls row (with_word k) choice G.point.instr s)
-  telling-well slot keeps k most L B row choice all le =
+  telling-well slot keeps k most small L B row choice all le =
       calls-well slot (with_bound k most G.point.row) row (with_word k) choice L B
       (λ r. rw (keeps, all.1, all.2 r) fine-unchanged)
-      (λ e. rw (all.1, all.0) (fine-word base s _ G.point.row k (row choice s.memory).answer most fine-unchanged (le e)))
+      (λ e. rw (all.1, all.0) (fine-word base s _ G.point.row k (row choice s.memory).answer most fine-unchanged (le e) (omega (arith, small, le e))))
       refl
 
   -- the row where pointer b is set to bytes of the block in slot a
@@ -141,7 +141,7 @@ module _ (moment : Moment) where
   remaking-well full L B row chunks keeps rechunks choice most =
       let F = fine-rechunked full row chunks keeps rechunks choice in
       calls-well Moves (with_bound G.point.instr.b 65535 moved_row) row (with_word G.point.instr.b) choice L B F.0
-      (λ e. fine-word base s _ moved_row G.point.instr.b (row choice s.memory).answer 65535 (F.1 e) (most e))
+      (λ e. fine-word base s _ moved_row G.point.instr.b (row choice s.memory).answer 65535 (F.1 e) (most e) (most e))
       refl
 
   -- bytes are written into a chunk that a pointer leads into

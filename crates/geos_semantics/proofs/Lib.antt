@@ -10,6 +10,8 @@ pub mod NoFaults
 pub mod Apart
 pub mod Fine
 pub mod FineLocks
+pub mod Items
+pub mod NewListed
 pub mod Paid
 pub mod Bounds
 pub mod ChunkAnswers
@@ -20,8 +22,8 @@ pub mod RoutineSteps
 pub mod KernelSteps
 pub mod BlockSteps
 pub mod ChunkSteps
+pub mod ItemSteps
 pub mod PointerSteps
-pub mod WordBounds
 pub mod FileAnswers
 pub mod FileSteps
 pub mod CommitSteps

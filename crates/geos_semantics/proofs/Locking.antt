@@ -101,6 +101,7 @@ module _ (base : Name → ℕ) (s : State) (a : ℕ) (locked : Held) (new : Memo
   sound-locked = record {
     memory = L.legal;
     none = S.none;
+    words = S.words;
     four = length-set s.slots a (Some locked) ∙ S.four;
     slots = each-set (SlotIsSound new) s.slots a (Some locked) (slots-sound s.memory new s.slots (λ k held e. L.held held) S.slots) L.is;
     locks = locks-locked;
@@ -154,6 +155,7 @@ module _ (base : Name → ℕ) (s : State) (a : ℕ) (name : Name) (new : Memory
   sound-unlocked = record {
     memory = U.legal;
     none = S.none;
+    words = S.words;
     four = length-set s.slots a None ∙ S.four;
     slots = each-set (SlotIsSound new) s.slots a None (slots-sound s.memory new s.slots (λ k held e. U.held held) S.slots) tt;
     locks = locks-unlocked;
@@ -192,6 +194,7 @@ module _ (base : Name → ℕ) (s : State) (a : ℕ) (name : Name) (new : Memory
   sound-freed = record {
     memory = legal;
     none = S.none;
+    words = S.words;
     four = S.four;
     slots = slots-sound s.memory new s.slots held-stay S.slots;
     locks = locks-freed;

@@ -1,6 +1,6 @@
 -- What is in memory after blocks were locked, changed, made and freed.
 use Rattle.std.proofs.Common.{◌≡◌, ℕ, zero, suc, ◌%◌, ◌≤◌, Bool, true, false, Option, Some, None, List, [], ◌∷◌, length, get_or, set, refl, sym, ap, ◌∙◌, subst, arith, inl, inr, ◌⊎◌}
-use Rattle.std.specs.Prelude.{◌==◌, ◌&&◌, nat_le, cond, IsSome, is_none, option_map, position, sum_by}
+use Rattle.std.specs.Prelude.{◌==◌, ◌&&◌, nat_le, cond, IsSome, is_none, option_map, position, sum_by, unwrap_or}
 use Rattle.std.proofs.lemmas.Bool.{and_parts, eqb-true, eqb-false, eq-eqb}
 use Rattle.std.proofs.lemmas.List.{get_or-set_same}
 use Rattle.std.proofs.lemmas.List.Quantifiers.{position-Some}
@@ -11,6 +11,7 @@ use Rattle.geos_model.specs.declared.name.Owner.TheVariants.{Mem, Vm}
 use Rattle.geos_model.specs.Names.{mem}
 use Rattle.geos_model.specs.Chunks.{cost, cost_of, entry_of, chunk_of, with_bytes}
 use Rattle.geos_table.specs.Directories.{VmBlock, relisted}
+use Rattle.geos_table.specs.Handles.{lowest_of}
 use Rattle.geos_table.specs.Memory.{Block, Memory, listed_at, owned_block, with_owned_block, block_of, with_block, locks_in, chunks_in, locks_of, chunks_at, lowest_handle, locked_block, rechunked_block, with_locks, with_chunks}
 use Rattle.geos_table.specs.Legal.{IsMemory}
 use Rattle.geos_model.proofs.Costs.{cost-over}
@@ -122,12 +123,16 @@ lowest-free m h b e = go (position is_none m.blocks) refl e
         let is : suc k ≡ h = cc in
         subst (λ n. (block_of m (mem n) ≡ None) × (block_of (with_block m (mem n) b) (mem n) ≡ b)) is (none-is (get_or m.blocks k None) found.1, get_or-set_same m.blocks k b None found.0)
 
-pub lowest-small : (m : Memory) (h : ℕ) → lowest_handle m Mem ≡ Some h → h ≤ length m.blocks
-lowest-small m h e = go (position is_none m.blocks) refl e
+-- it is within the list, or 0
+pub lowest-within : {X : Type 0} (xs : List (Option X)) → unwrap_or (lowest_of xs) 0 ≤ length xs
+lowest-within xs = go (position is_none xs) refl
   where
-    go : (o : Option ℕ) → position is_none m.blocks ≡ o → option_map suc o ≡ Some h → h ≤ length m.blocks
-    go None p e = absurd cc
-    go (Some k) p e = let found = position-Some is_none m.blocks k None p in let is : suc k ≡ h = cc in omega (arith, found.0, is)
+    go : (o : Option ℕ) → position is_none xs ≡ o → unwrap_or (option_map suc o) 0 ≤ length xs
+    go None p = omega arith
+    go (Some k) p = let found = position-Some is_none xs k None p in omega (arith, found.0)
+
+pub lowest-small : (m : Memory) (h : ℕ) → lowest_handle m Mem ≡ Some h → h ≤ length m.blocks
+lowest-small m h e = (let is : unwrap_or (lowest_handle m Mem) 0 ≡ h = ap (λ o. unwrap_or o 0) e in omega (arith, lowest-within m.blocks, is))
 
 -- Chunks
 

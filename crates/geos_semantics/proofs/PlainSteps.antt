@@ -3,6 +3,8 @@ use Rattle.std.proofs.Common.{◌≡◌, ℕ, ◌+◌, ◌%◌, ◌≤◌, Bool,
 use Rattle.std.specs.Prelude.{nat_le, nat_lt, min, bit_and, ◌==◌}
 use Rattle.std.proofs.lemmas.Bool.{ltb-false, cond_both, ltb-true}
 use Rattle.std.proofs.lemmas.List.{set-get_or}
+use Rattle.std.proofs.lemmas.Nat.{and_le_l}
+use Rattle.std.proofs.Math.Nat.{div-le_self}
 use Rattle.geos_model.specs.declared.refusal.Refusal.{Refusal}
 use Rattle.geos_model.specs.declared.refusal.Refusal.TheVariants.{Full}
 use Rattle.geos_model.specs.Refusals.{refusal_number, first_refusal}
@@ -18,6 +20,7 @@ use Rattle.geos_semantics.specs.Model.{Next, answer, branch, most_output}
 use Rattle.geos_semantics.specs.Theorem.{value}
 use Rattle.geos_semantics.proofs.Chains.{kept-set}
 use Rattle.geos_semantics.proofs.Paid.{pays_setting-value, pays_taking-value}
+use Rattle.geos_semantics.proofs.NoFaults.{word-small}
 use Rattle.geos_semantics.proofs.Rows.{word-bound, sum-bound, meets-capped, product-bound, and-bound, shift-bound}
 use Rattle.geos_semantics.proofs.Leads.{Leads}
 use Rattle.geos_semantics.proofs.Fine.{fine-word}
@@ -30,38 +33,40 @@ module _ (moment : Moment) where
   -- Words
 
   -- a word was written, within the bound that is known of it
-  word_written : (v n : ℕ) → Leads image s.routine G.routine (s.pc + 1) (with_bound G.point.instr.a n G.point.row) (pays G.point.potential) → v ≤ n → Well moment (Next (along (with_word G.point.instr.a v s)))
-  word_written v n L le = fine-goes moment (with_word G.point.instr.a v s) (s.pc + 1) (with_bound G.point.instr.a n G.point.row) L (fine-word base s s G.point.row G.point.instr.a v n (fine-here moment) le)
+  word_written : (v n : ℕ) → Leads image s.routine G.routine (s.pc + 1) (with_bound G.point.instr.a n G.point.row) (pays G.point.potential) → v ≤ n → v ≤ 65535 → Well moment (Next (along (with_word G.point.instr.a v s)))
+  word_written v n L le small = fine-goes moment (with_word G.point.instr.a v s) (s.pc + 1) (with_bound G.point.instr.a n G.point.row) L (fine-word base s s G.point.row G.point.instr.a v n (fine-here moment) le small)
 
   pub ldi-well : StepsWell moment op.Ldi
-  ldi-well is choice = word_written G.point.instr.imm G.point.instr.imm (along_edge moment op.Ldi is refl) (omega arith)
+  ldi-well is choice = word_written G.point.instr.imm G.point.instr.imm (along_edge moment op.Ldi is refl) (omega arith) (let below = (fields-here moment op.Ldi is).4 in omega (arith, below))
 
   pub mov-well : StepsWell moment op.Mov
-  mov-well is choice = let i = G.point.instr in word_written (word s i.b) (bound G.point.row i.b) (along_edge moment op.Mov is refl) (word-bound s G.point.row i.b G.meets)
+  mov-well is choice = let i = G.point.instr in word_written (word s i.b) (bound G.point.row i.b) (along_edge moment op.Mov is refl) (word-bound s G.point.row i.b G.meets) (word-small base s i.b G.sound)
 
   pub add-well : StepsWell moment op.Add
   add-well is choice =
       let i = G.point.instr in
       let most = sum-bound (word s i.b) (word s i.c) (bound G.point.row i.b) (bound G.point.row i.c) (word-bound s G.point.row i.b G.meets) (word-bound s G.point.row i.c G.meets) in
-      word_written ((word s i.b + word s i.c) % 65536) (or_any (bound G.point.row i.b + bound G.point.row i.c)) (along_edge moment op.Add is refl) most
+      word_written ((word s i.b + word s i.c) % 65536) (or_any (bound G.point.row i.b + bound G.point.row i.c)) (along_edge moment op.Add is refl) most (omega arith)
 
   pub sub-well : StepsWell moment op.Sub
-  sub-well is choice = let i = G.point.instr in word_written ((word s i.b + 65536 - word s i.c) % 65536) 65535 (along_edge moment op.Sub is refl) (omega arith)
+  sub-well is choice = let i = G.point.instr in word_written ((word s i.b + 65536 - word s i.c) % 65536) 65535 (along_edge moment op.Sub is refl) (omega arith) (omega arith)
 
   pub and-well : StepsWell moment op.And
   and-well is choice =
       let i = G.point.instr in
       word_written (bit_and (word s i.b) i.imm) (min (bound G.point.row i.b) i.imm) (along_edge moment op.And is refl) (and-bound (word s i.b) (bound G.point.row i.b) i.imm (word-bound s G.point.row i.b G.meets))
+      (omega (arith, and_le_l (word s i.b) i.imm, word-small base s i.b G.sound))
 
   pub shr-well : StepsWell moment op.Shr
   shr-well is choice =
       let i = G.point.instr in
       word_written (word s i.b / 2 ^ i.imm) (bound G.point.row i.b / 2 ^ i.imm) (along_edge moment op.Shr is refl) (shift-bound (word s i.b) (bound G.point.row i.b) i.imm (word-bound s G.point.row i.b G.meets))
+      (let less = div-le_self (word s i.b) (2 ^ i.imm) in omega (arith, less, word-small base s i.b G.sound))
 
   pub muli-well : StepsWell moment op.Muli
   muli-well is choice =
       let i = G.point.instr in
-      word_written ((word s i.b * i.imm) % 65536) (or_any (bound G.point.row i.b * i.imm)) (along_edge moment op.Muli is refl) (product-bound (word s i.b) (bound G.point.row i.b) i.imm (word-bound s G.point.row i.b G.meets))
+      word_written ((word s i.b * i.imm) % 65536) (or_any (bound G.point.row i.b * i.imm)) (along_edge moment op.Muli is refl) (product-bound (word s i.b) (bound G.point.row i.b) i.imm (word-bound s G.point.row i.b G.meets)) (omega arith)
 
   -- Branches
 
@@ -109,7 +114,7 @@ module _ (moment : Moment) where
       let own = own_counter opcode is counting in
       let now_owed = now moment in
       let same = kept-set image root s.routine G.frames s.counters k v G.chain own.0 own.1 in
-      came moment (with_counter k v s) to G.point.row paid L (record { none = G.sound.none; memory = G.sound.memory; four = G.sound.four; slots = G.sound.slots; locks = G.sound.locks; pointers = G.sound.pointers })
+      came moment (with_counter k v s) to G.point.row paid L (record { none = G.sound.none; words = G.sound.words; memory = G.sound.memory; four = G.sound.four; slots = G.sound.slots; locks = G.sound.locks; pointers = G.sound.pointers })
       (record { words = G.meets.words; slots = G.meets.slots; pointers = G.meets.pointers; pairs = G.meets.pairs }) refl refl
       (omega (arith, now_owed, same, le))
 
@@ -147,7 +152,7 @@ module _ (moment : Moment) where
       go : (o : Option Refusal) → Well moment (answer G.point.instr o s (record s { output = s.output ++ word s G.point.instr.a ∷ [] }))
       go None =
           fine-goes moment (record s { output = s.output ++ word s G.point.instr.a ∷ [] }) (s.pc + 1) G.point.row (along_edge moment op.Out is refl) (record {
-            sound = record { none = G.sound.none; memory = G.sound.memory; four = G.sound.four; slots = G.sound.slots; locks = G.sound.locks; pointers = G.sound.pointers };
+            sound = record { none = G.sound.none; words = G.sound.words; memory = G.sound.memory; four = G.sound.four; slots = G.sound.slots; locks = G.sound.locks; pointers = G.sound.pointers };
             meets = record { words = G.meets.words; slots = G.meets.slots; pointers = G.meets.pointers; pairs = G.meets.pairs };
             routine = refl;
             stack = refl;
@@ -155,4 +160,4 @@ module _ (moment : Moment) where
           })
       go (Some refusal) =
           fine-goes moment (with_word 7 (refusal_number refusal) s) G.point.instr.target (with_bound 7 15 G.point.row) (branch_edge moment op.Out is refl)
-          (fine-word base s s G.point.row 7 (refusal_number refusal) 15 (fine-here moment) (refusal_number-le refusal))
+          (fine-word base s s G.point.row 7 (refusal_number refusal) 15 (fine-here moment) (refusal_number-le refusal) (omega (arith, refusal_number-le refusal)))

@@ -40,6 +40,10 @@ abbrev most_in : Width → ℕ
 most_in Byte = 255
 most_in Both = 65535
 
+most_in-le : (width : Width) → most_in width ≤ 65535
+most_in-le Byte = omega arith
+most_in-le Both = omega arith
+
 load-leaves : (width : Width) (ref : Reference) (at : ℕ) (choice : Choice) (m : Memory) → LeavesAll (load width ref at choice m) m
 load-leaves Byte ref at choice m = (refl, refl, λ r. refl)
 load-leaves Both ref at choice m = (refl, refl, λ r. refl)
@@ -57,8 +61,8 @@ module _ (moment : Moment) where
   read-well width at choice L = go width L
     where
       go : (width : Width) → Leads image s.routine G.routine (s.pc + 1) (with_bound G.point.instr.a (most_in width) G.point.row) (pays G.point.potential) → Well moment (reads width at choice G.point.instr s)
-      go Byte L = fine-goes moment _ (s.pc + 1) _ L (fine-word base s _ G.point.row G.point.instr.a _ 255 (fine-unchanged moment) (load-most Byte (reference_at s G.point.instr.b) at choice s.memory G.sound.memory))
-      go Both L = fine-goes moment _ (s.pc + 1) _ L (fine-word base s _ G.point.row G.point.instr.a _ 65535 (fine-unchanged moment) (load-most Both (reference_at s G.point.instr.b) at choice s.memory G.sound.memory))
+      go Byte L = fine-goes moment _ (s.pc + 1) _ L (fine-word base s _ G.point.row G.point.instr.a _ 255 (fine-unchanged moment) (load-most Byte (reference_at s G.point.instr.b) at choice s.memory G.sound.memory) (omega (arith, load-most Byte (reference_at s G.point.instr.b) at choice s.memory G.sound.memory)))
+      go Both L = fine-goes moment _ (s.pc + 1) _ L (fine-word base s _ G.point.row G.point.instr.a _ 65535 (fine-unchanged moment) (load-most Both (reference_at s G.point.instr.b) at choice s.memory G.sound.memory) (load-most Both (reference_at s G.point.instr.b) at choice s.memory G.sound.memory))
 
   pub ldb-well : StepsWell moment op.Ldb
   ldb-well is choice = read-well Byte G.point.instr.imm choice (along_edge moment op.Ldb is refl)
@@ -99,7 +103,7 @@ module _ (moment : Moment) where
   tested-read-well width choice L B =
       let ref = reference_at s G.point.instr.b in
       let at = word s G.point.instr.c in
-      telling-well moment NoSlot refl G.point.instr.a (most_in width) L B (within ref at width (load width ref at)) choice (load-leaves width ref at choice s.memory) (λ e. load-most width ref at choice s.memory G.sound.memory)
+      telling-well moment NoSlot refl G.point.instr.a (most_in width) (most_in-le width) L B (within ref at width (load width ref at)) choice (load-leaves width ref at choice s.memory) (λ e. load-most width ref at choice s.memory G.sound.memory)
 
   pub ldcb-well : StepsWell moment op.Ldcb
   ldcb-well is choice = tested-read-well Byte choice (along_edge moment op.Ldcb is refl) (branch_edge moment op.Ldcb is refl)
@@ -129,6 +133,7 @@ module _ (moment : Moment) where
         sound = record {
           memory = G.sound.memory;
           none = G.sound.none;
+          words = G.sound.words;
           four = G.sound.four;
           slots = G.sound.slots;
           locks = G.sound.locks;
@@ -158,4 +163,4 @@ module _ (moment : Moment) where
   plen-well is choice =
       let i = G.point.instr in
       let led = led-at base s i.b G.sound (unfaulted-here moment op.Plen is).fresh in
-      fine-goes moment _ (s.pc + 1) _ (along_edge moment op.Plen is refl) (fine-word base s s G.point.row i.a (reference_at s i.b).len 65535 (fine-here moment) (led-most s.memory (reference_at s i.b) G.sound.memory led))
+      fine-goes moment _ (s.pc + 1) _ (along_edge moment op.Plen is refl) (fine-word base s s G.point.row i.a (reference_at s i.b).len 65535 (fine-here moment) (led-most s.memory (reference_at s i.b) G.sound.memory led) (led-most s.memory (reference_at s i.b) G.sound.memory led))

@@ -49,7 +49,7 @@ kind-there m kind name h = some-there (block_of m name) (kind-some m kind name h
 
 -- The block is there, a group where it was one, and marked where it was
 
-kind-from : (old new : Memory) (kind : Kind) (name : Name) → (is_none (block_of old name) ≡ false → is_none (block_of new name) ≡ false) → is_group new name.h ≡ is_group old name.h
+pub kind-from : (old new : Memory) (kind : Kind) (name : Name) → (is_none (block_of old name) ≡ false → is_none (block_of new name) ≡ false) → is_group new name.h ≡ is_group old name.h
     → IsOfKind old kind name → IsOfKind new kind name
 kind-from old new block.MemBlock name there group h = some-of (block_of old name) (block_of new name) there h
 kind-from old new block.VmBlock name there group h = (some-of (block_of old name) (block_of new name) there h.0, group ∙ h.1)
