@@ -1,5 +1,5 @@
 -- Each step of an instruction that tells of the VM file, maps or frees goes well.
-use Rattle.std.proofs.Common.{◌≡◌, ℕ, ◌+◌, ◌≤◌, None, refl, ap, ◌∙◌, subst, arith}
+use Rattle.std.proofs.Common.{◌≡◌, ℕ, ◌+◌, None, refl, ap, ◌∙◌, subst, arith}
 use Rattle.std.specs.Prelude.{◌==◌, is_none}
 use Rattle.std.proofs.lemmas.Bool.{ltb-false}
 use Rattle.geos_model.specs.declared.name.Owner.{Owner}

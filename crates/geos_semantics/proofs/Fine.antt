@@ -133,26 +133,26 @@ module _ (base : Name → ℕ) (s : State) (row : Row) (S : Sound base s) (M : M
         | inr ne ↦ record { bytes = h.bytes; there = rw (chunks_at-other s.memory ref.name other.name (chunks_written s.memory ref at ws) ne) h.there; fits = h.fits }
       ]
 
-  -- a pointer is set to bytes of a chunk of the block that a slot holds
-  pub fine-pointing : (t : State) (p : ℕ) (target : SlotReference) (least : ℕ) → Fine base s t row → PointerIsSound t.memory t.slots (Some target) → least ≤ target.reference.len
-      → Fine base s (with_pointer p (Some target) t) (record row { pointers = set row.pointers p (Some (record { slot = target.slot; least = least })) })
-  fine-pointing t p target least F sound le = record {
-    sound = record {
-      memory = F.sound.memory;
-      none = F.sound.none;
-      words = F.sound.words;
-      four = F.sound.four;
-      slots = F.sound.slots;
-      locks = F.sound.locks;
-      pointers = each-set (PointerIsSound t.memory t.slots) t.pointers p (Some target) F.sound.pointers sound;
-    };
-    meets = record {
-      words = F.meets.words;
-      slots = F.meets.slots;
-      pointers = each2-set PointerMeets t.pointers row.pointers p (Some target) (Some (record { slot = target.slot; least = least })) F.meets.pointers (refl, le);
-      pairs = F.meets.pairs;
-    };
-    routine = F.routine;
-    stack = F.stack;
-    counters = F.counters;
-  }
+-- a pointer is set to bytes of a chunk of the block that a slot holds
+pub fine-pointing : (base : Name → ℕ) (s t : State) (row : Row) (p : ℕ) (target : SlotReference) (least : ℕ) → Fine base s t row → PointerIsSound t.memory t.slots (Some target) → least ≤ target.reference.len
+    → Fine base s (with_pointer p (Some target) t) (record row { pointers = set row.pointers p (Some (record { slot = target.slot; least = least })) })
+fine-pointing base s t row p target least F sound le = record {
+  sound = record {
+    memory = F.sound.memory;
+    none = F.sound.none;
+    words = F.sound.words;
+    four = F.sound.four;
+    slots = F.sound.slots;
+    locks = F.sound.locks;
+    pointers = each-set (PointerIsSound t.memory t.slots) t.pointers p (Some target) F.sound.pointers sound;
+  };
+  meets = record {
+    words = F.meets.words;
+    slots = F.meets.slots;
+    pointers = each2-set PointerMeets t.pointers row.pointers p (Some target) (Some (record { slot = target.slot; least = least })) F.meets.pointers (refl, le);
+    pairs = F.meets.pairs;
+  };
+  routine = F.routine;
+  stack = F.stack;
+  counters = F.counters;
+}

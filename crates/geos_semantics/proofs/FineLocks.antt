@@ -11,6 +11,7 @@ use Rattle.geos_table.specs.Leaving.{OneBlock, LeavesOthers}
 use Rattle.geos_image.specs.declared.instr.Instr.{Instr}
 use Rattle.geos_image.specs.declared.row.Row.{Row}
 use Rattle.geos_image.specs.declared.row.Pointer.{Pointer}
+use Rattle.geos_image.specs.declared.row.SlotState.{SlotState}
 use Rattle.geos_image.specs.declared.row.SlotState.TheVariants.{Empty}
 use Rattle.geos_opcodes.specs.declared.uses.Kind.{Kind}
 use Rattle.geos_opcodes.specs.declared.uses.Kind.TheVariants.{MemBlock}
@@ -100,9 +101,9 @@ unlocks s name there legal =
     }
 
 module _ (base : Name → ℕ) (s : State) (row : Row) (S : Sound base s) (M : Meets s row) (i : Instr) (within : i.a < 4) where
-  -- a slot that held nothing holds a block, of which no mark is known
-  locked-slots : (locked : Held) (new : Memory) → LocksInto base s locked new → Each2 (SlotMeets new) (set s.slots i.a (Some locked)) (set row.slots i.a (held_state locked.kind false))
-  locked-slots locked new L = each2-set (SlotMeets new) s.slots row.slots i.a (Some locked) (held_state locked.kind false) (slots-left s.memory new s.slots row.slots (λ k held e. L.held held) M.slots) (meets-held new locked)
+  -- a slot that held nothing holds a block, as is known of it
+  locked-slots : (locked : Held) (state : SlotState) (new : Memory) → LocksInto base s locked new → SlotMeets new (Some locked) state → Each2 (SlotMeets new) (set s.slots i.a (Some locked)) (set row.slots i.a state)
+  locked-slots locked state new L known = each2-set (SlotMeets new) s.slots row.slots i.a (Some locked) state (slots-left s.memory new s.slots row.slots (λ k held e. L.held held) M.slots) known
 
   -- a block is locked once more
   pub fine-locked : (locked : Held) (new : Memory) → slot s i.a ≡ None → LocksInto base s locked new
@@ -112,7 +113,7 @@ module _ (base : Name → ℕ) (s : State) (row : Row) (S : Sound base s) (M : M
     sound = sound-locked base s i.a locked new S within empty L;
     meets = record {
       words = M.words;
-      slots = locked-slots locked new L;
+      slots = locked-slots locked (held_state locked.kind false) new L (meets-held new locked);
       pointers = kept-nothing i.a s.pointers row.pointers M.pointers;
       pairs = pairs-without s.slots i.a (Some locked) row.pairs M.pairs;
     };
@@ -130,24 +131,21 @@ module _ (base : Name → ℕ) (s : State) (row : Row) (S : Sound base s) (M : M
       go (Some held) e h = (let same : name_of held ≡ name = cc in none-some (block_of s.memory (name_of held)) (ap (block_of s.memory) same ∙ none) (kind-some s.memory held.kind (name_of held) h))
 
   -- a block is made and locked
-  pub fine-made : (h : ℕ) → slot s i.a ≡ None → lowest_handle s.memory owner.Mem ≡ Some h → IsMemory (with_block s.memory (mem h) (Some new_block))
-      → Fine base s (record s { memory = with_block s.memory (mem h) (Some new_block); slots = set s.slots i.a (Some (held_mem h)); pointers = kept_pointers i.a Nothing s.pointers })
-      (record row { slots = slots_after i (LocksNew MemBlock) row.slots; pairs = pairs_after i (LocksNew MemBlock) row })
-  fine-made h empty lowest legal =
-      let free = lowest-free s.memory h (Some new_block) lowest in
-      let L = makes-into base s h lowest legal in
-      record {
-        sound = sound-locked base s i.a (held_mem h) (with_block s.memory (mem h) (Some new_block)) S within empty L;
-        meets = record {
-          words = M.words;
-          slots = locked-slots (held_mem h) (with_block s.memory (mem h) (Some new_block)) L;
-          pointers = kept-nothing i.a s.pointers row.pointers M.pointers;
-          pairs = pairs-new s.slots i.a (held_mem h) (λ b. holds_kind MemBlock (slot_state row b)) row.pairs empty (not-held-yet (mem h) free.0) M.pairs;
-        };
-        routine = refl;
-        stack = refl;
-        counters = refl;
-      }
+  pub fine-made : (locked : Held) (new : Memory) → slot s i.a ≡ None → block_of s.memory (name_of locked) ≡ None → LocksInto base s locked new → SlotMeets new (Some locked) (held_state locked.kind true)
+      → Fine base s (record s { memory = new; slots = set s.slots i.a (Some locked); pointers = kept_pointers i.a Nothing s.pointers })
+      (record row { slots = slots_after i (LocksNew locked.kind) row.slots; pairs = pairs_after i (LocksNew locked.kind) row })
+  fine-made locked new empty free L known = record {
+    sound = sound-locked base s i.a locked new S within empty L;
+    meets = record {
+      words = M.words;
+      slots = locked-slots locked (held_state locked.kind true) new L known;
+      pointers = kept-nothing i.a s.pointers row.pointers M.pointers;
+      pairs = pairs-new s.slots i.a locked (λ b. holds_kind locked.kind (slot_state row b)) row.pairs empty (not-held-yet (name_of locked) free) M.pairs;
+    };
+    routine = refl;
+    stack = refl;
+    counters = refl;
+  }
 
   unlocked-pointers : (name : Name) → Each2 PointerMeets (kept_pointers i.a (OfLock name) s.pointers) (map (stale_where (λ b. b == i.a)) row.pointers)
   unlocked-pointers name = each2-map (PointerIsSound s.memory s.slots) PointerMeets PointerMeets (kept_pointer i.a (OfLock name)) (stale_where (λ b. b == i.a)) one s.pointers row.pointers S.pointers M.pointers

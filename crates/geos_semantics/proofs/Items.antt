@@ -95,7 +95,8 @@ leaves-items a m g chunks group legal = record {
       record { bytes = h.bytes; there = rw same h.there; fits = h.fits };
 }
 
-group-some : (listed : Option VmBlock) → (uid_in listed == group_uid) ≡ true → IsSome (option_map block_in_file listed)
+-- a group is a block
+pub group-some : (listed : Option VmBlock) → (uid_in listed == group_uid) ≡ true → IsSome (option_map block_in_file listed)
 group-some None h = absurd cc
 group-some (Some l) h = refl
 

@@ -106,7 +106,7 @@ module _ (moment : Moment) where
       let target : SlotReference = record { slot = i.a; reference = (row choice s.memory).answer } in
       calls-well LooksAt pointing_row row (leading i.b i.a) choice L B
       (λ r. rw (all.1, all.2 r) fine-unchanged)
-      (λ e. rw (all.1, all.0) (fine-pointing base s G.point.row G.sound G.meets _ i.b target i.imm fine-unchanged (held ∙ ap Some (sym named), (led e).0) (led e).1))
+      (λ e. rw (all.1, all.0) (fine-pointing base s _ G.point.row i.b target i.imm fine-unchanged (held ∙ ap Some (sym named), (led e).0) (led e).1))
       refl
 
   -- Calls that change chunks of the block in slot a

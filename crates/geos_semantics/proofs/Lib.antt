@@ -25,6 +25,7 @@ pub mod ChunkSteps
 pub mod ItemSteps
 pub mod PointerSteps
 pub mod FileAnswers
+pub mod FileSlots
 pub mod FileSteps
 pub mod CommitSteps
 pub mod Steps
