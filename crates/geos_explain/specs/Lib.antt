@@ -9,6 +9,7 @@ pub mod Ways
 pub mod Stale
 pub mod Steps
 pub mod Unset
+pub mod Written
 pub mod Words
 pub mod Explanation
 pub mod Texts

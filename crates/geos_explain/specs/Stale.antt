@@ -10,7 +10,7 @@ use Rattle.geos_image.specs.Parts.{Parts}
 use Rattle.geos_listing.specs.Instrs.{name_of}
 use Rattle.geos_opcodes.specs.Facts.{word_of, uses_of}
 use Rattle.geos_opcodes.specs.declared.uses.SlotUse.{SlotUse}
-use Rattle.geos_opcodes.specs.declared.uses.SlotUse.TheVariants.{Moves, Unlocks}
+use Rattle.geos_opcodes.specs.declared.uses.SlotUse.TheVariants.{Moves, Unlocks, MovesGroup}
 use Rattle.geos_opcodes.specs.declared.uses.PointerUse.{PointerUse}
 use Rattle.geos_opcodes.specs.declared.uses.PointerUse.TheVariants.{Copies}
 use Rattle.geos_verify.specs.Rows.{pointer_at, is_stale}
@@ -111,6 +111,10 @@ apart_words a b = if a == b then codes ": fetch it again" else two_words a b
 unfoldable pub given_words : ℕ → List ℕ
 given_words p = codes " gave back the block behind p" ++ decimal p ++ codes ": lock it and fetch it again"
 
+-- an instruction on an item moves the items of whatever group it names
+unfoldable pub regrouped_words : ℕ → List ℕ
+regrouped_words p = codes " moves items, and the group behind p" ++ decimal p ++ codes " may be its group: fetch it again"
+
 -- something else
 unfoldable pub left_words : ℕ → List ℕ
 left_words p = codes " leaves p" ++ decimal p ++ codes " stale: fetch it again"
@@ -119,6 +123,7 @@ left_words p = codes " leaves p" ++ decimal p ++ codes " stale: fetch it again"
 abbrev pub use_loss : Instr → SlotUse → ℕ → ℕ → List ℕ
 use_loss i Moves p b = moved_words p ++ apart_words i.a b
 use_loss i (Unlocks kind) p b = given_words p
+use_loss i MovesGroup p b = regrouped_words p
 use_loss i _ p b = left_words p
 
 -- how an instruction lost a pointer on one of its ways

@@ -4,12 +4,13 @@ use Rattle.geos_image.specs.declared.instr.Instr.{Instr}
 use Rattle.geos_image.specs.declared.row.Row.{Row}
 use Rattle.geos_image.specs.declared.row.Pointer.{Pointer}
 use Rattle.geos_image.specs.declared.row.SlotState.{SlotState}
+use Rattle.geos_image.specs.declared.row.SlotState.TheVariants.{Db}
 use Rattle.geos_image.specs.Open.{open_row}
 use Rattle.geos_listing.specs.Rows.{row_items}
 use Rattle.geos_opcodes.specs.declared.uses.Kind.{Kind}
 use Rattle.geos_opcodes.specs.declared.uses.Kind.TheVariants.{MemBlock, VmBlock, DbGroup}
 use Rattle.geos_opcodes.specs.declared.uses.SlotUse.{SlotUse}
-use Rattle.geos_opcodes.specs.declared.uses.SlotUse.TheVariants.{Unlocks, Compares}
+use Rattle.geos_opcodes.specs.declared.uses.SlotUse.TheVariants.{Unlocks, Marks, Compares}
 use Rattle.geos_opcodes.specs.declared.uses.Width.{Width}
 use Rattle.geos_opcodes.specs.declared.uses.Offset.{Offset}
 use Rattle.geos_opcodes.specs.declared.uses.Offset.TheVariants.{Indexed}
@@ -97,9 +98,22 @@ changed_slot i (Stores width offset) row = slot_behind row i.b
 changed_slot i Copies row = slot_behind row i.a
 changed_slot i _ row = i.a
 
+-- the instruction that marks the block of a slot
+abbrev pub mark_word : SlotState → List ℕ
+mark_word (Db marked) = codes "IDIRTY"
+mark_word _ = codes "VDIRTY"
+
+-- that instruction marks it
+unfoldable pub mark_words : ℕ → SlotState → List ℕ
+mark_words a state = codes ": " ++ mark_word state ++ codes " s" ++ decimal a ++ codes " marks it"
+
+-- the block of a slot is changed, and may not be marked
+unfoldable pub unmarked_slot : ℕ → Row → List ℕ
+unmarked_slot a row = state_item a row ++ codes " is changed here, and may not be marked yet" ++ mark_words a (slot_state row a)
+
 -- a block is changed that may not be marked
 unfoldable pub unmarked_words : Instr → PointerUse → Row → List ℕ
-unmarked_words i pointer row = state_item (changed_slot i pointer row) row ++ codes " is changed here, and may not be marked yet"
+unmarked_words i pointer row = unmarked_slot (changed_slot i pointer row) row
 
 -- a block is locked into a slot that is held
 unfoldable pub held_words : Instr → Row → List ℕ
@@ -114,6 +128,7 @@ kind_wish DbGroup = codes " is known here, and db or db! is wanted"
 -- what an instruction wants of its slot, or of two
 unfoldable pub slot_wish : SlotUse → List ℕ
 slot_wish (Unlocks kind) = kind_wish kind
+slot_wish (Marks kind) = kind_wish kind
 slot_wish Compares = codes " are known here, and two held slots of one kind are wanted"
 slot_wish _ = codes " is known here, and a held slot is wanted"
 

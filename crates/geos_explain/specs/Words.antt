@@ -8,7 +8,7 @@ use Rattle.geos_image.specs.declared.routine.Routine.{Routine}
 use Rattle.geos_image.specs.Parts.{Parts, start_of}
 use Rattle.geos_listing.specs.Instrs.{name_of}
 use Rattle.geos_verify.specs.declared.rule.Rule.{Rule}
-use Rattle.geos_verify.specs.declared.rule.Rule.TheVariants.{LeavesRoutine, NamesEmptySlot, EntryMisfit, StalePointer, PassesEnd, ChangesUnmarked, LocksIntoHeld, WrongSlot, CallMisfit, ExitMisfit, EdgeMisfit, EdgeUnpaid, OverBudget}
+use Rattle.geos_verify.specs.declared.rule.Rule.TheVariants.{LeavesRoutine, NamesEmptySlot, EntryMisfit, StalePointer, PassesEnd, ChangesUnmarked, LocksIntoHeld, WrongSlot, CommitsHeld, CallMisfit, ExitMisfit, EdgeMisfit, EdgeUnpaid, OverBudget}
 use Rattle.geos_opcodes.specs.Facts.{uses_of}
 use Rattle.geos_verify.specs.Rows.{falls_through, branches, after}
 use Rattle.geos_verify.specs.Rules.{has_place}
@@ -16,6 +16,7 @@ use Rattle.geos_explain.specs.Places.{Place}
 use Rattle.geos_explain.specs.Unset.{over_words}
 use Rattle.geos_explain.specs.Lacks.{lacking_items}
 use Rattle.geos_explain.specs.Held.{exit_words}
+use Rattle.geos_explain.specs.Written.{written_words}
 use Rattle.geos_explain.specs.Uses.{nowhere_words, past_words, unmarked_words, held_words, slot_words}
 use Rattle.geos_explain.specs.Stale.{stale_words}
 use Rattle.geos_explain.specs.Steps.{unpaid_words}
@@ -96,6 +97,7 @@ words place PassesEnd = past_here place.i place.row
 words place ChangesUnmarked = unmarked_here place.i place.row
 words place LocksIntoHeld = held_words place.i place.row
 words place WrongSlot = slot_here place.i place.row
+words place CommitsHeld = written_words place
 words place CallMisfit = call_here place
 words place ExitMisfit = exit_words place
 words place EdgeMisfit = edge_words place
@@ -112,6 +114,7 @@ refusal_head PassesEnd = codes "; refused by V5:"
 refusal_head ChangesUnmarked = codes "; refused by V6:"
 refusal_head LocksIntoHeld = codes "; refused by V7:"
 refusal_head WrongSlot = codes "; refused by V8:"
+refusal_head CommitsHeld = codes "; refused by V9:"
 refusal_head CallMisfit = codes "; refused by V10:"
 refusal_head ExitMisfit = codes "; refused by V11:"
 refusal_head EdgeMisfit = codes "; refused by V12:"

@@ -103,7 +103,7 @@ fn also(since: Since, from: u16, here: bool) -> Since
 
 /// Where in the routine the slot becomes held.
 #[tactic(auto, unfolding(crate::specs::Held::since_below))]
-fn held_since(place: &Place, a: u8) -> Since
+pub(crate) fn held_since(place: &Place, a: u8) -> Since
     requires { IsPlace (place_of place.now) }
     ensures { result ≡ since_below (place_of place.now) a (length place.now.image.now.points) }
 {
@@ -124,7 +124,12 @@ fn put_since_head(out: &mut Vec<u8>, a: u8) -> Result<(), AllocError>
 }
 
 /// Since where the slot is held; nothing where it becomes so in several places.
-fn put_since_text(out: &mut Vec<u8>, lines: &[usize], a: u8, s: Since) -> Result<(), AllocError>
+pub(crate) fn put_since_text(
+    out: &mut Vec<u8>,
+    lines: &[usize],
+    a: u8,
+    s: Since,
+) -> Result<(), AllocError>
     ensures { OnOk result (out.new.items ≡ out.old.items ++ since_text lines.now a s) }
 {
     match s {

@@ -18,6 +18,7 @@ mod unset;
 mod uses;
 mod ways;
 mod words;
+mod written;
 
 pub use explanation::explain;
 pub use numbers::{put_numbered, put_pc};

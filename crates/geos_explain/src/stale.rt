@@ -2,7 +2,7 @@
 
 ghost use Rattle.std.specs.Prelude.{◌≡◌, ◌++◌, OnOk, decimal};
 ghost use Rattle.geos_explain.specs.Places.{IsPlace, place_of};
-ghost use Rattle.geos_explain.specs.Stale.{if_stale, stale_used, pointer_item, way_text, meeting_place, meeting_words, meeting_item, named, name_at, unsaid_words, call_loss, refused_loss, one_block_words, sne_words, known_from, not_from, merged_behind, unreached_at, moved_words, two_words, apart_words, given_words, left_words, use_loss, how_lost, lost_point, lost_by, lost_words, in_wish, unset_words, unreached_words, merged_words, end_words, trace_words, trace_item, stale_words};
+ghost use Rattle.geos_explain.specs.Stale.{if_stale, stale_used, pointer_item, way_text, meeting_place, meeting_words, meeting_item, named, name_at, unsaid_words, call_loss, refused_loss, one_block_words, sne_words, known_from, not_from, merged_behind, unreached_at, moved_words, two_words, apart_words, given_words, regrouped_words, left_words, use_loss, how_lost, lost_point, lost_by, lost_words, in_wish, unset_words, unreached_words, merged_words, end_words, trace_words, trace_item, stale_words};
 
 use crate::numbers::{put_about, put_both, put_numbered, put_pc};
 use crate::place::Place;
@@ -247,6 +247,19 @@ fn put_given(out: &mut Vec<u8>, p: u8) -> Result<(), AllocError>
     )
 }
 
+/// An instruction on an item moves the items of whatever group it names.
+#[tactic(auto, unfolding(crate::specs::Stale::regrouped_words))]
+fn put_regrouped(out: &mut Vec<u8>, p: u8) -> Result<(), AllocError>
+    ensures { OnOk result (out.new.items ≡ out.old.items ++ regrouped_words p) }
+{
+    put_about(
+        out,
+        " moves items, and the group behind p",
+        p,
+        " may be its group: fetch it again",
+    )
+}
+
 /// Something else.
 #[tactic(auto, unfolding(crate::specs::Stale::left_words))]
 fn put_left_stale(out: &mut Vec<u8>, p: u8) -> Result<(), AllocError>
@@ -265,6 +278,7 @@ fn put_use_loss(out: &mut Vec<u8>, i: &Instr, slot: SlotUse, p: u8, b: u8) -> Re
             put_apart(out, i.a, b)
         }
         SlotUse::Unlocks(_) => put_given(out, p),
+        SlotUse::MovesGroup => put_regrouped(out, p),
         _ => put_left_stale(out, p),
     }
 }

@@ -2,7 +2,7 @@
 
 ghost use Rattle.std.specs.Prelude.{◌≡◌, ◌<◌, ◌++◌, OnOk, map};
 ghost use Rattle.geos_verify.specs.Uses.{bytes_in, OffsetFits, PointerFits};
-ghost use Rattle.geos_explain.specs.Uses.{state_item, nowhere_only, leading_nowhere, nowhere_words, wanted_bytes, short_words, is_any, index_unknown, index_most, index_known, index_wanted, known_bytes, index_words, reach_words, past_words, slot_behind, changed_slot, unmarked_words, held_words, kind_wish, slot_wish, other_item, slot_words};
+ghost use Rattle.geos_explain.specs.Uses.{state_item, nowhere_only, leading_nowhere, nowhere_words, wanted_bytes, short_words, is_any, index_unknown, index_most, index_known, index_wanted, known_bytes, index_words, reach_words, past_words, slot_behind, changed_slot, mark_word, mark_words, unmarked_slot, unmarked_words, held_words, kind_wish, slot_wish, other_item, slot_words};
 
 use crate::numbers::{put_about, put_bytes, put_numbered};
 use geos_image::{Instr, Pointer, Row, SlotState};
@@ -222,6 +222,37 @@ fn changed_slot(i: &Instr, pointer: PointerUse, row: &Row) -> u8
     }
 }
 
+/// The instruction that marks the block of a slot.
+fn mark_word(state: SlotState) -> &'static str
+    ensures { result.now ≡ mark_word state }
+{
+    match state {
+        SlotState::Db { .. } => "IDIRTY",
+        _ => "VDIRTY",
+    }
+}
+
+/// That instruction marks it.
+#[tactic(auto, unfolding(crate::specs::Uses::mark_words))]
+fn put_mark(out: &mut Vec<u8>, a: u8, state: SlotState) -> Result<(), AllocError>
+    ensures { OnOk result (out.new.items ≡ out.old.items ++ mark_words a state) }
+{
+    out.extend_from_slice(b": ")?;
+    out.extend_from_slice(mark_word(state).as_bytes())?;
+    put_numbered(out, " s", u64::from(a))?;
+    out.extend_from_slice(b" marks it")
+}
+
+/// The block of the slot is changed, and may not be marked.
+#[tactic(auto, unfolding(crate::specs::Uses::unmarked_slot))]
+fn put_unmarked_slot(out: &mut Vec<u8>, a: u8, row: &Row) -> Result<(), AllocError>
+    ensures { OnOk result (out.new.items ≡ out.old.items ++ unmarked_slot a row.now) }
+{
+    put_state(out, a, row)?;
+    out.extend_from_slice(b" is changed here, and may not be marked yet")?;
+    put_mark(out, a, slot_state(row, a))
+}
+
 /// A block is changed that may not be marked.
 #[tactic(auto, unfolding(crate::specs::Uses::unmarked_words))]
 pub(crate) fn put_unmarked(
@@ -232,8 +263,7 @@ pub(crate) fn put_unmarked(
 ) -> Result<(), AllocError>
     ensures { OnOk result (out.new.items ≡ out.old.items ++ unmarked_words i.now pointer row.now) }
 {
-    put_state(out, changed_slot(i, pointer, row), row)?;
-    out.extend_from_slice(b" is changed here, and may not be marked yet")
+    put_unmarked_slot(out, changed_slot(i, pointer, row), row)
 }
 
 /// A block is locked into a slot that is held.
@@ -262,7 +292,7 @@ fn slot_wish(slot: SlotUse) -> &'static str
     ensures { result.now ≡ slot_wish slot }
 {
     match slot {
-        SlotUse::Unlocks(kind) => kind_wish(kind),
+        SlotUse::Unlocks(kind) | SlotUse::Marks(kind) => kind_wish(kind),
         SlotUse::Compares => " are known here, and two held slots of one kind are wanted",
         _ => " is known here, and a held slot is wanted",
     }

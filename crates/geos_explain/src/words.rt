@@ -13,6 +13,7 @@ use crate::stale::put_stale;
 use crate::steps::put_unpaid;
 use crate::unset::put_over;
 use crate::uses::{put_held, put_nowhere, put_past, put_slot, put_unmarked};
+use crate::written::put_written;
 use geos_image::{Image, Instr, Opcode, Routine, Row};
 use geos_verify::{Rule, after, branches, falls_through, has_place, uses_at};
 use std::alloc::{AllocError, Global};
@@ -197,6 +198,7 @@ fn put_words(alloc: Global, out: &mut Vec<u8>, place: &Place, rule: Rule) -> Res
         Rule::ChangesUnmarked => put_unmarked_here(out, i, row),
         Rule::LocksIntoHeld => put_held(out, i, row),
         Rule::WrongSlot => put_slot_here(out, i, row),
+        Rule::CommitsHeld => put_written(out, place),
         Rule::CallMisfit => put_call(out, place),
         Rule::ExitMisfit => put_exit(alloc, out, place),
         Rule::EdgeMisfit => put_edge(alloc, out, place),
@@ -218,6 +220,7 @@ fn refusal_head(rule: Rule) -> &'static str
         Rule::ChangesUnmarked => "; refused by V6:",
         Rule::LocksIntoHeld => "; refused by V7:",
         Rule::WrongSlot => "; refused by V8:",
+        Rule::CommitsHeld => "; refused by V9:",
         Rule::CallMisfit => "; refused by V10:",
         Rule::ExitMisfit => "; refused by V11:",
         Rule::EdgeMisfit => "; refused by V12:",

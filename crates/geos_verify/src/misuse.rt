@@ -156,7 +156,7 @@ pub(crate) fn wrong_slot(i: &Instr, slot: SlotUse, row: &Row) -> bool
 }
 
 /// Whether the slot holds a block of the VM file.
-fn is_of_file(state: SlotState) -> bool
+pub fn is_of_file(state: SlotState) -> bool
     ensures { result ≡ is_of_file state }
 {
     match state {
