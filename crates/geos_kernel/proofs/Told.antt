@@ -13,12 +13,16 @@ use Rattle.vm_blocks.proofs.Tables.{handle-or, table-past}
 use Rattle.heap_calls.proofs.Named.{locks-known}
 
 module _ {D : Type 0} (image : D → List ℕ) (honest : D → Type 0) (v : VmState D) (s : Store) (m : Memory) (tied : IsTied image honest v s) (is : IsMemoryOf image honest v s m) where
-  -- no block of the file is locked
-  pub none-told : (b : Bool) → IsTrue b ↔ NoneLocked s → IsTrue b ↔ ((h : ℕ) → locks_of m (vm h) ≡ 0)
-  none-told b same = (
-    λ t h. elim (handle-or {X = ℕ} 0 h) [
-      | inl p ↦ locks-known image honest v s tied m is (vm h) ∙ same.0 t h p
+  -- no block of the file is locked where the model has none locked
+  pub none-known : NoneLocked s ↔ ((h : ℕ) → locks_of m (vm h) ≡ 0)
+  none-known = (
+    λ none h. elim (handle-or {X = ℕ} 0 h) [
+      | inl p ↦ locks-known image honest v s tied m is (vm h) ∙ none h p
       | inr past ↦ ap (λ l. locks_in (option_map (λ (x : VmBlock). x.block) l)) (table-past None m.file.cur.blocks h is.file.cur.handles past)
     ],
-    λ none. same.1 (λ h p. sym (locks-known image honest v s tied m is (vm h)) ∙ none h),
+    λ none h p. sym (locks-known image honest v s tied m is (vm h)) ∙ none h,
   )
+
+  -- and so where this is told
+  pub none-told : (b : Bool) → IsTrue b ↔ NoneLocked s → IsTrue b ↔ ((h : ℕ) → locks_of m (vm h) ≡ 0)
+  none-told b same = (λ t. none-known.0 (same.0 t), λ none. same.1 (none-known.1 none))

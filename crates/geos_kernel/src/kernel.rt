@@ -130,10 +130,13 @@ impl<D: Device + Drop> Kernel<D> {
 
     /// What holds of the kernel's memory at all times: there is a VM file that the model may know
     /// beside it; sizes of blocks are legal and have room for their chunks, chunks are lists of
-    /// bytes, and no block is locked more often than it can be.
+    /// bytes, and no block is locked more often than it can be; and no block of the VM file is
+    /// locked exactly where the model has none locked.
     pub fn memory_is_legal(&self)
         ensures file { (f : model_file.VmFile) × IsFileOf (D.honest self.now.device) self.now.core f }
         ensures legal { (f : model_file.VmFile) → IsFileOf (D.honest self.now.device) self.now.core f → IsMemory (memory_of self.now.core f) }
+        ensures unlocked { (f : model_file.VmFile) → IsFileOf (D.honest self.now.device) self.now.core f
+            → NoneLocked self.now.core.blocks ↔ ((h : ℕ) → model.locks_of (memory_of self.now.core f) (vm h) ≡ 0) }
     {
         let _region = self.blocks.region();
     }

@@ -1,9 +1,14 @@
-use Rattle.std.proofs.Common.{subst}
+use Rattle.std.proofs.Common.{◌≡◌, ℕ, subst}
+use Rattle.std.specs.Prelude.{◌↔◌}
+use Rattle.geos_model.specs.Names.{vm}
+use Rattle.geos_table.specs.Memory.{locks_of}
 use Rattle.geos_table.specs.Legal.{IsMemory}
 use Rattle.geos_table.specs.VmFile.{VmFile}
+use Rattle.vm_blocks.specs.Listed.{NoneLocked}
 use Rattle.geos_kernel.specs.View.{IsFileOf, core_of, memory_of}
 use Rattle.geos_kernel.proofs.Lawful.{memory-legal}
 use Rattle.geos_kernel.proofs.Seen.{file-seen, memory-known}
+use Rattle.geos_kernel.proofs.Told.{none-known}
 use Rattle.geos_kernel.proofs.kernel.Kernel.memory_is_legal.Goals as goal
 
 pub returns-clause-file : goal.returns-clause-file
@@ -19,3 +24,11 @@ returns-clause-legal g c =
     subst (λ k. (f : VmFile) → IsFileOf (g.D.Device.honest k.device) k.core f → IsMemory (memory_of k.core f)) c.self.view_is
     (λ f tied. memory-legal g.D.Device.image g.D.Device.honest v blocks region.result.now c.self.invariant region.ensures.region region.ensures.bytes
     (memory_of (core_of g.D.Device.image g.D.Device.failed v blocks) f) (memory-known g.D.Device.image g.D.Device.honest g.D.Device.failed v blocks f tied))
+
+pub returns-clause-unlocked : goal.returns-clause-unlocked
+returns-clause-unlocked g c =
+    let v = c.self.inside.vm in
+    let blocks = c.self.inside.blocks in
+    subst (λ k. (f : VmFile) → IsFileOf (g.D.Device.honest k.device) k.core f → NoneLocked k.core.blocks ↔ ((h : ℕ) → locks_of (memory_of k.core f) (vm h) ≡ 0)) c.self.view_is
+    (λ f tied. none-known g.D.Device.image g.D.Device.honest v blocks (memory_of (core_of g.D.Device.image g.D.Device.failed v blocks) f) c.self.invariant.tied
+    (memory-known g.D.Device.image g.D.Device.honest g.D.Device.failed v blocks f tied))
