@@ -112,6 +112,7 @@ accepts o found same r routine start pc i row wanted steps potential le accepted
       marked = all.marked;
       unheld = all.unheld;
       held = all.held;
+      freed = all.freed;
       call = all.call;
       exit = all.exit;
     } in
@@ -119,7 +120,7 @@ accepts o found same r routine start pc i row wanted steps potential le accepted
     let call = sym (same-call found o same r i row) ∙ here.call in
     all-pass (tests found r routine start pc (record { instr = i; row = row; potential = potential_of steps })) (
       all.stays,
-      (B.clean, (entry all.entry, (here.fresh, (here.within, (here.marked, (here.unheld, (here.held, (call, (here.exit, (edges, (paid, (budget all.budget, tt)))))))))))),
+      (B.clean, (entry all.entry, (here.fresh, (here.within, (here.marked, (here.unheld, (here.held, (here.freed, (call, (here.exit, (edges, (paid, (budget all.budget, tt))))))))))))),
     )
   where
     entry : entry_misfits routine start pc wanted ≡ false → entry_misfits routine start pc row ≡ false

@@ -7,7 +7,7 @@ use Rattle.std.proofs.lemmas.Nat.{le-div, pow_pos}
 use Rattle.geos_opcodes.specs.declared.opcode.Opcode.{Opcode}
 use Rattle.geos_opcodes.specs.declared.opcode.Opcode.TheVariants.{Ldi, Mov, Add, Sub, And, Shr, Muli, Chk, Call}
 use Rattle.geos_opcodes.specs.declared.facts.Yields.{Yields}
-use Rattle.geos_opcodes.specs.declared.facts.Yields.TheVariants.{Nothing, Computed, ByteInA, WordInA, WordInB}
+use Rattle.geos_opcodes.specs.declared.facts.Yields.TheVariants.{Nothing, Computed, ByteInA, WordInA, WordInB, WordInAAndB}
 use Rattle.geos_image.specs.declared.instr.Instr.{Instr}
 use Rattle.geos_image.specs.declared.row.Row.{Row}
 use Rattle.geos_image.specs.declared.row.Pointer.{Pointer}
@@ -17,14 +17,15 @@ use Rattle.geos_image.specs.declared.routine.Routine.{Routine}
 use Rattle.geos_opcodes.specs.Facts.{facts, operands_of, uses_of}
 use Rattle.geos_image.specs.Parts.{Parts}
 use Rattle.geos_opcodes.specs.declared.uses.Kind.{Kind}
+use Rattle.geos_opcodes.specs.declared.uses.Kind.TheVariants.{DbGroup}
 use Rattle.geos_opcodes.specs.declared.uses.SlotUse.{SlotUse}
-use Rattle.geos_opcodes.specs.declared.uses.SlotUse.TheVariants.{LocksNew, Locks, Unlocks, Compares, Moves}
+use Rattle.geos_opcodes.specs.declared.uses.SlotUse.TheVariants.{LocksNew, Locks, Unlocks, Marks, Compares, Moves, MovesGroup}
 use Rattle.geos_opcodes.specs.declared.uses.PointerUse.{PointerUse}
 use Rattle.geos_opcodes.specs.declared.uses.PointerUse.TheVariants.{Sets, Duplicates}
 use Rattle.geos_opcodes.specs.declared.uses.Uses.{Uses}
 use Rattle.geos_verify.specs.Lists.{all2}
 use Rattle.geos_verify.specs.Pairs.{slot_pairs, is_pair, has_slot, each_pair, without_slot, has_pair, are_apart}
-use Rattle.geos_verify.specs.Rows.{bound, with_bound, or_any, computed, with_result, bounded, slot_state, kind_in, are_alike, holds_kind, held_state, slots_after, pairs_after, pointer_at, may_be_same, stale_where, pointers_kept, with_pointer, used, refused, exit_row, row_along, row_branching, slot_fits, pointer_fits, pair_fits, fits}
+use Rattle.geos_verify.specs.Rows.{bound, with_bound, or_any, computed, with_result, bounded, slot_state, kind_in, are_alike, holds_kind, held_state, marked_state, slots_after, pairs_after, pointer_at, may_be_same, stale_where, pointers_kept, with_pointer, used, refused, exit_row, row_along, row_branching, slot_fits, pointer_fits, pair_fits, fits}
 use Rattle.geos_verify.specs.Touched.{calls}
 use Rattle.geos_verify.proofs.Along.{row_along-used}
 use Rattle.geos_infer.proofs.Pairwise.{both, all2-set, all2-get}
@@ -80,6 +81,7 @@ module _ (i : Instr) (r s : Row) (h : fits r s ≡ true) where
   result-mono opcode ByteInA = fixed i.a 255
   result-mono opcode WordInA = fixed i.a 65535
   result-mono opcode WordInB = fixed i.b 65535
+  result-mono opcode WordInAAndB = with_bound-mono (with_bound i.a 65535 r) (with_bound i.a 65535 s) i.b 65535 65535 (fixed i.a 65535) (omega arith)
 
   bounded-mono : (opcode : Opcode) → fits (bounded i opcode r) (bounded i opcode s) ≡ true
   bounded-mono opcode = result-mono opcode (facts opcode).yields
@@ -105,10 +107,21 @@ same-alike r s a b h = rw (same-kind r s a h, same-kind r s b h) refl
 pub same-holds : (r s : Row) (kind : Kind) (a : ℕ) → fits r s ≡ true → holds_kind kind (slot_state r a) ≡ holds_kind kind (slot_state s a)
 same-holds r s kind a h = rw (same-kind r s a h) refl
 
+marked-mono : (x y : SlotState) → slot_fits x y ≡ true → slot_fits (marked_state x) (marked_state y) ≡ true
+marked-mono Empty Empty h = refl
+marked-mono Mem Mem h = refl
+marked-mono (Vm a) (Vm b) h = refl
+marked-mono (Db a) (Db b) h = refl
+marked-mono _ _ h = absurd cc
+
 slots_after-mono : (i : Instr) (slot : SlotUse) (xs ys : List SlotState) → all2 slot_fits xs ys ≡ true → all2 slot_fits (slots_after i slot xs) (slots_after i slot ys) ≡ true
 slots_after-mono i (LocksNew kind) xs ys h = all2-set slot_fits xs ys i.a (held_state kind true) (held_state kind true) h (slot-refl (held_state kind true))
 slots_after-mono i (Locks kind) xs ys h = all2-set slot_fits xs ys i.a (held_state kind false) (held_state kind false) h (slot-refl (held_state kind false))
 slots_after-mono i (Unlocks kind) xs ys h = all2-set slot_fits xs ys i.a Empty Empty h refl
+slots_after-mono i (Marks kind) xs ys h =
+    let x = get_or xs i.a Empty in
+    let y = get_or ys i.a Empty in
+    all2-set slot_fits xs ys i.a (marked_state x) (marked_state y) h (marked-mono x y (all2-get slot_fits xs ys i.a Empty refl h))
 slots_after-mono i _ xs ys h = h
 
 -- Pairs
@@ -224,6 +237,8 @@ module _ (lost gone : ℕ → Bool) (fewer : (b : ℕ) → gone b ≡ false → 
 pointers_kept-mono : (i : Instr) (slot : SlotUse) (r s : Row) → fits r s ≡ true → all2 pointer_fits (pointers_kept i slot r) (pointers_kept i slot s) ≡ true
 pointers_kept-mono i Moves r s h = all-stale_where (may_be_same r i.a) (may_be_same s i.a) (λ b e. same-fewer r s i.a b h e) r.pointers s.pointers ((fitting r s h).pointers)
 pointers_kept-mono i (Unlocks kind) r s h = all-stale_where (λ b. b == i.a) (λ b. b == i.a) (λ b e. e) r.pointers s.pointers ((fitting r s h).pointers)
+pointers_kept-mono i MovesGroup r s h =
+    all-stale_where (λ b. holds_kind DbGroup (slot_state r b)) (λ b. holds_kind DbGroup (slot_state s b)) (λ b e. same-holds r s DbGroup b h ∙ e) r.pointers s.pointers ((fitting r s h).pointers)
 pointers_kept-mono i _ r s h = (fitting r s h).pointers
 
 with_pointer-mono : (i : Instr) (pointer : PointerUse) (ps qs : List (Option Pointer)) → all2 pointer_fits ps qs ≡ true → all2 pointer_fits (with_pointer i pointer ps) (with_pointer i pointer qs) ≡ true

@@ -1,6 +1,7 @@
 -- What the rules allow with a row, they allow with each row that fits it.
-use Rattle.std.proofs.Common.{◌≡◌, ℕ, ◌≤◌, Bool, true, false, not, Option, Some, None, slice_get, refl, sym, ap, ◌∙◌, arith}
+use Rattle.std.proofs.Common.{◌≡◌, ℕ, ◌≤◌, Bool, true, false, not, Option, Some, None, List, [], ◌∷◌, slice_get, refl, sym, ap, ◌∙◌, arith}
 use Rattle.std.specs.Prelude.{◌&&◌, ◌||◌, ◌==◌, nat_le, nat_lt}
+use Rattle.std.specs.List.{list_any}
 use Rattle.std.proofs.lemmas.Bool.{and_parts, or_parts, leb-true, ltb-false, le-ltb, eqb-true, not-false}
 use Rattle.geos_image.specs.declared.instr.Instr.{Instr}
 use Rattle.geos_image.specs.declared.row.Row.{Row}
@@ -13,14 +14,15 @@ use Rattle.geos_opcodes.specs.declared.uses.Width.{Width}
 use Rattle.geos_opcodes.specs.declared.uses.Offset.{Offset}
 use Rattle.geos_opcodes.specs.declared.uses.Offset.TheVariants.{Fixed, Indexed, Tested}
 use Rattle.geos_opcodes.specs.declared.uses.SlotUse.{SlotUse}
-use Rattle.geos_opcodes.specs.declared.uses.SlotUse.TheVariants.{LocksNew, Locks, Unlocks, Compares, Moves, LooksAt}
+use Rattle.geos_opcodes.specs.declared.uses.SlotUse.TheVariants.{LocksNew, Locks, Unlocks, Marks, Compares, Moves, LooksAt, Commits}
 use Rattle.geos_opcodes.specs.declared.uses.PointerUse.{PointerUse}
 use Rattle.geos_opcodes.specs.declared.uses.PointerUse.TheVariants.{Loads, Stores, Copies, Duplicates, Measures}
 use Rattle.geos_opcodes.specs.Facts.{uses_of}
 use Rattle.geos_verify.specs.Rows.{slot_state, pointer_at, mark_fits, slot_fits, pointer_fits, fits, is_empty, is_stale}
+use Rattle.geos_verify.specs.Lists.{all2}
 use Rattle.geos_verify.specs.Touched.{calls}
-use Rattle.geos_verify.specs.Rules.{returns, uses_stale, stale_pointer, reach, least_at, reaches_past, passes_end, is_unmarked, pointed_state, writes_unmarked, moves_unmarked, changes_unmarked, locks_held, locks_into_held, misuses_slot, wrong_slot, at_routine, call_misfits, exit_misfits}
-use Rattle.geos_infer.proofs.Fits.{fits-trans}
+use Rattle.geos_verify.specs.Rules.{returns, uses_stale, stale_pointer, reach, least_at, reaches_past, passes_end, is_unmarked, pointed_state, writes_unmarked, moves_unmarked, changes_unmarked, locks_held, locks_into_held, misuses_slot, wrong_slot, is_of_file, commits_held, commits_with_held, at_routine, call_misfits, exit_misfits}
+use Rattle.geos_infer.proofs.Fits.{fitting, fits-trans}
 use Rattle.geos_infer.proofs.Cleaning.{slot-empty}
 use Rattle.geos_infer.proofs.After.{bound-mono, slot-mono, pointer-mono, same-alike, same-holds}
 
@@ -65,6 +67,20 @@ unmarked-mono Mem y h e = refl
 unmarked-mono (Vm a) (Vm b) h e = mark-mono a b h e
 unmarked-mono (Db a) (Db b) h e = mark-mono a b h e
 unmarked-mono _ _ h e = absurd cc
+
+of_file-same : (x y : SlotState) → slot_fits x y ≡ true → is_of_file x ≡ is_of_file y
+of_file-same Empty Empty h = refl
+of_file-same Mem Mem h = refl
+of_file-same (Vm a) (Vm b) h = refl
+of_file-same (Db a) (Db b) h = refl
+of_file-same _ _ h = absurd cc
+
+-- slots hold blocks of the VM file in both rows, or in neither
+file-same : (xs ys : List SlotState) → all2 slot_fits xs ys ≡ true → list_any is_of_file xs ≡ list_any is_of_file ys
+file-same [] [] h = refl
+file-same [] (y ∷ ys) h = absurd cc
+file-same (x ∷ xs) [] h = absurd cc
+file-same (x ∷ xs) (y ∷ ys) h = (let p = and_parts (slot_fits x y) (all2 slot_fits xs ys) h in rw (of_file-same x y p.0, file-same xs ys p.1) refl)
 
 module _ (i : Instr) (r s : Row) (h : fits r s ≡ true) where
   fresh : (p : ℕ) → is_stale (pointer_at s p) ≡ false → is_stale (pointer_at r p) ≡ false
@@ -137,10 +153,15 @@ module _ (i : Instr) (r s : Row) (h : fits r s ≡ true) where
 
   misuses-same : (slot : SlotUse) → misuses_slot i slot r ≡ misuses_slot i slot s
   misuses-same (Unlocks kind) = rw (same-holds r s kind i.a h) refl
+  misuses-same (Marks kind) = rw (same-holds r s kind i.a h) refl
   misuses-same Compares = rw (same-empty i.a, same-alike r s i.a i.b h) refl
   misuses-same Moves = same-empty i.a
   misuses-same LooksAt = same-empty i.a
   misuses-same _ = refl
+
+  commits-same : (slot : SlotUse) → commits_held slot r ≡ commits_held slot s
+  commits-same Commits = file-same r.slots s.slots ((fitting r s h).slots)
+  commits-same _ = refl
 
   -- Calls and returns
 
@@ -169,12 +190,13 @@ pub record MayStand (image : Parts) (index : ℕ) (routine : Routine) (i : Instr
   pub marked : changes_unmarked i row ≡ false
   pub unheld : locks_into_held i row ≡ false
   pub held : wrong_slot i row ≡ false
+  pub freed : commits_with_held i row ≡ false
   pub call : call_misfits image index i row ≡ false
   pub exit : exit_misfits routine i row ≡ false
 
 -- it may where a row is known that fits that one
 pub may_stand-mono : (image : Parts) (index : ℕ) (routine : Routine) (i : Instr) (r s : Row) → fits r s ≡ true → MayStand image index routine i s → MayStand image index routine i r
-unfolding stale_pointer passes_end changes_unmarked locks_into_held wrong_slot
+unfolding stale_pointer passes_end changes_unmarked locks_into_held wrong_slot commits_with_held
 may_stand-mono image index routine i r s h M =
     let slot = (uses_of i.opcode).slot in
     let pointer = (uses_of i.opcode).pointer in
@@ -185,6 +207,7 @@ may_stand-mono image index routine i r s h M =
       marked = neither (writes_unmarked i pointer r) (moves_unmarked i slot r) (writes-mono i r s h pointer M.fresh marks.0) (moves-mono i r s h slot marks.1);
       unheld = locks-same i r s h slot ∙ M.unheld;
       held = misuses-same i r s h slot ∙ M.held;
+      freed = commits-same i r s h slot ∙ M.freed;
       call = calls-mono i r s h image index M.call;
       exit = returns-mono i r s h routine M.exit;
     }
