@@ -6,10 +6,11 @@
 mod access;
 mod blocks;
 mod chunks;
+mod files;
 mod head;
 mod machine;
 mod outcome;
 mod step;
 
-pub use machine::{Machine, admits};
+pub use machine::{Machine, admits, admits_words};
 pub use outcome::Outcome;

@@ -3,7 +3,8 @@ use Rattle.geos_model.specs.Names.{mem}
 use Rattle.geos_table.specs.ChunkCalls.{change_row}
 use Rattle.geos_table.proofs.Laws.{change-shape}
 use Rattle.geos_semantics.specs.Model.{nowhere}
-use Rattle.geos_machine.proofs.Works.{IsPlain, slot-done, slot-refused, slot-locked, slot-may-change}
+use Rattle.geos_machine.specs.Machine.{IsPlain}
+use Rattle.geos_machine.proofs.Works.{slot-done, slot-refused, slot-locked, slot-may-change}
 use Rattle.geos_machine.proofs.Safe.{change-held, change-marked}
 use Rattle.geos_machine.proofs.chunks.change.Goals as goal
 
