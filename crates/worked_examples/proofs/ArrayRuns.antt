@@ -6,7 +6,7 @@ use Rattle.geos_model.specs.Arrays.{arr, spelled}
 use Rattle.geos_opcodes.specs.declared.opcode.Opcode.TheVariants.{Canew, Caadd, Cains, Cadel, Cacount, Caelt, Cazero, Caresize}
 use Rattle.geos_image.specs.declared.row.SlotState.TheVariants.{Mem, Vm}
 use Rattle.geos_verify.specs.declared.rule.Rule.TheVariants.{PassesEnd, ChangesUnmarked, WrongSlot, EdgeMisfit}
-use Rattle.geos_verify.specs.Rules.{leaves_routine, names_empty_slot, entry_misfits, stale_pointer, passes_end, changes_unmarked, locks_into_held, wrong_slot, call_misfits, exit_misfits, misfits_at, edge_misfits, unpaid_along, unpaid_branching, edge_unpaid, over_budget}
+use Rattle.geos_verify.specs.Rules.{leaves_routine, names_empty_slot, entry_misfits, stale_pointer, passes_end, changes_unmarked, locks_into_held, wrong_slot, commits_with_held, call_misfits, exit_misfits, misfits_at, edge_misfits, unpaid_along, unpaid_branching, edge_unpaid, over_budget}
 use Rattle.worked_examples.proofs.Images.{instr}
 use Rattle.worked_examples.proofs.BlockImages.{s0, s0_p0, with_row}
 use Rattle.worked_examples.proofs.ArrayImages.{edits, pair}
@@ -37,7 +37,7 @@ pub record JudgedOnArrays : Type 0 where
   pub look_in_empty : judged (with_row (s0 Mem) (instr Caelt 1 1 2 0 1)) ≡ refused_at 0 WrongSlot 1
 
 pub examples : JudgedOnArrays
-unfolding leaves_routine names_empty_slot entry_misfits stale_pointer passes_end changes_unmarked locks_into_held wrong_slot
+unfolding leaves_routine names_empty_slot entry_misfits stale_pointer passes_end changes_unmarked locks_into_held wrong_slot commits_with_held
     call_misfits exit_misfits misfits_at edge_misfits unpaid_along unpaid_branching edge_unpaid over_budget
 examples = record {
   edits_accepted = refl;

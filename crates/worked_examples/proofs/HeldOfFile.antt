@@ -1,12 +1,17 @@
 -- A sound state in which slots hold a block and a group of the VM file.
-use Rattle.std.proofs.Common.{◌≡◌, refl, ℕ, ◌+◌, ◌<◌, false, [], ◌∷◌, replicate, Some, None, set, arith}
+use Rattle.std.proofs.Common.{◌≡◌, refl, ℕ, zero, suc, ◌+◌, ◌<◌, false, [], ◌∷◌, replicate, Option, Some, None, set, sym, subst, arith, inl, inr}
+use Rattle.std.specs.Prelude.{option_map}
+use Rattle.std.proofs.lemmas.Bool.{cases_lt}
+use Rattle.std.proofs.lemmas.List.{get_or-replicate, get_or_past, length-replicate}
 use Rattle.geos_model.specs.declared.name.Name.{Name}
 use Rattle.geos_model.specs.Names.{vm}
+use Rattle.geos_table.specs.Directories as directories
 use Rattle.geos_table.specs.VmFile.{empty_file}
 use Rattle.geos_table.specs.VmCalls.{new_listed}
-use Rattle.geos_table.specs.Memory.{Memory, with_listed, locks_of, with_locks}
+use Rattle.geos_table.specs.Memory.{Memory, at_handle, with_listed, locks_in, locks_of, with_locks}
 use Rattle.geos_table.specs.Effects.{Nothing}
 use Rattle.geos_table.specs.Legal.{IsLegalListed, IsMemory}
+use Rattle.geos_table.proofs.HandleLists.{entry-kept}
 use Rattle.geos_table.proofs.LegalBlocks.{new_heap-legal, empty-legal, added_listed-legal, with_locks-legal}
 use Rattle.geos_opcodes.specs.declared.uses.Kind.TheVariants.{VmBlock, DbGroup}
 use Rattle.geos_semantics.specs.State.{Held, name_of, State, slot, kept_pointers}
@@ -47,6 +52,20 @@ new-legal uid small = record { uid = small; block = record { heap = new_heap-leg
 
 two-legal : IsMemory two
 two-legal = added_listed-legal one 2 (new_listed 65280 0) (new-legal 65280 (omega arith)) refl (added_listed-legal none 1 (new_listed 5 0) (new-legal 5 (omega arith)) refl (empty-legal 65536))
+
+-- no block of the file is locked in it
+abbrev IsIdle : Option directories.VmBlock → Type 0
+IsIdle listed = locks_in (option_map (λ (l : directories.VmBlock). l.block) listed) ≡ 0
+
+none-idle : (h : ℕ) → IsIdle (at_handle None none.file.cur.blocks h)
+none-idle zero = refl
+none-idle (suc h) = elim (cases_lt h 1024) [
+  | inl lt ↦ subst IsIdle (sym (get_or-replicate {A = Option directories.VmBlock} 1024 h None None lt)) refl
+  | inr past ↦ subst IsIdle (sym (get_or_past (replicate {A = Option directories.VmBlock} 1024 None) h None (omega (arith, past, length-replicate {A = Option directories.VmBlock} 1024 None)))) refl
+]
+
+two-idle : (h : ℕ) → locks_of two (vm h) ≡ 0
+two-idle h = entry-kept IsIdle one.file.cur.blocks 2 h (Some (new_listed 65280 0)) None refl (entry-kept IsIdle none.file.cur.blocks 1 h (Some (new_listed 5 0)) None refl (none-idle h))
 
 -- nothing is held
 abbrev pub idle : State
@@ -89,7 +108,7 @@ pub record HeldOfFile : Type 0 where
 pub examples : HeldOfFile
 examples = record {
   sound = (
-      let plain = sound-plain idle two-legal refl (refl, (refl, (refl, (refl, tt)))) (refl, (refl, (refl, (refl, tt)))) in
+      let plain = sound-plain idle two-legal two-idle refl (refl, (refl, (refl, (refl, tt)))) (refl, (refl, (refl, (refl, tt)))) in
       let first = lock-sound others idle 0 block_held plain (omega arith) refl (refl, refl) (omega arith) in
       lock-sound others (with_lock 0 block_held idle) 1 group_held first (omega arith) refl (refl, refl) (omega arith)
       );

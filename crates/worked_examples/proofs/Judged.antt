@@ -5,7 +5,7 @@ use Rattle.geos_image.specs.declared.point.Point.{Point}
 use Rattle.geos_image.specs.Parts.{Parts}
 use Rattle.geos_verify.specs.declared.rule.Rule.{Rule}
 use Rattle.geos_verify.specs.declared.rule.Rule.TheVariants.{CallMisfit, EdgeUnpaid, OverBudget}
-use Rattle.geos_verify.specs.Rules.{refusal, leaves_routine, names_empty_slot, entry_misfits, stale_pointer, passes_end, changes_unmarked, locks_into_held, wrong_slot, call_misfits, exit_misfits, misfits_at, edge_misfits, unpaid_along, unpaid_branching, edge_unpaid, over_budget}
+use Rattle.geos_verify.specs.Rules.{refusal, leaves_routine, names_empty_slot, entry_misfits, stale_pointer, passes_end, changes_unmarked, locks_into_held, wrong_slot, commits_with_held, call_misfits, exit_misfits, misfits_at, edge_misfits, unpaid_along, unpaid_branching, edge_unpaid, over_budget}
 use Rattle.worked_examples.proofs.Images.{add, outputs, two_and_main, main_and_two, loop_by_k0, loop_by_k1}
 
 -- the refusals of a list of points from a pc on, in routine r that begins at start
@@ -44,7 +44,7 @@ pub record Judged : Type 0 where
   pub call_in_a_loop : judged loop_by_k1 ≡ None ∷ None ∷ None ∷ None ∷ None ∷ None ∷ None ∷ None ∷ []
 
 pub examples : Judged
-unfolding leaves_routine names_empty_slot entry_misfits stale_pointer passes_end changes_unmarked locks_into_held wrong_slot
+unfolding leaves_routine names_empty_slot entry_misfits stale_pointer passes_end changes_unmarked locks_into_held wrong_slot commits_with_held
     call_misfits exit_misfits misfits_at edge_misfits unpaid_along unpaid_branching edge_unpaid over_budget
 examples = record {
   add_accepted = refl;

@@ -7,7 +7,7 @@ use Rattle.geos_image.specs.declared.row.SlotState.TheVariants.{Empty, Mem, Vm}
 use Rattle.geos_image.specs.Open.{open_row}
 use Rattle.geos_verify.specs.declared.rule.Rule.{Rule}
 use Rattle.geos_verify.specs.declared.rule.Rule.TheVariants.{NamesEmptySlot, StalePointer, PassesEnd, ChangesUnmarked, LocksIntoHeld, WrongSlot, EdgeMisfit}
-use Rattle.geos_verify.specs.Rules.{leaves_routine, names_empty_slot, entry_misfits, stale_pointer, passes_end, changes_unmarked, locks_into_held, wrong_slot, call_misfits, exit_misfits, misfits_at, edge_misfits, unpaid_along, unpaid_branching, edge_unpaid, over_budget}
+use Rattle.geos_verify.specs.Rules.{leaves_routine, names_empty_slot, entry_misfits, stale_pointer, passes_end, changes_unmarked, locks_into_held, wrong_slot, commits_with_held, call_misfits, exit_misfits, misfits_at, edge_misfits, unpaid_along, unpaid_branching, edge_unpaid, over_budget}
 use Rattle.worked_examples.proofs.Images.{instr}
 use Rattle.worked_examples.proofs.BlockImages.{s0, s0_p0, s0_s1, with_row, read_at, no_bytes, read_after_move, read_after_deref, read_by_other_slot, read_where_apart, read_after_refusal, deref_after_refusal}
 use Rattle.worked_examples.proofs.Judged.{judged}
@@ -68,7 +68,7 @@ pub record JudgedOnBlocks : Type 0 where
   pub names_empty : judged (with_row left_behind (instr Movp 0 0 0 0 0)) ≡ Some NamesEmptySlot ∷ Some NamesEmptySlot ∷ []
 
 pub examples : JudgedOnBlocks
-unfolding leaves_routine names_empty_slot entry_misfits stale_pointer passes_end changes_unmarked locks_into_held wrong_slot
+unfolding leaves_routine names_empty_slot entry_misfits stale_pointer passes_end changes_unmarked locks_into_held wrong_slot commits_with_held
     call_misfits exit_misfits misfits_at edge_misfits unpaid_along unpaid_branching edge_unpaid over_budget
 examples = record {
   last_word = refl;
