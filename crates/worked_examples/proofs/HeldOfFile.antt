@@ -108,7 +108,7 @@ pub record HeldOfFile : Type 0 where
 pub examples : HeldOfFile
 examples = record {
   sound = (
-      let plain = sound-plain idle two-legal two-idle refl (refl, (refl, (refl, (refl, tt)))) (refl, (refl, (refl, (refl, tt)))) in
+      let plain = sound-plain idle two-legal two-idle (omega arith, (omega arith, (omega arith, (omega arith, (omega arith, (omega arith, (omega arith, (omega arith, tt)))))))) refl (refl, (refl, (refl, (refl, tt)))) (refl, (refl, (refl, (refl, tt)))) in
       let first = lock-sound others idle 0 block_held plain (omega arith) refl (refl, refl) (omega arith) in
       lock-sound others (with_lock 0 block_held idle) 1 group_held first (omega arith) refl (refl, refl) (omega arith)
       );
