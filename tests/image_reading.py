@@ -14,7 +14,10 @@ SNE sa sb L / LALLOC sa wb wc L / LFREE sa wb L / LREALLOC sa wb wc L / LINS sa 
 DEREF sa pb wc n L / LCONTRACT sa / LDB wa pb n / LDW wa pb n / STB wa pb n / STW wa pb n / LDXB wa pb wc / LDXW wa pb wc
 STXB wa pb wc / STXW wa pb wc / LDCB wa pb wc L / LDCW wa pb wc L / STCB wa pb wc L / STCW wa pb wc L / MOVP pa pb / COPY pa pb n
 PLEN wa pb / CANEW sa wb n L / CAADD sa wb wc L / CAINS sa wb wc wd L / CADEL sa wb wc L / CACOUNT sa wb wc L / CAELT sa pb wc wd n L
-CAZERO sa wb L / CARESIZE sa wb wc wd L
+CAZERO sa wb L / CARESIZE sa wb wc wd L / VNEW sa wb wc L / VLOCK sa wb L / VDIRTY sa / VUNLOCK sa / VFREE wa L / VFIND wa wb wc L
+VUID wa wb L / VGETMAP wa / VSETMAP wa L / VUPDATE L / VSAVE L / VREVERT L / GNEW wa L / GFREE wa L / INEW wa wb wc L / IFREE wa wb L
+IREALLOC wa wb wc L / IINS wa wb wc wd L / IDEL wa wb wc wd L / ILOCK sa pb wc wd n L / IDIRTY sa / IUNLOCK sa / IGETMAP wa wb
+ISETMAP wa wb L
 """
 OPERANDS = {}
 for code, text in enumerate(TEXTS.strip().replace("\n", " / ").split(" / "), 1):
@@ -23,6 +26,12 @@ for code, text in enumerate(TEXTS.strip().replace("\n", " / ").split(" / "), 1):
 
 COUNTS = {"w": 8, "k": 4, "s": 4, "p": 4}
 MOVES = set("LALLOC LFREE LREALLOC LINS LDEL LCONTRACT CANEW CAADD CAINS CADEL CAZERO CARESIZE".split())
+MOVES_ITEMS = set("INEW IFREE IREALLOC IINS IDEL".split())
+COMMITS = set("VUPDATE VSAVE VREVERT".split())
+# What a slot holds that one of these locks a block into, and the states of one that others unlock or mark.
+LOCKS = {"MNEW": 1, "MLOCK": 1, "VNEW": 3, "VLOCK": 2, "ILOCK": 4}
+UNLOCKS = {"MUNLOCK": (1,), "VUNLOCK": (2, 3), "IUNLOCK": (4, 5)}
+MARKS = {"VDIRTY": (2, 3), "IDIRTY": (4, 5)}
 # The label of these is no refusal's.
 BRANCHES = set("CHK JMP BEQ BLT LOOP SNE".split())
 READS = set("LDB LDW LDXB LDXW LDCB LDCW".split())
@@ -188,15 +197,17 @@ BOUNDS = {
     "SHR": lambda i, w: w[i.b] >> i.imm,
     "MULI": lambda i, w: min(w[i.b] * i.imm, 65535),
     "CHK": lambda i, w: min(w[i.a], i.imm),
-    "PLEN": lambda i, w: 65535,
+    **{word: lambda i, w: 65535 for word in ("PLEN", "VFIND", "VUID", "VGETMAP", "GNEW", "INEW")},
     **{read: lambda i, w: 255 if i.word.endswith("B") else 65535 for read in READS},
 }
 
 
 def bounds_after(i, w):
     """The bounds after an instruction, on the way on."""
-    if i.word in ("MNEW", "LALLOC", "LSIZE", "CANEW", "CACOUNT"):
+    if i.word in ("MNEW", "VNEW", "LALLOC", "LSIZE", "CANEW", "CACOUNT"):
         return put(w, i.b, 65535)
+    if i.word == "IGETMAP":
+        return put(put(w, i.a, 65535), i.b, 65535)
     return put(w, i.a, BOUNDS[i.word](i, w)) if i.word in BOUNDS else w
 
 
@@ -204,22 +215,27 @@ def after(image, i, row, to_label):
     """The row after an instruction, to its label or on to the next one."""
     if i.word in MOVES:
         row = moved(row, i.a)
+    if i.word in MOVES_ITEMS:
+        row = row._replace(pointers=stale_into(row.pointers, [x for x in range(4) if KINDS[row.slots[x]] == "DB"]))
     if to_label:
         return row if i.word in BRANCHES else row._replace(bounds=put(row.bounds, 7, 15))
     if i.word == "CALL":
         return image.routines[i.imm].exit
     row = row._replace(bounds=bounds_after(i, row.bounds))
-    if i.word in ("MNEW", "MLOCK"):
-        others = [x for x in range(4) if x != i.a and row.slots[x] == 1]
+    if i.word in LOCKS:
+        state = LOCKS[i.word]
+        others = [x for x in range(4) if x != i.a and KINDS[row.slots[x]] == KINDS[state]]
         pairs = without(row.pairs, i.a)
-        if i.word == "MNEW":
+        if i.word in ("MNEW", "VNEW"):
             pairs = row.pairs | {pair_of(x, i.a) for x in others}
-        row = row._replace(slots=put(row.slots, i.a, 1), pairs=pairs)
-    if i.word == "MUNLOCK":
+        row = row._replace(slots=put(row.slots, i.a, state), pairs=pairs)
+    if i.word in MARKS:
+        row = row._replace(slots=put(row.slots, i.a, {2: 3, 4: 5}.get(row.slots[i.a], row.slots[i.a])))
+    if i.word in UNLOCKS:
         row = Row(row.bounds, put(row.slots, i.a, 0), stale_into(row.pointers, [i.a]), without(row.pairs, i.a))
     if i.word == "SNE" and i.a != i.b:
         row = row._replace(pairs=row.pairs | {pair_of(i.a, i.b)})
-    if i.word in ("DEREF", "CAELT"):
+    if i.word in ("DEREF", "CAELT", "ILOCK"):
         row = row._replace(pointers=put(row.pointers, i.b, (i.a, i.imm)))
     if i.word == "MOVP":
         row = row._replace(pointers=put(row.pointers, i.a, row.pointers[i.b]))
@@ -270,8 +286,8 @@ def is_past(i, row):
 
 
 def is_wrong_slot(i, slots):
-    if i.word == "MUNLOCK":
-        return slots[i.a] != 1
+    if i.word in UNLOCKS or i.word in MARKS:
+        return slots[i.a] not in {**UNLOCKS, **MARKS}[i.word]
     if i.word == "SNE":
         return slots[i.a] == 0 or KINDS[slots[i.a]] != KINDS[slots[i.b]]
     return (i.word in MOVES or i.word in ("LSIZE", "DEREF", "CACOUNT", "CAELT")) and slots[i.a] == 0
@@ -306,10 +322,12 @@ def rule_at(image, counters, index, pc):
         return 5
     if is_unmarked(i, row):
         return 6
-    if i.word in ("MNEW", "MLOCK") and row.slots[i.a] != 0:
+    if i.word in LOCKS and row.slots[i.a] != 0:
         return 7
     if is_wrong_slot(i, row.slots):
         return 8
+    if i.word in COMMITS and any(slot > 1 for slot in row.slots):
+        return 9
     if i.word == "CALL" and (i.imm >= index or not fits(row, image.routines[i.imm].entry)):
         return 10
     if i.word == "RET" and not fits(row, routine.exit):

@@ -1,0 +1,11 @@
+; One that is marked is written.
+routine a public budget 40
+    VGETMAP w0
+    VLOCK s0 w0 e
+    VDIRTY s0
+    LDI w1 16
+    DEREF s0 p0 w1 2 u
+    STW w2 p0 0
+    OUT w2 u
+u:  VUNLOCK s0
+e:  RET
