@@ -1,10 +1,11 @@
-pub mod Calls
+pub mod Commands
 pub mod Digits
 pub mod Examples
 pub mod HexLines
 pub mod Parts
 pub mod Prints
-pub mod CallsRun
+pub mod CommandsRun
+pub mod Commits
 pub mod Registers
 pub mod Searches
 pub mod Sessions

@@ -7,16 +7,15 @@ use Rattle.std.proofs.KnownBytes.{Appends-kept}
 use Rattle.geos_table.specs.Memory as model
 use Rattle.geos_table.specs.VmFile.{VmFile, empty_file}
 use Rattle.geos_table.specs.Effects.{Choice}
-use Rattle.vm_blocks.specs.View.{VmState}
-use Rattle.geos_kernel.specs.View.{KernelOn, KernelState, Seen, failed_in, memory_of, IsFileOf}
-use Rattle.geos_kernel.specs.Kernel.{HasRisen, IsChosen, LeavesVm}
+use Rattle.geos_kernel.specs.View.{KernelState, memory_of, IsFileOf}
+use Rattle.geos_kernel.specs.Kernel.{IsChosen}
 use Rattle.geos_image.specs.Parts.{Parts}
 use Rattle.geos_cli.specs.Hex.{hex_fault, image_bytes, script_lines, IsBadHex}
-use Rattle.geos_cli.specs.Script.{most_bytes, calls_of, Runs, Stops, Loads, RunsScript, RanScript, StoppedScript}
+use Rattle.geos_cli.specs.Script.{most_bytes, commands_of, Runs, Stops, Loads, RunsScript, RanScript, StoppedScript}
 use Rattle.geos_cli.proofs.Prints.{prints-wider, part-wider}
 use Rattle.geos_cli.specs.declared.fault.ScriptFault.{ScriptFault}
 use Rattle.geos_cli.specs.declared.fault.ScriptFault.TheVariants.{TooLong, BadHex, BadImage, Rejected, BadScript, Read, Write, Memory}
-use Rattle.geos_cli.specs.Session.{Reads, IsFaultless, no_blocks, RanBytes, StoppedBytes, EndsBytes, RanSession, StoppedSession, EndsSession}
+use Rattle.geos_cli.specs.Session.{Reads, IsGivenNothing, no_blocks, RanBytes, StoppedBytes, EndsBytes, RanSession, StoppedSession, EndsSession}
 
 -- what holds of a fault holds of it where it is passed on
 pub passed-on : {A E : Type 0} (P : E → Type 0) (result : Result A E) (e : E) → IsErrAnd result (λ x. x ≡ e) → P e → IfErr result P
@@ -44,34 +43,21 @@ hex-ends bytes short (BadScript line) h = absurd h
 hex-ends bytes short Read h = absurd h
 hex-ends bytes short Write h = absurd h
 
--- a device that is asked nothing does not fail
-pub unfailed : {D : Type 0} (old new : KernelOn D) → LeavesVm old new → failed_in old.core ≡ 0 → failed_in new.core ≡ 0
-unfailed old new leaves fresh = ap (λ (v : VmState Seen). v.file.device.failed) leaves.vm ∙ fresh
+-- what comes from outside between two kernels gives nothing, where the device is honest
+module _ (honest : Type 0) (kernel later : KernelState) (good : honest) where
+  given-nothing : (choice : Choice) → IsChosen honest kernel later choice → IsGivenNothing choice
+  given-nothing choice chosen = chosen.given good
 
--- what comes from outside between two kernels is no fault, where the device is honest and has not
--- failed
-module _ (honest : Type 0) (kernel later : KernelState) (good : honest) (fresh : failed_in kernel ≡ 0) (still : failed_in later ≡ 0) where
-  never : HasRisen (failed_in kernel) (failed_in later) → ⊥
-  never (inl less) = omega (arith, still, less)
-  never (inr most) = omega (arith, still, most)
+  runs-honest : (bytes : List ℕ) (ls : List (List ℕ)) (before after : model.Memory) (text : List ℕ) → Runs (IsChosen honest kernel later) bytes ls before after text → Runs IsGivenNothing bytes ls before after text
+  runs-honest bytes ls before after text (image, loads, prints) =
+      (image, loads, prints-wider (IsChosen honest kernel later) IsGivenNothing given-nothing image (commands_of image ls) before after text prints)
 
-  faultless : (choice : Choice) → IsChosen honest kernel later choice → IsFaultless choice
-  faultless choice chosen = record { given = chosen.given good; device = refused choice.device (chosen.device good) }
-    where
-      refused : (b : Bool) → (b ≡ true → HasRisen (failed_in kernel) (failed_in later)) → b ≡ false
-      refused false risen = refl
-      refused true risen = absurd (never (risen refl))
-
-  runs-faultless : (bytes : List ℕ) (ls : List (List ℕ)) (before after : model.Memory) (text : List ℕ) → Runs (IsChosen honest kernel later) bytes ls before after text → Runs IsFaultless bytes ls before after text
-  runs-faultless bytes ls before after text (image, loads, prints) =
-      (image, loads, prints-wider (IsChosen honest kernel later) IsFaultless faultless image (calls_of image ls) before after text prints)
-
-  stops-faultless : (bytes : List ℕ) (ls : List (List ℕ)) (before after : model.Memory) (text : List ℕ) → Stops (IsChosen honest kernel later) bytes ls before after text → Stops IsFaultless bytes ls before after text
-  stops-faultless bytes ls before after text (image, loads, part) =
-      (image, loads, part-wider (IsChosen honest kernel later) IsFaultless faultless image (calls_of image ls) before after text part)
+  stops-honest : (bytes : List ℕ) (ls : List (List ℕ)) (before after : model.Memory) (text : List ℕ) → Stops (IsChosen honest kernel later) bytes ls before after text → Stops IsGivenNothing bytes ls before after text
+  stops-honest bytes ls before after text (image, loads, part) =
+      (image, loads, part-wider (IsChosen honest kernel later) IsGivenNothing given-nothing image (commands_of image ls) before after text part)
 
 -- bytes have an image and a script, which runs on a kernel without a block
-module _ (honest : Type 0) (bytes items image script : List ℕ) (kernel later : KernelState) (good : honest) (fresh : failed_in kernel ≡ 0) (still : failed_in later ≡ 0) (short : length bytes ≤ most_bytes) (digits : hex_fault (lines bytes) ≡ None)
+module _ (honest : Type 0) (bytes items image script : List ℕ) (kernel later : KernelState) (good : honest) (short : length bytes ≤ most_bytes) (digits : hex_fault (lines bytes) ≡ None)
     (items_is : items ≡ image_bytes (lines bytes)) (script_is : lines script ≡ script_lines (lines bytes)) (lent : image ≡ items) (tied : IsFileOf honest kernel (empty_file 65536))
     (empty : (f : VmFile) → memory_of kernel f ≡ record no_blocks { file = f }) where
   -- what holds of the script holds of the lines behind `end`
@@ -83,9 +69,9 @@ module _ (honest : Type 0) (bytes items image script : List ℕ) (kernel later :
 
   -- the script ran
   runs : (text : List ℕ) (g : VmFile) → RunsScript (IsChosen honest kernel later) image script (memory_of kernel (empty_file 65536)) (memory_of later g) text
-      → (after : model.Memory) × Runs IsFaultless (image_bytes (lines bytes)) (script_lines (lines bytes)) no_blocks after text
+      → (after : model.Memory) × Runs IsGivenNothing (image_bytes (lines bytes)) (script_lines (lines bytes)) no_blocks after text
   runs text g h =
-      (memory_of later g, in-session (λ i ls m. Runs IsFaultless i ls m (memory_of later g) text) (runs-faultless honest kernel later good fresh still image (lines script) (memory_of kernel (empty_file 65536)) (memory_of later g) text h.1))
+      (memory_of later g, in-session (λ i ls m. Runs IsGivenNothing i ls m (memory_of later g) text) (runs-honest honest kernel later good image (lines script) (memory_of kernel (empty_file 65536)) (memory_of later g) text h.1))
 
   -- and the flush kept what the writer got
   pub session-ran : (a b c : Option (List ℕ)) → RanScript honest image script kernel later a b → Keeps b c → RanBytes bytes a c
@@ -106,7 +92,7 @@ module _ (honest : Type 0) (bytes items image script : List ℕ) (kernel later :
   session-stopped a b (text, leads, appends) =
       let g = (leads (empty_file 65536) tied).0 in
       let h = (leads (empty_file 65536) tied).3 in
-      let stops = in-session (λ i ls m. Stops IsFaultless i ls m (memory_of later g) text) (stops-faultless honest kernel later good fresh still image (lines script) (memory_of kernel (empty_file 65536)) (memory_of later g) text h.1) in
+      let stops = in-session (λ i ls m. Stops IsGivenNothing i ls m (memory_of later g) text) (stops-honest honest kernel later good image (lines script) (memory_of kernel (empty_file 65536)) (memory_of later g) text h.1) in
       (text, (short, digits, inl (memory_of later g, stops)), appends)
 
 -- a fault that is the writer's

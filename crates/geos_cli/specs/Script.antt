@@ -1,13 +1,19 @@
 -- What the lines of a script say, when a script ends early, and what it prints.
 use Rattle.std.specs.Prelude.{◌≡◌, ◌<◌, ◌≤◌, ℕ, ◌-◌, Bool, true, ◌&&◌, not, nat_le, if◌then◌else◌, decimal, codes, bytes_eq}
 use Rattle.std.specs.Prelude.{List, [], ◌∷◌, ◌++◌, length, replicate, take, position, filter_map, flat_map}
-use Rattle.std.specs.Prelude.{Option, Some, None, option_map, option_and_then, is_none, unwrap_or, Ok, Err}
+use Rattle.std.specs.Prelude.{Option, Some, None, option_map, option_and_then, is_none, unwrap_or, Result, Ok, Err}
 use Rattle.std.specs.List.{position_from}
 use Rattle.std.specs.Str.Lines.{lines}
 use Rattle.std.specs.Io.KnownBytes.{Appends}
 use Rattle.geos_table.specs.Memory as model
 use Rattle.geos_table.specs.VmFile.{VmFile}
-use Rattle.geos_table.specs.Effects.{Choice}
+use Rattle.geos_model.specs.declared.refusal.Refusal.{Refusal}
+use Rattle.geos_model.specs.Refusals.{refusal_number}
+use Rattle.geos_table.specs.Effects.{Choice, outcome, effect_of}
+use Rattle.geos_table.specs.VmCalls.{commit}
+use Rattle.vm_file.specs.declared.commit.How.{How}
+use Rattle.vm_file.specs.declared.commit.How.TheVariants.{Update, Save, Revert}
+use Rattle.vm_blocks.specs.ListedCalls.{keeper_of}
 use Rattle.geos_kernel.specs.View.{KernelState, memory_of, IsFileOf}
 use Rattle.geos_kernel.specs.Kernel.{IsChosen, NeverFell}
 use Rattle.geos_image.specs.declared.routine.Routine.{Routine}
@@ -18,14 +24,17 @@ use Rattle.geos_verify.specs.Rules.{Accepted, FirstRefusal}
 use Rattle.geos_machine.specs.declared.outcome.Outcome.{Outcome}
 use Rattle.geos_machine.specs.Runs.{admits, Ran}
 use Rattle.geos_cli.specs.declared.script.Call.{Call}
+use Rattle.geos_cli.specs.declared.script.Command.{Command}
+use Rattle.geos_cli.specs.declared.script.Command.TheVariants as command
 use Rattle.geos_cli.specs.declared.fault.ScriptFault.{ScriptFault}
 use Rattle.geos_cli.specs.declared.fault.ScriptFault.TheVariants.{TooLong, BadHex, BadImage, Rejected, BadScript, Read, Write, Memory}
 use Rattle.geos_text.specs.Words.{is_empty, words, without_comment}
 use Rattle.geos_text.specs.Numbers.{number_of}
 
--- the machine may be asked for the call
-abbrev pub IsAdmitted : Parts → Call → Type 0
-IsAdmitted image call = admits image call.routine call.words ≡ true
+-- the machine may be asked for the call; a commit may always be asked for
+abbrev pub IsAdmitted : Parts → Command → Type 0
+IsAdmitted image (command.Call call) = admits image call.routine call.words ≡ true
+IsAdmitted image (command.Commit how) = Unit {0}
 
 -- a routine's name without the zeros behind it
 abbrev pub name_text : Routine → List ℕ
@@ -53,56 +62,73 @@ abbrev pub call_named : Parts → List ℕ → List (List ℕ) → Option Call
 call_named image name numbers =
     option_and_then (λ r. option_and_then (λ ws. if_admitted image (record { routine = r; words = ws })) (registers_of numbers)) (routine_named image name)
 
--- `call`, the name of a routine, then numbers
-abbrev pub call_of : Parts → List (List ℕ) → Option Call
-call_of image [] = None
-call_of image (command ∷ []) = None
-call_of image (command ∷ name ∷ numbers) = if bytes_eq command (codes "call") then call_named image name numbers else None
+-- which pair of directories is kept
+abbrev pub how_named : List ℕ → Option How
+how_named word =
+    if bytes_eq word (codes "update") then Some Update
+    else if bytes_eq word (codes "save") then Some Save
+    else if bytes_eq word (codes "revert") then Some Revert
+    else None
+
+-- `call`, the name of a routine, then numbers; or `update`, `save` or `revert` alone
+abbrev pub command_of : Parts → List (List ℕ) → Option Command
+command_of image [] = None
+command_of image (word ∷ []) = option_map command.Commit (how_named word)
+command_of image (word ∷ name ∷ numbers) = if bytes_eq word (codes "call") then option_map command.Call (call_named image name numbers) else None
 
 -- what a line says, without its comment
 abbrev pub said : List ℕ → List (List ℕ)
 said line = words (without_comment line)
 
--- a line that says something, but no call that the machine may be asked for
+-- a line that says something, but no command that may be asked for
 abbrev pub is_bad : Parts → List ℕ → Bool
-is_bad image line = not (is_empty (said line)) && is_none (call_of image (said line))
+is_bad image line = not (is_empty (said line)) && is_none (command_of image (said line))
 
 -- the number of the first bad line, from 1
 abbrev pub first_bad : Parts → List (List ℕ) → Option ℕ
 first_bad image lines = position_from (is_bad image) 1 lines
 
--- the calls of a script
-abbrev pub calls_of : Parts → List (List ℕ) → List Call
-calls_of image lines = filter_map (λ line. call_of image (said line)) lines
+-- the commands of a script
+abbrev pub commands_of : Parts → List (List ℕ) → List Command
+commands_of image lines = filter_map (λ line. command_of image (said line)) lines
 
 -- each word in decimal, on a line
 abbrev pub printed : List ℕ → List ℕ
 printed words = flat_map (λ word. decimal word ++ 10 ∷ []) words
 
--- what the calls print, from the memory before to the memory after: the output of a model's run
--- of each, under allowed choices, one after another, each in the memory that the one before left
-abbrev pub Prints : (Choice → Type 0) → Parts → List Call → model.Memory → model.Memory → List ℕ → Type 0
-Prints allowed image [] before after text = (text ≡ []) × (after ≡ before)
-Prints allowed image (call ∷ calls) before after text =
-    (outcome : Outcome) × (between : model.Memory) × (others : List ℕ) × Ran allowed image call.routine call.words before between outcome
-    × Prints allowed image calls between after others × (text ≡ printed outcome.output.items ++ others)
+-- nothing of a commit that was done, or the number of its refusal, on a line
+abbrev pub committed : Result (Unit {0}) Refusal → List ℕ
+committed (Ok done) = []
+committed (Err refusal) = codes "refused " ++ (decimal (refusal_number refusal) ++ 10 ∷ [])
 
--- what the calls have printed when the writer fails: some calls are done, with all that they
--- print; the next one was run, in the memory that they left, and to the memory after; a
--- beginning of what it prints is written, not all; the others were not begun
-pub record PrintsPart (allowed : Choice → Type 0) (image : Parts) (calls : List Call) (before after : model.Memory) (text : List ℕ) : Type 0 where
-  pub done : List Call
-  pub call : Call
-  pub others : List Call
-  pub in_order : calls ≡ done ++ call ∷ others
+-- a command takes one memory to another under allowed choices, and prints this: a call, by a model's
+-- run, what that puts out; a commit, by its row in the table of calls, its refusal
+abbrev pub Does : (Choice → Type 0) → Parts → Command → model.Memory → model.Memory → List ℕ → Type 0
+Does allowed image (command.Call call) before after text = (outcome : Outcome) × Ran allowed image call.routine call.words before after outcome × (text ≡ printed outcome.output.items)
+Does allowed image (command.Commit how) before after text =
+    (choice : Choice) × allowed choice × (result : Result (Unit {0}) Refusal) × (outcome (effect_of (commit (keeper_of how)) choice before) ≡ (result, after)) × (text ≡ committed result)
+
+-- what the commands print, from the memory before to the memory after: what each does, one after
+-- another, each in the memory that the one before left
+abbrev pub Prints : (Choice → Type 0) → Parts → List Command → model.Memory → model.Memory → List ℕ → Type 0
+Prints allowed image [] before after text = (text ≡ []) × (after ≡ before)
+Prints allowed image (command ∷ commands) before after text =
+    (between : model.Memory) × (shown : List ℕ) × (others : List ℕ) × Does allowed image command before between shown × Prints allowed image commands between after others × (text ≡ shown ++ others)
+
+-- what the commands have printed when the writer fails: some are done, with all that they print; the
+-- next one was carried out, in the memory that they left, and to the memory after; a beginning of what
+-- it prints is written, not all; the others were not begun
+pub record PrintsPart (allowed : Choice → Type 0) (image : Parts) (commands : List Command) (before after : model.Memory) (text : List ℕ) : Type 0 where
+  pub done : List Command
+  pub last : Command
+  pub others : List Command
+  pub in_order : commands ≡ done ++ last ∷ others
   pub between : model.Memory
   pub earlier : List ℕ
   pub printed_earlier : Prints allowed image done before between earlier
-  pub outcome : Outcome
-  pub ran : Ran allowed image call.routine call.words between after outcome
   pub part : List ℕ
   pub rest : List ℕ
-  pub begun : printed outcome.output.items ≡ part ++ rest
+  pub does : Does allowed image last between after (part ++ rest)
   pub not_all : 0 < length rest
   pub written : text ≡ earlier ++ part
 
@@ -113,15 +139,25 @@ abbrev pub Leads : Type 0 → KernelState → KernelState → ((Choice → Type 
 Leads honest kernel later this = (f : VmFile) → IsFileOf honest kernel f
     → (g : VmFile) × IsFileOf honest later g × NeverFell honest kernel later × this (IsChosen honest kernel later) (memory_of kernel f) (memory_of later g)
 
--- the calls were run, from kernel to kernel, and a writer got their text
-abbrev pub RanCalls : Type 0 → Parts → List Call → KernelState → KernelState → Option (List ℕ) → Option (List ℕ) → Type 0
-RanCalls honest image calls kernel later old new =
-    (text : List ℕ) × Leads honest kernel later (λ allowed before after. Prints allowed image calls before after text) × Appends old new text
+-- a command was carried out, from kernel to kernel, and a writer got its text
+abbrev pub RanCommand : Type 0 → Parts → Command → KernelState → KernelState → Option (List ℕ) → Option (List ℕ) → Type 0
+RanCommand honest image command kernel later old new =
+    (text : List ℕ) × Leads honest kernel later (λ allowed before after. Does allowed image command before after text) × Appends old new text
 
--- the calls were stopped by a writer that failed, which got the text up to there
-abbrev pub StoppedCalls : Type 0 → Parts → List Call → KernelState → KernelState → Option (List ℕ) → Option (List ℕ) → Type 0
-StoppedCalls honest image calls kernel later old new =
-    (text : List ℕ) × Leads honest kernel later (λ allowed before after. PrintsPart allowed image calls before after text) × Appends old new text
+-- a command was carried out, and a writer failed that got a beginning of its text, not all
+abbrev pub StoppedCommand : Type 0 → Parts → Command → KernelState → KernelState → Option (List ℕ) → Option (List ℕ) → Type 0
+StoppedCommand honest image command kernel later old new =
+    (part : List ℕ) × (rest : List ℕ) × (0 < length rest) × Leads honest kernel later (λ allowed before after. Does allowed image command before after (part ++ rest)) × Appends old new part
+
+-- the commands were carried out, from kernel to kernel, and a writer got their text
+abbrev pub RanCommands : Type 0 → Parts → List Command → KernelState → KernelState → Option (List ℕ) → Option (List ℕ) → Type 0
+RanCommands honest image commands kernel later old new =
+    (text : List ℕ) × Leads honest kernel later (λ allowed before after. Prints allowed image commands before after text) × Appends old new text
+
+-- the commands were stopped by a writer that failed, which got the text up to there
+abbrev pub StoppedCommands : Type 0 → Parts → List Command → KernelState → KernelState → Option (List ℕ) → Option (List ℕ) → Type 0
+StoppedCommands honest image commands kernel later old new =
+    (text : List ℕ) × Leads honest kernel later (λ allowed before after. PrintsPart allowed image commands before after text) × Appends old new text
 
 -- bytes spell an image that the verifier accepts, and no line of the script is bad
 pub record Loads (bytes : List ℕ) (lines : List (List ℕ)) (image : Parts) : Type 0 where
@@ -136,7 +172,7 @@ IsBadImage bytes (Rejected pc rule) = (image : Parts) × (image_at bytes ≡ Ok 
 IsBadImage bytes Memory = Unit {0}
 IsBadImage bytes _ = ⊥
 
--- why the lines of a script are no calls
+-- why the lines of a script are no commands
 abbrev pub IsBadLine : Parts → List (List ℕ) → ScriptFault → Type 0
 IsBadLine image lines (BadScript line) = first_bad image lines ≡ Some line
 IsBadLine image lines Memory = Unit {0}
@@ -146,13 +182,13 @@ IsBadLine image lines _ = ⊥
 -- prints the text
 abbrev pub Runs : (Choice → Type 0) → List ℕ → List (List ℕ) → model.Memory → model.Memory → List ℕ → Type 0
 Runs allowed bytes lines before after text =
-    (image : Parts) × Loads bytes lines image × Prints allowed image (calls_of image lines) before after text
+    (image : Parts) × Loads bytes lines image × Prints allowed image (commands_of image lines) before after text
 
 -- a script of these lines runs on the image that the bytes spell, and has come to the memory
 -- after and printed the text when the writer fails
 abbrev pub Stops : (Choice → Type 0) → List ℕ → List (List ℕ) → model.Memory → model.Memory → List ℕ → Type 0
 Stops allowed bytes lines before after text =
-    (image : Parts) × Loads bytes lines image × PrintsPart allowed image (calls_of image lines) before after text
+    (image : Parts) × Loads bytes lines image × PrintsPart allowed image (commands_of image lines) before after text
 
 -- when such a script ends with a fault: each of them in the order in which they are looked for
 abbrev pub EndsBy : List ℕ → List (List ℕ) → ScriptFault → Type 0

@@ -1,5 +1,5 @@
 -- What a session is, and when it ends early.
-use Rattle.std.specs.Prelude.{◌≡◌, ◌<◌, ◌≤◌, ◌⊎◌, ℕ, false, List, [], length, replicate, Option, Some, None}
+use Rattle.std.specs.Prelude.{◌≡◌, ◌<◌, ◌≤◌, ◌⊎◌, ℕ, List, [], length, replicate, Option, Some, None}
 use Rattle.std.specs.Str.Lines.{lines}
 use Rattle.std.specs.Io.KnownBytes.{Appends, Consumes, IsAtEnd}
 use Rattle.geos_table.specs.VmFile.{empty_file}
@@ -14,11 +14,10 @@ use Rattle.geos_cli.specs.Script.{most_bytes, Runs, Stops, EndsBy}
 abbrev pub Reads : Option (List ℕ) → Option (List ℕ) → List ℕ → Type 0
 Reads before now bytes = Consumes before now bytes × IsAtEnd now
 
--- what may come from outside in a session: room may be refused, but no device fails or gives
--- anything
-pub record IsFaultless (choice : Choice) : Type 0 where
-  pub given : choice.given ≡ []
-  pub device : choice.device ≡ false
+-- what may come from outside in a session: room, memory or the device may be refused, but nothing is
+-- given, since a device in memory is honest
+abbrev pub IsGivenNothing : Choice → Type 0
+IsGivenNothing choice = choice.given ≡ []
 
 -- the memory in which a session begins: no block, in a region of 65,536 bytes, and an empty VM
 -- file with an area of as many
@@ -27,11 +26,11 @@ no_blocks = record { blocks = replicate 1024 None; file = empty_file 65536; regi
 
 -- the script in the lines behind `end` runs on the image in front of it, and prints the text
 abbrev pub RunsLines : List (List ℕ) → List ℕ → Type 0
-RunsLines lines text = (after : model.Memory) × Runs IsFaultless (image_bytes lines) (script_lines lines) no_blocks after text
+RunsLines lines text = (after : model.Memory) × Runs IsGivenNothing (image_bytes lines) (script_lines lines) no_blocks after text
 
 -- such a script has printed the text when the writer fails
 abbrev pub StopsLines : List (List ℕ) → List ℕ → Type 0
-StopsLines lines text = (after : model.Memory) × Stops IsFaultless (image_bytes lines) (script_lines lines) no_blocks after text
+StopsLines lines text = (after : model.Memory) × Stops IsGivenNothing (image_bytes lines) (script_lines lines) no_blocks after text
 
 -- the bytes are an image in digits, a line `end`, and a script that runs on the image and
 -- prints the text

@@ -1,15 +1,18 @@
 //! Scripts: lines of commands, read whole before the first one runs.
 
-ghost use Rattle.std.specs.Prelude.{◌≡◌, ◌≢◌, All, None, Ok, IfOk, IfErr};
+ghost use Rattle.std.specs.Prelude.{◌≡◌, ◌≢◌, ◌↔◌, All, None, Ok, Err, IfOk, IfErr};
 ghost use Rattle.std.specs.Str.Lines.{lines};
 ghost use Rattle.std.specs.Io.KnownBytes.{Appends, Keeps};
 ghost use Rattle.geos_cli.specs.declared.fault.ScriptFault.TheVariants.{Write};
 ghost use Rattle.geos_cli.specs.Counted.{Rose, AppendsPart};
 ghost use Rattle.geos_cli.specs.Fault.{KeptUnless};
-ghost use Rattle.geos_cli.specs.Script.{IsAdmitted, routine_named, registers_of, call_named, call_of};
-ghost use Rattle.geos_cli.specs.Script.{calls_of, first_bad, IsBadLine, IsBadImage, printed};
-ghost use Rattle.geos_cli.specs.Script.{RanCalls, StoppedCalls, RanScript, StoppedScript, ScriptEndsBy};
-ghost use Rattle.geos_kernel.specs.Kernel.{LeavesVm};
+ghost use Rattle.geos_cli.specs.Script.{IsAdmitted, routine_named, registers_of, call_named, how_named, command_of};
+ghost use Rattle.geos_cli.specs.Script.{commands_of, first_bad, IsBadLine, IsBadImage, printed, committed};
+ghost use Rattle.geos_cli.specs.Script.{RanCommand, StoppedCommand, RanCommands, StoppedCommands, RanScript, StoppedScript, ScriptEndsBy};
+ghost use Rattle.geos_kernel.specs.Kernel.{Calls};
+ghost use Rattle.geos_table.specs.VmCalls.{commit};
+ghost use Rattle.vm_blocks.specs.Listed.{NoneLocked};
+ghost use Rattle.vm_blocks.specs.ListedCalls.{keeper_of};
 ghost use Rattle.geos_image.specs.Reading.{image_at};
 ghost use Rattle.geos_verify.specs.Rules.{Accepted};
 ghost use Rattle.geos_text.specs.Words.{words};
@@ -18,22 +21,31 @@ use crate::counted::Counted;
 use crate::fault::ScriptFault;
 use geos_image::Image;
 use geos_kernel::Kernel;
-use geos_machine::{Machine, admits};
+use geos_machine::{Machine, admits_words};
+use geos_model::Refusal;
 use geos_text::{first_line, first_word, number, without_comment};
 use geos_verify::{Checked, check};
 use std::alloc::Global;
 use std::io::Write;
-use vm_file::Device;
+use vm_file::{Device, How};
 
 /// The most bytes of a script or a session.
 pub const MOST_BYTES: usize = 1_048_576;
 
-/// A command that may be carried out: a call of a routine that it is admitted to, on these
-/// words.
+/// A call of a routine, on these words.
 #[derive(Clone, Copy, Debug, PartialEq, Eq)]
 pub struct Call {
     pub routine: u16,
     pub words: [u16; 8],
+}
+
+/// A command that may be carried out.
+#[derive(Clone, Copy, Debug, PartialEq, Eq)]
+pub enum Command {
+    /// A call that the machine may be asked for.
+    Call(Call),
+    /// The VM file keeps one of its pairs of directories.
+    Commit(How),
 }
 
 /// The routine of that name.
@@ -68,47 +80,56 @@ fn registers_of(numbers: &[u8]) -> Option<[u16; 8]>
 }
 
 /// The call of the routine of that name on those numbers, if the machine may be asked for it.
-fn call_named<D: Device + Drop>(
-    checked: &Checked,
-    name: &[u8],
-    numbers: &[u8],
-    kernel: &Kernel<D>,
-) -> Option<Call>
+fn call_named(checked: &Checked, name: &[u8], numbers: &[u8]) -> Option<Call>
     ensures { result ≡ call_named checked.now name.now (words numbers.now) }
 {
     let routine = routine_named(checked.image(), name)?;
     let words = registers_of(numbers)?;
-    if admits(checked, routine, &words, kernel) {
+    if admits_words(checked, routine, &words) {
         Some(Call { routine, words })
     } else {
         None
     }
 }
 
-/// The call of a line without its comment, if the machine may be asked for it.
-fn call_of<D: Device + Drop>(checked: &Checked, line: &[u8], kernel: &Kernel<D>) -> Option<Call>
-    ensures { result ≡ call_of checked.now (words line.now) }
+/// Which pair of directories a word has the VM file keep.
+fn how_named(word: &[u8]) -> Option<How>
+    ensures { result ≡ how_named word.now }
 {
-    let (command, rest) = first_word(line)?;
-    let (name, numbers) = first_word(rest)?;
-    if command == b"call".as_slice() {
-        call_named(checked, name, numbers, kernel)
+    if word == b"update".as_slice() {
+        Some(How::Update)
+    } else if word == b"save".as_slice() {
+        Some(How::Save)
+    } else if word == b"revert".as_slice() {
+        Some(How::Revert)
     } else {
         None
     }
 }
 
-/// The calls of a script, or the number of its first bad line.
-fn calls_of<D: Device + Drop>(
-    alloc: Global,
-    checked: &Checked,
-    script: &[u8],
-    kernel: &Kernel<D>,
-) -> Result<Vec<Call>, ScriptFault>
-    ensures calls { IfOk result (λ calls. (first_bad checked.now (lines script.now) ≡ None) × (calls.items ≡ calls_of checked.now (lines script.now))) }
+/// The command of a line without its comment, if it may be asked for.
+fn command_of(checked: &Checked, line: &[u8]) -> Option<Command>
+    ensures { result ≡ command_of checked.now (words line.now) }
+{
+    let (word, rest) = first_word(line)?;
+    match first_word(rest) {
+        None => Some(Command::Commit(how_named(word)?)),
+        Some((name, numbers)) => {
+            if word == b"call".as_slice() {
+                Some(Command::Call(call_named(checked, name, numbers)?))
+            } else {
+                None
+            }
+        }
+    }
+}
+
+/// The commands of a script, or the number of its first bad line.
+fn commands_of(alloc: Global, checked: &Checked, script: &[u8]) -> Result<Vec<Command>, ScriptFault>
+    ensures commands { IfOk result (λ commands. (first_bad checked.now (lines script.now) ≡ None) × (commands.items ≡ commands_of checked.now (lines script.now))) }
     ensures bad { IfErr result (IsBadLine checked.now (lines script.now)) }
 {
-    let mut calls = Vec::new(alloc);
+    let mut commands = Vec::new(alloc);
     let mut rest = script;
     let mut line_number: usize = 0;
     while !rest.is_empty() {
@@ -117,13 +138,13 @@ fn calls_of<D: Device + Drop>(
         line_number += 1;
         let line = without_comment(line);
         if first_word(line).is_some() {
-            match call_of(checked, line, kernel) {
-                Some(call) => calls.push(call)?,
+            match command_of(checked, line) {
+                Some(command) => commands.push(command)?,
                 None => return Err(ScriptFault::BadScript(line_number)),
             }
         }
     }
-    Ok(calls)
+    Ok(commands)
 }
 
 fn write<W: Write>(out: &mut Counted<W>, bytes: &[u8]) -> Result<(), ScriptFault>
@@ -153,27 +174,84 @@ fn print<W: Write>(words: &[u16], out: &mut Counted<W>) -> Result<(), ScriptFaul
     Ok(())
 }
 
-/// Runs the calls one after another, and prints what each puts out. Each finds the kernel as
-/// the one before left it.
-fn run_calls<W: Write, D: Device + Drop>(
+/// Prints the number of a refusal, on a line.
+fn print_refusal<W: Write>(refusal: Refusal, out: &mut Counted<W>) -> Result<(), ScriptFault>
+    ensures ok { IfOk result (λ _. Appends (W.contents out.old.stream) (W.contents out.new.stream) (committed (Err refusal))) }
+    ensures part { IfErr result (λ _. AppendsPart (W.contents out.old.stream) (W.contents out.new.stream) (committed (Err refusal))) }
+    ensures kept { IfOk result (λ _. out.new.failures ≡ out.old.failures) }
+    ensures failed { IfErr result (λ fault. (fault ≡ Write) × Rose out.old.failures out.new.failures) }
+{
+    let mut digits = itoa::Buffer::new();
+    write(out, b"refused ")?;
+    write(out, digits.format(refusal.number()).as_bytes())?;
+    write(out, b"\n")
+}
+
+/// The VM file keeps one of its pairs of directories; no block of it is locked then, as before.
+fn keep<D: Device + Drop>(kernel: &mut Kernel<D>, how: How) -> Result<(), Refusal>
+    requires { NoneLocked kernel.old.core.blocks }
+    ensures calls { Calls (D.honest kernel.old.device) (commit (keeper_of how)) result kernel.old.core kernel.new.core }
+    ensures honest { D.honest kernel.new.device ↔ D.honest kernel.old.device }
+    ensures unlocked { NoneLocked kernel.new.core.blocks }
+{
+    kernel.memory_is_legal();
+    let done = kernel.commit(how);
+    kernel.memory_is_legal();
+    done
+}
+
+/// Carries out a command, and prints what a call puts out, or the number of a refusal.
+fn carry_out<W: Write, D: Device + Drop>(
+    machine: &mut Machine,
     checked: &Checked,
-    calls: &[Call],
+    command: &Command,
     kernel: &mut Kernel<D>,
     out: &mut Counted<W>,
 ) -> Result<(), ScriptFault>
-    requires { All (IsAdmitted checked.now) calls.now }
-    ensures ok { IfOk result (λ _. RanCalls (D.honest kernel.old.device) checked.now calls.now kernel.old.core kernel.new.core
+    requires admitted { IsAdmitted checked.now command.now }
+    requires unlocked { NoneLocked kernel.old.core.blocks }
+    ensures ok { IfOk result (λ _. RanCommand (D.honest kernel.old.device) checked.now command.now kernel.old.core kernel.new.core
         (W.contents out.old.stream) (W.contents out.new.stream)) }
-    ensures stopped { IfErr result (λ _. StoppedCalls (D.honest kernel.old.device) checked.now calls.now kernel.old.core kernel.new.core
+    ensures stopped { IfErr result (λ _. StoppedCommand (D.honest kernel.old.device) checked.now command.now kernel.old.core kernel.new.core
         (W.contents out.old.stream) (W.contents out.new.stream)) }
-    ensures vm { LeavesVm kernel.old kernel.new }
+    ensures honest { D.honest kernel.new.device ↔ D.honest kernel.old.device }
+    ensures unlocked { NoneLocked kernel.new.core.blocks }
+    ensures kept { IfOk result (λ _. out.new.failures ≡ out.old.failures) }
+    ensures failed { IfErr result (λ fault. (fault ≡ Write) × Rose out.old.failures out.new.failures) }
+{
+    match command {
+        Command::Call(call) => {
+            let outcome = machine.run(checked, call.routine, &call.words, kernel);
+            print(outcome.output.as_slice(), out)
+        }
+        Command::Commit(how) => match keep(kernel, *how) {
+            Ok(()) => Ok(()),
+            Err(refusal) => print_refusal(refusal, out),
+        },
+    }
+}
+
+/// Carries out the commands one after another. Each finds the kernel as the one before left it.
+fn carry_out_all<W: Write, D: Device + Drop>(
+    checked: &Checked,
+    commands: &[Command],
+    kernel: &mut Kernel<D>,
+    out: &mut Counted<W>,
+) -> Result<(), ScriptFault>
+    requires admitted { All (IsAdmitted checked.now) commands.now }
+    requires unlocked { NoneLocked kernel.old.core.blocks }
+    ensures ok { IfOk result (λ _. RanCommands (D.honest kernel.old.device) checked.now commands.now kernel.old.core kernel.new.core
+        (W.contents out.old.stream) (W.contents out.new.stream)) }
+    ensures stopped { IfErr result (λ _. StoppedCommands (D.honest kernel.old.device) checked.now commands.now kernel.old.core kernel.new.core
+        (W.contents out.old.stream) (W.contents out.new.stream)) }
+    ensures honest { D.honest kernel.new.device ↔ D.honest kernel.old.device }
+    ensures unlocked { NoneLocked kernel.new.core.blocks }
     ensures kept { IfOk result (λ _. out.new.failures ≡ out.old.failures) }
     ensures failed { IfErr result (λ fault. (fault ≡ Write) × Rose out.old.failures out.new.failures) }
 {
     let mut machine = Machine::new();
-    for call in calls {
-        let outcome = machine.run(checked, call.routine, &call.words, kernel);
-        print(outcome.output.as_slice(), out)?;
+    for command in commands {
+        carry_out(&mut machine, checked, command, kernel, out)?;
     }
     Ok(())
 }
@@ -190,17 +268,17 @@ fn load(alloc: Global, image: &[u8]) -> Result<Checked, ScriptFault>
     }
 }
 
-/// Checks an image and runs a script of calls, which print the words that they put out. Each
-/// call finds the kernel's memory as the one before left it, and the kernel keeps what the
-/// last one left. The script is read whole first, and a bad one runs nothing. The writer is
-/// not flushed.
+/// Checks an image and runs a script: calls, which print the words that they put out, and commits
+/// (`update`, `save`, `revert`), which print nothing, or `refused` and a number. Each command finds
+/// the kernel's memory as the one before left it, and the kernel keeps what the last one left. The
+/// script is read whole first, and a bad one runs nothing. The writer is not flushed.
 ///
 /// Of the faults, the first that is due is answered: `TooLong` where the script has more than
 /// 1,048,576 bytes; `BadImage`; `Rejected`; `BadScript`. `Memory` may come before the first
-/// call runs. Up to then nothing is asked of the writer, and the kernel is as it was. `Write`
-/// comes where the writer failed: it got all that the calls before print and a beginning of
-/// what the call prints that was run last, and no other call was begun; the kernel stands
-/// where that call ended. Where `Write` is not answered, no call of the writer failed.
+/// command. Up to then nothing is asked of the writer, and the kernel is as it was. `Write`
+/// comes where the writer failed: it got all that the commands before print and a beginning of
+/// what the last one prints, and no other was begun; the kernel stands where that one ended. Where
+/// `Write` is not answered, no call of the writer failed.
 pub fn run_script<W: Write, D: Device + Drop>(
     alloc: Global,
     image: &[u8],
@@ -208,6 +286,8 @@ pub fn run_script<W: Write, D: Device + Drop>(
     kernel: &mut Kernel<D>,
     out: &mut Counted<W>,
 ) -> Result<(), ScriptFault>
+    // No block of the file is locked by others: `Kernel::vm_unlocked` tells it.
+    requires unlocked { NoneLocked kernel.old.core.blocks }
     ensures ran { IfOk result (λ _. RanScript (D.honest kernel.old.device) image.now script.now kernel.old.core kernel.new.core
         (W.contents out.old.stream) (W.contents out.new.stream)) }
     ensures due { IfErr result (ScriptEndsBy image.now script.now) }
@@ -215,13 +295,14 @@ pub fn run_script<W: Write, D: Device + Drop>(
         StoppedScript (D.honest kernel.old.device) image.now script.now kernel.old.core kernel.new.core
         (W.contents out.old.stream) (W.contents out.new.stream)) }
 
-    // No call asks the device.
-    ensures vm { LeavesVm kernel.old kernel.new }
+    // The device is as honest as it was, and no block of the file is locked again.
+    ensures honest { D.honest kernel.new.device ↔ D.honest kernel.old.device }
+    ensures unlocked { NoneLocked kernel.new.core.blocks }
 
     // Nothing runs before a fault other than `Write`.
     ensures kernel_kept { IfErr result (λ fault. fault ≢ Write → kernel.new ≡ kernel.old) }
 
-    // The writer: nothing is asked of it before the first call, and it failed exactly where
+    // The writer: nothing is asked of it before the first command, and it failed exactly where
     // `Write` is answered.
     ensures nothing_written { IfErr result (λ fault. fault ≢ Write → Keeps (W.contents out.old.stream) (W.contents out.new.stream)) }
     ensures not_asked { IfErr result (λ fault. fault ≢ Write → out.new.asked ≡ out.old.asked) }
@@ -232,6 +313,6 @@ pub fn run_script<W: Write, D: Device + Drop>(
         return Err(ScriptFault::TooLong);
     }
     let checked = load(alloc, image)?;
-    let calls = calls_of(alloc, &checked, script, kernel)?;
-    run_calls(&checked, &calls, kernel, out)
+    let commands = commands_of(alloc, &checked, script)?;
+    carry_out_all(&checked, &commands, kernel, out)
 }

@@ -3,23 +3,23 @@ use Rattle.std.specs.Prelude.{All}
 use Rattle.std.specs.Str.Lines.{lines}
 use Rattle.geos_cli.specs.declared.fault.ScriptFault.TheVariants.{Write}
 use Rattle.geos_cli.specs.Script.{IsAdmitted, Loads}
-use Rattle.geos_cli.proofs.Calls.{calls-admitted}
-use Rattle.geos_cli.proofs.CallsRun.{if_ok-map, if_err-map, script-ran, script-stopped}
+use Rattle.geos_cli.proofs.Commands.{commands-admitted}
+use Rattle.geos_cli.proofs.CommandsRun.{if_ok-map, if_err-map, script-ran, script-stopped}
 use Rattle.geos_cli.proofs.script.run_script.Goals as goal
 
-pub run_calls-requires : goal.run_calls-requires
-run_calls-requires g c =
-    let same = c.deref.ensures.value ∙ c.in_ok-calls.ensures.calls.1 in
-    subst (All (IsAdmitted c.in_ok-checked.checked)) (sym same) (calls-admitted c.in_ok-checked.checked (lines c.args.script.now))
+pub carry_out_all-requires-clause-admitted : goal.carry_out_all-requires-clause-admitted
+carry_out_all-requires-clause-admitted g c =
+    let same = c.deref.ensures.value ∙ c.in_ok-commands.ensures.commands.1 in
+    subst (All (IsAdmitted c.in_ok-checked.checked)) (sym same) (commands-admitted c.in_ok-checked.checked (lines c.args.script.now))
 
 pub returns-clause-ran : goal.returns-clause-ran
 returns-clause-ran g c =
-    let loads : Loads c.args.image.now (lines c.args.script.now) c.in_ok-checked.checked = record { read = c.in_ok-checked.ensures.image.0; accepted = c.in_ok-checked.ensures.image.1; good = c.in_ok-calls.ensures.calls.0 } in
-    if_ok-map c.run_calls.result (script-ran (g.D.Device.honest c.args.kernel.now.device) c.args.image.now c.args.script.now c.in_ok-checked.checked c.args.kernel.now.core c.run_calls.new.kernel.core _ _ (omega (arith, c.if-script-gt-MOST_BYTES.false)) loads
-    c.deref.result.now (c.deref.ensures.value ∙ c.in_ok-calls.ensures.calls.1)) c.run_calls.ensures.ok
+    let loads : Loads c.args.image.now (lines c.args.script.now) c.in_ok-checked.checked = record { read = c.in_ok-checked.ensures.image.0; accepted = c.in_ok-checked.ensures.image.1; good = c.in_ok-commands.ensures.commands.0 } in
+    if_ok-map c.carry_out_all.result (script-ran (g.D.Device.honest c.args.kernel.now.device) c.args.image.now c.args.script.now c.in_ok-checked.checked c.args.kernel.now.core c.carry_out_all.new.kernel.core _ _ (omega (arith, c.if-script-gt-MOST_BYTES.false)) loads
+    c.deref.result.now (c.deref.ensures.value ∙ c.in_ok-commands.ensures.commands.1)) c.carry_out_all.ensures.ok
 
 pub returns-clause-stopped : goal.returns-clause-stopped
 returns-clause-stopped g c =
-    let loads : Loads c.args.image.now (lines c.args.script.now) c.in_ok-checked.checked = record { read = c.in_ok-checked.ensures.image.0; accepted = c.in_ok-checked.ensures.image.1; good = c.in_ok-calls.ensures.calls.0 } in
-    if_err-map c.run_calls.result Write (script-stopped (g.D.Device.honest c.args.kernel.now.device) c.args.image.now c.args.script.now c.in_ok-checked.checked c.args.kernel.now.core c.run_calls.new.kernel.core _ _ (omega (arith, c.if-script-gt-MOST_BYTES.false)) loads
-    c.deref.result.now (c.deref.ensures.value ∙ c.in_ok-calls.ensures.calls.1)) c.run_calls.ensures.stopped
+    let loads : Loads c.args.image.now (lines c.args.script.now) c.in_ok-checked.checked = record { read = c.in_ok-checked.ensures.image.0; accepted = c.in_ok-checked.ensures.image.1; good = c.in_ok-commands.ensures.commands.0 } in
+    if_err-map c.carry_out_all.result Write (script-stopped (g.D.Device.honest c.args.kernel.now.device) c.args.image.now c.args.script.now c.in_ok-checked.checked c.args.kernel.now.core c.carry_out_all.new.kernel.core _ _ (omega (arith, c.if-script-gt-MOST_BYTES.false)) loads
+    c.deref.result.now (c.deref.ensures.value ∙ c.in_ok-commands.ensures.commands.1)) c.carry_out_all.ensures.stopped

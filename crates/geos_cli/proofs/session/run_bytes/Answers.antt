@@ -1,5 +1,8 @@
+use Rattle.std.proofs.Common.{ap}
+use Rattle.block_handles.specs.Store.{locks_in}
+use Rattle.vm_blocks.specs.View.{vm_slot}
 use Rattle.geos_cli.specs.Session.{EndsBytes}
-use Rattle.geos_cli.proofs.Sessions.{unfailed, passed-on, if-ok, if-fault, hex-ends, if-write, session-due, session-ran, session-unflushed, session-stopped}
+use Rattle.geos_cli.proofs.Sessions.{passed-on, if-ok, if-fault, hex-ends, if-write, session-due, session-ran, session-unflushed, session-stopped}
 use Rattle.geos_cli.proofs.session.run_bytes.Goals as goal
 
 pub returns-in_err-image-clause-due : goal.returns-in_err-image-clause-due
@@ -7,16 +10,19 @@ returns-in_err-image-clause-due g c = passed-on (EndsBytes c.args.bytes.now) _ _
 
 pub returns-in-Ok-clause-ran : goal.returns-in-Ok-clause-ran
 returns-in-Ok-clause-ran g c =
-    if-ok c.flush.result (session-ran _ _ _ _ _ _ _ tt c.in_ok-kernel.ensures.failures (unfailed _ _ c.run_script.ensures.vm c.in_ok-kernel.ensures.failures) c.requires c.in_ok-image.ensures.good c.in_ok-image.ensures.image c.in_ok-image.ensures.script c.deref.ensures.value c.in_ok-kernel.ensures.tied c.in_ok-kernel.ensures.memory _ _ _ c.in-Ok.ensures.ran c.flush.ensures.bytes)
+    if-ok c.flush.result (session-ran _ _ _ _ _ _ _ c.in_ok-kernel.ensures.honest c.requires c.in_ok-image.ensures.good c.in_ok-image.ensures.image c.in_ok-image.ensures.script c.deref.ensures.value c.in_ok-kernel.ensures.tied c.in_ok-kernel.ensures.memory _ _ _ c.in-Ok.ensures.ran c.flush.ensures.bytes)
 
 pub returns-in-Ok-clause-stopped : goal.returns-in-Ok-clause-stopped
 returns-in-Ok-clause-stopped g c =
-    if-fault c.flush.result _ (session-unflushed _ _ _ _ _ _ _ tt c.in_ok-kernel.ensures.failures (unfailed _ _ c.run_script.ensures.vm c.in_ok-kernel.ensures.failures) c.requires c.in_ok-image.ensures.good c.in_ok-image.ensures.image c.in_ok-image.ensures.script c.deref.ensures.value c.in_ok-kernel.ensures.tied c.in_ok-kernel.ensures.memory _ _ _ c.in-Ok.ensures.ran c.flush.ensures.bytes)
+    if-fault c.flush.result _ (session-unflushed _ _ _ _ _ _ _ c.in_ok-kernel.ensures.honest c.requires c.in_ok-image.ensures.good c.in_ok-image.ensures.image c.in_ok-image.ensures.script c.deref.ensures.value c.in_ok-kernel.ensures.tied c.in_ok-kernel.ensures.memory _ _ _ c.in-Ok.ensures.ran c.flush.ensures.bytes)
 
 pub returns-clause-stopped : goal.returns-clause-stopped
 returns-clause-stopped g c is =
-    session-stopped _ _ _ _ _ _ _ tt c.in_ok-kernel.ensures.failures (unfailed _ _ c.run_script.ensures.vm c.in_ok-kernel.ensures.failures) c.requires c.in_ok-image.ensures.good c.in_ok-image.ensures.image c.in_ok-image.ensures.script c.deref.ensures.value c.in_ok-kernel.ensures.tied c.in_ok-kernel.ensures.memory _ _ (c.in-Err.ensures.stopped is)
+    session-stopped _ _ _ _ _ _ _ c.in_ok-kernel.ensures.honest c.requires c.in_ok-image.ensures.good c.in_ok-image.ensures.image c.in_ok-image.ensures.script c.deref.ensures.value c.in_ok-kernel.ensures.tied c.in_ok-kernel.ensures.memory _ _ (c.in-Err.ensures.stopped is)
 
 pub returns-in-Ok-clause-due : goal.returns-in-Ok-clause-due
 returns-in-Ok-clause-due g c =
-    if-write _ (EndsBytes c.args.bytes.now) c.flush.result c.flush.ensures.failed (session-due _ _ _ _ _ _ _ tt c.in_ok-kernel.ensures.failures (unfailed _ _ c.run_script.ensures.vm c.in_ok-kernel.ensures.failures) c.requires c.in_ok-image.ensures.good c.in_ok-image.ensures.image c.in_ok-image.ensures.script c.deref.ensures.value c.in_ok-kernel.ensures.tied c.in_ok-kernel.ensures.memory _ _ c.in-Ok.ensures.ran)
+    if-write _ (EndsBytes c.args.bytes.now) c.flush.result c.flush.ensures.failed (session-due _ _ _ _ _ _ _ c.in_ok-kernel.ensures.honest c.requires c.in_ok-image.ensures.good c.in_ok-image.ensures.image c.in_ok-image.ensures.script c.deref.ensures.value c.in_ok-kernel.ensures.tied c.in_ok-kernel.ensures.memory _ _ c.in-Ok.ensures.ran)
+
+pub run_script-requires : goal.run_script-requires
+run_script-requires g c = λ h p. ap locks_in (c.in_ok-kernel.ensures.store.none (vm_slot h))

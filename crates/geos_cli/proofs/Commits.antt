@@ -1,0 +1,38 @@
+-- Counts of locks over commits.
+use Rattle.std.proofs.Common.{◌≡◌, ℕ, Bool, true, false, Option, Some, None, refl, ap, ◌∙◌, subst}
+use Rattle.std.specs.Prelude.{Result}
+use Rattle.std.proofs.lemmas.Bool.{cond_both}
+use Rattle.geos_model.specs.declared.refusal.Refusal.{Refusal}
+use Rattle.geos_model.specs.declared.refusal.Refusal.TheVariants as refusal
+use Rattle.geos_model.specs.Names.{vm}
+use Rattle.geos_model.specs.Refusals.{first_refusal}
+use Rattle.geos_table.specs.Memory.{Memory, locks_of}
+use Rattle.geos_table.specs.Given.{given_memory}
+use Rattle.geos_table.specs.Effects.{Choice, outcome, effect_of, come_to}
+use Rattle.geos_table.specs.VmCalls.{Keeper, commit, committed, in_doubt, left_by_commit, pair_to_keep}
+use Rattle.geos_table.specs.VmFile.{Pair}
+use Rattle.geos_table.specs.Leaving.{NoneLocked}
+use Rattle.geos_table.proofs.Leaves.{commit-counts}
+use Rattle.geos_table.proofs.LegalGiven.{locks_of-given}
+
+-- no block of the file is locked behind a refused commit, where none was before it
+left-unlocked : (choice : Choice) (m : Memory) (pair : Pair) (why : Refusal) → NoneLocked m → NoneLocked (left_by_commit choice m pair why)
+left-unlocked choice m pair refusal.Disk none = cond_both choice.unsure (in_doubt m pair) m NoneLocked (λ late. none) (λ early. none)
+left-unlocked choice m pair why none = none
+
+-- nor behind any
+pub commit-unlocked : (keeper : Keeper) (choice : Choice) (m after : Memory) (result : Result (Unit {0}) Refusal) → NoneLocked m → outcome (effect_of (commit keeper) choice m) ≡ (result, after) → NoneLocked after
+commit-unlocked keeper choice m after result none comes = subst NoneLocked (ap (λ (x : Result (Unit {0}) Refusal × Memory). x.1) comes) (go (first_refusal (effect_of (commit keeper) choice m).refusals))
+  where
+    given : Memory
+    given = given_memory choice.given m
+
+    none_given : NoneLocked given
+    none_given h = locks_of-given choice.given m (vm h) ∙ none h
+
+    pair : Pair
+    pair = pair_to_keep keeper given
+
+    go : (o : Option Refusal) → NoneLocked (come_to o (left_by_commit choice given pair) tt (committed given pair)).1
+    go None = λ h. commit-counts given pair none_given (vm h) ∙ none_given h
+    go (Some why) = left-unlocked choice given pair why none_given
