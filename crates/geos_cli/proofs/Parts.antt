@@ -1,8 +1,8 @@
 -- What a failed write leaves of a longer text.
-use Rattle.std.proofs.Common.{◌≡◌, ◌<◌, ℕ, suc, List, [], ◌∷◌, ◌++◌, length, take, drop, get_or, sym, ap, ◌∙◌, arith, subst, append_assoc, length-append, take-append-drop, drop-cons}
+use Rattle.std.proofs.Common.{◌≡◌, ◌<◌, ℕ, suc, List, [], ◌∷◌, ◌++◌, length, take, drop, get_or, sym, ap, ◌∙◌, arith, subst, append_assoc, append-nil, length-append, take-append-drop, drop-cons}
 use Rattle.std.specs.Prelude.{Option, Result, Ok, Err, IfErr, decimal}
 use Rattle.std.specs.Io.KnownBytes.{Appends}
-use Rattle.std.proofs.KnownBytes.{Appends-trans}
+use Rattle.std.proofs.KnownBytes.{Appends-nil, Appends-trans}
 use Rattle.std.proofs.lemmas.Grind.{flat_map-append}
 use Rattle.geos_cli.specs.Counted.{AppendsPart}
 use Rattle.geos_cli.specs.Script.{printed}
@@ -19,6 +19,21 @@ part-between a b c front bytes behind p (part, rest, e, some, q) =
     ap (λ bs. front ++ (bs ++ behind)) e ∙ ap (λ bs. front ++ bs) (append_assoc part rest behind) ∙ sym (append_assoc front part (rest ++ behind)) in
     let more : 0 < length (rest ++ behind) = omega (arith, length-append rest behind, some) in
     (front ++ part, rest ++ behind, whole, more, Appends-trans a b c front part p q)
+
+-- what holds at each error gives what follows from it
+pub IfErr-map : {A E P Q : Type 0} (result : Result A E) → (P → Q) → IfErr result (λ _. P) → IfErr result (λ _. Q)
+IfErr-map (Ok x) m p = tt
+IfErr-map (Err e) m p = m p
+
+-- a part of the first bytes is a part of all
+pub part-first : (a b : Option (List ℕ)) (bytes behind : List ℕ) → AppendsPart a b bytes → AppendsPart a b (bytes ++ behind)
+part-first a b bytes behind q = part-between a a b [] bytes behind (Appends-nil a) q
+
+-- and so is a part of the last ones behind all others
+pub part-last : (a b c d : Option (List ℕ)) (front bytes last : List ℕ) → Appends a b front → Appends b c bytes → AppendsPart c d last → AppendsPart a d (front ++ (bytes ++ last))
+part-last a b c d front bytes last p q r =
+    subst (AppendsPart a d) (ap (λ bs. (front ++ bytes) ++ bs) (append-nil last) ∙ append_assoc front bytes last)
+    (part-between a c d (front ++ bytes) last [] (Appends-trans a b c front bytes p q) r)
 
 -- a word that is printed stands between those before it and those behind it
 pub printed-at : (words : List ℕ) (k : ℕ) → k < length words

@@ -17,10 +17,11 @@ A session is read from standard input, at most 1,048,576 bytes of it. It is
   1. an image, a set of routines in hexadecimal digits;
   2. a line `end`;
   3. a script, with one command a line: `call NAME n..` runs the public routine of that name on
-     at most eight numbers, its words w0 to w7. A line may be blank; text from `;` on is skipped.
+     at most eight numbers, its words w0 to w7; `update`, `save` and `revert` are what VUPDATE,
+     VSAVE and VREVERT do. A line may be blank; text from `;` on is skipped.
 
 Nothing runs unless the whole image is accepted and no line of the script is bad. A call prints
-each word that its routine puts out, in decimal on a line.
+each word that its routine puts out, in decimal on a line; the others print nothing, or `refused N`.
 
 Example:
   ./geos < examples/add.session     prints 5

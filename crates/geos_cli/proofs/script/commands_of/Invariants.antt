@@ -5,10 +5,10 @@ use Rattle.geos_cli.specs.Script.{commands_of, first_bad, is_bad}
 use Rattle.geos_cli.proofs.script.commands_of.Given as goal
 
 abbrev pub invariant-loop-rest : goal.invariant-loop-rest
-invariant-loop-rest g l =
+invariant-loop-rest l =
     (l.line_number + length l.rest ≤ length l.fn.script)
     × (first_bad l.fn.checked (lines l.fn.script) ≡ position_from (is_bad l.fn.checked) (l.line_number + 1) (lines l.rest))
     × (commands_of l.fn.checked (lines l.fn.script) ≡ l.commands.items ++ commands_of l.fn.checked (lines l.rest))
 
 abbrev pub decreases-loop-rest : goal.decreases-loop-rest
-decreases-loop-rest g l = length l.rest
+decreases-loop-rest l = length l.rest

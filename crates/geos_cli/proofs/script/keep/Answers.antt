@@ -1,0 +1,15 @@
+use Rattle.vm_blocks.specs.ListedCalls.{keeper_of}
+use Rattle.geos_kernel.specs.View.{memory_of}
+use Rattle.geos_kernel.proofs.Seen.{file-on}
+use Rattle.geos_cli.proofs.Commits.{commit-unlocked}
+use Rattle.geos_cli.proofs.script.keep.Goals as goal
+
+pub returns-clause-unlocked : goal.returns-clause-unlocked
+returns-clause-unlocked g c =
+    let f = c.memory_is_legal.ensures.file.0 in
+    let tied = c.memory_is_legal.ensures.file.1 in
+    let none = (c.memory_is_legal.ensures.unlocked f tied).0 c.requires in
+    let done = c.commit-done.ensures.calls.answers f tied in
+    let after = commit-unlocked (keeper_of c.args.how) done.choice (memory_of c.args.kernel.now.core f) (memory_of c.commit-done.new.self.core done.file) c.commit-done.result none done.comes in
+    let now = file-on (g.D.Device.honest c.args.kernel.now.device) (g.D.Device.honest c.commit-done.new.self.device) c.commit-done.ensures.commits.file.was c.commit-done.new.self.core done.file done.tied in
+    (c.memory_is_legal-2.ensures.unlocked done.file now).1 after
