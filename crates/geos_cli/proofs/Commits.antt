@@ -33,6 +33,6 @@ commit-unlocked keeper choice m after result none comes = subst NoneLocked (ap (
     pair : Pair
     pair = pair_to_keep keeper given
 
-    go : (o : Option Refusal) → NoneLocked (come_to o (left_by_commit choice given pair) tt (committed given pair)).1
+    go : (o : Option Refusal) → NoneLocked (come_to {A = Unit {0}} o (left_by_commit choice given pair) tt (committed given pair)).1
     go None = λ h. commit-counts given pair none_given (vm h) ∙ none_given h
     go (Some why) = left-unlocked choice given pair why none_given

@@ -1,6 +1,6 @@
 -- What a failed write leaves of a longer text.
 use Rattle.std.proofs.Common.{◌≡◌, ◌<◌, ℕ, suc, List, [], ◌∷◌, ◌++◌, length, take, drop, get_or, sym, ap, ◌∙◌, arith, subst, append_assoc, append-nil, length-append, take-append-drop, drop-cons}
-use Rattle.std.specs.Prelude.{Option, Result, Ok, Err, IfErr, decimal}
+use Rattle.std.specs.Prelude.{Option, Result, Ok, Err, IfOk, IfErr, decimal}
 use Rattle.std.specs.Io.KnownBytes.{Appends}
 use Rattle.std.proofs.KnownBytes.{Appends-nil, Appends-trans}
 use Rattle.std.proofs.lemmas.Grind.{flat_map-append}
@@ -24,6 +24,10 @@ part-between a b c front bytes behind p (part, rest, e, some, q) =
 pub IfErr-map : {A E P Q : Type 0} (result : Result A E) → (P → Q) → IfErr result (λ _. P) → IfErr result (λ _. Q)
 IfErr-map (Ok x) m p = tt
 IfErr-map (Err e) m p = m p
+
+pub IfOk-map : {A E P Q : Type 0} (result : Result A E) → (P → Q) → IfOk result (λ _. P) → IfOk result (λ _. Q)
+IfOk-map (Ok x) m p = m p
+IfOk-map (Err e) m p = tt
 
 -- a part of the first bytes is a part of all
 pub part-first : (a b : Option (List ℕ)) (bytes behind : List ℕ) → AppendsPart a b bytes → AppendsPart a b (bytes ++ behind)

@@ -1,7 +1,4 @@
 use Rattle.std.proofs.Common.{◌∙◌, [], refl, arith}
-use Rattle.vm_file.specs.declared.commit.How.TheVariants.{Update}
-use Rattle.geos_cli.specs.declared.script.Command.{Command}
-use Rattle.geos_cli.specs.declared.script.Command.TheVariants.{Commit}
 use Rattle.geos_cli.proofs.CommandsRun.{ran-none, ran-more, ran-all, ran-alike, stopped-at, stopped-alike}
 use Rattle.geos_cli.proofs.Parts.{IfErr-any}
 use Rattle.geos_cli.proofs.script.carry_out_all.Goals as goal
@@ -17,8 +14,8 @@ loop-command-preserved g c =
     let before = c.loop-command.invariant.0 in
     let alike = c.loop-command.invariant.2 in
     let next = c.carry_out.ensures.honest in
-    let ran = ran-alike _ (g.D.Device.honest c.args.kernel.now.device) alike c.args.checked.now _ _ _ _ _ c.in_ok-carry_out.ensures.ok in (
-      ran-more (g.D.Device.honest c.args.kernel.now.device) c.args.checked.now c.args.commands.now c.loop-command.command-index (Commit Update) _ _ _ _ _ _ c.loop-command-test.true before ran,
+    let ran = ran-alike (g.D.Device.honest c.loop-command.kernel.device) (g.D.Device.honest c.args.kernel.now.device) alike c.args.checked.now _ _ _ _ _ c.in_ok-carry_out.ensures.ok in (
+      ran-more (g.D.Device.honest c.args.kernel.now.device) c.args.checked.now c.args.commands.now c.loop-command.command-index _ _ _ _ _ _ _ c.loop-command-test.true before ran,
       c.in_ok-carry_out.ensures.kept ∙ c.loop-command.invariant.1,
       ((λ h. alike.0 (next.0 h)), (λ h. next.1 (alike.1 h))),
       c.carry_out.ensures.unlocked,
@@ -28,5 +25,5 @@ pub returns-in_err-carry_out-clause-stopped : goal.returns-in_err-carry_out-clau
 returns-in_err-carry_out-clause-stopped g c =
     let before = c.loop-command.invariant.0 in
     let alike = c.loop-command.invariant.2 in
-    let stopped = stopped-alike _ (g.D.Device.honest c.args.kernel.now.device) alike c.args.checked.now _ _ _ _ _ c.in_err-carry_out.ensures.stopped in
-    IfErr-any _ (stopped-at (g.D.Device.honest c.args.kernel.now.device) c.args.checked.now c.args.commands.now c.loop-command.command-index (Commit Update) _ _ _ _ _ _ c.loop-command-test.true before stopped)
+    let stopped = stopped-alike (g.D.Device.honest c.loop-command.kernel.device) (g.D.Device.honest c.args.kernel.now.device) alike c.args.checked.now _ _ _ _ _ c.in_err-carry_out.ensures.stopped in
+    IfErr-any _ (stopped-at (g.D.Device.honest c.args.kernel.now.device) c.args.checked.now c.args.commands.now c.loop-command.command-index _ _ _ _ _ _ _ c.loop-command-test.true before stopped)

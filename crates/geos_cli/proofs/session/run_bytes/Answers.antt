@@ -25,4 +25,4 @@ returns-in-Ok-clause-due g c =
     if-write _ (EndsBytes c.args.bytes.now) c.flush.result c.flush.ensures.failed (session-due _ _ _ _ _ _ _ c.in_ok-kernel.ensures.honest c.requires c.in_ok-image.ensures.good c.in_ok-image.ensures.image c.in_ok-image.ensures.script c.deref.ensures.value c.in_ok-kernel.ensures.tied c.in_ok-kernel.ensures.memory _ _ c.in-Ok.ensures.ran)
 
 pub run_script-requires : goal.run_script-requires
-run_script-requires g c = λ h p. ap locks_in (c.in_ok-kernel.ensures.store.none (vm_slot h))
+run_script-requires g c = record { unlocked = λ h p. ap locks_in (c.in_ok-kernel.ensures.store.none (vm_slot h)) }
