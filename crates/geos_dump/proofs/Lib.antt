@@ -1,0 +1,4 @@
+pub mod Texts
+pub mod ChunkWalks
+pub mod Listed
+pub mod Looks

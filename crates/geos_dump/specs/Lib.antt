@@ -1,0 +1,3 @@
+pub mod HexLines
+pub mod DumpText
+pub mod Sides

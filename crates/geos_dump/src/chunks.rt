@@ -1,0 +1,68 @@
+//! The chunks of a block, as text.
+
+ghost use Rattle.std.specs.Prelude.{◌≡◌, ◌<◌, ◌++◌, OnOk, flat_map, length};
+ghost use Rattle.geos_model.specs.Block.{chunks};
+ghost use Rattle.geos_model.specs.Chunks.{bytes_of};
+ghost use Rattle.geos_model.specs.Heap.{IsHeap};
+ghost use Rattle.geos_dump.specs.DumpText.{chunks_from, chunk_dump, chunk_text};
+
+use crate::hex::put_hex_lines;
+use crate::numbers::put_numbered;
+use lmem_heap::{locate, next};
+use std::alloc::AllocError;
+
+/// The bytes of a handle's chunk; none where no chunk has this handle.
+fn bytes_of(block: &[u8], c: u16) -> &[u8]
+    requires { IsHeap block.now }
+    ensures value { result.now ≡ bytes_of (chunks block.now) c }
+    ensures short { length result.now < 65536 }
+{
+    match locate(block, c) {
+        Ok((at, n)) => &block[at..at + usize::from(n)],
+        Err(_) => &[],
+    }
+}
+
+/// A chunk's handle and its length.
+fn put_chunk(out: &mut Vec<u8>, c: u16, bytes: &[u8]) -> Result<(), AllocError>
+    ensures { OnOk result (out.new.items ≡ out.old.items ++ chunk_text (record { c = c; bytes = bytes.now })) }
+{
+    put_numbered(out, " ", usize::from(c))?;
+    put_numbered(out, ":", bytes.len())
+}
+
+/// The handle and the length of each chunk of a block.
+pub(crate) fn put_chunks(out: &mut Vec<u8>, block: &[u8]) -> Result<(), AllocError>
+    requires { IsHeap block.now }
+    ensures { OnOk result (out.new.items ≡ out.old.items ++ flat_map chunk_text (chunks_from 16 (chunks block.now))) }
+{
+    let mut last = 0;
+    while let Some(c) = next(block, last) {
+        put_chunk(out, c, bytes_of(block, c))?;
+        last = c;
+    }
+    Ok(())
+}
+
+/// The bytes of a chunk, below a line with its handle.
+fn put_chunk_dump(out: &mut Vec<u8>, c: u16, bytes: &[u8]) -> Result<(), AllocError>
+    requires { length bytes.now < 65536 }
+    ensures { OnOk result (out.new.items ≡ out.old.items ++ chunk_dump (record { c = c; bytes = bytes.now })) }
+{
+    put_numbered(out, "chunk ", usize::from(c))?;
+    out.extend_from_slice(b"\n")?;
+    put_hex_lines(out, bytes)
+}
+
+/// The bytes of each chunk of a block.
+pub(crate) fn put_chunk_dumps(out: &mut Vec<u8>, block: &[u8]) -> Result<(), AllocError>
+    requires { IsHeap block.now }
+    ensures { OnOk result (out.new.items ≡ out.old.items ++ flat_map chunk_dump (chunks_from 16 (chunks block.now))) }
+{
+    let mut last = 0;
+    while let Some(c) = next(block, last) {
+        put_chunk_dump(out, c, bytes_of(block, c))?;
+        last = c;
+    }
+    Ok(())
+}

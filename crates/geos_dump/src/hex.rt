@@ -1,0 +1,105 @@
+//! Bytes in hexadecimal, as `xxd` prints them.
+
+ghost use Rattle.std.specs.Prelude.{◌≡◌, ◌+◌, ◌*◌, ◌<◌, ◌≤◌, ◌^◌, ◌++◌, OnOk, flat_map, length, map};
+ghost use Rattle.std.specs.List.{range_with_len};
+ghost use Rattle.geos_dump.specs.HexLines.{column_text, digits_of, hex_line, hex_lines, offset_text, shown};
+
+use std::alloc::AllocError;
+
+/// The digits of hexadecimal numbers.
+const DIGITS: [u8; 16] = *b"0123456789abcdef";
+
+/// The bytes of a line.
+const BYTES_IN_LINE: usize = 16;
+
+/// The two digits of a byte.
+fn put_digits(out: &mut Vec<u8>, byte: u8) -> Result<(), AllocError>
+    ensures { OnOk result (out.new.items ≡ out.old.items ++ digits_of byte) }
+{
+    let digits = [
+        DIGITS[usize::from(byte / 16)],
+        DIGITS[usize::from(byte % 16)],
+    ];
+    out.extend_from_slice(&digits)
+}
+
+/// The offset of a line's first byte, in eight digits.
+fn put_offset(out: &mut Vec<u8>, at: usize) -> Result<(), AllocError>
+    requires { at < 65536 }
+    ensures { OnOk result (out.new.items ≡ out.old.items ++ offset_text at) }
+{
+    out.extend_from_slice(b"0000")?;
+    put_digits(out, (at / 256) as u8)?;
+    put_digits(out, (at % 256) as u8)?;
+    out.extend_from_slice(b": ")
+}
+
+/// The column of a line with a number: its byte, or blanks where there is none.
+fn put_column(out: &mut Vec<u8>, bytes: &[u8], k: usize) -> Result<(), AllocError>
+    ensures { OnOk result (out.new.items ≡ out.old.items ++ column_text bytes.now k) }
+{
+    match bytes.get(k) {
+        Some(byte) => put_digits(out, *byte)?,
+        None => out.extend_from_slice(b"  ")?,
+    }
+    if k % 2 == 1 {
+        out.extend_from_slice(b" ")?;
+    }
+    Ok(())
+}
+
+/// The columns of a line.
+fn put_columns(out: &mut Vec<u8>, bytes: &[u8]) -> Result<(), AllocError>
+    ensures { OnOk result (out.new.items ≡ out.old.items ++ flat_map (column_text bytes.now) (range_with_len 0 16)) }
+{
+    for k in 0..BYTES_IN_LINE {
+        put_column(out, bytes, k)?;
+    }
+    Ok(())
+}
+
+/// A byte as a line shows it: itself where it can be printed.
+fn shown(byte: u8) -> u8
+    ensures { result ≡ shown byte }
+{
+    if byte >= 32 && byte <= 126 {
+        byte
+    } else {
+        b'.'
+    }
+}
+
+/// The bytes of a line, as they are shown.
+fn put_shown(out: &mut Vec<u8>, bytes: &[u8]) -> Result<(), AllocError>
+    ensures { OnOk result (out.new.items ≡ out.old.items ++ map shown bytes.now) }
+{
+    for byte in bytes {
+        out.push(shown(*byte))?;
+    }
+    Ok(())
+}
+
+/// A line of at most 16 bytes, of which the first stands at an offset.
+fn put_hex_line(out: &mut Vec<u8>, at: usize, bytes: &[u8]) -> Result<(), AllocError>
+    requires { at < 65536 }
+    ensures { OnOk result (out.new.items ≡ out.old.items ++ hex_line at bytes.now) }
+{
+    put_offset(out, at)?;
+    put_columns(out, bytes)?;
+    out.extend_from_slice(b" ")?;
+    put_shown(out, bytes)?;
+    out.extend_from_slice(b"\n")
+}
+
+/// Bytes, sixteen in a line.
+pub(crate) fn put_hex_lines(out: &mut Vec<u8>, bytes: &[u8]) -> Result<(), AllocError>
+    requires { length bytes.now < 65536 }
+    ensures { OnOk result (out.new.items ≡ out.old.items ++ hex_lines bytes.now) }
+{
+    for k in 0..bytes.len().div_ceil(BYTES_IN_LINE) {
+        let at = k * BYTES_IN_LINE;
+        let end = bytes.len().min(at + BYTES_IN_LINE);
+        put_hex_line(out, at, &bytes[at..end])?;
+    }
+    Ok(())
+}
