@@ -2,3 +2,4 @@ pub mod Texts
 pub mod ChunkWalks
 pub mod Listed
 pub mod Looks
+pub mod Examples
