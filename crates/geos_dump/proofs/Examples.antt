@@ -1,9 +1,9 @@
 -- The definitions computed on a file that is written out.
-use Rattle.std.proofs.Common.{◌≡◌, ℕ, List, [], ◌∷◌, ◌++◌, replicate, refl}
+use Rattle.std.proofs.Common.{◌≡◌, ℕ, [], ◌∷◌, replicate, refl}
 use Rattle.std.specs.Prelude.{codes}
 use Rattle.std.specs.Fmt.{digits}
 use Rattle.geos_model.specs.Bytes.{word}
-use Rattle.vm_file.specs.Contents.{Block, Contents, Pair}
+use Rattle.vm_file.specs.Contents.{Block, Pair}
 use Rattle.geos_dump.specs.declared.text.Detail.TheVariants.{Lines, Bytes}
 use Rattle.geos_dump.specs.DumpText.{block_text, dump_text}
 use Rattle.geos_dump.specs.HexLines.{hex_lines}

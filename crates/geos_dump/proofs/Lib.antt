@@ -3,3 +3,4 @@ pub mod ChunkWalks
 pub mod Listed
 pub mod Looks
 pub mod Examples
+pub mod Fields

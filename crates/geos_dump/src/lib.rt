@@ -2,12 +2,17 @@
 //! and a picture of how full the blocks are.
 #![tactic(auto)]
 
+mod areas;
+mod bars;
 mod chunks;
 mod error;
 mod hex;
 mod numbers;
+mod picture;
 mod sides;
 mod text;
 
+pub use areas::{Areas, read_areas};
 pub use error::DumpError;
+pub use picture::{LEAST_WIDTH, map};
 pub use text::{Detail, dump};

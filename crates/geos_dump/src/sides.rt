@@ -1,6 +1,6 @@
 //! The two directories of a file, and their blocks.
 
-ghost use Rattle.std.specs.Prelude.{◌≡◌, ◌<◌, true, length, OnOk, OnErr};
+ghost use Rattle.std.specs.Prelude.{◌≡◌, ◌<◌, ◌≤◌, true, length, OnOk, OnErr};
 ghost use Rattle.geos_model.specs.Heap.{IsHeap};
 ghost use Rattle.vm_file.specs.Contents.{listed};
 ghost use Rattle.vm_file.specs.Device.{Rose};
@@ -8,7 +8,7 @@ ghost use Rattle.vm_file.specs.Directories.{is_directory};
 ghost use Rattle.vm_file.specs.State.{HasBlock, bytes_of_block, pair_of};
 ghost use Rattle.geos_dump.specs.Sides.{IsEntryOf, IsOnlyRead, contents_on, directory_on};
 
-use vm_file::{Device, Directory, Disk, Entry, VmFile};
+use vm_file::{Device, Directory, Disk, Entry, MOST_BLOCKS, VmFile};
 
 /// One of the directories of a file.
 #[derive(Clone, Copy, Debug, PartialEq, Eq)]
@@ -31,7 +31,8 @@ pub(crate) fn directory<D: Device + Drop>(file: &VmFile<D>, side: Side) -> &Dire
 
 /// The number of blocks on a side.
 pub(crate) fn count<D: Device + Drop>(file: &VmFile<D>, side: Side) -> usize
-    ensures { result ≡ length (contents_on side (pair_of D.image file.now)).blocks }
+    ensures blocks { result ≡ length (contents_on side (pair_of D.image file.now)).blocks }
+    ensures few { result ≤ MOST_BLOCKS }
 {
     directory(file, side).entries.len()
 }

@@ -80,7 +80,7 @@ fn put_block<D: Device + Drop>(
 }
 
 /// The line of a directory, which begins with a word.
-fn put_directory_line(
+pub(crate) fn put_directory_line(
     out: &mut Vec<u8>,
     word: &str,
     directory: &Directory,

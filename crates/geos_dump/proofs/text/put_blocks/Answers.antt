@@ -18,6 +18,6 @@ loop-i-preserved g c =
     record {
       looks = look_then d.image d.honest d.may_leave d.may_have_left f c.loop-i.file c.put_block.new.file i.looks c.in_ok-put_block.ensures.looks;
       count = c.in_ok-put_block.ensures.cause ∙ i.count;
-      text = (λ h. take-step _ _ _ _ (block_text c.args.detail) blocks c.loop-i.i no_block (omega (arith, c.loop-i-test.true, c.count-i-end.ensures)) (i.text h)
+      text = (λ h. take-step _ _ _ _ (block_text c.args.detail) blocks c.loop-i.i no_block (omega (arith, c.loop-i-test.true, c.count-i-end.ensures.blocks)) (i.text h)
           (c.in_ok-put_block.ensures.text (i.looks.reads.stays h)) (ap (block_text c.args.detail) is));
     }

@@ -1,0 +1,11 @@
+use Rattle.std.proofs.Common.{◌≡◌}
+use Rattle.geos_dump.specs.Sides.{IsOnlyRead}
+use Rattle.geos_dump.proofs.picture.put_blocks.Given as goal
+
+abbrev pub invariant-loop-i : goal.invariant-loop-i
+invariant-loop-i g l =
+    let d = g.D.Device in
+    record {
+      looks : IsOnlyRead d.image d.honest d.may_leave d.may_have_left l.fn.file l.file;
+      count : d.failed l.file.device ≡ d.failed l.fn.file.device;
+    }

@@ -1,0 +1,189 @@
+//! A picture of a file in text.
+
+ghost use Rattle.std.specs.Prelude.{◌≡◌, ◌+◌, ◌*◌, ◌≤◌, ◌<◌, ◌^◌, length};
+ghost use Rattle.geos_model.specs.Heap.{IsHeap};
+ghost use Rattle.vm_file.specs.Outcomes.{ReadsOnly};
+ghost use Rattle.vm_file.specs.State.{HasBlock, pair_of};
+ghost use Rattle.geos_dump.specs.Sides.{Causes, IsOnlyRead, directory_on};
+
+use crate::areas::Areas;
+use crate::bars::{columns_of, put_bar, put_number_right, put_right};
+use crate::error::DumpError;
+use crate::numbers::put_numbered;
+use crate::sides::{Side, count, directory, entry_at, read_block};
+use crate::text::{MOST_BYTES, put_directory_line};
+use lmem_heap::total_free;
+use std::alloc::{AllocError, Global};
+use vm_file::{Device, Entry, GROUP_UID, VmFile};
+
+/// The least width of a picture, in columns.
+pub const LEAST_WIDTH: u16 = 60;
+
+/// The columns in front of a block's bar.
+const FRONT: u16 = 25;
+
+/// How the bars of blocks are drawn.
+#[derive(Clone, Copy, Debug, PartialEq, Eq)]
+struct Scale {
+    /// The size of the longest block, in bytes.
+    longest: u16,
+    /// The columns that its bar takes.
+    columns: u16,
+}
+
+/// The bytes that a directory takes in an area, with its blocks.
+fn taken<D: Device + Drop>(file: &VmFile<D>, side: Side) -> u32
+    ensures { result < 2 ^ 31 }
+{
+    let mut bytes = 8;
+    for i in 0..count(file, side) {
+        bytes += 6 + u32::from(entry_at(file, side, i).len);
+    }
+    bytes
+}
+
+/// The size of the longest block of a directory, or 0 where it has none.
+fn longest<D: Device + Drop>(file: &VmFile<D>, side: Side) -> u16 {
+    let sizes = directory(file, side).entries.iter().map(|e| e.len);
+    sizes.max().unwrap_or(0)
+}
+
+/// The areas, which one is read, and how much of it the pair takes.
+fn put_areas<D: Device + Drop>(
+    out: &mut Vec<u8>,
+    file: &VmFile<D>,
+    areas: Areas,
+    width: u16,
+) -> Result<(), AllocError> {
+    let name = if areas.second { "B" } else { "A" };
+    let pair = taken(file, Side::Current) + taken(file, Side::Saved);
+    let columns = usize::from(width.saturating_sub(2));
+    put_numbered(out, "areas of ", areas.size as usize)?;
+    out.extend_from_slice(b" bytes, ")?;
+    out.extend_from_slice(name.as_bytes())?;
+    put_numbered(out, " is read, ", pair as usize)?;
+    out.extend_from_slice(b" taken\n")?;
+    out.extend_from_slice(name.as_bytes())?;
+    out.extend_from_slice(b" ")?;
+    put_bar(out, columns_of(pair, areas.size, columns), columns)?;
+    out.extend_from_slice(b"\n")
+}
+
+/// The line of a block of which so many bytes are used.
+fn put_row(out: &mut Vec<u8>, entry: Entry, used: u16, scale: Scale) -> Result<(), AllocError> {
+    let size = u32::from(entry.len);
+    let columns = columns_of(size, u32::from(scale.longest), usize::from(scale.columns));
+    put_number_right(out, 6, entry.h)?;
+    if entry.uid == GROUP_UID {
+        put_right(out, 6, "group")?;
+    } else {
+        put_number_right(out, 6, entry.uid)?;
+    }
+    put_number_right(out, 6, entry.len)?;
+    put_number_right(out, 6, used)?;
+    out.extend_from_slice(b" ")?;
+    put_bar(out, columns_of(u32::from(used), size, columns), columns)?;
+    out.extend_from_slice(b"\n")
+}
+
+/// The bytes of a block that are not free.
+fn used_bytes(block: &[u8]) -> u16
+    requires heap { IsHeap block.now }
+    requires size { length block.now < 65536 }
+{
+    block.len() as u16 - total_free(block)
+}
+
+/// Reads a block, and draws it.
+fn put_block<D: Device + Drop>(
+    out: &mut Vec<u8>,
+    file: &mut VmFile<D>,
+    side: Side,
+    entry: Entry,
+    scale: Scale,
+    buffer: &mut [u8],
+) -> Result<(), DumpError>
+    requires listed { HasBlock (directory_on side file.old) entry.h entry.len }
+    requires room { entry.len ≤ length buffer.old }
+    ensures looks { IsOnlyRead D.image D.honest D.may_leave D.may_have_left file.old file.new }
+    ensures cause { Causes (D.honest file.old.device) (D.failed file.old.device) (D.failed file.new.device) result }
+{
+    let bytes = &mut buffer[..usize::from(entry.len)];
+    read_block(file, side, entry.h, bytes)?;
+    put_row(out, entry, used_bytes(bytes), scale)?;
+    Ok(())
+}
+
+/// The blocks of a directory.
+fn put_blocks<D: Device + Drop>(
+    out: &mut Vec<u8>,
+    file: &mut VmFile<D>,
+    side: Side,
+    scale: Scale,
+    buffer: &mut [u8],
+) -> Result<(), DumpError>
+    requires room { length buffer.old ≡ MOST_BYTES }
+    ensures looks { IsOnlyRead D.image D.honest D.may_leave D.may_have_left file.old file.new }
+    ensures cause { Causes (D.honest file.old.device) (D.failed file.old.device) (D.failed file.new.device) result }
+{
+    for i in 0..count(file, side) {
+        let entry = entry_at(file, side, i);
+        put_block(out, file, side, entry, scale, buffer)?;
+    }
+    Ok(())
+}
+
+/// A directory, its columns and its blocks, behind an empty line.
+fn put_directory<D: Device + Drop>(
+    out: &mut Vec<u8>,
+    word: &str,
+    file: &mut VmFile<D>,
+    side: Side,
+    scale: Scale,
+    buffer: &mut [u8],
+) -> Result<(), DumpError>
+    requires room { length buffer.old ≡ MOST_BYTES }
+    ensures looks { IsOnlyRead D.image D.honest D.may_leave D.may_have_left file.old file.new }
+    ensures cause { Causes (D.honest file.old.device) (D.failed file.old.device) (D.failed file.new.device) result }
+{
+    out.extend_from_slice(b"\n")?;
+    put_directory_line(out, word, directory(file, side))?;
+    if count(file, side) > 0 {
+        out.extend_from_slice(b"handle   uid  size  used\n")?;
+    }
+    put_blocks(out, file, side, scale, buffer)
+}
+
+/// A picture of a file that is read in the given area: how much of the area the pair takes, and
+/// for the current directory and the saved one a line for each block with its handle, its user
+/// ID or `group`, its size and its used bytes, and a bar with `#` for what is used and `.` for
+/// what is free. The bars are as long as the blocks, of which the longest fills the width. No
+/// line is longer than `width` columns, of which fewer than 60 count as 60.
+///
+/// It reads each block once, through one buffer of the greatest block's size, and writes
+/// nothing. `Disk` where the device fails, or gives bytes that are no heap under the block's
+/// handle; `Memory` where an allocation is refused.
+pub fn map<D: Device + Drop>(
+    alloc: Global,
+    file: &mut VmFile<D>,
+    areas: Areas,
+    width: u16,
+) -> Result<Vec<u8>, DumpError>
+    ensures same { file.new ≡ record file.old { device = file.new.device } }
+    ensures pair { pair_of D.image file.new ≡ pair_of D.image file.old }
+    // Nothing is written, so a stop meanwhile leaves what it might have left before.
+    ensures reads { ReadsOnly D.image D.honest D.may_leave D.may_have_left file.old.device file.new.device }
+    ensures cause { Causes (D.honest file.old.device) (D.failed file.old.device) (D.failed file.new.device) result }
+{
+    let width = width.max(LEAST_WIDTH);
+    let scale = Scale {
+        longest: longest(file, Side::Current).max(longest(file, Side::Saved)),
+        columns: width.saturating_sub(FRONT),
+    };
+    let mut buffer = vec![in alloc; 0u8; MOST_BYTES]?;
+    let mut out = Vec::new(alloc);
+    put_areas(&mut out, file, areas, width)?;
+    put_directory(&mut out, "current", file, Side::Current, scale, &mut buffer)?;
+    put_directory(&mut out, "saved", file, Side::Saved, scale, &mut buffer)?;
+    Ok(out)
+}
