@@ -3,10 +3,11 @@
 
 mod commands;
 mod fault;
+mod files;
 mod requests;
 
 use geos_cli::ScriptFault;
-use geos_shell::{command, request_of};
+use geos_shell::requested;
 use requests::carry_out;
 use std::fmt::Display;
 use std::io::ErrorKind;
@@ -40,11 +41,8 @@ fn words(rt: &HostRuntime) -> io::Result<Vec<String>> {
 
 /// Does what the words ask for, and gives the program's status.
 fn run(rt: &HostRuntime, words: &[String]) -> io::Result<ExitCode> {
-    let Ok(command) = command(rt.alloc()) else {
-        return fail(rt, ScriptFault::Memory);
-    };
-    match command.try_get_matches_from(words) {
-        Ok(matches) => match carry_out(rt, request_of(&matches)) {
+    match requested(rt.alloc(), words) {
+        Ok(request) => match carry_out(rt, request) {
             Ok(()) => Ok(ExitCode::SUCCESS),
             Err(fault) => fail(rt, fault),
         },

@@ -1,18 +1,23 @@
 //! What the words on the command line ask for is done.
 
+ghost use Rattle.geos_shell.specs.Limits.{KeepsLimits};
+
 use crate::commands::{
     Explained, assemble_bytes, begins_as_image, cause_bytes, check_bytes, explain_bytes,
     explain_text_bytes, list_bytes,
 };
 use crate::fault::CheckFault;
+use crate::files;
 use geos_asm::AssembleError;
 use geos_cli::{Counted, ScriptFault, run_session};
+use geos_dump::{Detail, DumpError};
 use geos_image::ReadError;
 use geos_shell::{Request, StreamFault, print, read, write};
 use geos_verify::Reject;
 use std::io;
 use std::io::BufWriter;
 use thiserror::Error;
+use vm_file::{CreateError, OpenError};
 
 /// Why a request was not carried out.
 #[derive(Debug, Drop, Error)]
@@ -29,6 +34,12 @@ pub(crate) enum RequestFault<'a> {
     Check(#[from] CheckFault),
     #[error(transparent)]
     Reject(#[from] Reject),
+    #[error(transparent)]
+    Create(#[from] CreateError),
+    #[error(transparent)]
+    Open(#[from] OpenError),
+    #[error(transparent)]
+    Dump(#[from] DumpError),
 }
 
 /// Runs a session on the standard streams.
@@ -97,15 +108,27 @@ fn explain<'a>(rt: &HostRuntime, path: &'a str) -> Result<(), RequestFault<'a>> 
 }
 
 /// Does what is asked for.
-pub(crate) fn carry_out<'a>(
-    rt: &HostRuntime,
-    request: Request<'a>,
-) -> Result<(), RequestFault<'a>> {
+pub(crate) fn carry_out<'a>(rt: &HostRuntime, request: Request<'a>) -> Result<(), RequestFault<'a>>
+    requires { KeepsLimits request }
+{
     match request {
         Request::Session => Ok(session(rt)?),
         Request::Assemble { text, image } => assemble(rt, text, image),
         Request::List(path) => list(rt, path),
         Request::Check(path) => check(rt, path),
         Request::Explain(path) => explain(rt, path),
+        Request::New { file, area } => files::make(rt, file, area),
+        Request::Run {
+            image,
+            file,
+            script,
+            region,
+        } => files::run(rt, image, file, script, region),
+        Request::Dump {
+            file,
+            chunks: false,
+        } => files::print_file(rt, file, Detail::Lines),
+        Request::Dump { file, chunks: true } => files::print_file(rt, file, Detail::Bytes),
+        Request::Map { file, width } => files::draw_file(rt, file, width),
     }
 }

@@ -2,7 +2,8 @@
 
 pub(crate) const ABOUT: &str =
     "Runs a session: checks an image of routines, then calls them as a script says. \
-     Or makes an image of a text, or says what there is to say of an image in a file.";
+     Or makes an image of a text, says what there is to say of an image, runs a script on a VM file, \
+     or shows what such a file keeps.";
 
 pub(crate) const USAGES: &str = "\
 geos < SESSION
@@ -10,6 +11,10 @@ geos < SESSION
        geos list IMAGE
        geos check IMAGE
        geos explain IMAGE
+       geos new FILE [--area N]
+       geos run IMAGE FILE SCRIPT [--region N]
+       geos dump FILE [--chunks]
+       geos map FILE [--width N]
        geos help [COMMAND]";
 
 pub(crate) const SESSION: &str = "\
@@ -22,13 +27,15 @@ A session is read from standard input, at most 1,048,576 bytes of it. It is
 
 Nothing runs unless the whole image is accepted and no line of the script is bad. A call prints
 each word that its routine puts out, in decimal on a line; the others print nothing, or `refused N`.
+A session has a VM file of its own, in memory; `geos run` runs a script on one that lasts.
 
 Example:
   ./geos < examples/add.session     prints 5
 examples/README.md has the routines of that folder in words.
 
-IN is a file of assembly text, OUT and IMAGE are files of an image's bytes; `-` is the standard
-input, or for OUT the standard output, and `./-` a file of that name. docs/AUTHORS.md says how to
+IN is a file of assembly text, OUT and IMAGE are files of an image's bytes, SCRIPT is a file of
+commands as of a session; `-` is the standard input, or for OUT the standard output, and `./-` a file of
+that name. FILE is a VM file, and never a stream. docs/AUTHORS.md says how to
 write a routine, docs/FORMATS.md has the form of texts, docs/INSTRUCTIONS.md the instructions. A
 text to begin with:
   routine add public budget 5
@@ -82,3 +89,43 @@ lowest rule there; `geos explain` says more. The rules:
   V12  what is known at an instruction is so on each way to it
   V13  each step is paid for: a loop is counted by LOOP, a call by the budget of the routine that is called
   V14  the steps of a routine are within its budget";
+
+/// How a VM file is made.
+pub(crate) const MADE: &str = "\
+The file is twice the size of an area, and 1,024 bytes; where the disk can, what is not written takes
+no room on it. An area holds all blocks of the file twice: as they are, and as they were saved last.
+Where they are longer than an area, `update` and `save` are refused 6 and change nothing.
+A file that is there is not touched: `cannot write FILE`.";
+
+/// How a script runs on a VM file.
+pub(crate) const RUNS: &str = "\
+SCRIPT has a command a line, as a session behind its image:
+  call NAME n..   runs the public routine on at most eight numbers, and prints what it puts out
+  update          the file keeps its blocks as they are
+  save            the same, and they are what `revert` goes back to
+  revert          the blocks are again as they were saved last; the file keeps that
+These three print nothing, or `refused N`: 6 where the blocks are too long, 11 where the disk fails,
+12 where an earlier failure left it open what the file has. What was changed behind the last of them
+is lost: end a script with `update`, or have a routine do VUPDATE.
+
+A stop at any moment, as of the machine, leaves the file as one of these commands left it or would
+have: whole, or not at all. Others that run on the file meanwhile wait, and so does `dump`.
+
+Example:
+  geos new notes.vm
+  geos run notes.image notes.vm notes.script
+  geos dump notes.vm";
+
+/// How a VM file is printed.
+pub(crate) const DUMPED: &str = "\
+What the file keeps now, `current`, then what it saved last, `saved`:
+  current map M item G I   the map block, the group of the map item and its chunk; 0 is none
+  H uid U size S chunks C:N ..   a block: its handle, user ID and bytes, and handle and length of each chunk
+A group has user ID 65280. A file that may only be read is read; nothing is written.
+`bad file at N` names the first byte, from the front of the file, that is not as it must be.";
+
+/// How a VM file is drawn.
+pub(crate) const MAPPED: &str = "\
+The first bar is the area that is read, with all blocks as they are and as they were saved last. Below it
+each block has a bar, as long beside the longest as the block is: `#` is in use, `.` is free. `used` counts
+bytes, those of the heap's header and table too; a group has `group` in the place of its user ID.";

@@ -6,8 +6,12 @@
 
 mod command_line;
 mod help;
+mod locks;
+mod numbers;
 mod replace;
+mod request;
 mod streams;
 
-pub use command_line::{Request, command, request_of};
+pub use locks::{FileLock, Sharing};
+pub use request::{Request, requested};
 pub use streams::{StreamFault, print, read, write};

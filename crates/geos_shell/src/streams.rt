@@ -9,6 +9,11 @@ use thiserror::Error;
 /// The path that names a standard stream.
 const STANDARD: &str = "-";
 
+/// Whether the path names a standard stream.
+pub(crate) fn is_stream(path: &str) -> bool {
+    path == STANDARD
+}
+
 /// The most bytes that are read: one more than a text may have, and more than any image has.
 const MOST_READ: u64 = 1_048_577;
 
@@ -31,7 +36,7 @@ fn bytes_of<R: Read + Drop>(alloc: Global, input: R) -> io::Result<Vec<u8>> {
 }
 
 fn bytes_at(rt: &HostRuntime, path: &str) -> io::Result<Vec<u8>> {
-    if path == STANDARD {
+    if is_stream(path) {
         bytes_of(rt.alloc(), rt.stdin())
     } else {
         bytes_of(rt.alloc(), fs::open(rt, path)?)
@@ -65,7 +70,7 @@ pub fn print<'a>(rt: &HostRuntime, bytes: &[u8]) -> Result<(), StreamFault<'a>> 
 /// Puts the bytes into the file with the path, in the place of what it has; prints them where the path
 /// is `-`.
 pub fn write<'a>(rt: &HostRuntime, path: &'a str, bytes: &[u8]) -> Result<(), StreamFault<'a>> {
-    if path == STANDARD {
+    if is_stream(path) {
         return print(rt, bytes);
     }
     match replace(rt, path, bytes) {

@@ -1,0 +1,33 @@
+-- Which numbers a request may have.
+use Rattle.std.specs.Prelude.{◌≡◌, ℕ, ◌≤◌, ◌%◌}
+use Rattle.geos_shell.specs.declared.numbers.Number.{Number}
+use Rattle.geos_shell.specs.declared.request.Request.{Request}
+use Rattle.geos_shell.specs.declared.request.Request.TheVariants.{Session, Assemble, List, Check, Explain, New, Run, Dump, Map}
+
+-- a number is within the limits of its kind
+abbrev pub IsWithin : Number → ℕ → Type 0
+IsWithin number n = (number.least ≤ n) × (n ≤ number.most) × (n % number.unit ≡ 0)
+
+-- the size of an area: 512 to 16,777,216 bytes, a multiple of 512
+abbrev pub IsArea : ℕ → Type 0
+IsArea n = (512 ≤ n) × (n ≤ 16777216) × (n % 512 ≡ 0)
+
+-- the size of the region of blocks in memory: 65,536 to 16,777,216 bytes
+abbrev pub IsRegion : ℕ → Type 0
+IsRegion n = (65536 ≤ n) × (n ≤ 16777216)
+
+-- the columns of a drawing: 60 to 1,000
+abbrev pub IsWidth : ℕ → Type 0
+IsWidth n = (60 ≤ n) × (n ≤ 1000)
+
+-- each number of a request is within its limits
+abbrev pub KeepsLimits : Request → Type 0
+KeepsLimits (New file area) = IsArea area
+KeepsLimits (Run image file script region) = IsRegion region
+KeepsLimits (Map file width) = IsWidth width
+KeepsLimits Session = Unit {0}
+KeepsLimits (Assemble text image) = Unit {0}
+KeepsLimits (List path) = Unit {0}
+KeepsLimits (Check path) = Unit {0}
+KeepsLimits (Explain path) = Unit {0}
+KeepsLimits (Dump file chunks) = Unit {0}
