@@ -28,6 +28,9 @@ COUNTS = {"w": 8, "k": 4, "s": 4, "p": 4}
 MOVES = set("LALLOC LFREE LREALLOC LINS LDEL LCONTRACT CANEW CAADD CAINS CADEL CAZERO CARESIZE".split())
 MOVES_ITEMS = set("INEW IFREE IREALLOC IINS IDEL".split())
 COMMITS = set("VUPDATE VSAVE VREVERT".split())
+# On a VM file without a block these are refused with 1; and these are done, or refused for what they are given.
+WANT_A_BLOCK = set("VLOCK VFREE VUID GFREE ILOCK".split()) | MOVES_ITEMS
+WANT_NONE = set("VFIND VGETMAP VSETMAP GNEW IGETMAP ISETMAP".split()) | COMMITS
 # What a slot holds that one of these locks a block into, and the states of one that others unlock or mark.
 LOCKS = {"MNEW": 1, "MLOCK": 1, "VNEW": 3, "VLOCK": 2, "ILOCK": 4}
 UNLOCKS = {"MUNLOCK": (1,), "VUNLOCK": (2, 3), "IUNLOCK": (4, 5)}
@@ -353,10 +356,21 @@ def check(image):
     return None
 
 
+def on_empty_file(i, w):
+    """The refusal of an instruction on a VM file without a block, or 0, where it puts its answer into the words."""
+    refusals = {"VFIND": 15 * (w[i.c] == 65280), "VSETMAP": int(w[i.a] != 0), "ISETMAP": 1 if w[i.a] else 14 * (w[i.b] != 0)}
+    refusal = refusals.get(i.word, 0)
+    if refusal == 0 and i.word in ("VFIND", "VGETMAP", "IGETMAP", "GNEW"):
+        w[i.a] = int(i.word == "GNEW")
+    if i.word == "IGETMAP":
+        w[i.b] = 0
+    return refusal
+
+
 def run(image, index, words):
-    """The steps, the words and the output of a routine's run where there is no block. Words, counters and control alone are known here,
-    and MFREE and MLOCK, which are refused with 1."""
-    w, k, output, calls, steps = list(words), [0] * 4, [], [], 0
+    """The steps, the words and the output of a routine's run where there is no block, and a VM file without one. Words, counters and
+    control alone are known here; MFREE and MLOCK, which are refused with 1; and what such a file answers, up to a GNEW, which makes a block."""
+    w, k, output, calls, steps, is_empty = list(words), [0] * 4, [], [], 0, True
     pc = image.routines[index].start
     while pc is not None:
         i = image.instrs[pc]
@@ -382,9 +396,15 @@ def run(image, index, words):
             pc = calls.pop() if calls else None
         elif i.word == "OUT" and len(output) < 1024:
             output.append(w[i.a])
-        elif i.word in ("OUT", "MFREE", "MLOCK"):
+        elif i.word in ("OUT", "MFREE", "MLOCK") or i.word in WANT_A_BLOCK and is_empty:
             w[7] = 10 if i.word == "OUT" else 1
             pc = i.target
+        elif i.word in WANT_NONE and is_empty:
+            refusal = on_empty_file(i, w)
+            is_empty = i.word != "GNEW"
+            if refusal:
+                w[7] = refusal
+                pc = i.target
         else:
             raise NotImplementedError(i.word)
     return steps, w, output
