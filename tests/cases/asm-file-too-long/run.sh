@@ -1,0 +1,1 @@
+sh "$(dirname "$0")/../../assembled.sh" "$1" "$(dirname "$0")"
