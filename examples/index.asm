@@ -25,7 +25,7 @@ look:
         BLT w2 w6 place                ; or in front of the first one that is greater
         ADD w4 w4 w5
         LOOP k0 look
-        JMP unlock                     ; an index has at most 100 terms
+        JMP unlock                     ; it would stand behind 100 others: it is not entered
 place:
         LDI w6 4
         CAINS s0 w1 w4 w6 unlock
@@ -45,7 +45,7 @@ unlock:
 enter_end:
         RET
 
-; Prints each term, how many pages it has, of at most 10, and these.
+; Prints each term, of at most 100, how many pages it has, and the first 10 of these.
 routine print public budget 5107
         MLOCK s0 w0 print_end
         LDI w2 0
