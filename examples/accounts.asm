@@ -2,7 +2,7 @@
 ; the first chunk of its block, and has the handle 16. A payment happens whole or not at all.
 
 ; Opens the account w0 with the money w1, if it is not there; prints the refusal's number where it can't.
-routine open public budget 13
+routine open public budget 14
         LDI w2 0
         VFIND w3 w2 w0 not_made        ; the lowest handle above 0 with this user ID
         BEQ w3 w2 make
@@ -14,50 +14,59 @@ make:
         DEREF s0 p0 w5 2 undo
         STW w1 p0 0
         VUNLOCK s0
-        VSAVE undo_made
+        VSAVE not_saved
         RET
+not_saved:
+        VREVERT not_made               ; the file's blocks are the saved ones again
+        JMP not_made
 undo:
         VUNLOCK s0
-undo_made:
-        VREVERT not_made               ; the file's blocks are the saved ones again
+        VFREE w3 not_made
 not_made:
         OUT w7 open_end
 open_end:
         RET
 
-; Pays w2 from the account w0 to the account w1, and prints 1. Where one of them is missing, or money, or room, prints 0, and nothing
-; has changed.
-routine pay public budget 24
+; Pays w2 from the account w0 to the account w1. Prints 1 where that is done and saved, and 0 where it can't be done. Where it can't
+; be saved, nor be taken back, it stands in memory, whole: then the refusal's number is printed.
+routine pay public budget 26
         LDI w3 0
-        VFIND w4 w3 w0 undo_pay
-        VLOCK s0 w4 undo_pay
-        VDIRTY s0                      ; the mark comes before the store
+        VFIND w4 w3 w0 none            ; 0 where there is no such account, and VLOCK is refused
+        VLOCK s0 w4 none
+        VFIND w4 w3 w1 one
+        VLOCK s1 w4 one
+        SNE s0 s1 both                 ; to `both` where they are one account
         LDI w5 16
-        DEREF s0 p0 w5 2 unlock
-        LDW w6 p0 0
-        BLT w6 w2 unlock               ; not so much is there
-        SUB w6 w6 w2
-        STW w6 p0 0
+        DEREF s0 p0 w5 2 both
+        DEREF s1 p1 w5 2 both
+        LDW w4 p0 0
+        BLT w4 w2 both                 ; not so much is there
+        SUB w4 w4 w2
+        LDW w5 p1 0
+        ADD w5 w5 w2
+        BLT w5 w2 both                 ; the sum is past what a word holds
+        VDIRTY s0                      ; each mark comes before its store
+        VDIRTY s1
+        STW w4 p0 0                    ; from here on nothing can be refused but the save
+        STW w5 p1 0
+        VUNLOCK s1                     ; no block of the file is held where it is written
         VUNLOCK s0
-        VFIND w4 w3 w1 undo_pay        ; 0 where there is no such account, and VLOCK is refused
-        VLOCK s0 w4 undo_pay
-        VDIRTY s0
-        DEREF s0 p0 w5 2 unlock
-        LDW w6 p0 0
-        ADD w6 w6 w2
-        BLT w6 w2 unlock               ; the sum is past what a word holds
-        STW w6 p0 0
-        VUNLOCK s0                     ; no block of the file is held where it is written
-        VSAVE undo_pay
+        VSAVE unsaved
         LDI w3 1
         OUT w3 paid
 paid:
         RET
-unlock:
+unsaved:
+        VREVERT kept                   ; the accounts are as they were
+        JMP none
+kept:
+        OUT w7 paid
+        RET
+both:
+        VUNLOCK s1
+one:
         VUNLOCK s0
-undo_pay:
-        VREVERT not_paid               ; what was taken is there again
-not_paid:
+none:
         OUT w3 paid
         RET
 
@@ -68,15 +77,15 @@ routine list public budget 185
         LDI w2 16
         SETK k0 19
 next:
-        VUID w3 w0 none
-        VLOCK s0 w0 none
+        VUID w3 w0 next_one
+        VLOCK s0 w0 next_one
         DEREF s0 p0 w2 2 unread
         LDW w4 p0 0
         OUT w3 unread
         OUT w4 unread
 unread:
         VUNLOCK s0
-none:
+next_one:
         ADD w0 w0 w1
         LOOP k0 next
         RET
