@@ -1,6 +1,6 @@
 -- The steps that are faults, each on a state where one thing alone is wrong.
 use Rattle.std.proofs.Common.{◌≡◌, refl, false, [], ◌∷◌, Some, None}
-use Rattle.geos_opcodes.specs.declared.opcode.Opcode.TheVariants.{Mnew, Mlock, Munlock, Sne, Lalloc, Lsize, Deref, Lcontract, Ldb, Ldw, Stb, Stxw, Ldxb, Ldcb, Stcw, Movp, Copy, Plen, Caadd, Cadel, Cacount, Caelt}
+use Rattle.geos_opcodes.specs.declared.opcode.Opcode.TheVariants.{Mnew, Mlock, Munlock, Sne, Lalloc, Lsize, Deref, Lcontract, Ldb, Ldw, Stb, Stxw, Ldxb, Ldcb, Stcw, Movp, Copy, Plen, Caadd, Cadel, Cacount, Caelt, Vnew, Vlock, Vdirty, Vunlock, Vupdate, Vsave, Vrevert, Ilock, Idirty, Iunlock}
 use Rattle.geos_opcodes.specs.declared.uses.Kind.TheVariants.{VmBlock, DbGroup}
 use Rattle.geos_image.specs.declared.instr.Instr.{Instr}
 use Rattle.geos_semantics.specs.Model.{Outcome, Fault, step}
@@ -54,6 +54,17 @@ pub record Faulty : Type 0 where
   pub unlock_group : stepped_on_group (instr Munlock 3 0 0 0 0) ≡ Fault
   pub write_group_unmarked : stepped_on_group (instr Stb 6 3 0 0 0) ≡ Fault
   pub move_group_unmarked : stepped_on_group (instr Lalloc 3 6 2 0 7) ≡ Fault
+  pub new_of_file_into_held : stepped (instr Vnew 0 6 1 0 7) ≡ Fault
+  pub lock_of_file_into_held : stepped_on_vm (instr Vlock 3 1 0 0 7) ≡ Fault
+  pub lock_group_into_held : stepped_on_group (instr Ilock 3 3 1 0 7) ≡ Fault
+  pub mark_empty : stepped (instr Vdirty 3 0 0 0 0) ≡ Fault
+  pub mark_group_as_block : stepped_on_group (instr Vdirty 3 0 0 0 0) ≡ Fault
+  pub mark_block_as_group : stepped_on_vm (instr Idirty 3 0 0 0 0) ≡ Fault
+  pub unlock_group_as_block : stepped_on_group (instr Vunlock 3 0 0 0 0) ≡ Fault
+  pub unlock_block_as_group : stepped_on_vm (instr Iunlock 3 0 0 0 0) ≡ Fault
+  pub update_over_held : stepped_on_vm (instr Vupdate 0 0 0 0 7) ≡ Fault
+  pub save_over_held : stepped_on_vm (instr Vsave 0 0 0 0 7) ≡ Fault
+  pub revert_over_held : stepped_on_group (instr Vrevert 0 0 0 0 7) ≡ Fault
 
 pub examples : Faulty
 examples = record {
@@ -93,4 +104,15 @@ examples = record {
   unlock_group = refl;
   write_group_unmarked = refl;
   move_group_unmarked = refl;
+  new_of_file_into_held = refl;
+  lock_of_file_into_held = refl;
+  lock_group_into_held = refl;
+  mark_empty = refl;
+  mark_group_as_block = refl;
+  mark_block_as_group = refl;
+  unlock_group_as_block = refl;
+  unlock_block_as_group = refl;
+  update_over_held = refl;
+  save_over_held = refl;
+  revert_over_held = refl;
 }

@@ -1,12 +1,12 @@
 -- What the rules say of the worked examples on blocks, chunks and pointers, at each pc.
 use Rattle.std.proofs.Common.{◌≡◌, true, false, refl, ℕ, List, [], ◌∷◌, ◌++◌, replicate, Option, Some, None}
-use Rattle.geos_opcodes.specs.declared.opcode.Opcode.TheVariants.{Mnew, Mlock, Munlock, Sne, Lsize, Ldb, Stw, Ldxw, Ldcw, Movp, Copy, Plen}
+use Rattle.geos_opcodes.specs.declared.opcode.Opcode.TheVariants.{Mnew, Mlock, Munlock, Sne, Lsize, Ldb, Stw, Ldxw, Ldcw, Movp, Copy, Plen, Vupdate, Vsave, Vrevert}
 use Rattle.geos_image.specs.declared.row.Row.{Row}
 use Rattle.geos_image.specs.declared.row.SlotState.{SlotState}
-use Rattle.geos_image.specs.declared.row.SlotState.TheVariants.{Empty, Mem, Vm}
+use Rattle.geos_image.specs.declared.row.SlotState.TheVariants.{Empty, Mem, Vm, Db}
 use Rattle.geos_image.specs.Open.{open_row}
 use Rattle.geos_verify.specs.declared.rule.Rule.{Rule}
-use Rattle.geos_verify.specs.declared.rule.Rule.TheVariants.{NamesEmptySlot, StalePointer, PassesEnd, ChangesUnmarked, LocksIntoHeld, WrongSlot, EdgeMisfit}
+use Rattle.geos_verify.specs.declared.rule.Rule.TheVariants.{NamesEmptySlot, StalePointer, PassesEnd, ChangesUnmarked, LocksIntoHeld, WrongSlot, CommitsHeld, EdgeMisfit}
 use Rattle.geos_verify.specs.Rules.{leaves_routine, names_empty_slot, entry_misfits, stale_pointer, passes_end, changes_unmarked, locks_into_held, wrong_slot, commits_with_held, call_misfits, exit_misfits, misfits_at, edge_misfits, unpaid_along, unpaid_branching, edge_unpaid, over_budget}
 use Rattle.worked_examples.proofs.Images.{instr}
 use Rattle.worked_examples.proofs.BlockImages.{s0, s0_p0, s0_s1, with_row, read_at, no_bytes, read_after_move, read_after_deref, read_by_other_slot, read_where_apart, read_after_refusal, deref_after_refusal}
@@ -65,6 +65,11 @@ pub record JudgedOnBlocks : Type 0 where
   pub compare_of_one_kind : judged (with_row s0_s1 (instr Sne 0 1 0 0 1)) ≡ fine 2
   pub look_at_empty : judged (with_row (s0 Mem) (instr Lsize 1 0 0 0 1)) ≡ refused_at 0 WrongSlot 1
   pub duplicate_stale : judged (with_row (s0 Mem) (instr Movp 0 1 0 0 0)) ≡ refused_at 0 StalePointer 1
+  pub update_over_held : judged (with_row (s0 (Vm true)) (instr Vupdate 0 0 0 0 1)) ≡ refused_at 0 CommitsHeld 1
+  pub save_over_held : judged (with_row (s0 (Vm false)) (instr Vsave 0 0 0 0 1)) ≡ refused_at 0 CommitsHeld 1
+  pub revert_over_group : judged (with_row (s0 (Db false)) (instr Vrevert 0 0 0 0 1)) ≡ refused_at 0 CommitsHeld 1
+  -- a block of global memory may be held
+  pub update_beside_memory : judged (with_row (s0 Mem) (instr Vupdate 0 0 0 0 1)) ≡ fine 2
   pub names_empty : judged (with_row left_behind (instr Movp 0 0 0 0 0)) ≡ Some NamesEmptySlot ∷ Some NamesEmptySlot ∷ []
 
 pub examples : JudgedOnBlocks
@@ -98,5 +103,9 @@ examples = record {
   compare_of_one_kind = refl;
   look_at_empty = refl;
   duplicate_stale = refl;
+  update_over_held = refl;
+  save_over_held = refl;
+  revert_over_group = refl;
+  update_beside_memory = refl;
   names_empty = refl;
 }
