@@ -10,6 +10,10 @@ pub mod OnSlots
 pub mod OnPointers
 pub mod OnArrays
 pub mod OnFile
+pub mod FileStates
+pub mod OnFileBlocks
+pub mod OnCommits
+pub mod OnItems
 pub mod HeldOfFile
 pub mod ArrayImages
 pub mod ArrayRuns
