@@ -35,7 +35,7 @@ until_done() {
         number=$((number + 1))
         line=$(fails "$1" $number $((number + $2)) "$3")
         echo "$line"
-        [ "$line" != "$whole" ]
+        [ $number -lt 100 ] && [ "$line" != "$whole" ]
     do :; done | uniq
 }
 
