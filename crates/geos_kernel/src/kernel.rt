@@ -27,8 +27,10 @@ const NEW_SIZE: u32 = 64;
 /// which some blocks are in the region too.
 #[derive(Drop)]
 pub struct Kernel<D: Device + Drop> {
-    pub(crate) blocks: Blocks,
+    // The file comes first, here as in `VmBlocks` and in the pair that `new` refuses with: where it lay at two places of one result,
+    // the compiler would go over its bytes one by one, for minutes.
     pub(crate) vm: VmBlocks<D>,
+    pub(crate) blocks: Blocks,
 }
 
 impl<D: Device + Drop> Model for Kernel<D> {
