@@ -1,6 +1,6 @@
 -- General laws of the table of calls.
 use Rattle.std.proofs.Common.{◌≡◌, ◌≢◌, ℕ, zero, suc, ◌<◌, ◌≤◌, Bool, true, false, List, [], ◌∷◌, ◌++◌, length, Option, Some, None, refl, sym, ap, ◌∙◌, arith}
-use Rattle.std.specs.Prelude.{nat_lt, ◌&&◌, Result, Ok, Err}
+use Rattle.std.specs.Prelude.{nat_lt, ◌&&◌, Ok, Err}
 use Rattle.std.proofs.lemmas.Option.{none-some}
 use Rattle.std.proofs.lemmas.List.{get_or-set_same, get_or-set_other}
 use Rattle.geos_model.specs.declared.name.Name.{Name}
@@ -23,10 +23,6 @@ willing = record { first_room = false; last_room = false; device = false; unsure
 -- room alone is refused from outside, where it may be
 abbrev pub cramped : Choice
 cramped = record { first_room = true; last_room = true; device = false; unsure = false; memory = false; given = [] }
-
--- all is refused from outside that may be
-abbrev pub unwilling : Choice
-unwilling = record { first_room = true; last_room = true; device = true; unsure = true; memory = true; given = [] }
 
 -- what is written under a handle is read there
 pub entry-same : {X : Type 0} (none x : X) (xs : List X) (h : ℕ) → 1 ≤ h → h ≤ length xs → at_handle none (with_entry_at xs h x) h ≡ x

@@ -1,11 +1,3 @@
-pub mod Runs
-pub mod CallExamples
-pub mod ArrayExamples
-pub mod FileExamples
-pub mod CommitExamples
-pub mod ItemExamples
-pub mod TightExamples
-pub mod GivenExamples
 pub mod Laws
 pub mod Passing
 pub mod HandleLists

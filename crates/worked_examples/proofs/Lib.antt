@@ -18,3 +18,11 @@ pub mod HeldOfFile
 pub mod ArrayImages
 pub mod ArrayRuns
 pub mod Faulty
+pub mod CallsInTurn
+pub mod CallExamples
+pub mod ArrayExamples
+pub mod FileExamples
+pub mod CommitExamples
+pub mod ItemExamples
+pub mod TightExamples
+pub mod GivenExamples

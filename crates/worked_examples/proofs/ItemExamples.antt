@@ -10,7 +10,7 @@ use Rattle.geos_table.specs.Effects.{Nothing, InBlock, OfLock}
 use Rattle.geos_table.specs.Calls.{deref, load16}
 use Rattle.geos_table.specs.VmCalls.{vnew, vsave}
 use Rattle.geos_table.specs.ItemCalls.{gnew, gfree, inew, ifree, irealloc, iins, idel, ilock, idirty, iunlock, igetmap, isetmap}
-use Rattle.geos_table.proofs.Runs.{failing, start, answer_under, says, next, stales, bytes_in_file}
+use Rattle.worked_examples.proofs.CallsInTurn.{failing, start, answer_under, says, next, stales, bytes_in_file}
 
 -- a group with two items of four bytes
 abbrev pub two_items : Memory

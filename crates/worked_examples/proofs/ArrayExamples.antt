@@ -10,8 +10,8 @@ use Rattle.geos_table.specs.Effects.{Reference, InBlock}
 use Rattle.geos_model.specs.Arrays.{arr, spelled, empty}
 use Rattle.geos_table.specs.Calls.{load16, store}
 use Rattle.geos_table.specs.ArrayCalls.{canew, caadd, cains, cadel, cacount, caelt, cazero, caresize}
-use Rattle.geos_table.proofs.Laws.{willing}
-use Rattle.geos_table.proofs.CallExamples.{one, after, answer}
+use Rattle.worked_examples.proofs.States.{willing}
+use Rattle.worked_examples.proofs.CallExamples.{one, after, answer}
 
 -- an array whose sizes vary, with elements of 3, 0 and 5 bytes
 abbrev pub three : Memory

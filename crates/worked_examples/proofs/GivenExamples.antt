@@ -13,8 +13,8 @@ use Rattle.geos_table.specs.Effects.{Choice, effect_of, outcome}
 use Rattle.geos_table.specs.Calls.{load16, named_bytes}
 use Rattle.geos_table.specs.VmCalls.{vlock, vunlock, vsave}
 use Rattle.geos_table.specs.ItemCalls.{ilock}
-use Rattle.geos_table.proofs.Laws.{willing}
-use Rattle.geos_table.proofs.Runs.{start, listing, answer_under, left_under, bytes_in_file}
+use Rattle.worked_examples.proofs.States.{willing}
+use Rattle.worked_examples.proofs.CallsInTurn.{start, listing, answer_under, left_under, bytes_in_file}
 
 -- a block of 64 bytes with such chunks
 abbrev pub block_with : List (Option (List ℕ)) → Bool → ℕ → Option VmBlock

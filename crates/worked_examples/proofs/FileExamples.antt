@@ -11,8 +11,8 @@ use Rattle.geos_table.specs.Effects.{Nothing, InBlock, OfLock, outcome, effect_o
 use Rattle.geos_table.specs.Calls.{mnew, unlock, mfree, lalloc, deref, load16, store}
 use Rattle.geos_table.specs.VmCalls.{vnew, lock_listed, vlock, bring, vdirty, vunlock, free_listed, vfree, vfind, vuid, vgetmap, vsetmap, vupdate}
 use Rattle.geos_table.specs.ItemCalls.{gnew, gfree}
-use Rattle.geos_table.proofs.Laws.{willing}
-use Rattle.geos_table.proofs.Runs.{crowded, failing, start, answer_under, left_under, says, next, stales, listing, bytes_in_file, sized_in_file, filled}
+use Rattle.worked_examples.proofs.States.{willing}
+use Rattle.worked_examples.proofs.CallsInTurn.{crowded, failing, start, answer_under, left_under, says, next, stales, listing, bytes_in_file, sized_in_file, filled}
 
 -- a new block, of handle h, with the word w in its chunk 16, which becomes the map block
 abbrev pub put : ℕ → ℕ → Memory → Memory

@@ -12,7 +12,7 @@ use Rattle.geos_table.specs.Memory.{Block, Memory, new_heap, block_of, with_bloc
 use Rattle.geos_table.specs.Tight.{is_tight}
 use Rattle.geos_table.specs.Effects.{Reference, Effect, Staleness, Nothing, InBlock, OfLock, outcome}
 use Rattle.geos_table.specs.Calls.{mnew, mlock, unlock, mfree, lalloc, lfree, lrealloc, lins, ldel, lsize, deref, lcontract, load8, load16, store, copy}
-use Rattle.geos_table.proofs.Laws.{willing, unwilling}
+use Rattle.worked_examples.proofs.States.{willing, unwilling}
 
 -- a region with these blocks, that of handle 1 first, and no other
 abbrev pub region_of : List (Option Block) → Memory

@@ -12,9 +12,9 @@ use Rattle.geos_table.specs.Memory.{Memory, is_marked, size_of, chunks_at}
 use Rattle.geos_table.specs.Effects.{outcome, effect_of}
 use Rattle.geos_table.specs.Calls.{mnew, unlock, lalloc}
 use Rattle.geos_table.specs.VmCalls.{keep_current, keep_saved, pair_to_keep, vnew, vlock, vdirty, vunlock, vfree, vuid, vgetmap, vupdate, vsave, vrevert}
-use Rattle.geos_table.proofs.Laws.{unwilling}
-use Rattle.geos_table.proofs.Runs.{crowded, failing, failing_late, listing, start, answer_under, left_under, says, next, filled}
-use Rattle.geos_table.proofs.FileExamples.{put, got}
+use Rattle.worked_examples.proofs.States.{unwilling}
+use Rattle.worked_examples.proofs.CallsInTurn.{crowded, failing, failing_late, listing, start, answer_under, left_under, says, next, filled}
+use Rattle.worked_examples.proofs.FileExamples.{put, got}
 
 -- a block of the device with user ID 5, 64 bytes, and a word in the chunk 16
 abbrev pub kept_word : ℕ → Option KeptBlock

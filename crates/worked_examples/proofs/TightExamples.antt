@@ -10,9 +10,9 @@ use Rattle.geos_table.specs.Tight.{is_tight}
 use Rattle.geos_table.specs.Calls.{mnew, lalloc}
 use Rattle.geos_table.specs.VmCalls.{vnew, vlock}
 use Rattle.geos_table.specs.ItemCalls.{gnew, inew, ilock}
-use Rattle.geos_table.proofs.Laws.{unwilling}
-use Rattle.geos_table.proofs.Runs.{crowded, start, answer_under, listing, sized_in_file}
-use Rattle.geos_table.proofs.CallExamples.{sized}
+use Rattle.worked_examples.proofs.States.{unwilling}
+use Rattle.worked_examples.proofs.CallsInTurn.{crowded, start, answer_under, listing, sized_in_file}
+use Rattle.worked_examples.proofs.CallExamples.{sized}
 
 -- in a region of n bytes: blocks of 64 and 128 bytes, each locked once; of the VM file a marked
 -- block of 64 bytes, an idle one of 256, one of 512 that is locked and marked, an idle group of

@@ -8,7 +8,7 @@ use Rattle.geos_table.specs.VmFile.{Sure}
 use Rattle.geos_table.specs.Memory.{Memory}
 use Rattle.geos_table.specs.Effects.{Choice, Call, Reference, Staleness, outcome, effect_of}
 use Rattle.geos_table.specs.Calls.{mnew, unlock, lalloc}
-use Rattle.geos_table.proofs.Laws.{willing}
+use Rattle.worked_examples.proofs.States.{willing}
 
 -- room is refused wherever it may be
 abbrev pub crowded : Choice
