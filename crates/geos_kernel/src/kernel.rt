@@ -62,6 +62,7 @@ impl<D: Device + Drop> Kernel<D> {
     ghost use Rattle.vm_blocks.specs.Listed.{IsListOf};
     ghost use Rattle.vm_blocks.specs.Opened.{opened_file};
     ghost use Rattle.vm_blocks.specs.View.{held_at};
+    ghost use Rattle.vm_file.specs.Outcomes.{IsHeapUnder};
     ghost use Rattle.geos_kernel.specs.Kernel.{Calls, GivesSpan, HasNoRoomFor, LeavesVm, NewHasNoRoom};
     ghost use Rattle.geos_kernel.specs.Spans.{IsStanding, IsWritable};
     ghost use Rattle.geos_kernel.specs.View.{chunks_at, file_over, IsFileOf, IsLocked, MayChange, memory_of};
@@ -131,12 +132,14 @@ impl<D: Device + Drop> Kernel<D> {
     }
 
     /// What holds of the kernel's memory at all times: there is a VM file that the model may know
-    /// beside it; sizes of blocks are legal and have room for their chunks, chunks are lists of
-    /// bytes, and no block is locked more often than it can be; and no block of the VM file is
-    /// locked exactly where the model has none locked.
+    /// beside it; each block in memory, of either owner, is a heap under its handle; sizes of
+    /// blocks are legal and have room for their chunks, chunks are lists of bytes, and no block is
+    /// locked more often than it can be; and no block of the VM file is locked exactly where the
+    /// model has none locked.
     pub fn memory_is_legal(&self)
         ensures file { (f : model_file.VmFile) × IsFileOf (D.honest self.now.device) self.now.core f }
         ensures legal { (f : model_file.VmFile) → IsFileOf (D.honest self.now.device) self.now.core f → IsMemory (memory_of self.now.core f) }
+        ensures heaps { (name : Name) → IsThere self.now.core.blocks (slot_of name) → IsHeapUnder name.h (bytes_of self.now.core.blocks (slot_of name)) }
         ensures unlocked { (f : model_file.VmFile) → IsFileOf (D.honest self.now.device) self.now.core f
             → NoneLocked self.now.core.blocks ↔ ((h : ℕ) → model.locks_of (memory_of self.now.core f) (vm h) ≡ 0) }
     {

@@ -1,6 +1,10 @@
 use Rattle.std.proofs.Common.{◌≡◌, ℕ, subst}
 use Rattle.std.specs.Prelude.{◌↔◌}
 use Rattle.geos_model.specs.Names.{vm}
+use Rattle.geos_model.specs.declared.name.Name.{Name}
+use Rattle.block_handles.specs.Names.{slot_of}
+use Rattle.block_handles.specs.Store.{IsThere, bytes_of}
+use Rattle.vm_file.specs.Outcomes.{IsHeapUnder}
 use Rattle.geos_table.specs.Memory.{locks_of}
 use Rattle.geos_table.specs.Legal.{IsMemory}
 use Rattle.geos_table.specs.VmFile.{VmFile}
@@ -32,3 +36,9 @@ returns-clause-unlocked g c =
     subst (λ k. (f : VmFile) → IsFileOf (g.D.Device.honest k.device) k.core f → NoneLocked k.core.blocks ↔ ((h : ℕ) → locks_of (memory_of k.core f) (vm h) ≡ 0)) c.self.view_is
     (λ f tied. none-known g.D.Device.image g.D.Device.honest v blocks (memory_of (core_of g.D.Device.image g.D.Device.failed v blocks) f) c.self.invariant.tied
     (memory-known g.D.Device.image g.D.Device.honest g.D.Device.failed v blocks f tied))
+
+pub returns-clause-heaps : goal.returns-clause-heaps
+returns-clause-heaps g c =
+    let K = c.self.invariant in
+    subst (λ k. (name : Name) → IsThere k.core.blocks (slot_of name) → IsHeapUnder name.h (bytes_of k.core.blocks (slot_of name))) c.self.view_is
+    (λ name there. (K.heaps name there, K.handles name there))
