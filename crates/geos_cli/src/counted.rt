@@ -3,7 +3,8 @@
 ghost use Rattle.std.specs.Prelude.{◌≡◌, true, false, OnOk, OnErr, MatchBool, MatchResult};
 ghost use Rattle.std.specs.Io.{ReadsAtMost, WritesAtMost};
 ghost use Rattle.std.specs.Io.KnownBytes.{Appends, Keeps, ReadConsumes, WriteAppends};
-ghost use Rattle.geos_cli.specs.Counted.{one_more, AppendsPart};
+ghost use Rattle.vm_file.specs.Device.{one_more};
+ghost use Rattle.geos_cli.specs.Counted.{AppendsPart};
 
 use std::io;
 use std::io::{ErrorKind, Read, Write};

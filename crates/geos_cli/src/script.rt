@@ -4,7 +4,8 @@ ghost use Rattle.std.specs.Prelude.{◌≡◌, ◌≢◌, ◌↔◌, All, None, 
 ghost use Rattle.std.specs.Str.Lines.{lines};
 ghost use Rattle.std.specs.Io.KnownBytes.{Appends, Keeps};
 ghost use Rattle.geos_cli.specs.declared.fault.ScriptFault.TheVariants.{Write};
-ghost use Rattle.geos_cli.specs.Counted.{Rose, AppendsPart};
+ghost use Rattle.vm_file.specs.Device.{Rose};
+ghost use Rattle.geos_cli.specs.Counted.{AppendsPart};
 ghost use Rattle.geos_cli.specs.Fault.{KeptUnless};
 ghost use Rattle.geos_cli.specs.Script.{IsAdmitted, routine_named, registers_of, call_named, how_named, command_of};
 ghost use Rattle.geos_cli.specs.Script.{commands_of, first_bad, IsBadLine, IsBadImage, printed, committed};

@@ -3,7 +3,7 @@
 ghost use Rattle.std.specs.Prelude.{◌≡◌, ◌≢◌, ◌≤◌, ◌<◌, ◌+◌, true, length, IfOk, IfErr};
 ghost use Rattle.std.specs.Io.KnownBytes.{Keeps};
 ghost use Rattle.geos_cli.specs.declared.fault.ScriptFault.TheVariants.{Read, Write};
-ghost use Rattle.geos_cli.specs.Counted.{Rose};
+ghost use Rattle.vm_file.specs.Device.{Rose};
 ghost use Rattle.geos_cli.specs.Fault.{KeptUnless};
 ghost use Rattle.geos_cli.specs.Script.{most_bytes};
 ghost use Rattle.geos_cli.specs.Session.{Reads, EndsReading, RanBytes, StoppedBytes, EndsBytes, RanSession, StoppedSession, EndsSession};

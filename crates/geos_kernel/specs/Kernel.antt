@@ -39,7 +39,7 @@ pub record IsKernel {D : Type 0} (image : D → List ℕ) (honest : D → Type 0
   pub known : (f : VmFile) × vm.IsFileOf image honest v s f
   pub small : region_len s ≤ 16777216
 
--- a count of failures rose; at the greatest number it stays, and counts as risen
+-- a count of failures rose; from the greatest number on it counts as risen, and so stays risen over later calls, as `Rose` need not
 abbrev pub HasRisen : ℕ → ℕ → Type 0
 HasRisen before now = (before < now) ⊎ (2 ^ 64 - 1 ≤ now)
 
