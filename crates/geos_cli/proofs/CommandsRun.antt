@@ -8,7 +8,6 @@ use Rattle.std.proofs.lemmas.List.{take_more, take_all}
 use Rattle.geos_model.specs.declared.refusal.Refusal.{Refusal}
 use Rattle.geos_table.specs.VmFile.{VmFile}
 use Rattle.geos_table.specs.VmCalls.{commit}
-use Rattle.geos_table.specs.Memory.{Memory}
 use Rattle.geos_table.specs.Effects.{Choice}
 use Rattle.vm_file.specs.declared.commit.How.{How}
 use Rattle.vm_blocks.specs.ListedCalls.{keeper_of}

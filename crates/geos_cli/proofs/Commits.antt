@@ -1,12 +1,12 @@
 -- Counts of locks over commits.
-use Rattle.std.proofs.Common.{◌≡◌, ℕ, Bool, true, false, Option, Some, None, refl, ap, ◌∙◌, subst}
+use Rattle.std.proofs.Common.{◌≡◌, Option, Some, None, ap, ◌∙◌, subst}
 use Rattle.std.specs.Prelude.{Result}
 use Rattle.std.proofs.lemmas.Bool.{cond_both}
 use Rattle.geos_model.specs.declared.refusal.Refusal.{Refusal}
 use Rattle.geos_model.specs.declared.refusal.Refusal.TheVariants as refusal
 use Rattle.geos_model.specs.Names.{vm}
 use Rattle.geos_model.specs.Refusals.{first_refusal}
-use Rattle.geos_table.specs.Memory.{Memory, locks_of}
+use Rattle.geos_table.specs.Memory.{Memory}
 use Rattle.geos_table.specs.Given.{given_memory}
 use Rattle.geos_table.specs.Effects.{Choice, outcome, effect_of, come_to}
 use Rattle.geos_table.specs.VmCalls.{Keeper, commit, committed, in_doubt, left_by_commit, pair_to_keep}

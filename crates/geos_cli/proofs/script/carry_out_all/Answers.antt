@@ -1,4 +1,4 @@
-use Rattle.std.proofs.Common.{◌∙◌, [], refl, arith}
+use Rattle.std.proofs.Common.{◌∙◌, refl, arith}
 use Rattle.geos_cli.proofs.CommandsRun.{ran-none, ran-more, ran-all, ran-alike, stopped-at, stopped-alike}
 use Rattle.geos_cli.proofs.Parts.{IfErr-any}
 use Rattle.geos_cli.proofs.script.carry_out_all.Goals as goal
