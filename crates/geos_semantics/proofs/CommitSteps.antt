@@ -53,7 +53,8 @@ held-once h (Some held) free = by held.kind refl free
     by VmBlock is e = absurd cc
     by DbGroup is e = absurd cc
 
-none-held : (slots : List (Option Held)) (h : ℕ) → list_any holds_of_file slots ≡ false → holds slots (vm h) ≡ 0
+-- slots that hold no block of the file do not hold one of its names
+pub none-held : (slots : List (Option Held)) (h : ℕ) → list_any holds_of_file slots ≡ false → holds slots (vm h) ≡ 0
 none-held [] h free = refl
 none-held (x ∷ xs) h free =
     let parts = or_parts (holds_of_file x) (list_any holds_of_file xs) free in
