@@ -23,7 +23,7 @@ ghost use Rattle.vm_blocks.specs.View.{held_at, vm_slot, with_device, with_held}
 use crate::blocks::VmBlocks;
 use crate::entries::Held;
 use crate::error::{BringError, LockError};
-use block_handles::Blocks;
+use block_handles::{Blocks, HandleError};
 use geos_model::Name;
 use vm_file::Device;
 
@@ -49,9 +49,33 @@ impl<D: Device + Drop> VmBlocks<D> {
         ensures cause { D.honest self.old.file.device → result ≡ Err LockError.Disk → Rose (D.failed self.old.file.device) (D.failed self.new.file.device) }
         ensures counted { (result ≡ Err LockError.Disk → ⊥) → D.failed self.new.file.device ≡ D.failed self.old.file.device }
     {
-        if blocks.locks(Name::vm(h)) == u16::MAX {
-            return Err(LockError::Locked);
+        match blocks.lock(Name::vm(h)) {
+            Ok(()) => Ok(()),
+            Err(HandleError::Locked) => Err(LockError::Locked),
+            Err(HandleError::BadHandle) => self.lock_absent(blocks, h),
         }
+    }
+
+    /// Brings a block that is not in memory there, and locks it. Apart, so that a lock of a block
+    /// that is there stays short.
+    #[inline(never)]
+    fn lock_absent(&mut self, blocks: &mut Blocks, h: u16) -> Result<(), LockError>
+        requires tied { IsTied D.image D.honest self.old blocks.old }
+        requires absent { IsThere blocks.old (vm_slot h) → ⊥ }
+        ensures tied { IsTied D.image D.honest self.new blocks.new }
+        ensures same { self.new ≡ with_device self.old self.new.file.device }
+        ensures bad_handle { (result ≡ Err LockError.BadHandle) ↔ (held_at self.old h ≡ None) }
+        ensures locked { result ≡ Err LockError.Locked → ⊥ }
+        ensures ok { OnOk result (LockedMore blocks.old blocks.new h) }
+        ensures err { OnErr result (NotBrought blocks.old blocks.new h) }
+        ensures keeps { Keeps self.old blocks.old blocks.new h }
+        ensures no_room { result ≡ Err LockError.NoRoom → IfSome (held_at self.old h) (λ held. LacksRoom self.old blocks.old blocks.new (vm h) held.len) }
+        ensures row { DoesRow D.image D.honest D.failed (lock_listed h) (of_lock result) self.old blocks.old self.new blocks.new }
+        ensures pair { pair_of D.image self.new.file ≡ pair_of D.image self.old.file }
+        ensures reads { ReadsOnly D.image D.honest D.may_leave D.may_have_left self.old.file.device self.new.file.device }
+        ensures cause { D.honest self.old.file.device → result ≡ Err LockError.Disk → Rose (D.failed self.old.file.device) (D.failed self.new.file.device) }
+        ensures counted { (result ≡ Err LockError.Disk → ⊥) → D.failed self.new.file.device ≡ D.failed self.old.file.device }
+    {
         match self.bring(blocks, h) {
             Ok(()) => {}
             Err(BringError::BadHandle) => return Err(LockError::BadHandle),
