@@ -35,3 +35,4 @@ pub mod MemoryKept
 pub mod Marking
 pub mod Whole
 pub mod Begun
+pub mod Walk

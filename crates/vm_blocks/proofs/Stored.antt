@@ -89,7 +89,7 @@ total-more f g j x (suc n) less own none same = elim (cases_eq n j) [
     total-same (suc m) k le at = let rest = total-same m k (omega (arith, le)) at in let f_m = same m (λ e. omega (arith, le, at, e)) in omega (arith, rest, f_m)
 
 -- what is not there is not found
-not-found : (es : List Entry) (h : ℕ) → HasNone h es → find (λ e. e.h == h) es ≡ None
+pub not-found : (es : List Entry) (h : ℕ) → HasNone h es → find (λ e. e.h == h) es ≡ None
 not-found [] h none = refl
 not-found (e ∷ es) h none = let other : (e.h == h) ≡ false = grind (arith, nat_tests, none.0) in rw other (not-found es h none.1)
 

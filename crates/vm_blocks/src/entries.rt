@@ -1,7 +1,8 @@
 //! What is listed of the blocks of a file.
-ghost use Rattle.std.specs.Prelude.{◌≡◌, ◌<◌, ℕ, length, IfOk, None};
+ghost use Rattle.std.specs.Prelude.{◌≡◌, ◌<◌, ℕ, true, length, IfOk, None};
 ghost use Rattle.geos_table.specs.Handles.{at_handle};
 ghost use Rattle.block_handles.specs.Names.{IsHandle};
+ghost use Rattle.vm_file.specs.Directories.{is_directory};
 ghost use Rattle.vm_blocks.specs.Listed.{held_in};
 ghost use Rattle.vm_blocks.specs.Opened.{AreWords};
 
@@ -26,21 +27,27 @@ pub(crate) fn empty_table(alloc: Global) -> Result<Vec<Option<Held>>, AllocError
     Vec::from_elem(alloc, None, 1024)
 }
 
-/// Lists the blocks of a directory by handles, none of them marked.
+/// Lists the blocks of a directory by handles, none of them marked: one walk over its entries,
+/// whose handles ascend.
 pub(crate) fn list(table: &mut Vec<Option<Held>>, directory: &Directory)
-    requires { length table.old.items ≡ 1024 }
+    requires long { length table.old.items ≡ 1024 }
+    requires legal { is_directory directory.now ≡ true }
     ensures long { length table.new.items ≡ 1024 }
     ensures each { (h : ℕ) → IsHandle h → at_handle None table.new.items h ≡ held_in directory.now h }
 {
+    let entries = directory.entries.as_slice();
+    let mut next = 0;
     for i in 0..1024 {
-        table[i] = match directory.entry(i as u16 + 1) {
-            Some(e) => Some(Held {
-                uid: e.uid,
-                len: e.len,
+        table[i] = None;
+        if next < entries.len() && entries[next].h as usize == i + 1 {
+            let entry = entries[next];
+            table[i] = Some(Held {
+                uid: entry.uid,
+                len: entry.len,
                 marked: false,
-            }),
-            None => None,
-        };
+            });
+            next += 1;
+        }
     }
 }
 
