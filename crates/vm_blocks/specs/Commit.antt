@@ -1,5 +1,6 @@
 -- What a commit makes of the file.
-use Rattle.std.specs.Prelude.{◌≡◌, ℕ, ◌<◌, ◌↔◌, true, false, not, List, Option, Result, Err, MatchResult, IfErr, OnOk}
+use Rattle.std.specs.Prelude.{◌≡◌, ℕ, ◌<◌, ◌↔◌, true, false, not, List, Option, Result, Err, MatchResult, IfErr, OnErr, OnOk}
+use Rattle.block_handles.specs.Store.{Store}
 use Rattle.vm_file.specs.declared.commit.How.{How}
 use Rattle.vm_file.specs.declared.directory.Directory.{Directory}
 use Rattle.vm_file.specs.declared.error.CommitError.{CommitError}
@@ -9,6 +10,8 @@ use Rattle.vm_file.specs.Contents.{listed}
 use Rattle.vm_file.specs.Device.{Passes, Rose}
 use Rattle.vm_file.specs.Kept.{SureOf, kept_of}
 use Rattle.vm_file.specs.State.{FileState, Finds, pair_of}
+use Rattle.vm_blocks.specs.Listed.{IsListOf, StoreAfter, directory_of, resident_of}
+use Rattle.vm_blocks.specs.View.{VmState}
 
 -- a file lists the directories of the pair that it keeps
 pub record Lists {D : Type 0} (image : D → List ℕ) (f : FileState D) : Type 0 where
@@ -41,3 +44,11 @@ pub record CommitsFile {D : Type 0} (image : D → List ℕ) (honest : D → Typ
   pub ok : OnOk result (failed new.device ≡ failed old.device)
   pub cause : honest old.device → result ≡ Err error.Disk → Rose (failed old.device) (failed new.device)
   pub no_read : NeedsNoRead resident how cur old.saved → result ≡ Err error.Disk → Rose (failed old.device) (failed new.device)
+
+-- file, table and region after a commit of the blocks as they are
+pub record CommitsBlocks {D : Type 0} (image : D → List ℕ) (honest : D → Type 0) (failed : D → ℕ) (may_leave : D → List ℕ → Type 0) (left : D → D → List ℕ → Type 0)
+    (how : How) (v w : VmState D) (old new : Store) (result : Result (Unit {0}) CommitError) : Type 0 where
+  pub file : CommitsFile image honest failed may_leave left how (resident_of old) (directory_of v old) v.file w.file result
+  pub lists : OnOk result (IsListOf w w.file.current)
+  pub store : OnOk result (StoreAfter how old new)
+  pub refused : OnErr result ((w ≡ record v { file = w.file }) × (new ≡ old))

@@ -1,9 +1,9 @@
 //! Commits of the blocks of a file.
 ghost use Rattle.std.specs.Prelude.{◌≡◌, ℕ, List, length, true, OnOk, OnErr};
-ghost use Rattle.geos_table.specs.VmCalls.{commit};
+ghost use Rattle.geos_table.specs.VmCalls.{commit, vrevert, vsave, vupdate};
 ghost use Rattle.vm_file.specs.Committing.{MayCommit};
 ghost use Rattle.vm_file.specs.Directories.{is_directory};
-ghost use Rattle.vm_blocks.specs.Commit.{CommitsFile, Lists};
+ghost use Rattle.vm_blocks.specs.Commit.{CommitsBlocks, CommitsFile, Lists};
 ghost use Rattle.vm_blocks.specs.DoesRow.{DoesRow};
 ghost use Rattle.vm_blocks.specs.Listed.{DropsAll, IsListOf, NoneLocked, StoreAfter, directory_of, len_now, resident_of};
 ghost use Rattle.vm_blocks.specs.ListedCalls.{keeper_of};
@@ -108,6 +108,45 @@ impl<D: Device + Drop> VmBlocks<D> {
         list(&mut self.entries, current);
         self.map_block = current.map_block;
         self.map_item = current.map_item;
+    }
+
+    /// Keeps the current directory, of the blocks as they are now, beside the saved one: no block is
+    /// marked any more. It is refused as `commit` is.
+    pub fn update(&mut self, blocks: &mut Blocks) -> Result<(), CommitError>
+        requires tied { IsTied D.image D.honest self.old blocks.old }
+        requires free { NoneLocked blocks.old }
+        ensures tied { IsTied D.image D.honest self.new blocks.new }
+        ensures commits { CommitsBlocks D.image D.honest D.failed D.may_leave D.may_have_left How.Update self.old self.new blocks.old blocks.new result }
+        // Its row of the table of calls, in each memory that the model may have before it.
+        ensures row { DoesRow D.image D.honest D.failed vupdate (of_commit result) self.old blocks.old self.new blocks.new }
+    {
+        self.commit(blocks, How::Update)
+    }
+
+    /// Keeps the current directory, of the blocks as they are now, which is the saved one too from
+    /// then on. It is refused as `commit` is.
+    pub fn save(&mut self, blocks: &mut Blocks) -> Result<(), CommitError>
+        requires tied { IsTied D.image D.honest self.old blocks.old }
+        requires free { NoneLocked blocks.old }
+        ensures tied { IsTied D.image D.honest self.new blocks.new }
+        ensures commits { CommitsBlocks D.image D.honest D.failed D.may_leave D.may_have_left How.Save self.old self.new blocks.old blocks.new result }
+        // Its row of the table of calls, in each memory that the model may have before it.
+        ensures row { DoesRow D.image D.honest D.failed vsave (of_commit result) self.old blocks.old self.new blocks.new }
+    {
+        self.commit(blocks, How::Save)
+    }
+
+    /// Goes back to the saved directory, and keeps it: what was not saved is lost, and no block of
+    /// the file stays in memory. It is refused as `commit` is.
+    pub fn revert(&mut self, blocks: &mut Blocks) -> Result<(), CommitError>
+        requires tied { IsTied D.image D.honest self.old blocks.old }
+        requires free { NoneLocked blocks.old }
+        ensures tied { IsTied D.image D.honest self.new blocks.new }
+        ensures commits { CommitsBlocks D.image D.honest D.failed D.may_leave D.may_have_left How.Revert self.old self.new blocks.old blocks.new result }
+        // Its row of the table of calls, in each memory that the model may have before it.
+        ensures row { DoesRow D.image D.honest D.failed vrevert (of_commit result) self.old blocks.old self.new blocks.new }
+    {
+        self.commit(blocks, How::Revert)
     }
 
     /// Keeps one of the pairs that `How` names, of the blocks as they are now and of the saved
