@@ -1,5 +1,6 @@
 pub mod Fresh
 pub mod Marking
+pub mod Counting
 pub mod Walking
 pub mod Movers
 pub mod Closing

@@ -43,14 +43,14 @@ entry-place b i header full h t =
 pub entry-once : (b : List ℕ) (i j : ℕ) → IsTiled b → i < entries b → j < entries b → IsOffset (entry b i) → IsOffset (entry b j) → entry b i ≡ entry b j → i ≡ j
 entry-once b i j full h g t u e = one-entry b (table_end b) (word b 12) full.0 (length b) 0 i j full.1.tiles (full.1.all i h t) (full.1.all j g u) e
 
-blank : (n k : ℕ) → get_or (replicate n false) k false ≡ false
+pub blank : (n k : ℕ) → get_or (replicate n false) k false ≡ false
 blank zero k = refl
 blank (suc n) zero = refl
 blank (suc n) (suc k) = blank n k
 
-pub marks-none : (b : List ℕ) (n : ℕ) → Marks b 0 (replicate n false)
-marks-none b n = record {
-  sound = (λ k h. absurd (false≢true (sym (blank n k) ∙ h)));
+pub marks-none : (b : List ℕ) (starts : List Bool) → ((k : ℕ) → get_or starts k false ≡ false) → Marks b 0 starts
+marks-none b starts none = record {
+  sound = (λ k h. absurd (false≢true (sym (none k) ∙ h)));
   marked = (λ i h t. absurd (omega arith));
   place = (λ i h t. absurd (omega arith));
   once = (λ i j h g t e. absurd (omega arith));

@@ -1,13 +1,14 @@
 -- A walk over the pieces of a block, one at a time.
-use Rattle.std.proofs.Common.{◌≡◌, ◌≢◌, ℕ, ◌+◌, ◌-◌, ◌*◌, ◌/◌, ◌%◌, ◌<◌, ◌≤◌, ◌⊎◌, Bool, true, false, List, [], ◌∷◌, length, get_or, ap, sym, ◌∙◌, subst, inl, inr, arith}
+use Rattle.std.proofs.Common.{◌≡◌, ◌≢◌, ℕ, ◌+◌, ◌-◌, ◌*◌, ◌/◌, ◌%◌, ◌<◌, ◌≤◌, ◌⊎◌, ◌↔◌, Bool, true, false, List, [], ◌∷◌, length, get_or, ap, sym, ◌∙◌, subst, inl, inr, arith}
 use Rattle.std.proofs.lemmas.Bool.{cases_eq, cases_lt, false≢true}
 use Rattle.geos_model.proofs.Costs.{cost_is, cost-four}
 use Rattle.geos_model.proofs.Pieces.{lies, tiles-le}
-use Rattle.geos_model.specs.Block.{entry, entries}
+use Rattle.geos_model.specs.Block.{entry, entries, table_end}
 use Rattle.geos_model.specs.Bytes.{word}
 use Rattle.geos_model.specs.Chunks.{cost}
 use Rattle.geos_model.specs.Heap.{Piece, Used, Free, Tiles, HasChunk, free_bytes, IsOffset}
-use Rattle.lmem_heap.specs.Check.{CanTile, Marks}
+use Rattle.lmem_heap.proofs.Counting.{marks-yes, marks-no, marks-le, marks-same, marks-clear, marks-none_from}
+use Rattle.lmem_heap.specs.Check.{CanTile, Goes, IsTiled, Marks, marks_from}
 
 -- an entry that tells of a chunk at a marked place
 pub marked-start : (b : List ℕ) (at n : ℕ) (starts : List Bool) → Marks b n starts → at % 4 ≡ 0 → get_or starts (at / 4) false ≡ true → (i : ℕ) × (i < n) × IsOffset (entry b i) × (entry b i ≡ at + 2)
@@ -91,6 +92,22 @@ used-back b at free sum w starts m fours is least h free_of (ps, left) =
       },
     )
 
+pub used-goes : (b : List ℕ) (at free sum w : ℕ) (starts : List Bool) → Marks b (entries b) starts → at % 4 ≡ 0 → at < length b → w ≡ word b at →
+    get_or starts (at / 4) false ≡ true → 3 ≤ w → at + (w + 3) / 4 * 4 ≤ length b → Goes b starts at free sum ((w + 3) / 4 * 4) 1 free sum
+used-goes b at free sum w starts m fours inside is h least fits =
+    let yes = marks-yes starts (at / 4) h in
+    let le : at / 4 + 1 ≤ (at + (w + 3) / 4 * 4) / 4 = omega arith in
+    let fewer = marks-le starts (at / 4 + 1) ((at + (w + 3) / 4 * 4) / 4) le in
+    record {
+      forward = (λ can. let f = used-forward b at free sum w starts m fours inside is h can in let same = marks-same starts (at / 4 + 1) ((at + (w + 3) / 4 * 4) / 4) le f.2 in (f.3, omega arith));
+      back = (λ can same. used-back b at free sum w starts m fours is least h (λ k low high. marks-clear starts (at / 4 + 1) ((at + (w + 3) / 4 * 4) / 4) k (omega arith) low high) can);
+      marks = omega arith;
+      some = omega arith;
+      fours = omega arith;
+      fits = fits;
+      small = omega arith;
+    }
+
 -- at a place with no mark stands a free chunk, the first one from here on
 pub free-forward : (b : List ℕ) (at free sum w next : ℕ) (starts : List Bool) → Marks b (entries b) starts → at % 4 ≡ 0 → 16 ≤ at → at < length b → w ≡ word b at → next ≡ word b (at + 2) →
     get_or starts (at / 4) false ≡ false → CanTile b at free sum →
@@ -133,6 +150,47 @@ free-back b at free sum w next starts m fours is next_is h first some four apart
       },
     )
 
+pub free-goes : (b : List ℕ) (at free sum w next : ℕ) (starts : List Bool) → Marks b (entries b) starts → at % 4 ≡ 0 → 16 ≤ at → at < length b → w ≡ word b at → next ≡ word b (at + 2) →
+    get_or starts (at / 4) false ≡ false → free ≡ at → 0 < w → w % 4 ≡ 0 → next ≢ at + w → at + w ≤ length b → Goes b starts at free sum w 0 next (sum + w)
+free-goes b at free sum w next starts m fours low inside is next_is h first some four apart fits =
+    let no = marks-no starts (at / 4) h in
+    let le : at / 4 + 1 ≤ (at + w) / 4 = omega arith in
+    let fewer = marks-le starts (at / 4 + 1) ((at + w) / 4) le in
+    record {
+      forward = (λ can. let f = free-forward b at free sum w next starts m fours low inside is next_is h can in let same = marks-same starts (at / 4 + 1) ((at + w) / 4) le f.5 in (f.6, omega arith));
+      back = (λ can same. free-back b at free sum w next starts m fours is next_is h first some four apart (λ k l high. marks-clear starts (at / 4 + 1) ((at + w) / 4) k (omega arith) l high) can);
+      marks = omega arith;
+      some = omega arith;
+      fours = four;
+      fits = fits;
+      small = omega arith;
+    }
+
+-- at the table's end, where no place is passed
+pub before : (b : List ℕ) (at : ℕ) (starts : List Bool) → Marks b (entries b) starts → at % 4 ≡ 0 → at ≡ table_end b → marks_from starts 0 ≡ marks_from starts (at / 4)
+before b at starts m fours is = marks-same starts 0 (at / 4) (omega arith) (λ k low high h. let s = m.sound k h in let p = m.place s.0 s.1 s.2 in absurd (omega (arith, s.3, p.0)))
+
+pub start : (b : List ℕ) (at free : ℕ) (starts : List Bool) → Marks b (entries b) starts → at ≡ table_end b → free ≡ word b 12 → IsTiled b ↔ CanTile b at free 0
+start b at free starts m is first =
+    let P : ℕ → ℕ → List Piece → Type 0 = λ x y ps. Tiles b x y ps (length b) 0 in (
+      (λ full. let ps = full.0 in let t = full.1 in (
+        ps,
+        record {
+          tiles = (let Q : ℕ → Type 0 = λ x. P x (word b 12) ps in let R : ℕ → Type 0 = λ y. P at y ps in subst R (sym first) (subst Q (sym is) t.tiles));
+          all = (λ i l o low. t.all i l o);
+          total = (let e : free_bytes ps ≡ word b 14 = sym t.total in omega (arith, e));
+        },
+      )),
+      (λ can. let ps = can.0 in let t = can.1 in (
+        ps,
+        record {
+          tiles = (let Q : ℕ → Type 0 = λ x. P x (word b 12) ps in let R : ℕ → Type 0 = λ y. P at y ps in subst Q is (subst R first t.tiles));
+          all = (λ i l o. let p = m.place i l o in t.all i l o (omega (arith, p.0)));
+          total = (let e : word b 14 ≡ free_bytes ps = omega (arith, t.total) in e);
+        },
+      )),
+    )
+
 -- at the end
 pub end-forward : (b : List ℕ) (at free sum : ℕ) → length b ≤ at → CanTile b at free sum → (free ≡ 0) × (sum ≡ word b 14)
 end-forward b at free sum past (ps, left) = by ps left.tiles left.total
@@ -151,3 +209,6 @@ end-back b at free sum starts m is none total = (
     total = omega (arith, total);
   },
 )
+
+pub behind : (b : List ℕ) (at : ℕ) (starts : List Bool) → Marks b (entries b) starts → length b ≤ at → at % 4 ≡ 0 → marks_from starts (at / 4) ≡ 0
+behind b at starts m past fours = marks-none_from starts (at / 4) (λ k low h. let s = m.sound k h in let p = m.place s.0 s.1 s.2 in absurd (omega (arith, s.3, p.2)))

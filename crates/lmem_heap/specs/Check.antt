@@ -1,5 +1,6 @@
 -- What `check` knows on its way.
-use Rattle.std.specs.Prelude.{◌≡◌, ℕ, ◌+◌, ◌*◌, ◌/◌, ◌%◌, ◌<◌, ◌≤◌, Bool, true, false, List, length, slice_index_or, ◌↔◌}
+use Rattle.std.specs.Prelude.{◌≡◌, ℕ, ◌+◌, ◌*◌, ◌/◌, ◌%◌, ◌<◌, ◌≤◌, Bool, true, false, List, length, drop, slice_index_or}
+use Rattle.std.specs.List.{count_by}
 use Rattle.geos_model.specs.Block.{entry, entries, table_end}
 use Rattle.geos_model.specs.Bytes.{word}
 use Rattle.geos_model.specs.Heap.{Piece, Tiles, HasChunk, free_bytes, IsOffset, IsTiledBy}
@@ -15,11 +16,24 @@ pub record TilesRest (block : List ℕ) (at free sum : ℕ) (pieces : List Piece
 abbrev pub CanTile : List ℕ → ℕ → ℕ → ℕ → Type 0
 CanTile block at free sum = (pieces : List Piece) × TilesRest block at free sum pieces
 
--- past a piece of this size the rest can be tiled exactly where it could be before
-abbrev pub Goes : List ℕ → ℕ → ℕ → ℕ → ℕ → ℕ → ℕ → Type 0
-Goes block at free sum size free_then sum_then =
-    (CanTile block at free sum ↔ CanTile block (at + size) free_then sum_then)
-    × (4 ≤ size) × (size % 4 ≡ 0) × (at + size ≤ length block) × (sum_then ≤ sum + size)
+-- how many places are marked from this one on
+unfoldable pub marks_from : List Bool → ℕ → ℕ
+marks_from starts k = count_by (λ x. x) (drop k starts)
+
+-- the rest can be tiled, and by as many chunks as are left
+abbrev pub CanGoOn : List ℕ → List Bool → ℕ → ℕ → ℕ → ℕ → Type 0
+CanGoOn block starts at free sum left = CanTile block at free sum × (marks_from starts (at / 4) ≡ left)
+
+-- past a piece of this size, which has so many chunks, the rest can be tiled exactly where it
+-- could be before, if no mark lies within the piece
+pub record Goes (block : List ℕ) (starts : List Bool) (at free sum size chunks free_then sum_then : ℕ) : Type 0 where
+  pub forward : CanTile block at free sum → CanTile block (at + size) free_then sum_then × (marks_from starts (at / 4) ≡ chunks + marks_from starts ((at + size) / 4))
+  pub back : CanTile block (at + size) free_then sum_then → marks_from starts (at / 4) ≡ chunks + marks_from starts ((at + size) / 4) → CanTile block at free sum
+  pub marks : chunks + marks_from starts ((at + size) / 4) ≤ marks_from starts (at / 4)
+  pub some : 4 ≤ size
+  pub fours : size % 4 ≡ 0
+  pub fits : at + size ≤ length block
+  pub small : sum_then ≤ sum + size
 
 -- some pieces tile the block
 abbrev pub IsTiled : List ℕ → Type 0
@@ -32,11 +46,3 @@ pub record Marks (block : List ℕ) (n : ℕ) (starts : List Bool) : Type 0 wher
   pub marked : (i : ℕ) → i < n → IsOffset (entry block i) → slice_index_or starts (entry block i / 4) false ≡ true
   pub place : (i : ℕ) → i < n → IsOffset (entry block i) → (table_end block + 2 ≤ entry block i) × (entry block i % 4 ≡ 2) × (entry block i < length block)
   pub once : (i j : ℕ) → i < n → j < n → IsOffset (entry block i) → entry block i ≡ entry block j → i ≡ j
-
--- one of these places is marked
-abbrev pub HasMark : List Bool → ℕ → ℕ → Type 0
-HasMark starts from end = (k : ℕ) × (from ≤ k) × (k < end) × (slice_index_or starts k false ≡ true)
-
--- none of these places is marked
-abbrev pub HasNoMark : List Bool → ℕ → ℕ → Type 0
-HasNoMark starts from end = (k : ℕ) → from ≤ k → k < end → slice_index_or starts k false ≡ false

@@ -1,14 +1,19 @@
 //! Whether bytes are a heap.
-ghost use Rattle.std.specs.Prelude.{◌≡◌, ℕ, ◌+◌, ◌/◌, ◌%◌, ◌<◌, ◌≤◌, Bool, true, false, length, MatchOption, IsTrue, ◌↔◌, slice_index_or};
+ghost use Rattle.std.specs.Prelude.{◌≡◌, ℕ, ◌+◌, ◌*◌, ◌/◌, ◌%◌, ◌<◌, ◌≤◌, Bool, true, false, length, MatchOption, IsTrue, ◌↔◌, slice_index_or};
 ghost use Rattle.geos_model.specs.Block.{table_end, entries};
 ghost use Rattle.geos_model.specs.Heap.{IsHeader, IsHeap};
-ghost use Rattle.lmem_heap.specs.Check.{CanTile, Goes, IsTiled, Marks};
+ghost use Rattle.lmem_heap.specs.Check.{CanTile, Goes, IsTiled, Marks, marks_from};
 
 use crate::header::{
     BLOCK_SIZE, FIRST_FREE, FLAGS, KIND, TABLE, TABLE_BEGIN, TOTAL_FREE, entries, table_end,
 };
-use crate::marks::{PLACES, any_marked, mark};
+use crate::marks::mark;
 use crate::words::get16;
+
+/// One place for each four bytes of the largest block.
+const PLACES: usize = 16384;
+/// One place for each four bytes of a block of up to 4,096, so that no more are cleared for it.
+const FEW_PLACES: usize = 1024;
 
 /// Whether the bytes are a heap: exactly where they are header, table, chunks and free chunks
 /// that tile the block, as the format says. It takes time in proportion to the block's size.
@@ -18,8 +23,12 @@ pub fn check(block: &[u8]) -> bool
     if !is_header(block) {
         return false;
     }
+    if block.len() <= 4 * FEW_PLACES {
+        let mut starts = [false; FEW_PLACES];
+        return is_full(block, &mut starts);
+    }
     let mut starts = [false; PLACES];
-    mark(block, &mut starts) && is_tiled(block, &starts)
+    is_full(block, &mut starts)
 }
 
 fn is_header(block: &[u8]) -> bool
@@ -39,20 +48,37 @@ fn is_header(block: &[u8]) -> bool
         && table_end(block) <= size
 }
 
-/// Whether pieces tile the block behind the table: goes over them from the lowest on.
-fn is_tiled(block: &[u8], starts: &[bool]) -> bool
+/// Whether pieces tile the block behind the table, by marks of which none is set yet.
+fn is_full(block: &[u8], starts: &mut [bool]) -> bool
+    requires header { IsHeader block.now }
+    requires blank { (k : ℕ) → slice_index_or starts.old k false ≡ false }
+    requires room { length block.now ≤ 4 * length starts.old }
+    ensures { IsTrue result ↔ IsTiled block.now }
+{
+    match mark(block, starts) {
+        Some(chunks) => is_tiled(block, starts, chunks),
+        None => false,
+    }
+}
+
+/// Whether pieces tile the block behind the table: goes over them from the lowest on. All places
+/// are reached that are marked where the chunks on the way are as many.
+fn is_tiled(block: &[u8], starts: &[bool], chunks: usize) -> bool
     requires header { IsHeader block.now }
     requires marks { Marks block.now (entries block.now) starts.now }
-    requires length { length starts.now ≡ PLACES }
+    requires room { length block.now ≤ 4 * length starts.now }
+    requires counted { chunks ≡ marks_from starts.now 0 }
     ensures { IsTrue result ↔ IsTiled block.now }
 {
     let mut at = table_end(block);
     let mut free = get16(block, FIRST_FREE) as usize;
     let mut sum: usize = 0;
+    let mut left = chunks;
     while at < block.len() {
         match next_piece(block, starts, at, free, sum) {
             Some(piece) => {
                 at += piece.size;
+                left -= piece.chunks;
                 free = piece.free;
                 sum = piece.sum;
             }
@@ -60,7 +86,7 @@ fn is_tiled(block: &[u8], starts: &[bool]) -> bool
         }
     }
     let total = get16(block, TOTAL_FREE) as usize;
-    if free != 0 || sum != total {
+    if free != 0 || sum != total || left != 0 {
         return false;
     }
     true
@@ -70,6 +96,8 @@ fn is_tiled(block: &[u8], starts: &[bool]) -> bool
 #[derive(Clone, Copy)]
 struct Piece {
     size: usize,
+    /// 1, or 0 where it is free.
+    chunks: usize,
     /// The next free chunk behind it.
     free: usize,
     /// The bytes of the free chunks up to its end.
@@ -77,63 +105,37 @@ struct Piece {
 }
 
 /// The piece at an offset, where the next free chunk is to be at `free` and the ones so far
-/// have `sum` bytes. None where no piece can stand there.
+/// have `sum` bytes: a chunk where one of an entry begins. None where no piece can stand there.
 fn next_piece(block: &[u8], starts: &[bool], at: usize, free: usize, sum: usize) -> Option<Piece>
     requires header { IsHeader block.now }
     requires marks { Marks block.now (entries block.now) starts.now }
-    requires length { length starts.now ≡ PLACES }
+    requires room { length block.now ≤ 4 * length starts.now }
     requires fours { at % 4 ≡ 0 }
     requires inside { (table_end block.now ≤ at) × (at < length block.now) }
     requires small { sum ≤ at }
-    ensures { MatchOption result (CanTile block.now at free sum → ⊥) (λ s. Goes block.now at free sum s.size s.free s.sum) }
+    ensures { MatchOption result (CanTile block.now at free sum → ⊥) (λ s. Goes block.now starts.now at free sum s.size s.chunks s.free s.sum) }
 {
     if starts[at / 4] {
-        chunk(block, starts, at, free, sum)
-    } else {
-        free_chunk(block, starts, at, free, sum)
+        let word = get16(block, at) as usize;
+        let size = (word + 3) / 4 * 4;
+        if word < 3 || block.len() - at < size {
+            return None;
+        }
+        return Some(Piece {
+            size,
+            chunks: 1,
+            free,
+            sum,
+        });
     }
-}
-
-/// The chunk at an offset where an entry's chunk begins.
-fn chunk(block: &[u8], starts: &[bool], at: usize, free: usize, sum: usize) -> Option<Piece>
-    requires header { IsHeader block.now }
-    requires marks { Marks block.now (entries block.now) starts.now }
-    requires length { length starts.now ≡ PLACES }
-    requires fours { at % 4 ≡ 0 }
-    requires inside { (table_end block.now ≤ at) × (at < length block.now) }
-    requires small { sum ≤ at }
-    requires used { slice_index_or starts.now (at / 4) false ≡ true }
-    ensures { MatchOption result (CanTile block.now at free sum → ⊥) (λ s. Goes block.now at free sum s.size s.free s.sum) }
-{
-    let word = get16(block, at) as usize;
-    let size = (word + 3) / 4 * 4;
-    if word < 3 || block.len() - at < size || any_marked(starts, at / 4 + 1, (at + size) / 4) {
-        return None;
-    }
-    Some(Piece { size, free, sum })
-}
-
-/// The free chunk at an offset where no entry's chunk begins.
-fn free_chunk(block: &[u8], starts: &[bool], at: usize, free: usize, sum: usize) -> Option<Piece>
-    requires header { IsHeader block.now }
-    requires marks { Marks block.now (entries block.now) starts.now }
-    requires length { length starts.now ≡ PLACES }
-    requires fours { at % 4 ≡ 0 }
-    requires inside { (table_end block.now ≤ at) × (at < length block.now) }
-    requires small { sum ≤ at }
-    requires free { slice_index_or starts.now (at / 4) false ≡ false }
-    ensures { MatchOption result (CanTile block.now at free sum → ⊥) (λ s. Goes block.now at free sum s.size s.free s.sum) }
-{
     let size = get16(block, at) as usize;
     let next = get16(block, at + 2) as usize;
-    if free != at || size == 0 || size % 4 != 0 || next == at + size {
-        return None;
-    }
-    if block.len() - at < size || any_marked(starts, at / 4 + 1, (at + size) / 4) {
+    if free != at || size == 0 || size % 4 != 0 || next == at + size || block.len() - at < size {
         return None;
     }
     Some(Piece {
         size,
+        chunks: 0,
         free: next,
         sum: sum + size,
     })

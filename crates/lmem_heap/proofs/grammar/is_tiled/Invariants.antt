@@ -1,11 +1,12 @@
-use Rattle.std.proofs.Common.{length, ◌-◌, ◌≡◌, ◌%◌, ◌≤◌, ◌↔◌}
+use Rattle.std.proofs.Common.{length, ◌-◌, ◌/◌, ◌≡◌, ◌%◌, ◌≤◌, ◌↔◌}
 use Rattle.geos_model.specs.Block.{table_end}
-use Rattle.lmem_heap.specs.Check.{CanTile, IsTiled}
+use Rattle.lmem_heap.specs.Check.{CanGoOn, IsTiled, marks_from}
 use Rattle.lmem_heap.proofs.grammar.is_tiled.Given as goal
 
 abbrev pub invariant-loop-at : goal.invariant-loop-at
 invariant-loop-at l = record {
-  same : IsTiled l.block ↔ CanTile l.block l.at l.free l.sum;
+  same : IsTiled l.block ↔ CanGoOn l.block l.starts l.at l.free l.sum l.left;
+  marks : marks_from l.starts (l.at / 4) ≤ l.left;
   fours : l.at % 4 ≡ 0;
   from : table_end l.block ≤ l.at;
   upto : l.at ≤ length l.block;
