@@ -18,11 +18,12 @@ pub(crate) fn mark(block: &[u8], starts: &mut [bool]) -> Option<usize>
 {
     let mut marks = 0;
     let n = entries(block);
+    let lowest = table_end(block) + 2;
     for i in 0..n {
         let e = entry(block, i);
         if e != 0 && e != NO_BYTE {
             let at = e as usize;
-            if at < table_end(block) + 2 || at >= block.len() || at % 4 != 2 || starts[at / 4] {
+            if at < lowest || at >= block.len() || at % 4 != 2 || starts[at / 4] {
                 return None;
             }
             starts[at / 4] = true;
