@@ -92,15 +92,19 @@ used-back b at free sum w starts m fours is least h free_of (ps, left) =
       },
     )
 
-pub used-goes : (b : List ℕ) (at free sum w : ℕ) (starts : List Bool) → Marks b (entries b) starts → at % 4 ≡ 0 → at < length b → w ≡ word b at →
-    get_or starts (at / 4) false ≡ true → 3 ≤ w → at + (w + 3) / 4 * 4 ≤ length b → Goes b starts at free sum ((w + 3) / 4 * 4) 1 free sum
-used-goes b at free sum w starts m fours inside is h least fits =
+pub used-goes : (b : List ℕ) (at free sum w end : ℕ) (starts : List Bool) → Marks b (entries b) starts → at % 4 ≡ 0 → at < length b → w ≡ word b at →
+    get_or starts (at / 4) false ≡ true → 3 ≤ w → end ≡ (at + w + 3) / 4 * 4 → end ≤ length b → Goes b starts at free sum end 1 free sum
+used-goes b at free sum w end starts m fours inside is h least ends fits =
     let yes = marks-yes starts (at / 4) h in
-    let le : at / 4 + 1 ≤ (at + (w + 3) / 4 * 4) / 4 = omega arith in
-    let fewer = marks-le starts (at / 4 + 1) ((at + (w + 3) / 4 * 4) / 4) le in
+    let from = at / 4 + 1 in
+    let le : from ≤ end / 4 = omega arith in
+    let fewer = marks-le starts from (end / 4) le in
+    let same_end : at + (w + 3) / 4 * 4 ≡ end = omega arith in
+    let T : ℕ → Type 0 = λ e. CanTile b e free sum in
+    let C : ℕ → Type 0 = λ e. (k : ℕ) → from ≤ k → k < e / 4 → get_or starts k false ≡ true → ⊥ in
     record {
-      forward = (λ can. let f = used-forward b at free sum w starts m fours inside is h can in let same = marks-same starts (at / 4 + 1) ((at + (w + 3) / 4 * 4) / 4) le f.2 in (f.3, omega arith));
-      back = (λ can same. used-back b at free sum w starts m fours is least h (λ k low high. marks-clear starts (at / 4 + 1) ((at + (w + 3) / 4 * 4) / 4) k (omega arith) low high) can);
+      forward = (λ can. let f = used-forward b at free sum w starts m fours inside is h can in let same = marks-same starts from (end / 4) le (subst C same_end f.2) in (subst T same_end f.3, omega arith));
+      back = (λ can same. used-back b at free sum w starts m fours is least h (subst C (sym same_end) (λ k low high. marks-clear starts from (end / 4) k (omega arith) low high)) (subst T (sym same_end) can));
       marks = omega arith;
       some = omega arith;
       fours = omega arith;
@@ -151,7 +155,7 @@ free-back b at free sum w next starts m fours is next_is h first some four apart
     )
 
 pub free-goes : (b : List ℕ) (at free sum w next : ℕ) (starts : List Bool) → Marks b (entries b) starts → at % 4 ≡ 0 → 16 ≤ at → at < length b → w ≡ word b at → next ≡ word b (at + 2) →
-    get_or starts (at / 4) false ≡ false → free ≡ at → 0 < w → w % 4 ≡ 0 → next ≢ at + w → at + w ≤ length b → Goes b starts at free sum w 0 next (sum + w)
+    get_or starts (at / 4) false ≡ false → free ≡ at → 0 < w → w % 4 ≡ 0 → next ≢ at + w → at + w ≤ length b → Goes b starts at free sum (at + w) 0 next (sum + w)
 free-goes b at free sum w next starts m fours low inside is next_is h first some four apart fits =
     let no = marks-no starts (at / 4) h in
     let le : at / 4 + 1 ≤ (at + w) / 4 = omega arith in
@@ -161,7 +165,7 @@ free-goes b at free sum w next starts m fours low inside is next_is h first some
       back = (λ can same. free-back b at free sum w next starts m fours is next_is h first some four apart (λ k l high. marks-clear starts (at / 4 + 1) ((at + w) / 4) k (omega arith) l high) can);
       marks = omega arith;
       some = omega arith;
-      fours = four;
+      fours = omega arith;
       fits = fits;
       small = omega arith;
     }

@@ -24,16 +24,16 @@ marks_from starts k = count_by (λ x. x) (drop k starts)
 abbrev pub CanGoOn : List ℕ → List Bool → ℕ → ℕ → ℕ → ℕ → Type 0
 CanGoOn block starts at free sum left = CanTile block at free sum × (marks_from starts (at / 4) ≡ left)
 
--- past a piece of this size, which has so many chunks, the rest can be tiled exactly where it
+-- past a piece that ends here, and has so many chunks, the rest can be tiled exactly where it
 -- could be before, if no mark lies within the piece
-pub record Goes (block : List ℕ) (starts : List Bool) (at free sum size chunks free_then sum_then : ℕ) : Type 0 where
-  pub forward : CanTile block at free sum → CanTile block (at + size) free_then sum_then × (marks_from starts (at / 4) ≡ chunks + marks_from starts ((at + size) / 4))
-  pub back : CanTile block (at + size) free_then sum_then → marks_from starts (at / 4) ≡ chunks + marks_from starts ((at + size) / 4) → CanTile block at free sum
-  pub marks : chunks + marks_from starts ((at + size) / 4) ≤ marks_from starts (at / 4)
-  pub some : 4 ≤ size
-  pub fours : size % 4 ≡ 0
-  pub fits : at + size ≤ length block
-  pub small : sum_then ≤ sum + size
+pub record Goes (block : List ℕ) (starts : List Bool) (at free sum end chunks free_then sum_then : ℕ) : Type 0 where
+  pub forward : CanTile block at free sum → CanTile block end free_then sum_then × (marks_from starts (at / 4) ≡ chunks + marks_from starts (end / 4))
+  pub back : CanTile block end free_then sum_then → marks_from starts (at / 4) ≡ chunks + marks_from starts (end / 4) → CanTile block at free sum
+  pub marks : chunks + marks_from starts (end / 4) ≤ marks_from starts (at / 4)
+  pub some : at < end
+  pub fours : end % 4 ≡ 0
+  pub fits : end ≤ length block
+  pub small : sum_then + at ≤ sum + end
 
 -- some pieces tile the block
 abbrev pub IsTiled : List ℕ → Type 0

@@ -77,7 +77,7 @@ fn is_tiled(block: &[u8], starts: &[bool], chunks: usize) -> bool
     while at < block.len() {
         match next_piece(block, starts, at, free, sum) {
             Some(piece) => {
-                at += piece.size;
+                at = piece.end;
                 left -= piece.chunks;
                 free = piece.free;
                 sum = piece.sum;
@@ -95,7 +95,7 @@ fn is_tiled(block: &[u8], starts: &[bool], chunks: usize) -> bool
 /// A chunk or a free chunk.
 #[derive(Clone, Copy)]
 struct Piece {
-    size: usize,
+    end: usize,
     /// 1, or 0 where it is free.
     chunks: usize,
     /// The next free chunk behind it.
@@ -113,16 +113,16 @@ fn next_piece(block: &[u8], starts: &[bool], at: usize, free: usize, sum: usize)
     requires fours { at % 4 ≡ 0 }
     requires inside { (table_end block.now ≤ at) × (at < length block.now) }
     requires small { sum ≤ at }
-    ensures { MatchOption result (CanTile block.now at free sum → ⊥) (λ s. Goes block.now starts.now at free sum s.size s.chunks s.free s.sum) }
+    ensures { MatchOption result (CanTile block.now at free sum → ⊥) (λ s. Goes block.now starts.now at free sum s.end s.chunks s.free s.sum) }
 {
     if starts[at / 4] {
         let word = get16(block, at) as usize;
-        let size = (word + 3) / 4 * 4;
-        if word < 3 || block.len() - at < size {
+        let end = (at + word + 3) / 4 * 4;
+        if word < 3 || end > block.len() {
             return None;
         }
         return Some(Piece {
-            size,
+            end,
             chunks: 1,
             free,
             sum,
@@ -130,11 +130,12 @@ fn next_piece(block: &[u8], starts: &[bool], at: usize, free: usize, sum: usize)
     }
     let size = get16(block, at) as usize;
     let next = get16(block, at + 2) as usize;
-    if free != at || size == 0 || size % 4 != 0 || next == at + size || block.len() - at < size {
+    let end = at + size;
+    if free != at || size == 0 || size % 4 != 0 || next == end || end > block.len() {
         return None;
     }
     Some(Piece {
-        size,
+        end,
         chunks: 0,
         free: next,
         sum: sum + size,
