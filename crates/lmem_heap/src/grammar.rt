@@ -61,8 +61,8 @@ fn is_full(block: &[u8], starts: &mut [bool]) -> bool
     }
 }
 
-/// Whether pieces tile the block behind the table: goes over them from the lowest on. All places
-/// are reached that are marked where the chunks on the way are as many.
+/// Whether pieces tile the block behind the table: goes over them from the lowest on. Where it
+/// comes by as many chunks as places are marked, no mark lies within a piece.
 fn is_tiled(block: &[u8], starts: &[bool], chunks: usize) -> bool
     requires header { IsHeader block.now }
     requires marks { Marks block.now (entries block.now) starts.now }
