@@ -31,12 +31,6 @@ static unsigned word(const unsigned char *block, unsigned at) {
     return w;
 }
 
-static int any(const unsigned char *starts, unsigned from, unsigned end) {
-    for (; from < end; from++)
-        if (starts[from]) return 1;
-    return 0;
-}
-
 // Whether the bytes are a heap under a handle.
 static int check(const unsigned char *block, unsigned size, unsigned h) {
     static unsigned char starts[65536 / 4];
@@ -45,28 +39,31 @@ static int check(const unsigned char *block, unsigned size, unsigned h) {
     if (word(block, 0) != h || word(block, 2) != 16 || word(block, 4) || word(block, 6) || word(block, 8) != size) return 0;
     if (n < 2 || n % 2 || table > size) return 0;
     memset(starts, 0, size / 4);
+    unsigned left = 0; // marks that the walk is still to come by
     for (unsigned i = 0; i < n; i++) {
         unsigned at = word(block, 16 + 2 * i);
         if (at == 0 || at == 0xffff) continue;
         if (at < table + 2 || at >= size || at % 4 != 2 || starts[at / 4]) return 0;
         starts[at / 4] = 1;
+        left++;
     }
     unsigned at = table, free_at = word(block, 12), sum = 0;
     while (at < size) {
-        unsigned w = word(block, at), long_ = w;
+        unsigned w = word(block, at), end = at + w;
         if (starts[at / 4]) {
-            long_ = (w + 3) / 4 * 4;
+            end = (at + w + 3) / 4 * 4;
             if (w < 3) return 0;
+            left--;
         } else {
             unsigned next = word(block, at + 2);
-            if (free_at != at || w == 0 || w % 4 || next == at + w) return 0;
+            if (free_at != at || w == 0 || w % 4 || next == end) return 0;
             free_at = next;
             sum += w;
         }
-        if (size - at < long_ || any(starts, at / 4 + 1, (at + long_) / 4)) return 0;
-        at += long_;
+        if (end > size) return 0;
+        at = end;
     }
-    return free_at == 0 && sum == word(block, 14);
+    return free_at == 0 && sum == word(block, 14) && left == 0;
 }
 
 static long base(void) { return 1024 + selector * (long)area; }
