@@ -21,7 +21,7 @@ mod stretch;
 use arena::Arena;
 pub use error::{HandleError, RoomError};
 pub use geos_model::{Name, Owner};
-use name::{first_slot, slot_in_use, slot_of};
+use name::{first_slot, name_of, slot_in_use, slot_of};
 use room::{Gap, room_for};
 use slots::SlotSet;
 use std::alloc::{AllocError, Global};
@@ -36,6 +36,8 @@ pub struct Blocks {
     arena: Arena,
     gap: Gap,
     used: SlotSet,
+    /// How many bytes no block has. No contract rests on it.
+    free: u32,
 }
 
 impl Model for Blocks {
@@ -58,7 +60,7 @@ impl Blocks {
     ghost use Rattle.block_handles.specs.LendingBlocks.{LendsBlock};
     ghost use Rattle.block_handles.specs.Names.{slot_of, IsHandle};
     ghost use Rattle.block_handles.specs.Offsets.{Copies, CopiesCovered, ReadsByte, ReadsWord, WritesCovered};
-    ghost use Rattle.block_handles.specs.Store.{IsThere, bytes_of, size_of, place_of, locks_of, region_len};
+    ghost use Rattle.block_handles.specs.Store.{IsThere, bytes_of, size_of, place_of, end_of, locks_of, region_len};
     ghost use Rattle.block_handles.specs.Stretch.{HasNoRoom};
     ghost use Rattle.block_handles.specs.Used.{IsLowest, AllInUse};
 
@@ -72,6 +74,7 @@ impl Blocks {
             arena: Arena::new(alloc, region)?,
             gap: Gap { at: 0, end: region },
             used: SlotSet::new(alloc)?,
+            free: region,
         })
     }
 
@@ -111,6 +114,34 @@ impl Blocks {
         } else {
             0
         }
+    }
+
+    /// Whether the region has fewer than `more` bytes that no block has, so that surely no block of
+    /// that size can be made, nor one grow by as much. A hint that saves a search for room: no
+    /// contract rests on it.
+    pub fn lacks(&self, more: u32) -> bool {
+        self.free < more
+    }
+
+    /// Where the gap ends, the free range in which the next block is placed. Where the block behind
+    /// it is freed, the gap gets wider. A hint which block to free for room: no contract rests on
+    /// it.
+    pub fn gap_end(&self) -> u32 {
+        self.gap.end
+    }
+
+    /// The name of the block that begins first at an offset or behind it, or first in the region
+    /// where none does, and where it ends; `None` where there is no block. So a walk passes the
+    /// blocks in the order in which they lie. No contract rests on that order: it is a hint.
+    pub fn next_from(&self, at: u32) -> Option<(Name, u32)>
+        ensures { IfSome result (λ next. IsThere self.now (slot_of next.0) × (next.1 ≡ end_of self.now (slot_of next.0))) }
+    {
+        let arena = &self.arena;
+        let slot = match arena.first_in(at, arena.len()) {
+            Some(slot) => slot,
+            None => arena.first_in(0, arena.len())?,
+        };
+        Some((name_of(slot), arena.end(slot)))
     }
 
     /// Where a block begins in the region. Blocks lie in the region, and no two overlap.
@@ -249,6 +280,7 @@ impl Blocks {
         self.arena.remove(slot);
         self.used.remove(slot);
         self.gap = self.gap.joined(place, end);
+        self.free = self.free.wrapping_add(end - place);
         Ok(())
     }
 
@@ -274,6 +306,7 @@ impl Blocks {
             at: gap.at + size,
             end: gap.end,
         };
+        self.free = self.free.wrapping_sub(size);
         Ok(())
     }
 
@@ -294,13 +327,15 @@ impl Blocks {
         }
         let slot = slot_of(name);
         let place = self.arena.place(slot);
-        let gap = self.gap.reaching(place, self.arena.end(slot));
+        let end = self.arena.end(slot);
+        let gap = self.gap.reaching(place, end);
         let gap = room_for(&mut self.arena, gap, self.gap.end, slot, size)?;
         self.arena.relocate(slot, gap.at, size);
         self.gap = Gap {
             at: gap.at + size,
             end: gap.end,
         };
+        self.free = self.free.wrapping_sub(size - (end - place));
         Ok(())
     }
 }

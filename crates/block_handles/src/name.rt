@@ -1,6 +1,6 @@
 //! The slot of each name.
 
-ghost use Rattle.std.specs.Prelude.{◌≡◌};
+ghost use Rattle.std.specs.Prelude.{◌≡◌, ◌<◌};
 ghost use Rattle.block_handles.specs.Names.{IsHandle, first_slot, slot_of};
 
 use geos_model::{Name, Owner};
@@ -28,4 +28,17 @@ pub(crate) fn slot_in_use(name: Name) -> usize
     ensures { result ≡ slot_of name }
 {
     first_slot(name.owner) + (name.h as usize - 1)
+}
+
+/// The name of the block in a slot.
+pub(crate) fn name_of(slot: usize) -> Name
+    requires { slot < 2048 }
+    ensures { slot_of result ≡ slot }
+{
+    let first = first_slot(Owner::Vm);
+    if slot < first {
+        Name::mem(slot as u16 + 1)
+    } else {
+        Name::vm((slot - first) as u16 + 1)
+    }
 }
