@@ -180,7 +180,18 @@ module _ (S : Store) (slot : ℕ) (laid : IsLaidOut S) (there : IsThere S slot) 
       by j (inl q) a = inl q
       by j (inr q) (inr a) = inr (omega (arith, a, ee))
       by j (inr q) (inl a) = nowhere gap.at end j (omega (arith, q, a, ep, meets))
-  freed-gap gap gap' place end ep ee g (inr (inr is)) =
+  freed-gap gap gap' place end ep ee g (inr (inr (inl is))) =
+      let at : gap'.at ≡ place = ap (λ x. x.at) is in let stop : gap'.end ≡ end = ap (λ x. x.end) is in
+      record {
+        ordered = omega (arith, at, stop, ep, ee);
+        inside = omega (arith, stop, ee, laid.within slot);
+        free = rw (at, stop) (freed-range place end (λ j ne. by j (laid.apart j slot ne)));
+      }
+    where
+      by : (j : ℕ) → Apart S j slot → (end_of S j ≤ place) ⊎ (end ≤ place_of S j)
+      by j (inl a) = inl (omega (arith, a, ep))
+      by j (inr a) = inr (omega (arith, a, ee))
+  freed-gap gap gap' place end ep ee g (inr (inr (inr is))) =
       let at : gap'.at ≡ gap.at = ap (λ x. x.at) is in let stop : gap'.end ≡ gap.end = ap (λ x. x.end) is in
       record { ordered = omega (arith, at, stop, g.ordered); inside = omega (arith, stop, g.inside); free = rw (at, stop) (freed-range gap.at gap.end (λ j ne. g.free j)) }
 

@@ -6,6 +6,6 @@ use Rattle.block_handles.specs.declared.room.Gap.{Gap}
 abbrev pub Reaches : Gap → ℕ → ℕ → Gap → Type 0
 Reaches old from until new = ((until ≡ old.at) × (new ≡ record old { at = from })) ⊎ (new ≡ old)
 
--- the gap is as it was, or with a range that lies right before or behind it
+-- the gap is as it was, or with a range that lies right before or behind it, or that range alone
 abbrev pub Joins : Gap → ℕ → ℕ → Gap → Type 0
-Joins old from until new = ((until ≡ old.at) × (new ≡ record old { at = from })) ⊎ (((from ≡ old.end) × (new ≡ record old { end = until })) ⊎ (new ≡ old))
+Joins old from until new = ((until ≡ old.at) × (new ≡ record old { at = from })) ⊎ (((from ≡ old.end) × (new ≡ record old { end = until })) ⊎ ((new ≡ record { at = from; end = until }) ⊎ (new ≡ old)))

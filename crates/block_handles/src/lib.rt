@@ -279,7 +279,7 @@ impl Blocks {
         let end = self.arena.end(slot);
         self.arena.remove(slot);
         self.used.remove(slot);
-        self.gap = self.gap.joined(place, end);
+        self.gap = self.gap.joined(place, end, self.free);
         self.free = self.free.wrapping_add(end - place);
         Ok(())
     }

@@ -18,17 +18,28 @@ pub(crate) struct Gap {
     pub(crate) end: u32,
 }
 
+/// A hole is not made the gap where the other free bytes are more than so many times its own:
+/// packing gives a larger gap then, for a request and many that follow it.
+const SHARE: u32 = 16;
+
 impl Gap {
     ghost use Rattle.block_handles.specs.Joined.{Joins, Reaches};
 
-    /// The gap with a free range that lies right before or behind it.
-    pub(crate) fn joined(self, from: u32, until: u32) -> Gap
+    /// The gap with a free range that lies right before or behind it. A larger one that lies apart
+    /// becomes the gap where it has its share of the `free` bytes beside it.
+    pub(crate) fn joined(self, from: u32, until: u32, free: u32) -> Gap
+        requires { (self.at ≤ self.end) × (from ≤ until) }
         ensures { Joins self from until result }
     {
         if until == self.at {
             Gap { at: from, ..self }
         } else if from == self.end {
             Gap { end: until, ..self }
+        } else if until - from > (self.end - self.at).max(free / SHARE) {
+            Gap {
+                at: from,
+                end: until,
+            }
         } else {
             self
         }
