@@ -25,7 +25,8 @@ fn own_handle(name: Name) -> u16
 impl<D: Device + Drop> VmBlocks<D> {
     /// Whether a block may be discarded.
     fn is_idle(&self, blocks: &Blocks, h: u16) -> bool
-        ensures { result ≡ is_idle self.now blocks.now h }
+        ensures idle { result ≡ is_idle self.now blocks.now h }
+        ensures handle { IsTrue result → IsHandle h }
     {
         match self.held(h) {
             Some(held) => {
@@ -35,11 +36,32 @@ impl<D: Device + Drop> VmBlocks<D> {
         }
     }
 
-    /// The lowest handle, but this, of a block that may be discarded.
+    /// The handle, but this, of the first block behind the gap that may be discarded. So the gap
+    /// gets wider, mostly, and goes round the region. Passes each block once at most.
+    fn idle_behind_gap(&self, blocks: &Blocks, but: u16) -> Option<u16>
+        ensures { IfSome result (λ h. IsHandle h × (h ≢ but) × (is_idle self.now blocks.now h ≡ true)) }
+    {
+        let mut at = blocks.gap_end();
+        for _ in 0..2 * Name::HANDLES {
+            let (name, end) = blocks.next_from(at)?;
+            let h = own_handle(name);
+            if self.is_idle(blocks, h) && h != but {
+                return Some(h);
+            }
+            at = end;
+        }
+        None
+    }
+
+    /// The handle, but this, of a block that may be discarded: the first one behind the gap, and
+    /// the lowest where the walk there finds none.
     fn first_idle(&self, blocks: &Blocks, but: u16) -> Option<u16>
         ensures found { IfSome result (λ h. IsHandle h × (h ≢ but) × (is_idle self.now blocks.now h ≡ true)) }
         ensures none { IfNone result (NoneIdle self.now blocks.now but) }
     {
+        if let Some(h) = self.idle_behind_gap(blocks, but) {
+            return Some(h);
+        }
         for h in 1..1025 {
             if h != but && self.is_idle(blocks, h) {
                 return Some(h);
@@ -65,6 +87,15 @@ impl<D: Device + Drop> VmBlocks<D> {
         }
     }
 
+    /// Discards blocks, but that of the handle `but`, while the region's free bytes are fewer than
+    /// `more`. To look for room then would be in vain.
+    fn discard_for(&self, blocks: &mut Blocks, but: u16, more: u32)
+        requires { IsTied D.image D.honest self.now blocks.old }
+        ensures { Thins self.now blocks.old blocks.new but }
+    {
+        while blocks.lacks(more) && self.discard_one(blocks, but) {}
+    }
+
     /// Makes a block of `size` zero bytes, not locked, under a name that is not in use, and
     /// discards others for it, one after another, until there is room. `NoRoom` where there is
     /// none though all that may be were discarded.
@@ -77,6 +108,7 @@ impl<D: Device + Drop> VmBlocks<D> {
         ensures err { OnErr result (LacksRoom self.now blocks.old blocks.new name size) }
     {
         let but = own_handle(name);
+        self.discard_for(blocks, but, size);
         loop {
             match blocks.make(name, size) {
                 Ok(()) => return Ok(()),
@@ -99,6 +131,8 @@ impl<D: Device + Drop> VmBlocks<D> {
         ensures err { OnErr result (LacksRoom self.now blocks.old blocks.new name size) }
     {
         let but = own_handle(name);
+        let more = size - blocks.size(name);
+        self.discard_for(blocks, but, more);
         loop {
             match blocks.grow(name, size) {
                 Ok(()) => return Ok(()),
