@@ -19,3 +19,16 @@ routine get public budget 40
     OUT w2 get_unlock
 get_unlock: VUNLOCK s0
 get_end: RET
+
+; Each commit, and the number of its refusal or 0.
+routine commit public budget 40
+    LDI w7 0
+    VUPDATE updated
+updated: OUT w7 commit_end
+    LDI w7 0
+    VSAVE saved
+saved: OUT w7 commit_end
+    LDI w7 0
+    VREVERT reverted
+reverted: OUT w7 commit_end
+commit_end: RET

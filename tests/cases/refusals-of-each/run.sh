@@ -6,7 +6,9 @@ folder=$(mktemp -d)
 trap 'rm -rf "$folder"' EXIT
 cd "$folder" || exit 1
 program=$1
-cc -O -shared -fPIC -o failing.so "$top/tests/failing.c" -ldl || exit 1
+for library in failing refusing; do
+    cc -O -shared -fPIC -o $library.so "$top/tests/$library.c" -ldl || exit 1
+done
 for text in "$case"/*.asm; do
     "$program" asm "$text" "$(basename "$text" .asm).image" || exit 1
 done
@@ -84,6 +86,22 @@ answers
 new && failing write 1 1000 commits commits "call commits" && answers
 echo "it is not sure what it holds:"
 new && failing write 2 2 commits commits "call commits" && answers
+
+# refusing N: runs the commits on a new file, of which this allocation is refused; counts them
+refusing() {
+    new && REFUSED=$1 COUNTS=counts LD_PRELOAD=./refusing.so on commits commits "call commits"
+    read -r asked _ <counts
+}
+
+# The last allocations are those of the commits.
+echo "memory is refused:"
+refusing 0
+number=$asked
+while [ "$number" -gt 0 ] && ! grep -qx "VUPDATE 13" pairs; do
+    refusing "$number"
+    answers | grep ' 13$'
+    number=$((number - 1))
+done
 
 echo "not tried:"
 sed -n 's/^| [0-9a-f]* | \([A-Z]*\) [^|]*|.*| \([0-9, ]*\) |$/\1 \2/p' "$top/docs/INSTRUCTIONS.md" | tr -d , |
