@@ -11,11 +11,21 @@ import copy
 import subprocess
 import sys
 
-AREA = 512
+AREA = 1024
 GROUP = 65280
-# What a stop leaves of a part of 512 bytes that was written since the last sync: the header, the selector, the first area, the second.
+# What a stop leaves of a part of 512 bytes that was written since the last sync: the header, the selector, two of the first area, two of the
+# second.
 OLD, NEW, GARBAGE = range(3)
-STOPS = ([OLD] * 4, [NEW] * 4, [GARBAGE] * 4, [OLD, NEW, OLD, GARBAGE], [OLD, OLD, GARBAGE, NEW], [OLD, GARBAGE, NEW, NEW])
+STOPS = (
+    [OLD] * 6,
+    [NEW] * 6,
+    [GARBAGE] * 6,
+    [OLD, NEW, OLD, OLD, GARBAGE, GARBAGE],
+    [OLD, GARBAGE, NEW, NEW, NEW, NEW],
+    [OLD, NEW, NEW, OLD, NEW, OLD],
+    [OLD, NEW, OLD, NEW, OLD, NEW],
+    [OLD, OLD, NEW, OLD, GARBAGE, NEW],
+)
 COMMITS = ("vupdate", "vsave", "vrevert")
 # A commit ends with four calls of the device: the write of an area, a sync, the write of the selector, a sync. In the last two it is not
 # sure what is kept.
@@ -125,8 +135,8 @@ def saved_and_updated():
 
 
 def scripts():
-    """Scripts that end with each commit: the first one of a file, one with a changed byte and an item, and one with blocks that are not in
-    memory."""
+    """Scripts that end with each commit: the first one of a file, one with a changed byte and an item, one with blocks that are not in
+    memory, and one with so many blocks that the pair takes two parts of an area, over the pair of an earlier commit."""
     yield saved_and_updated()
     for how in COMMITS:
         script = Script()
@@ -146,6 +156,15 @@ def scripts():
         script.discard()
         script.free(1)
         script.put(3)
+        script.commit(how)
+        yield script
+        script = Script()
+        for byte in HANDLES:
+            script.put(byte)
+        script.commit("vsave")
+        script.change(1, 7)
+        script.commit("vupdate")
+        script.change(4, 8)
         script.commit(how)
         yield script
 
