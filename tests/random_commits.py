@@ -13,8 +13,9 @@ from file_reading import EMPTY, Directory, read, spell, spell_directory
 
 LISTS = 400
 MOST_COMMITS = 4
-AREA = 512
-LENGTH = 1024 + 2 * AREA
+# Sizes of areas, with how many blocks a directory may have: in the smaller one not every pair has room, and in the larger one many a pair
+# takes two parts, each of which a stop leaves by itself.
+AREAS = ((512, (0, 1, 1, 2, 2, 3, 4)), (1024, (0, 2, 3, 4, 5, 6)))
 # What a stop leaves of a part of 512 bytes that was written since the last sync, and the byte of what is garbled.
 OLD, NEW, GARBAGE = range(3)
 GARBLED = 0xA5
@@ -66,8 +67,8 @@ class Device:
 class File:
     """An open file: the pair that it is sure of, or that and the new one where it is unsure."""
 
-    def __init__(self, device):
-        self.device, self.pairs, self.selector = device, [(EMPTY, EMPTY)], 0
+    def __init__(self, device, area):
+        self.device, self.area, self.pairs, self.selector = device, area, [(EMPTY, EMPTY)], 0
 
     def pair_of(self, how, given):
         current, saved = self.pairs[0]
@@ -85,12 +86,12 @@ class File:
         data = b"".join(map(spell_directory, pair))
         if len(self.pairs) > 1:
             return "unsure"
-        if len(data) > AREA:
+        if len(data) > self.area:
             return "too big"
         try:
             for _ in range(self.reads(how, given, resident)):
                 self.device.read()
-            self.device.write(1024 + (1 - self.selector) * AREA, data)
+            self.device.write(1024 + (1 - self.selector) * self.area, data)
             self.device.sync()
         except Disk:
             return "disk"
@@ -104,11 +105,12 @@ class File:
         return "ok"
 
 
-def random_commit(choices):
-    """How, the handles of the directory, its map block, and the handles of the blocks in memory with their byte."""
-    handles = sorted(choices.sample(range(1, 5), choices.choice((0, 1, 1, 2, 2, 3, 4))))
-    first = choices.randint(1, 4)
-    resident = choices.choice((range(0), range(first, 5), range(1, 5)))
+def random_commit(choices, counts):
+    """How, the handles of the directory, which are so many, its map block, and the handles of the blocks in memory with their byte."""
+    most = max(counts)
+    handles = sorted(choices.sample(range(1, most + 1), choices.choice(counts)))
+    first = choices.randint(1, most)
+    resident = choices.choice((range(0), range(first, most + 1), range(1, most + 1)))
     return choices.choice(("update", "update", "save", "revert")), handles, choices.choice([0, *handles]), resident, choices.randrange(256)
 
 
@@ -148,12 +150,12 @@ def ask_found(lines, file, parts):
             lines.ask(f"{block_line} {handle}", runs(block))
 
 
-def ask_run(lines, commits, call, parts):
-    """Adds the lines of a run that is stopped from a call on. Gives back how many calls it has."""
-    device = Device(spell(AREA, 0, (EMPTY, EMPTY)), call)
-    file = File(device)
-    lines.ask(f"cached {LENGTH} {call}")
-    lines.ask(f"create {AREA}")
+def ask_run(lines, area, commits, call, parts):
+    """Adds the lines of a run on areas of this size that is stopped from a call on. Gives back how many calls it has."""
+    device = Device(spell(area, 0, (EMPTY, EMPTY)), call)
+    file = File(device, area)
+    lines.ask(f"cached {len(device.now)} {call}")
+    lines.ask(f"create {area}")
     for commit in commits:
         ask_commit(lines, file, commit)
     ask_found(lines, file, parts)
@@ -164,12 +166,14 @@ def main():
     lines = Lines()
     choices = random.Random(1)
     stops = 0
-    for _ in range(LISTS):
-        commits = [random_commit(choices) for _ in range(choices.randint(1, MOST_COMMITS))]
-        calls = ask_run(lines, commits, 0, [GARBAGE] * 4)
+    for number in range(LISTS):
+        area, counts = AREAS[number % len(AREAS)]
+        parts_there = (1024 + 2 * area) // 512
+        commits = [random_commit(choices, counts) for _ in range(choices.randint(1, MOST_COMMITS))]
+        calls = ask_run(lines, area, commits, 0, [GARBAGE] * parts_there)
         for call in range(FIRST_CALL, calls + 1):
-            for parts in ([OLD] * 4, [NEW] * 4, [GARBAGE] * 4, [choices.randrange(3) for _ in range(4)]):
-                ask_run(lines, commits, call, parts)
+            for parts in (*([left] * parts_there for left in (OLD, NEW, GARBAGE)), [choices.randrange(3) for _ in range(parts_there)]):
+                ask_run(lines, area, commits, call, parts)
                 stops += 1
     lines.compare(sys.argv[1])
     print(f"{LISTS} lists of commits")
