@@ -1,0 +1,4 @@
+routine main public budget 9
+        in s0=mem
+        MUNLOCK s0
+        RET
