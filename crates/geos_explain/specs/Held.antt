@@ -7,7 +7,7 @@ use Rattle.geos_listing.specs.Rows.{row_items}
 use Rattle.geos_verify.specs.Rows.{after, falls_through, is_empty, slot_state}
 use Rattle.geos_verify.specs.Rules.{has_place}
 use Rattle.geos_explain.specs.Lacks.{lacking, lacking_items}
-use Rattle.geos_explain.specs.Numbers.{pc_text}
+use Rattle.geos_explain.specs.Numbers.{these_are, pc_text}
 use Rattle.geos_explain.specs.Places.{Place}
 use Rattle.geos_explain.specs.Uses.{state_item}
 use Rattle.geos_explain.specs.declared.held.Since.{Since}
@@ -75,11 +75,11 @@ since_items place = since_item place 0 ++ since_item place 1 ++ since_item place
 
 -- what else the exit row wants
 unfoldable pub also_wanted : List ℕ → List ℕ
-also_wanted items = if length items == 0 then [] else codes ";" ++ items ++ codes " is wanted by the exit row, and not known here"
+also_wanted items = if length items == 0 then [] else codes ";" ++ these_are items ++ codes " wanted by the exit row, and not known here"
 
 -- slots are still held at the return
 unfoldable pub kept_head : List ℕ → List ℕ
-kept_head items = items ++ codes " is still held at the return"
+kept_head items = these_are items ++ codes " still held at the return"
 
 -- what else the exit row of a place wants
 unfoldable pub else_wanted : Place → List ℕ
@@ -91,7 +91,7 @@ kept_words place = kept_head (kept_items place.row place.routine.exit) ++ since_
 
 -- the exit row wants more than the row says
 unfoldable pub unmet_words : Place → List ℕ
-unmet_words place = lacking_items place.row place.routine.exit ++ codes " is wanted by the exit row, and not known here"
+unmet_words place = these_are (lacking_items place.row place.routine.exit) ++ codes " wanted by the exit row, and not known here"
 
 -- a row does not fit the exit row: slots are still held, or else it wants more
 unfoldable pub exit_words : Place → List ℕ

@@ -1,5 +1,6 @@
--- The words that go with a number of steps, and what a place is called.
+-- The words that go with a number of steps or of items, and what a place is called.
 use Rattle.std.specs.Prelude.{ℕ, Bool, true, false, ◌==◌, List, ◌++◌, Some, None, slice_get, codes, decimal}
+use Rattle.std.specs.List.{count_by}
 
 -- the word for steps, and whether there is just one
 unfoldable pub steps_word : Bool → List ℕ
@@ -15,6 +16,23 @@ bytes_word false = codes " bytes"
 unfoldable pub verb : Bool → List ℕ
 verb true = codes " is"
 verb false = codes " are"
+
+-- one thing or several, named before
+unfoldable pub object : Bool → List ℕ
+object true = codes " it"
+object false = codes " them"
+
+-- a character is a blank
+abbrev pub is_blank : ℕ → Bool
+is_blank c = c == 32
+
+-- how many items a text has: each begins with a blank, and has no other
+abbrev pub items_in : List ℕ → ℕ
+items_in items = count_by is_blank items
+
+-- items, and that it is or that they are
+unfoldable pub these_are : List ℕ → List ℕ
+these_are items = items ++ verb (items_in items == 1)
 
 -- so many bytes
 unfoldable pub bytes_text : ℕ → List ℕ

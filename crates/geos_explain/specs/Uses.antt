@@ -1,5 +1,5 @@
 -- What is wrong with the slots and pointers that an instruction uses, rule by rule.
-use Rattle.std.specs.Prelude.{ℕ, Bool, ◌-◌, nat_lt, nat_le, ◌==◌, if◌then◌else◌, List, [], map, ◌++◌, Option, Some, None, codes, decimal}
+use Rattle.std.specs.Prelude.{ℕ, Bool, true, false, ◌-◌, nat_lt, nat_le, ◌==◌, if◌then◌else◌, List, [], map, ◌++◌, Option, Some, None, codes, decimal}
 use Rattle.geos_image.specs.declared.instr.Instr.{Instr}
 use Rattle.geos_image.specs.declared.row.Row.{Row}
 use Rattle.geos_image.specs.declared.row.Pointer.{Pointer}
@@ -20,7 +20,7 @@ use Rattle.geos_listing.specs.Rows.{state_word}
 use Rattle.geos_verify.specs.Uses.{bytes_in}
 use Rattle.geos_verify.specs.Rows.{bound, slot_state, pointer_at, leads_nowhere}
 use Rattle.geos_verify.specs.Rules.{reach, least_at}
-use Rattle.geos_explain.specs.Numbers.{bytes_text}
+use Rattle.geos_explain.specs.Numbers.{bytes_text, verb, items_in}
 
 -- a slot, and what the row says that it holds
 unfoldable pub state_item : ℕ → Row → List ℕ
@@ -34,17 +34,34 @@ nowhere_only slots pointer = if leads_nowhere slots pointer then pointer else No
 abbrev pub leading_nowhere : Row → Row
 leading_nowhere row = record open_row { pointers = map (nowhere_only row.slots) row.pointers }
 
--- a pointer leads into an empty slot
+-- that one pointer leads into an empty slot, or that several do
+unfoldable pub nowhere_tail : Bool → List ℕ
+nowhere_tail true = codes " leads into an empty slot"
+nowhere_tail false = codes " lead into empty slots"
+
+-- these pointers lead into empty slots
+unfoldable pub nowhere_items : List ℕ → List ℕ
+nowhere_items items = items ++ nowhere_tail (items_in items == 1)
+
+-- the pointers of a row that lead into empty slots do so
 unfoldable pub nowhere_words : Row → List ℕ
-nowhere_words row = row_items (leading_nowhere row) ++ codes " leads into an empty slot"
+nowhere_words row = nowhere_items (row_items (leading_nowhere row))
+
+-- so many bytes are wanted
+unfoldable pub wanted_count : ℕ → List ℕ
+wanted_count wanted = codes " " ++ bytes_text wanted ++ verb (wanted == 1) ++ codes " wanted"
 
 -- so many bytes are wanted behind a pointer
 unfoldable pub wanted_bytes : ℕ → ℕ → List ℕ
-wanted_bytes p wanted = codes " " ++ decimal wanted ++ codes " bytes are wanted behind p" ++ decimal p
+wanted_bytes p wanted = wanted_count wanted ++ codes " behind p" ++ decimal p
 
--- the same, and how many there are
+-- so many are known there
+unfoldable pub known_there : ℕ → List ℕ
+known_there n = codes ", and " ++ decimal n ++ verb (n == 1) ++ codes " known there"
+
+-- so many bytes are wanted, and how many there are
 unfoldable pub short_words : ℕ → ℕ → Row → List ℕ
-short_words p wanted row = wanted_bytes p wanted ++ codes ", and " ++ decimal (least_at row p) ++ codes " are known there"
+short_words p wanted row = wanted_bytes p wanted ++ known_there (least_at row p)
 
 -- a word may be any number
 abbrev pub is_any : ℕ → Bool

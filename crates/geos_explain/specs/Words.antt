@@ -15,6 +15,7 @@ use Rattle.geos_verify.specs.Rules.{has_place}
 use Rattle.geos_explain.specs.Places.{Place}
 use Rattle.geos_explain.specs.Unset.{over_words}
 use Rattle.geos_explain.specs.Lacks.{lacking_items}
+use Rattle.geos_explain.specs.Numbers.{these_are, pc_text}
 use Rattle.geos_explain.specs.Held.{exit_words}
 use Rattle.geos_explain.specs.Written.{written_words}
 use Rattle.geos_explain.specs.Uses.{nowhere_words, past_words, unmarked_words, held_words, slot_words}
@@ -28,13 +29,17 @@ leaves_words place =
     then codes " control goes on past the end of the routine"
     else codes " L" ++ decimal place.i.target ++ codes " stands outside of the routine"
 
+-- these items are wanted at a routine's beginning
+unfoldable pub not_from_entry : List ℕ → List ℕ
+not_from_entry items = these_are items ++ codes " wanted here, and not known from the entry row"
+
 -- the row wants more than the routine's entry row says, or the routine is public and wants or leaves
 -- what a caller from outside does not have
 unfoldable pub entry_words : Routine → Row → List ℕ
 entry_words routine row =
     if length (lacking_items routine.entry row) == 0
     then codes " a public routine begins and ends with empty slots and stale pointers"
-    else lacking_items routine.entry row ++ codes " is wanted here, and not known from the entry row"
+    else not_from_entry (lacking_items routine.entry row)
 
 -- the instruction may reach past the bytes behind its pointer
 unfoldable pub past_here : Instr → Row → List ℕ
@@ -48,11 +53,19 @@ unmarked_here i row = unmarked_words i (uses_of i.opcode).pointer row
 unfoldable pub slot_here : Instr → Row → List ℕ
 slot_here i row = slot_words i (uses_of i.opcode).slot row
 
+-- the routine that is called wants them
+unfoldable pub callee_wants : Routine → List ℕ
+callee_wants callee = codes " wanted by " ++ name_of callee ++ codes ", and not known here"
+
+-- these items are wanted by the routine that is called
+unfoldable pub wanted_by : List ℕ → Routine → List ℕ
+wanted_by items callee = these_are items ++ callee_wants callee
+
 -- the routine that is called does not stand before routine r, or its entry row wants more than the row says
 abbrev pub callee_words : ℕ → ℕ → Row → Routine → List ℕ
 callee_words r n row callee =
     if nat_lt n r
-    then lacking_items row callee.entry ++ codes " is wanted by " ++ name_of callee ++ codes ", and not known here"
+    then wanted_by (lacking_items row callee.entry) callee
     else codes " " ++ name_of callee ++ codes " does not stand before this routine"
 
 -- the same of the routine that a call names
@@ -76,16 +89,20 @@ wanted_along place = if falls_through place.i.opcode then wanted_at place.image 
 unfoldable pub wanted_branching : Place → List ℕ
 wanted_branching place = if branches place.i.opcode then wanted_at place.image place.i.target (after place.image place.pc place.row true) else []
 
--- the instruction at a pc wants these items
-unfoldable pub wanted_words : ℕ → List ℕ → List ℕ
-wanted_words to items = items ++ codes " is wanted at " ++ decimal to ++ codes ", and not known here"
+-- the instruction at a pc wants them
+unfoldable pub wanted_there : List ℕ → ℕ → List ℕ
+wanted_there lines to = codes " wanted at" ++ pc_text lines to ++ codes ", and not known here"
+
+-- these items are wanted at a pc
+unfoldable pub wanted_words : List ℕ → ℕ → List ℕ → List ℕ
+wanted_words lines to items = these_are items ++ wanted_there lines to
 
 -- a row does not fit that at the end of an edge: the edge to the next instruction is tried first
 unfoldable pub edge_words : Place → List ℕ
 edge_words place =
     if length (wanted_along place) == 0
-    then wanted_words place.i.target (wanted_branching place)
-    else wanted_words (place.pc + 1) (wanted_along place)
+    then wanted_words place.lines place.i.target (wanted_branching place)
+    else wanted_words place.lines (place.pc + 1) (wanted_along place)
 
 -- what is wrong at a place, by a rule
 unfoldable pub words : Place → Rule → List ℕ

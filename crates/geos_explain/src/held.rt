@@ -5,7 +5,7 @@ ghost use Rattle.geos_explain.specs.Places.{IsPlace, place_of};
 ghost use Rattle.geos_explain.specs.Held.{is_kept, kept_item, kept_items, fills, fills_at, fills_here, one_more, also, since_below, since_head, since_text, since_item, since_items, also_wanted, kept_head, else_wanted, kept_words, unmet_words, exit_words};
 
 use crate::lacks::{lacking, put_lacking};
-use crate::numbers::{put_numbered, put_pc};
+use crate::numbers::{put_numbered, put_pc, put_these_are};
 use crate::place::Place;
 use crate::uses::put_state;
 use geos_image::{Image, Point, Row};
@@ -179,8 +179,8 @@ fn put_also_wanted(out: &mut Vec<u8>, items: &[u8]) -> Result<(), AllocError>
         return Ok(());
     }
     out.extend_from_slice(b";")?;
-    out.extend_from_slice(items)?;
-    out.extend_from_slice(b" is wanted by the exit row, and not known here")
+    put_these_are(out, items)?;
+    out.extend_from_slice(b" wanted by the exit row, and not known here")
 }
 
 /// Slots are still held at the return.
@@ -188,8 +188,8 @@ fn put_also_wanted(out: &mut Vec<u8>, items: &[u8]) -> Result<(), AllocError>
 fn put_kept_head(out: &mut Vec<u8>, items: &[u8]) -> Result<(), AllocError>
     ensures { OnOk result (out.new.items ≡ out.old.items ++ kept_head items.now) }
 {
-    out.extend_from_slice(items)?;
-    out.extend_from_slice(b" is still held at the return")
+    put_these_are(out, items)?;
+    out.extend_from_slice(b" still held at the return")
 }
 
 /// What else the exit row wants.
@@ -221,11 +221,13 @@ fn put_kept_words(
 
 /// The exit row wants more than the row says.
 #[tactic(auto, unfolding(crate::specs::Held::unmet_words))]
-fn put_unmet(out: &mut Vec<u8>, place: &Place) -> Result<(), AllocError>
+fn put_unmet(alloc: Global, out: &mut Vec<u8>, place: &Place) -> Result<(), AllocError>
     ensures { OnOk result (out.new.items ≡ out.old.items ++ unmet_words (place_of place.now)) }
 {
-    put_lacking(out, place.row, &place.routine.exit)?;
-    out.extend_from_slice(b" is wanted by the exit row, and not known here")
+    let mut items = Vec::new(alloc);
+    put_lacking(&mut items, place.row, &place.routine.exit)?;
+    put_these_are(out, &items)?;
+    out.extend_from_slice(b" wanted by the exit row, and not known here")
 }
 
 /// The row does not fit the exit row: slots are still held, or else it wants more.
@@ -237,7 +239,7 @@ pub(crate) fn put_exit(alloc: Global, out: &mut Vec<u8>, place: &Place) -> Resul
     let mut kept = Vec::new(alloc);
     put_kept_items(&mut kept, place.row, &place.routine.exit)?;
     if kept.is_empty() {
-        return put_unmet(out, place);
+        return put_unmet(alloc, out, place);
     }
     put_kept_words(alloc, out, place, &kept)
 }

@@ -1,7 +1,7 @@
-//! Numbers in decimal digits, and the words that go with a number of steps.
+//! Numbers in decimal digits, and the words that go with a number of steps or of items.
 
-ghost use Rattle.std.specs.Prelude.{◌≡◌, ◌++◌, OnOk, decimal};
-ghost use Rattle.geos_explain.specs.Numbers.{steps_word, bytes_word, bytes_text, verb, owed_text, left_text, pc_text};
+ghost use Rattle.std.specs.Prelude.{◌≡◌, ◌==◌, ◌++◌, OnOk, decimal};
+ghost use Rattle.geos_explain.specs.Numbers.{steps_word, bytes_word, bytes_text, verb, object, items_in, these_are, owed_text, left_text, pc_text};
 
 use std::alloc::AllocError;
 
@@ -65,12 +65,49 @@ pub(crate) fn verb(one: bool) -> &'static str
     if one { " is" } else { " are" }
 }
 
+/// One thing or several, named before.
+#[tactic(auto, unfolding(crate::specs::Numbers::object))]
+pub(crate) fn object(one: bool) -> &'static str
+    ensures { result.now ≡ object one }
+{
+    if one { " it" } else { " them" }
+}
+
+/// How many items the text has: each begins with a blank, and has no other.
+fn items_in(items: &[u8]) -> usize
+    ensures { result ≡ items_in items.now }
+{
+    let mut n = 0;
+    for c in items {
+        if *c == b' ' {
+            n += 1;
+        }
+    }
+    n
+}
+
+/// Whether the text is just one item.
+pub(crate) fn is_one_item(items: &[u8]) -> bool
+    ensures { result ≡ items_in items.now == 1 }
+{
+    items_in(items) == 1
+}
+
+/// The items, and that it is or that they are.
+#[tactic(auto, unfolding(crate::specs::Numbers::these_are))]
+pub(crate) fn put_these_are(out: &mut Vec<u8>, items: &[u8]) -> Result<(), AllocError>
+    ensures { OnOk result (out.new.items ≡ out.old.items ++ these_are items.now) }
+{
+    out.extend_from_slice(items)?;
+    out.extend_from_slice(verb(is_one_item(items)).as_bytes())
+}
+
 /// A sign, and so many bytes.
 #[tactic(auto, unfolding(crate::specs::Numbers::bytes_text))]
-pub(crate) fn put_bytes(out: &mut Vec<u8>, sign: &str, n: u16) -> Result<(), AllocError>
+pub(crate) fn put_bytes(out: &mut Vec<u8>, sign: &str, n: u64) -> Result<(), AllocError>
     ensures { OnOk result (out.new.items ≡ out.old.items ++ sign.now ++ bytes_text n) }
 {
-    put_numbered(out, sign, u64::from(n))?;
+    put_numbered(out, sign, n)?;
     out.extend_from_slice(bytes_word(n == 1).as_bytes())
 }
 

@@ -2,14 +2,14 @@
 
 ghost use Rattle.std.specs.Prelude.{◌≡◌, ◌<◌, ◌++◌, OnOk, map};
 ghost use Rattle.geos_verify.specs.Uses.{bytes_in, OffsetFits, PointerFits};
-ghost use Rattle.geos_explain.specs.Uses.{state_item, nowhere_only, leading_nowhere, nowhere_words, wanted_bytes, short_words, is_any, index_unknown, index_most, index_known, index_wanted, known_bytes, index_words, reach_words, past_words, slot_behind, changed_slot, mark_word, mark_words, unmarked_slot, unmarked_words, held_words, kind_wish, slot_wish, other_item, slot_words};
+ghost use Rattle.geos_explain.specs.Uses.{state_item, nowhere_only, leading_nowhere, nowhere_tail, nowhere_items, nowhere_words, wanted_count, wanted_bytes, known_there, short_words, is_any, index_unknown, index_most, index_known, index_wanted, known_bytes, index_words, reach_words, past_words, slot_behind, changed_slot, mark_word, mark_words, unmarked_slot, unmarked_words, held_words, kind_wish, slot_wish, other_item, slot_words};
 
-use crate::numbers::{put_about, put_bytes, put_numbered};
+use crate::numbers::{is_one_item, put_about, put_bytes, put_numbered, verb};
 use geos_image::{Instr, Pointer, Row, SlotState};
 use geos_listing::{put_items, state_word};
 use geos_opcodes::{Kind, Offset, PointerUse, SlotUse, Width};
 use geos_verify::{leads_nowhere, least_at, pointer_at, reach, slot_state};
-use std::alloc::AllocError;
+use std::alloc::{AllocError, Global};
 
 /// A slot, and what the row says that it holds.
 #[tactic(auto, unfolding(crate::specs::Uses::state_item))]
@@ -47,13 +47,45 @@ fn leading_nowhere(row: &Row) -> Row
     nowhere
 }
 
-/// A pointer leads into an empty slot.
+/// That one pointer leads into an empty slot, or that several do.
+#[tactic(auto, unfolding(crate::specs::Uses::nowhere_tail))]
+fn nowhere_tail(one: bool) -> &'static str
+    ensures { result.now ≡ nowhere_tail one }
+{
+    if one {
+        " leads into an empty slot"
+    } else {
+        " lead into empty slots"
+    }
+}
+
+/// These pointers lead into empty slots.
+#[tactic(auto, unfolding(crate::specs::Uses::nowhere_items))]
+fn put_nowhere_items(out: &mut Vec<u8>, items: &[u8]) -> Result<(), AllocError>
+    ensures { OnOk result (out.new.items ≡ out.old.items ++ nowhere_items items.now) }
+{
+    out.extend_from_slice(items)?;
+    out.extend_from_slice(nowhere_tail(is_one_item(items)).as_bytes())
+}
+
+/// The pointers of the row that lead into empty slots do so.
 #[tactic(auto, unfolding(crate::specs::Uses::nowhere_words))]
-pub(crate) fn put_nowhere(out: &mut Vec<u8>, row: &Row) -> Result<(), AllocError>
+pub(crate) fn put_nowhere(alloc: Global, out: &mut Vec<u8>, row: &Row) -> Result<(), AllocError>
     ensures { OnOk result (out.new.items ≡ out.old.items ++ nowhere_words row.now) }
 {
-    put_items(out, &leading_nowhere(row))?;
-    out.extend_from_slice(b" leads into an empty slot")
+    let mut items = Vec::new(alloc);
+    put_items(&mut items, &leading_nowhere(row))?;
+    put_nowhere_items(out, &items)
+}
+
+/// So many bytes are wanted.
+#[tactic(auto, unfolding(crate::specs::Uses::wanted_count))]
+fn put_wanted_count(out: &mut Vec<u8>, wanted: u64) -> Result<(), AllocError>
+    ensures { OnOk result (out.new.items ≡ out.old.items ++ wanted_count wanted) }
+{
+    put_bytes(out, " ", wanted)?;
+    out.extend_from_slice(verb(wanted == 1).as_bytes())?;
+    out.extend_from_slice(b" wanted")
 }
 
 /// So many bytes are wanted behind a pointer.
@@ -61,18 +93,27 @@ pub(crate) fn put_nowhere(out: &mut Vec<u8>, row: &Row) -> Result<(), AllocError
 fn put_wanted(out: &mut Vec<u8>, p: u8, wanted: u32) -> Result<(), AllocError>
     ensures { OnOk result (out.new.items ≡ out.old.items ++ wanted_bytes p wanted) }
 {
-    put_numbered(out, " ", u64::from(wanted))?;
-    put_numbered(out, " bytes are wanted behind p", u64::from(p))
+    put_wanted_count(out, u64::from(wanted))?;
+    put_numbered(out, " behind p", u64::from(p))
 }
 
-/// The same, and how many there are.
+/// So many are known there.
+#[tactic(auto, unfolding(crate::specs::Uses::known_there))]
+fn put_known_there(out: &mut Vec<u8>, n: u64) -> Result<(), AllocError>
+    ensures { OnOk result (out.new.items ≡ out.old.items ++ known_there n) }
+{
+    put_numbered(out, ", and ", n)?;
+    out.extend_from_slice(verb(n == 1).as_bytes())?;
+    out.extend_from_slice(b" known there")
+}
+
+/// So many bytes are wanted, and how many there are.
 #[tactic(auto, unfolding(crate::specs::Uses::short_words))]
 fn put_short(out: &mut Vec<u8>, p: u8, wanted: u32, row: &Row) -> Result<(), AllocError>
     ensures { OnOk result (out.new.items ≡ out.old.items ++ short_words p wanted row.now) }
 {
     put_wanted(out, p, wanted)?;
-    put_numbered(out, ", and ", u64::from(least_at(row, p)))?;
-    out.extend_from_slice(b" are known there")
+    put_known_there(out, u64::from(least_at(row, p)))
 }
 
 /// How many bytes a read or a write is wide.
@@ -139,7 +180,7 @@ fn put_known_bytes(out: &mut Vec<u8>, p: u8, least: u16) -> Result<(), AllocErro
     ensures { OnOk result (out.new.items ≡ out.old.items ++ known_bytes p least) }
 {
     put_numbered(out, ": p", u64::from(p))?;
-    put_bytes(out, " is known to have ", least)
+    put_bytes(out, " is known to have ", u64::from(least))
 }
 
 /// An index may be too high for the bytes behind its pointer.

@@ -3,11 +3,11 @@
 ghost use Rattle.std.specs.Prelude.{◌≡◌, ◌<◌, ◌≤◌, ◌+◌, ◌++◌, ◌&&◌, OnOk};
 ghost use Rattle.geos_image.specs.Fields.{FieldsFit};
 ghost use Rattle.geos_explain.specs.Places.{IsPlace, place_of};
-ghost use Rattle.geos_explain.specs.Words.{leaves_words, entry_words, past_here, unmarked_here, slot_here, callee_words, call_words, call_here, wanted_at, wanted_along, wanted_branching, wanted_words, edge_words, words, refusal_head, refusal_line};
+ghost use Rattle.geos_explain.specs.Words.{leaves_words, not_from_entry, entry_words, past_here, unmarked_here, slot_here, callee_wants, wanted_by, callee_words, call_words, call_here, wanted_at, wanted_along, wanted_branching, wanted_there, wanted_words, edge_words, words, refusal_head, refusal_line};
 
 use crate::held::put_exit;
 use crate::lacks::put_lacking;
-use crate::numbers::put_numbered;
+use crate::numbers::{put_numbered, put_pc, put_these_are};
 use crate::place::Place;
 use crate::stale::put_stale;
 use crate::steps::put_unpaid;
@@ -34,6 +34,15 @@ fn put_leaves(out: &mut Vec<u8>, place: &Place) -> Result<(), AllocError>
     }
 }
 
+/// These items are wanted at the routine's beginning.
+#[tactic(auto, unfolding(crate::specs::Words::not_from_entry))]
+fn put_not_from_entry(out: &mut Vec<u8>, items: &[u8]) -> Result<(), AllocError>
+    ensures { OnOk result (out.new.items ≡ out.old.items ++ not_from_entry items.now) }
+{
+    put_these_are(out, items)?;
+    out.extend_from_slice(b" wanted here, and not known from the entry row")
+}
+
 /// The row wants more than the routine's entry row says, or the routine is public and wants or
 /// leaves what a caller from outside does not have.
 #[tactic(auto, unfolding(crate::specs::Words::entry_words))]
@@ -52,8 +61,7 @@ fn put_entry(
             b" a public routine begins and ends with empty slots and stale pointers",
         );
     }
-    out.extend_from_slice(&items)?;
-    out.extend_from_slice(b" is wanted here, and not known from the entry row")
+    put_not_from_entry(out, &items)
 }
 
 /// The instruction may reach past the bytes behind its pointer.
@@ -83,9 +91,29 @@ fn put_slot_here(out: &mut Vec<u8>, i: &Instr, row: &Row) -> Result<(), AllocErr
     put_slot(out, i, uses_at(i).slot, row)
 }
 
+/// The routine that is called wants them.
+#[tactic(auto, unfolding(crate::specs::Words::callee_wants))]
+fn put_callee_wants(out: &mut Vec<u8>, callee: &Routine) -> Result<(), AllocError>
+    ensures { OnOk result (out.new.items ≡ out.old.items ++ callee_wants callee.now) }
+{
+    out.extend_from_slice(b" wanted by ")?;
+    out.extend_from_slice(callee.name_text())?;
+    out.extend_from_slice(b", and not known here")
+}
+
+/// These items are wanted by the routine that is called.
+#[tactic(auto, unfolding(crate::specs::Words::wanted_by))]
+fn put_wanted_by(out: &mut Vec<u8>, items: &[u8], callee: &Routine) -> Result<(), AllocError>
+    ensures { OnOk result (out.new.items ≡ out.old.items ++ wanted_by items.now callee.now) }
+{
+    put_these_are(out, items)?;
+    put_callee_wants(out, callee)
+}
+
 /// The routine that is called, which is n, does not stand before routine r, or its entry row wants
 /// more than the row says.
 fn put_callee(
+    alloc: Global,
     out: &mut Vec<u8>,
     r: u16,
     n: u16,
@@ -95,10 +123,9 @@ fn put_callee(
     ensures { OnOk result (out.new.items ≡ out.old.items ++ callee_words r n row.now callee.now) }
 {
     if n < r {
-        put_lacking(out, row, &callee.entry)?;
-        out.extend_from_slice(b" is wanted by ")?;
-        out.extend_from_slice(callee.name_text())?;
-        out.extend_from_slice(b", and not known here")
+        let mut items = Vec::new(alloc);
+        put_lacking(&mut items, row, &callee.entry)?;
+        put_wanted_by(out, &items, callee)
     } else {
         out.extend_from_slice(b" ")?;
         out.extend_from_slice(callee.name_text())?;
@@ -108,13 +135,13 @@ fn put_callee(
 
 /// The same of the routine that a call names.
 #[tactic(auto, unfolding(crate::specs::Words::call_here))]
-fn put_call(out: &mut Vec<u8>, place: &Place) -> Result<(), AllocError>
+fn put_call(alloc: Global, out: &mut Vec<u8>, place: &Place) -> Result<(), AllocError>
     requires { IsPlace (place_of place.now) }
     ensures { OnOk result (out.new.items ≡ out.old.items ++ call_here (place_of place.now)) }
 {
     let n = place.i.imm;
     match place.i.opcode {
-        Opcode::Call => put_callee(out, place.r, n, place.row, place.image.routine(n)),
+        Opcode::Call => put_callee(alloc, out, place.r, n, place.row, place.image.routine(n)),
         _ => Ok(()),
     }
 }
@@ -156,14 +183,28 @@ fn put_wanted_branching(out: &mut Vec<u8>, place: &Place) -> Result<(), AllocErr
     put_wanted_at(out, place.image, place.i.target, &next)
 }
 
-/// The instruction at a pc wants these items.
-#[tactic(auto, unfolding(crate::specs::Words::wanted_words))]
-fn put_wanted(out: &mut Vec<u8>, to: u32, items: &[u8]) -> Result<(), AllocError>
-    ensures { OnOk result (out.new.items ≡ out.old.items ++ wanted_words to items.now) }
+/// The instruction at a pc wants them.
+#[tactic(auto, unfolding(crate::specs::Words::wanted_there))]
+fn put_wanted_there(out: &mut Vec<u8>, lines: &[usize], to: u16) -> Result<(), AllocError>
+    ensures { OnOk result (out.new.items ≡ out.old.items ++ wanted_there lines.now to) }
 {
-    out.extend_from_slice(items)?;
-    put_numbered(out, " is wanted at ", u64::from(to))?;
+    out.extend_from_slice(b" wanted at")?;
+    put_pc(out, lines, to)?;
     out.extend_from_slice(b", and not known here")
+}
+
+/// These items are wanted at a pc.
+#[tactic(auto, unfolding(crate::specs::Words::wanted_words))]
+fn put_wanted(
+    out: &mut Vec<u8>,
+    lines: &[usize],
+    to: u16,
+    items: &[u8],
+) -> Result<(), AllocError>
+    ensures { OnOk result (out.new.items ≡ out.old.items ++ wanted_words lines.now to items.now) }
+{
+    put_these_are(out, items)?;
+    put_wanted_there(out, lines, to)
 }
 
 /// A row does not fit that at the end of an edge: the edge to the next instruction is tried first.
@@ -175,11 +216,11 @@ fn put_edge(alloc: Global, out: &mut Vec<u8>, place: &Place) -> Result<(), Alloc
     let mut along = Vec::new(alloc);
     put_wanted_along(&mut along, place)?;
     if !along.is_empty() {
-        return put_wanted(out, u32::from(place.pc) + 1, &along);
+        return put_wanted(out, place.lines, place.pc + 1, &along);
     }
     let mut branching = Vec::new(alloc);
     put_wanted_branching(&mut branching, place)?;
-    put_wanted(out, u32::from(place.i.target), &branching)
+    put_wanted(out, place.lines, place.i.target, &branching)
 }
 
 /// What is wrong at the place, by the rule.
@@ -191,15 +232,15 @@ fn put_words(alloc: Global, out: &mut Vec<u8>, place: &Place, rule: Rule) -> Res
     let (i, row) = (place.i, place.row);
     match rule {
         Rule::LeavesRoutine => put_leaves(out, place),
-        Rule::NamesEmptySlot => put_nowhere(out, row),
+        Rule::NamesEmptySlot => put_nowhere(alloc, out, row),
         Rule::EntryMisfit => put_entry(alloc, out, place.routine, row),
         Rule::StalePointer => put_stale(out, place),
         Rule::PassesEnd => put_past_here(out, i, row),
         Rule::ChangesUnmarked => put_unmarked_here(out, i, row),
         Rule::LocksIntoHeld => put_held(out, i, row),
         Rule::WrongSlot => put_slot_here(out, i, row),
-        Rule::CommitsHeld => put_written(out, place),
-        Rule::CallMisfit => put_call(out, place),
+        Rule::CommitsHeld => put_written(alloc, out, place),
+        Rule::CallMisfit => put_call(alloc, out, place),
         Rule::ExitMisfit => put_exit(alloc, out, place),
         Rule::EdgeMisfit => put_edge(alloc, out, place),
         Rule::EdgeUnpaid => put_unpaid(out, place),

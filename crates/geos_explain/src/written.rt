@@ -2,13 +2,14 @@
 
 ghost use Rattle.std.specs.Prelude.{◌≡◌, ◌++◌, OnOk};
 ghost use Rattle.geos_explain.specs.Places.{IsPlace, place_of};
-ghost use Rattle.geos_explain.specs.Written.{file_item, file_items, file_since, file_sinces, written_words};
+ghost use Rattle.geos_explain.specs.Written.{file_item, file_items, file_since, file_sinces, written_head, written_words};
 
 use crate::held::{held_since, put_since_text};
+use crate::numbers::{is_one_item, object, put_these_are};
 use crate::place::Place;
 use crate::uses::put_state;
 use geos_verify::{is_of_file, slot_state};
-use std::alloc::AllocError;
+use std::alloc::{AllocError, Global};
 
 /// The slot, if it holds a block of the VM file, and what it holds.
 #[tactic(auto, unfolding(crate::specs::Written::file_item))]
@@ -58,13 +59,29 @@ fn put_file_sinces(out: &mut Vec<u8>, place: &Place) -> Result<(), AllocError>
     put_file_since(out, place, 3)
 }
 
+/// These slots are held where the file is written.
+#[tactic(auto, unfolding(crate::specs::Written::written_head))]
+fn put_written_head(out: &mut Vec<u8>, items: &[u8]) -> Result<(), AllocError>
+    ensures { OnOk result (out.new.items ≡ out.old.items ++ written_head items.now) }
+{
+    put_these_are(out, items)?;
+    out.extend_from_slice(b" held where the file is written: unlock")?;
+    out.extend_from_slice(object(is_one_item(items)).as_bytes())?;
+    out.extend_from_slice(b" before")
+}
+
 /// The VM file is written while slots hold blocks of it.
 #[tactic(auto, unfolding(crate::specs::Written::written_words))]
-pub(crate) fn put_written(out: &mut Vec<u8>, place: &Place) -> Result<(), AllocError>
+pub(crate) fn put_written(
+    alloc: Global,
+    out: &mut Vec<u8>,
+    place: &Place,
+) -> Result<(), AllocError>
     requires { IsPlace (place_of place.now) }
     ensures { OnOk result (out.new.items ≡ out.old.items ++ written_words (place_of place.now)) }
 {
-    put_file_items(out, place)?;
-    out.extend_from_slice(b" is held where the file is written: unlock it before")?;
+    let mut items = Vec::new(alloc);
+    put_file_items(&mut items, place)?;
+    put_written_head(out, &items)?;
     put_file_sinces(out, place)
 }

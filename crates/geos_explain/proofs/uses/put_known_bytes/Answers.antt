@@ -16,6 +16,7 @@ returns c =
       sym (append_assoc out pointer behind),
       sym (append_assoc out (codes ": p") (decimal c.args.p)),
       sym c.from.ensures,
+      sym c.from-2.ensures,
       sym c.in_ok-put_numbered.ensures,
     )
     c.put_bytes.ensures
