@@ -46,6 +46,10 @@ owed_text n = decimal n ++ steps_word (n == 1) ++ verb (n == 1) ++ codes " owed"
 unfoldable pub left_text : ℕ → List ℕ
 left_text n = codes ", " ++ decimal n ++ verb (n == 1) ++ codes " left"
 
+-- a target as the reader has it: in an author's text its line, else the label that the listing gives it
+unfoldable pub label_text : List ℕ → ℕ → List ℕ
+label_text lines target = elim (slice_get lines target) [ None ↦ codes " L" ++ decimal target | Some line ↦ codes " line " ++ decimal line ]
+
 -- a pc as the reader has it: in an author's text its line, else itself
 unfoldable pub pc_text : List ℕ → ℕ → List ℕ
 pc_text lines pc = elim (slice_get lines pc) [ None ↦ codes " " ++ decimal pc | Some line ↦ codes " line " ++ decimal line ]

@@ -1,5 +1,5 @@
 -- What is wrong at a point that is refused, in a line of plain words, rule by rule.
-use Rattle.std.specs.Prelude.{ℕ, ◌+◌, true, false, ◌&&◌, not, nat_lt, if◌then◌else◌, ◌==◌, List, [], ◌++◌, Some, None, length, slice_get, codes, decimal}
+use Rattle.std.specs.Prelude.{ℕ, ◌+◌, true, false, ◌&&◌, not, nat_lt, if◌then◌else◌, ◌==◌, List, [], ◌++◌, Some, None, length, slice_get, codes}
 use Rattle.geos_opcodes.specs.declared.opcode.Opcode.{Opcode}
 use Rattle.geos_opcodes.specs.declared.opcode.Opcode.TheVariants.{Call}
 use Rattle.geos_image.specs.declared.instr.Instr.{Instr}
@@ -15,7 +15,7 @@ use Rattle.geos_verify.specs.Rules.{has_place}
 use Rattle.geos_explain.specs.Places.{Place}
 use Rattle.geos_explain.specs.Unset.{over_words}
 use Rattle.geos_explain.specs.Lacks.{lacking_items}
-use Rattle.geos_explain.specs.Numbers.{these_are, pc_text}
+use Rattle.geos_explain.specs.Numbers.{these_are, label_text, pc_text}
 use Rattle.geos_explain.specs.Held.{exit_words}
 use Rattle.geos_explain.specs.Written.{written_words}
 use Rattle.geos_explain.specs.Uses.{nowhere_words, past_words, unmarked_words, held_words, slot_words}
@@ -27,7 +27,7 @@ unfoldable pub leaves_words : Place → List ℕ
 leaves_words place =
     if falls_through place.i.opcode && not (has_place (start_of place.image.routines place.r) place.routine.count (place.pc + 1))
     then codes " control goes on past the end of the routine"
-    else codes " L" ++ decimal place.i.target ++ codes " stands outside of the routine"
+    else label_text place.lines place.i.target ++ codes " stands outside of the routine"
 
 -- these items are wanted at a routine's beginning
 unfoldable pub not_from_entry : List ℕ → List ℕ

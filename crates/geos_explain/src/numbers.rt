@@ -1,7 +1,7 @@
 //! Numbers in decimal digits, and the words that go with a number of steps or of items.
 
 ghost use Rattle.std.specs.Prelude.{◌≡◌, ◌==◌, ◌++◌, OnOk, decimal};
-ghost use Rattle.geos_explain.specs.Numbers.{steps_word, bytes_word, bytes_text, verb, object, items_in, these_are, owed_text, left_text, pc_text};
+ghost use Rattle.geos_explain.specs.Numbers.{steps_word, bytes_word, bytes_text, verb, object, items_in, these_are, owed_text, left_text, label_text, pc_text};
 
 use std::alloc::AllocError;
 
@@ -130,6 +130,17 @@ pub(crate) fn put_left(out: &mut Vec<u8>, n: u64) -> Result<(), AllocError>
     put_numbered(out, ", ", n)?;
     out.extend_from_slice(verb(n == 1).as_bytes())?;
     out.extend_from_slice(b" left")
+}
+
+/// A target as the reader has it: in an author's text its line, else the label that the listing gives it.
+#[tactic(auto, unfolding(crate::specs::Numbers::label_text))]
+pub(crate) fn put_label(out: &mut Vec<u8>, lines: &[usize], target: u16) -> Result<(), AllocError>
+    ensures { OnOk result (out.new.items ≡ out.old.items ++ label_text lines.now target) }
+{
+    match lines.get(usize::from(target)) {
+        Some(line) => put_numbered(out, " line ", *line as u64),
+        None => put_numbered(out, " L", u64::from(target)),
+    }
 }
 
 /// A pc as the reader has it: in an author's text its line, else itself. `lines` has the number of each instruction's line,

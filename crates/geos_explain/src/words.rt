@@ -7,7 +7,7 @@ ghost use Rattle.geos_explain.specs.Words.{leaves_words, not_from_entry, entry_w
 
 use crate::held::put_exit;
 use crate::lacks::put_lacking;
-use crate::numbers::{put_numbered, put_pc, put_these_are};
+use crate::numbers::{put_label, put_pc, put_these_are};
 use crate::place::Place;
 use crate::stale::put_stale;
 use crate::steps::put_unpaid;
@@ -29,7 +29,7 @@ fn put_leaves(out: &mut Vec<u8>, place: &Place) -> Result<(), AllocError>
     if falls_through(place.i.opcode) && !has_place(start, place.routine, next) {
         out.extend_from_slice(b" control goes on past the end of the routine")
     } else {
-        put_numbered(out, " L", u64::from(place.i.target))?;
+        put_label(out, place.lines, place.i.target)?;
         out.extend_from_slice(b" stands outside of the routine")
     }
 }
