@@ -7,7 +7,7 @@ use Rattle.geos_explain.specs.Places.{Place}
 
 -- the instruction at a pc goes on to another, or has it as its target
 abbrev pub leads_to : ℕ → ℕ → Point → Bool
-leads_to to from point = (falls_through point.instr.opcode && from + 1 == to) || (branches point.instr.opcode && point.instr.target == to)
+leads_to to from point = (from + 1 == to && falls_through point.instr.opcode) || (point.instr.target == to && branches point.instr.opcode)
 
 -- the same, if there is an instruction
 unfoldable pub leads_at : Parts → ℕ → ℕ → Bool

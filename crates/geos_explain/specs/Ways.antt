@@ -24,15 +24,15 @@ abbrev pub is_as : Bool → Option Pointer → Bool
 is_as true pointer = not (is_stale pointer)
 is_as false pointer = is_stale pointer
 
--- the instruction at a pc goes on to another, and the pointer is known behind it, or is not, as is asked
+-- the instruction at a pc stands in front of another and goes on to it, and the pointer is known behind it, or is not, as is asked
 abbrev pub leads_along : Parts → ℕ → ℕ → Bool → ℕ → Point → Bool
 leads_along image p to known from point =
-    falls_through point.instr.opcode && from + 1 == to && is_as known (pointer_at (after image from point.row false) p)
+    from + 1 == to && falls_through point.instr.opcode && is_as known (pointer_at (after image from point.row false) p)
 
 -- the same of its way to its target
 abbrev pub leads_branching : Parts → ℕ → ℕ → Bool → ℕ → Point → Bool
 leads_branching image p to known from point =
-    branches point.instr.opcode && point.instr.target == to && is_as known (pointer_at (after image from point.row true) p)
+    point.instr.target == to && branches point.instr.opcode && is_as known (pointer_at (after image from point.row true) p)
 
 -- the first way of the instruction at a pc to another on which the pointer is known, or is not, as is asked
 abbrev pub way_of : Parts → ℕ → ℕ → Bool → ℕ → Point → Option Way

@@ -150,7 +150,8 @@ fn put_routine(
 }
 
 /// The listing of the image, behind each instruction what is known there, and a line for the
-/// refusal in front of the next instruction. It takes time in proportion to the image.
+/// refusal in front of the next instruction. At most it takes time in proportion to the square of the number of
+/// instructions.
 #[tactic(auto, unfolding(geos_listing::specs::Rows::texts_below))]
 pub fn explain(alloc: Global, image: &Image, reject: Option<Reject>) -> Result<Vec<u8>, AllocError>
     ensures { IfOk result (λ text. text.items ≡ explanation image.now reject) }

@@ -13,8 +13,8 @@ use std::alloc::AllocError;
 fn leads_to(to: u16, from: u16, point: &Point) -> bool
     ensures { result ≡ leads_to to from point.now }
 {
-    (falls_through(point.instr.opcode) && u32::from(from) + 1 == u32::from(to))
-        || (branches(point.instr.opcode) && point.instr.target == to)
+    (u32::from(from) + 1 == u32::from(to) && falls_through(point.instr.opcode))
+        || (point.instr.target == to && branches(point.instr.opcode))
 }
 
 /// The same, if there is an instruction.

@@ -169,7 +169,8 @@ fn next_pc(lines: &[usize], pc: u16, number: usize) -> u16
 
 /// The author's text, each line behind its number, and behind each instruction what is known there and a line for the
 /// refusal, if it is there. `lines` has the number of each instruction's line, as `geos_source::lines_of_instrs` gives
-/// them, and the image is one of the text. It takes time in proportion to the text.
+/// them, and the image is one of the text. At most it takes time in proportion to the text, and to the square of the
+/// number of instructions.
 pub fn explain_text(
     alloc: Global,
     text: &[u8],

@@ -74,13 +74,14 @@ fn is_as(known: bool, pointer: Option<Pointer>) -> bool
     }
 }
 
-/// Whether the instruction goes on to another, and the pointer is known behind it, or is not, as is asked.
+/// Whether the instruction stands in front of another and goes on to it, and the pointer is known behind it, or is not, as is
+/// asked. Few instructions pass the test of the numbers, so it comes before the look into the table of opcodes.
 fn leads_along(image: &Image, p: u8, to: u16, known: bool, from: u16, point: &Point) -> bool
     requires { slice_get image.now.points from ≡ Some point.now }
     ensures { result ≡ leads_along image.now p to known from point.now }
 {
-    falls_through(point.instr.opcode)
-        && u32::from(from) + 1 == u32::from(to)
+    u32::from(from) + 1 == u32::from(to)
+        && falls_through(point.instr.opcode)
         && is_as(known, pointer_at(&after(image, from, &point.row, false), p))
 }
 
@@ -89,8 +90,8 @@ fn leads_branching(image: &Image, p: u8, to: u16, known: bool, from: u16, point:
     requires { slice_get image.now.points from ≡ Some point.now }
     ensures { result ≡ leads_branching image.now p to known from point.now }
 {
-    branches(point.instr.opcode)
-        && point.instr.target == to
+    point.instr.target == to
+        && branches(point.instr.opcode)
         && is_as(known, pointer_at(&after(image, from, &point.row, true), p))
 }
 
