@@ -1,27 +1,57 @@
--- Whether some instruction leads to a place.
-use Rattle.std.specs.Prelude.{ℕ, zero, suc, ◌+◌, Bool, false, ◌&&◌, ◌||◌, if◌then◌else◌, ◌==◌, List, [], Some, None, length, slice_get, codes}
-use Rattle.geos_image.specs.declared.point.Point.{Point}
+-- Which instructions control reaches: a mark for each pc of an image, of which there are at most 4,096.
+use Rattle.std.specs.Prelude.{ℕ, zero, suc, ◌+◌, replicate, Bool, true, false, ◌&&◌, nat_lt, if◌then◌else◌, List, Some, None, length, slice_get, slice_set, slice_index_or}
+use Rattle.geos_image.specs.declared.instr.Instr.{Instr}
 use Rattle.geos_image.specs.Parts.{Parts, start_of}
 use Rattle.geos_verify.specs.Rows.{falls_through, branches}
-use Rattle.geos_explain.specs.Places.{Place}
 
--- the instruction at a pc goes on to another, or has it as its target
-abbrev pub leads_to : ℕ → ℕ → Point → Bool
-leads_to to from point = (from + 1 == to && falls_through point.instr.opcode) || (point.instr.target == to && branches point.instr.opcode)
+-- no pc is marked
+unfoldable pub no_marks : List Bool
+no_marks = replicate 4096 false
+
+-- one more mark, if there is such a pc
+abbrev pub marked : List Bool → ℕ → List Bool
+marked marks pc = if nat_lt pc 4096 then slice_set marks pc true else marks
+
+-- a pc is marked
+abbrev pub is_marked : List Bool → ℕ → Bool
+is_marked marks pc = nat_lt pc 4096 && slice_index_or marks pc false
+
+-- the next instruction is marked as well, where one goes on to it
+abbrev pub next_marked : List Bool → ℕ → Instr → List Bool
+next_marked marks from i = if falls_through i.opcode then marked marks (from + 1) else marks
+
+-- an instruction's target is marked as well
+abbrev pub target_marked : List Bool → Instr → List Bool
+target_marked marks i = if branches i.opcode then marked marks i.target else marks
+
+-- where an instruction leads is marked as well, if it is marked itself
+unfoldable pub marked_from : List Bool → ℕ → Instr → List Bool
+marked_from marks from i = if is_marked marks from then target_marked (next_marked marks from i) i else marks
 
 -- the same, if there is an instruction
-unfoldable pub leads_at : Parts → ℕ → ℕ → Bool
-leads_at image to from = elim (slice_get image.points from) [ None ↦ false | Some point ↦ leads_to to from point ]
+unfoldable pub marked_at : Parts → List Bool → ℕ → List Bool
+marked_at image marks from = elim (slice_get image.points from) [ None ↦ marks | Some point ↦ marked_from marks from point.instr ]
 
--- one of the first n instructions leads to a pc
-unfoldable pub led_below : Parts → ℕ → ℕ → Bool
-led_below image to zero = false
-led_below image to (suc n) = led_below image to n || leads_at image to n
+-- the same of the first n instructions, one after another
+unfoldable pub marked_round : Parts → List Bool → ℕ → List Bool
+marked_round image marks zero = marks
+marked_round image marks (suc n) = marked_at image (marked_round image marks n) n
 
--- a place is the routine's first, or some instruction leads to it
-abbrev pub is_led : Place → Bool
-is_led place = place.pc == start_of place.image.routines place.r || led_below place.image place.pc (length place.image.points)
+-- the first instruction of each of the first n routines is marked
+unfoldable pub starts_marked : Parts → ℕ → List Bool
+starts_marked image zero = no_marks
+starts_marked image (suc n) = marked (starts_marked image n) (start_of image.routines n)
 
--- that nothing leads to a place, where it is so
-unfoldable pub unled_text : Place → List ℕ
-unled_text place = if is_led place then [] else codes " nothing leads here,"
+-- the marks of the routines' first instructions, and what n rounds over the instructions mark as well
+unfoldable pub reached_within : Parts → ℕ → List Bool
+reached_within image zero = starts_marked image (length image.routines)
+reached_within image (suc n) = marked_round image (reached_within image n) (length image.points)
+
+-- what control reaches: each round marks one more at least, while there is one, so as many rounds as there are instructions
+-- mark all
+unfoldable pub reached : Parts → List Bool
+reached image = reached_within image (length image.points)
+
+-- control reaches a pc from the first instruction of a routine
+unfoldable pub is_reached : Parts → ℕ → Bool
+is_reached image pc = is_marked (reached image) pc

@@ -1,6 +1,6 @@
 pub mod Numbers
-pub mod Places
 pub mod Led
+pub mod Places
 pub mod Notes
 pub mod Lacks
 pub mod Uses

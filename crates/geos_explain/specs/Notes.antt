@@ -8,7 +8,6 @@ use Rattle.geos_image.specs.declared.routine.Routine.{Routine}
 use Rattle.geos_listing.specs.Instrs.{name_of}
 use Rattle.geos_explain.specs.Numbers.{steps_word, verb}
 use Rattle.geos_explain.specs.Places.{Place}
-use Rattle.geos_explain.specs.Led.{unled_text}
 
 -- the items of a row and a comma; nothing for the open row
 unfoldable pub known_text : Row → List ℕ
@@ -41,6 +40,10 @@ note_head place = elim (slice_get place.lines place.pc) [
   | None ↦ where_text place.routine place.pc
   | Some line ↦ codes " ;"
 ]
+
+-- that nothing leads to a place, where control does not reach it
+unfoldable pub unled_text : Place → List ℕ
+unled_text place = if place.reached then [] else codes " nothing leads here,"
 
 -- whether nothing leads to a place, what its row knows beyond the open row, and its potential
 unfoldable pub note : Place → List ℕ

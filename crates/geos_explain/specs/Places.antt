@@ -1,5 +1,5 @@
 -- An instruction of a routine, with what is known there.
-use Rattle.std.specs.Prelude.{◌≡◌, ◌<◌, ◌≤◌, ℕ, List, true, length, slice_get, IfSome}
+use Rattle.std.specs.Prelude.{◌≡◌, ◌<◌, ◌≤◌, ℕ, Bool, List, true, length, slice_get, IfSome}
 use Rattle.geos_image.specs.declared.instr.Instr.{Instr}
 use Rattle.geos_image.specs.declared.row.Row.{Row}
 use Rattle.geos_image.specs.declared.potential.Potential.{Potential}
@@ -9,10 +9,11 @@ use Rattle.geos_image.specs.Legal.{is_image}
 use Rattle.geos_image.specs.declared.point.Point.{Point}
 use Rattle.geos_image.specs.Parts.{Parts, start_of}
 use Rattle.geos_listing.specs.Instrs.{KeepsLimits}
+use Rattle.geos_explain.specs.Led.{is_reached}
 use Rattle.geos_explain.specs.declared.place.Place as code
 
--- the instruction at a pc of routine r, its row and its potential; and the line of each instruction in an author's text,
--- or nothing
+-- the instruction at a pc of routine r, its row and its potential, and whether control reaches it; and the line of each
+-- instruction in an author's text, or nothing
 pub record Place : Type 0 where
   pub image : Parts
   pub lines : List ℕ
@@ -22,10 +23,11 @@ pub record Place : Type 0 where
   pub i : Instr
   pub row : Row
   pub potential : Potential
+  pub reached : Bool
 
 -- the place of a point
 abbrev pub place_at : Parts → List ℕ → ℕ → Routine → ℕ → Point → Place
-place_at image lines r routine pc point = record { image = image; lines = lines; r = r; routine = routine; pc = pc; i = point.instr; row = point.row; potential = point.potential }
+place_at image lines r routine pc point = record { image = image; lines = lines; r = r; routine = routine; pc = pc; i = point.instr; row = point.row; potential = point.potential; reached = is_reached image pc }
 
 -- the place that the code has
 abbrev pub place_of : code.Place → Place
@@ -38,6 +40,7 @@ place_of place = record {
   i = place.i.now;
   row = place.row.now;
   potential = place.potential.now;
+  reached = place.reached;
 }
 
 -- there is a routine r in the image, which is no longer than images may be

@@ -4,9 +4,11 @@ ghost use Rattle.std.specs.Prelude.{◌≡◌, ◌<◌, ◌≤◌, ◌+◌, ◌+
 ghost use Rattle.geos_image.specs.Legal.{is_image};
 ghost use Rattle.geos_listing.specs.Rows.{texts_below};
 ghost use Rattle.geos_listing.specs.Instrs.{MarksTargets};
+ghost use Rattle.geos_explain.specs.Led.{reached};
 ghost use Rattle.geos_explain.specs.Places.{HasRoutine, IsPlace, place_of};
 ghost use Rattle.geos_explain.specs.Explanation.{refusal_text, noted, point_text, place_text, head_text, numbered_routine, explanation};
 
+use crate::led::{Marks, is_reached, reached};
 use crate::notes::put_note;
 use crate::place::Place;
 use crate::words::put_refusal_line;
@@ -71,6 +73,7 @@ fn put_place(
     out: &mut Vec<u8>,
     image: &Image,
     targets: &Targets,
+    marks: &Marks,
     reject: Option<Reject>,
     r: u16,
     routine: &Routine,
@@ -79,6 +82,7 @@ fn put_place(
     requires routine { HasRoutine image.now r }
     requires within { pc < length image.now.points }
     requires targets { MarksTargets image.now.points targets.now }
+    requires reached { marks.now ≡ reached image.now }
     ensures { OnOk result (out.new.items ≡ out.old.items ++ place_text image.now reject r routine.now pc) }
 {
     put_label_line(out, image, targets, pc)?;
@@ -91,6 +95,7 @@ fn put_place(
         i: image.instr(pc),
         row: image.row(pc),
         potential: image.potential(pc),
+        reached: is_reached(image, marks, pc),
     };
     put_point(alloc, out, reject, &place)
 }
@@ -102,6 +107,7 @@ fn put_places(
     out: &mut Vec<u8>,
     image: &Image,
     targets: &Targets,
+    marks: &Marks,
     reject: Option<Reject>,
     r: u16,
     routine: &Routine,
@@ -111,10 +117,21 @@ fn put_places(
     requires routine { HasRoutine image.now r }
     requires within { start + count ≤ length image.now.points }
     requires targets { MarksTargets image.now.points targets.now }
+    requires reached { marks.now ≡ reached image.now }
     ensures { OnOk result (out.new.items ≡ out.old.items ++ texts_below count (λ k. place_text image.now reject r routine.now (start + k))) }
 {
     for k in 0..count {
-        put_place(alloc, out, image, targets, reject, r, routine, start + k)?;
+        put_place(
+            alloc,
+            out,
+            image,
+            targets,
+            marks,
+            reject,
+            r,
+            routine,
+            start + k,
+        )?;
     }
     Ok(())
 }
@@ -134,19 +151,23 @@ fn put_routine(
     out: &mut Vec<u8>,
     image: &Image,
     targets: &Targets,
+    marks: &Marks,
     reject: Option<Reject>,
     r: u16,
 ) -> Result<(), AllocError>
     requires within { r < length image.now.routines }
     requires legal { is_image image.now ≡ true }
     requires targets { MarksTargets image.now.points targets.now }
+    requires reached { marks.now ≡ reached image.now }
     ensures { OnOk result (out.new.items ≡ out.old.items ++ numbered_routine image.now reject r) }
 {
     let routine = image.routine(r);
     put_head(alloc, out, routine)?;
     let start = image.start(r);
     let count = routine.count;
-    put_places(alloc, out, image, targets, reject, r, routine, start, count)
+    put_places(
+        alloc, out, image, targets, marks, reject, r, routine, start, count,
+    )
 }
 
 /// The listing of the image, behind each instruction what is known there, and a line for the
@@ -157,9 +178,10 @@ pub fn explain(alloc: Global, image: &Image, reject: Option<Reject>) -> Result<V
     ensures { IfOk result (λ text. text.items ≡ explanation image.now reject) }
 {
     let targets = targets_of(image);
+    let marks = reached(image);
     let mut out = Vec::new(alloc);
     for r in 0..image.count() {
-        put_routine(alloc, &mut out, image, &targets, reject, r)?;
+        put_routine(alloc, &mut out, image, &targets, &marks, reject, r)?;
     }
     Ok(out)
 }

@@ -1,62 +1,117 @@
-//! Whether some instruction leads to a place.
+//! Which instructions control reaches.
 
-ghost use Rattle.std.specs.Prelude.{◌≡◌, ◌++◌, Some, OnOk, length, slice_get};
-ghost use Rattle.geos_explain.specs.Places.{IsPlace, place_of};
-ghost use Rattle.geos_explain.specs.Led.{leads_to, leads_at, led_below, is_led, unled_text};
+ghost use Rattle.std.specs.Prelude.{◌≡◌, length};
+ghost use Rattle.geos_explain.specs.Led.{no_marks, marked, is_marked, next_marked, target_marked, marked_from, marked_at, marked_round, starts_marked, reached_within, reached, is_reached};
 
-use crate::place::Place;
-use geos_image::{Image, Point};
+use geos_image::{Image, Instr};
 use geos_verify::{branches, falls_through};
-use std::alloc::AllocError;
 
-/// Whether the instruction at a pc goes on to another, or has it as its target.
-fn leads_to(to: u16, from: u16, point: &Point) -> bool
-    ensures { result ≡ leads_to to from point.now }
+/// For each pc of an image, of which there are at most so many, whether control reaches it.
+pub(crate) type Marks = [bool; 4096];
+
+/// No pc is marked.
+#[tactic(auto, unfolding(crate::specs::Led::no_marks))]
+fn no_marks() -> Marks
+    ensures { result ≡ no_marks }
 {
-    (u32::from(from) + 1 == u32::from(to) && falls_through(point.instr.opcode))
-        || (point.instr.target == to && branches(point.instr.opcode))
+    [false; 4096]
+}
+
+/// One more mark, if there is such a pc.
+fn mark(marks: &mut Marks, pc: usize)
+    ensures { marks.new ≡ marked marks.old pc }
+{
+    if pc < 4096 {
+        marks[pc] = true;
+    }
+}
+
+/// Whether the pc is marked.
+fn is_marked(marks: &Marks, pc: usize) -> bool
+    ensures { result ≡ is_marked marks.now pc }
+{
+    pc < 4096 && marks[pc]
+}
+
+/// The next instruction is marked as well, where this one goes on to it.
+fn mark_next(marks: &mut Marks, from: u16, i: &Instr)
+    ensures { marks.new ≡ next_marked marks.old from i.now }
+{
+    if falls_through(i.opcode) {
+        mark(marks, usize::from(from) + 1);
+    }
+}
+
+/// The instruction's target is marked as well.
+fn mark_target(marks: &mut Marks, i: &Instr)
+    ensures { marks.new ≡ target_marked marks.old i.now }
+{
+    if branches(i.opcode) {
+        mark(marks, usize::from(i.target));
+    }
+}
+
+/// Where the instruction leads is marked as well, if it is marked itself.
+#[tactic(auto, unfolding(crate::specs::Led::marked_from))]
+fn mark_from(marks: &mut Marks, from: u16, i: &Instr)
+    ensures { marks.new ≡ marked_from marks.old from i.now }
+{
+    if is_marked(marks, usize::from(from)) {
+        mark_next(marks, from, i);
+        mark_target(marks, i);
+    }
 }
 
 /// The same, if there is an instruction.
-#[tactic(auto, unfolding(crate::specs::Led::leads_at))]
-fn leads_at(image: &Image, to: u16, from: u16) -> bool
-    ensures { result ≡ leads_at image.now to from }
+#[tactic(auto, unfolding(crate::specs::Led::marked_at))]
+fn mark_at(marks: &mut Marks, image: &Image, from: u16)
+    ensures { marks.new ≡ marked_at image.now marks.old from }
 {
     match image.points().get(usize::from(from)) {
-        Some(point) => leads_to(to, from, point),
-        None => false,
+        Some(point) => mark_from(marks, from, &point.instr),
+        None => {}
     }
 }
 
-/// Whether some instruction leads to the pc.
-#[tactic(auto, unfolding(crate::specs::Led::led_below))]
-fn is_led_to(image: &Image, to: u16) -> bool
-    ensures { result ≡ led_below image.now to (length image.now.points) }
+/// The same of all instructions, one after another.
+#[tactic(auto, unfolding(crate::specs::Led::marked_round))]
+fn mark_round(marks: &mut Marks, image: &Image)
+    ensures { marks.new ≡ marked_round image.now marks.old (length image.now.points) }
 {
-    let mut led = false;
     for from in 0..image.len() {
-        led = led || leads_at(image, to, from);
+        mark_at(marks, image, from);
     }
-    led
 }
 
-/// Whether the place is the routine's first, or some instruction leads to it.
-fn is_led(place: &Place) -> bool
-    requires { IsPlace (place_of place.now) }
-    ensures { result ≡ is_led (place_of place.now) }
+/// The first instruction of each routine is marked.
+#[tactic(auto, unfolding(crate::specs::Led::starts_marked))]
+fn starts_marked(image: &Image) -> Marks
+    ensures { result ≡ starts_marked image.now (length image.now.routines) }
 {
-    place.pc == place.image.start(place.r) || is_led_to(place.image, place.pc)
+    let mut marks = no_marks();
+    for r in 0..image.count() {
+        mark(&mut marks, usize::from(image.start(r)));
+    }
+    marks
 }
 
-/// That nothing leads to the place, where it is so.
-#[tactic(auto, unfolding(crate::specs::Led::unled_text))]
-pub(crate) fn put_unled(out: &mut Vec<u8>, place: &Place) -> Result<(), AllocError>
-    requires { IsPlace (place_of place.now) }
-    ensures { OnOk result (out.new.items ≡ out.old.items ++ unled_text (place_of place.now)) }
+/// The pcs that control reaches: as many rounds as there are instructions mark them all.
+#[tactic(auto, unfolding(crate::specs::Led::reached_within, crate::specs::Led::reached))]
+pub(crate) fn reached(image: &Image) -> Marks
+    ensures { result ≡ reached image.now }
 {
-    if is_led(place) {
-        Ok(())
-    } else {
-        out.extend_from_slice(b" nothing leads here,")
+    let mut marks = starts_marked(image);
+    for round in 0..image.len() {
+        mark_round(&mut marks, image);
     }
+    marks
+}
+
+/// Whether control reaches the pc from the first instruction of a routine.
+#[tactic(auto, unfolding(crate::specs::Led::is_reached))]
+pub(crate) fn is_reached(image: &Image, marks: &Marks, pc: u16) -> bool
+    requires { marks.now ≡ reached image.now }
+    ensures { result ≡ is_reached image.now pc }
+{
+    is_marked(marks, usize::from(pc))
 }

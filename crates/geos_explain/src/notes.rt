@@ -3,9 +3,8 @@
 ghost use Rattle.std.specs.Prelude.{◌≡◌, ◌++◌, OnOk};
 ghost use Rattle.geos_listing.specs.Rows.{row_items};
 ghost use Rattle.geos_explain.specs.Places.{IsPlace, place_of};
-ghost use Rattle.geos_explain.specs.Notes.{known_text, coefficient_text, coefficients_text, is_one, potential_text, where_text, note_head, note, budget_words};
+ghost use Rattle.geos_explain.specs.Notes.{known_text, coefficient_text, coefficients_text, is_one, potential_text, where_text, note_head, unled_text, note, budget_words};
 
-use crate::led::put_unled;
 use crate::numbers::{put_numbered, steps_word, verb};
 use crate::place::Place;
 use geos_image::{Potential, Routine, Row};
@@ -85,6 +84,18 @@ fn put_note_head(out: &mut Vec<u8>, place: &Place) -> Result<(), AllocError>
     match place.lines.get(usize::from(place.pc)) {
         Some(_) => out.extend_from_slice(b" ;"),
         None => put_where(out, place.routine, place.pc),
+    }
+}
+
+/// That nothing leads to the place, where control does not reach it.
+#[tactic(auto, unfolding(crate::specs::Notes::unled_text))]
+fn put_unled(out: &mut Vec<u8>, place: &Place) -> Result<(), AllocError>
+    ensures { OnOk result (out.new.items ≡ out.old.items ++ unled_text (place_of place.now)) }
+{
+    if place.reached {
+        Ok(())
+    } else {
+        out.extend_from_slice(b" nothing leads here,")
     }
 }
 

@@ -14,4 +14,6 @@ pub(crate) struct Place<'a> {
     pub i: &'a Instr,
     pub row: &'a Row,
     pub potential: &'a Potential,
+    /// Whether control reaches it.
+    pub reached: bool,
 }

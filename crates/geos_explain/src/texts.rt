@@ -2,10 +2,12 @@
 
 ghost use Rattle.std.specs.Prelude.{◌≡◌, ◌<◌, ◌≤◌, ◌++◌, true, OnOk, IfOk, length, slice_get};
 ghost use Rattle.geos_image.specs.Legal.{is_image};
+ghost use Rattle.geos_explain.specs.Led.{reached};
 ghost use Rattle.geos_explain.specs.Places.{HasRoutine};
 ghost use Rattle.geos_explain.specs.Texts.{last_begun, noted_in, noted_of, noted_at, is_line_of, numbered, behind_line, line_text, next_pc, text_explanation};
 
 use crate::explanation::put_noted;
+use crate::led::{Marks, is_reached, reached};
 use crate::numbers::put_numbered;
 use crate::place::Place;
 use geos_image::{Image, Routine};
@@ -33,6 +35,7 @@ fn put_noted_in(
     out: &mut Vec<u8>,
     image: &Image,
     lines: &[usize],
+    marks: &Marks,
     reject: Option<Reject>,
     pc: u16,
     r: u16,
@@ -40,6 +43,7 @@ fn put_noted_in(
 ) -> Result<(), AllocError>
     requires routine { HasRoutine image.now r }
     requires within { pc < length image.now.points }
+    requires reached { marks.now ≡ reached image.now }
     ensures { OnOk result (out.new.items ≡ out.old.items ++ noted_in image.now lines.now reject pc r routine.now) }
 {
     let place = Place {
@@ -51,6 +55,7 @@ fn put_noted_in(
         i: image.instr(pc),
         row: image.row(pc),
         potential: image.potential(pc),
+        reached: is_reached(image, marks, pc),
     };
     put_noted(alloc, out, reject, &place)
 }
@@ -62,17 +67,19 @@ fn put_noted_of(
     out: &mut Vec<u8>,
     image: &Image,
     lines: &[usize],
+    marks: &Marks,
     reject: Option<Reject>,
     pc: u16,
     r: u16,
 ) -> Result<(), AllocError>
-    requires { pc < length image.now.points }
+    requires within { pc < length image.now.points }
+    requires reached { marks.now ≡ reached image.now }
     ensures { OnOk result (out.new.items ≡ out.old.items ++ noted_of image.now lines.now reject pc r) }
 {
     if r < image.count() {
         let routine = image.routine(r);
         let _start = image.start(r);
-        put_noted_in(alloc, out, image, lines, reject, pc, r, routine)
+        put_noted_in(alloc, out, image, lines, marks, reject, pc, r, routine)
     } else {
         Ok(())
     }
@@ -85,14 +92,16 @@ fn put_noted_at(
     out: &mut Vec<u8>,
     image: &Image,
     lines: &[usize],
+    marks: &Marks,
     reject: Option<Reject>,
     pc: u16,
 ) -> Result<(), AllocError>
-    requires { pc < length image.now.points }
+    requires within { pc < length image.now.points }
+    requires reached { marks.now ≡ reached image.now }
     ensures { OnOk result (out.new.items ≡ out.old.items ++ noted_at image.now lines.now reject pc) }
 {
     match last_begun(image, pc) {
-        Some(r) => put_noted_of(alloc, out, image, lines, reject, pc, r),
+        Some(r) => put_noted_of(alloc, out, image, lines, marks, reject, pc, r),
         None => Ok(()),
     }
 }
@@ -124,14 +133,16 @@ fn put_behind_line(
     out: &mut Vec<u8>,
     image: &Image,
     lines: &[usize],
+    marks: &Marks,
     reject: Option<Reject>,
     pc: u16,
     number: usize,
 ) -> Result<(), AllocError>
+    requires { marks.now ≡ reached image.now }
     ensures { OnOk result (out.new.items ≡ out.old.items ++ behind_line image.now lines.now reject pc number) }
 {
     if is_line_of(lines, pc, number) && pc < image.len() {
-        put_noted_at(alloc, out, image, lines, reject, pc)
+        put_noted_at(alloc, out, image, lines, marks, reject, pc)
     } else {
         out.extend_from_slice(b"\n")
     }
@@ -144,15 +155,17 @@ fn put_line(
     out: &mut Vec<u8>,
     image: &Image,
     lines: &[usize],
+    marks: &Marks,
     reject: Option<Reject>,
     pc: u16,
     number: usize,
     line: &[u8],
 ) -> Result<(), AllocError>
+    requires { marks.now ≡ reached image.now }
     ensures { OnOk result (out.new.items ≡ out.old.items ++ line_text image.now lines.now reject pc number line.now) }
 {
     put_numbered_line(out, number, line)?;
-    put_behind_line(alloc, out, image, lines, reject, pc, number)
+    put_behind_line(alloc, out, image, lines, marks, reject, pc, number)
 }
 
 /// The next instruction behind a line.
@@ -180,6 +193,7 @@ pub fn explain_text(
 ) -> Result<Vec<u8>, AllocError>
     ensures { IfOk result (λ explained. explained.items ≡ text_explanation text.now lines.now image.now reject) }
 {
+    let marks = reached(image);
     let mut out = Vec::new(alloc);
     let mut rest = text;
     let mut number: usize = 0;
@@ -188,7 +202,9 @@ pub fn explain_text(
         let (line, behind) = first_line(rest);
         rest = behind;
         number += 1;
-        put_line(alloc, &mut out, image, lines, reject, pc, number, line)?;
+        put_line(
+            alloc, &mut out, image, lines, &marks, reject, pc, number, line,
+        )?;
         pc = next_pc(lines, pc, number);
     }
     Ok(out)

@@ -195,12 +195,7 @@ fn put_wanted_there(out: &mut Vec<u8>, lines: &[usize], to: u16) -> Result<(), A
 
 /// These items are wanted at a pc.
 #[tactic(auto, unfolding(crate::specs::Words::wanted_words))]
-fn put_wanted(
-    out: &mut Vec<u8>,
-    lines: &[usize],
-    to: u16,
-    items: &[u8],
-) -> Result<(), AllocError>
+fn put_wanted(out: &mut Vec<u8>, lines: &[usize], to: u16, items: &[u8]) -> Result<(), AllocError>
     ensures { OnOk result (out.new.items ≡ out.old.items ++ wanted_words lines.now to items.now) }
 {
     put_these_are(out, items)?;

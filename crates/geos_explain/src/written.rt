@@ -72,11 +72,7 @@ fn put_written_head(out: &mut Vec<u8>, items: &[u8]) -> Result<(), AllocError>
 
 /// The VM file is written while slots hold blocks of it.
 #[tactic(auto, unfolding(crate::specs::Written::written_words))]
-pub(crate) fn put_written(
-    alloc: Global,
-    out: &mut Vec<u8>,
-    place: &Place,
-) -> Result<(), AllocError>
+pub(crate) fn put_written(alloc: Global, out: &mut Vec<u8>, place: &Place) -> Result<(), AllocError>
     requires { IsPlace (place_of place.now) }
     ensures { OnOk result (out.new.items ≡ out.old.items ++ written_words (place_of place.now)) }
 {
