@@ -35,9 +35,9 @@ abbrev pub IsExplainedText : List ℕ → List ℕ → Option Reject → Type 0
 IsExplainedText text told reject =
     (image : Parts) × IsAssembled text image × IsVerdict image reject × (told ≡ text_explanation text (instr_lines text) image reject)
 
--- what is told is nothing, or a cause that holds of some routine of the text
-abbrev pub IsCauseTold : List ℕ → List ℕ → Type 0
-IsCauseTold text told = (told ≡ []) ⊎ ((cause : Cause) × IsCauseOf text cause × (told ≡ cause_text (instr_lines text) cause))
+-- what is told is nothing, or a cause that holds of a routine of the text that begins at the line
+abbrev pub IsCauseTold : List ℕ → ℕ → List ℕ → Type 0
+IsCauseTold text line told = (told ≡ []) ⊎ ((cause : Cause) × IsCauseOf text line cause × (told ≡ cause_text (instr_lines text) cause))
 
 -- the bytes begin as an image does
 abbrev pub begins_as_image : List ℕ → Bool

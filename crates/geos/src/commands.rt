@@ -103,7 +103,7 @@ pub fn explain_text_bytes(alloc: Global, text: &[u8]) -> Result<Explained, Assem
 /// Why no rows are found for the text, in a line of words, where `assemble` answers `NoRows(line)`; nothing where no
 /// routine begins at the line. The errors are those of `assemble`, but for `NoRows`.
 pub fn cause_bytes(alloc: Global, text: &[u8], line: usize) -> Result<Vec<u8>, AssembleError>
-    ensures { IfOk result (λ told. IsCauseTold text.now told.items) }
+    ensures { IfOk result (λ told. IsCauseTold text.now line told.items) }
 {
     let lines = lines_of_instrs(alloc, text)?;
     match why_no_rows(alloc, text, line)? {

@@ -59,9 +59,9 @@ IsWhyNoImage text (BadLine fault) = code_of text ≡ Err fault
 IsWhyNoImage text (NoRows line) = HasNoRows text line
 IsWhyNoImage text Memory = Unit {0}
 
--- the cause holds of some routine of the text's code
-pub record IsCauseOf (text : List ℕ) (cause : Cause) : Type 0 where
+-- the cause holds of a routine of the text's code that begins at the line
+pub record IsCauseOf (text : List ℕ) (line : ℕ) (cause : Cause) : Type 0 where
   pub code : Code
   pub read : code_of text ≡ Ok code
-  pub r : ℕ
-  pub holds : Holds (skeleton code) r cause
+  pub begins : BeginsAt code line
+  pub holds : Holds (skeleton code) begins.r cause

@@ -9,10 +9,10 @@ use geos_source::{parse, skeleton};
 use std::alloc::Global;
 
 /// Why no rows, or no numbers of steps, are found for the routine that begins at a line of the text, which
-/// `AssembleError::NoRows` names; `None` where no routine begins there. What the cause says holds of the text's code.
+/// `AssembleError::NoRows` names; `None` where no routine begins there. What the cause says holds of that routine.
 /// The errors are those of `assemble`, but for `NoRows`.
 pub fn why_no_rows(alloc: Global, text: &[u8], line: usize) -> Result<Option<Cause>, AssembleError>
-    ensures { IfOk result (λ cause. IfSome cause (IsCauseOf text.now)) }
+    ensures { IfOk result (λ cause. IfSome cause (IsCauseOf text.now line)) }
 {
     let parsed = parse(alloc, text)?;
     let blank = skeleton(alloc, &parsed)?;
