@@ -2,7 +2,6 @@
 use Rattle.std.proofs.Common.{◌≡◌, ℕ, ◌<◌, ◌≤◌, Bool, true, Some, slice_get, length, refl, sym, ap, arith, ◌∙◌}
 use Rattle.std.specs.Prelude.{IfSome}
 use Rattle.geos_image.specs.declared.instr.Instr.{Instr}
-use Rattle.geos_image.specs.declared.point.Point.{Point}
 use Rattle.geos_image.specs.Parts.{Parts}
 use Rattle.geos_verify.proofs.Places.{item_at, if_some}
 use Rattle.geos_infer.specs.Code.{Forward, instrs_of, has_edge, edge_end}

@@ -1,5 +1,5 @@
 -- Where a routine's instructions lie.
-use Rattle.std.proofs.Common.{◌≡◌, ◌<◌, ◌+◌, ℕ, suc, length, Some, slice_get, sym, ap, ◌∙◌, arith, add-one}
+use Rattle.std.proofs.Common.{◌≡◌, ◌<◌, ◌+◌, ℕ, suc, length, sym, ap, ◌∙◌, add-one}
 use Rattle.geos_image.specs.Parts.{Parts, start_of}
 use Rattle.geos_image.proofs.Starts.{start_of-next}
 use Rattle.geos_verify.proofs.Places.{item_at}

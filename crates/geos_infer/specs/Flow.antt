@@ -6,7 +6,7 @@ use Rattle.geos_image.specs.declared.row.SlotState.TheVariants.{Empty}
 use Rattle.geos_image.specs.Parts.{Parts, start_of}
 use Rattle.geos_verify.specs.Rows.{fits}
 use Rattle.geos_infer.specs.Joins.{join, clean}
-use Rattle.geos_infer.specs.Code.{Edge, Begins, Forward, instrs_of, has_edge, edge_end, edge_row}
+use Rattle.geos_infer.specs.Code.{Edge, Begins, Forward, instrs_of, edge_end, edge_row}
 use Rattle.geos_infer.specs.declared.flow.Arrival.{Arrival}
 use Rattle.geos_infer.specs.declared.flow.Arrival.TheVariants.{Same, Weaker, Apart}
 use Rattle.geos_infer.specs.Edges.{leads_ahead}

@@ -1,10 +1,10 @@
 -- Causes for which no rows or no numbers of steps are found for a routine.
-use Rattle.std.specs.Prelude.{◌≡◌, ◌≤◌, ◌<◌, ℕ, Bool, true, false, List, [], ◌∷◌, Option, Some, None, slice_get}
+use Rattle.std.specs.Prelude.{◌≡◌, ℕ, Bool, true, false, List, [], ◌∷◌, Option, Some, None, slice_get}
 use Rattle.geos_image.specs.declared.row.Row.{Row}
 use Rattle.geos_image.specs.declared.point.Point.{Point}
 use Rattle.geos_image.specs.declared.routine.Routine.{Routine}
 use Rattle.geos_image.specs.Parts.{Parts, start_of}
-use Rattle.geos_verify.specs.Rows.{after, HasEdge}
+use Rattle.geos_verify.specs.Rows.{after}
 use Rattle.geos_infer.specs.Code.{has_edge, edge_end}
 use Rattle.geos_infer.specs.Joins.{agree}
 use Rattle.geos_infer.specs.declared.apart.Coming.{Coming}

@@ -1,4 +1,3 @@
-use Rattle.std.proofs.Common.{arith}
 use Rattle.geos_infer.proofs.Came.{all_come-set, comes-by}
 use Rattle.geos_infer.proofs.apart.come.Goals as goal
 

@@ -1,6 +1,5 @@
-use Rattle.std.proofs.Common.{◌+◌, ◌≤◌, ap, add-one, arith, rules}
+use Rattle.std.proofs.Common.{◌+◌, ap, add-one, arith, rules}
 use Rattle.geos_image.proofs.Starts.{start_of-next}
-use Rattle.geos_verify.proofs.Places.{if_some}
 use Rattle.geos_infer.proofs.body.body_of.Goals as goal
 
 pub invariant_of-result : goal.invariant_of-result

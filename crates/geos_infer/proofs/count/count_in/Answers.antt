@@ -1,4 +1,4 @@
-use Rattle.std.proofs.Common.{◌∙◌, sym, arith}
+use Rattle.std.proofs.Common.{◌∙◌}
 use Rattle.geos_infer.proofs.count.count_in.Goals as goal
 
 pub returns-else-has_loops : goal.returns-else-has_loops

@@ -1,4 +1,4 @@
-use Rattle.std.proofs.Common.{◌≡◌, ◌≤◌, ◌+◌, ℕ, List}
+use Rattle.std.proofs.Common.{◌≤◌, ◌+◌, ℕ, List}
 use Rattle.geos_image.specs.Parts.{start_of}
 use Rattle.geos_infer.specs.Code.{Forward}
 use Rattle.geos_infer.specs.Solutions.{StepsHold}
