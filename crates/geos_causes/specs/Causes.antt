@@ -9,7 +9,7 @@ use Rattle.geos_infer.specs.declared.apart.Coming.{Coming}
 use Rattle.geos_infer.specs.declared.cause.BackWay.{BackWay}
 use Rattle.geos_infer.specs.declared.cause.Within.{Within}
 use Rattle.geos_infer.specs.declared.cause.Cause.{Cause}
-use Rattle.geos_infer.specs.declared.cause.Cause.TheVariants.{SlotsDiffer, NoLoop, SetWithin, NoSteps, Unknown}
+use Rattle.geos_infer.specs.declared.cause.Cause.TheVariants.{SlotsDiffer, NoLoop, SetWithin, StepsPass, NoSteps, Unknown}
 use Rattle.geos_explain.specs.Numbers.{pc_text}
 
 -- what a slot holds
@@ -60,6 +60,10 @@ within_text lines within = set_text lines within ++ codes ", within its own loop
 unfoldable pub no_loop_text : List ℕ → BackWay → List ℕ
 no_loop_text lines back = codes "nothing pays for the way back:" ++ back_text lines back
 
+-- a way takes more steps than a potential can say
+unfoldable pub steps_pass_text : List ℕ
+steps_pass_text = codes "the steps pass 4,294,967,295"
+
 -- no numbers of steps were found
 unfoldable pub no_steps_text : List ℕ → BackWay → List ℕ
 no_steps_text lines back = codes "no steps were found for the loop:" ++ back_text lines back
@@ -73,6 +77,7 @@ abbrev pub cause_words : List ℕ → Cause → List ℕ
 cause_words lines (SlotsDiffer apart) = apart_text lines apart
 cause_words lines (NoLoop back) = no_loop_text lines back
 cause_words lines (SetWithin within) = within_text lines within
+cause_words lines StepsPass = steps_pass_text
 cause_words lines (NoSteps back) = no_steps_text lines back
 cause_words lines Unknown = unknown_text
 

@@ -2,7 +2,7 @@
 
 ghost use Rattle.std.specs.Prelude.{◌≡◌, ◌++◌, OnOk, IfOk, codes};
 ghost use Rattle.geos_explain.specs.Numbers.{pc_text};
-ghost use Rattle.geos_causes.specs.Causes.{state_text, differing_item, differing_items, coming_from, coming_text, meeting_text, other_text, set_text, no_loop_text, no_steps_text, unknown_text, apart_text, back_text, within_text, cause_words, cause_text};
+ghost use Rattle.geos_causes.specs.Causes.{state_text, differing_item, differing_items, coming_from, coming_text, meeting_text, other_text, set_text, no_loop_text, steps_pass_text, no_steps_text, unknown_text, apart_text, back_text, within_text, cause_words, cause_text};
 
 use geos_explain::{put_numbered, put_pc};
 use geos_image::SlotState;
@@ -170,6 +170,14 @@ fn put_no_loop(out: &mut Vec<u8>, lines: &[usize], back: &BackWay) -> Result<(),
     put_back(out, lines, back)
 }
 
+/// A way takes more steps than a potential can say.
+#[tactic(auto, unfolding(crate::specs::Causes::steps_pass_text))]
+fn put_steps_pass(out: &mut Vec<u8>) -> Result<(), AllocError>
+    ensures { OnOk result (out.new.items ≡ out.old.items ++ steps_pass_text) }
+{
+    out.extend_from_slice(b"the steps pass 4,294,967,295")
+}
+
 /// No numbers of steps were found.
 #[tactic(auto, unfolding(crate::specs::Causes::no_steps_text))]
 fn put_no_steps(out: &mut Vec<u8>, lines: &[usize], back: &BackWay) -> Result<(), AllocError>
@@ -194,6 +202,7 @@ fn put_cause(out: &mut Vec<u8>, lines: &[usize], cause: &Cause) -> Result<(), Al
         Cause::SlotsDiffer(apart) => put_apart(out, lines, apart),
         Cause::NoLoop(back) => put_no_loop(out, lines, back),
         Cause::SetWithin(within) => put_within(out, lines, within),
+        Cause::StepsPass => put_steps_pass(out),
         Cause::NoSteps(back) => put_no_steps(out, lines, back),
         Cause::Unknown => put_unknown(out),
     }

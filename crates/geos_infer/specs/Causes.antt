@@ -1,16 +1,16 @@
 -- Causes for which no rows or no numbers of steps are found for a routine, and what each says.
-use Rattle.std.specs.Prelude.{◌≡◌, ◌≤◌, ℕ, Bool, true, false, ◌&&◌, ◌==◌, Option, Some, None, slice_get, slice_index_or}
+use Rattle.std.specs.Prelude.{◌≡◌, ◌≤◌, ℕ, Bool, true, false, ◌==◌, Option, Some, None, slice_get}
 use Rattle.geos_opcodes.specs.declared.opcode.Opcode.{Opcode}
-use Rattle.geos_opcodes.specs.declared.opcode.Opcode.TheVariants.{Setk, Setkw, Loop, Call}
+use Rattle.geos_opcodes.specs.declared.opcode.Opcode.TheVariants.{Setk, Setkw, Loop}
 use Rattle.geos_image.specs.declared.instr.Instr.{Instr}
 use Rattle.geos_image.specs.declared.point.Point.{Point}
 use Rattle.geos_image.specs.Parts.{Parts}
-use Rattle.geos_verify.specs.Rows.{at_point}
 use Rattle.geos_infer.specs.Why.{LeadsTo, AreApart}
+use Rattle.geos_infer.specs.Ahead as ahead
 use Rattle.geos_infer.specs.declared.cause.BackWay.{BackWay}
 use Rattle.geos_infer.specs.declared.cause.Within.{Within}
 use Rattle.geos_infer.specs.declared.cause.Cause.{Cause}
-use Rattle.geos_infer.specs.declared.cause.Cause.TheVariants.{SlotsDiffer, NoLoop, SetWithin, NoSteps, Unknown}
+use Rattle.geos_infer.specs.declared.cause.Cause.TheVariants.{SlotsDiffer, NoLoop, SetWithin, StepsPass, NoSteps, Unknown}
 
 -- an instruction leads back by its target
 pub record LeadsBack (image : Parts) (back : BackWay) : Type 0 where
@@ -55,6 +55,7 @@ abbrev pub Holds : Parts → ℕ → Cause → Type 0
 Holds image r (SlotsDiffer apart) = AreApart image r apart
 Holds image r (NoLoop back) = NoLoopBack image back
 Holds image r (SetWithin within) = SetsWithin image within
+Holds image r StepsPass = ahead.StepsPass image r
 Holds image r (NoSteps back) = LeadsBack image back
 Holds image r Unknown = Unit {0}
 

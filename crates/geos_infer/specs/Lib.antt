@@ -8,4 +8,5 @@ pub mod Count
 pub mod Points
 pub mod Theorem
 pub mod Why
+pub mod Ahead
 pub mod Causes

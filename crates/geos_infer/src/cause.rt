@@ -4,6 +4,7 @@ ghost use Rattle.std.specs.Prelude.{◌≡◌, ◌<◌, ◌≤◌, ℕ, true, fa
 ghost use Rattle.geos_infer.specs.Causes.{LeadsBack, NoLoopBack, PassesAt, is_loop, loops_on, sets_counter, SetsWithin, Holds};
 ghost use Rattle.geos_image.specs.declared.point.Point.{Point};
 
+use crate::ahead::steps_pass;
 use crate::apart::{Apart, find_apart};
 use crate::body::{Body, body_of};
 use crate::cycles::has_unpaid_cycle;
@@ -41,6 +42,8 @@ pub enum Cause {
     NoLoop(BackWay),
     /// The counter of a loop is set within it.
     SetWithin(Within),
+    /// A way that only leads ahead takes more steps than a potential can say.
+    StepsPass,
     /// None of these was found; a way leads back.
     NoSteps(BackWay),
     /// None of these was found, nor a way back.
@@ -178,7 +181,7 @@ fn find_set_within(body: &Body) -> Option<Within>
 }
 
 /// Why no numbers of steps are found.
-fn cause_of_steps(body: &Body, unpaid: bool) -> Cause
+fn cause_of_steps(body: &Body, unpaid: bool, steps: &mut Table<u64>) -> Cause
     ensures { Holds body.now.image.now body.now.r result }
 {
     if unpaid {
@@ -188,6 +191,9 @@ fn cause_of_steps(body: &Body, unpaid: bool) -> Cause
     }
     if let Some(within) = find_set_within(body) {
         return Cause::SetWithin(within);
+    }
+    if steps_pass(body, steps) {
+        return Cause::StepsPass;
     }
     match find_back(body) {
         Some(back) => Cause::NoSteps(back),
@@ -208,6 +214,7 @@ pub fn find_cause(alloc: Global, image: &Image, r: u16) -> Result<Cause, AllocEr
     }
     let mut into = Table::new(alloc, 0)?;
     let mut listed = Table::new(alloc, 0)?;
+    let mut steps = Table::new(alloc, 0)?;
     let unpaid = has_unpaid_cycle(&body, &mut into, &mut listed);
-    Ok(cause_of_steps(&body, unpaid))
+    Ok(cause_of_steps(&body, unpaid, &mut steps))
 }

@@ -3,6 +3,7 @@
 //! docs/VERIFIER.md says what rows and potentials are.
 #![tactic(auto)]
 
+mod ahead;
 mod apart;
 mod arcs;
 mod asked;
