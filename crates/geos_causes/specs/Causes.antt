@@ -9,7 +9,7 @@ use Rattle.geos_infer.specs.declared.apart.Coming.{Coming}
 use Rattle.geos_infer.specs.declared.cause.BackWay.{BackWay}
 use Rattle.geos_infer.specs.declared.cause.Within.{Within}
 use Rattle.geos_infer.specs.declared.cause.Cause.{Cause}
-use Rattle.geos_infer.specs.declared.cause.Cause.TheVariants.{SlotsDiffer, NoLoop, SetWithin, StepsPass, NoSteps, Unknown}
+use Rattle.geos_infer.specs.declared.cause.Cause.TheVariants.{SlotsDiffer, NoLoop, SetWithin, TouchedWithin, StepsPass, NoSteps, Unknown}
 use Rattle.geos_explain.specs.Numbers.{pc_text}
 
 -- what a slot holds
@@ -56,6 +56,14 @@ set_text lines within = codes "k" ++ decimal within.counter ++ codes " is set at
 unfoldable pub within_text : List ℕ → Within → List ℕ
 within_text lines within = set_text lines within ++ codes ", within its own loop:" ++ back_text lines within.back
 
+-- a call touches a counter
+unfoldable pub call_text : List ℕ → Within → List ℕ
+call_text lines within = codes "the call at" ++ pc_text lines within.at ++ codes " touches k" ++ decimal within.counter
+
+-- a call touches a counter within its loop
+unfoldable pub touched_text : List ℕ → Within → List ℕ
+touched_text lines within = call_text lines within ++ codes ", within its own loop:" ++ back_text lines within.back
+
 -- nothing pays for a way back
 unfoldable pub no_loop_text : List ℕ → BackWay → List ℕ
 no_loop_text lines back = codes "nothing pays for the way back:" ++ back_text lines back
@@ -77,6 +85,7 @@ abbrev pub cause_words : List ℕ → Cause → List ℕ
 cause_words lines (SlotsDiffer apart) = apart_text lines apart
 cause_words lines (NoLoop back) = no_loop_text lines back
 cause_words lines (SetWithin within) = within_text lines within
+cause_words lines (TouchedWithin within) = touched_text lines within
 cause_words lines StepsPass = steps_pass_text
 cause_words lines (NoSteps back) = no_steps_text lines back
 cause_words lines Unknown = unknown_text

@@ -2,7 +2,7 @@
 
 ghost use Rattle.std.specs.Prelude.{◌≡◌, ◌++◌, OnOk, IfOk, codes};
 ghost use Rattle.geos_explain.specs.Numbers.{pc_text};
-ghost use Rattle.geos_causes.specs.Causes.{state_text, differing_item, differing_items, coming_from, coming_text, meeting_text, other_text, set_text, no_loop_text, steps_pass_text, no_steps_text, unknown_text, apart_text, back_text, within_text, cause_words, cause_text};
+ghost use Rattle.geos_causes.specs.Causes.{state_text, differing_item, differing_items, coming_from, coming_text, meeting_text, other_text, set_text, call_text, touched_text, no_loop_text, steps_pass_text, no_steps_text, unknown_text, apart_text, back_text, within_text, cause_words, cause_text};
 
 use geos_explain::{put_numbered, put_pc};
 use geos_image::SlotState;
@@ -161,6 +161,25 @@ fn put_within(out: &mut Vec<u8>, lines: &[usize], within: &Within) -> Result<(),
     put_and_back(out, ", within its own loop:", lines, &within.back)
 }
 
+/// A call touches a counter.
+#[tactic(auto, unfolding(crate::specs::Causes::call_text))]
+fn put_call(out: &mut Vec<u8>, lines: &[usize], within: &Within) -> Result<(), AllocError>
+    ensures { OnOk result (out.new.items ≡ out.old.items ++ call_text lines.now within.now) }
+{
+    out.extend_from_slice(b"the call at")?;
+    put_pc(out, lines, within.at)?;
+    put_numbered(out, " touches k", u64::from(within.counter))
+}
+
+/// A call touches a counter within its loop.
+#[tactic(auto, unfolding(crate::specs::Causes::touched_text))]
+fn put_touched(out: &mut Vec<u8>, lines: &[usize], within: &Within) -> Result<(), AllocError>
+    ensures { OnOk result (out.new.items ≡ out.old.items ++ touched_text lines.now within.now) }
+{
+    put_call(out, lines, within)?;
+    put_and_back(out, ", within its own loop:", lines, &within.back)
+}
+
 /// Nothing pays for a way back.
 #[tactic(auto, unfolding(crate::specs::Causes::no_loop_text))]
 fn put_no_loop(out: &mut Vec<u8>, lines: &[usize], back: &BackWay) -> Result<(), AllocError>
@@ -202,6 +221,7 @@ fn put_cause(out: &mut Vec<u8>, lines: &[usize], cause: &Cause) -> Result<(), Al
         Cause::SlotsDiffer(apart) => put_apart(out, lines, apart),
         Cause::NoLoop(back) => put_no_loop(out, lines, back),
         Cause::SetWithin(within) => put_within(out, lines, within),
+        Cause::TouchedWithin(within) => put_touched(out, lines, within),
         Cause::StepsPass => put_steps_pass(out),
         Cause::NoSteps(back) => put_no_steps(out, lines, back),
         Cause::Unknown => put_unknown(out),

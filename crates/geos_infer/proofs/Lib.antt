@@ -17,3 +17,4 @@ pub mod Accepting
 pub mod Finding
 pub mod Copies
 pub mod Came
+pub mod Noting

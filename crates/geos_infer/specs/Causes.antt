@@ -1,16 +1,17 @@
 -- Causes for which no rows or no numbers of steps are found for a routine, and what each says.
-use Rattle.std.specs.Prelude.{◌≡◌, ◌≤◌, ℕ, Bool, true, false, ◌==◌, Option, Some, None, slice_get}
+use Rattle.std.specs.Prelude.{◌≡◌, ◌≤◌, ℕ, Bool, ◌&&◌, List, true, false, ◌==◌, Option, Some, None, slice_get}
 use Rattle.geos_opcodes.specs.declared.opcode.Opcode.{Opcode}
 use Rattle.geos_opcodes.specs.declared.opcode.Opcode.TheVariants.{Setk, Setkw, Loop}
 use Rattle.geos_image.specs.declared.instr.Instr.{Instr}
 use Rattle.geos_image.specs.declared.point.Point.{Point}
 use Rattle.geos_image.specs.Parts.{Parts}
+use Rattle.geos_verify.specs.Touched.{calls, noted, touches}
 use Rattle.geos_infer.specs.Why.{LeadsTo, AreApart}
 use Rattle.geos_infer.specs.Ahead as ahead
 use Rattle.geos_infer.specs.declared.cause.BackWay.{BackWay}
 use Rattle.geos_infer.specs.declared.cause.Within.{Within}
 use Rattle.geos_infer.specs.declared.cause.Cause.{Cause}
-use Rattle.geos_infer.specs.declared.cause.Cause.TheVariants.{SlotsDiffer, NoLoop, SetWithin, StepsPass, NoSteps, Unknown}
+use Rattle.geos_infer.specs.declared.cause.Cause.TheVariants.{SlotsDiffer, NoLoop, SetWithin, TouchedWithin, StepsPass, NoSteps, Unknown}
 
 -- an instruction leads back by its target
 pub record LeadsBack (image : Parts) (back : BackWay) : Type 0 where
@@ -42,11 +43,30 @@ sets_counter k i _ = false
 abbrev pub PassesAt : Parts → ℕ → (Instr → Bool) → Type 0
 PassesAt image pc test = (point : Point) × (slice_get image.points pc ≡ Some point) × (test point.instr ≡ true)
 
+-- a table says only what routines do touch
+abbrev pub NotesTouched : Parts → List (List Bool) → Type 0
+NotesTouched image table = (k r : ℕ) → noted table k r ≡ true → touches image k r ≡ true
+
+-- the instruction calls a routine that touches this counter
+abbrev pub calls_touching : Parts → ℕ → Instr → Bool
+calls_touching image k i = calls i.opcode && touches image k i.imm
+
+-- a LOOP on this counter leads back
+pub record LoopsBack (image : Parts) (back : BackWay) (counter : ℕ) : Type 0 where
+  pub leads : LeadsBack image back
+  pub loops : PassesAt image back.from (λ i. loops_on counter i i.opcode)
+
 -- a LOOP leads back, and between its target and itself an instruction sets its counter
 pub record SetsWithin (image : Parts) (within : Within) : Type 0 where
-  pub leads : LeadsBack image within.back
-  pub loops : PassesAt image within.back.from (λ i. loops_on within.counter i i.opcode)
+  pub loops : LoopsBack image within.back within.counter
   pub sets : PassesAt image within.at (λ i. sets_counter within.counter i i.opcode)
+  pub above : within.back.to ≤ within.at
+  pub below : within.at ≤ within.back.from
+
+-- a LOOP leads back, and between its target and itself a routine is called that touches its counter
+pub record TouchesWithin (image : Parts) (within : Within) : Type 0 where
+  pub loops : LoopsBack image within.back within.counter
+  pub touches : PassesAt image within.at (calls_touching image within.counter)
   pub above : within.back.to ≤ within.at
   pub below : within.at ≤ within.back.from
 
@@ -55,6 +75,7 @@ abbrev pub Holds : Parts → ℕ → Cause → Type 0
 Holds image r (SlotsDiffer apart) = AreApart image r apart
 Holds image r (NoLoop back) = NoLoopBack image back
 Holds image r (SetWithin within) = SetsWithin image within
+Holds image r (TouchedWithin within) = TouchesWithin image within
 Holds image r StepsPass = ahead.StepsPass image r
 Holds image r (NoSteps back) = LeadsBack image back
 Holds image r Unknown = Unit {0}

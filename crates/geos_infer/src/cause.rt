@@ -1,7 +1,7 @@
 //! Why no rows or no numbers of steps are found for a routine.
 
 ghost use Rattle.std.specs.Prelude.{◌≡◌, ◌<◌, ◌≤◌, ℕ, true, false, Some, length, slice_get, IfSome, IfOk};
-ghost use Rattle.geos_infer.specs.Causes.{LeadsBack, NoLoopBack, PassesAt, is_loop, loops_on, sets_counter, SetsWithin, Holds};
+ghost use Rattle.geos_infer.specs.Causes.{LeadsBack, NoLoopBack, PassesAt, is_loop, loops_on, sets_counter, calls_touching, NotesTouched, LoopsBack, SetsWithin, TouchesWithin, Holds};
 ghost use Rattle.geos_image.specs.declared.point.Point.{Point};
 
 use crate::ahead::steps_pass;
@@ -9,8 +9,10 @@ use crate::apart::{Apart, find_apart};
 use crate::body::{Body, body_of};
 use crate::cycles::has_unpaid_cycle;
 use crate::edges::{edge_end, has_edge, is_loop};
+use crate::spent::{find_touched, touches};
 use crate::table::Table;
 use geos_image::{Image, Instr, Opcode};
+use geos_verify::Touched;
 use std::alloc::{AllocError, Global};
 
 /// An edge that leads back.
@@ -42,6 +44,8 @@ pub enum Cause {
     NoLoop(BackWay),
     /// The counter of a loop is set within it.
     SetWithin(Within),
+    /// A routine that is called within the loop of a counter touches it.
+    TouchedWithin(Within),
     /// A way that only leads ahead takes more steps than a potential can say.
     StepsPass,
     /// None of these was found; a way leads back.
@@ -150,16 +154,28 @@ fn loops_at(body: &Body, counter: u8, from: u16) -> bool
     loops_on(counter, body.image.instr(from))
 }
 
-/// Where the counter of the LOOP at a pc is set within its loop.
-fn set_within(body: &Body, from: u16) -> Option<Within>
+/// The way back of the LOOP at a pc, and its counter.
+fn loop_back(body: &Body, from: u16) -> Option<(BackWay, u8)>
     requires { from < body.now.end }
-    ensures { IfSome result (SetsWithin body.now.image.now) }
+    ensures loops { IfSome result (λ both. LoopsBack body.now.image.now both.0 both.1) }
+    ensures here { IfSome result (λ both. both.0.from ≡ from) }
 {
     let counter = body.image.instr(from).a;
     if !loops_at(body, counter, from) {
         return None;
     }
-    let Some(back) = back_at(body, from) else {
+    match back_at(body, from) {
+        Some(back) => Some((back, counter)),
+        None => None,
+    }
+}
+
+/// Where the counter of the LOOP at a pc is set within its loop.
+fn set_within(body: &Body, from: u16) -> Option<Within>
+    requires { from < body.now.end }
+    ensures { IfSome result (SetsWithin body.now.image.now) }
+{
+    let Some((back, counter)) = loop_back(body, from) else {
         return None;
     };
     match find_setting(body, counter, back.to, back.from) {
@@ -180,8 +196,66 @@ fn find_set_within(body: &Body) -> Option<Within>
     None
 }
 
+/// Whether the instruction at a pc calls a routine that touches the counter.
+fn calls_touching(body: &Body, touched: &Touched, counter: u8, pc: u16) -> bool
+    requires here { pc < body.now.end }
+    requires touched { NotesTouched body.now.image.now touched.now }
+    ensures { result ≡ true → PassesAt body.now.image.now pc (calls_touching body.now.image.now counter) }
+{
+    let i = body.image.instr(pc);
+    match i.opcode {
+        Opcode::Call => touches(touched, i.imm, counter),
+        _ => false,
+    }
+}
+
+/// The first place from a pc on up to another where a routine is called that touches the counter.
+fn find_touching(body: &Body, touched: &Touched, counter: u8, from: u16, to: u16) -> Option<u16>
+    requires within { to < body.now.end }
+    requires touched { NotesTouched body.now.image.now touched.now }
+    ensures touches { IfSome result (λ at. PassesAt body.now.image.now at (calls_touching body.now.image.now counter)) }
+    ensures above { IfSome result (λ at. from ≤ at) }
+    ensures below { IfSome result (λ at. at ≤ to) }
+{
+    for pc in from..to + 1 {
+        if calls_touching(body, touched, counter, pc) {
+            return Some(pc);
+        }
+    }
+    None
+}
+
+/// Where a routine is called within the loop of the LOOP at a pc that touches its counter.
+fn touched_within(body: &Body, touched: &Touched, from: u16) -> Option<Within>
+    requires here { from < body.now.end }
+    requires touched { NotesTouched body.now.image.now touched.now }
+    ensures { IfSome result (TouchesWithin body.now.image.now) }
+{
+    let Some((back, counter)) = loop_back(body, from) else {
+        return None;
+    };
+    match find_touching(body, touched, counter, back.to, back.from) {
+        Some(at) => Some(Within { back, counter, at }),
+        None => None,
+    }
+}
+
+/// The first counter that a call within its loop touches.
+fn find_touched_within(body: &Body, touched: &Touched) -> Option<Within>
+    requires { NotesTouched body.now.image.now touched.now }
+    ensures { IfSome result (TouchesWithin body.now.image.now) }
+{
+    for from in body.start..body.end {
+        if let Some(within) = touched_within(body, touched, from) {
+            return Some(within);
+        }
+    }
+    None
+}
+
 /// Why no numbers of steps are found.
-fn cause_of_steps(body: &Body, unpaid: bool, steps: &mut Table<u64>) -> Cause
+fn cause_of_steps(body: &Body, unpaid: bool, touched: &Touched, steps: &mut Table<u64>) -> Cause
+    requires { NotesTouched body.now.image.now touched.now }
     ensures { Holds body.now.image.now body.now.r result }
 {
     if unpaid {
@@ -191,6 +265,9 @@ fn cause_of_steps(body: &Body, unpaid: bool, steps: &mut Table<u64>) -> Cause
     }
     if let Some(within) = find_set_within(body) {
         return Cause::SetWithin(within);
+    }
+    if let Some(within) = find_touched_within(body, touched) {
+        return Cause::TouchedWithin(within);
     }
     if steps_pass(body, steps) {
         return Cause::StepsPass;
@@ -216,5 +293,6 @@ pub fn find_cause(alloc: Global, image: &Image, r: u16) -> Result<Cause, AllocEr
     let mut listed = Table::new(alloc, 0)?;
     let mut steps = Table::new(alloc, 0)?;
     let unpaid = has_unpaid_cycle(&body, &mut into, &mut listed);
-    Ok(cause_of_steps(&body, unpaid, &mut steps))
+    let touched = find_touched(image);
+    Ok(cause_of_steps(&body, unpaid, &touched, &mut steps))
 }

@@ -1,7 +1,9 @@
 //! Behind a call nothing is known of the counters that the routine touches, so that no coefficient
 //! may be left on them.
 
-ghost use Rattle.std.specs.Prelude.{◌<◌};
+ghost use Rattle.std.specs.Prelude.{◌≡◌, ◌<◌};
+ghost use Rattle.geos_verify.specs.Touched.{noted};
+ghost use Rattle.geos_infer.specs.Causes.{NotesTouched};
 
 use crate::body::Body;
 use crate::potentials::Potentials;
@@ -9,7 +11,9 @@ use geos_image::{Image, Opcode};
 use geos_verify::{Touched, are_spent, touched_in};
 
 /// Which counters each routine touches; a routine may call those before it.
-pub(crate) fn find_touched(image: &Image) -> Touched {
+pub(crate) fn find_touched(image: &Image) -> Touched
+    ensures { NotesTouched image.now result }
+{
     let mut table = [[false; 4]; 32];
     for r in 0..image.count() {
         table[usize::from(r)] = touched_in(image, r, &table);
@@ -22,6 +26,19 @@ pub(crate) fn touched_by(table: &Touched, r: u16) -> [bool; 4] {
     match table.get(usize::from(r)) {
         Some(touched) => *touched,
         None => [false; 4],
+    }
+}
+
+/// Whether the table says that a routine touches a counter.
+pub(crate) fn touches(table: &Touched, r: u16, counter: u8) -> bool
+    ensures { result ≡ noted table.now counter r }
+{
+    match table.get(usize::from(r)) {
+        Some(touched) => match touched.get(usize::from(counter)) {
+            Some(touches) => *touches,
+            None => false,
+        },
+        None => false,
     }
 }
 
