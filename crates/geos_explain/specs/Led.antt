@@ -1,5 +1,5 @@
 -- Which instructions control reaches: a mark for each pc of an image, of which there are at most 4,096.
-use Rattle.std.specs.Prelude.{ℕ, zero, suc, ◌+◌, replicate, Bool, true, false, ◌&&◌, nat_lt, if◌then◌else◌, List, Some, None, length, slice_get, slice_set, slice_index_or}
+use Rattle.std.specs.Prelude.{ℕ, zero, suc, ◌+◌, replicate, Bool, true, false, ◌&&◌, not, nat_lt, if◌then◌else◌, List, Some, None, length, slice_get, slice_set, slice_index_or}
 use Rattle.geos_image.specs.declared.instr.Instr.{Instr}
 use Rattle.geos_image.specs.Parts.{Parts, start_of}
 use Rattle.geos_verify.specs.Rows.{falls_through, branches}
@@ -16,13 +16,13 @@ marked marks pc = if nat_lt pc 4096 then slice_set marks pc true else marks
 abbrev pub is_marked : List Bool → ℕ → Bool
 is_marked marks pc = nat_lt pc 4096 && slice_index_or marks pc false
 
--- the next instruction is marked as well, where one goes on to it
+-- the next instruction is marked as well, if it is not yet, where one goes on to it
 abbrev pub next_marked : List Bool → ℕ → Instr → List Bool
-next_marked marks from i = if falls_through i.opcode then marked marks (from + 1) else marks
+next_marked marks from i = if not (is_marked marks (from + 1)) && falls_through i.opcode then marked marks (from + 1) else marks
 
--- an instruction's target is marked as well
+-- an instruction's target is marked as well, if it is not yet
 abbrev pub target_marked : List Bool → Instr → List Bool
-target_marked marks i = if branches i.opcode then marked marks i.target else marks
+target_marked marks i = if not (is_marked marks i.target) && branches i.opcode then marked marks i.target else marks
 
 -- where an instruction leads is marked as well, if it is marked itself
 unfoldable pub marked_from : List Bool → ℕ → Instr → List Bool

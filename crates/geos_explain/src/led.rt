@@ -33,21 +33,24 @@ fn is_marked(marks: &Marks, pc: usize) -> bool
     pc < 4096 && marks[pc]
 }
 
-/// The next instruction is marked as well, where this one goes on to it.
+/// The next instruction is marked as well, if it is not yet, where this one goes on to it. The mark is tested before the
+/// look into the table of opcodes.
 fn mark_next(marks: &mut Marks, from: u16, i: &Instr)
     ensures { marks.new ≡ next_marked marks.old from i.now }
 {
-    if falls_through(i.opcode) {
-        mark(marks, usize::from(from) + 1);
+    let next = usize::from(from) + 1;
+    if !is_marked(marks, next) && falls_through(i.opcode) {
+        mark(marks, next);
     }
 }
 
-/// The instruction's target is marked as well.
+/// The instruction's target is marked as well, if it is not yet.
 fn mark_target(marks: &mut Marks, i: &Instr)
     ensures { marks.new ≡ target_marked marks.old i.now }
 {
-    if branches(i.opcode) {
-        mark(marks, usize::from(i.target));
+    let target = usize::from(i.target);
+    if !is_marked(marks, target) && branches(i.opcode) {
+        mark(marks, target);
     }
 }
 
@@ -95,14 +98,20 @@ fn starts_marked(image: &Image) -> Marks
     marks
 }
 
-/// The pcs that control reaches: as many rounds as there are instructions mark them all.
+/// The pcs that control reaches: as many rounds as there are instructions mark them all, and where one marks none, the
+/// others would mark none either.
 #[tactic(auto, unfolding(crate::specs::Led::reached_within, crate::specs::Led::reached))]
 pub(crate) fn reached(image: &Image) -> Marks
     ensures { result ≡ reached image.now }
 {
     let mut marks = starts_marked(image);
+    let mut settled = false;
     for round in 0..image.len() {
-        mark_round(&mut marks, image);
+        if !settled {
+            let before = marks;
+            mark_round(&mut marks, image);
+            settled = before == marks;
+        }
     }
     marks
 }
