@@ -1,5 +1,5 @@
 -- Which slots are still held at a return, and since where.
-use Rattle.std.specs.Prelude.{ℕ, zero, suc, Bool, false, ◌&&◌, not, if◌then◌else◌, ◌==◌, List, [], ◌++◌, Some, None, length, slice_get, codes, decimal}
+use Rattle.std.specs.Prelude.{ℕ, zero, suc, Bool, false, ◌&&◌, not, nat_lt, if◌then◌else◌, ◌==◌, List, [], ◌++◌, Some, None, length, slice_get, codes, decimal}
 use Rattle.geos_image.specs.declared.row.Row.{Row}
 use Rattle.geos_image.specs.declared.point.Point.{Point}
 use Rattle.geos_image.specs.Parts.{Parts, start_of}
@@ -38,29 +38,34 @@ fills_at image a from = elim (slice_get image.points from) [ None ↦ false | So
 abbrev pub fills_here : Place → ℕ → ℕ → Bool
 fills_here place a from = has_place (start_of place.image.routines place.r) place.routine.count from && fills_at place.image a from
 
--- one more such place
-abbrev pub one_more : Since → ℕ → Since
-one_more Nowhere from = Once from
-one_more _ from = Often
+-- the later of two pcs, if it stands in front of a third
+abbrev pub later : ℕ → ℕ → ℕ → ℕ
+later pc last from = if nat_lt from pc then from else last
+
+-- one more such place; of several, the last in front of a pc is kept, else the first
+abbrev pub one_more : ℕ → Since → ℕ → Since
+one_more pc Nowhere from = Once from
+one_more pc (Once first) from = Often (later pc first from)
+one_more pc (Often last) from = Often (later pc last from)
 
 -- the same where the pc is such a place
-abbrev pub also : Since → ℕ → Bool → Since
-also since from here = if here then one_more since from else since
+abbrev pub also : ℕ → Since → ℕ → Bool → Since
+also pc since from here = if here then one_more pc since from else since
 
 -- where in the routine a slot becomes held, of the instructions below n
 unfoldable pub since_below : Place → ℕ → ℕ → Since
 since_below place a zero = Nowhere
-since_below place a (suc n) = also (since_below place a n) n (fills_here place a n)
+since_below place a (suc n) = also place.pc (since_below place a n) n (fills_here place a n)
 
 -- a slot is held since
 unfoldable pub since_head : ℕ → List ℕ
 since_head a = codes "; s" ++ decimal a ++ codes " is held since"
 
--- since where a slot is held; nothing where it becomes so in several places
+-- since where a slot is held; of several places, one
 abbrev pub since_text : List ℕ → ℕ → Since → List ℕ
 since_text lines a Nowhere = since_head a ++ codes " the in line"
 since_text lines a (Once from) = since_head a ++ pc_text lines from
-since_text lines a Often = []
+since_text lines a (Often last) = since_head a ++ pc_text lines last ++ codes " or another place"
 
 -- the same of a slot that the exit row has empty
 unfoldable pub since_item : Place → ℕ → List ℕ

@@ -2,7 +2,7 @@
 
 ghost use Rattle.std.specs.Prelude.{◌≡◌, ◌<◌, ◌++◌, Some, OnOk, length, slice_get};
 ghost use Rattle.geos_explain.specs.Places.{IsPlace, place_of};
-ghost use Rattle.geos_explain.specs.Held.{is_kept, kept_item, kept_items, fills, fills_at, fills_here, one_more, also, since_below, since_head, since_text, since_item, since_items, also_wanted, kept_head, else_wanted, kept_words, unmet_words, exit_words};
+ghost use Rattle.geos_explain.specs.Held.{is_kept, kept_item, kept_items, fills, fills_at, fills_here, later, one_more, also, since_below, since_head, since_text, since_item, since_items, also_wanted, kept_head, else_wanted, kept_words, unmet_words, exit_words};
 
 use crate::lacks::{lacking, put_lacking};
 use crate::numbers::{put_numbered, put_pc, put_these_are};
@@ -20,8 +20,8 @@ pub(crate) enum Since {
     Nowhere,
     /// Behind the instruction at one pc.
     Once(u16),
-    /// In several places.
-    Often,
+    /// In several places; this is the last in front of the place that is explained, else the first.
+    Often(u16),
 }
 
 /// Whether the slot is held, and another row has it empty.
@@ -84,21 +84,32 @@ fn fills_here(place: &Place, a: u8, from: u16) -> bool
     has_place(start, place.routine, u32::from(from)) && fills_at(place.image, a, from)
 }
 
-/// One more such place.
-fn one_more(since: Since, from: u16) -> Since
-    ensures { result ≡ one_more since from }
+/// The later of two pcs, if it stands in front of a third.
+fn later(pc: u16, last: u16, from: u16) -> u16
+    ensures { result ≡ later pc last from }
+{
+    if from < pc { from } else { last }
+}
+
+/// One more such place; of several, the last in front of a pc is kept, else the first.
+fn one_more(pc: u16, since: Since, from: u16) -> Since
+    ensures { result ≡ one_more pc since from }
 {
     match since {
         Since::Nowhere => Since::Once(from),
-        _ => Since::Often,
+        Since::Once(last) | Since::Often(last) => Since::Often(later(pc, last, from)),
     }
 }
 
 /// The same where the pc is such a place.
-fn also(since: Since, from: u16, here: bool) -> Since
-    ensures { result ≡ also since from here }
+fn also(pc: u16, since: Since, from: u16, here: bool) -> Since
+    ensures { result ≡ also pc since from here }
 {
-    if here { one_more(since, from) } else { since }
+    if here {
+        one_more(pc, since, from)
+    } else {
+        since
+    }
 }
 
 /// Where in the routine the slot becomes held.
@@ -109,7 +120,7 @@ pub(crate) fn held_since(place: &Place, a: u8) -> Since
 {
     let mut since = Since::Nowhere;
     for from in 0..place.image.len() {
-        since = also(since, from, fills_here(place, a, from));
+        since = also(place.pc, since, from, fills_here(place, a, from));
     }
     since
 }
@@ -123,7 +134,7 @@ fn put_since_head(out: &mut Vec<u8>, a: u8) -> Result<(), AllocError>
     out.extend_from_slice(b" is held since")
 }
 
-/// Since where the slot is held; nothing where it becomes so in several places.
+/// Since where the slot is held; of several places, one.
 pub(crate) fn put_since_text(
     out: &mut Vec<u8>,
     lines: &[usize],
@@ -141,7 +152,11 @@ pub(crate) fn put_since_text(
             put_since_head(out, a)?;
             put_pc(out, lines, from)
         }
-        Since::Often => Ok(()),
+        Since::Often(last) => {
+            put_since_head(out, a)?;
+            put_pc(out, lines, last)?;
+            out.extend_from_slice(b" or another place")
+        }
     }
 }
 
