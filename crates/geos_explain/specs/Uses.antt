@@ -4,7 +4,7 @@ use Rattle.geos_image.specs.declared.instr.Instr.{Instr}
 use Rattle.geos_image.specs.declared.row.Row.{Row}
 use Rattle.geos_image.specs.declared.row.Pointer.{Pointer}
 use Rattle.geos_image.specs.declared.row.SlotState.{SlotState}
-use Rattle.geos_image.specs.declared.row.SlotState.TheVariants.{Db}
+use Rattle.geos_image.specs.declared.row.SlotState.TheVariants.{Empty, Mem, Vm, Db}
 use Rattle.geos_image.specs.Open.{open_row}
 use Rattle.geos_listing.specs.Rows.{row_items}
 use Rattle.geos_opcodes.specs.declared.uses.Kind.{Kind}
@@ -149,11 +149,31 @@ slot_wish (Marks kind) = kind_wish kind
 slot_wish Compares = codes " are known here, and two held slots of one kind are wanted"
 slot_wish _ = codes " is known here, and a held slot is wanted"
 
+-- the instruction that unlocks what a slot holds; none where it is empty
+abbrev pub unlocks_text : SlotState → List ℕ
+unlocks_text Empty = []
+unlocks_text Mem = codes ": MUNLOCK unlocks it"
+unlocks_text (Vm marked) = codes ": VUNLOCK unlocks it"
+unlocks_text (Db marked) = codes ": IUNLOCK unlocks it"
+
+-- the instruction that marks what a slot holds; none where it is empty or holds a block that has no mark
+abbrev pub marks_text : SlotState → List ℕ
+marks_text Empty = []
+marks_text Mem = []
+marks_text (Vm marked) = codes ": VDIRTY marks it"
+marks_text (Db marked) = codes ": IDIRTY marks it"
+
+-- the instruction that serves in the place of one that wants another kind
+unfoldable pub serving : SlotUse → SlotState → List ℕ
+serving (Unlocks kind) state = unlocks_text state
+serving (Marks kind) state = marks_text state
+serving _ state = []
+
 -- the second slot, where there are two
 unfoldable pub other_item : Instr → SlotUse → Row → List ℕ
 other_item i Compares row = state_item i.b row
 other_item i _ row = []
 
--- a slot is not held as the instruction wants it
+-- a slot is not held as the instruction wants it, and what serves in its place
 unfoldable pub slot_words : Instr → SlotUse → Row → List ℕ
-slot_words i slot row = state_item i.a row ++ other_item i slot row ++ slot_wish slot
+slot_words i slot row = state_item i.a row ++ other_item i slot row ++ slot_wish slot ++ serving slot (slot_state row i.a)

@@ -2,7 +2,7 @@
 
 ghost use Rattle.std.specs.Prelude.{◌≡◌, ◌<◌, ◌++◌, OnOk, map};
 ghost use Rattle.geos_verify.specs.Uses.{bytes_in, OffsetFits, PointerFits};
-ghost use Rattle.geos_explain.specs.Uses.{state_item, nowhere_only, leading_nowhere, nowhere_tail, nowhere_items, nowhere_words, wanted_count, wanted_bytes, known_there, short_words, is_any, index_unknown, index_most, index_known, index_wanted, known_bytes, index_words, reach_words, past_words, slot_behind, changed_slot, mark_word, mark_words, unmarked_slot, unmarked_words, held_words, kind_wish, slot_wish, other_item, slot_words};
+ghost use Rattle.geos_explain.specs.Uses.{state_item, nowhere_only, leading_nowhere, nowhere_tail, nowhere_items, nowhere_words, wanted_count, wanted_bytes, known_there, short_words, is_any, index_unknown, index_most, index_known, index_wanted, known_bytes, index_words, reach_words, past_words, slot_behind, changed_slot, mark_word, mark_words, unmarked_slot, unmarked_words, held_words, kind_wish, slot_wish, unlocks_text, marks_text, serving, other_item, slot_words};
 
 use crate::numbers::{is_one_item, put_about, put_bytes, put_numbered, verb};
 use geos_image::{Instr, Pointer, Row, SlotState};
@@ -339,6 +339,41 @@ fn slot_wish(slot: SlotUse) -> &'static str
     }
 }
 
+/// The instruction that unlocks what the slot holds; none where it is empty.
+fn unlocks_text(state: SlotState) -> &'static str
+    ensures { result.now ≡ unlocks_text state }
+{
+    match state {
+        SlotState::Empty => "",
+        SlotState::Mem => ": MUNLOCK unlocks it",
+        SlotState::Vm { .. } => ": VUNLOCK unlocks it",
+        SlotState::Db { .. } => ": IUNLOCK unlocks it",
+    }
+}
+
+/// The instruction that marks what the slot holds; none where it is empty or holds a block that has no mark.
+fn marks_text(state: SlotState) -> &'static str
+    ensures { result.now ≡ marks_text state }
+{
+    match state {
+        SlotState::Empty | SlotState::Mem => "",
+        SlotState::Vm { .. } => ": VDIRTY marks it",
+        SlotState::Db { .. } => ": IDIRTY marks it",
+    }
+}
+
+/// The instruction that serves in the place of one that wants another kind.
+#[tactic(auto, unfolding(crate::specs::Uses::serving))]
+fn serving(slot: SlotUse, state: SlotState) -> &'static str
+    ensures { result.now ≡ serving slot state }
+{
+    match slot {
+        SlotUse::Unlocks(_) => unlocks_text(state),
+        SlotUse::Marks(_) => marks_text(state),
+        _ => "",
+    }
+}
+
 /// The second slot, where there are two.
 #[tactic(auto, unfolding(crate::specs::Uses::other_item))]
 fn put_other(out: &mut Vec<u8>, i: &Instr, slot: SlotUse, row: &Row) -> Result<(), AllocError>
@@ -350,7 +385,7 @@ fn put_other(out: &mut Vec<u8>, i: &Instr, slot: SlotUse, row: &Row) -> Result<(
     }
 }
 
-/// A slot is not held as the instruction wants it.
+/// A slot is not held as the instruction wants it, and what serves in its place.
 #[tactic(auto, unfolding(crate::specs::Uses::slot_words))]
 pub(crate) fn put_slot(
     out: &mut Vec<u8>,
@@ -362,5 +397,6 @@ pub(crate) fn put_slot(
 {
     put_state(out, i.a, row)?;
     put_other(out, i, slot, row)?;
-    out.extend_from_slice(slot_wish(slot).as_bytes())
+    out.extend_from_slice(slot_wish(slot).as_bytes())?;
+    out.extend_from_slice(serving(slot, slot_state(row, i.a)).as_bytes())
 }
