@@ -1,5 +1,5 @@
 -- Causes for which no rows or no numbers of steps are found for a routine, and what each says.
-use Rattle.std.specs.Prelude.{◌≡◌, ◌≤◌, ℕ, Bool, ◌&&◌, List, true, false, ◌==◌, Option, Some, None, slice_get}
+use Rattle.std.specs.Prelude.{◌≡◌, ◌≤◌, ℕ, Bool, ◌&&◌, List, [], ◌∷◌, true, false, ◌==◌, Option, Some, None, slice_get}
 use Rattle.geos_opcodes.specs.declared.opcode.Opcode.{Opcode}
 use Rattle.geos_opcodes.specs.declared.opcode.Opcode.TheVariants.{Setk, Setkw, Loop}
 use Rattle.geos_image.specs.declared.instr.Instr.{Instr}
@@ -23,10 +23,22 @@ abbrev pub is_loop : Opcode → Bool
 is_loop Loop = true
 is_loop _ = false
 
--- an instruction leads back, and from where it leads to up to itself no LOOP stands
-pub record NoLoopBack (image : Parts) (back : BackWay) : Type 0 where
-  pub leads : LeadsBack image back
-  pub none : (pc : ℕ) (point : Point) → back.to ≤ pc → pc ≤ back.from → slice_get image.points pc ≡ Some point → is_loop point.instr.opcode ≡ false
+-- the instruction at a pc has an edge to another that is no LOOP's way to its target, for which a counter may pay
+pub record LeadsUnpaid (image : Parts) (pc : ℕ) (branch : Bool) (to : ℕ) : Type 0 where
+  pub leads : LeadsTo image pc branch to
+  pub unpaid : (point : Point) → slice_get image.points pc ≡ Some point → (branch && is_loop point.instr.opcode) ≡ false
+
+-- such edges lead from a pc to another; each says whether it is the one to a target
+abbrev pub IsUnpaidWay : Parts → ℕ → List Bool → ℕ → Type 0
+IsUnpaidWay image from [] to = from ≡ to
+IsUnpaidWay image from (branch ∷ branches) to = (next : ℕ) × LeadsUnpaid image from branch next × IsUnpaidWay image next branches to
+
+-- an instruction leads back, and control can come from there to it again, and a LOOP's way to its target is never taken
+pub record GoesRound (image : Parts) (from to : ℕ) : Type 0 where
+  pub leads : LeadsUnpaid image from true to
+  pub order : to ≤ from
+  pub branches : List Bool
+  pub way : IsUnpaidWay image to branches from
 
 -- the instruction is a LOOP on this counter
 abbrev pub loops_on : ℕ → Instr → Opcode → Bool
@@ -73,7 +85,7 @@ pub record TouchesWithin (image : Parts) (within : Within) : Type 0 where
 -- the cause holds of the image's routine r
 abbrev pub Holds : Parts → ℕ → Cause → Type 0
 Holds image r (SlotsDiffer apart) = AreApart image r apart
-Holds image r (NoLoop back) = NoLoopBack image back
+Holds image r (NoLoop back) = GoesRound image back.from back.to
 Holds image r (SetWithin within) = SetsWithin image within
 Holds image r (TouchedWithin within) = TouchesWithin image within
 Holds image r StepsPass = ahead.StepsPass image r

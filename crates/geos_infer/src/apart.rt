@@ -31,7 +31,7 @@ pub struct Apart {
 }
 
 /// Where an edge of the instruction leads, if it has it and it stays in the routine.
-fn lead(body: &Body, pc: u16, branch: bool) -> Option<u16>
+pub(crate) fn lead(body: &Body, pc: u16, branch: bool) -> Option<u16>
     requires { pc < body.now.end }
     ensures leads { IfSome result (LeadsTo body.now.image.now pc branch) }
     ensures inside { IfSome result (λ to. to < 4096) }

@@ -1,7 +1,7 @@
 //! Why no rows or no numbers of steps are found for a routine.
 
 ghost use Rattle.std.specs.Prelude.{◌≡◌, ◌<◌, ◌≤◌, ℕ, true, false, Some, length, slice_get, IfSome, IfOk};
-ghost use Rattle.geos_infer.specs.Causes.{LeadsBack, NoLoopBack, PassesAt, is_loop, loops_on, sets_counter, calls_touching, NotesTouched, LoopsBack, SetsWithin, TouchesWithin, Holds};
+ghost use Rattle.geos_infer.specs.Causes.{LeadsBack, GoesRound, PassesAt, loops_on, sets_counter, calls_touching, NotesTouched, LoopsBack, SetsWithin, TouchesWithin, Holds};
 ghost use Rattle.geos_image.specs.declared.point.Point.{Point};
 
 use crate::ahead::steps_pass;
@@ -11,6 +11,7 @@ use crate::cycles::has_unpaid_cycle;
 use crate::edges::{edge_end, has_edge, is_loop};
 use crate::spent::{find_touched, touches};
 use crate::table::Table;
+use crate::unpaid::{Search, round_back};
 use geos_image::{Image, Instr, Opcode};
 use geos_verify::Touched;
 use std::alloc::{AllocError, Global};
@@ -40,7 +41,7 @@ pub struct Within {
 pub enum Cause {
     /// Ways of control meet, and slots differ in more than marks.
     SlotsDiffer(Apart),
-    /// A way leads back, and no LOOP stands on it or before its end.
+    /// A way leads back on a way round that nothing pays for.
     NoLoop(BackWay),
     /// The counter of a loop is set within it.
     SetWithin(Within),
@@ -72,31 +73,29 @@ fn back_at(body: &Body, from: u16) -> Option<BackWay>
     }
 }
 
-/// Whether no LOOP stands from a pc on up to another.
-fn no_loop(body: &Body, from: u16, to: u16) -> bool
-    requires { to < body.now.end }
-    ensures { result ≡ true → (pc : ℕ) (point : Point) → from ≤ pc → pc ≤ to → slice_get body.now.image.now.points pc ≡ Some point → is_loop point.instr.opcode ≡ false }
-{
-    for pc in from..to + 1 {
-        if is_loop(body.image.instr(pc).opcode) {
-            return false;
-        }
-    }
-    true
-}
-
-/// The first way that leads back without a LOOP.
-fn find_no_loop(body: &Body) -> Option<BackWay>
-    ensures { IfSome result (NoLoopBack body.now.image.now) }
+/// The first way that leads back on a way round that nothing pays for.
+fn find_no_loop(body: &Body, search: &mut Search) -> Option<BackWay>
+    ensures { IfSome result (λ back. GoesRound body.now.image.now back.from back.to) }
 {
     for from in body.start..body.end {
-        if let Some(back) = back_at(body, from) {
-            if no_loop(body, back.to, back.from) {
-                return Some(back);
-            }
+        if let Some(to) = round_back(body, search, from) {
+            return Some(BackWay { from, to });
         }
     }
     None
+}
+
+/// The same, where control can go round with no LOOP's way to its target at all, which takes less time to find.
+fn unpaid_back(alloc: Global, body: &Body) -> Result<Option<BackWay>, AllocError>
+    ensures { IfOk result (λ back. IfSome back (λ back. GoesRound body.now.image.now back.from back.to)) }
+{
+    let mut into = Table::new(alloc, 0)?;
+    let mut listed = Table::new(alloc, 0)?;
+    if !has_unpaid_cycle(body, &mut into, &mut listed) {
+        return Ok(None);
+    }
+    let mut search = Search::new(alloc)?;
+    Ok(find_no_loop(body, &mut search))
 }
 
 /// The first way that leads back.
@@ -254,15 +253,10 @@ fn find_touched_within(body: &Body, touched: &Touched) -> Option<Within>
 }
 
 /// Why no numbers of steps are found.
-fn cause_of_steps(body: &Body, unpaid: bool, touched: &Touched, steps: &mut Table<u64>) -> Cause
+fn cause_of_steps(body: &Body, touched: &Touched, steps: &mut Table<u64>) -> Cause
     requires { NotesTouched body.now.image.now touched.now }
     ensures { Holds body.now.image.now body.now.r result }
 {
-    if unpaid {
-        if let Some(back) = find_no_loop(body) {
-            return Cause::NoLoop(back);
-        }
-    }
     if let Some(within) = find_set_within(body) {
         return Cause::SetWithin(within);
     }
@@ -289,10 +283,9 @@ pub fn find_cause(alloc: Global, image: &Image, r: u16) -> Result<Cause, AllocEr
     if let Some(apart) = find_apart(alloc, &body)? {
         return Ok(Cause::SlotsDiffer(apart));
     }
-    let mut into = Table::new(alloc, 0)?;
-    let mut listed = Table::new(alloc, 0)?;
+    if let Some(back) = unpaid_back(alloc, &body)? {
+        return Ok(Cause::NoLoop(back));
+    }
     let mut steps = Table::new(alloc, 0)?;
-    let unpaid = has_unpaid_cycle(&body, &mut into, &mut listed);
-    let touched = find_touched(image);
-    Ok(cause_of_steps(&body, unpaid, &touched, &mut steps))
+    Ok(cause_of_steps(&body, &find_touched(image), &mut steps))
 }

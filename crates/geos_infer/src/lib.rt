@@ -28,6 +28,7 @@ mod seeds;
 mod spent;
 mod table;
 mod units;
+mod unpaid;
 mod unreached;
 mod ways;
 mod widening;

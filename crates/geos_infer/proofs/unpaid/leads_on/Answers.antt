@@ -1,0 +1,14 @@
+use Rattle.std.proofs.Common.{ℕ, List, Bool, [], ◌∷◌, refl, subst, arith}
+use Rattle.geos_infer.specs.Causes.{IsUnpaidWay}
+use Rattle.geos_infer.proofs.unpaid.leads_on.Goals as goal
+
+pub loop-init : goal.loop-init
+loop-init c = (let body = c.args.body.now in let room = body.room in let short = body.short in omega arith, ([], refl))
+
+pub returns-then-at-from : goal.returns-then-at-from
+returns-then-at-from c = λ is. subst (λ (n : ℕ). (branches : List Bool) × IsUnpaidWay c.args.body.now.image.now n branches c.args.to) c.if-at-from.true c.loop.invariant.1
+
+pub loop-preserved : goal.loop-preserved
+loop-preserved c =
+    let further = c.loop.invariant.1 in
+    (c.if-came-ge4096.false, (c.in-Some.came.branch ∷ further.0, (c.loop.at, c.came_to.ensures c.if-not-came_to.false, further.1)))
