@@ -11,7 +11,7 @@ use crate::cycles::has_unpaid_cycle;
 use crate::edges::{edge_end, has_edge, is_loop};
 use crate::spent::{find_touched, touches};
 use crate::table::Table;
-use crate::unpaid::{Search, round_back};
+use crate::unpaid::find_round;
 use geos_image::{Image, Instr, Opcode};
 use geos_verify::Touched;
 use std::alloc::{AllocError, Global};
@@ -73,19 +73,7 @@ fn back_at(body: &Body, from: u16) -> Option<BackWay>
     }
 }
 
-/// The first way that leads back on a way round that nothing pays for.
-fn find_no_loop(body: &Body, search: &mut Search) -> Option<BackWay>
-    ensures { IfSome result (λ back. GoesRound body.now.image.now back.from back.to) }
-{
-    for from in body.start..body.end {
-        if let Some(to) = round_back(body, search, from) {
-            return Some(BackWay { from, to });
-        }
-    }
-    None
-}
-
-/// The same, where control can go round with no LOOP's way to its target at all, which takes less time to find.
+/// A way that leads back on a way round that nothing pays for, if there is one.
 fn unpaid_back(alloc: Global, body: &Body) -> Result<Option<BackWay>, AllocError>
     ensures { IfOk result (λ back. IfSome back (λ back. GoesRound body.now.image.now back.from back.to)) }
 {
@@ -94,8 +82,10 @@ fn unpaid_back(alloc: Global, body: &Body) -> Result<Option<BackWay>, AllocError
     if !has_unpaid_cycle(body, &mut into, &mut listed) {
         return Ok(None);
     }
-    let mut search = Search::new(alloc)?;
-    Ok(find_no_loop(body, &mut search))
+    match find_round(alloc, body, &into)? {
+        Some((from, to)) => Ok(Some(BackWay { from, to })),
+        None => Ok(None),
+    }
 }
 
 /// The first way that leads back.

@@ -1,6 +1,6 @@
 //! Ways round that no counter pays for.
 
-ghost use Rattle.std.specs.Prelude.{◌≡◌, ◌<◌, ◌≤◌, true, List, Bool, IfSome};
+ghost use Rattle.std.specs.Prelude.{◌≡◌, ◌<◌, ◌≤◌, true, List, Bool, IfSome, IfOk};
 ghost use Rattle.geos_infer.specs.Causes.{LeadsUnpaid, IsUnpaidWay, GoesRound};
 
 use crate::apart::lead;
@@ -9,27 +9,11 @@ use crate::edges::is_loop;
 use crate::table::Table;
 use std::alloc::{AllocError, Global};
 
-/// The edge by which a place was come to first.
+/// An edge by which control comes to a place.
 #[derive(Clone, Copy)]
 struct Came {
     from: u16,
     branch: bool,
-}
-
-/// How control comes to places, and which these are, one behind another.
-#[derive(Drop)]
-pub(crate) struct Search {
-    came: Table<Option<Came>>,
-    listed: Table<u16>,
-}
-
-impl Search {
-    pub(crate) fn new(alloc: Global) -> Result<Search, AllocError> {
-        Ok(Search {
-            came: Table::new(alloc, None)?,
-            listed: Table::new(alloc, 0)?,
-        })
-    }
 }
 
 /// Where an edge of the instruction leads, if it has it, it stays in the routine, and it is no LOOP's way to its target.
@@ -47,40 +31,59 @@ fn lead_unpaid(body: &Body, pc: u16, branch: bool) -> Option<u16>
     }
 }
 
-/// Goes along an edge, and lists the place where it leads, unless one came there before; how many are listed then.
-fn go(body: &Body, search: &mut Search, pc: u16, branch: bool, count: u16) -> u16
+/// Notes where an edge leads, if it is a place into which edges are left, and no edge was noted there before.
+fn note(body: &Body, into: &Table<u16>, came: &mut Table<Option<Came>>, pc: u16, branch: bool)
     requires { pc < body.now.end }
 {
-    let Some(to) = lead_unpaid(body, pc, branch) else {
-        return count;
-    };
-    if search.came.at(to).is_some() || 4096 <= count {
-        return count;
+    if let Some(to) = lead_unpaid(body, pc, branch) {
+        if into.at(to) != 0 && came.at(to).is_none() {
+            came.set(to, Some(Came { from: pc, branch }));
+        }
     }
-    search.came.set(to, Some(Came { from: pc, branch }));
-    search.listed.set(count, to);
-    count + 1
 }
 
-/// Goes from a pc along all edges that no counter pays for.
-fn go_from(body: &Body, search: &mut Search, from: u16)
-    requires { from < body.now.end }
+/// Notes an edge into each place into which edges are left, from such a place.
+fn note_all(body: &Body, into: &Table<u16>, came: &mut Table<Option<Came>>) {
+    for pc in body.start..body.end {
+        if into.at(pc) != 0 {
+            note(body, into, came, pc, false);
+            note(body, into, came, pc, true);
+        }
+    }
+}
+
+/// The edge that is noted at a place.
+fn edge_into(came: &Table<Option<Came>>, pc: u16) -> Option<Came>
+    requires { pc < 4096 }
+    ensures { IfSome result (λ edge. edge.from < 4096) }
+{
+    match came.at(pc) {
+        Some(edge) if edge.from < 4096 => Some(edge),
+        _ => None,
+    }
+}
+
+/// The first place into which an edge is noted.
+fn first_place(body: &Body, came: &Table<Option<Came>>) -> Option<u16>
+    ensures { IfSome result (λ pc. pc < 4096) }
 {
     for pc in body.start..body.end {
-        search.came.set(pc, None);
-    }
-    search.listed.set(0, from);
-    let mut count = 1;
-    for at in 0..body.end - body.start {
-        if count <= at {
-            return;
-        }
-        let pc = search.listed.at(at);
-        if pc < body.end {
-            count = go(body, search, pc, false, count);
-            count = go(body, search, pc, true, count);
+        if came.at(pc).is_some() {
+            return Some(pc);
         }
     }
+    None
+}
+
+/// A place on a way round: one goes back along the edges that are noted for so long that some place comes twice.
+fn place_on_round(body: &Body, came: &Table<Option<Came>>) -> Option<u16>
+    ensures { IfSome result (λ pc. pc < 4096) }
+{
+    let mut at = first_place(body, came)?;
+    for _ in body.start..body.end {
+        at = edge_into(came, at)?.from;
+    }
+    Some(at)
 }
 
 /// Whether the edge that is noted at a place leads there.
@@ -97,7 +100,7 @@ fn came_to(body: &Body, came: Came, to: u16) -> bool
 }
 
 /// Whether the edges that are noted lead from one pc to another.
-fn leads_on(body: &Body, search: &Search, from: u16, to: u16) -> bool
+fn leads_on(body: &Body, came: &Table<Option<Came>>, from: u16, to: u16) -> bool
     requires { to < body.now.end }
     ensures { result ≡ true → (branches : List Bool) × IsUnpaidWay body.now.image.now from branches to }
 {
@@ -106,30 +109,59 @@ fn leads_on(body: &Body, search: &Search, from: u16, to: u16) -> bool
         if at == from {
             return true;
         }
-        let Some(came) = search.came.at(at) else {
+        let Some(edge) = edge_into(came, at) else {
             return false;
         };
-        if !came_to(body, came, at) || 4096 <= came.from {
+        if !came_to(body, edge, at) {
             return false;
         }
-        at = came.from;
+        at = edge.from;
     }
     false
 }
 
-/// Where the instruction at a pc leads back to, if control can come from there to it again and no counter pays for that.
-pub(crate) fn round_back(body: &Body, search: &mut Search, from: u16) -> Option<u16>
-    requires { from < body.now.end }
-    ensures { IfSome result (GoesRound body.now.image.now from) }
+/// Whether an instruction leads back to a pc from which the edges that are noted lead to it again.
+fn goes_round(body: &Body, came: &Table<Option<Came>>, from: u16, to: u16) -> bool
+    ensures { result ≡ true → GoesRound body.now.image.now from to }
 {
-    let to = lead_unpaid(body, from, true)?;
-    if from < to {
-        return None;
+    if body.end <= from || from < to {
+        return false;
     }
-    go_from(body, search, to);
-    if leads_on(body, search, to, from) {
-        Some(to)
-    } else {
-        None
+    match lead_unpaid(body, from, true) {
+        Some(there) => there == to && leads_on(body, came, to, from),
+        None => false,
+    }
+}
+
+/// The way back on the way round that a place is on: where it comes from, and where it leads.
+fn back_on_round(body: &Body, came: &Table<Option<Came>>, place: u16) -> Option<(u16, u16)>
+    requires { place < 4096 }
+    ensures { IfSome result (λ both. GoesRound body.now.image.now both.0 both.1) }
+{
+    let mut at = place;
+    for _ in body.start..body.end {
+        let from = edge_into(came, at)?.from;
+        if goes_round(body, came, from, at) {
+            return Some((from, at));
+        }
+        at = from;
+    }
+    None
+}
+
+/// A way back from whose end control can come to it again and no counter pays for that, where the table says how many
+/// edges are left into each place once those from places on no way round were taken away.
+pub(crate) fn find_round(
+    alloc: Global,
+    body: &Body,
+    into: &Table<u16>,
+) -> Result<Option<(u16, u16)>, AllocError>
+    ensures { IfOk result (λ round. IfSome round (λ both. GoesRound body.now.image.now both.0 both.1)) }
+{
+    let mut came = Table::new(alloc, None)?;
+    note_all(body, into, &mut came);
+    match place_on_round(body, &came) {
+        Some(place) => Ok(back_on_round(body, &came, place)),
+        None => Ok(None),
     }
 }
