@@ -1,6 +1,6 @@
-"""Sets each byte that is read of two VM files with one header to each value, and cuts the files at each length; and compares what the
-program of `file_trials` answers with a second reading of files: the directories and the bytes of blocks, or the offset of the first
-fault. Of a cut file it says only whether it is opened, or where the fault is.
+"""Sets each byte that is read of two VM files with one header to each value, and each other byte to some, and cuts the files at each length;
+and compares what the program of `file_trials` answers with a second reading of files: the directories and the bytes of blocks, or the
+offset of the first fault. Of a cut file it says only whether it is opened, or where the fault is.
 
     python3 damaged_files.py PROGRAM
 """
@@ -19,6 +19,8 @@ AREA = 512
 SIZE = 64
 # Where the last zero byte of the header stands, and the selector behind it.
 SELECTOR = 512
+# What a byte that is not read is set to: the same pair is to be found, whatever it is.
+OTHER_VALUES = (0, 1, 64, 255)
 
 
 def words(*numbers):
@@ -81,9 +83,9 @@ class Lines:
                 self.ask(f"{line} {handle}", runs(block) if len(block) == SIZE else "not asked: no such block")
         return None
 
-    def change(self, data, at):
-        """Wants the answers to a file with a byte set to each value, and sets it back."""
-        for value in range(256):
+    def change(self, data, at, values=range(256)):
+        """Wants the answers to a file with a byte set to each of these values, and sets it back."""
+        for value in values:
             self.ask(f"write {at} 1 {value}")
             self.open(data[:at] + bytes([value]) + data[at + 1 :])
         self.ask(f"write {at} 1 {data[at]}")
@@ -144,6 +146,10 @@ def damage(program, lines, data, pair, first):
     read = [*range(first, SELECTOR + 1), *range(start, start + len(b"".join(map(file_reading.spell_directory, pair))))]
     for at in read:
         lines.change(data, at)
+    others = [at for at in range(SELECTOR + 1, len(data)) if at not in read]
+    for at in others:
+        assert all(file_reading.read(data[:at] + bytes([value]) + data[at + 1 :]) == pair for value in OTHER_VALUES)
+        lines.change(data, at, OTHER_VALUES)
     lines.ask("keep")
     for length in range(len(data) + 1):
         lines.cut(data, length)
@@ -152,7 +158,7 @@ def damage(program, lines, data, pair, first):
         lines.give(other)
         lines.open(other)
     lines.compare(program)
-    print(f"{256 * len(read)} changed files, {len(data) + 1} cut ones")
+    print(f"{256 * len(read)} changed files, {len(OTHER_VALUES) * len(others)} with another byte that is not read, {len(data) + 1} cut ones")
     print(f"{lines.opened} opened", file=sys.stderr)
 
 
