@@ -8,7 +8,7 @@ ghost use Rattle.geos_dump.specs.DumpText.{chunks_from, chunk_dump, chunk_text};
 
 use crate::hex::put_hex_lines;
 use crate::numbers::put_numbered;
-use lmem_heap::{locate, next};
+use lmem_block::{locate, next};
 use std::alloc::AllocError;
 
 /// The bytes of a handle's chunk; none where no chunk has this handle.

@@ -12,7 +12,7 @@ use crate::error::DumpError;
 use crate::numbers::put_numbered;
 use crate::sides::{Side, count, directory, entry_at, read_block};
 use crate::text::{MOST_BYTES, put_directory_line};
-use lmem_heap::total_free;
+use lmem_block::total_free;
 use std::alloc::{AllocError, Global};
 use vm_file::{Device, Entry, GROUP_UID, VmFile};
 

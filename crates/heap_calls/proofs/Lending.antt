@@ -15,7 +15,7 @@ use Rattle.block_handles.specs.Change.{with_bytes}
 use Rattle.block_handles.specs.Names.{slot_of}
 use Rattle.block_handles.specs.Store.{Store, IsThere, bytes_of}
 use Rattle.lmem_heap.specs.declared.error.RoomError.{RoomError}
-use Rattle.lmem_heap.specs.declared.error.BadChunk as lmem
+use Rattle.lmem_block.specs.declared.look.BadChunk as lmem
 use Rattle.lmem_heap.specs.declared.error.ReallocError.{ReallocError}
 use Rattle.lmem_heap.specs.declared.error.ReallocError.TheVariants as realloc
 use Rattle.lmem_heap.specs.declared.error.InsertError.{InsertError}

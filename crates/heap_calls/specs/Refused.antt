@@ -3,7 +3,7 @@ use Rattle.std.specs.Prelude.{ℕ, Result, Ok, Err}
 use Rattle.geos_model.specs.declared.refusal.Refusal.{Refusal}
 use Rattle.geos_model.specs.declared.refusal.Refusal.TheVariants.{BadChunk, BadArray, BadElement, Range}
 use Rattle.lmem_heap.specs.declared.error.RoomError.{RoomError}
-use Rattle.lmem_heap.specs.declared.error.BadChunk as heap
+use Rattle.lmem_block.specs.declared.look.BadChunk as heap
 use Rattle.lmem_heap.specs.declared.error.ReallocError.{ReallocError}
 use Rattle.lmem_heap.specs.declared.error.ReallocError.TheVariants as realloc
 use Rattle.lmem_heap.specs.declared.error.InsertError.{InsertError}

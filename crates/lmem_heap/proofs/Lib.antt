@@ -1,7 +1,3 @@
-pub mod Fresh
-pub mod Marking
-pub mod Counting
-pub mod Walking
 pub mod Movers
 pub mod Closing
 pub mod Sliding

@@ -1,20 +1,7 @@
--- What the calls find, and what they do to the chunks.
-use Rattle.std.specs.Prelude.{◌≡◌, ◌≢◌, ℕ, ◌+◌, ◌-◌, ◌<◌, List, Option, Some, None, length, replicate, slice_set, IsSome}
+-- What the calls do to the chunks.
+use Rattle.std.specs.Prelude.{ℕ, ◌+◌, ◌-◌, List, Option, Some, length, replicate, slice_set}
 use Rattle.lmem_raw.specs.Bytes.{part, with_part}
-use Rattle.geos_model.specs.Chunks.{chunk_of, entry_bytes, handle_of, resized}
-use Rattle.geos_model.specs.Block.{entries, entry}
-
--- the entry of a handle that has a chunk
-abbrev pub HasEntry : List ℕ → ℕ → ℕ → Type 0
-HasEntry block c i = (c ≡ handle_of i) × (i < entries block) × (entry block i ≢ 0)
-
--- no handle above c has a chunk
-abbrev pub IsLast : List (Option (List ℕ)) → ℕ → Type 0
-IsLast chunks c = (h : ℕ) → c < h → chunk_of chunks h ≡ None
-
--- the lowest handle above c that has a chunk
-abbrev pub IsNext : List (Option (List ℕ)) → ℕ → ℕ → Type 0
-IsNext chunks c h = (c < h) × IsSome (chunk_of chunks h) × ((k : ℕ) → c < k → k < h → chunk_of chunks k ≡ None)
+use Rattle.geos_model.specs.Chunks.{entry_bytes, resized}
 
 -- the chunk of an entry has got n bytes
 abbrev pub entry_resized : List (Option (List ℕ)) → ℕ → ℕ → List (Option (List ℕ))

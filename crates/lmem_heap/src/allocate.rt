@@ -6,11 +6,10 @@ ghost use Rattle.geos_model.specs.Heap.{IsHeap};
 ghost use Rattle.lmem_heap.specs.Refusals.{IsRoomError};
 
 use crate::chunks::{new_chunk, release_chunk};
-use crate::error::{BadChunk, RoomError};
-use crate::header::{entries, handle_of};
-use crate::look::find;
+use crate::error::RoomError;
 use crate::room::{room_for, used_with_new};
 use crate::table::{add_entries, lowest_entry};
+use lmem_block::{BadChunk, entries, find, handle_of};
 
 /// Makes a chunk of `n` zero bytes and answers its handle: the lowest one that is not in use.
 /// Where all entries of the table are in use, it gets two more. Other chunks may move.

@@ -7,11 +7,10 @@ ghost use Rattle.lmem_heap.specs.Holes.{GivesBack, PlacesChunk, ResizesChunk};
 ghost use Rattle.lmem_heap.specs.Changes.{entry_resized};
 ghost use Rattle.lmem_heap.specs.Packed.{chunks_end, chunk_end, chunk_length, EditsChunk, HasResized, IsPacked, PutsChunk};
 
-use crate::header::{NO_BYTE, entry, put_entry};
 use crate::holes::Hole;
 use crate::runs::move_run;
 use crate::tail::{chunks_end, pack, set_tail};
-use crate::words::{clear, get16, put16};
+use lmem_block::{NO_BYTE, clear, entry, get16, put_entry, put16};
 
 /// What a chunk of n bytes takes: its size word and its bytes, filled up to fours.
 pub(crate) fn cost(n: usize) -> usize

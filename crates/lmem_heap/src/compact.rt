@@ -6,11 +6,10 @@ ghost use Rattle.geos_model.specs.Heap.{IsHeader, IsHeap, IsCompact};
 ghost use Rattle.lmem_heap.specs.Slides.{IsButForEntries};
 ghost use Rattle.lmem_heap.specs.Gaps.{ClosesGaps, IsFirstGap};
 
-use crate::header::FIRST_FREE;
 use crate::runs::move_run;
 use crate::slides::{MOST_SLIDES, Slide, write_entries};
-use crate::words::{get16, move_bytes, put16};
 use arrayvec::ArrayVec;
+use lmem_block::{FIRST_FREE, get16, move_bytes, put16};
 
 /// Moves the chunks together, so that at most one free chunk is left, at the block's end.
 /// Every chunk keeps its handle and its bytes. Each byte moves at most once.

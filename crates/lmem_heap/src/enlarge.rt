@@ -3,9 +3,8 @@ ghost use Rattle.std.specs.Prelude.{◌≡◌, ◌≤◌, length, take};
 ghost use Rattle.geos_model.specs.Block.{chunks, handle_word};
 ghost use Rattle.geos_model.specs.Heap.{IsBlockSize, IsHeap};
 
-use crate::header::BLOCK_SIZE;
 use crate::holes::Hole;
-use crate::words::put16;
+use lmem_block::{BLOCK_SIZE, put16};
 
 /// Makes the bytes behind a heap part of it, as free bytes. The first `old_size` bytes are the
 /// heap as it was, and the block's length is its new size, a legal one. Every chunk keeps its

@@ -1,12 +1,8 @@
 //! Why calls refuse. After a refusal the block is as it was.
 ghost use Rattle.std.specs.Prelude.{◌≡◌};
 
+use lmem_block::BadChunk;
 use thiserror::Error;
-
-/// No chunk has this handle.
-#[derive(Clone, Copy, Debug, Drop, PartialEq, Eq, Error)]
-#[error("no chunk has this handle")]
-pub struct BadChunk;
 
 /// Why a block has no room for a chunk, or for more bytes of one.
 #[derive(Clone, Copy, Debug, Drop, PartialEq, Eq, Error)]

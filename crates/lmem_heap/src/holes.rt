@@ -9,8 +9,7 @@ ghost use Rattle.lmem_heap.specs.Packed.{chunk_end, chunk_length};
 ghost use Rattle.lmem_heap.specs.Holes.{FitsBehind, GivesBack, IsBeside, IsOpen, MakesRoom, Widens};
 
 use crate::chunks::cost;
-use crate::header::{FIRST_FREE, TOTAL_FREE, entry, put_entry};
-use crate::words::{clear, get16, move_bytes, put16};
+use lmem_block::{FIRST_FREE, TOTAL_FREE, clear, entry, get16, move_bytes, put_entry, put16};
 
 /// The bytes of a hole, and the link of the free list before it: the offset of the word that
 /// names the next free chunk, which is the header's or that of the last free chunk before the

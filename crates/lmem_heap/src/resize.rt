@@ -12,9 +12,8 @@ ghost use Rattle.lmem_heap.specs.DeleteErrors.{IsDeleteError};
 
 use crate::chunks::resize_chunk;
 use crate::error::{DeleteError, InsertError, ReallocError, RoomError};
-use crate::look::{find, place_of_entry};
 use crate::room::{room_for, used_with};
-use crate::words::{clear, move_bytes};
+use lmem_block::{clear, find, move_bytes, place_of_entry};
 
 /// Gives a chunk `n` bytes: its first ones that fit, and zeros behind them. Other chunks may
 /// move.

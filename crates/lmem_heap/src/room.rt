@@ -7,9 +7,7 @@ ghost use Rattle.lmem_heap.specs.Refusals.{IsRoomError};
 
 use crate::chunks::cost;
 use crate::error::RoomError;
-use crate::header::{TOTAL_FREE, entries};
-use crate::look::place_of_entry;
-use crate::words::get16;
+use lmem_block::{TOTAL_FREE, entries, get16, place_of_entry};
 
 /// Whether a block of this size has room for so many bytes; else how large it must be.
 pub(crate) fn room_for(used: usize, size: usize) -> Result<(), RoomError>

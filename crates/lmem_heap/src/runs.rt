@@ -3,8 +3,7 @@ ghost use Rattle.std.specs.Prelude.{◌≡◌, ℕ, ◌+◌, ◌-◌, ◌≤◌,
 ghost use Rattle.geos_model.specs.Block.{entries, table_end};
 ghost use Rattle.lmem_heap.specs.Moves.{entry_moved, MapsEntries, MovesRun};
 
-use crate::header::{entries, entry, put_entry};
-use crate::words::move_bytes;
+use lmem_block::{entries, entry, move_bytes, put_entry};
 
 /// Moves the chunks that stand from `from` to `end` so that they begin at `to`, and their
 /// entries with them.

@@ -4,7 +4,7 @@ ghost use Rattle.geos_model.specs.Block.{entries, entry, entry_offset, table_end
 ghost use Rattle.lmem_heap.specs.Moves.{entry_moved, MapsEntries};
 ghost use Rattle.lmem_heap.specs.Slides.{AreInOrder, entry_slid, run_at};
 
-use crate::header::{entries, entry, put_entry};
+use lmem_block::{entries, entry, put_entry};
 
 /// How many runs move before the table is written.
 pub(crate) const MOST_SLIDES: usize = 128;

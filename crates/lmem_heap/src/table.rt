@@ -5,10 +5,9 @@ ghost use Rattle.geos_model.specs.Block.{chunks, entries, entry, entry_offset, h
 ghost use Rattle.geos_model.specs.Heap.{IsHeap};
 ghost use Rattle.lmem_heap.specs.Packed.{GrowsTable, IsPacked};
 
-use crate::header::{ENTRIES, entries, entry, table_end};
 use crate::runs::move_run;
 use crate::tail::{chunks_end, pack, set_tail};
-use crate::words::put16;
+use lmem_block::{ENTRIES, entries, entry, put16, table_end};
 
 /// How many entries are compared together.
 const RUN: usize = 16;

@@ -5,8 +5,7 @@ ghost use Rattle.geos_model.specs.Heap.{IsHeap};
 ghost use Rattle.lmem_heap.specs.Packed.{chunks_end, IsPacked, SetsTail};
 
 use crate::compact::contract;
-use crate::header::{FIRST_FREE, TOTAL_FREE};
-use crate::words::{get16, put16};
+use lmem_block::{FIRST_FREE, TOTAL_FREE, get16, put16};
 
 /// Moves the chunks together, with all free bytes behind them.
 pub(crate) fn pack(block: &mut [u8])

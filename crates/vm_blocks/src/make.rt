@@ -25,7 +25,7 @@ fn begin(blocks: &mut Blocks, h: u16)
     requires size { size_of blocks.old (vm_slot h) ≡ 64 }
     ensures { Begins blocks.old blocks.new h }
 {
-    lmem_heap::init(blocks.bytes_mut(Name::vm(h)), h);
+    lmem_block::init(blocks.bytes_mut(Name::vm(h)), h);
 }
 
 impl<D: Device + Drop> VmBlocks<D> {

@@ -15,7 +15,7 @@ use crate::entries::entries_length;
 use crate::error::OpenError;
 use crate::fields::{count_at, head_at, maps_at};
 use arrayvec::ArrayVec;
-use lmem_heap::check;
+use lmem_block::check;
 
 /// The greatest size of a block.
 pub(crate) const MOST_BYTES: usize = 65520;

@@ -1,0 +1,4 @@
+pub mod Fresh
+pub mod Marking
+pub mod Counting
+pub mod Walking

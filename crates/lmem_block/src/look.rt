@@ -1,0 +1,107 @@
+//! Calls that look at a heap.
+ghost use Rattle.std.specs.Prelude.{◌≡◌, ◌≢◌, ℕ, ◌+◌, ◌*◌, ◌<◌, ◌≤◌, length, MatchResult, MatchOption, IfOk, IsSome, IsSomeAnd};
+ghost use Rattle.lmem_raw.specs.Bytes.{part};
+ghost use Rattle.geos_model.specs.Bytes.{word};
+ghost use Rattle.geos_model.specs.Chunks.{chunk_of, handle_of, used_bytes};
+ghost use Rattle.geos_model.specs.Block.{chunks, entries, entry, table_end, place_of, place_at, IsPlaced};
+ghost use Rattle.geos_model.specs.Heap.{IsHeap};
+ghost use Rattle.lmem_block.specs.Found.{HasEntry, IsLast, IsNext};
+
+use crate::header::{NO_BYTE, TABLE, TOTAL_FREE, entries, entry, handle_of};
+use crate::words::get16;
+use thiserror::Error;
+
+/// No chunk has this handle.
+#[derive(Clone, Copy, Debug, Drop, PartialEq, Eq, Error)]
+#[error("no chunk has this handle")]
+pub struct BadChunk;
+
+/// The entry of a chunk's handle. `BadChunk` where no chunk has it.
+pub fn find(block: &[u8], c: u16) -> Result<usize, BadChunk>
+    requires { IsHeap block.now }
+    ensures place { MatchResult result (λ i. place_of block.now c ≡ place_at block.now (entry block.now i)) (λ _. place_of block.now c ≡ None) }
+    ensures found { MatchResult result (λ i. HasEntry block.now c i) (λ _. chunk_of (chunks block.now) c ≡ None) }
+{
+    // below the table it wraps, and is past the last entry then
+    let at = c.wrapping_sub(TABLE as u16) as usize;
+    let i = at / 2;
+    if at % 2 != 0 || i >= entries(block) || entry(block, i) == 0 {
+        return Err(BadChunk);
+    }
+    Ok(i)
+}
+
+/// Where the bytes of an entry's chunk stand, and how many there are.
+pub fn place_of_entry(block: &[u8], i: usize) -> (usize, u16)
+    requires heap { IsHeap block.now }
+    requires known { i < entries block.now }
+    requires used { entry block.now i ≢ 0 }
+    ensures within { result.0 + result.1 ≤ length block.now }
+    ensures place { place_at block.now (entry block.now i) ≡ Some (record { at = result.0; len = result.1 }) }
+{
+    let at = entry(block, i);
+    if at == NO_BYTE {
+        return (0, 0);
+    }
+    let at = at as usize;
+    (at, get16(block, at - 2) - 2)
+}
+
+/// The length of a chunk in bytes. `BadChunk` exactly where no chunk has this handle.
+pub fn size(block: &[u8], c: u16) -> Result<u16, BadChunk>
+    requires { IsHeap block.now }
+    ensures { MatchResult result (λ n. IsSomeAnd (chunk_of (chunks block.now) c) (λ bytes. length bytes ≡ n)) (λ _. chunk_of (chunks block.now) c ≡ None) }
+{
+    let (_, n) = place(block, c)?;
+    Ok(n)
+}
+
+/// Where the bytes of a chunk stand: the offset of the first one, and how many there are. A
+/// chunk of no byte has offset 0. `BadChunk` exactly where no chunk has this handle. Bytes may
+/// be written there: see `writes_stay_in_their_chunk`.
+pub fn place(block: &[u8], c: u16) -> Result<(u16, u16), BadChunk>
+    requires { IsHeap block.now }
+    ensures within { IfOk result (λ p. p.0 + p.1 ≤ length block.now) }
+    ensures place { MatchResult result (λ p. IsPlaced block.now c p.0 p.1) (λ _. place_of block.now c ≡ None) }
+    ensures bytes { MatchResult result (λ p. chunk_of (chunks block.now) c ≡ Some (part block.now p.0 p.1)) (λ _. chunk_of (chunks block.now) c ≡ None) }
+{
+    let (at, n) = locate(block, c)?;
+    Ok((at as u16, n))
+}
+
+/// Where the bytes of a chunk stand, as `place` says it, the offset as an index of the block.
+/// `BadChunk` exactly where no chunk has this handle.
+// The compiler makes one number of a pair of words, and takes it apart again; not of this pair.
+pub fn locate(block: &[u8], c: u16) -> Result<(usize, u16), BadChunk>
+    requires { IsHeap block.now }
+    ensures within { IfOk result (λ p. p.0 + p.1 ≤ length block.now) }
+    ensures place { MatchResult result (λ p. IsPlaced block.now c p.0 p.1) (λ _. place_of block.now c ≡ None) }
+    ensures bytes { MatchResult result (λ p. chunk_of (chunks block.now) c ≡ Some (part block.now p.0 p.1)) (λ _. chunk_of (chunks block.now) c ≡ None) }
+{
+    let i = find(block, c)?;
+    Ok(place_of_entry(block, i))
+}
+
+/// The bytes that are free: the block's size less the header, the table, and what each chunk
+/// takes with its size word and its padding.
+pub fn total_free(block: &[u8]) -> u16
+    requires { IsHeap block.now }
+    ensures { result + used_bytes (chunks block.now) ≡ length block.now }
+{
+    get16(block, TOTAL_FREE)
+}
+
+/// The lowest handle above `c` that has a chunk, or none where there is none.
+pub fn next(block: &[u8], c: u16) -> Option<u16>
+    requires { IsHeap block.now }
+    ensures { MatchOption result (IsLast (chunks block.now) c) (λ h. IsNext (chunks block.now) c h) }
+{
+    let c = c as usize;
+    let first = if c < TABLE { 0 } else { (c - TABLE) / 2 + 1 };
+    for i in first..entries(block) {
+        if entry(block, i) != 0 {
+            return Some(handle_of(i));
+        }
+    }
+    None
+}

@@ -1,6 +1,0 @@
-use Rattle.std.proofs.Common.{◌≡◌, ℕ, ◌<◌, ◌≤◌}
-use Rattle.geos_model.specs.Block.{entry}
-use Rattle.lmem_heap.proofs.look.next.Given as goal
-
-abbrev pub invariant-loop-i : goal.invariant-loop-i
-invariant-loop-i l = (j : ℕ) → l.first ≤ j → j < l.i → entry l.block j ≡ 0
