@@ -21,8 +21,9 @@ use Rattle.geos_kernel.proofs.Seen.{file-on}
 use Rattle.geos_cli.specs.declared.script.Call.{Call}
 use Rattle.geos_cli.specs.declared.script.Command.{Command}
 use Rattle.geos_cli.specs.declared.script.Command.TheVariants as command
-use Rattle.geos_cli.specs.Counted.{AppendsPart}
-use Rattle.geos_cli.specs.Script.{printed, committed, commands_of, most_bytes, Does, Prints, PrintsPart, Leads, RanCommand, StoppedCommand, RanCommands, StoppedCommands, Loads, RanScript, StoppedScript}
+use Rattle.geos_input.specs.Counted.{AppendsPart}
+use Rattle.geos_cli.specs.Script.{printed, committed, commands_of, Does, Prints, PrintsPart, Leads, RanCommand, StoppedCommand, RanCommands, StoppedCommands, Loads, RanScript, StoppedScript}
+use Rattle.geos_input.specs.Reading.{most_bytes}
 use Rattle.geos_cli.proofs.Prints.{prints-more, does-wider, prints-wider}
 
 -- One command

@@ -2,7 +2,7 @@
 use Rattle.std.proofs.Common.{◌≡◌, [], ◌∷◌, Some, None, refl}
 use Rattle.std.specs.Prelude.{codes}
 use Rattle.std.specs.Str.Lines.{lines}
-use Rattle.geos_cli.specs.Hex.{hex_fault, image_bytes, script_lines}
+use Rattle.geos_input.specs.Hex.{hex_fault, image_bytes, script_lines}
 use Rattle.geos_cli.specs.Script.{registers_of}
 
 -- missing numbers of a call are 0

@@ -1,7 +1,5 @@
 pub mod Commands
-pub mod Digits
 pub mod Examples
-pub mod HexLines
 pub mod Parts
 pub mod Prints
 pub mod CommandsRun

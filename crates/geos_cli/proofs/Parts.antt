@@ -4,7 +4,7 @@ use Rattle.std.specs.Prelude.{Option, Result, Ok, Err, IfOk, IfErr, decimal}
 use Rattle.std.specs.Io.KnownBytes.{Appends}
 use Rattle.std.proofs.KnownBytes.{Appends-nil, Appends-trans}
 use Rattle.std.proofs.lemmas.Grind.{flat_map-append}
-use Rattle.geos_cli.specs.Counted.{AppendsPart}
+use Rattle.geos_input.specs.Counted.{AppendsPart}
 use Rattle.geos_cli.specs.Script.{printed}
 
 -- what holds at all holds at each error

@@ -10,12 +10,13 @@ use Rattle.geos_table.specs.Effects.{Choice}
 use Rattle.geos_kernel.specs.View.{KernelState, memory_of, IsFileOf}
 use Rattle.geos_kernel.specs.Kernel.{IsChosen}
 use Rattle.geos_image.specs.Parts.{Parts}
-use Rattle.geos_cli.specs.Hex.{hex_fault, image_bytes, script_lines, IsBadHex}
-use Rattle.geos_cli.specs.Script.{most_bytes, commands_of, Runs, Stops, Loads, RunsScript, RanScript, StoppedScript}
+use Rattle.geos_input.specs.Hex.{hex_fault, image_bytes, script_lines, IsBadHex}
+use Rattle.geos_cli.specs.Script.{commands_of, Runs, Stops, Loads, RunsScript, RanScript, StoppedScript}
+use Rattle.geos_input.specs.Reading.{most_bytes, Reads}
 use Rattle.geos_cli.proofs.Prints.{prints-wider, part-wider}
-use Rattle.geos_cli.specs.declared.fault.ScriptFault.{ScriptFault}
-use Rattle.geos_cli.specs.declared.fault.ScriptFault.TheVariants.{TooLong, BadHex, BadImage, Rejected, BadScript, Read, Write, Memory}
-use Rattle.geos_cli.specs.Session.{Reads, IsGivenNothing, no_blocks, RanBytes, StoppedBytes, EndsBytes, RanSession, StoppedSession, EndsSession}
+use Rattle.geos_input.specs.declared.fault.ScriptFault.{ScriptFault}
+use Rattle.geos_input.specs.declared.fault.ScriptFault.TheVariants.{TooLong, BadHex, BadImage, Rejected, BadScript, Read, Write, Memory}
+use Rattle.geos_cli.specs.Session.{IsGivenNothing, no_blocks, RanBytes, StoppedBytes, EndsBytes, RanSession, StoppedSession, EndsSession}
 
 -- what holds of a fault holds of it where it is passed on
 pub passed-on : {A E : Type 0} (P : E → Type 0) (result : Result A E) (e : E) → IsErrAnd result (λ x. x ≡ e) → P e → IfErr result P

@@ -1,5 +1,2 @@
-pub mod Counted
-pub mod Fault
-pub mod Hex
 pub mod Script
 pub mod Session

@@ -23,11 +23,12 @@ use Rattle.geos_image.specs.Reading.{image_at}
 use Rattle.geos_verify.specs.Rules.{Accepted, FirstRefusal}
 use Rattle.geos_machine.specs.declared.outcome.Outcome.{Outcome}
 use Rattle.geos_machine.specs.Runs.{admits, Ran}
+use Rattle.geos_input.specs.Reading.{most_bytes}
 use Rattle.geos_cli.specs.declared.script.Call.{Call}
 use Rattle.geos_cli.specs.declared.script.Command.{Command}
 use Rattle.geos_cli.specs.declared.script.Command.TheVariants as command
-use Rattle.geos_cli.specs.declared.fault.ScriptFault.{ScriptFault}
-use Rattle.geos_cli.specs.declared.fault.ScriptFault.TheVariants.{TooLong, BadHex, BadImage, Rejected, BadScript, Read, Write, Memory}
+use Rattle.geos_input.specs.declared.fault.ScriptFault.{ScriptFault}
+use Rattle.geos_input.specs.declared.fault.ScriptFault.TheVariants.{TooLong, BadHex, BadImage, Rejected, BadScript, Read, Write, Memory}
 use Rattle.geos_text.specs.Words.{is_empty, words, without_comment}
 use Rattle.geos_text.specs.Numbers.{number_of}
 
@@ -200,10 +201,6 @@ EndsBy bytes lines Memory = Unit {0}
 EndsBy bytes lines TooLong = ⊥
 EndsBy bytes lines (BadHex line) = ⊥
 EndsBy bytes lines Read = ⊥
-
--- the most bytes of a script or a session
-abbrev pub most_bytes : ℕ
-most_bytes = 1048576
 
 -- the script runs on the image that the bytes spell, from memory to memory, and prints the text
 abbrev pub RunsScript : (Choice → Type 0) → List ℕ → List ℕ → model.Memory → model.Memory → List ℕ → Type 0

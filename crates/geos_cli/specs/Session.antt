@@ -1,18 +1,15 @@
 -- What a session is, and when it ends early.
 use Rattle.std.specs.Prelude.{◌≡◌, ◌<◌, ◌≤◌, ◌⊎◌, ℕ, List, [], length, replicate, Option, Some, None}
 use Rattle.std.specs.Str.Lines.{lines}
-use Rattle.std.specs.Io.KnownBytes.{Appends, Consumes, IsAtEnd}
+use Rattle.std.specs.Io.KnownBytes.{Appends, Consumes}
 use Rattle.geos_table.specs.VmFile.{empty_file}
 use Rattle.geos_table.specs.Memory as model
 use Rattle.geos_table.specs.Effects.{Choice}
-use Rattle.geos_cli.specs.declared.fault.ScriptFault.{ScriptFault}
-use Rattle.geos_cli.specs.declared.fault.ScriptFault.TheVariants.{TooLong, BadHex, Read, Memory}
-use Rattle.geos_cli.specs.Hex.{hex_fault, image_bytes, script_lines}
-use Rattle.geos_cli.specs.Script.{most_bytes, Runs, Stops, EndsBy}
-
--- a reader gave the bytes, and has no more, where that is known
-abbrev pub Reads : Option (List ℕ) → Option (List ℕ) → List ℕ → Type 0
-Reads before now bytes = Consumes before now bytes × IsAtEnd now
+use Rattle.geos_input.specs.declared.fault.ScriptFault.{ScriptFault}
+use Rattle.geos_input.specs.declared.fault.ScriptFault.TheVariants.{TooLong, BadHex, Read, Memory}
+use Rattle.geos_input.specs.Hex.{hex_fault, image_bytes, script_lines}
+use Rattle.geos_input.specs.Reading.{most_bytes, Reads}
+use Rattle.geos_cli.specs.Script.{Runs, Stops, EndsBy}
 
 -- what may come from outside in a session: room, memory or the device may be refused, but nothing is
 -- given, since a device in memory is honest
@@ -72,13 +69,6 @@ SessionEndsBy bytes fault =
 abbrev pub EndsBytes : List ℕ → ScriptFault → Type 0
 EndsBytes bytes Memory = Unit {0}
 EndsBytes bytes fault = SessionEndsBy bytes fault
-
--- why a reader was not read to its end
-abbrev pub EndsReading : Option (List ℕ) → Option (List ℕ) → ScriptFault → Type 0
-EndsReading before now TooLong = (bytes : List ℕ) × Consumes before now bytes × (most_bytes < length bytes)
-EndsReading before now Read = Unit {0}
-EndsReading before now Memory = Unit {0}
-EndsReading before now _ = ⊥
 
 -- why a session ends with a fault, by what its reader gave: it was not read to its end where
 -- it is too long, and nothing is said of it where the reader failed or an allocation was

@@ -3,10 +3,10 @@
 ghost use Rattle.std.specs.Prelude.{◌≡◌, ◌≢◌, ◌↔◌, All, None, Ok, Err, IfOk, IfErr};
 ghost use Rattle.std.specs.Str.Lines.{lines};
 ghost use Rattle.std.specs.Io.KnownBytes.{Appends, Keeps};
-ghost use Rattle.geos_cli.specs.declared.fault.ScriptFault.TheVariants.{Write};
+ghost use Rattle.geos_input.specs.declared.fault.ScriptFault.TheVariants.{Write};
 ghost use Rattle.vm_file.specs.Device.{Rose};
-ghost use Rattle.geos_cli.specs.Counted.{AppendsPart};
-ghost use Rattle.geos_cli.specs.Fault.{KeptUnless};
+ghost use Rattle.geos_input.specs.Counted.{AppendsPart};
+ghost use Rattle.geos_input.specs.Fault.{KeptUnless};
 ghost use Rattle.geos_cli.specs.Script.{IsAdmitted, routine_named, registers_of, call_named, how_named, command_of};
 ghost use Rattle.geos_cli.specs.Script.{commands_of, first_bad, IsBadLine, IsBadImage, printed, committed};
 ghost use Rattle.geos_cli.specs.Script.{RanCommand, StoppedCommand, RanCommands, StoppedCommands, RanScript, StoppedScript, ScriptEndsBy};
@@ -18,9 +18,8 @@ ghost use Rattle.geos_image.specs.Reading.{image_at};
 ghost use Rattle.geos_verify.specs.Rules.{Accepted};
 ghost use Rattle.geos_text.specs.Words.{words};
 
-use crate::counted::Counted;
-use crate::fault::ScriptFault;
 use geos_image::Image;
+use geos_input::{Counted, MOST_BYTES, ScriptFault};
 use geos_kernel::Kernel;
 use geos_machine::{Machine, admits_words};
 use geos_model::Refusal;
@@ -29,9 +28,6 @@ use geos_verify::{Checked, check};
 use std::alloc::Global;
 use std::io::Write;
 use vm_file::{Device, How};
-
-/// The most bytes of a script or a session.
-pub const MOST_BYTES: usize = 1_048_576;
 
 /// A call of a routine, on these words.
 #[derive(Clone, Copy, Debug, PartialEq, Eq)]

@@ -1,7 +1,7 @@
 use Rattle.std.proofs.Common.{subst}
 use Rattle.std.specs.Io.KnownBytes.{Appends}
 use Rattle.std.proofs.KnownBytes.{Appends-nil}
-use Rattle.geos_cli.specs.Counted.{AppendsPart}
+use Rattle.geos_input.specs.Counted.{AppendsPart}
 use Rattle.geos_cli.specs.Script.{printed}
 use Rattle.geos_cli.proofs.CommandsRun.{call-ran, call-stopped, commit-ran, commit-stopped}
 use Rattle.geos_cli.proofs.Parts.{IfErr-map, IfOk-map}

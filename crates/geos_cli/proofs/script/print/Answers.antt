@@ -1,6 +1,6 @@
 use Rattle.std.proofs.Common.{rules, ◌≡◌, get_or, subst}
 use Rattle.std.specs.Prelude.{decimal}
-use Rattle.geos_cli.specs.Counted.{AppendsPart}
+use Rattle.geos_input.specs.Counted.{AppendsPart}
 use Rattle.std.specs.Io.KnownBytes.{Appends}
 use Rattle.geos_cli.proofs.Parts.{IfErr-any, part-digits, part-line-feed}
 use Rattle.geos_cli.proofs.script.print.Goals as goal

@@ -1,7 +1,7 @@
 use Rattle.std.proofs.Common.{◌∙◌, sym, subst, arith}
 use Rattle.std.specs.Prelude.{All}
 use Rattle.std.specs.Str.Lines.{lines}
-use Rattle.geos_cli.specs.declared.fault.ScriptFault.TheVariants.{Write}
+use Rattle.geos_input.specs.declared.fault.ScriptFault.TheVariants.{Write}
 use Rattle.geos_cli.specs.Script.{IsAdmitted, Loads}
 use Rattle.geos_cli.proofs.Commands.{commands-admitted}
 use Rattle.geos_cli.proofs.CommandsRun.{if_ok-map, if_err-map, script-ran, script-stopped}

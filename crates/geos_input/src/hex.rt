@@ -3,8 +3,8 @@
 ghost use Rattle.std.specs.Prelude.{◌≡◌, ◌<◌, ◌≤◌, ◌++◌, ◌∷◌, [], ◌%◌, length, true, None, IfSome, IfNone, IfOk, IfErr, filter_map};
 ghost use Rattle.std.specs.Option.{ForSome};
 ghost use Rattle.std.specs.Str.Lines.{lines};
-ghost use Rattle.geos_cli.specs.Hex.{digit_of, bytes_of, digits_in, is_hex_line, is_end};
-ghost use Rattle.geos_cli.specs.Hex.{hex_fault, image_bytes, script_lines, Takes, IsBadHex};
+ghost use Rattle.geos_input.specs.Hex.{digit_of, bytes_of, digits_in, is_hex_line, is_end};
+ghost use Rattle.geos_input.specs.Hex.{hex_fault, image_bytes, script_lines, Takes, IsBadHex};
 
 use crate::fault::ScriptFault;
 use geos_text::{first_line, first_word, is_blank};

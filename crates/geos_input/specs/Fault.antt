@@ -2,8 +2,8 @@
 use Rattle.std.specs.Prelude.{◌≡◌, ◌≢◌, ℕ, Result, MatchResult}
 use Rattle.geos_image.specs.declared.error.ReadError.{ReadError}
 use Rattle.geos_image.specs.declared.error.ReadError.TheVariants as read
-use Rattle.geos_cli.specs.declared.fault.ScriptFault.{ScriptFault}
-use Rattle.geos_cli.specs.declared.fault.ScriptFault.TheVariants.{BadImage, Memory}
+use Rattle.geos_input.specs.declared.fault.ScriptFault.{ScriptFault}
+use Rattle.geos_input.specs.declared.fault.ScriptFault.TheVariants.{BadImage, Memory}
 
 -- why bytes are no image
 abbrev pub of_read : ReadError → ScriptFault

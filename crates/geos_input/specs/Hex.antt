@@ -4,8 +4,8 @@ use Rattle.std.specs.Prelude.{List, [], ◌∷◌, ◌++◌, length, filter_map,
 use Rattle.std.specs.List.{list_all, before_first, after_first, position_from}
 use Rattle.std.specs.Char.{digit_value}
 use Rattle.std.specs.Cmp.Lexicographic.{pointwise}
-use Rattle.geos_cli.specs.declared.fault.ScriptFault.{ScriptFault}
-use Rattle.geos_cli.specs.declared.fault.ScriptFault.TheVariants.{BadHex, Memory}
+use Rattle.geos_input.specs.declared.fault.ScriptFault.{ScriptFault}
+use Rattle.geos_input.specs.declared.fault.ScriptFault.TheVariants.{BadHex, Memory}
 use Rattle.geos_text.specs.Words.{is_blank, words}
 
 -- the value of a hexadecimal digit of either case

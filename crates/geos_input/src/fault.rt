@@ -1,7 +1,7 @@
 //! Why a session or a script ends early.
 
 ghost use Rattle.std.specs.Prelude.{◌≡◌};
-ghost use Rattle.geos_cli.specs.declared.fault.ScriptFault.TheVariants.{Memory};
+ghost use Rattle.geos_input.specs.declared.fault.ScriptFault.TheVariants.{Memory};
 
 use geos_image::ReadError;
 use geos_verify::{Reject, Rule};
@@ -59,7 +59,7 @@ impl<T: Drop> From<AllocFailed<T>> for ScriptFault {
 }
 
 impl From<ReadError> for ScriptFault {
-    ghost use Rattle.geos_cli.specs.Fault.{of_read};
+    ghost use Rattle.geos_input.specs.Fault.{of_read};
 
     ghost from_gives = { λ error fault. fault ≡ of_read error };
 
@@ -72,7 +72,7 @@ impl From<ReadError> for ScriptFault {
 }
 
 impl From<Reject> for ScriptFault {
-    ghost use Rattle.geos_cli.specs.declared.fault.ScriptFault.TheVariants.{Rejected};
+    ghost use Rattle.geos_input.specs.declared.fault.ScriptFault.TheVariants.{Rejected};
 
     ghost from_gives = { λ reject fault. fault ≡ Rejected reject.pc reject.rule };
 

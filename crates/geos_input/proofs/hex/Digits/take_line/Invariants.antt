@@ -1,7 +1,7 @@
 use Rattle.std.proofs.Common.{◌≡◌, ◌++◌, drop}
 use Rattle.std.specs.Prelude.{filter_map}
-use Rattle.geos_cli.specs.Hex.{digit_of, is_hex_line, digits_in}
-use Rattle.geos_cli.proofs.hex.Digits.take_line.Given as goal
+use Rattle.geos_input.specs.Hex.{digit_of, is_hex_line, digits_in}
+use Rattle.geos_input.proofs.hex.Digits.take_line.Given as goal
 
 abbrev pub invariant-loop-byte : goal.invariant-loop-byte
 invariant-loop-byte l =

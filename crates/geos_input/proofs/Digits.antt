@@ -2,7 +2,7 @@
 use Rattle.std.proofs.Common.{◌≡◌, ◌<◌, ℕ, ◌+◌, ◌*◌, ◌/◌, ◌%◌, List, [], ◌∷◌, ◌++◌, length, Some, None, refl, sym, ap, ◌∙◌, arith, append_assoc, append-nil, length-append}
 use Rattle.std.specs.Prelude.{flat_map}
 use Rattle.std.proofs.lemmas.Grind.{flat_map-append}
-use Rattle.geos_cli.specs.Hex.{bytes_of, digits_in}
+use Rattle.geos_input.specs.Hex.{bytes_of, digits_in}
 
 -- the two digits of a byte
 abbrev pub digits_of_byte : ℕ → List ℕ

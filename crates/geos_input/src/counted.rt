@@ -4,7 +4,7 @@ ghost use Rattle.std.specs.Prelude.{◌≡◌, true, false, OnOk, OnErr, MatchBo
 ghost use Rattle.std.specs.Io.{ReadsAtMost, WritesAtMost};
 ghost use Rattle.std.specs.Io.KnownBytes.{Appends, Keeps, ReadConsumes, WriteAppends};
 ghost use Rattle.vm_file.specs.Device.{one_more};
-ghost use Rattle.geos_cli.specs.Counted.{AppendsPart};
+ghost use Rattle.geos_input.specs.Counted.{AppendsPart};
 
 use std::io;
 use std::io::{ErrorKind, Read, Write};

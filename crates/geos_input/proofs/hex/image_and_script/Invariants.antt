@@ -1,8 +1,8 @@
 use Rattle.std.proofs.Common.{◌≡◌, ◌≤◌, ◌+◌, ◌++◌, length}
 use Rattle.std.specs.Str.Lines.{lines}
-use Rattle.geos_cli.specs.Hex.{digits_of, digits_in, hex_lines, script_lines, hex_fault}
-use Rattle.geos_cli.proofs.HexLines.{hex_fault_after}
-use Rattle.geos_cli.proofs.hex.image_and_script.Given as goal
+use Rattle.geos_input.specs.Hex.{digits_of, digits_in, hex_lines, script_lines, hex_fault}
+use Rattle.geos_input.proofs.HexLines.{hex_fault_after}
+use Rattle.geos_input.proofs.hex.image_and_script.Given as goal
 
 abbrev pub invariant-loop-rest : goal.invariant-loop-rest
 invariant-loop-rest l =

@@ -1,9 +1,9 @@
 use Rattle.std.proofs.Common.{arith, sym, ap, ◌∙◌, ◌≡◌, ◌≤◌, ◌<◌, ◌+◌, ◌++◌, ◌∷◌, length, append_assoc}
 use Rattle.std.specs.Prelude.{true, false, filter_map}
 use Rattle.std.specs.Str.Lines.{lines}
-use Rattle.geos_cli.specs.Hex.{digit_of, is_end, is_hex_line, digits_in, digits_of, hex_lines, script_lines}
-use Rattle.geos_cli.proofs.HexLines.{hex_fault_after, hex_lines-more, script_lines-more, fault-more}
-use Rattle.geos_cli.proofs.hex.image_and_script.Goals as goal
+use Rattle.geos_input.specs.Hex.{digit_of, is_end, is_hex_line, digits_in, digits_of, hex_lines, script_lines}
+use Rattle.geos_input.proofs.HexLines.{hex_fault_after, hex_lines-more, script_lines-more, fault-more}
+use Rattle.geos_input.proofs.hex.image_and_script.Goals as goal
 
 pub loop-rest-preserved : goal.loop-rest-preserved
 loop-rest-preserved c =

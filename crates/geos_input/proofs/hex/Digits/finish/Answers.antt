@@ -1,6 +1,6 @@
 use Rattle.std.proofs.Common.{sym}
-use Rattle.geos_cli.proofs.Digits.{bytes_of-digits, digits-even, digits-odd}
-use Rattle.geos_cli.proofs.hex.Digits.finish.Goals as goal
+use Rattle.geos_input.proofs.Digits.{bytes_of-digits, digits-even, digits-odd}
+use Rattle.geos_input.proofs.hex.Digits.finish.Goals as goal
 
 pub returns-in-None-clause-whole : goal.returns-in-None-clause-whole
 returns-in-None-clause-whole c = rw c.in-None.is (sym (bytes_of-digits c.args.self.bytes.items))

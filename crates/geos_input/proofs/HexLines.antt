@@ -2,7 +2,7 @@
 use Rattle.std.proofs.Common.{◌≡◌, ℕ, suc, ◌+◌, ◌%◌, Bool, true, false, not, List, [], ◌∷◌, ◌++◌, length, Option, Some, None, refl, sym, ap, ◌∙◌, arith, append_assoc, append-nil}
 use Rattle.std.specs.Prelude.{filter_map}
 use Rattle.std.specs.List.{position_from, position_or_len}
-use Rattle.geos_cli.specs.Hex.{digit_of, digits_of, is_hex_line, is_end, hex_lines, script_lines, first_hex_fault}
+use Rattle.geos_input.specs.Hex.{digit_of, digits_of, is_hex_line, is_end, hex_lines, script_lines, first_hex_fault}
 
 abbrev pub not_hex : List ℕ → Bool
 not_hex line = not (is_hex_line line)

@@ -1,7 +1,7 @@
 use Rattle.std.proofs.Common.{◌∙◌, ◌≡◌, ◌++◌, ap, sym, take, drop, append_assoc, take-append-drop}
 use Rattle.std.proofs.KnownBytes.{Appends-trans}
 use Rattle.geos_text.proofs.LineLaws.{rest_of}
-use Rattle.geos_cli.proofs.counted.write_whole.Goals as goal
+use Rattle.geos_input.proofs.counted.write_whole.Goals as goal
 
 pub loop-rest-preserved : goal.loop-rest-preserved
 loop-rest-preserved g c =

@@ -1,6 +1,6 @@
 use Rattle.std.proofs.Common.{◌≡◌, ℕ, List, ◌++◌, length}
 use Rattle.std.specs.Io.KnownBytes.{Appends}
-use Rattle.geos_cli.proofs.counted.write_whole.Given as goal
+use Rattle.geos_input.proofs.counted.write_whole.Given as goal
 
 abbrev pub invariant-loop-rest : goal.invariant-loop-rest
 invariant-loop-rest g l = (part : List ℕ) × (l.fn.bytes ≡ part ++ l.rest) × Appends (g.W.Write.contents l.fn.stream) (g.W.Write.contents l.stream) part

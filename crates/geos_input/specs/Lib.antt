@@ -1,0 +1,4 @@
+pub mod Counted
+pub mod Fault
+pub mod Hex
+pub mod Reading
