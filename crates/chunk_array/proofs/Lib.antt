@@ -12,3 +12,5 @@ pub mod Parted
 pub mod Parting
 pub mod Refitting
 pub mod Resizing
+pub mod Sized
+pub mod ReadBack

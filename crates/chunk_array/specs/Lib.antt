@@ -9,3 +9,4 @@ pub mod AppendErrors
 pub mod GrowthErrors
 pub mod Removals
 pub mod Refits
+pub mod Changes

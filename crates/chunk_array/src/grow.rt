@@ -7,6 +7,7 @@ ghost use Rattle.geos_model.specs.Chunks.{need};
 ghost use Rattle.geos_model.specs.Heap.{IsHeap};
 ghost use Rattle.geos_model.specs.Refusals.{first_refusal};
 ghost use Rattle.lmem_heap.specs.Refusals.{IsRoomError};
+ghost use Rattle.chunk_array.specs.Changes.{ChangesArray};
 ghost use Rattle.chunk_array.specs.Found.{IsFound};
 ghost use Rattle.chunk_array.specs.AppendErrors.{IsAppendError};
 ghost use Rattle.chunk_array.specs.GrowthErrors.{IsGrowthError};
@@ -28,6 +29,7 @@ pub fn append(block: &mut [u8], c: u16, n: u16) -> Result<(), AppendError>
     ensures heap { IsHeap block.new }
     ensures handle { handle_word block.new ≡ handle_word block.old }
     ensures ok { let e = append_element c n (chunks block.old) in OnOk result ((first_refusal e.refusals ≡ None) × (chunks block.new ≡ e.chunks)) }
+    ensures array { OnOk result (ChangesArray (chunks block.old) (chunks block.new) c (λ a. with_element a (length a.elements) n)) }
     ensures fits { OnOk result (need (append_element c n (chunks block.old)).chunks ≤ length block.old) }
     ensures refused { let e = append_element c n (chunks block.old) in IfErr result (λ why. IsAppendError why e.refusals (need e.chunks) (length block.old)) }
     ensures err { OnErr result (block.new ≡ block.old) }
@@ -54,6 +56,7 @@ pub fn insert(block: &mut [u8], c: u16, i: u16, n: u16) -> Result<(), GrowthErro
     ensures heap { IsHeap block.new }
     ensures handle { handle_word block.new ≡ handle_word block.old }
     ensures ok { let e = insert_element c i n (chunks block.old) in OnOk result ((first_refusal e.refusals ≡ None) × (chunks block.new ≡ e.chunks)) }
+    ensures array { OnOk result (ChangesArray (chunks block.old) (chunks block.new) c (λ a. with_element a i n)) }
     ensures fits { OnOk result (need (insert_element c i n (chunks block.old)).chunks ≤ length block.old) }
     ensures refused { let e = insert_element c i n (chunks block.old) in IfErr result (λ why. IsGrowthError why e.refusals (need e.chunks) (length block.old)) }
     ensures err { OnErr result (block.new ≡ block.old) }

@@ -14,6 +14,7 @@
 mod change;
 mod error;
 mod grow;
+mod law;
 mod look;
 mod make;
 mod resize;
@@ -24,6 +25,7 @@ mod words;
 
 pub use error::{AppendError, ArrayError, ElementError, GrowthError};
 pub use grow::{append, insert};
+pub use law::{arrays_are_read_back, edits_change_arrays, edits_keep_sizes};
 pub use look::{count, element};
 pub use make::{clear, create};
 pub use resize::resize_element;

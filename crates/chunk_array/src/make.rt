@@ -2,12 +2,13 @@
 ghost use Rattle.std.specs.Prelude.{◌≡◌, length, IfErr, IfOk, OnErr, OnOk, IsSomeAnd, ◌≤◌};
 ghost use Rattle.geos_model.specs.Refusals.{first_refusal};
 ghost use Rattle.geos_model.specs.Block.{chunks, handle_word};
-ghost use Rattle.geos_model.specs.Chunks.{chunk_of, need};
+ghost use Rattle.geos_model.specs.Chunks.{bytes_of, chunk_of, need};
 ghost use Rattle.geos_model.specs.Heap.{IsHeap};
-ghost use Rattle.geos_model.specs.Arrays.{empty, spelled};
+ghost use Rattle.geos_model.specs.Arrays.{arr, empty, spelled};
 ghost use Rattle.geos_model.specs.ArrayEdits.{clear_array, create_array, with_array};
 ghost use Rattle.lmem_heap.specs.Refusals.{IsRoomError};
 ghost use Rattle.chunk_array.specs.ArrayErrors.{IsArrayError};
+ghost use Rattle.chunk_array.specs.Changes.{ChangesArray};
 
 use crate::error::ArrayError;
 use crate::look::find;
@@ -26,6 +27,7 @@ pub fn create(block: &mut [u8], element_size: u16) -> Result<u16, RoomError>
     ensures heap { IsHeap block.new }
     ensures handle { handle_word block.new ≡ handle_word block.old }
     ensures ok { let e = create_array element_size (chunks block.old) in IfOk result (λ c. (c ≡ e.answer) × (chunks block.new ≡ e.chunks)) }
+    ensures array { IfOk result (λ c. arr (bytes_of (chunks block.new) c) ≡ Some (empty element_size)) }
     ensures fits { OnOk result (need (create_array element_size (chunks block.old)).chunks ≤ length block.old) }
     ensures refused { IfErr result (λ e. IsRoomError e (need (create_array element_size (chunks block.old)).chunks) (length block.old)) }
     ensures err { OnErr result (block.new ≡ block.old) }
@@ -47,6 +49,7 @@ pub fn clear(block: &mut [u8], c: u16) -> Result<(), ArrayError>
     ensures heap { IsHeap block.new }
     ensures handle { handle_word block.new ≡ handle_word block.old }
     ensures ok { let e = clear_array c (chunks block.old) in OnOk result ((first_refusal e.refusals ≡ None) × (chunks block.new ≡ e.chunks)) }
+    ensures array { OnOk result (ChangesArray (chunks block.old) (chunks block.new) c (λ a. empty a.element_size)) }
     ensures refused { IfErr result (λ e. IsArrayError e (clear_array c (chunks block.old)).refusals) }
     ensures err { OnErr result (block.new ≡ block.old) }
 {

@@ -1,11 +1,13 @@
 //! Elements that get another size.
 ghost use Rattle.std.specs.Prelude.{◌≡◌, ◌+◌, ◌≤◌, length, IfErr, IsSome, OnErr, OnOk};
+ghost use Rattle.geos_model.specs.Arrays.{element, with_element_bytes};
 ghost use Rattle.geos_model.specs.ArrayEdits.{resize_element};
 ghost use Rattle.geos_model.specs.Block.{chunks, handle_word};
-ghost use Rattle.geos_model.specs.Chunks.{bytes_of, chunk_of, need, with_bytes, with_resized_part};
+ghost use Rattle.geos_model.specs.Chunks.{bytes_of, chunk_of, need, resized, with_bytes, with_resized_part};
 ghost use Rattle.geos_model.specs.Heap.{IsHeap};
 ghost use Rattle.geos_model.specs.Refusals.{first_refusal};
 ghost use Rattle.lmem_heap.specs.Refusals.{IsRoomError};
+ghost use Rattle.chunk_array.specs.Changes.{ChangesArray};
 ghost use Rattle.chunk_array.specs.GrowthErrors.{IsGrowthError};
 
 use crate::change::put_offsets;
@@ -24,6 +26,7 @@ pub fn resize_element(block: &mut [u8], c: u16, i: u16, n: u16) -> Result<(), Gr
     ensures heap { IsHeap block.new }
     ensures handle { handle_word block.new ≡ handle_word block.old }
     ensures ok { let e = resize_element c i n (chunks block.old) in OnOk result ((first_refusal e.refusals ≡ None) × (chunks block.new ≡ e.chunks)) }
+    ensures array { OnOk result (ChangesArray (chunks block.old) (chunks block.new) c (λ a. with_element_bytes a i (resized (element a i) n))) }
     ensures fits { OnOk result (need (resize_element c i n (chunks block.old)).chunks ≤ length block.old) }
     ensures refused { let e = resize_element c i n (chunks block.old) in IfErr result (λ why. IsGrowthError why e.refusals (need e.chunks) (length block.old)) }
     ensures err { OnErr result (block.new ≡ block.old) }

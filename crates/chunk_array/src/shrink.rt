@@ -1,9 +1,11 @@
 //! Elements that go.
 ghost use Rattle.std.specs.Prelude.{◌≡◌, IfErr, OnErr, OnOk};
+ghost use Rattle.geos_model.specs.Arrays.{without_element};
 ghost use Rattle.geos_model.specs.ArrayEdits.{remove_element};
 ghost use Rattle.geos_model.specs.Block.{chunks, handle_word};
 ghost use Rattle.geos_model.specs.Heap.{IsHeap};
 ghost use Rattle.geos_model.specs.Refusals.{first_refusal};
+ghost use Rattle.chunk_array.specs.Changes.{ChangesArray};
 ghost use Rattle.chunk_array.specs.ElementErrors.{IsElementError};
 
 use crate::change::take_element;
@@ -20,6 +22,7 @@ pub fn remove(block: &mut [u8], c: u16, i: u16) -> Result<(), ElementError>
     ensures heap { IsHeap block.new }
     ensures handle { handle_word block.new ≡ handle_word block.old }
     ensures ok { let e = remove_element c i (chunks block.old) in OnOk result ((first_refusal e.refusals ≡ None) × (chunks block.new ≡ e.chunks)) }
+    ensures array { OnOk result (ChangesArray (chunks block.old) (chunks block.new) c (λ a. without_element a i)) }
     ensures refused { IfErr result (λ why. IsElementError why (remove_element c i (chunks block.old)).refusals) }
     ensures err { OnErr result (block.new ≡ block.old) }
 {

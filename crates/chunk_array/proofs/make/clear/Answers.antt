@@ -7,6 +7,7 @@ use Rattle.geos_model.specs.ArrayEdits.{with_array}
 use Rattle.geos_model.proofs.ChunkItems.{known-bytes, chunk-written, written-twice}
 use Rattle.geos_model.proofs.ArrayTests.{array-of, array-passes}
 use Rattle.chunk_array.proofs.Shaped.{holds}
+use Rattle.chunk_array.proofs.ReadBack.{clears}
 use Rattle.chunk_array.proofs.Refusing.{can-delete}
 use Rattle.chunk_array.proofs.make.clear.Goals as goal
 
@@ -38,3 +39,6 @@ returns-clause-ok c =
       c.put_empty.ensures.chunks ∙ ap (λ xs. with_array xs c.args.c (empty found.shape.element_size)) c.in-Ok-delete.ensures.ok.2
           ∙ written-twice cs c.args.c (without_part (bytes_of cs c.args.c) 8 (found.len - 8)) (spelled (empty found.shape.element_size)) ∙ ap (λ k. with_array cs c.args.c (empty k)) (sym size),
     )
+
+pub returns-clause-array : goal.returns-clause-array
+returns-clause-array c = let ok = returns-clause-ok c in clears (chunks c.args.block.now) (chunks c.put_empty.new.block) c.args.c ok.0 ok.1

@@ -4,8 +4,10 @@ use Rattle.geos_model.specs.Block.{chunks}
 use Rattle.geos_model.specs.Chunks.{chunk_of, with_new}
 use Rattle.geos_model.specs.Arrays.{empty, spelled}
 use Rattle.geos_model.proofs.ChunkItems.{chunk-new, need-new}
+use Rattle.geos_model.specs.ArrayEdits.{with_array}
 use Rattle.lmem_heap.specs.Refusals.{IsRoomError}
 use Rattle.chunk_array.proofs.Headers.{length-empty}
+use Rattle.chunk_array.proofs.ReadBack.{creates}
 use Rattle.chunk_array.proofs.make.create.Goals as goal
 
 pub returns-in-Err-clause-refused : goal.returns-in-Err-clause-refused
@@ -23,3 +25,8 @@ put_empty-requires-clause-chunk c =
 pub returns-clause-fits : goal.returns-clause-fits
 returns-clause-fits c =
     let cs = chunks c.args.block.now in let k = c.args.element_size in let e = need-new cs 8 (spelled (empty k)) (length-empty k) in let f = c.in-Ok.ensures.fits in omega (arith, e, f)
+
+pub returns-clause-array : goal.returns-clause-array
+returns-clause-array c =
+    let cs = chunks c.args.block.now in let k = c.args.element_size in let ok = c.in-Ok.ensures.ok in let h = c.in-Ok.c in
+    creates k h cs (chunks c.put_empty.new.block) ok.0 (c.put_empty.ensures.chunks ∙ ap (λ xs. with_array xs h (empty k)) ok.1 ∙ ap (λ x. with_array (with_new cs 8) x (empty k)) ok.0)

@@ -7,6 +7,7 @@ use Rattle.geos_model.specs.ArrayEdits.{with_array}
 use Rattle.geos_model.proofs.ChunkItems.{written-twice}
 use Rattle.lmem_heap.specs.Refusals.{IsRoomError}
 use Rattle.chunk_array.specs.Refits.{with_refit}
+use Rattle.chunk_array.proofs.ReadBack.{resizes}
 use Rattle.chunk_array.proofs.Resizing.{order, passes, same, changed-need, refits}
 use Rattle.chunk_array.proofs.resize.resize_element.Goals as goal
 
@@ -48,3 +49,6 @@ returns-clause-fits c =
     let b = c.args.block.now in let found = c.in-Ok.found in let f = c.in-Ok.ensures in let a = f.shape.array in let start = c.start-start.result in let end = c.start.result in
     let e = changed-need b c.args.c found f c.args.i start end c.args.n c.if-found-ne0.false c.if-i-found.false (c.start-start.ensures.start a f.shape.is) (c.start.ensures.start a f.shape.is) in
     let fits = c.in-Ok-resize_part.ensures.fits in omega (arith, e, fits)
+
+pub returns-clause-array : goal.returns-clause-array
+returns-clause-array c = let ok = returns-clause-ok c in resizes (chunks c.args.block.now) (chunks c.put_offsets.new.block) c.args.c c.args.i c.args.n ok.0 ok.1

@@ -8,6 +8,7 @@ use Rattle.geos_model.proofs.ChunkItems.{known-bytes, chunk-written, written-twi
 use Rattle.geos_model.proofs.ArrayTests.{array-of, element-passes}
 use Rattle.chunk_array.proofs.Parting.{parted}
 use Rattle.chunk_array.proofs.Parted.{parts}
+use Rattle.chunk_array.proofs.ReadBack.{removes}
 use Rattle.chunk_array.proofs.Refusing.{can-delete}
 use Rattle.chunk_array.proofs.shrink.remove.Goals as goal
 
@@ -52,3 +53,6 @@ returns-clause-ok c =
           ∙ ap (with_bytes (chunks d) c.args.c) (e.spells.rest room c.room-room.ensures.value) ∙ ap (λ xs. with_bytes xs c.args.c (spelled (without_element a i))) e.chunks
           ∙ written-twice (chunks b) c.args.c e.bytes (spelled (without_element a i)) ∙ sym (ap (λ x. with_array (chunks b) c.args.c (without_element x i)) (array-of (chunks b) c.args.c bytes a f.is.bytes f.is.shape.is)),
     )
+
+pub returns-clause-array : goal.returns-clause-array
+returns-clause-array c = let ok = returns-clause-ok c in removes (chunks c.args.block.now) (chunks c.delete.new.block) c.args.c c.args.i ok.0 ok.1

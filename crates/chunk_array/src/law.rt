@@ -1,0 +1,40 @@
+//! The laws of arrays in bytes.
+ghost use Rattle.std.specs.Prelude.{◌≡◌, ◌≢◌, ℕ, List, length, Option, Some};
+ghost use Rattle.geos_model.specs.Bytes.{AreBytes};
+ghost use Rattle.geos_model.specs.Chunks.{bytes_of};
+ghost use Rattle.geos_model.specs.Arrays.{Array, arr, empty, spelled, with_element, without_element, with_element_bytes};
+ghost use Rattle.geos_model.specs.ArrayEdits.{with_array};
+ghost use Rattle.chunk_array.specs.Changes.{EditsChangeArrays, IsSized};
+
+/// An array whose elements have the size that it says, where it says one, is read back out of
+/// the list that spells it, and out of a chunk in which it is spelled in place of another. Each
+/// array that is read is such an array. The other way round, a list of bytes that is read as an
+/// array is the one that spells it.
+///
+/// Nothing is asked of the numbers in elements. Where one of them is no byte, or where the count,
+/// the size or an offset is no word, the list that spells the array has numbers that are no
+/// bytes, and stands in no block.
+pub fn arrays_are_read_back()
+    ensures read { (a : Array) → IsSized a → arr (spelled a) ≡ Some a }
+    ensures there { (chunks : List (Option (List ℕ))) (c : ℕ) (old new : Array) → arr (bytes_of chunks c) ≡ Some old → IsSized new
+        → arr (bytes_of (with_array chunks c new) c) ≡ Some new }
+    ensures sized { (bytes : List ℕ) (a : Array) → arr bytes ≡ Some a → IsSized a }
+    ensures once { (bytes : List ℕ) (a : Array) → AreBytes bytes → arr bytes ≡ Some a → spelled a ≡ bytes }
+{}
+
+/// Edits of arrays leave elements their size, where they have one; other bytes as an element
+/// have to have it.
+pub fn edits_keep_sizes()
+    ensures by_empty { (k : ℕ) → IsSized (empty k) }
+    ensures by_insert { (a : Array) (i n : ℕ) → IsSized a → IsSized (with_element a i n) }
+    ensures by_remove { (a : Array) (i : ℕ) → IsSized a → IsSized (without_element a i) }
+    ensures by_set { (a : Array) (i : ℕ) (bytes : List ℕ) → (a.element_size ≢ 0 → length bytes ≡ a.element_size) → IsSized a
+        → IsSized (with_element_bytes a i bytes) }
+{}
+
+/// What the model says of the calls on arrays, which is what the kernel's calls do to the chunks
+/// of their block: where no refusal comes, the chunk spelled an array, and then it spells that
+/// array with the change that the call's name says.
+pub fn edits_change_arrays()
+    ensures { EditsChangeArrays }
+{}
