@@ -50,9 +50,9 @@ module _ (b : List ℕ) (c : ℕ) (found : Found) (f : IsFound b c found) (i at 
 
   -- the bytes with room, after they are made
   pub roomy : (d : List ℕ) → IsHeap d → chunks d ≡ with_inserted (chunks b) c at room
-      → (chunk_of (chunks d) c ≡ Some (with_zeros bytes at room)) × HasRoom (with_zeros bytes at room) bytes f.shape.array found.shape i at n
+      → (chunk_of (chunks d) c ≡ Some (with_zeros bytes at room)) × HasRoom (with_zeros bytes at room) bytes f.shape.array found.shape (record { index = i; begin = at; len = n })
   roomy d heap made =
       let there = ap (λ xs. chunk_of xs c) made ∙ chunk-written (chunks b) c bytes (with_zeros (bytes_of (chunks b) c) at room) h.there ∙ ap (λ x. Some (with_zeros x at room)) (known-bytes (chunks b) c bytes h.there) in (
         there,
-        record { is = h.is; small = f.small; count = h.shaped.count; size = h.shaped.size; known = known; place = is; made = refl; few = chunk-small d c (with_zeros bytes at room) heap there },
+        record { is = h.is; small = f.small; count = h.shaped.count; size = h.shaped.size; known = known; begins = is; made = refl; few = chunk-small d c (with_zeros bytes at room) heap there },
       )

@@ -9,6 +9,7 @@ use Rattle.geos_model.proofs.ArraySpells.{first-varying}
 use Rattle.geos_model.proofs.ArrayReads.{Reads, reads}
 use Rattle.geos_model.proofs.ArrayPlaces.{element-bounds, element-ends, element-order}
 use Rattle.geos_model.proofs.Words.{length-with_word}
+use Rattle.chunk_array.specs.declared.shape.ElementPlace.{ElementPlace}
 use Rattle.chunk_array.specs.declared.shape.Shape.{Shape}
 use Rattle.chunk_array.specs.Insertions.{room_of}
 use Rattle.chunk_array.specs.Removals.{HasPart, SpellsWithout}
@@ -18,53 +19,47 @@ use Rattle.chunk_array.proofs.Removing.{removed-varying, removed-fixed}
 use Rattle.chunk_array.proofs.Roomy.{room-varying, room-fixed, few-elements}
 
 -- what they say of the array
-pub record Parts (bytes : List ℕ) (a : Array) (shape : Shape) (i start end : ℕ) : Type 0 where
+pub record Parts (bytes : List ℕ) (a : Array) (shape : Shape) (place : ElementPlace) : Type 0 where
   pub reads : Reads bytes a
-  pub index : i < length a.elements
-  pub order : end ≡ start + length (element a i)
-  pub least : 8 ≤ start
-  pub within : end ≤ length bytes
-  pub room : start ≡ end - room_of shape.element_size (end - start) + (room_of shape.element_size (end - start) - length (element a i))
-  pub fits : room_of shape.element_size (end - start) ≤ end
-  pub back : (8 ≤ end - room_of shape.element_size (end - start)) × (room_of shape.element_size (end - start) ≤ 65535)
+  pub index : place.index < length a.elements
+  pub long : place.len ≡ length (element a place.index)
+  pub least : 8 ≤ place.begin
+  pub within : place.begin + place.len ≤ length bytes
+  pub fits : room_of shape.element_size place.len ≤ place.begin + place.len
 
-pub parts : (bytes : List ℕ) (a : Array) (shape : Shape) (i start end : ℕ) → HasPart bytes a shape i start end → Parts bytes a shape i start end
-parts bytes a shape i start end h =
-    let r = reads bytes a h.small h.is in let count = h.count in let known = h.known in let index : i < length a.elements = omega (arith, count, known) in
-    let begins = h.begins in let ends = h.ends in let e = element-ends a i index in let order : end ≡ start + length (element a i) = omega (arith, begins, ends, e) in
-    let lo = element-bounds bytes a i r in let hi = element-bounds bytes a (i + 1) r in let few = h.few in
-    let within : end ≤ length bytes = omega (arith, ends, hi.1) in let least : 8 ≤ start = omega (arith, begins, lo.0) in
-    elim (cases_eq shape.element_size 0) [
-      | inl none ↦ (let q = room-varying shape.element_size (end - start) none in let f = first-varying a (h.size ∙ none) in let le = first-le a i in
-          let front : 10 ≤ start = omega (arith, f, le, begins, index) in
-          record { reads = r; index = index; order = order; least = least; within = within; room = omega (arith, q, order, front); fits = omega (arith, q, order, front); back = (omega (arith, q, order, front), omega (arith, q, within, few)) })
-      | inr some ↦ (let q = room-fixed shape.element_size (end - start) some in let size = h.size in
+pub parts : (bytes : List ℕ) (a : Array) (shape : Shape) (place : ElementPlace) → HasPart bytes a shape place → Parts bytes a shape place
+parts bytes a shape place h =
+    let i = place.index in let r = reads bytes a h.small h.is in let count = h.count in let known = h.known in let index : i < length a.elements = omega (arith, count, known) in
+    let begins = h.begins in let ends = h.ends in let e = element-ends a i index in let long : place.len ≡ length (element a i) = omega (arith, begins, ends, e) in
+    let lo = element-bounds bytes a i r in let hi = element-bounds bytes a (i + 1) r in
+    let within : place.begin + place.len ≤ length bytes = omega (arith, ends, hi.1) in let least : 8 ≤ place.begin = omega (arith, begins, lo.0) in
+    let fits : room_of shape.element_size place.len ≤ place.begin + place.len = (elim (cases_eq shape.element_size 0) [
+      | inl none ↦ (let q = room-varying shape.element_size place.len none in omega (arith, q, least))
+      | inr some ↦ (let q = room-fixed shape.element_size place.len some in let size = h.size in
           let ne : a.element_size ≢ 0 = (λ z. some (sym size ∙ z)) in
           let e1 = r.equal ne i (omega arith) in let e2 = r.equal ne (i + 1) (omega arith) in let m : (i + 1) * a.element_size ≡ i * a.element_size + a.element_size = omega arith in
-          let wide : end ≡ start + shape.element_size = omega (arith, begins, ends, e1, e2, m, size) in
-          record { reads = r; index = index; order = order; least = least; within = within; room = omega (arith, q, order, wide); fits = omega (arith, q, wide); back = (omega (arith, q, wide, least), omega (arith, q, within, few, wide)) })
-    ]
+          omega (arith, q, begins, ends, e1, e2, m, size))
+    ]) in
+    record { reads = r; index = index; long = long; least = least; within = within; fits = fits }
 
 -- where sizes vary the table can be closed
-pub record Closable (bytes : List ℕ) (count i start end : ℕ) : Type 0 where
-  pub table : 8 + 2 * count ≤ start
-  pub room : start + (end - start) ≤ length bytes
+pub record Closable (bytes : List ℕ) (count : ℕ) (place : ElementPlace) : Type 0 where
+  pub table : 8 + 2 * count ≤ place.begin
   pub small : length bytes ≤ 65535
-  pub before : (j : ℕ) → j < i → (2 ≤ offset bytes j) × (offset bytes j ≤ 65535)
-  pub behind : (j : ℕ) → i < j → j < count → (end - start + 2 ≤ offset bytes j) × (offset bytes j ≤ 65535)
+  pub before : (j : ℕ) → j < place.index → (2 ≤ offset bytes j) × (offset bytes j ≤ 65535)
+  pub behind : (j : ℕ) → place.index < j → j < count → (place.len + 2 ≤ offset bytes j) × (offset bytes j ≤ 65535)
 
-pub closable : (bytes : List ℕ) (a : Array) (shape : Shape) (i start end : ℕ) → HasPart bytes a shape i start end → shape.element_size ≡ 0 → Closable bytes shape.count i start end
-closable bytes a shape i start end h none =
-    let p = parts bytes a shape i start end h in let none_a : a.element_size ≡ 0 = h.size ∙ none in let first = first-varying a none_a in let le = first-le a i in
-    let begins = h.begins in let ends = h.ends in let count = h.count in let within = p.within in let few = h.few in let order = p.order in let known = h.known in
+pub closable : (bytes : List ℕ) (a : Array) (shape : Shape) (place : ElementPlace) → HasPart bytes a shape place → shape.element_size ≡ 0 → Closable bytes shape.count place
+closable bytes a shape place h none =
+    let i = place.index in let p = parts bytes a shape place h in let none_a : a.element_size ≡ 0 = h.size ∙ none in let first = first-varying a none_a in let le = first-le a i in
+    let begins = h.begins in let ends = h.ends in let count = h.count in let few = h.few in let known = h.known in
     let at : (j : ℕ) → j < shape.count → offset bytes j ≡ element_at a j = (λ j l. p.reads.spells.offsets none_a j (omega (arith, count))) in
     record {
       table = omega (arith, first, le, begins, count);
-      room = omega (arith, within, order);
       small = omega (arith, few);
       before = (λ j l. let o = at j (omega (arith, known)) in let b = element-bounds bytes a j p.reads in (omega (arith, o, b.0), omega (arith, o, b.1, few)));
       behind = (λ j g l. let o = at j l in let b = element-bounds bytes a j p.reads in let m = element-order a (i + 1) j (omega arith) in
-          (omega (arith, o, m, ends, order, first, le, begins), omega (arith, o, b.1, few)));
+          (omega (arith, o, m, ends, first, le, begins), omega (arith, o, b.1, few)));
     }
 
 -- the bytes that are left are bytes
@@ -75,28 +70,28 @@ without-small bytes at n small fits k = elim (cases_lt k at) [
 ]
 
 -- and spell the array without the element
-pub spells-varying : (bytes new done : List ℕ) (a : Array) (shape : Shape) (i start end n w : ℕ) → HasPart bytes a shape i start end → shape.element_size ≡ 0
-    → n ≡ end - start → ClosesTable bytes new shape.count i start n → w ≡ shape.count - 1 → done ≡ with_word new 0 w → ((k : ℕ) → get_or done k 0 < 256) → SpellsWithout done a shape i start end
-spells-varying bytes new done a shape i start end n w h none n_is o counts made small =
-    let p = parts bytes a shape i start end h in let order = p.order in let count = h.count in let known = h.known in let few = few-elements bytes a p.reads in let most = h.few in
+pub spells-varying : (bytes new done : List ℕ) (a : Array) (shape : Shape) (place : ElementPlace) (w : ℕ) → HasPart bytes a shape place → shape.element_size ≡ 0
+    → ClosesTable bytes new shape.count place.index place.begin place.len → w ≡ shape.count - 1 → done ≡ with_word new 0 w → ((k : ℕ) → get_or done k 0 < 256) → SpellsWithout done a shape place
+spells-varying bytes new done a shape place w h none o counts made small =
+    let i = place.index in let n = place.len in let p = parts bytes a shape place h in let count = h.count in let known = h.known in let few = few-elements bytes a p.reads in let most = h.few in
     let T : ℕ → Type 0 = λ x. ClosesTable bytes new shape.count i x n in
     record {
       rest = (λ room is.
-          let q : room ≡ n + 2 = is ∙ room-varying shape.element_size (end - start) none ∙ ap (λ x. x + 2) (sym n_is) in
-          let long = o.long in let l = ap length made ∙ length-with_word new 0 w in let within = p.within in
+          let q : room ≡ n + 2 = is ∙ room-varying shape.element_size n none in
+          let long = o.long in let l = ap length made ∙ length-with_word new 0 w in let within = p.within in let end = place.begin + n in
           let same : without_part done (end - room) room ≡ without_part done (element_at a (i + 1) - (n + 2)) (n + 2) = ap (λ x. without_part done (end - x) x) q ∙ ap (λ x. without_part done (x - (n + 2)) (n + 2)) h.ends in
-          removed-varying bytes new done (without_part done (end - room) room) a i n shape.count w p.reads (h.size ∙ none) p.index (omega (arith, order, n_is)) (sym count) (subst T h.begins o) made (omega (arith, counts, known))
+          removed-varying bytes new done (without_part done (end - room) room) a i n shape.count w p.reads (h.size ∙ none) p.index p.long (sym count) (subst T h.begins o) made (omega (arith, counts, known))
           (omega (arith, counts, few, most, count)) (without-small done (end - room) room small (omega (arith, l, long, within))) same);
     }
 
-pub spells-fixed : (bytes done : List ℕ) (a : Array) (shape : Shape) (i start end w : ℕ) → HasPart bytes a shape i start end → shape.element_size ≢ 0
-    → w ≡ shape.count - 1 → done ≡ with_word bytes 0 w → ((k : ℕ) → get_or done k 0 < 256) → SpellsWithout done a shape i start end
-spells-fixed bytes done a shape i start end w h some counts made small =
-    let p = parts bytes a shape i start end h in let count = h.count in let known = h.known in let few = few-elements bytes a p.reads in let most = h.few in let size = h.size in
+pub spells-fixed : (bytes done : List ℕ) (a : Array) (shape : Shape) (place : ElementPlace) (w : ℕ) → HasPart bytes a shape place → shape.element_size ≢ 0
+    → w ≡ shape.count - 1 → done ≡ with_word bytes 0 w → ((k : ℕ) → get_or done k 0 < 256) → SpellsWithout done a shape place
+spells-fixed bytes done a shape place w h some counts made small =
+    let i = place.index in let p = parts bytes a shape place h in let count = h.count in let known = h.known in let few = few-elements bytes a p.reads in let most = h.few in let size = h.size in
     record {
       rest = (λ room is.
-          let q : room ≡ a.element_size = is ∙ room-fixed shape.element_size (end - start) some ∙ sym size in
-          let l = ap length made ∙ length-with_word bytes 0 w in let within = p.within in
+          let q : room ≡ a.element_size = is ∙ room-fixed shape.element_size place.len some ∙ sym size in
+          let l = ap length made ∙ length-with_word bytes 0 w in let within = p.within in let end = place.begin + place.len in
           let same : without_part done (end - room) room ≡ without_part done (element_at a (i + 1) - a.element_size) a.element_size = ap (λ x. without_part done (end - x) x) q ∙ ap (λ x. without_part done (x - a.element_size) a.element_size) h.ends in
           removed-fixed bytes done (without_part done (end - room) room) a i w p.reads (λ e. some (sym size ∙ e)) p.index made (omega (arith, counts, known, count))
           (omega (arith, counts, few, most, count)) (without-small done (end - room) room small (omega (arith, l, within))) same);

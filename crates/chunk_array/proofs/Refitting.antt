@@ -13,6 +13,7 @@ use Rattle.geos_model.proofs.JoinedEdits.{join-set, join-set_behind, length-resi
 use Rattle.geos_model.proofs.ArraySpells.{spells, first-varying, element-at}
 use Rattle.geos_model.proofs.ArrayReads.{Reads, reads}
 use Rattle.geos_model.proofs.ArrayPlaces.{element-bounds, element-ends, element-order, drop-elements, part-element, length-spelled}
+use Rattle.chunk_array.specs.declared.shape.ElementPlace.{ElementPlace}
 use Rattle.chunk_array.specs.declared.shape.Shape.{Shape}
 use Rattle.chunk_array.specs.Refits.{HasRefit, with_refit}
 use Rattle.chunk_array.specs.Tables.{offset, ShiftsOffsets}
@@ -37,8 +38,9 @@ pub record Refit (bytes before : List ℕ) (a : Array) (count i has n : ℕ) : T
   pub offsets : (j : ℕ) → j < count → offset bytes j ≡ element_at a j
   pub room : (j : ℕ) → i + 1 ≤ j → j < count → (has ≤ offset bytes j) × (offset bytes j + n ≤ 65535 + has)
 
-pub refit : (bytes before : List ℕ) (a : Array) (shape : Shape) (i has n : ℕ) → HasRefit bytes before a shape i has n → Refit bytes before a shape.count i has n
-refit bytes before a shape i has n h =
+pub refit : (bytes before : List ℕ) (a : Array) (shape : Shape) (place : ElementPlace) (n : ℕ) → HasRefit bytes before a shape place n → Refit bytes before a shape.count place.index place.len n
+refit bytes before a shape place n h =
+    let i = place.index in let has = place.len in
     let r = reads before a h.small h.is in let count = h.count in let known = h.known in let index : i < length a.elements = omega (arith, count, known) in
     let at = element_at a i in let e = element-ends a i index in let size = h.size in let hi = element-bounds before a (i + 1) r in let lo = element-bounds before a i r in
     let within : at + has ≤ length before = omega (arith, e, size, hi.1) in let first = first-varying a h.varying in let le = first-le a i in
@@ -73,10 +75,10 @@ refit-behind a i j n z long none fits h =
     omega (arith, more, long, x, y, f, g, l)
 
 -- the offsets behind the element made right, the bytes spell the array
-pub refitted : (before old bytes : List ℕ) (a : Array) (shape : Shape) (i has n : ℕ) → HasRefit old before a shape i has n → ShiftsOffsets old bytes (i + 1) shape.count has n
-    → ((k : ℕ) → get_or bytes k 0 < 256) → bytes ≡ spelled (with_refit a i n)
-refitted before old bytes a shape i has n h o small =
-    let f = refit old before a shape i has n h in let r = f.reads in let s = r.spells in let at = element_at a i in let z = resized (element a i) n in let b = with_refit a i n in
+pub refitted : (before old bytes : List ℕ) (a : Array) (shape : Shape) (place : ElementPlace) (n : ℕ) → HasRefit old before a shape place n → ShiftsOffsets old bytes (place.index + 1) shape.count place.len n
+    → ((k : ℕ) → get_or bytes k 0 < 256) → bytes ≡ spelled (with_refit a place.index n)
+refitted before old bytes a shape place n h o small =
+    let i = place.index in let has = place.len in let f = refit old before a shape place n h in let r = f.reads in let s = r.spells in let at = element_at a i in let z = resized (element a i) n in let b = with_refit a i n in
     let none = h.varying in let count = h.count in let index = f.index in let table = f.table in let within = f.within in let known = h.known in
     let more : length b.elements ≡ length a.elements = length-set a.elements i z in let first = first-varying a none in let first_b = first-varying b none in
     let lz = length-resized (element a i) n in let long = f.long in let long_new = o.long in let size = h.size in let le = first-le a i in

@@ -1,5 +1,5 @@
 -- An array that was found, of which an element gets another size.
-use Rattle.std.proofs.Common.{◌≡◌, ℕ, ◌+◌, ◌-◌, ◌<◌, ◌≤◌, List, Some, None, length, ap, sym, ◌∙◌, arith}
+use Rattle.std.proofs.Common.{◌≡◌, ℕ, ◌+◌, ◌<◌, ◌≤◌, List, Some, None, length, ap, sym, ◌∙◌, arith}
 use Rattle.lmem_raw.specs.Bytes.{part}
 use Rattle.geos_model.specs.Block.{chunks}
 use Rattle.geos_model.specs.Chunks.{chunk_of, bytes_of, need, with_bytes, with_resized_part}
@@ -12,20 +12,21 @@ use Rattle.geos_model.proofs.ChunkItems.{known-bytes, chunk-written, need-length
 use Rattle.geos_model.proofs.ArrayTests.{array-of, resize-passes}
 use Rattle.geos_model.proofs.ArrayPlaces.{element-bounds, element-ends}
 use Rattle.chunk_array.specs.declared.look.Found.{Found}
+use Rattle.chunk_array.specs.declared.shape.ElementPlace.{ElementPlace}
 use Rattle.chunk_array.specs.Found.{IsFound}
 use Rattle.chunk_array.specs.Refits.{HasRefit, with_refit}
 use Rattle.chunk_array.proofs.Rewritten.{chunk-small}
 use Rattle.chunk_array.proofs.Refitting.{length-refit}
 use Rattle.chunk_array.proofs.Shaped.{Holds, holds}
 
-module _ (b : List ℕ) (c : ℕ) (found : Found) (f : IsFound b c found) (i start end n : ℕ) (none : found.shape.element_size ≡ 0) (known : i < found.shape.count)
-    (begins : start ≡ element_at f.shape.array i) (ends : end ≡ element_at f.shape.array (i + 1)) where
+module _ (b : List ℕ) (c : ℕ) (found : Found) (f : IsFound b c found) (i n : ℕ) (place : ElementPlace) (none : found.shape.element_size ≡ 0) (known : i < found.shape.count)
+    (at_index : place.index ≡ i) (begins : place.begin ≡ element_at f.shape.array i) (ends : place.begin + place.len ≡ element_at f.shape.array (i + 1)) where
   abbrev pub bytes : List ℕ
   bytes = part b found.at found.len
 
   -- the bytes with n of them in the place of the element's
   abbrev pub changed : List ℕ → List ℕ
-  changed x = with_resized_part x start (end - start) n
+  changed x = with_resized_part x place.begin place.len n
 
   h : Holds b c found f.shape.array
   h = holds b c found f
@@ -33,14 +34,11 @@ module _ (b : List ℕ) (c : ℕ) (found : Found) (f : IsFound b c found) (i sta
   index : i < length f.shape.array.elements
   index = let count = h.shaped.count in omega (arith, count, known)
 
-  pub order : start ≤ end
-  order = let e = element-ends f.shape.array i index in omega (arith, begins, ends, e)
-
-  size : end - start ≡ length (element f.shape.array i)
+  size : place.len ≡ length (element f.shape.array i)
   size = let e = element-ends f.shape.array i index in omega (arith, begins, ends, e)
 
-  within : start + (end - start) ≤ length bytes
-  within = let e = element-bounds bytes f.shape.array (i + 1) h.shaped.reads in let o = order in omega (arith, ends, e.1, o)
+  within : place.begin + place.len ≤ length bytes
+  within = let e = element-bounds bytes f.shape.array (i + 1) h.shaped.reads in omega (arith, ends, e.1)
 
   -- no test refuses
   pub passes : first_refusal (resize_element c i n (chunks b)).refusals ≡ None
@@ -53,13 +51,13 @@ module _ (b : List ℕ) (c : ℕ) (found : Found) (f : IsFound b c found) (i sta
   -- needs what those bytes need
   pub changed-need : need (with_bytes (chunks b) c (changed (bytes_of (chunks b) c))) ≡ need (resize_element c i n (chunks b)).chunks
   changed-need =
-      let l = length-resized_part bytes start (end - start) n within in let m = length-refit bytes f.shape.array i n h.shaped.reads (h.shaped.size ∙ none) index in let s = size in
+      let l = length-resized_part bytes place.begin place.len n within in let m = length-refit bytes f.shape.array i n h.shaped.reads (h.shaped.size ∙ none) index in let s = size in
       ap (λ x. need (with_bytes (chunks b) c (changed x))) (known-bytes (chunks b) c bytes h.there)
       ∙ need-length (chunks b) c bytes (changed bytes) (spelled (with_refit f.shape.array i n)) h.there (omega (arith, l, m, s)) ∙ sym (ap need same)
 
   -- those bytes, once they are made
   pub refits : (d : List ℕ) → IsHeap d → chunks d ≡ with_bytes (chunks b) c (changed (bytes_of (chunks b) c))
-      → (chunk_of (chunks d) c ≡ Some (changed bytes)) × HasRefit (changed bytes) bytes f.shape.array found.shape i (end - start) n
+      → (chunk_of (chunks d) c ≡ Some (changed bytes)) × HasRefit (changed bytes) bytes f.shape.array found.shape place n
   refits d heap made =
       let there = ap (λ xs. chunk_of xs c) made ∙ chunk-written (chunks b) c bytes (changed (bytes_of (chunks b) c)) h.there ∙ ap (λ x. Some (changed x)) (known-bytes (chunks b) c bytes h.there) in (
         there,
@@ -68,9 +66,9 @@ module _ (b : List ℕ) (c : ℕ) (found : Found) (f : IsFound b c found) (i sta
           small = f.small;
           count = h.shaped.count;
           varying = h.shaped.size ∙ none;
-          known = known;
-          size = size;
-          made = ap (λ x. with_resized_part bytes x (end - start) n) begins;
+          known = omega (arith, at_index, known);
+          size = size ∙ ap (λ k. length (element f.shape.array k)) (sym at_index);
+          made = ap (λ x. with_resized_part bytes x place.len n) (begins ∙ ap (element_at f.shape.array) (sym at_index));
           few = chunk-small d c (changed bytes) heap there;
         },
       )

@@ -10,6 +10,7 @@ use Rattle.geos_model.proofs.Resizes.{length-with_zeros}
 use Rattle.geos_model.proofs.ArraySpells.{first-varying, first-fixed}
 use Rattle.geos_model.proofs.ArrayReads.{Reads, reads}
 use Rattle.geos_model.proofs.ArrayPlaces.{element-bounds}
+use Rattle.chunk_array.specs.declared.shape.ElementPlace.{ElementPlace}
 use Rattle.chunk_array.specs.declared.shape.Shape.{Shape}
 use Rattle.chunk_array.specs.Insertions.{room_of, HasRoom}
 use Rattle.chunk_array.specs.Tables.{offset, OpensTable}
@@ -33,20 +34,20 @@ few-elements bytes a r = elim (cases_eq a.element_size 0) [
 ]
 
 -- what they say of the array that they came from
-pub record Room (bytes before : List ℕ) (a : Array) (shape : Shape) (i at n : ℕ) : Type 0 where
+pub record Room (bytes before : List ℕ) (a : Array) (shape : Shape) (place : ElementPlace) : Type 0 where
   pub reads : Reads before a
-  pub within : at ≤ length before
-  pub least : 8 ≤ at
-  pub long : length bytes ≡ length before + room_of shape.element_size n
+  pub within : place.begin ≤ length before
+  pub least : 8 ≤ place.begin
+  pub long : length bytes ≡ length before + room_of shape.element_size place.len
   pub count : shape.count + 1 < 65536
 
-pub room : (bytes before : List ℕ) (a : Array) (shape : Shape) (i at n : ℕ) → HasRoom bytes before a shape i at n → Room bytes before a shape i at n
-room bytes before a shape i at n h =
-    let r = reads before a h.small h.is in let b = element-bounds before a i r in let place = h.place in
-    let w : at ≤ length before = omega (arith, place, b.1) in
-    let long = ap length h.made ∙ length-with_zeros before at (room_of shape.element_size n) w in
+pub room : (bytes before : List ℕ) (a : Array) (shape : Shape) (place : ElementPlace) → HasRoom bytes before a shape place → Room bytes before a shape place
+room bytes before a shape place h =
+    let r = reads before a h.small h.is in let b = element-bounds before a place.index r in let begins = h.begins in
+    let w : place.begin ≤ length before = omega (arith, begins, b.1) in
+    let long = ap length h.made ∙ length-with_zeros before place.begin (room_of shape.element_size place.len) w in
     let few = few-elements before a r in let most = h.few in let count = h.count in
-    record { reads = r; within = w; least = omega (arith, place, b.0); long = long; count = omega (arith, few, most, long, count) }
+    record { reads = r; within = w; least = omega (arith, begins, b.0); long = long; count = omega (arith, few, most, long, count) }
 
 -- where sizes vary the table can be opened
 pub record Openable (bytes : List ℕ) (count at n : ℕ) : Type 0 where
@@ -55,37 +56,37 @@ pub record Openable (bytes : List ℕ) (count at n : ℕ) : Type 0 where
   pub small : length bytes ≤ 65535
   pub offsets : (j : ℕ) → j < count → offset bytes j + (n + 2) ≤ 65535
 
-pub openable : (bytes before : List ℕ) (a : Array) (shape : Shape) (i at n : ℕ) → HasRoom bytes before a shape i at n → shape.element_size ≡ 0 → Openable bytes shape.count at n
-openable bytes before a shape i at n h none =
-    let m = room bytes before a shape i at n h in let none_a : a.element_size ≡ 0 = h.size ∙ none in
-    let first = first-varying a none_a in let le = first-le a i in let place = h.place in let count = h.count in
-    let more = room-varying shape.element_size n none in let long = m.long in let within = m.within in let few = h.few in
+pub openable : (bytes before : List ℕ) (a : Array) (shape : Shape) (place : ElementPlace) → HasRoom bytes before a shape place → shape.element_size ≡ 0 → Openable bytes shape.count place.begin place.len
+openable bytes before a shape place h none =
+    let m = room bytes before a shape place h in let none_a : a.element_size ≡ 0 = h.size ∙ none in
+    let first = first-varying a none_a in let le = first-le a place.index in let begins = h.begins in let count = h.count in
+    let more = room-varying shape.element_size place.len none in let long = m.long in let within = m.within in let few = h.few in
     record {
-      table = omega (arith, first, le, place, count);
+      table = omega (arith, first, le, begins, count);
       room = omega (arith, long, more, within);
       small = omega (arith, few);
       offsets = (λ j l.
-          let e : offset bytes j ≡ offset before j = ap (λ x. offset x j) h.made ∙ zeros-word before at (room_of shape.element_size n) (8 + 2 * j) (omega (arith, first, le, place, count)) within in
+          let e : offset bytes j ≡ offset before j = ap (λ x. offset x j) h.made ∙ zeros-word before place.begin (room_of shape.element_size place.len) (8 + 2 * j) (omega (arith, first, le, begins, count)) within in
           let o = m.reads.spells.offsets none_a j (omega (arith, count)) in let b = element-bounds before a j m.reads in
           omega (arith, e, o, b.1, long, more, few));
     }
 
 -- and the new array is spelled
-pub spelled-varying : (bytes new done before : List ℕ) (a : Array) (shape : Shape) (i at n w : ℕ) → HasRoom bytes before a shape i at n → shape.element_size ≡ 0
-    → OpensTable bytes new shape.count i at n → w ≡ shape.count + 1 → done ≡ with_word new 0 w → ((k : ℕ) → get_or done k 0 < 256) → done ≡ spelled (with_element a i n)
-spelled-varying bytes new done before a shape i at n w h none o counts made small =
-    let m = room bytes before a shape i at n h in let count = h.count in let few = m.count in let known = h.known in
-    let T : ℕ → Type 0 = λ x. OpensTable bytes new x i at n in let U : ℕ → Type 0 = λ x. OpensTable bytes new (length a.elements) i x n in
-    inserted-varying before bytes new done a i n m.reads (h.size ∙ none) (omega (arith, known, count))
-    (h.made ∙ ap (λ x. with_zeros before x (room_of shape.element_size n)) h.place ∙ ap (with_zeros before (element_at a i)) (room-varying shape.element_size n none))
-    (subst U h.place (subst T (sym count) o)) (made ∙ ap (with_word new 0) (counts ∙ ap (λ x. x + 1) (sym count))) (omega (arith, count, few)) small
+pub spelled-varying : (bytes new done before : List ℕ) (a : Array) (shape : Shape) (place : ElementPlace) (w : ℕ) → HasRoom bytes before a shape place → shape.element_size ≡ 0
+    → OpensTable bytes new shape.count place.index place.begin place.len → w ≡ shape.count + 1 → done ≡ with_word new 0 w → ((k : ℕ) → get_or done k 0 < 256) → done ≡ spelled (with_element a place.index place.len)
+spelled-varying bytes new done before a shape place w h none o counts made small =
+    let m = room bytes before a shape place h in let count = h.count in let few = m.count in let known = h.known in
+    let T : ℕ → Type 0 = λ x. OpensTable bytes new x place.index place.begin place.len in let U : ℕ → Type 0 = λ x. OpensTable bytes new (length a.elements) place.index x place.len in
+    inserted-varying before bytes new done a place.index place.len m.reads (h.size ∙ none) (omega (arith, known, count))
+    (h.made ∙ ap (λ x. with_zeros before x (room_of shape.element_size place.len)) h.begins ∙ ap (with_zeros before (element_at a place.index)) (room-varying shape.element_size place.len none))
+    (subst U h.begins (subst T (sym count) o)) (made ∙ ap (with_word new 0) (counts ∙ ap (λ x. x + 1) (sym count))) (omega (arith, count, few)) small
 
-pub spelled-fixed : (bytes done before : List ℕ) (a : Array) (shape : Shape) (i at n w : ℕ) → HasRoom bytes before a shape i at n → shape.element_size ≢ 0
-    → w ≡ shape.count + 1 → done ≡ with_word bytes 0 w → ((k : ℕ) → get_or done k 0 < 256) → done ≡ spelled (with_element a i n)
-spelled-fixed bytes done before a shape i at n w h some counts made small =
-    let m = room bytes before a shape i at n h in let count = h.count in let few = m.count in let known = h.known in let size = h.size in
-    inserted-fixed before bytes done a i n m.reads (λ e. some (sym size ∙ e)) (omega (arith, known, count))
-    (h.made ∙ ap (λ x. with_zeros before x (room_of shape.element_size n)) h.place ∙ ap (with_zeros before (element_at a i)) (room-fixed shape.element_size n some ∙ sym size))
+pub spelled-fixed : (bytes done before : List ℕ) (a : Array) (shape : Shape) (place : ElementPlace) (w : ℕ) → HasRoom bytes before a shape place → shape.element_size ≢ 0
+    → w ≡ shape.count + 1 → done ≡ with_word bytes 0 w → ((k : ℕ) → get_or done k 0 < 256) → done ≡ spelled (with_element a place.index place.len)
+spelled-fixed bytes done before a shape place w h some counts made small =
+    let m = room bytes before a shape place h in let count = h.count in let few = m.count in let known = h.known in let size = h.size in
+    inserted-fixed before bytes done a place.index place.len m.reads (λ e. some (sym size ∙ e)) (omega (arith, known, count))
+    (h.made ∙ ap (λ x. with_zeros before x (room_of shape.element_size place.len)) h.begins ∙ ap (with_zeros before (element_at a place.index)) (room-fixed shape.element_size place.len some ∙ sym size))
     (made ∙ ap (with_word bytes 0) (counts ∙ ap (λ x. x + 1) (sym count))) (omega (arith, count, few)) small
 
 -- the new array takes the room

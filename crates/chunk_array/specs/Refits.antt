@@ -2,25 +2,26 @@
 use Rattle.std.specs.Prelude.{◌≡◌, ℕ, ◌<◌, ◌≤◌, List, length, slice_index, Some}
 use Rattle.geos_model.specs.Chunks.{resized, with_resized_part}
 use Rattle.geos_model.specs.Arrays.{Array, arr, element_at, element, with_element_bytes}
+use Rattle.chunk_array.specs.declared.shape.ElementPlace.{ElementPlace}
 use Rattle.chunk_array.specs.declared.shape.Shape.{Shape}
 
 -- the bytes of an array of this shape, whose sizes vary, where n bytes stand in the place of
--- those that element i had
-pub record HasRefit (bytes before : List ℕ) (a : Array) (shape : Shape) (i has n : ℕ) : Type 0 where
+-- those that an element had
+pub record HasRefit (bytes before : List ℕ) (a : Array) (shape : Shape) (place : ElementPlace) (n : ℕ) : Type 0 where
   pub is : arr before ≡ Some a
   pub small : (k : ℕ) → slice_index before k < 256
   pub count : length a.elements ≡ shape.count
   pub varying : a.element_size ≡ 0
-  pub known : i < shape.count
-  pub size : has ≡ length (element a i)
-  pub made : bytes ≡ with_resized_part before (element_at a i) has n
+  pub known : place.index < shape.count
+  pub size : place.len ≡ length (element a place.index)
+  pub made : bytes ≡ with_resized_part before (element_at a place.index) place.len n
   pub few : length bytes ≤ 65520
 
 -- they are such bytes
-pub record IsRefitted (bytes : List ℕ) (shape : Shape) (i has n : ℕ) : Type 0 where
+pub record IsRefitted (bytes : List ℕ) (shape : Shape) (place : ElementPlace) (n : ℕ) : Type 0 where
   pub before : List ℕ
   pub array : Array
-  pub has_refit : HasRefit bytes before array shape i has n
+  pub has_refit : HasRefit bytes before array shape place n
 
 -- the array in which element i has n bytes: its first ones that fit, and zeros
 abbrev pub with_refit : Array → ℕ → ℕ → Array

@@ -3,33 +3,35 @@ use Rattle.std.specs.Prelude.{◌≡◌, ℕ, ◌+◌, ◌-◌, ◌<◌, ◌≤�
 use Rattle.geos_model.specs.Block.{chunks}
 use Rattle.geos_model.specs.Chunks.{with_bytes, without_part}
 use Rattle.geos_model.specs.Arrays.{Array, arr, element_at, spelled, without_element}
+use Rattle.chunk_array.specs.declared.shape.ElementPlace.{ElementPlace}
 use Rattle.chunk_array.specs.declared.shape.Shape.{Shape}
 use Rattle.chunk_array.specs.Insertions.{room_of}
 
--- the bytes of an array of this shape, and where its element i begins and ends
-pub record HasPart (bytes : List ℕ) (a : Array) (shape : Shape) (i start end : ℕ) : Type 0 where
+-- the bytes of an array of this shape, and the place of one of its elements
+pub record HasPart (bytes : List ℕ) (a : Array) (shape : Shape) (place : ElementPlace) : Type 0 where
   pub is : arr bytes ≡ Some a
   pub small : (k : ℕ) → slice_index bytes k < 256
   pub count : length a.elements ≡ shape.count
   pub size : a.element_size ≡ shape.element_size
-  pub known : i < shape.count
-  pub begins : start ≡ element_at a i
-  pub ends : end ≡ element_at a (i + 1)
+  pub known : place.index < shape.count
+  pub begins : place.begin ≡ element_at a place.index
+  pub ends : place.begin + place.len ≡ element_at a (place.index + 1)
   pub few : length bytes ≤ 65520
 
 -- they are such bytes
-pub record IsParted (bytes : List ℕ) (shape : Shape) (i start end : ℕ) : Type 0 where
+pub record IsParted (bytes : List ℕ) (shape : Shape) (place : ElementPlace) : Type 0 where
   pub array : Array
-  pub has : HasPart bytes array shape i start end
+  pub has : HasPart bytes array shape place
 
 -- without the bytes that an element took, with its offset, the bytes spell the array without
 -- it
-pub record SpellsWithout (bytes : List ℕ) (a : Array) (shape : Shape) (i start end : ℕ) : Type 0 where
-  pub rest : (room : ℕ) → room ≡ room_of shape.element_size (end - start) → without_part bytes (end - room) room ≡ spelled (without_element a i)
+pub record SpellsWithout (bytes : List ℕ) (a : Array) (shape : Shape) (place : ElementPlace) : Type 0 where
+  pub rest : (room : ℕ) → room ≡ room_of shape.element_size place.len
+      → without_part bytes (place.begin + place.len - room) room ≡ spelled (without_element a place.index)
 
 -- a chunk has such bytes now, as many as it had
-pub record Excludes (old new : List ℕ) (c : ℕ) (was : List ℕ) (a : Array) (shape : Shape) (i start end : ℕ) : Type 0 where
+pub record Excludes (old new : List ℕ) (c : ℕ) (was : List ℕ) (a : Array) (shape : Shape) (place : ElementPlace) : Type 0 where
   pub bytes : List ℕ
   pub long : length bytes ≡ length was
   pub chunks : chunks new ≡ with_bytes (chunks old) c bytes
-  pub spells : SpellsWithout bytes a shape i start end
+  pub spells : SpellsWithout bytes a shape place

@@ -10,105 +10,113 @@ ghost use Rattle.chunk_array.specs.Insertions.{HasRoom, IsRoomy};
 ghost use Rattle.chunk_array.specs.Refits.{HasRefit, IsRefitted, with_refit};
 ghost use Rattle.chunk_array.specs.Removals.{Excludes, HasPart, IsParted, SpellsWithout};
 
-use crate::shape::{COUNT, Shape};
+use crate::shape::{COUNT, ElementPlace, Shape};
 use crate::table::{close_table, open_table, shift_offsets};
 use crate::words::put16;
 use lmem_heap::place;
 
-/// Spells an array with a new element of zeros in a chunk that has the room for it where it is
-/// to begin.
-pub(crate) fn put_element(block: &mut [u8], c: u16, shape: Shape, i: usize, at: usize, n: usize)
+/// Spells an array with a new element of zeros in a chunk that has the room for it at its place.
+/// Its length is not used where elements have one size.
+pub(crate) fn put_element(block: &mut [u8], c: u16, shape: Shape, element: ElementPlace)
     requires heap { IsHeap block.old }
-    requires room { IsSomeAnd (chunk_of (chunks block.old) c) (λ bytes. IsRoomy bytes shape i at n) }
+    requires room { IsSomeAnd (chunk_of (chunks block.old) c) (λ bytes. IsRoomy bytes shape element) }
     ensures heap { IsHeap block.new }
     ensures handle { handle_word block.new ≡ handle_word block.old }
-    ensures chunks { (bytes before : List ℕ) (a : Array) → chunk_of (chunks block.old) c ≡ Some bytes → HasRoom bytes before a shape i at n
-        → chunks block.new ≡ with_array (chunks block.old) c (with_element a i n) }
+    ensures chunks { (bytes before : List ℕ) (a : Array) → chunk_of (chunks block.old) c ≡ Some bytes → HasRoom bytes before a shape element
+        → chunks block.new ≡ with_array (chunks block.old) c (with_element a element.index element.len) }
 {
     let (begin, len) = match place(block, c) {
         Ok(place) => place,
         Err(_) => unreachable!(),
     };
     let begin = begin as usize;
-    spell_inserted(&mut block[begin..begin + len as usize], shape, i, at, n);
+    spell_inserted(&mut block[begin..begin + len as usize], shape, element);
 }
 
 /// Spells an array with a new element of zeros.
-fn spell_inserted(bytes: &mut [u8], shape: Shape, i: usize, at: usize, n: usize)
-    requires { IsRoomy bytes.old shape i at n }
-    ensures { (before : List ℕ) (a : Array) → HasRoom bytes.old before a shape i at n → bytes.new ≡ spelled (with_element a i n) }
+fn spell_inserted(bytes: &mut [u8], shape: Shape, element: ElementPlace)
+    requires { IsRoomy bytes.old shape element }
+    ensures { (before : List ℕ) (a : Array) → HasRoom bytes.old before a shape element
+        → bytes.new ≡ spelled (with_element a element.index element.len) }
 {
     if shape.element_size == 0 {
-        open_table(bytes, shape.count as usize, i, at, n);
+        open_table(
+            bytes,
+            shape.count as usize,
+            element.index,
+            element.begin,
+            element.len,
+        );
     }
     put16(bytes, COUNT, shape.count + 1);
 }
 
 /// Spells an array without an element, in front of whose end the bytes that it took, with its
 /// offset where sizes vary, are left: they are to be deleted.
-pub(crate) fn take_element(
-    block: &mut [u8],
-    c: u16,
-    shape: Shape,
-    i: usize,
-    start: usize,
-    end: usize,
-)
+pub(crate) fn take_element(block: &mut [u8], c: u16, shape: Shape, element: ElementPlace)
     requires heap { IsHeap block.old }
-    requires part { IsSomeAnd (chunk_of (chunks block.old) c) (λ bytes. IsParted bytes shape i start end) }
+    requires part { IsSomeAnd (chunk_of (chunks block.old) c) (λ bytes. IsParted bytes shape element) }
     ensures heap { IsHeap block.new }
     ensures handle { handle_word block.new ≡ handle_word block.old }
-    ensures chunks { (bytes : List ℕ) (a : Array) → chunk_of (chunks block.old) c ≡ Some bytes → HasPart bytes a shape i start end
-        → Excludes block.old block.new c bytes a shape i start end }
+    ensures chunks { (bytes : List ℕ) (a : Array) → chunk_of (chunks block.old) c ≡ Some bytes → HasPart bytes a shape element
+        → Excludes block.old block.new c bytes a shape element }
 {
     let (begin, len) = match place(block, c) {
         Ok(place) => place,
         Err(_) => unreachable!(),
     };
     let begin = begin as usize;
-    spell_removed(
-        &mut block[begin..begin + len as usize],
-        shape,
-        i,
-        start,
-        end,
-    );
+    spell_removed(&mut block[begin..begin + len as usize], shape, element);
 }
 
 /// Spells an array without an element, but for the bytes that it took.
-fn spell_removed(bytes: &mut [u8], shape: Shape, i: usize, start: usize, end: usize)
-    requires { IsParted bytes.old shape i start end }
-    ensures { (a : Array) → HasPart bytes.old a shape i start end → SpellsWithout bytes.new a shape i start end }
+fn spell_removed(bytes: &mut [u8], shape: Shape, element: ElementPlace)
+    requires { IsParted bytes.old shape element }
+    ensures { (a : Array) → HasPart bytes.old a shape element
+        → SpellsWithout bytes.new a shape element }
 {
     if shape.element_size == 0 {
-        close_table(bytes, shape.count as usize, i, start, end - start);
+        close_table(
+            bytes,
+            shape.count as usize,
+            element.index,
+            element.begin,
+            element.len,
+        );
     }
     put16(bytes, COUNT, shape.count - 1);
 }
 
-/// Makes the offsets right behind an element that had `has` bytes and has n now.
-pub(crate) fn put_offsets(block: &mut [u8], c: u16, shape: Shape, i: usize, has: usize, n: usize)
+/// Makes the offsets right behind an element that has n bytes in place of those that it had.
+pub(crate) fn put_offsets(block: &mut [u8], c: u16, shape: Shape, element: ElementPlace, n: usize)
     requires heap { IsHeap block.old }
-    requires refit { IsSomeAnd (chunk_of (chunks block.old) c) (λ bytes. IsRefitted bytes shape i has n) }
-    requires small { (has ≤ 65535) × (n ≤ 65535) }
+    requires refit { IsSomeAnd (chunk_of (chunks block.old) c) (λ bytes. IsRefitted bytes shape element n) }
+    requires small { (element.len ≤ 65535) × (n ≤ 65535) }
     ensures heap { IsHeap block.new }
     ensures handle { handle_word block.new ≡ handle_word block.old }
-    ensures chunks { (bytes before : List ℕ) (a : Array) → chunk_of (chunks block.old) c ≡ Some bytes → HasRefit bytes before a shape i has n
-        → chunks block.new ≡ with_array (chunks block.old) c (with_refit a i n) }
+    ensures chunks { (bytes before : List ℕ) (a : Array) → chunk_of (chunks block.old) c ≡ Some bytes → HasRefit bytes before a shape element n
+        → chunks block.new ≡ with_array (chunks block.old) c (with_refit a element.index n) }
 {
     let (begin, len) = match place(block, c) {
         Ok(place) => place,
         Err(_) => unreachable!(),
     };
     let begin = begin as usize;
-    spell_refitted(&mut block[begin..begin + len as usize], shape, i, has, n);
+    spell_refitted(&mut block[begin..begin + len as usize], shape, element, n);
 }
 
-/// Spells an array in which an element had `has` bytes and has n now.
-fn spell_refitted(bytes: &mut [u8], shape: Shape, i: usize, has: usize, n: usize)
-    requires refit { IsRefitted bytes.old shape i has n }
-    requires small { (has ≤ 65535) × (n ≤ 65535) }
-    ensures { (before : List ℕ) (a : Array) → HasRefit bytes.old before a shape i has n → bytes.new ≡ spelled (with_refit a i n) }
+/// Spells an array in which an element has n bytes in place of those that it had.
+fn spell_refitted(bytes: &mut [u8], shape: Shape, element: ElementPlace, n: usize)
+    requires refit { IsRefitted bytes.old shape element n }
+    requires small { (element.len ≤ 65535) × (n ≤ 65535) }
+    ensures { (before : List ℕ) (a : Array) → HasRefit bytes.old before a shape element n
+        → bytes.new ≡ spelled (with_refit a element.index n) }
 {
-    shift_offsets(bytes, i + 1, shape.count as usize, has, n);
+    shift_offsets(
+        bytes,
+        element.index + 1,
+        shape.count as usize,
+        element.len,
+        n,
+    );
 }

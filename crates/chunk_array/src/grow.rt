@@ -15,6 +15,7 @@ ghost use Rattle.chunk_array.specs.GrowthErrors.{IsGrowthError};
 use crate::change::put_element;
 use crate::error::{AppendError, ArrayError, GrowthError};
 use crate::look::{Found, find};
+use crate::shape::ElementPlace;
 use lmem_heap::{InsertError, RoomError};
 
 /// Puts an element of `n` zero bytes behind the others; `n` is not used where elements have
@@ -99,6 +100,11 @@ fn insert_at(block: &mut [u8], c: u16, found: Found, i: usize, n: u16) -> Result
         Err(InsertError::Room(room)) => return Err(room),
         Err(_) => unreachable!(),
     }
-    put_element(block, c, found.shape, i, at, n as usize);
+    let element = ElementPlace {
+        index: i,
+        begin: at,
+        len: n as usize,
+    };
+    put_element(block, c, found.shape, element);
     Ok(())
 }

@@ -1,5 +1,5 @@
 //! Calls that look at an array.
-ghost use Rattle.std.specs.Prelude.{◌≡◌, ℕ, ◌+◌, ◌≤◌, length, IfErr, IfOk, MatchResult, OnOk};
+ghost use Rattle.std.specs.Prelude.{◌≡◌, ℕ, ◌+◌, ◌<◌, ◌≤◌, length, IfErr, IfOk, MatchResult, OnOk};
 ghost use Rattle.lmem_raw.specs.Bytes.{part};
 ghost use Rattle.geos_model.specs.Refusals.{first_refusal};
 ghost use Rattle.geos_model.specs.Block.{chunks, IsPlaced};
@@ -12,7 +12,7 @@ ghost use Rattle.chunk_array.specs.ArrayErrors.{IsArrayError};
 ghost use Rattle.chunk_array.specs.ElementErrors.{IsElementError};
 
 use crate::error::{ArrayError, ElementError};
-use crate::shape::Shape;
+use crate::shape::{ElementPlace, Shape};
 use lmem_heap::place;
 
 /// An array in a chunk: where the chunk's bytes stand, how many there are, and what they say.
@@ -38,6 +38,25 @@ impl Found {
         let begin = self.at as usize;
         self.shape
             .start(&block[begin..begin + self.len as usize], i)
+    }
+
+    /// Where an element lies.
+    pub(crate) fn place(self, block: &[u8], i: usize) -> ElementPlace
+        requires within { self.at + self.len ≤ length block.now }
+        requires shape { HasShape (part block.now self.at self.len) self.shape }
+        requires known { i < self.shape.count }
+        ensures index { result.index ≡ i }
+        ensures begin { (a : Array) → arr (part block.now self.at self.len) ≡ Some a → result.begin ≡ element_at a i }
+        ensures end { (a : Array) → arr (part block.now self.at self.len) ≡ Some a → result.begin + result.len ≡ element_at a (i + 1) }
+        ensures within { (8 ≤ result.begin) × (result.begin + result.len ≤ self.len) }
+    {
+        let begin = self.start(block, i);
+        let end = self.start(block, i + 1);
+        ElementPlace {
+            index: i,
+            begin,
+            len: end - begin,
+        }
     }
 }
 
@@ -102,7 +121,6 @@ pub fn element(block: &[u8], c: u16, i: u16) -> Result<(u16, u16), ElementError>
         Ok(found) => found,
         Err(e) => return Err(e),
     };
-    let start = found.start(block, i as usize);
-    let end = found.start(block, i as usize + 1);
-    Ok((found.at + start as u16, (end - start) as u16))
+    let place = found.place(block, i as usize);
+    Ok((found.at + place.begin as u16, place.len as u16))
 }

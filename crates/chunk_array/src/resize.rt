@@ -42,14 +42,12 @@ pub fn resize_element(block: &mut [u8], c: u16, i: u16, n: u16) -> Result<(), Gr
     if i >= found.shape.count {
         return Err(GrowthError::BadElement);
     }
-    let i = i as usize;
-    let start = found.start(block, i);
-    let has = found.start(block, i + 1) - start;
-    match resize_part(block, c, start, has, n) {
+    let element = found.place(block, i as usize);
+    match resize_part(block, c, element.begin, element.len, n) {
         Ok(()) => {}
         Err(room) => return Err(GrowthError::Room(room)),
     }
-    put_offsets(block, c, found.shape, i, has, n as usize);
+    put_offsets(block, c, found.shape, element, n as usize);
     Ok(())
 }
 

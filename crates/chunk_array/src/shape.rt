@@ -26,6 +26,16 @@ pub(crate) struct Shape {
     pub(crate) element_size: u16,
 }
 
+/// Where an element lies in the bytes of an array.
+#[derive(Clone, Copy)]
+pub(crate) struct ElementPlace {
+    pub(crate) index: usize,
+    /// The offset of its first byte, from the chunk's first byte on.
+    pub(crate) begin: usize,
+    /// How many bytes it has.
+    pub(crate) len: usize,
+}
+
 impl Shape {
     ghost use Rattle.chunk_array.specs.Shapes.{HasShape};
     ghost use Rattle.chunk_array.specs.Insertions.{room_of};

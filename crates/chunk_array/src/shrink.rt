@@ -30,11 +30,10 @@ pub fn remove(block: &mut [u8], c: u16, i: u16) -> Result<(), ElementError>
         Ok(found) => found,
         Err(e) => return Err(e),
     };
-    let i = i as usize;
-    let start = found.start(block, i);
-    let end = found.start(block, i + 1);
-    let room = found.shape.room((end - start) as u16);
-    take_element(block, c, found.shape, i, start, end);
+    let element = found.place(block, i as usize);
+    let room = found.shape.room(element.len as u16);
+    take_element(block, c, found.shape, element);
+    let end = element.begin + element.len;
     match delete(block, c, (end - room) as u16, room as u16) {
         Ok(()) => Ok(()),
         Err(_) => unreachable!(),

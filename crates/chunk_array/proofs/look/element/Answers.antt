@@ -1,4 +1,4 @@
-use Rattle.std.proofs.Common.{◌≡◌, ◌+◌, ◌-◌, ◌<◌, length, ap, sym, ◌∙◌, arith}
+use Rattle.std.proofs.Common.{◌≡◌, ◌+◌, ◌<◌, length, ap, sym, ◌∙◌, arith}
 use Rattle.lmem_raw.specs.Bytes.{part}
 use Rattle.geos_model.specs.Block.{chunks}
 use Rattle.geos_model.specs.Arrays.{element, element_at}
@@ -8,21 +8,15 @@ use Rattle.geos_model.proofs.Entered.{part-part}
 use Rattle.chunk_array.proofs.Shaped.{holds}
 use Rattle.chunk_array.proofs.look.element.Goals as goal
 
-pub overflow_sub-result : goal.overflow_sub-result
-overflow_sub-result c =
-    let b = c.args.block.now in let f = c.in-Ok.ensures in let h = holds b c.args.c c.in-Ok.found f.is in
-    let a = f.is.shape.array in let known = f.known in let count = h.shaped.count in
-    let from = c.start-start.ensures.start a h.is in let to = c.start-end.ensures.start a h.is in let e = element-ends a c.args.i (omega (arith, known, count)) in omega (arith, from, to, e)
-
 pub returns-clause-place : goal.returns-clause-place
 returns-clause-place c =
     let b = c.args.block.now in let f = c.in-Ok.ensures in let found = c.in-Ok.found in let h = holds b c.args.c found f.is in
     let a = f.is.shape.array in let i = c.args.i in let known = f.known in let count = h.shaped.count in
-    let start = c.start-start.result in let end = c.start-end.result in
-    let from : start ≡ element_at a i = c.start-start.ensures.start a h.is in let to = c.start-end.ensures.start a h.is in
+    let start = c.place-place.result.begin in let len = c.place-place.result.len in let p = c.place-place.ensures in
+    let from : start ≡ element_at a i = p.begin a h.is in let to = p.end a h.is in
     let l : i < length a.elements = omega (arith, known, count) in
-    let e = element-ends a i l in let n : end - start ≡ length (element a i) = omega (arith, from, to, e) in
-    let same = array-of (chunks b) c.args.c (part b found.at found.len) a h.there h.is in let within = f.is.within in let upto = c.start-end.ensures.within.1 in
+    let e = element-ends a i l in let n : len ≡ length (element a i) = omega (arith, from, to, e) in
+    let same = array-of (chunks b) c.args.c (part b found.at found.len) a h.there h.is in let within = f.is.within in let upto = p.within.1 in
     record {
       begin = found.at;
       whole = found.len;
@@ -30,7 +24,7 @@ returns-clause-place c =
       inside = within;
       place = ap (λ x. found.at + x) (from ∙ sym (ap (λ x. element_at x i) same));
       long = n ∙ sym (ap (λ x. length (element x i)) same);
-      within = omega (arith, upto, e, from, to);
-      bytes = sym (part-part b found.at found.len start (end - start) (omega (arith, upto, e, from, to)) within) ∙ ap (λ m. part (part b found.at found.len) start m) n
+      within = omega (arith, upto);
+      bytes = sym (part-part b found.at found.len start len upto within) ∙ ap (λ m. part (part b found.at found.len) start m) n
           ∙ ap (λ m. part (part b found.at found.len) m (length (element a i))) from ∙ part-element (part b found.at found.len) a i h.shaped.reads l ∙ sym (ap (λ x. element x i) same);
     }
