@@ -66,6 +66,10 @@ changes cs new c change s sized made =
 here-sized : (cs : List (Option (List ℕ))) (c : ℕ) → Spells cs c (array_of cs c) → IsSized (array_of cs c)
 here-sized cs c s = read-sized s.bytes (array_of cs c) s.is
 
+-- who looks at the chunk then finds the changed array
+pub changed-found : (old new : List (Option (List ℕ))) (c : ℕ) (change : Array → Array) → ChangesArray old new c change → array_of new c ≡ change (array_of old c)
+changed-found old new c change h = ap (λ x. unwrap_or x (empty 0)) h.is ∙ ap change (sym (ap (λ x. unwrap_or x (empty 0)) h.was))
+
 -- What edits make of the array in a chunk
 
 pub creates : (k c : ℕ) (cs new : List (Option (List ℕ))) → c ≡ new_handle cs → new ≡ (create_array k cs).chunks → arr (bytes_of new c) ≡ Some (empty k)

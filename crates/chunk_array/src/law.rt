@@ -3,8 +3,8 @@ ghost use Rattle.std.specs.Prelude.{◌≡◌, ◌≢◌, ℕ, List, length, Opt
 ghost use Rattle.geos_model.specs.Bytes.{AreBytes};
 ghost use Rattle.geos_model.specs.Chunks.{bytes_of};
 ghost use Rattle.geos_model.specs.Arrays.{Array, arr, empty, spelled, with_element, without_element, with_element_bytes};
-ghost use Rattle.geos_model.specs.ArrayEdits.{with_array};
-ghost use Rattle.chunk_array.specs.Changes.{EditsChangeArrays, IsSized};
+ghost use Rattle.geos_model.specs.ArrayEdits.{array_of, with_array};
+ghost use Rattle.chunk_array.specs.Changes.{ChangesArray, EditsChangeArrays, IsSized};
 
 /// An array whose elements have the size that it says, where it says one, is read back out of
 /// the list that spells it, and out of a chunk in which it is spelled in place of another. Each
@@ -34,7 +34,10 @@ pub fn edits_keep_sizes()
 
 /// What the model says of the calls on arrays, which is what the kernel's calls do to the chunks
 /// of their block: where no refusal comes, the chunk spelled an array, and then it spells that
-/// array with the change that the call's name says.
+/// array with the change that the call's name says. So the calls that come next find that array
+/// there: `append` made the count one more, and so on.
 pub fn edits_change_arrays()
-    ensures { EditsChangeArrays }
+    ensures edits { EditsChangeArrays }
+    ensures found { (old new : List (Option (List ℕ))) (c : ℕ) (change : Array → Array) → ChangesArray old new c change
+        → array_of new c ≡ change (array_of old c) }
 {}
