@@ -109,7 +109,7 @@ module _ {D : Type 0} (image : D → List ℕ) (honest : D → Type 0) (may_leav
         on (Err why) ok refused = λ some. (same-spares s t (refused (there_of_locks s (vm_slot g) some))).locked (vm_slot g) some
 
     pub ilock-calls : Calls (honest v.file.device) (ilock g i n) (refers_to g i r) (core_of image failed v s) (core_of image failed w t)
-    ilock-calls = calls-beside image honest failed v w s t (ilock g i n) (refers_to g i r) locks.row locks.device.reads.stays (item-lasts r locks.device) ilock-spares
+    ilock-calls = calls-beside image honest failed v w s t locks.row locks.device.reads.stays (item-lasts r locks.device) ilock-spares
 
   -- the item was found
   pub ilock-gives : (i n at len place : ℕ) → LocksItem image honest may_leave left failed g i n (Ok (at, len)) v w s t → place ≡ place_of t (vm_slot g)

@@ -178,9 +178,9 @@ module _ {D : Type 0} (image : D → List ℕ) (honest : D → Type 0) (failed :
       stands-on (core_of image failed v s) (core_of image failed w t) span ref own.0 own.1 own.2 stands
 
   -- a call that does its row
-  pub calls-beside : {A : Type 0} (call : Call A) (result : Result A Refusal) → DoesRow image honest failed call result v s w t → (honest v.file.device → honest w.file.device)
+  pub calls-beside : {A : Type 0} {call : Call A} {result : Result A Refusal} → DoesRow image honest failed call result v s w t → (honest v.file.device → honest w.file.device)
       → NeverFell (honest v.file.device) (core_of image failed v s) (core_of image failed w t) → Spares s t → Calls (honest v.file.device) call result (core_of image failed v s) (core_of image failed w t)
-  calls-beside call result row still lasts spares = record {
+  calls-beside {call} {result} row still lasts spares = record {
     answers = row-answers image honest failed call result v s w t row still lasts;
     spans = λ f tied choice. spans-beside spares f (effect_of call choice (memory_of (core_of image failed v s) f)).stale;
   }

@@ -9,10 +9,10 @@ use Rattle.geos_model.specs.Names.{vm}
 use Rattle.geos_model.specs.Refusals.{first_refusal}
 use Rattle.geos_table.specs.Calls.{is_in_use, locks_full}
 use Rattle.geos_table.specs.Directories.{VmBlock}
-use Rattle.geos_table.specs.Effects.{bringing, cannot_make, come_to, unchanged}
+use Rattle.geos_table.specs.Effects.{Call, Choice, bringing, cannot_make, come_to, unchanged}
 use Rattle.geos_table.specs.Given.{given_memory}
-use Rattle.geos_table.specs.Memory.{is_group, listed_at, locks_of, lowest_handle, with_listed, with_locks}
-use Rattle.geos_table.specs.VmCalls.{free_listed, is_reserved, lock_listed, names_group, new_listed, no_listed, vfind, vfree, vlock, vnew, vsetmap, without_listed}
+use Rattle.geos_table.specs.Memory.{Memory, is_group, listed_at, locks_of, lowest_handle, with_listed, with_locks}
+use Rattle.geos_table.specs.VmCalls.{does, free_listed, is_reserved, lock_listed, names_group, new_listed, no_listed, vfind, vfree, vlock, vnew, vsetmap, without_listed}
 use Rattle.block_handles.specs.Store.{Store}
 use Rattle.vm_file.specs.Directories.{group_uid}
 use Rattle.vm_blocks.specs.declared.entries.Held.{Held}
@@ -50,24 +50,51 @@ same-uid uid is = grind (arith, nat_tests, is)
 other-uid : (uid : ℕ) → uid ≢ group_uid → (uid == group_uid) ≡ false
 other-uid uid ne = grind (arith, nat_tests, ne)
 
+-- a call on what is listed, with these refusals behind that of nothing listed
+abbrev on_listed : (Choice → Memory → List (Bool × Refusal)) → (Memory → Memory) → ℕ → Call (Unit {0})
+on_listed refusals after h choice m = does m (no_listed m h ∷ refusals choice m) (after m)
+
+-- and one that refuses groups
+abbrev on_ungrouped : (Choice → Memory → List (Bool × Refusal)) → (Memory → Memory) → ℕ → Call (Unit {0})
+on_ungrouped refusals after h choice m = does m (no_listed m h ∷ names_group m h ∷ refusals choice m) (after m)
+
+-- the refusals of a lock behind those
+abbrev lock-refusals : ℕ → Choice → Memory → List (Bool × Refusal)
+lock-refusals h choice m = locks_full m (vm h) ∷ bringing choice m h
+
 module _ {D : Type 0} (image : D → List ℕ) (honest : D → Type 0) (failed : D → ℕ) (v : VmState D) (s : Store) (tied : IsTied image honest v s) where
   -- Blocks that are no groups
 
-  pub vlock-row : (h : ℕ) → (IsGroup v h → ⊥) → (w : VmState D) (t : Store) (r : Result (Unit {0}) Refusal) → DoesRow image honest failed (lock_listed h) r v s w t → DoesRow image honest failed (vlock h) r v s w t
-  vlock-row h none w t r row m is =
-      let b = row m is in
-      let n = given_memory b.0.given m in
-      let test : is_group n h ≡ false = is_group-given b.0.given m h ∙ no_group-told image honest v s tied m is h none in
-      let tests : first_refusal (no_listed n h ∷ names_group n h ∷ locks_full n (vm h) ∷ bringing b.0 n h) ≡ first_refusal (no_listed n h ∷ locks_full n (vm h) ∷ bringing b.0 n h) = rw test refl in
-      (b.0, b.1, b.2, b.3, ap (λ o. come_to {A = Unit {0}} o (unchanged n) tt (with_locks n (vm h) (locks_of n (vm h) + 1))) tests ∙ b.4)
+  module _ (refusals : Choice → Memory → List (Bool × Refusal)) (after : Memory → Memory) (h : ℕ) where
+    -- on what is no group, such a call is the one that takes groups too
+    no_group-row : (IsGroup v h → ⊥) → (w : VmState D) (t : Store) (r : Result (Unit {0}) Refusal) → DoesRow image honest failed (on_listed refusals after h) r v s w t → DoesRow image honest failed (on_ungrouped refusals after h) r v s w t
+    no_group-row none w t r row m is =
+        let b = row m is in
+        let n = given_memory b.0.given m in
+        let test : is_group n h ≡ false = is_group-given b.0.given m h ∙ no_group-told image honest v s tied m is h none in
+        let tests : first_refusal (no_listed n h ∷ names_group n h ∷ refusals b.0 n) ≡ first_refusal (no_listed n h ∷ refusals b.0 n) = rw test refl in
+        (b.0, b.1, b.2, b.3, ap (λ o. come_to {A = Unit {0}} o (unchanged n) tt (after n)) tests ∙ b.4)
 
-  pub vfree-row : (h : ℕ) → (IsGroup v h → ⊥) → (w : VmState D) (t : Store) (r : Result (Unit {0}) Refusal) → DoesRow image honest failed (free_listed h) r v s w t → DoesRow image honest failed (vfree h) r v s w t
-  vfree-row h none w t r row m is =
-      let b = row m is in
-      let n = given_memory b.0.given m in
-      let test : is_group n h ≡ false = is_group-given b.0.given m h ∙ no_group-told image honest v s tied m is h none in
-      let tests : first_refusal (no_listed n h ∷ names_group n h ∷ is_in_use n (vm h) ∷ []) ≡ first_refusal (no_listed n h ∷ is_in_use n (vm h) ∷ []) = rw test refl in
-      (b.0, b.1, b.2, b.3, ap (λ o. come_to {A = Unit {0}} o (unchanged n) tt (without_listed n h)) tests ∙ b.4)
+    -- a group it refuses
+    group-row : IsGroup v h → DoesRow image honest failed (on_ungrouped refusals after h) (Err refusal.Reserved) v s v s
+    group-row group m is =
+        let one = group-told image honest v s tied m is h group in
+        let listed = group-listed m h one in
+        (chosen false false [], record { given = λ good. refl; device = λ good fails. absurd cc }, m, is, rw (one, listed) refl)
+
+  pub lock-row : (h : ℕ) → (IsGroup v h → ⊥) → (w : VmState D) (t : Store) (r : Result (Unit {0}) Refusal) → DoesRow image honest failed (lock_listed h) r v s w t → DoesRow image honest failed (vlock h) r v s w t
+  lock-row h = no_group-row (lock-refusals h) (λ m. with_locks m (vm h) (locks_of m (vm h) + 1)) h
+
+  pub lock-group-row : (h : ℕ) → IsGroup v h → DoesRow image honest failed (vlock h) (Err refusal.Reserved) v s v s
+  lock-group-row h = group-row (lock-refusals h) (λ m. with_locks m (vm h) (locks_of m (vm h) + 1)) h
+
+  pub free-row : (h : ℕ) → (IsGroup v h → ⊥) → (w : VmState D) (t : Store) (r : Result (Unit {0}) Refusal) → DoesRow image honest failed (free_listed h) r v s w t → DoesRow image honest failed (vfree h) r v s w t
+  free-row h = no_group-row (λ choice m. is_in_use m (vm h) ∷ []) (λ m. without_listed m h) h
+
+  pub free-group-row : (h : ℕ) → IsGroup v h → DoesRow image honest failed (vfree h) (Err refusal.Reserved) v s v s
+  free-group-row h = group-row (λ choice m. is_in_use m (vm h) ∷ []) (λ m. without_listed m h) h
+
+  -- New blocks, and the user ID of groups
 
   pub vnew-row : (uid : ℕ) → uid ≢ group_uid → (w : VmState D) (t : Store) (r : Result ℕ Refusal) → DoesRow image honest failed (make_listed uid 1) r v s w t → DoesRow image honest failed (vnew uid) r v s w t
   vnew-row uid ne w t r row m is =
@@ -78,18 +105,6 @@ module _ {D : Type 0} (image : D → List ℕ) (honest : D → Type 0) (failed :
       let own = (is_none (lowest_handle n Vm), refusal.NoHandle) ∷ (cannot_make b.0 n (vm h), refusal.NoRoom) ∷ [] in
       let tests : first_refusal (is_reserved uid ∷ own) ≡ first_refusal own = rw test refl in
       (b.0, b.1, b.2, b.3, ap (λ o. come_to o (unchanged n) h (with_listed n h (Some (new_listed uid 1)))) tests ∙ b.4)
-
-  -- Groups, and their user ID
-
-  pub vlock-group-row : (h : ℕ) → IsGroup v h → DoesRow image honest failed (vlock h) (Err refusal.Reserved) v s v s
-  vlock-group-row h group m is =
-      let one = group-told image honest v s tied m is h group in let listed = group-listed m h one in
-      (chosen false false [], record { given = λ good. refl; device = λ good fails. absurd cc }, m, is, rw (one, listed) refl)
-
-  pub vfree-group-row : (h : ℕ) → IsGroup v h → DoesRow image honest failed (vfree h) (Err refusal.Reserved) v s v s
-  vfree-group-row h group m is =
-      let one = group-told image honest v s tied m is h group in let listed = group-listed m h one in
-      (chosen false false [], record { given = λ good. refl; device = λ good fails. absurd cc }, m, is, rw (one, listed) refl)
 
   pub vnew-reserved-row : (uid : ℕ) → uid ≡ group_uid → DoesRow image honest failed (vnew uid) (Err refusal.Reserved) v s v s
   vnew-reserved-row uid same m is =

@@ -1,8 +1,8 @@
 -- The calls that lock, unlock and free a block.
-use Rattle.std.proofs.Common.{◌≡◌, ◌≢◌, ℕ, zero, suc, ◌<◌, ◌≤◌, ◌+◌, ◌-◌, List, true, false, Some, None, refl, sym, ap, ◌∙◌, arith, subst, inl, inr}
-use Rattle.std.specs.Prelude.{Result, Ok, Err, ◌↔◌, OnOk, OnErr, IfSome, nat_lt, ◌==◌, if◌then◌else◌}
+use Rattle.std.proofs.Common.{◌≡◌, ◌≢◌, ℕ, zero, suc, ◌<◌, ◌≤◌, ◌+◌, ◌-◌, Bool, List, [], ◌∷◌, true, false, Some, None, Decides, refl, sym, ap, ◌∙◌, arith, subst, inl, inr}
+use Rattle.std.specs.Prelude.{Result, Ok, Err, ◌↔◌, OnOk, OnErr, IfSome, is_none, nat_lt, ◌==◌, if◌then◌else◌}
 use Rattle.std.proofs.lemmas.Bool.{cases_eq}
-use Rattle.std.proofs.lemmas.Bool.Decides.{nat_tests}
+use Rattle.std.proofs.lemmas.Bool.Decides.{Decides-eqb, Decides-ltb}
 use Rattle.std.proofs.lemmas.List.{get_or-set_other}
 use Rattle.geos_model.specs.declared.name.Name.{Name}
 use Rattle.geos_model.specs.declared.name.Owner.{Owner}
@@ -14,7 +14,7 @@ use Rattle.geos_table.specs.Memory as model
 use Rattle.geos_table.specs.Memory.{Memory}
 use Rattle.geos_table.specs.VmFile.{VmFile}
 use Rattle.geos_model.specs.declared.refusal.Refusal.TheVariants.{BadHandle, Locked}
-use Rattle.geos_table.specs.Effects.{Reference, Nothing, InBlock, OfLock}
+use Rattle.geos_table.specs.Effects.{Call, Reference, Nothing, InBlock, OfLock, unchanged}
 use Rattle.geos_table.specs.Calls as table
 use Rattle.block_handles.specs.declared.error.HandleError.{HandleError}
 use Rattle.block_handles.specs.declared.error.HandleError.TheVariants as handle
@@ -42,21 +42,23 @@ use Rattle.heap_calls.proofs.Rows.{there-is}
 use Rattle.geos_kernel.proofs.Changed.{slot-keeps}
 use Rattle.geos_kernel.proofs.Named.{block-absent, named-legal, other-slot}
 use Rattle.geos_kernel.proofs.Rowed.{does-willing, row-calls}
-use Rattle.geos_kernel.proofs.Rows.{mlock-ok, mlock-absent, mlock-full, mfree-ok, mfree-absent, mfree-locked}
 use Rattle.geos_kernel.proofs.Seen.{memory-known}
 use Rattle.geos_kernel.proofs.Stays.{Same, kernel-on, spans-same, stands-on, stands-same}
 
+-- what the blocks ensure of a call on a slot: it is done where there is a block and nothing of its
+-- count forbids it, and leaves these blocks; else they are as they were
+abbrev pub DoesSlot : (ℕ → Type 0) → Store → Store → Store → ℕ → Result (Unit {0}) HandleError → Type 0
+DoesSlot Forbidden after old new slot r =
+    OnOk r (store.IsThere old slot) × OnOk r (new ≡ after)
+    × ((r ≡ Err handle.BadHandle) ↔ (store.IsThere old slot → ⊥)) × ((r ≡ Err handle.Locked) ↔ Forbidden (store.locks_of old slot)) × OnErr r (new ≡ old)
+
 -- what `lock` ensures of a slot
 abbrev pub LocksSlot : Store → Store → ℕ → Result (Unit {0}) HandleError → Type 0
-LocksSlot old new slot r =
-    OnOk r (store.IsThere old slot) × OnOk r (new ≡ change.with_lock_more old slot)
-    × ((r ≡ Err handle.BadHandle) ↔ (store.IsThere old slot → ⊥)) × ((r ≡ Err handle.Locked) ↔ (store.locks_of old slot ≡ 65535)) × OnErr r (new ≡ old)
+LocksSlot old new slot r = DoesSlot (λ n. n ≡ 65535) (change.with_lock_more old slot) old new slot r
 
 -- what `free` ensures of a slot
 abbrev pub FreesSlot : Store → Store → ℕ → Result (Unit {0}) HandleError → Type 0
-FreesSlot old new slot r =
-    OnOk r (store.IsThere old slot) × OnOk r (new ≡ change.without old slot)
-    × ((r ≡ Err handle.BadHandle) ↔ (store.IsThere old slot → ⊥)) × ((r ≡ Err handle.Locked) ↔ (0 < store.locks_of old slot)) × OnErr r (new ≡ old)
+FreesSlot old new slot r = DoesSlot (λ n. 0 < n) (change.without old slot) old new slot r
 
 -- Another count of locks
 
@@ -86,6 +88,13 @@ module _ {D : Type 0} (image : D → List ℕ) (honest : D → Type 0) (failed :
       let at = there-is (store.block_at s slot) there in
       let legal : name.owner ≡ Vm → IsLegalBlock (spelled n (store.bytes_of s slot)) = λ e. (let l = named-legal image honest v s m k.tied is name e b at in record { heap = l.heap; few = few }) in
       named-changed image honest v s (relocked n) name k.tied (relocked-keeps n there) m is b c at (relocked-own n there) (locked_block n) refl legal
+
+  -- the same where a row says the new count by the old one
+  recounted-memory : (count : ℕ → ℕ) → count (store.locks_of s slot) ≤ 65535 → store.IsThere s slot → (m : Memory) → IsMemoryOf image honest v s m
+      → IsMemoryOf image honest v (relocked (count (store.locks_of s slot))) (model.with_locks m name (count (model.locks_of m name)))
+  recounted-memory count few there m is =
+      let n : ℕ = count (store.locks_of s slot) in
+      subst (λ old. IsMemoryOf image honest v (relocked n) (model.with_locks m name (count old))) (sym (locks-known image honest v s k.tied m is name)) (relocked-memory m n few there is)
 
   -- every other block is as it was, and lies where it lay
   relocked-other : (n j : ℕ) → j ≢ slot → store.block_at (relocked n) j ≡ store.block_at s j
@@ -155,10 +164,9 @@ module _ {D : Type 0} (image : D → List ℕ) (honest : D → Type 0) (failed :
 
     unlock-row : DoesRow image honest failed (table.unlock name) (Ok tt) v s v t
     unlock-row = does-willing image honest failed (table.unlock name) (Ok tt) v s t (λ m is.
-        let n : ℕ = store.locks_of s slot - 1 in
-        let after = relocked-memory m n (omega (arith, k.few name)) held is in
-        let told : model.with_locks m name n ≡ model.with_locks m name (model.locks_of m name - 1) = ap (λ j. model.with_locks m name (j - 1)) (sym (locks-known image honest v s k.tied m is name)) in
-        (model.with_locks m name (model.locks_of m name - 1), subst (λ u. IsMemoryOf image honest v u (model.with_locks m name (model.locks_of m name - 1))) (sym e) (subst (IsMemoryOf image honest v (relocked n)) told after), refl))
+        let new = model.with_locks m name (model.locks_of m name - 1) in
+        let after = recounted-memory (λ n. n - 1) (omega (arith, k.few name)) held m is in
+        (new, subst (λ u. IsMemoryOf image honest v u new) (sym e) after, refl))
 
     unlock-stays : (f : VmFile) → IsFileOf (honest v.file.device) (core s) f → SpansStay (core s) (core t) f (OfLock name)
     unlock-stays f tied =
@@ -173,7 +181,33 @@ module _ {D : Type 0} (image : D → List ℕ) (honest : D → Type 0) (failed :
     pub unlock-kernel : IsKernel image honest v t
     unlock-kernel = subst (IsKernel image honest v) (sym e) (relocked-kernel (store.locks_of s slot - 1) (omega (arith, k.few name)) held)
 
--- Blocks of global memory
+-- Calls on a block of global memory as a whole
+
+-- such a call, by its row: it is refused where there is no block, and where a test of its count
+-- forbids it; else it changes memory
+abbrev on_whole : (ℕ → Bool) → (Memory → Name → Memory) → ℕ → Call (Unit {0})
+on_whole is_forbidden changed h choice memory = record {
+  refusals = (is_none (model.block_of memory (mem h)), BadHandle) ∷ (is_forbidden (model.locks_of memory (mem h)), Locked) ∷ [];
+  left = unchanged memory;
+  after = changed memory (mem h);
+  answer = tt;
+  stale = Nothing;
+}
+
+-- what is so of the blocks after it, where it is done: they are what memory after it is, each span
+-- stays, and they still are a kernel's
+record LeavesBlocks {D : Type 0} (image : D → List ℕ) (honest : D → Type 0) (failed : D → ℕ) (v : VmState D) (s after : Store) (changed : Memory → Memory) : Type 0 where
+  memory : (m : Memory) → IsMemoryOf image honest v s m → IsMemoryOf image honest v after (changed m)
+  spans : (f : VmFile) → SpansStay (core_of image failed v s) (core_of image failed v after) f Nothing
+  kernel : IsKernel image honest v after
+
+-- a test of what is not so
+unforbidden : {P : Type 0} (b : Bool) → Decides b P → (P → ⊥) → b ≡ false
+unforbidden true d never = absurd (never (d.0 refl))
+unforbidden false d never = refl
+
+ok_err : {x : Unit {0}} {e : HandleError} → (◌≡◌ {A = Result (Unit {0}) HandleError} (Ok x) (Err e)) → ⊥
+ok_err e = absurd cc
 
 module _ {D : Type 0} (image : D → List ℕ) (honest : D → Type 0) (failed : D → ℕ) (v : VmState D) (s : Store) (h : ℕ) (k : IsKernel image honest v s) where
   abbrev mem_slot : ℕ
@@ -182,52 +216,61 @@ module _ {D : Type 0} (image : D → List ℕ) (honest : D → Type 0) (failed :
   abbrev sees : Store → KernelState
   sees t = core_of image failed v t
 
-  ok_err : {x : Unit {0}} {e : HandleError} → (◌≡◌ {A = Result (Unit {0}) HandleError} (Ok x) (Err e)) → ⊥
-  ok_err e = absurd cc
-
-  not-full : (store.locks_of s mem_slot ≡ 65535 → ⊥) → (store.locks_of s mem_slot == 65535) ≡ false
-  not-full ne = grind (arith, nat_tests)
-
-  more : (n : ℕ) → n ≤ 65535 → (n ≡ 65535 → ⊥) → n + 1 ≤ 65535
-  more n few ne = elim (cases_eq n 65535) [ inl e ↦ absurd (ne e) | inr less ↦ omega (arith, few, less) ]
-
   -- the count that the model has
   counts-told : (m : Memory) → IsMemoryOf image honest v s m → model.locks_of m (mem h) ≡ store.locks_of s mem_slot
   counts-told m is = locks-known image honest v s k.tied m is (mem h)
 
-  told : (m : Memory) → IsMemoryOf image honest v s m → store.IsThere s mem_slot → model.block_of m (mem h) ≡ Some (spelled (store.locks_of s mem_slot) (store.bytes_of s mem_slot))
-  told m is there = there-known image honest v s k.tied m is (mem h) there
+  there-told : (m : Memory) → IsMemoryOf image honest v s m → store.IsThere s mem_slot → is_none (model.block_of m (mem h)) ≡ false
+  there-told m is there = ap is_none (there-known image honest v s k.tied m is (mem h) there)
 
-  pub mlock-row : (t : Store) (r : Result (Unit {0}) HandleError) → LocksSlot s t mem_slot r → DoesRow image honest failed (table.mlock h) (of_handle r) v s v t
-  mlock-row t (Ok done) (there, ok, bad, full, err) = does-willing image honest failed (table.mlock h) (Ok tt) v s t (λ m is.
-      let n : ℕ = store.locks_of s mem_slot + 1 in
-      let few = more (store.locks_of s mem_slot) (k.few (mem h)) (λ e. ok_err (full.1 e)) in
-      let block = told m is there in (
-        model.with_locks m (mem h) n,
-        subst (λ u. IsMemoryOf image honest v u (model.with_locks m (mem h) n)) (sym ok) (relocked-memory image honest failed v s (mem h) k m n few there is),
-        mlock-ok m (model.with_locks m (mem h) n) h (spelled (store.locks_of s mem_slot) (store.bytes_of s mem_slot)) block (not-full (λ e. ok_err (full.1 e))) (rw block refl),
-      ))
-  mlock-row t (Err handle.BadHandle) (there, ok, bad, full, err) = does-willing image honest failed (table.mlock h) (Err BadHandle) v s t (λ m is.
-      (m, subst (λ u. IsMemoryOf image honest v u m) (sym err) is, mlock-absent m m h (block-absent image honest v s m k.tied is h (bad.0 refl)) refl))
-  mlock-row t (Err handle.Locked) (there, ok, bad, full, err) = does-willing image honest failed (table.mlock h) (Err Locked) v s t (λ m is.
-      let most = full.0 refl in
-      let many : (store.locks_of s mem_slot == 65535) ≡ true = rw most refl in (
-        m,
-        subst (λ u. IsMemoryOf image honest v u m) (sym err) is,
-        mlock-full m m h (spelled (store.locks_of s mem_slot) (store.bytes_of s mem_slot)) (told m is (there_of_locks s mem_slot (omega (arith, most)))) many refl,
-      ))
+  module _ (is_forbidden : ℕ → Bool) (Forbidden : ℕ → Type 0) (decides : (n : ℕ) → Decides (is_forbidden n) (Forbidden n)) (locked : (n : ℕ) → Forbidden n → 0 < n)
+      (changed : Memory → Name → Memory) (after : Store) (leaves : store.IsThere s mem_slot → (Forbidden (store.locks_of s mem_slot) → ⊥) → LeavesBlocks image honest failed v s after (λ m. changed m (mem h))) where
+    abbrev call : Call (Unit {0})
+    call = on_whole is_forbidden changed h
 
-  mlock-spans : (t : Store) (r : Result (Unit {0}) HandleError) → LocksSlot s t mem_slot r → (f : VmFile) → SpansStay (sees s) (sees t) f Nothing
-  mlock-spans t (Ok done) (there, ok, bad, full, err) f = subst (λ u. SpansStay (sees s) (sees u) f Nothing) (sym ok) (lock-spans image honest failed v s (mem h) k f (store.locks_of s mem_slot + 1) (omega arith) there)
-  mlock-spans t (Err e) (there, ok, bad, full, err) f = spans-same (sees s) (sees t) f Nothing err
+    whole-row : (t : Store) (r : Result (Unit {0}) HandleError) → DoesSlot Forbidden after s t mem_slot r → DoesRow image honest failed call (of_handle r) v s v t
+    whole-row t (Ok done) (there, ok, bad, full, err) = does-willing image honest failed call (Ok tt) v s t (λ m is.
+        let free : Forbidden (store.locks_of s mem_slot) → ⊥ = λ f. ok_err (full.1 f) in
+        let some = there-told m is there in
+        let fine = ap is_forbidden (counts-told m is) ∙ unforbidden (is_forbidden (store.locks_of s mem_slot)) (decides (store.locks_of s mem_slot)) free in
+        (changed m (mem h), subst (λ u. IsMemoryOf image honest v u (changed m (mem h))) (sym ok) ((leaves there free).memory m is), rw (some, fine) refl))
+    whole-row t (Err handle.BadHandle) (there, ok, bad, full, err) = does-willing image honest failed call (Err BadHandle) v s t (λ m is.
+        let none = block-absent image honest v s m k.tied is h (bad.0 refl) in
+        (m, subst (λ u. IsMemoryOf image honest v u m) (sym err) is, rw none refl))
+    whole-row t (Err handle.Locked) (there, ok, bad, full, err) = does-willing image honest failed call (Err Locked) v s t (λ m is.
+        let some = there-told m is (there_of_locks s mem_slot (locked (store.locks_of s mem_slot) (full.0 refl))) in
+        let forbids = ap is_forbidden (counts-told m is) ∙ (decides (store.locks_of s mem_slot)).1 (full.0 refl) in
+        (m, subst (λ u. IsMemoryOf image honest v u m) (sym err) is, rw (some, forbids) refl))
 
-  pub mlock-calls : (t : Store) (r : Result (Unit {0}) HandleError) → LocksSlot s t mem_slot r → Calls (honest v.file.device) (table.mlock h) (of_handle r) (sees s) (sees t)
-  mlock-calls t r locks = row-calls image honest failed (table.mlock h) (of_handle r) v s t (mlock-row t r locks) (λ f tied choice. mlock-spans t r locks f)
+    whole-spans : (t : Store) (r : Result (Unit {0}) HandleError) → DoesSlot Forbidden after s t mem_slot r → (f : VmFile) → SpansStay (sees s) (sees t) f Nothing
+    whole-spans t (Ok done) (there, ok, bad, full, err) f = subst (λ u. SpansStay (sees s) (sees u) f Nothing) (sym ok) ((leaves there (λ f. ok_err (full.1 f))).spans f)
+    whole-spans t (Err e) (there, ok, bad, full, err) f = spans-same (sees s) (sees t) f Nothing err
 
-  pub mlock-kernel : (t : Store) (r : Result (Unit {0}) HandleError) → LocksSlot s t mem_slot r → IsKernel image honest v t
-  mlock-kernel t (Ok done) (there, ok, bad, full, err) =
-      subst (IsKernel image honest v) (sym ok) (relocked-kernel image honest failed v s (mem h) k (store.locks_of s mem_slot + 1) (more (store.locks_of s mem_slot) (k.few (mem h)) (λ e. ok_err (full.1 e))) there)
-  mlock-kernel t (Err e) (there, ok, bad, full, err) = subst (IsKernel image honest v) (sym err) k
+    whole-kernel : (t : Store) (r : Result (Unit {0}) HandleError) → DoesSlot Forbidden after s t mem_slot r → IsKernel image honest v t
+    whole-kernel t (Ok done) (there, ok, bad, full, err) = subst (IsKernel image honest v) (sym ok) (leaves there (λ f. ok_err (full.1 f))).kernel
+    whole-kernel t (Err e) (there, ok, bad, full, err) = subst (IsKernel image honest v) (sym err) k
+
+    -- the blocks still are a kernel's, and the call answers as its row says
+    whole-done : (t : Store) (r : Result (Unit {0}) HandleError) → DoesSlot Forbidden after s t mem_slot r → IsKernel image honest v t × Calls (honest v.file.device) call (of_handle r) (sees s) (sees t)
+    whole-done t r does = (whole-kernel t r does, row-calls image honest failed call (of_handle r) v s t (whole-row t r does) (λ f tied choice. whole-spans t r does f))
+
+  -- A block that is locked once more
+
+  more : (n : ℕ) → n ≤ 65535 → (n ≡ 65535 → ⊥) → n + 1 ≤ 65535
+  more n few ne = elim (cases_eq n 65535) [ inl e ↦ absurd (ne e) | inr less ↦ omega (arith, few, less) ]
+
+  lock-leaves : store.IsThere s mem_slot → (store.locks_of s mem_slot ≡ 65535 → ⊥)
+      → LeavesBlocks image honest failed v s (change.with_lock_more s mem_slot) (λ m. model.with_locks m (mem h) (model.locks_of m (mem h) + 1))
+  lock-leaves there free =
+      let few = more (store.locks_of s mem_slot) (k.few (mem h)) free in
+      record {
+        memory = recounted-memory image honest failed v s (mem h) k (λ n. n + 1) few there;
+        spans = λ f. lock-spans image honest failed v s (mem h) k f (store.locks_of s mem_slot + 1) (omega arith) there;
+        kernel = relocked-kernel image honest failed v s (mem h) k (store.locks_of s mem_slot + 1) few there;
+      }
+
+  pub lock-done : (t : Store) (r : Result (Unit {0}) HandleError) → LocksSlot s t mem_slot r → IsKernel image honest v t × Calls (honest v.file.device) (table.mlock h) (of_handle r) (sees s) (sees t)
+  lock-done = whole-done (λ n. n == 65535) (λ n. n ≡ 65535) (λ n. Decides-eqb n 65535) (λ n is. omega (arith, is)) (λ m name. model.with_locks m name (model.locks_of m name + 1)) (change.with_lock_more s mem_slot) lock-leaves
 
   -- A block that goes
 
@@ -238,48 +281,20 @@ module _ {D : Type 0} (image : D → List ℕ) (honest : D → Type 0) (failed :
   unlocked zero f = refl
   unlocked (suc n) f = absurd (f (omega arith))
 
-  some-test : (n : ℕ) → 0 < n → nat_lt 0 n ≡ true
-  some-test n some = grind (arith, some)
-
   gone-own : store.IsThere s mem_slot → store.block_at gone mem_slot ≡ None
   gone-own there = let small = there_small s mem_slot k.laid there in with_block-same s mem_slot None 0 (omega (arith, small, k.laid.slots))
 
   gone-keeps : store.IsThere s mem_slot → KeepsBut v s gone (mem h)
   gone-keeps there = slot-keeps s gone (mem h) None refl v (λ j ne some. get_or-set_other s.places mem_slot j 0 0 ne) (laid-without s k.laid mem_slot there) refl
 
-  gone-memory : (m : Memory) → store.IsThere s mem_slot → IsMemoryOf image honest v s m → IsMemoryOf image honest v gone (model.with_block m (mem h) None)
-  gone-memory m there is = mem-changed image honest v s gone h (handle_of_there s s (mem h) refl k.laid there) k.tied (gone-keeps there) m is None (sym (ap block_in (gone-own there)))
-
-  pub mfree-row : (t : Store) (r : Result (Unit {0}) HandleError) → FreesSlot s t mem_slot r → DoesRow image honest failed (table.mfree h) (of_handle r) v s v t
-  mfree-row t (Ok done) (there, ok, bad, full, err) = does-willing image honest failed (table.mfree h) (Ok tt) v s t (λ m is.
-      let none = unlocked (store.locks_of s mem_slot) (λ e. ok_err (full.1 e)) in
-      let free : nat_lt 0 (store.locks_of s mem_slot) ≡ false = rw none refl in (
-        model.with_block m (mem h) None,
-        subst (λ u. IsMemoryOf image honest v u (model.with_block m (mem h) None)) (sym ok) (gone-memory m there is),
-        mfree-ok m (model.with_block m (mem h) None) h (spelled (store.locks_of s mem_slot) (store.bytes_of s mem_slot)) (told m is there) free refl,
-      ))
-  mfree-row t (Err handle.BadHandle) (there, ok, bad, full, err) = does-willing image honest failed (table.mfree h) (Err BadHandle) v s t (λ m is.
-      (m, subst (λ u. IsMemoryOf image honest v u m) (sym err) is, mfree-absent m m h (block-absent image honest v s m k.tied is h (bad.0 refl)) refl))
-  mfree-row t (Err handle.Locked) (there, ok, bad, full, err) = does-willing image honest failed (table.mfree h) (Err Locked) v s t (λ m is.
-      let some = full.0 refl in
-      let locked = some-test (store.locks_of s mem_slot) some in (
-        m,
-        subst (λ u. IsMemoryOf image honest v u m) (sym err) is,
-        mfree-locked m m h (spelled (store.locks_of s mem_slot) (store.bytes_of s mem_slot)) (told m is (there_of_locks s mem_slot some)) locked refl,
-      ))
+  gone-memory : store.IsThere s mem_slot → (m : Memory) → IsMemoryOf image honest v s m → IsMemoryOf image honest v gone (model.with_block m (mem h) None)
+  gone-memory there m is = mem-changed image honest v s gone h (handle_of_there s s (mem h) refl k.laid there) k.tied (gone-keeps there) m is None (sym (ap block_in (gone-own there)))
 
   -- it takes no span with it, since it is not locked
   gone-spans : (f : VmFile) → store.locks_of s mem_slot ≡ 0 → SpansStay (sees s) (sees gone) f Nothing
   gone-spans f none span ref st fresh =
       let apart : slot_of ref.name ≢ mem_slot = λ same. absurd (omega (arith, st.locked, ap (store.locks_of s) same, none)) in
       stands-same (sees s) (sees gone) span ref (with_block-other s mem_slot None 0 (slot_of ref.name) apart) (get_or-set_other s.places mem_slot (slot_of ref.name) 0 0 apart) st
-
-  mfree-spans : (t : Store) (r : Result (Unit {0}) HandleError) → FreesSlot s t mem_slot r → (f : VmFile) → SpansStay (sees s) (sees t) f Nothing
-  mfree-spans t (Ok done) (there, ok, bad, full, err) f = subst (λ u. SpansStay (sees s) (sees u) f Nothing) (sym ok) (gone-spans f (unlocked (store.locks_of s mem_slot) (λ e. ok_err (full.1 e))))
-  mfree-spans t (Err e) (there, ok, bad, full, err) f = spans-same (sees s) (sees t) f Nothing err
-
-  pub mfree-calls : (t : Store) (r : Result (Unit {0}) HandleError) → FreesSlot s t mem_slot r → Calls (honest v.file.device) (table.mfree h) (of_handle r) (sees s) (sees t)
-  mfree-calls t r frees = row-calls image honest failed (table.mfree h) (of_handle r) v s t (mfree-row t r frees) (λ f tied choice. mfree-spans t r frees f)
 
   gone-same : store.IsThere s mem_slot → (j : ℕ) → Same s gone j
   gone-same there j = elim (cases_eq j (slot_of (mem h))) [
@@ -293,11 +308,16 @@ module _ {D : Type 0} (image : D → List ℕ) (honest : D → Type 0) (failed :
     | inr ne ↦ omega (arith, ap store.locks_in (with_block-other s mem_slot None 0 (slot_of other) ne), k.few other)
   ]
 
-  pub mfree-kernel : (t : Store) (r : Result (Unit {0}) HandleError) → FreesSlot s t mem_slot r → IsKernel image honest v t
-  mfree-kernel t (Err e) (there, ok, bad, full, err) = subst (IsKernel image honest v) (sym err) k
-  mfree-kernel t (Ok done) (there, ok, bad, full, err) =
+  gone-kernel : store.IsThere s mem_slot → IsKernel image honest v gone
+  gone-kernel there =
       let q = handle_of_there s s (mem h) refl k.laid there in
       let tied = mem-tied image honest v s gone h q k.tied (gone-keeps there) in
       let f = k.known in
-      let after = gone-memory (memory_of (sees s) f.0) there (record { blocks = refl; file = f.1; region = refl }) in
-      subst (IsKernel image honest v) (sym ok) (kernel-on image honest v s gone k tied (f.0, after.file) refl (gone-same there) (gone-counts there))
+      let after = gone-memory there (memory_of (sees s) f.0) (record { blocks = refl; file = f.1; region = refl }) in
+      kernel-on image honest v s gone k tied (f.0, after.file) refl (gone-same there) (gone-counts there)
+
+  gone-leaves : store.IsThere s mem_slot → (0 < store.locks_of s mem_slot → ⊥) → LeavesBlocks image honest failed v s gone (λ m. model.with_block m (mem h) None)
+  gone-leaves there free = record { memory = gone-memory there; spans = λ f. gone-spans f (unlocked (store.locks_of s mem_slot) free); kernel = gone-kernel there }
+
+  pub free-done : (t : Store) (r : Result (Unit {0}) HandleError) → FreesSlot s t mem_slot r → IsKernel image honest v t × Calls (honest v.file.device) (table.mfree h) (of_handle r) (sees s) (sees t)
+  free-done = whole-done (λ n. nat_lt 0 n) (λ n. 0 < n) (λ n. Decides-ltb 0 n) (λ n some. some) (λ m name. model.with_block m name None) gone gone-leaves

@@ -1,6 +1,6 @@
 -- What holds of a kernel on its device holds of what its calls see; and a call that does its row
 -- answers as its row says.
-use Rattle.std.proofs.Common.{◌≡◌, ℕ, List, Option, Some, None, refl, ap, ◌∙◌, arith, inl, inr}
+use Rattle.std.proofs.Common.{◌≡◌, ℕ, List, Option, Some, None, refl, ap, ◌∙◌, arith, subst, inl, inr}
 use Rattle.std.specs.Prelude.{Result}
 use Rattle.geos_model.specs.declared.refusal.Refusal.{Refusal}
 use Rattle.geos_table.specs.Effects.{Call}
@@ -18,7 +18,7 @@ use Rattle.vm_blocks.specs.Tied.{IsTied, TiedAt}
 use Rattle.vm_blocks.specs.View.{VmState, bytes_read, held_at, vm_slot}
 use Rattle.vm_blocks.proofs.Matching.{directory-on, listed-on, pair-on}
 use Rattle.geos_kernel.specs.View.{KernelOn, KernelState, core_of, image_seen, kernel_of, memory_of, IsFileOf}
-use Rattle.geos_kernel.specs.Kernel.{AnswersWith, HasRisen, LeavesVm, NeverFell}
+use Rattle.geos_kernel.specs.Kernel.{AnswersWith, Calls, HasRisen, LeavesVm, NeverFell}
 
 -- What is tied to the device is tied to what is seen of it
 
@@ -140,6 +140,11 @@ module _ {D : Type 0} (image : D → List ℕ) (honest : D → Type 0) (failed :
   row-known does (f, is) =
       let b = does (memory_of old f) (record { blocks = refl; file = is; region = refl }) in
       (b.2.file, b.3.file)
+
+-- a call on what is in a kernel is one on the kernel
+pub calls-seen : {D A : Type 0} (image : D → List ℕ) (honest : D → Type 0) (failed : D → ℕ) (v : VmState D) (s : Store) (k : KernelOn D) → kernel_of image failed v s ≡ k → {call : Call A} {r : Result A Refusal} {new : KernelState}
+    → Calls (honest v.file.device) call r (core_of image failed v s) new → Calls (honest k.device) call r k.core new
+calls-seen image honest failed v s k is {call} {r} {new} calls = subst (λ k. Calls (honest k.device) call r k.core new) is calls
 
 -- a call that changes blocks alone
 pub blocks-alone : {D : Type 0} (image : D → List ℕ) (failed : D → ℕ) (v : VmState D) (s t : Store) (k : KernelOn D) → kernel_of image failed v s ≡ k → LeavesVm k (kernel_of image failed v t)

@@ -52,15 +52,15 @@ module _ {D : Type 0} (image : D → List ℕ) (honest : D → Type 0) (failed :
 -- Calls that ask the device nothing
 
 module _ {D : Type 0} (image : D → List ℕ) (honest : D → Type 0) (failed : D → ℕ) (v w : VmState D) (s t : Store) (file : w.file ≡ v.file) where
-  pub quiet-calls : {A : Type 0} (call : Call A) (r : Result A Refusal) → DoesRow image honest failed call r v s w t → Spares s t → Calls (honest v.file.device) call r (core_of image failed v s) (core_of image failed w t)
-  quiet-calls call r row spares =
+  pub quiet-calls : {A : Type 0} {call : Call A} {r : Result A Refusal} → DoesRow image honest failed call r v s w t → Spares s t → Calls (honest v.file.device) call r (core_of image failed v s) (core_of image failed w t)
+  quiet-calls row spares =
       let device : w.file.device ≡ v.file.device = ap (λ (f : FileState D). f.device) file in
-      calls-beside image honest failed v w s t call r row (λ good. subst honest (sym device) good) (λ good. inl (ap failed device)) spares
+      calls-beside image honest failed v w s t row (λ good. subst honest (sym device) good) (λ good. inl (ap failed device)) spares
 
 -- and change nothing
-pub told-calls : {D A : Type 0} (image : D → List ℕ) (honest : D → Type 0) (failed : D → ℕ) (v : VmState D) (s : Store) (k : KernelOn D) → kernel_of image failed v s ≡ k → (call : Call A) (r : Result A Refusal)
+pub told-calls : {D A : Type 0} (image : D → List ℕ) (honest : D → Type 0) (failed : D → ℕ) (v : VmState D) (s : Store) (k : KernelOn D) → kernel_of image failed v s ≡ k → {call : Call A} {r : Result A Refusal}
     → DoesRow image honest failed call r v s v s → Calls (honest k.device) call r k.core k.core
-told-calls image honest failed v s k is call r row = subst (λ k. Calls (honest k.device) call r k.core k.core) is (quiet-calls image honest failed v v s s refl call r row (same-spares s s refl))
+told-calls image honest failed v s k is {call} {r} row = subst (λ k. Calls (honest k.device) call r k.core k.core) is (quiet-calls image honest failed v v s s refl row (same-spares s s refl))
 
 -- Locks
 

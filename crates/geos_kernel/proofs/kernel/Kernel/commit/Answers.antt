@@ -4,9 +4,9 @@ use Rattle.vm_blocks.specs.Listed.{NoneLocked}
 use Rattle.vm_blocks.specs.ListedCalls.{keeper_of}
 use Rattle.vm_blocks.specs.Refused.{of_commit}
 use Rattle.geos_kernel.specs.Files.{Commits}
-use Rattle.geos_kernel.specs.Kernel.{Calls}
-use Rattle.geos_kernel.specs.View.{core_of, kernel_of}
+use Rattle.geos_kernel.specs.View.{kernel_of}
 use Rattle.geos_kernel.proofs.Listed.{calls-beside}
+use Rattle.geos_kernel.proofs.Seen.{calls-seen}
 use Rattle.geos_kernel.proofs.VmCalls.{committed-lasts, committed-spares, spared-kernel}
 use Rattle.geos_kernel.proofs.kernel.Kernel.commit.Goals as goal
 
@@ -24,10 +24,8 @@ returns-clause-calls g c =
     let w = c.commit-done.new.self in let t = c.commit-done.new.blocks in let r = c.commit-done.result in let how = c.args.how in
     let e = c.commit-done.ensures in
     let none : NoneLocked s = subst (λ k. NoneLocked k.core.blocks) (sym c.self.view_is) c.requires in
-    let call = table.commit (keeper_of how) in
     let spares = committed-spares v w how s t none r e.store e.refused in
-    let calls = calls-beside d.image d.honest d.failed v w s t call (of_commit r) e.row e.file.stays (λ good. committed-lasts v w d.failed r e.file.ok e.file.refused (e.file.cause good)) spares in
-    rw c.of_commit.ensures (subst (λ k. Calls (d.honest k.device) call (of_commit r) k.core (core_of d.image d.failed w t)) c.self.view_is calls)
+    rw c.of_commit.ensures (calls-seen d.image d.honest d.failed v s c.args.self.now c.self.view_is (calls-beside d.image d.honest d.failed v w s t e.row e.file.stays (λ good. committed-lasts v w d.failed r e.file.ok e.file.refused (e.file.cause good)) spares))
 
 pub returns-clause-commits : goal.returns-clause-commits
 returns-clause-commits g c =

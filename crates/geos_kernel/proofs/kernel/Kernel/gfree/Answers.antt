@@ -1,7 +1,5 @@
-use Rattle.std.proofs.Common.{subst}
 use Rattle.geos_table.specs.ItemCalls.{gfree}
-use Rattle.geos_kernel.specs.Kernel.{Calls}
-use Rattle.geos_kernel.specs.View.{core_of}
+use Rattle.geos_kernel.proofs.Seen.{calls-seen}
 use Rattle.geos_kernel.proofs.VmCalls.{freed-file, freed-spares, group-free, quiet-calls, spared-kernel}
 use Rattle.geos_kernel.proofs.kernel.Kernel.gfree.Goals as goal
 
@@ -19,5 +17,4 @@ returns-clause-calls g c =
     let w = c.group_free.new.vm in let t = c.group_free.new.blocks in let r = c.group_free.result in let h = c.args.g in
     let e = c.group_free.ensures in
     let spares = freed-spares v w s t h r c.self.invariant.laid e.drops e.err (group-free r v w s t h e.no_group e.locked) in
-    let calls = quiet-calls d.image d.honest d.failed v w s t (freed-file v w s t h r e.state e.err) (gfree h) r e.row spares in
-    subst (λ k. Calls (d.honest k.device) (gfree h) r k.core (core_of d.image d.failed w t)) c.self.view_is calls
+    calls-seen d.image d.honest d.failed v s c.args.self.now c.self.view_is (quiet-calls d.image d.honest d.failed v w s t (freed-file v w s t h r e.state e.err) e.row spares)

@@ -1,8 +1,6 @@
-use Rattle.std.proofs.Common.{subst}
 use Rattle.geos_table.specs.ItemCalls.{gnew}
 use Rattle.vm_file.specs.Directories.{group_uid}
-use Rattle.geos_kernel.specs.Kernel.{Calls}
-use Rattle.geos_kernel.specs.View.{core_of}
+use Rattle.geos_kernel.proofs.Seen.{calls-seen}
 use Rattle.geos_kernel.proofs.VmCalls.{made-file, made-group, made-spares, quiet-calls, spared-kernel}
 use Rattle.geos_kernel.proofs.kernel.Kernel.gnew.Goals as goal
 
@@ -21,5 +19,4 @@ returns-clause-calls g c =
     let e = c.group_new.ensures in
     let made = made-group d.image d.honest v w s t group_uid 0 c.self.invariant r e.ok e.why e.no_room e.stays e.err in
     let file = made-file d.image d.honest v w s t group_uid 0 c.self.invariant made in
-    let calls = quiet-calls d.image d.honest d.failed v w s t file gnew r e.row (made-spares d.image d.honest v w s t group_uid 0 c.self.invariant made) in
-    subst (λ k. Calls (d.honest k.device) gnew r k.core (core_of d.image d.failed w t)) c.self.view_is calls
+    calls-seen d.image d.honest d.failed v s c.args.self.now c.self.view_is (quiet-calls d.image d.honest d.failed v w s t file e.row (made-spares d.image d.honest v w s t group_uid 0 c.self.invariant made))

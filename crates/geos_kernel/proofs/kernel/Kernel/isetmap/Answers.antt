@@ -1,9 +1,8 @@
-use Rattle.std.proofs.Common.{refl, subst}
+use Rattle.std.proofs.Common.{refl}
 use Rattle.geos_table.specs.ItemCalls.{isetmap}
-use Rattle.geos_kernel.specs.Kernel.{Calls}
-use Rattle.geos_kernel.specs.View.{core_of}
 use Rattle.geos_kernel.proofs.ItemCalls.{mapped-file}
 use Rattle.geos_kernel.proofs.Listed.{same-spares}
+use Rattle.geos_kernel.proofs.Seen.{calls-seen}
 use Rattle.geos_kernel.proofs.VmCalls.{quiet-calls, spared-kernel}
 use Rattle.geos_kernel.proofs.kernel.Kernel.isetmap.Goals as goal
 
@@ -19,5 +18,4 @@ returns-clause-calls g c =
     let w = c.set_map_item.new.vm in let r = c.set_map_item.result in let call = isetmap c.args.g c.args.i in
     let e = c.set_map_item.ensures in
     let file = mapped-file v w (c.args.g, c.args.i) r e.ok e.err in
-    let calls = quiet-calls d.image d.honest d.failed v w s s file call r (e.row s c.self.invariant.tied) (same-spares s s refl) in
-    subst (λ k. Calls (d.honest k.device) call r k.core (core_of d.image d.failed w s)) c.self.view_is calls
+    calls-seen d.image d.honest d.failed v s c.args.self.now c.self.view_is (quiet-calls d.image d.honest d.failed v w s s file (e.row s c.self.invariant.tied) (same-spares s s refl))

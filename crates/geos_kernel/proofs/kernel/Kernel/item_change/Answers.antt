@@ -1,11 +1,10 @@
-use Rattle.std.proofs.Common.{refl, subst}
+use Rattle.std.proofs.Common.{refl}
 use Rattle.geos_model.specs.Names.{vm}
 use Rattle.geos_table.specs.ChunkCalls.{change_edit, change_row}
 use Rattle.geos_table.specs.ItemCalls.{on_group}
-use Rattle.geos_kernel.specs.Kernel.{Calls}
-use Rattle.geos_kernel.specs.View.{core_of}
 use Rattle.geos_kernel.proofs.ItemCalls.{item-calls}
 use Rattle.geos_kernel.proofs.Listed.{keeps-mem}
+use Rattle.geos_kernel.proofs.Seen.{calls-seen}
 use Rattle.geos_kernel.proofs.VmCalls.{spared-kernel}
 use Rattle.geos_kernel.proofs.kernel.Kernel.item_change.Goals as goal
 
@@ -20,5 +19,4 @@ returns-clause-calls g c =
     let d = g.D.Device in let v = c.self.inside.vm in let s = c.self.inside.blocks in
     let w = c.item_change.new.vm in let t = c.item_change.new.blocks in let r = c.item_change.result in
     let call = on_group c.args.g (change_row (vm c.args.g) c.args.change) in
-    let calls = item-calls d.image d.honest d.may_leave d.may_have_left d.failed v w s t c.args.g c.self.invariant call (change_edit c.args.change) r c.item_change.ensures (λ choice f. refl) in
-    subst (λ k. Calls (d.honest k.device) call r k.core (core_of d.image d.failed w t)) c.self.view_is calls
+    calls-seen d.image d.honest d.failed v s c.args.self.now c.self.view_is (item-calls d.image d.honest d.may_leave d.may_have_left d.failed v w s t c.args.g c.self.invariant call (change_edit c.args.change) r c.item_change.ensures (λ choice f. refl))

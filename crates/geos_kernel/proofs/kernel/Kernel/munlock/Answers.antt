@@ -1,11 +1,9 @@
-use Rattle.std.proofs.Common.{◌<◌, Ok, subst, sym}
+use Rattle.std.proofs.Common.{◌<◌, subst, sym}
 use Rattle.block_handles.specs.Names.{slot_of}
 use Rattle.block_handles.specs.Store.{locks_of}
-use Rattle.geos_table.specs.Calls as table
-use Rattle.geos_kernel.specs.Kernel.{Calls}
-use Rattle.geos_kernel.specs.View.{core_of, IsLocked}
+use Rattle.geos_kernel.specs.View.{IsLocked}
 use Rattle.geos_kernel.proofs.Locks.{unlock-calls, unlock-kernel}
-use Rattle.geos_kernel.proofs.Seen.{blocks-alone}
+use Rattle.geos_kernel.proofs.Seen.{blocks-alone, calls-seen}
 use Rattle.geos_kernel.proofs.kernel.Kernel.munlock.Goals as goal
 
 pub unlock-requires : goal.unlock-requires
@@ -21,8 +19,8 @@ returns-clause-calls g c =
     let v = c.self.inside.vm in
     let new = c.unlock.new.self in
     let count : 0 < locks_of c.self.inside.blocks (slot_of c.args.name) = subst (λ s. IsLocked s.core c.args.name) (sym c.self.view_is) c.requires in
-    let calls = unlock-calls g.D.Device.image g.D.Device.honest g.D.Device.failed v c.self.inside.blocks c.args.name c.self.invariant new count c.unlock.ensures in
-    subst (λ k. Calls (g.D.Device.honest k.device) (table.unlock c.args.name) (Ok tt) k.core (core_of g.D.Device.image g.D.Device.failed v new)) c.self.view_is calls
+    let d = g.D.Device in
+    calls-seen d.image d.honest d.failed v c.self.inside.blocks c.args.self.now c.self.view_is (unlock-calls d.image d.honest d.failed v c.self.inside.blocks c.args.name c.self.invariant new count c.unlock.ensures)
 
 pub returns-clause-vm : goal.returns-clause-vm
 returns-clause-vm g c = blocks-alone g.D.Device.image g.D.Device.failed c.self.inside.vm c.self.inside.blocks c.unlock.new.self c.args.self.now c.self.view_is

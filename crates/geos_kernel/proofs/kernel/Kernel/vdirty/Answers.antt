@@ -1,9 +1,8 @@
-use Rattle.std.proofs.Common.{Ok, ap, refl, subst}
+use Rattle.std.proofs.Common.{Ok, ap, refl}
 use Rattle.geos_table.specs.VmCalls.{vdirty}
 use Rattle.vm_blocks.specs.View.{VmState}
-use Rattle.geos_kernel.specs.Kernel.{Calls}
-use Rattle.geos_kernel.specs.View.{core_of}
 use Rattle.geos_kernel.proofs.Listed.{same-spares}
+use Rattle.geos_kernel.proofs.Seen.{calls-seen}
 use Rattle.geos_kernel.proofs.VmCalls.{quiet-calls, spared-kernel}
 use Rattle.geos_kernel.proofs.kernel.Kernel.vdirty.Goals as goal
 
@@ -16,7 +15,6 @@ invariant_of-self g c =
 pub returns-clause-calls : goal.returns-clause-calls
 returns-clause-calls g c =
     let d = g.D.Device in let v = c.self.inside.vm in let s = c.self.inside.blocks in
-    let w = c.vdirty.new.self in let h = c.args.name.h in
+    let w = c.vdirty.new.self in
     let e = c.vdirty.ensures in
-    let calls = quiet-calls d.image d.honest d.failed v w s s (ap (λ (x : VmState g.row.D.Denot). x.file) e.marks) (vdirty h) (Ok tt) e.row (same-spares s s refl) in
-    subst (λ k. Calls (d.honest k.device) (vdirty h) (Ok tt) k.core (core_of d.image d.failed w s)) c.self.view_is calls
+    calls-seen d.image d.honest d.failed v s c.args.self.now c.self.view_is (quiet-calls d.image d.honest d.failed v w s s (ap (λ (x : VmState g.row.D.Denot). x.file) e.marks) e.row (same-spares s s refl))

@@ -1,5 +1,3 @@
-use Rattle.std.proofs.Common.{Err, Ok}
-use Rattle.geos_model.specs.declared.refusal.Refusal.TheVariants.{Reserved}
 use Rattle.geos_table.specs.VmCalls.{vfind}
 use Rattle.geos_kernel.proofs.ListedRows.{vfind-reserved-row}
 use Rattle.geos_kernel.proofs.VmCalls.{told-calls}
@@ -10,11 +8,11 @@ returns-then-uid-eq-GROUP_UID g c =
     let d = g.D.Device in let v = c.self.inside.vm in let s = c.self.inside.blocks in
     let call = vfind c.args.start c.args.uid in
     let row = vfind-reserved-row d.image d.honest d.failed v s c.self.invariant.tied c.args.start c.args.uid c.if-uid-eq-GROUP_UID.true in
-    told-calls d.image d.honest d.failed v s c.args.self.now c.self.view_is call (Err Reserved) row
+    told-calls d.image d.honest d.failed v s c.args.self.now c.self.view_is row
 
 pub returns : goal.returns
 returns g c =
     let d = g.D.Device in let v = c.self.inside.vm in let s = c.self.inside.blocks in
     let call = vfind c.args.start c.args.uid in
     let row = c.find.ensures.row c.if-uid-eq-GROUP_UID.false s c.self.invariant.tied in
-    told-calls d.image d.honest d.failed v s c.args.self.now c.self.view_is call (Ok c.find.result) row
+    told-calls d.image d.honest d.failed v s c.args.self.now c.self.view_is row

@@ -1,5 +1,3 @@
-use Rattle.std.proofs.Common.{Ok}
-use Rattle.geos_table.specs.VmCalls.{vgetmap}
 use Rattle.geos_kernel.proofs.VmCalls.{told-calls}
 use Rattle.geos_kernel.proofs.kernel.Kernel.vgetmap.Goals as goal
 
@@ -7,4 +5,4 @@ pub returns : goal.returns
 returns g c =
     let d = g.D.Device in let v = c.self.inside.vm in let s = c.self.inside.blocks in
     let row = c.map.ensures.row s c.self.invariant.tied in
-    told-calls d.image d.honest d.failed v s c.args.self.now c.self.view_is vgetmap (Ok c.map.result) row
+    told-calls d.image d.honest d.failed v s c.args.self.now c.self.view_is row

@@ -1,34 +1,31 @@
-use Rattle.std.proofs.Common.{◌≡◌, false, true, Err, refl, subst}
-use Rattle.geos_model.specs.declared.refusal.Refusal.TheVariants.{Reserved}
-use Rattle.geos_table.specs.VmCalls.{lock_listed, vlock}
+use Rattle.std.proofs.Common.{◌≡◌, false, true, refl}
+use Rattle.geos_table.specs.VmCalls.{lock_listed}
 use Rattle.vm_blocks.specs.Refused.{of_lock}
 use Rattle.db_items.specs.Groups.{IsGroup}
-use Rattle.geos_kernel.specs.Kernel.{Calls}
-use Rattle.geos_kernel.specs.View.{core_of}
 use Rattle.geos_kernel.proofs.Listed.{calls-beside}
-use Rattle.geos_kernel.proofs.ListedRows.{vlock-group-row, vlock-row}
+use Rattle.geos_kernel.proofs.ListedRows.{lock-group-row, lock-row}
+use Rattle.geos_kernel.proofs.Seen.{calls-seen}
 use Rattle.geos_kernel.proofs.VmCalls.{lock-lasts, lock-spares, spared-kernel, told-calls}
 use Rattle.geos_kernel.proofs.kernel.Kernel.vlock.Goals as goal
 
 pub returns-then-is_group-clause-calls : goal.returns-then-is_group-clause-calls
 returns-then-is_group-clause-calls g c =
     let d = g.D.Device in let v = c.self.inside.vm in let s = c.self.inside.blocks in
-    told-calls d.image d.honest d.failed v s c.args.self.now c.self.view_is (vlock c.args.h) (Err Reserved) (vlock-group-row d.image d.honest d.failed v s c.self.invariant.tied c.args.h (c.if-is_group.ensures.0 refl))
+    told-calls d.image d.honest d.failed v s c.args.self.now c.self.view_is (lock-group-row d.image d.honest d.failed v s c.self.invariant.tied c.args.h (c.if-is_group.ensures.0 refl))
 
 pub invariant_of-self : goal.invariant_of-self
 invariant_of-self g c =
     let d = g.D.Device in let v = c.self.inside.vm in let s = c.self.inside.blocks in
-    let w = c.vlock-locked.new.self in let t = c.vlock-locked.new.blocks in let r = c.vlock-locked.result in let h = c.args.h in
-    let e = c.vlock-locked.ensures in
+    let done = c.vlock-locked in let w = done.new.self in let t = done.new.blocks in let r = done.result in let e = done.ensures in
+    let h = c.args.h in
     spared-kernel d.image d.honest d.failed v w s t c.self.invariant (lock-spares v s t h r e.keeps e.ok e.err).beside (lock_listed h) (of_lock r) e.tied e.row
 
 pub returns-clause-calls : goal.returns-clause-calls
 returns-clause-calls g c =
     let d = g.D.Device in let v = c.self.inside.vm in let s = c.self.inside.blocks in
-    let w = c.vlock-locked.new.self in let t = c.vlock-locked.new.blocks in let r = c.vlock-locked.result in let h = c.args.h in
-    let e = c.vlock-locked.ensures in
+    let done = c.vlock-locked in let w = done.new.self in let t = done.new.blocks in let r = done.result in let e = done.ensures in
+    let h = c.args.h in
     let none : IsGroup v h → ⊥ = λ group. (let is : false ≡ true = c.if-is_group.ensures.1 group in absurd cc) in
-    let row = vlock-row d.image d.honest d.failed v s c.self.invariant.tied h none w t (of_lock r) e.row in
+    let row = lock-row d.image d.honest d.failed v s c.self.invariant.tied h none w t (of_lock r) e.row in
     let lasts = lock-lasts (d.honest v.file.device) (d.failed v.file.device) (d.failed w.file.device) r e.cause e.counted in
-    let calls = calls-beside d.image d.honest d.failed v w s t (vlock h) (of_lock r) row e.reads.stays lasts (lock-spares v s t h r e.keeps e.ok e.err) in
-    rw c.of_lock.ensures (subst (λ k. Calls (d.honest k.device) (vlock h) (of_lock r) k.core (core_of d.image d.failed w t)) c.self.view_is calls)
+    rw c.of_lock.ensures (calls-seen d.image d.honest d.failed v s c.args.self.now c.self.view_is (calls-beside d.image d.honest d.failed v w s t row e.reads.stays lasts (lock-spares v s t h r e.keeps e.ok e.err)))

@@ -1,18 +1,14 @@
-use Rattle.std.proofs.Common.{Err, subst}
-use Rattle.geos_model.specs.declared.refusal.Refusal.TheVariants.{Reserved}
-use Rattle.geos_table.specs.VmCalls.{vnew}
 use Rattle.vm_blocks.specs.ListedCalls.{make_listed}
 use Rattle.vm_blocks.specs.Refused.{of_new}
-use Rattle.geos_kernel.specs.Kernel.{Calls}
-use Rattle.geos_kernel.specs.View.{core_of}
 use Rattle.geos_kernel.proofs.ListedRows.{vnew-reserved-row, vnew-row}
+use Rattle.geos_kernel.proofs.Seen.{calls-seen}
 use Rattle.geos_kernel.proofs.VmCalls.{made-below, made-file, made-spares, quiet-calls, spared-kernel, told-calls}
 use Rattle.geos_kernel.proofs.kernel.Kernel.vnew.Goals as goal
 
 pub returns-then-uid-eq-GROUP_UID-clause-calls : goal.returns-then-uid-eq-GROUP_UID-clause-calls
 returns-then-uid-eq-GROUP_UID-clause-calls g c =
     let d = g.D.Device in let v = c.self.inside.vm in let s = c.self.inside.blocks in
-    told-calls d.image d.honest d.failed v s c.args.self.now c.self.view_is (vnew c.args.uid) (Err Reserved) (vnew-reserved-row d.image d.honest d.failed v s c.self.invariant.tied c.args.uid c.if-uid-eq-GROUP_UID.true)
+    told-calls d.image d.honest d.failed v s c.args.self.now c.self.view_is (vnew-reserved-row d.image d.honest d.failed v s c.self.invariant.tied c.args.uid c.if-uid-eq-GROUP_UID.true)
 
 pub invariant_of-self : goal.invariant_of-self
 invariant_of-self g c =
@@ -30,5 +26,4 @@ returns-clause-calls g c =
     let made = made-below d.image d.honest v w s t uid 1 c.self.invariant r e.ok e.no_room e.stays e.err in
     let row = vnew-row d.image d.honest d.failed v s c.self.invariant.tied uid c.if-uid-eq-GROUP_UID.false w t (of_new r) e.row in
     let file = made-file d.image d.honest v w s t uid 1 c.self.invariant made in
-    let calls = quiet-calls d.image d.honest d.failed v w s t file (vnew uid) (of_new r) row (made-spares d.image d.honest v w s t uid 1 c.self.invariant made) in
-    rw c.of_new.ensures (subst (λ k. Calls (d.honest k.device) (vnew uid) (of_new r) k.core (core_of d.image d.failed w t)) c.self.view_is calls)
+    rw c.of_new.ensures (calls-seen d.image d.honest d.failed v s c.args.self.now c.self.view_is (quiet-calls d.image d.honest d.failed v w s t file row (made-spares d.image d.honest v w s t uid 1 c.self.invariant made)))

@@ -1,11 +1,9 @@
-use Rattle.std.proofs.Common.{Err, Ok, ap, refl, subst, sym}
-use Rattle.geos_model.specs.declared.refusal.Refusal.TheVariants.{BadHandle, Reserved}
+use Rattle.std.proofs.Common.{Ok, ap, refl, sym}
 use Rattle.geos_table.specs.VmCalls.{vsetmap}
 use Rattle.vm_blocks.specs.View.{VmState, held_at}
-use Rattle.geos_kernel.specs.Kernel.{Calls}
-use Rattle.geos_kernel.specs.View.{core_of}
 use Rattle.geos_kernel.proofs.Listed.{same-spares}
 use Rattle.geos_kernel.proofs.ListedRows.{not-some, vsetmap-group-row, vsetmap-unlisted-row}
+use Rattle.geos_kernel.proofs.Seen.{calls-seen}
 use Rattle.geos_kernel.proofs.VmCalls.{quiet-calls, spared-kernel, told-calls}
 use Rattle.geos_kernel.proofs.kernel.Kernel.vsetmap.Goals as goal
 
@@ -14,14 +12,14 @@ returns-then-not-has-clause-calls g c =
     let d = g.D.Device in let v = c.self.inside.vm in let s = c.self.inside.blocks in
     let h = c.args.h in
     let row = vsetmap-unlisted-row d.image d.honest d.failed v s c.self.invariant.tied h c.if-h-ne0.true (not-some (held_at v h) (sym c.if-not-has.ensures)) in
-    told-calls d.image d.honest d.failed v s c.args.self.now c.self.view_is (vsetmap h) (Err BadHandle) row
+    told-calls d.image d.honest d.failed v s c.args.self.now c.self.view_is row
 
 pub returns-then-is_group-clause-calls : goal.returns-then-is_group-clause-calls
 returns-then-is_group-clause-calls g c =
     let d = g.D.Device in let v = c.self.inside.vm in let s = c.self.inside.blocks in
     let h = c.args.h in
     let row = vsetmap-group-row d.image d.honest d.failed v s c.self.invariant.tied h (c.if-is_group.ensures.0 refl) in
-    told-calls d.image d.honest d.failed v s c.args.self.now c.self.view_is (vsetmap h) (Err Reserved) row
+    told-calls d.image d.honest d.failed v s c.args.self.now c.self.view_is row
 
 pub invariant_of-self : goal.invariant_of-self
 invariant_of-self g c =
@@ -34,5 +32,4 @@ returns-clause-calls g c =
     let d = g.D.Device in let v = c.self.inside.vm in let s = c.self.inside.blocks in
     let w = c.set_map.new.self in let h = c.args.h in
     let e = c.set_map.ensures in
-    let calls = quiet-calls d.image d.honest d.failed v w s s (ap (λ (x : VmState g.row.D.Denot). x.file) e.state) (vsetmap h) (Ok tt) (e.row s c.self.invariant.tied) (same-spares s s refl) in
-    subst (λ k. Calls (d.honest k.device) (vsetmap h) (Ok tt) k.core (core_of d.image d.failed w s)) c.self.view_is calls
+    calls-seen d.image d.honest d.failed v s c.args.self.now c.self.view_is (quiet-calls d.image d.honest d.failed v w s s (ap (λ (x : VmState g.row.D.Denot). x.file) e.state) (e.row s c.self.invariant.tied) (same-spares s s refl))
