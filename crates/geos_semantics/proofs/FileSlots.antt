@@ -1,11 +1,12 @@
 -- Each step of an instruction that locks, marks or unlocks a block of the VM file goes well.
-use Rattle.std.proofs.Common.{◌≡◌, ℕ, ◌+◌, true, false, not, Option, Some, None, ◌∷◌, get_or, set, refl, sym, ap, ◌∙◌, subst, arith}
+use Rattle.std.proofs.Common.{◌≡◌, ℕ, ◌+◌, Bool, true, false, not, List, Option, Some, None, ◌∷◌, get_or, set, refl, sym, ap, ◌∙◌, subst, arith}
 use Rattle.std.specs.Prelude.{◌==◌, IsSome, is_none, option_map}
 use Rattle.std.proofs.lemmas.Bool.{not-false}
 use Rattle.std.proofs.lemmas.List.{get_or-set_same, set-get_or}
 use Rattle.geos_model.specs.declared.name.Name.{Name}
 use Rattle.geos_model.specs.declared.name.Owner.{Owner}
 use Rattle.geos_model.specs.declared.name.Owner.TheVariants as owner
+use Rattle.geos_model.specs.declared.refusal.Refusal.{Refusal}
 use Rattle.geos_model.specs.Names.{named, vm}
 use Rattle.geos_table.specs.Directories.{group_uid, uid_in}
 use Rattle.geos_table.specs.Directories as directories
@@ -13,7 +14,7 @@ use Rattle.geos_table.specs.Memory.{Memory, Block, listed_at, is_group, is_marke
 use Rattle.geos_table.specs.Legal.{IsMemory}
 use Rattle.geos_table.specs.Effects.{Choice, Nothing, bringing}
 use Rattle.geos_table.specs.Calls.{locks_full, deref}
-use Rattle.geos_table.specs.VmCalls.{vnew, vlock, new_listed}
+use Rattle.geos_table.specs.VmCalls.{names_group, new_listed, no_listed, vnew}
 use Rattle.geos_table.specs.ItemCalls.{no_group, ilock}
 use Rattle.geos_table.specs.Leaving.{new_vm}
 use Rattle.geos_table.specs.Table.{Vnew}
@@ -54,7 +55,7 @@ use Rattle.geos_semantics.proofs.NewListed.{new-small, new-free, with_new, new-o
 use Rattle.geos_semantics.proofs.Leads.{Leads}
 use Rattle.geos_semantics.proofs.Moments.{Moment, Well, StepsWell, unfaulted-here, fields-here, along_edge, branch_edge, fine-goes}
 use Rattle.geos_semantics.proofs.KernelSteps.{fine-unchanged, calls-well}
-use Rattle.geos_semantics.proofs.BlockSteps.{unlocking-well}
+use Rattle.geos_semantics.proofs.BlockSteps.{locking-well, unlocking-well}
 
 -- Blocks that are listed
 
@@ -192,18 +193,11 @@ module _ (moment : Moment) where
       refl
 
   pub vlock-well : StepsWell moment op.Vlock
-  vlock-well is choice =
-      let i = G.point.instr in
-      let h = word s i.b in
-      let a = (fields-here moment op.Vlock is).0 in
-      let empty = empty-at s i.a (unfaulted-here moment op.Vlock is).empty in
-      calls-well moment (Locks VmBlock) _ (vlock h) (λ done t. holding VmBlock i.a h t) choice (along_edge moment op.Vlock is refl) (branch_edge moment op.Vlock is refl) (λ r. fine-unchanged moment)
-      (λ e.
-      let pass = passed (vlock h choice s.memory).refusals e in
-      let legal_after = after-legal (vlock h choice s.memory) (rows_keep_memory.by_vlock h choice s.memory G.sound.memory) e in
-      let L = locks-into base s (held_vm h) (listed-some (listed_at s.memory h) pass.0, pass.1.0) legal_after in
-      fine-locked base s G.point.row G.sound G.meets i a (held_vm h) _ empty L)
-      refl
+  vlock-well is =
+      let h = word s G.point.instr.b in
+      let refusals : Choice → Memory → List (Bool × Refusal) = λ choice m. no_listed m h ∷ names_group m h ∷ locks_full m (vm h) ∷ bringing choice m h in
+      locking-well moment VmBlock refusals h (fields-here moment op.Vlock is).0 (unfaulted-here moment op.Vlock is).empty (along_edge moment op.Vlock is refl) (branch_edge moment op.Vlock is refl) (rows_keep_memory.by_vlock h)
+      (λ choice e. let pass = passed (refusals choice s.memory) e in (listed-some (listed_at s.memory h) pass.0, pass.1.0))
 
   pub ilock-well : StepsWell moment op.Ilock
   ilock-well is choice =

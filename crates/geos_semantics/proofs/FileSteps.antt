@@ -11,8 +11,8 @@ use Rattle.geos_table.specs.Handles.{at_handle}
 use Rattle.geos_table.specs.Memory.{Memory, owned_block, locks_in, chunks_in, locks_of}
 use Rattle.geos_table.specs.Legal.{IsMemory}
 use Rattle.geos_table.specs.Effects.{Choice, Nothing, come_to}
-use Rattle.geos_table.specs.VmCalls.{vfree, vfind, vuid, vsetmap}
-use Rattle.geos_table.specs.ItemCalls.{gfree, isetmap}
+use Rattle.geos_table.specs.VmCalls.{vfind, vuid, vsetmap}
+use Rattle.geos_table.specs.ItemCalls.{isetmap}
 use Rattle.geos_table.specs.Table.{KernelCall, Vfree, Gfree, row}
 use Rattle.geos_table.specs.Leaving.{scope_of, LeavesOthers}
 use Rattle.geos_table.proofs.Keeps.{rows_keep_memory}
@@ -27,9 +27,8 @@ use Rattle.geos_semantics.proofs.Stays.{stays-from}
 use Rattle.geos_semantics.proofs.Kept.{Leaves}
 use Rattle.geos_semantics.proofs.FileAnswers.{map_block-small, map_group-small, map_item-small, found-small, uid-small}
 use Rattle.geos_semantics.proofs.Fine.{after-legal, fine-word, fine-nothing}
-use Rattle.geos_semantics.proofs.FineLocks.{fine-freed}
 use Rattle.geos_semantics.proofs.Moments.{Moment, StepsWell, along_edge, branch_edge, fine-goes}
-use Rattle.geos_semantics.proofs.KernelSteps.{fine-unchanged, calls-well, telling-well}
+use Rattle.geos_semantics.proofs.KernelSteps.{fine-unchanged, calls-well, freeing-well, telling-well}
 
 -- memory in which each block is as it was, whatever else of the file is not
 pub leaves-blocks : (a : ℕ) (old new : Memory) → IsMemory new → new.blocks ≡ old.blocks → new.file.cur.blocks ≡ old.file.cur.blocks → Leaves a Nothing old new
@@ -109,23 +108,17 @@ module _ (moment : Moment) where
   -- Calls that free
 
   pub vfree-well : StepsWell moment op.Vfree
-  vfree-well is choice =
-      let i = G.point.instr in
-      let h = word s i.a in
-      calls-well moment NoSlot _ (vfree h) nowhere choice (along_edge moment op.Vfree is refl) (branch_edge moment op.Vfree is refl) (λ r. fine-unchanged moment)
-      (λ e.
-      let legal_after = after-legal (vfree h choice s.memory) (rows_keep_memory.by_vfree h choice s.memory G.sound.memory) e in
-      let free = ltb-false 0 (locks_of s.memory (vm h)) ((passed (vfree h choice s.memory).refusals e).1.1.0) in
-      fine-freed base s G.point.row G.sound G.meets i.a (vm h) _ (omega (arith, free)) legal_after (after-others (Vfree h) choice s.memory e) (rows_leave.counts (Vfree h) choice s.memory tt e))
-      refl
+  vfree-well is =
+      let h = word s G.point.instr.a in
+      let call = row (Vfree h) in
+      freeing-well moment call (vm h) (along_edge moment op.Vfree is refl) (branch_edge moment op.Vfree is refl) (rows_keep_memory.by_vfree h) (λ choice. (refl, λ r. refl)) (λ choice e.
+      let free = ltb-false 0 (locks_of s.memory (vm h)) ((passed (call choice s.memory).refusals e).1.1.0) in
+      (omega (arith, free), after-others (Vfree h) choice s.memory e, rows_leave.counts (Vfree h) choice s.memory tt e))
 
   pub gfree-well : StepsWell moment op.Gfree
-  gfree-well is choice =
-      let i = G.point.instr in
-      let g = word s i.a in
-      calls-well moment NoSlot _ (gfree g) nowhere choice (along_edge moment op.Gfree is refl) (branch_edge moment op.Gfree is refl) (λ r. fine-unchanged moment)
-      (λ e.
-      let legal_after = after-legal (gfree g choice s.memory) (rows_keep_memory.by_gfree g choice s.memory G.sound.memory) e in
-      let free = ltb-false 0 (locks_of s.memory (vm g)) ((passed (gfree g choice s.memory).refusals e).1.0) in
-      fine-freed base s G.point.row G.sound G.meets i.a (vm g) _ (omega (arith, free)) legal_after (after-others (Gfree g) choice s.memory e) (rows_leave.counts (Gfree g) choice s.memory tt e))
-      refl
+  gfree-well is =
+      let g = word s G.point.instr.a in
+      let call = row (Gfree g) in
+      freeing-well moment call (vm g) (along_edge moment op.Gfree is refl) (branch_edge moment op.Gfree is refl) (rows_keep_memory.by_gfree g) (λ choice. (refl, λ r. refl)) (λ choice e.
+      let free = ltb-false 0 (locks_of s.memory (vm g)) ((passed (call choice s.memory).refusals e).1.0) in
+      (omega (arith, free), after-others (Gfree g) choice s.memory e, rows_leave.counts (Gfree g) choice s.memory tt e))

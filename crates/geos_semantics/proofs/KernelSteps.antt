@@ -4,15 +4,16 @@ use Rattle.std.specs.Prelude.{is_none}
 use Rattle.geos_model.specs.declared.name.Name.{Name}
 use Rattle.geos_model.specs.declared.refusal.Refusal.{Refusal}
 use Rattle.geos_model.specs.Refusals.{refusal_number, first_refusal}
-use Rattle.geos_table.specs.Memory.{Memory, with_chunks}
+use Rattle.geos_table.specs.Memory.{Memory, locks_of, with_chunks}
 use Rattle.geos_table.specs.Legal.{AreBytes, IsMemory}
 use Rattle.geos_table.specs.Effects.{Choice, Reference, Nothing, InBlock, Effect, Call, come_to}
 use Rattle.geos_table.specs.Keeping.{Keeps}
+use Rattle.geos_table.specs.Leaving.{LeavesOthers, OneBlock}
 use Rattle.geos_table.specs.Calls.{written}
 use Rattle.geos_table.proofs.Keeps.{rows_keep_memory}
 use Rattle.geos_image.specs.declared.row.Row.{Row}
 use Rattle.geos_opcodes.specs.declared.uses.SlotUse.{SlotUse}
-use Rattle.geos_opcodes.specs.declared.uses.SlotUse.TheVariants.{Moves, LooksAt}
+use Rattle.geos_opcodes.specs.declared.uses.SlotUse.TheVariants.{Moves, NoSlot, LooksAt}
 use Rattle.geos_verify.specs.Rows.{with_bound, pointers_kept}
 use Rattle.geos_verify.specs.Rows as rows
 use Rattle.geos_verify.specs.Potentials.{pays}
@@ -23,6 +24,7 @@ use Rattle.geos_semantics.proofs.Leads.{Leads}
 use Rattle.geos_semantics.proofs.Kept.{leaves-all}
 use Rattle.geos_semantics.proofs.Bounds.{held-at, refusal_number-le}
 use Rattle.geos_semantics.proofs.Fine.{Fine, after-legal, fine-word, fine-same, fine-nothing, fine-moved, leaves-chunks, leaves-written, fine-pointing}
+use Rattle.geos_semantics.proofs.FineLocks.{fine-freed}
 use Rattle.geos_semantics.proofs.Moments.{Moment, Well, fine-goes}
 
 -- what an instruction makes of its state by a call that leaves this memory
@@ -142,6 +144,24 @@ module _ (moment : Moment) where
       let F = fine-rechunked full row chunks keeps rechunks choice in
       calls-well Moves (with_bound G.point.instr.b 65535 moved_row) row (with_word G.point.instr.b) choice L B F.0
       (λ e. fine-word base s _ moved_row G.point.instr.b (row choice s.memory).answer 65535 (F.1 e) (most e) (most e))
+      refl
+
+  -- Calls that free a block
+
+  -- one that does nothing else, and changes nothing where it is refused
+  pub freeing-well : (call : Call (Unit {0})) (name : Name) → Leads image s.routine G.routine (s.pc + 1) G.point.row (pays G.point.potential) → Leads image s.routine G.routine G.point.instr.target (rows.refused G.point.instr NoSlot G.point.row) (pays G.point.potential)
+      → Keeps call → ((choice : Choice) → ((call choice s.memory).stale ≡ Nothing) × ((r : Refusal) → (call choice s.memory).left r ≡ s.memory))
+      → ((choice : Choice) → first_refusal (call choice s.memory).refusals ≡ None
+      → (locks_of s.memory name ≡ 0) × LeavesOthers (OneBlock name) s.memory (call choice s.memory).after × (locks_of (call choice s.memory).after name ≡ 0))
+      → (choice : Choice) → Well moment (calls call nowhere choice G.point.instr s)
+  freeing-well call name L B keeps quiet frees choice =
+      let shape = quiet choice in
+      calls-well NoSlot _ call nowhere choice L B
+      (λ r. rw (shape.0, shape.1 r) fine-unchanged)
+      (λ e.
+      let f = frees choice e in
+      let legal_after = after-legal (call choice s.memory) (keeps choice s.memory G.sound.memory) e in
+      rw shape.0 (fine-freed base s G.point.row G.sound G.meets G.point.instr.a name (call choice s.memory).after f.0 legal_after f.1 f.2))
       refl
 
   -- bytes are written into a chunk that a pointer leads into
