@@ -1,5 +1,5 @@
 -- The rules of the verifier, and the images that it accepts.
-use Rattle.std.specs.Prelude.{◌≡◌, ◌<◌, ◌≤◌, ℕ, ◌+◌, Bool, true, false, ◌&&◌, ◌||◌, not, nat_lt, nat_le, ◌==◌, List, [], ◌∷◌, Option, Some, None, IfSome, slice_get}
+use Rattle.std.specs.Prelude.{◌≡◌, ◌<◌, ◌≤◌, ℕ, ◌+◌, length, Bool, true, false, ◌&&◌, ◌||◌, not, nat_lt, nat_le, ◌==◌, List, [], ◌∷◌, Option, Some, None, IfSome, slice_get}
 use Rattle.std.specs.List.{list_any}
 use Rattle.geos_model.specs.Refusals.{first_refusal}
 use Rattle.geos_opcodes.specs.declared.opcode.Opcode.{Opcode}
@@ -10,6 +10,7 @@ use Rattle.geos_image.specs.declared.potential.Potential.{Potential}
 use Rattle.geos_image.specs.declared.routine.Routine.{Routine}
 use Rattle.geos_image.specs.declared.point.Point.{Point}
 use Rattle.geos_image.specs.Parts.{Parts, start_of}
+use Rattle.geos_image.specs.Fields.{FieldsFit, CalleeFits}
 use Rattle.geos_image.specs.Legal.{is_image}
 use Rattle.geos_verify.specs.declared.rule.Rule.{Rule}
 use Rattle.geos_verify.specs.declared.rule.Rule.TheVariants.{LeavesRoutine, NamesEmptySlot, EntryMisfit, StalePointer, PassesEnd, ChangesUnmarked, LocksIntoHeld, WrongSlot, CommitsHeld, CallMisfit, ExitMisfit, EdgeMisfit, EdgeUnpaid, OverBudget}
@@ -196,6 +197,16 @@ edge_unpaid image pc i row potential =
 -- at the first pc: the potential is above the budget
 unfoldable pub over_budget : Routine → ℕ → ℕ → Potential → Bool
 over_budget routine start pc potential = pc == start && not (is_within routine.budget potential)
+
+-- what the rules on edges take for granted of an instruction at a pc of routine r: its fields name
+-- what there is, it calls a routine below r, and goes on within the image
+pub record GoesWithin (image : Parts) (r pc : ℕ) (i : Instr) : Type 0 where
+  pub fields : FieldsFit i.opcode i
+  pub callee : CalleeFits (length image.routines) i
+  pub lower : calls i.opcode ≡ true → i.imm < r
+  pub along : falls_through i.opcode ≡ true → pc + 1 < length image.points
+  pub branch : branches i.opcode ≡ true → i.target < length image.points
+  pub short : pc < 4096
 
 -- the rules in the order of their numbers
 abbrev pub tests : Parts → ℕ → Routine → ℕ → ℕ → Point → List (Bool × Rule)

@@ -8,10 +8,11 @@ ghost use Rattle.geos_image.specs.Legal.{is_image};
 ghost use Rattle.geos_verify.specs.Rules.{RefusesNone, Refuses, Accepted, IsChecked, FirstRefusal};
 ghost use Rattle.geos_verify.specs.Touched.{NotesBelow};
 
+use crate::body::Body;
 use crate::refusal::refusal;
 use crate::rule::Reject;
-use crate::touched::{Touched, touched_in};
-use geos_image::{Image, Routine};
+use crate::touched::touched_in;
+use geos_image::Image;
 use std::marker::Model;
 
 /// An image that the verifier accepted: no rule refuses at any pc.
@@ -41,26 +42,15 @@ impl Checked {
     }
 }
 
-/// The first refusal in routine r, which begins at `start`. The table says which counters the
-/// routines below r touch.
-fn refusal_in(
-    image: &Image,
-    r: u16,
-    routine: &Routine,
-    start: u16,
-    touched: &Touched,
-) -> Option<Reject>
-    requires routine { r < length image.now.routines }
-    requires table { NotesBelow image.now touched.now r }
-    requires end { start + routine.now.count ≤ length image.now.points }
-    requires short { length image.now.points ≤ 4096 }
-    ensures none { IfNone result (RefusesNone image.now r routine.now start (start + routine.now.count)) }
-    ensures within { IfSome result (λ reject. (start ≤ reject.pc) × (reject.pc < start + routine.now.count)) }
-    ensures some { IfSome result (Refuses image.now r routine.now start) }
-    ensures first { IfSome result (λ reject. RefusesNone image.now r routine.now start reject.pc) }
+/// The first refusal in a routine.
+fn refusal_in(body: &Body) -> Option<Reject>
+    ensures none { IfNone result (RefusesNone body.now.image.now body.now.r body.now.routine.now body.now.start (body.now.start + body.now.routine.now.count)) }
+    ensures within { IfSome result (λ reject. (body.now.start ≤ reject.pc) × (reject.pc < body.now.start + body.now.routine.now.count)) }
+    ensures some { IfSome result (Refuses body.now.image.now body.now.r body.now.routine.now body.now.start) }
+    ensures first { IfSome result (λ reject. RefusesNone body.now.image.now body.now.r body.now.routine.now body.now.start reject.pc) }
 {
-    for pc in start..start + routine.count {
-        if let Some(rule) = refusal(image, r, routine, u32::from(start), touched, pc) {
+    for pc in body.start..body.start + body.routine.count {
+        if let Some(rule) = refusal(body, pc) {
             return Some(Reject { pc, rule });
         }
     }
@@ -76,7 +66,14 @@ fn first_refusal(image: &Image) -> Option<Reject>
     let mut touched = [[false; 4]; 32];
     for r in 0..image.count() {
         touched[usize::from(r)] = touched_in(image, r, &touched);
-        if let Some(reject) = refusal_in(image, r, image.routine(r), image.start(r), &touched) {
+        let body = Body {
+            image,
+            r,
+            routine: image.routine(r),
+            start: image.start(r),
+            touched: &touched,
+        };
+        if let Some(reject) = refusal_in(&body) {
             return Some(reject);
         }
     }

@@ -4,6 +4,7 @@
 #![tactic(auto)]
 
 mod asked;
+mod body;
 mod bounds;
 mod checked;
 mod edges;

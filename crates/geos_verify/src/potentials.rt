@@ -3,11 +3,12 @@
 ghost use Rattle.std.specs.Prelude.{◌≡◌, ◌<◌, true, length};
 ghost use Rattle.geos_image.specs.Fields.{FieldsFit, CalleeFits};
 ghost use Rattle.geos_verify.specs.Potentials.{are_spent, pays_along, pays_branching, is_within};
-ghost use Rattle.geos_verify.specs.Touched.{calls, NotesBelow};
+ghost use Rattle.geos_verify.specs.Touched.{calls};
 
 use crate::asked::{asked_along, asked_branching};
-use crate::touched::{Touched, touched_by};
-use geos_image::{Image, Instr, Opcode, Potential, Row};
+use crate::body::Body;
+use crate::touched::touched_by;
+use geos_image::{Instr, Opcode, Potential, Row};
 
 /// Whether no coefficient is left on a counter that is touched.
 pub fn are_spent(touched: &[bool; 4], q: &Potential) -> bool
@@ -20,27 +21,17 @@ pub fn are_spent(touched: &[bool; 4], q: &Potential) -> bool
         & (!touched[3] | (k3 == 0))
 }
 
-/// Whether the potential p at an instruction of routine r pays for the edge to the next one,
-/// where the potential is q. The table says which counters the routines below r touch.
-pub(crate) fn pays_along(
-    image: &Image,
-    r: u16,
-    touched: &Touched,
-    i: &Instr,
-    row: &Row,
-    p: &Potential,
-    q: &Potential,
-) -> bool
+/// Whether the potential p at an instruction of a routine pays for the edge to the next one, where
+/// the potential is q.
+pub(crate) fn pays_along(body: &Body, i: &Instr, row: &Row, p: &Potential, q: &Potential) -> bool
     requires fields { FieldsFit i.now.opcode i.now }
-    requires callee { CalleeFits (length image.now.routines) i.now }
-    requires lower { calls i.now.opcode ≡ true → i.now.imm < r }
-    requires routine { r < length image.now.routines }
-    requires table { NotesBelow image.now touched.now r }
-    ensures { result ≡ pays_along image.now i.now i.now.opcode row.now p.now q.now }
+    requires callee { CalleeFits (length body.now.image.now.routines) i.now }
+    requires lower { calls i.now.opcode ≡ true → i.now.imm < body.now.r }
+    ensures { result ≡ pays_along body.now.image.now i.now i.now.opcode row.now p.now q.now }
 {
-    let is_paid = asked_along(image, i, row, q).is_paid(p);
+    let is_paid = asked_along(body.image, i, row, q).is_paid(p);
     match i.opcode {
-        Opcode::Call => is_paid && are_spent(&touched_by(image, r, touched, i.imm), q),
+        Opcode::Call => is_paid && are_spent(&touched_by(body, i.imm), q),
         _ => is_paid,
     }
 }

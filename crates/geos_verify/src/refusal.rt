@@ -5,11 +5,12 @@ ghost use Rattle.geos_image.specs.declared.point.Point.{Point};
 ghost use Rattle.geos_image.specs.Parts.{start_of};
 ghost use Rattle.geos_image.specs.Fields.{FieldsFit, TargetFits, CalleeFits};
 ghost use Rattle.geos_verify.specs.Rows.{falls_through, branches, row_along, row_branching};
-ghost use Rattle.geos_verify.specs.Rules.{has_place, returns, leaves_routine, entry_misfits, call_misfits, exit_misfits, misfits_at, edge_misfits, unpaid_along, unpaid_branching, edge_unpaid, over_budget, refusal};
-ghost use Rattle.geos_verify.specs.Touched.{calls, NotesBelow};
+ghost use Rattle.geos_verify.specs.Rules.{has_place, returns, leaves_routine, entry_misfits, call_misfits, exit_misfits, misfits_at, edge_misfits, unpaid_along, unpaid_branching, edge_unpaid, over_budget, refusal, GoesWithin};
+ghost use Rattle.geos_verify.specs.Touched.{calls};
 ghost use Rattle.geos_opcodes.specs.Facts.{uses_of};
 ghost use Rattle.geos_verify.specs.Uses.{UsesFit};
 
+use crate::body::Body;
 use crate::edges::{branches, falls_through, go_along, go_to_target};
 use crate::fits::{fits, is_plain, names_empty_slot};
 use crate::misuse::{
@@ -17,7 +18,7 @@ use crate::misuse::{
 };
 use crate::potentials::{is_within, pays_along, pays_branching};
 use crate::rule::Rule;
-use crate::touched::{Touched, calls};
+use crate::touched::calls;
 use crate::uses::uses_at;
 use geos_image::{Image, Instr, Opcode, Potential, Routine, Row};
 use geos_opcodes::Uses;
@@ -113,48 +114,23 @@ fn misfits_branching(image: &Image, i: &Instr, uses: Uses, row: &Row) -> bool
 
 /// Whether the row after an edge does not fit the row there.
 #[tactic(auto, unfolding(crate::specs::Rules::edge_misfits))]
-fn edge_misfits(image: &Image, pc: u16, i: &Instr, uses: Uses, row: &Row) -> bool
+fn edge_misfits(body: &Body, pc: u16, i: &Instr, uses: Uses, row: &Row) -> bool
     requires uses { uses ≡ uses_of i.now.opcode }
     requires fit { UsesFit uses i.now }
-    requires fields { FieldsFit i.now.opcode i.now }
-    requires callee { CalleeFits (length image.now.routines) i.now }
-    requires pc { pc < 4096 }
-    requires along { falls_through i.now.opcode ≡ true → pc + 1 < length image.now.points }
-    requires branch { branches i.now.opcode ≡ true → i.now.target < length image.now.points }
-    ensures { result ≡ edge_misfits image.now pc i.now row.now }
+    requires within { GoesWithin body.now.image.now body.now.r pc i.now }
+    ensures { result ≡ edge_misfits body.now.image.now pc i.now row.now }
 {
-    falls_through(i.opcode) && misfits_along(image, pc, i, uses, row)
-        || branches(i.opcode) && misfits_branching(image, i, uses, row)
+    falls_through(i.opcode) && misfits_along(body.image, pc, i, uses, row)
+        || branches(i.opcode) && misfits_branching(body.image, i, uses, row)
 }
 
 #[tactic(auto, unfolding(crate::specs::Rules::unpaid_along))]
-fn unpaid_along(
-    image: &Image,
-    r: u16,
-    touched: &Touched,
-    pc: u16,
-    i: &Instr,
-    row: &Row,
-    potential: &Potential,
-) -> bool
-    requires fields { FieldsFit i.now.opcode i.now }
-    requires callee { CalleeFits (length image.now.routines) i.now }
-    requires lower { calls i.now.opcode ≡ true → i.now.imm < r }
-    requires routine { r < length image.now.routines }
-    requires table { NotesBelow image.now touched.now r }
-    requires next { pc + 1 < length image.now.points }
-    requires pc { pc < 4096 }
-    ensures { result ≡ unpaid_along image.now pc i.now row.now potential.now }
+fn unpaid_along(body: &Body, pc: u16, i: &Instr, row: &Row, potential: &Potential) -> bool
+    requires within { GoesWithin body.now.image.now body.now.r pc i.now }
+    requires next { pc + 1 < length body.now.image.now.points }
+    ensures { result ≡ unpaid_along body.now.image.now pc i.now row.now potential.now }
 {
-    !pays_along(
-        image,
-        r,
-        touched,
-        i,
-        row,
-        potential,
-        image.potential(pc + 1),
-    )
+    !pays_along(body, i, row, potential, body.image.potential(pc + 1))
 }
 
 #[tactic(auto, unfolding(crate::specs::Rules::unpaid_branching))]
@@ -168,27 +144,12 @@ fn unpaid_branching(image: &Image, i: &Instr, potential: &Potential) -> bool
 
 /// Whether the potential does not pay for an edge or for the return.
 #[tactic(auto, unfolding(crate::specs::Rules::edge_unpaid))]
-fn edge_unpaid(
-    image: &Image,
-    r: u16,
-    touched: &Touched,
-    pc: u16,
-    i: &Instr,
-    row: &Row,
-    potential: &Potential,
-) -> bool
-    requires fields { FieldsFit i.now.opcode i.now }
-    requires callee { CalleeFits (length image.now.routines) i.now }
-    requires lower { calls i.now.opcode ≡ true → i.now.imm < r }
-    requires routine { r < length image.now.routines }
-    requires table { NotesBelow image.now touched.now r }
-    requires pc { pc < 4096 }
-    requires along { falls_through i.now.opcode ≡ true → pc + 1 < length image.now.points }
-    requires branch { branches i.now.opcode ≡ true → i.now.target < length image.now.points }
-    ensures { result ≡ edge_unpaid image.now pc i.now row.now potential.now }
+fn edge_unpaid(body: &Body, pc: u16, i: &Instr, row: &Row, potential: &Potential) -> bool
+    requires { GoesWithin body.now.image.now body.now.r pc i.now }
+    ensures { result ≡ edge_unpaid body.now.image.now pc i.now row.now potential.now }
 {
-    falls_through(i.opcode) && unpaid_along(image, r, touched, pc, i, row, potential)
-        || branches(i.opcode) && unpaid_branching(image, i, potential)
+    falls_through(i.opcode) && unpaid_along(body, pc, i, row, potential)
+        || branches(i.opcode) && unpaid_branching(body.image, i, potential)
         || returns(i.opcode) && potential.constant == 0
 }
 
@@ -199,23 +160,14 @@ fn over_budget(start: u32, routine: &Routine, pc: u32, potential: &Potential) ->
     pc == start && !is_within(routine.budget, potential)
 }
 
-/// The lowest rule that refuses the point at `pc` of routine r, which begins at `start`. The
-/// table says which counters the routines below r touch.
-pub(crate) fn refusal(
-    image: &Image,
-    r: u16,
-    routine: &Routine,
-    start: u32,
-    touched: &Touched,
-    pc: u16,
-) -> Option<Rule>
-    requires routine { r < length image.now.routines }
-    requires table { NotesBelow image.now touched.now r }
-    requires there { pc < length image.now.points }
-    requires end { start + routine.now.count ≤ length image.now.points }
-    requires short { length image.now.points ≤ 4096 }
-    ensures { IfSome (slice_get image.now.points pc) (λ point. result ≡ refusal image.now r routine.now start pc point) }
+/// The lowest rule that refuses the point at `pc` of a routine.
+pub(crate) fn refusal(body: &Body, pc: u16) -> Option<Rule>
+    requires { pc < length body.now.image.now.points }
+    ensures { IfSome (slice_get body.now.image.now.points pc) (λ point. result ≡ refusal body.now.image.now body.now.r body.now.routine.now body.now.start pc point) }
 {
+    let image = body.image;
+    let routine = body.routine;
+    let start = u32::from(body.start);
     let i = image.instr(pc);
     let row = image.row(pc);
     let potential = image.potential(pc);
@@ -239,13 +191,13 @@ pub(crate) fn refusal(
         Some(Rule::WrongSlot)
     } else if commits_with_held(i, uses.slot, row) {
         Some(Rule::CommitsHeld)
-    } else if call_misfits(image, r, i, row) {
+    } else if call_misfits(image, body.r, i, row) {
         Some(Rule::CallMisfit)
     } else if exit_misfits(routine, i, row) {
         Some(Rule::ExitMisfit)
-    } else if edge_misfits(image, pc, i, uses, row) {
+    } else if edge_misfits(body, pc, i, uses, row) {
         Some(Rule::EdgeMisfit)
-    } else if edge_unpaid(image, r, touched, pc, i, row, potential) {
+    } else if edge_unpaid(body, pc, i, row, potential) {
         Some(Rule::EdgeUnpaid)
     } else if over_budget(start, routine, at, potential) {
         Some(Rule::OverBudget)

@@ -4,6 +4,7 @@ ghost use Rattle.std.specs.Prelude.{◌≡◌, ◌<◌, length, slice_index_or, 
 ghost use Rattle.std.specs.List.{list_any};
 ghost use Rattle.geos_verify.specs.Touched.{counts, calls, points_of, touches_here, touched_by, noted, noted_by, NotesBelow};
 
+use crate::body::Body;
 use geos_image::{Image, Instr, Opcode, Point};
 use geos_opcodes::CounterUse;
 
@@ -41,12 +42,12 @@ fn noted(table: &Touched, r: u16, k: u8) -> bool
     }
 }
 
-/// Which counters a routine touches that is below r, as the table says it.
-pub(crate) fn touched_by(image: &Image, r: u16, table: &Touched, callee: u16) -> [bool; 4]
-    requires below { callee < r }
-    requires table { NotesBelow image.now table.now r }
-    ensures { result ≡ touched_by image.now callee }
+/// Which counters a routine touches that is below the body's, as its table says it.
+pub(crate) fn touched_by(body: &Body, callee: u16) -> [bool; 4]
+    requires { callee < body.now.r }
+    ensures { result ≡ touched_by body.now.image.now callee }
 {
+    let table = body.touched;
     [
         noted(table, callee, 0),
         noted(table, callee, 1),

@@ -8,8 +8,8 @@ use Rattle.geos_verify.proofs.Noted.{notes-kept, notes-next}
 use Rattle.geos_verify.proofs.Places.{if_some, accepted-before, is_first, all_accepted}
 use Rattle.geos_verify.proofs.checked.first_refusal.Goals as goal
 
-pub refusal_in-requires-clause-table : goal.refusal_in-requires-clause-table
-refusal_in-requires-clause-table c = rw c.from.ensures (notes-kept c.args.image.now c.loop-r.touched c.loop-r.r c.touched_in.result c.loop-r.invariant.1)
+pub invariant_of-body-clause-table : goal.invariant_of-body-clause-table
+invariant_of-body-clause-table c = rw c.from.ensures (notes-kept c.args.image.now c.loop-r.touched c.loop-r.r c.touched_in.result c.loop-r.invariant.1)
 
 pub returns-in-Some-clause-some : goal.returns-in-Some-clause-some
 returns-in-Some-clause-some c =

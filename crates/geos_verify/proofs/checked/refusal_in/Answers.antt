@@ -3,5 +3,5 @@ use Rattle.geos_verify.proofs.checked.refusal_in.Goals as goal
 
 pub loop-pc-preserved : goal.loop-pc-preserved
 loop-pc-preserved c =
-    let here = rw c.from.ensures at c.in_default.ensures in
-    refuses_none-next c.args.image.now c.args.r c.args.start c.loop-pc.pc c.args.routine.now c.loop-pc.invariant here
+    let body = c.args.body.now in
+    refuses_none-next body.image.now body.r body.start c.loop-pc.pc body.routine.now c.loop-pc.invariant c.in_default.ensures

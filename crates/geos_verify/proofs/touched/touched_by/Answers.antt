@@ -3,4 +3,5 @@ use Rattle.geos_verify.proofs.touched.touched_by.Goals as goal
 
 pub returns : goal.returns
 returns c =
-    rw (c.noted.ensures, c.noted-2.ensures, c.noted-3.ensures, c.noted-4.ensures) (noted-all c.args.image.now c.args.table.now c.args.r c.args.callee c.requires.table c.requires.below)
+    let body = c.args.body.now in
+    rw (c.noted.ensures, c.noted-2.ensures, c.noted-3.ensures, c.noted-4.ensures) (noted-all body.image.now body.touched.now body.r c.args.callee body.table c.requires)
