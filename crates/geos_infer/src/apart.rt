@@ -48,28 +48,39 @@ pub(crate) fn lead(body: &Body, pc: u16, branch: bool) -> Option<u16>
     }
 }
 
+/// A row that control brings to a place.
+#[derive(Clone, Copy)]
+struct Brought {
+    /// The place.
+    to: u16,
+    row: Row,
+}
+
 /// What control brings along an edge to a place, where something is known at the edge's beginning.
-fn bring(body: &Body, known: &Known, pc: u16, branch: bool) -> Option<(u16, Row)>
+fn bring(body: &Body, known: &Known, pc: u16, branch: bool) -> Option<Brought>
     requires here { pc < body.now.end }
     requires come { AllCome body.now.image.now body.now.r known.now }
-    ensures by { IfSome result (λ both. ComesBy body.now.image.now body.now.r both.0 pc both.1) }
-    ensures inside { IfSome result (λ both. both.0 < 4096) }
+    ensures by { IfSome result (λ brought. ComesBy body.now.image.now body.now.r brought.to pc brought.row) }
+    ensures inside { IfSome result (λ brought. brought.to < 4096) }
 {
     let Some(row) = known.at(pc) else {
         return None;
     };
     match lead(body, pc, branch) {
-        Some(to) => Some((to, after(body.image, pc, &row, branch))),
+        Some(to) => Some(Brought {
+            to,
+            row: after(body.image, pc, &row, branch),
+        }),
         None => None,
     }
 }
 
-/// How the routine's beginning brings its entry row to a place, where its slots differ from those of a row.
-fn entry_unlike(body: &Body, to: u16, row: &Row) -> Option<Coming>
-    ensures { IfSome result (λ coming. IsUnlike body.now.image.now body.now.r to row.now coming) }
+/// How the routine's beginning brings its entry row to the same place as another row, with slots that differ.
+fn entry_unlike(body: &Body, other: &Brought) -> Option<Coming>
+    ensures { IfSome result (λ coming. IsUnlike body.now.image.now body.now.r other.now.to other.now.row coming) }
 {
     let entry = body.image.routine(body.r).entry;
-    if to == body.start && !agree(&entry, row) {
+    if other.to == body.start && !agree(&entry, &other.row) {
         Some(Coming {
             from: None,
             row: entry,
@@ -79,41 +90,36 @@ fn entry_unlike(body: &Body, to: u16, row: &Row) -> Option<Coming>
     }
 }
 
-/// How an edge brings slots to a place that differ from those of a row.
-fn edge_unlike(
-    body: &Body,
-    known: &Known,
-    pc: u16,
-    branch: bool,
-    to: u16,
-    row: &Row,
-) -> Option<Coming>
+/// How an edge does so.
+fn edge_unlike(body: &Body, known: &Known, pc: u16, branch: bool, other: &Brought) -> Option<Coming>
     requires here { pc < body.now.end }
     requires come { AllCome body.now.image.now body.now.r known.now }
-    ensures { IfSome result (λ coming. IsUnlike body.now.image.now body.now.r to row.now coming) }
+    ensures { IfSome result (λ coming. IsUnlike body.now.image.now body.now.r other.now.to other.now.row coming) }
 {
     match bring(body, known, pc, branch) {
-        Some((there, brought)) if there == to && !agree(&brought, row) => Some(Coming {
-            from: Some(pc),
-            row: brought,
-        }),
+        Some(brought) if brought.to == other.to && !agree(&brought.row, &other.row) => {
+            Some(Coming {
+                from: Some(pc),
+                row: brought.row,
+            })
+        }
         _ => None,
     }
 }
 
-/// The first way on which control brings slots to a place that differ from those of a row.
-fn first_unlike(body: &Body, known: &Known, to: u16, row: &Row) -> Option<Coming>
+/// The first way on which control does so.
+fn first_unlike(body: &Body, known: &Known, other: &Brought) -> Option<Coming>
     requires { AllCome body.now.image.now body.now.r known.now }
-    ensures { IfSome result (λ coming. IsUnlike body.now.image.now body.now.r to row.now coming) }
+    ensures { IfSome result (λ coming. IsUnlike body.now.image.now body.now.r other.now.to other.now.row coming) }
 {
-    if let Some(coming) = entry_unlike(body, to, row) {
+    if let Some(coming) = entry_unlike(body, other) {
         return Some(coming);
     }
     for pc in body.start..body.end {
-        if let Some(coming) = edge_unlike(body, known, pc, false, to, row) {
+        if let Some(coming) = edge_unlike(body, known, pc, false, other) {
             return Some(coming);
         }
-        if let Some(coming) = edge_unlike(body, known, pc, true, to, row) {
+        if let Some(coming) = edge_unlike(body, known, pc, true, other) {
             return Some(coming);
         }
     }
@@ -129,27 +135,27 @@ enum Went {
 }
 
 /// A row comes to a place: it is known there now, unless one was; slots may differ.
-fn come(body: &Body, known: &mut Known, pc: u16, to: u16, row: &Row) -> Went
-    requires by { ComesBy body.now.image.now body.now.r to pc row.now }
-    requires inside { to < 4096 }
+fn come(body: &Body, known: &mut Known, pc: u16, brought: &Brought) -> Went
+    requires by { ComesBy body.now.image.now body.now.r brought.now.to pc brought.now.row }
+    requires inside { brought.now.to < 4096 }
     requires come { AllCome body.now.image.now body.now.r known.old }
     ensures come { AllCome body.now.image.now body.now.r known.new }
     ensures apart { IsWent body.now.image.now body.now.r result }
 {
-    let Some(old) = known.at(to) else {
-        known.set(to, Some(*row));
+    let Some(old) = known.at(brought.to) else {
+        known.set(brought.to, Some(brought.row));
         return Went::On(true);
     };
-    if agree(&old, row) {
+    if agree(&old, &brought.row) {
         return Went::On(false);
     }
-    match first_unlike(body, known, to, row) {
+    match first_unlike(body, known, brought) {
         Some(first) => Went::Apart(Apart {
-            to,
+            to: brought.to,
             first,
             second: Coming {
                 from: Some(pc),
-                row: *row,
+                row: brought.row,
             },
         }),
         None => Went::On(false),
@@ -164,7 +170,7 @@ fn go(body: &Body, known: &mut Known, pc: u16, branch: bool) -> Went
     ensures apart { IsWent body.now.image.now body.now.r result }
 {
     match bring(body, known, pc, branch) {
-        Some((to, row)) => come(body, known, pc, to, &row),
+        Some(brought) => come(body, known, pc, &brought),
         None => Went::On(false),
     }
 }

@@ -95,10 +95,18 @@ fn lacking(round: &Round, counter: u8) -> u64 {
     }
 }
 
+/// By how much units of a counter are raised, in a routine with so many LOOPs.
+#[derive(Clone, Copy)]
+struct Raise {
+    counter: u8,
+    by: u64,
+    loops: u16,
+}
+
 /// The unit of a counter at a LOOP, so much more; twice as much at least, where it was raised more often than there are LOOPs.
-fn raised_unit(unit: u32, by: u64, raised: u16, loops: u16) -> Option<u32> {
-    let more = u64::from(unit).saturating_add(by);
-    let next = if raised <= loops {
+fn raised_unit(unit: u32, raised: u16, raise: &Raise) -> Option<u32> {
+    let more = u64::from(unit).saturating_add(raise.by);
+    let next = if raised <= raise.loops {
         more
     } else {
         more.max(u64::from(unit).saturating_mul(2))
@@ -107,15 +115,16 @@ fn raised_unit(unit: u32, by: u64, raised: u16, loops: u16) -> Option<u32> {
 }
 
 /// Raises the unit of the counter at a pc, if the edge takes from it; `false` where it is past what a potential can say.
-fn raise_at(ways: &mut Ways, pc: u16, arc: &Arc, counter: u8, by: u64, loops: u16) -> bool
+fn raise_at(ways: &mut Ways, pc: u16, arc: &Arc, raise: &Raise) -> bool
     requires { pc < 4096 }
 {
+    let counter = raise.counter;
     if arc.counting != Counting::Takes(counter) || 4 <= counter {
         return true;
     }
     let mut units = ways.units.at(pc);
     let raised = ways.raised.at(pc);
-    let Some(unit) = raised_unit(units[usize::from(counter)], by, raised, loops) else {
+    let Some(unit) = raised_unit(units[usize::from(counter)], raised, raise) else {
         return false;
     };
     units[usize::from(counter)] = unit;
@@ -125,7 +134,7 @@ fn raise_at(ways: &mut Ways, pc: u16, arc: &Arc, counter: u8, by: u64, loops: u1
 }
 
 /// Raises the units of a counter at the LOOPs of the way round from a pc.
-fn raise_round(ways: &mut Ways, from: u16, counter: u8, by: u64, loops: u16) -> bool
+fn raise_round(ways: &mut Ways, from: u16, raise: &Raise) -> bool
     requires { from < 4096 }
 {
     let mut at = from;
@@ -133,7 +142,7 @@ fn raise_round(ways: &mut Ways, from: u16, counter: u8, by: u64, loops: u16) -> 
         let Some(arc) = ways.next(at) else {
             return false;
         };
-        if !raise_at(ways, at, &arc, counter, by, loops) {
+        if !raise_at(ways, at, &arc, raise) {
             return false;
         }
         at = arc.to;
@@ -196,7 +205,12 @@ fn pay(body: &Body, ways: &mut Ways, at: u16, loops: u16) -> bool {
     let Some(counter) = paying(&round) else {
         return false;
     };
-    if !raise_round(ways, at, counter, lacking(&round, counter), loops) {
+    let raise = Raise {
+        counter,
+        by: lacking(&round, counter),
+        loops,
+    };
+    if !raise_round(ways, at, &raise) {
         return false;
     }
     carry(body, ways);

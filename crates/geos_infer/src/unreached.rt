@@ -130,22 +130,24 @@ fn guess(body: &Body, known: &Known, from: &mut Known) {
     }
 }
 
-/// What is known at a place goes along the edges to places that nothing reaches.
+/// What is known at a place goes along the edges to places that nothing reaches; whether something came of that.
 fn pass_lone(
     body: &Body,
     pc: u16,
-    row: &Row,
     lone: &Table<bool>,
     turns: &mut Table<Turn>,
     known: &mut Known,
 ) -> bool
     requires { pc < body.now.end }
 {
+    let Some(row) = known.at(pc) else {
+        return false;
+    };
     let mut changed = false;
     for branch in [false, true] {
         if let Some(edge) = edge_in(body, pc, branch) {
             if lone.at(edge.to) {
-                if let Arrival::Weaker = pass(body, edge, row, turns, known) {
+                if let Arrival::Weaker = pass(body, edge, &row, turns, known) {
                     changed = true;
                 }
             }
@@ -175,9 +177,9 @@ fn round(
                 },
             );
             let exit = body.image.routine(body.r).exit;
-            let row = clean(&known.at(pc).or(from.at(pc)).unwrap_or(exit));
-            known.set(pc, Some(row));
-            changed |= pass_lone(body, pc, &row, lone, turns, known);
+            let row = known.at(pc).or(from.at(pc)).unwrap_or(exit);
+            known.set(pc, Some(clean(&row)));
+            changed |= pass_lone(body, pc, lone, turns, known);
         }
     }
     changed

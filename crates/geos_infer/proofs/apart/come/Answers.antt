@@ -5,4 +5,5 @@ pub returns-in_default-clause-come : goal.returns-in_default-clause-come
 returns-in_default-clause-come c =
     let image = c.args.body.now.image.now in
     let r = c.args.body.now.r in
-    rw c.set.ensures (all_come-set image r c.args.known.now c.args.to c.args.row.now c.requires.come (comes-by image r c.args.to c.args.pc c.args.row.now c.requires.by))
+    let brought = c.args.brought.now in
+    rw c.set.ensures (all_come-set image r c.args.known.now brought.to brought.row c.requires.come (comes-by image r brought.to c.args.pc brought.row c.requires.by))
