@@ -6,39 +6,44 @@ use Rattle.geos_image.specs.declared.instr.Instr.{Instr}
 use Rattle.geos_image.specs.declared.point.Point.{Point}
 use Rattle.geos_image.specs.Parts.{Parts}
 use Rattle.geos_verify.specs.Touched.{calls, noted, touches}
-use Rattle.geos_infer.specs.Why.{LeadsTo, AreApart}
+use Rattle.geos_infer.specs.Why.{IsPcOf, LeadsTo, AreApart}
 use Rattle.geos_infer.specs.Ahead as ahead
 use Rattle.geos_infer.specs.declared.cause.BackWay.{BackWay}
 use Rattle.geos_infer.specs.declared.cause.Within.{Within}
 use Rattle.geos_infer.specs.declared.cause.Cause.{Cause}
 use Rattle.geos_infer.specs.declared.cause.Cause.TheVariants.{SlotsDiffer, NoLoop, SetWithin, TouchedWithin, StepsPass, NoSteps, Unknown}
 
--- an instruction leads back by its target
-pub record LeadsBack (image : Parts) (back : BackWay) : Type 0 where
+-- an instruction of routine r leads back within it by its target
+pub record LeadsBack (image : Parts) (r : ℕ) (back : BackWay) : Type 0 where
   pub leads : LeadsTo image back.from true back.to
   pub order : back.to ≤ back.from
+  pub from : IsPcOf image r back.from
+  pub to : IsPcOf image r back.to
 
 -- the instruction is a LOOP
 abbrev pub is_loop : Opcode → Bool
 is_loop Loop = true
 is_loop _ = false
 
--- the instruction at a pc has an edge to another that is no LOOP's way to its target, for which a counter may pay
-pub record LeadsUnpaid (image : Parts) (pc : ℕ) (branch : Bool) (to : ℕ) : Type 0 where
+-- the instruction at a pc has an edge to one of routine r, and it is no LOOP's way to its target, for which a counter may pay
+pub record LeadsUnpaid (image : Parts) (r pc : ℕ) (branch : Bool) (to : ℕ) : Type 0 where
   pub leads : LeadsTo image pc branch to
+  pub stays : IsPcOf image r to
   pub unpaid : (point : Point) → slice_get image.points pc ≡ Some point → (branch && is_loop point.instr.opcode) ≡ false
 
 -- such edges lead from a pc to another; each says whether it is the one to a target
-abbrev pub IsUnpaidWay : Parts → ℕ → List Bool → ℕ → Type 0
-IsUnpaidWay image from [] to = from ≡ to
-IsUnpaidWay image from (branch ∷ branches) to = (next : ℕ) × LeadsUnpaid image from branch next × IsUnpaidWay image next branches to
+abbrev pub IsUnpaidWay : Parts → ℕ → ℕ → List Bool → ℕ → Type 0
+IsUnpaidWay image r from [] to = from ≡ to
+IsUnpaidWay image r from (branch ∷ branches) to = (next : ℕ) × LeadsUnpaid image r from branch next × IsUnpaidWay image r next branches to
 
--- an instruction leads back, and control can come from there to it again, and a LOOP's way to its target is never taken
-pub record GoesRound (image : Parts) (from to : ℕ) : Type 0 where
-  pub leads : LeadsUnpaid image from true to
+-- an instruction of routine r leads back, and control can come from there to it again within the routine, and a LOOP's
+-- way to its target is never taken
+pub record GoesRound (image : Parts) (r from to : ℕ) : Type 0 where
+  pub leads : LeadsUnpaid image r from true to
   pub order : to ≤ from
+  pub begins : IsPcOf image r from
   pub branches : List Bool
-  pub way : IsUnpaidWay image to branches from
+  pub way : IsUnpaidWay image r to branches from
 
 -- the instruction is a LOOP on this counter
 abbrev pub loops_on : ℕ → Instr → Opcode → Bool
@@ -63,21 +68,21 @@ NotesTouched image table = (k r : ℕ) → noted table k r ≡ true → touches 
 abbrev pub calls_touching : Parts → ℕ → Instr → Bool
 calls_touching image k i = calls i.opcode && touches image k i.imm
 
--- a LOOP on this counter leads back
-pub record LoopsBack (image : Parts) (back : BackWay) (counter : ℕ) : Type 0 where
-  pub leads : LeadsBack image back
+-- a LOOP of routine r on this counter leads back
+pub record LoopsBack (image : Parts) (r : ℕ) (back : BackWay) (counter : ℕ) : Type 0 where
+  pub leads : LeadsBack image r back
   pub loops : PassesAt image back.from (λ i. loops_on counter i i.opcode)
 
--- a LOOP leads back, and between its target and itself an instruction sets its counter
-pub record SetsWithin (image : Parts) (within : Within) : Type 0 where
-  pub loops : LoopsBack image within.back within.counter
+-- a LOOP of routine r leads back, and between its target and itself an instruction sets its counter
+pub record SetsWithin (image : Parts) (r : ℕ) (within : Within) : Type 0 where
+  pub loops : LoopsBack image r within.back within.counter
   pub sets : PassesAt image within.at (λ i. sets_counter within.counter i i.opcode)
   pub above : within.back.to ≤ within.at
   pub below : within.at ≤ within.back.from
 
--- a LOOP leads back, and between its target and itself a routine is called that touches its counter
-pub record TouchesWithin (image : Parts) (within : Within) : Type 0 where
-  pub loops : LoopsBack image within.back within.counter
+-- a LOOP of routine r leads back, and between its target and itself a routine is called that touches its counter
+pub record TouchesWithin (image : Parts) (r : ℕ) (within : Within) : Type 0 where
+  pub loops : LoopsBack image r within.back within.counter
   pub touches : PassesAt image within.at (calls_touching image within.counter)
   pub above : within.back.to ≤ within.at
   pub below : within.at ≤ within.back.from
@@ -85,11 +90,11 @@ pub record TouchesWithin (image : Parts) (within : Within) : Type 0 where
 -- the cause holds of the image's routine r
 abbrev pub Holds : Parts → ℕ → Cause → Type 0
 Holds image r (SlotsDiffer apart) = AreApart image r apart
-Holds image r (NoLoop back) = GoesRound image back.from back.to
-Holds image r (SetWithin within) = SetsWithin image within
-Holds image r (TouchedWithin within) = TouchesWithin image within
+Holds image r (NoLoop back) = GoesRound image r back.from back.to
+Holds image r (SetWithin within) = SetsWithin image r within
+Holds image r (TouchedWithin within) = TouchesWithin image r within
 Holds image r StepsPass = ahead.StepsPass image r
-Holds image r (NoSteps back) = LeadsBack image back
+Holds image r (NoSteps back) = LeadsBack image r back
 Holds image r Unknown = Unit {0}
 
 -- if there is a cause, it holds

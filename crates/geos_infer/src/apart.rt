@@ -2,7 +2,7 @@
 
 ghost use Rattle.std.specs.Prelude.{◌≡◌, ◌<◌, IfSome, IfOk};
 ghost use Rattle.geos_infer.specs.Flow.{known_at};
-ghost use Rattle.geos_infer.specs.Why.{LeadsTo, ComesBy, IsUnlike, IsWent, AreApartIf, AllCome};
+ghost use Rattle.geos_infer.specs.Why.{IsPcOf, LeadsTo, ComesBy, IsUnlike, IsWent, AreApartIf, AllCome};
 
 use crate::body::Body;
 use crate::common::agree;
@@ -34,6 +34,7 @@ pub struct Apart {
 pub(crate) fn lead(body: &Body, pc: u16, branch: bool) -> Option<u16>
     requires { pc < body.now.end }
     ensures leads { IfSome result (LeadsTo body.now.image.now pc branch) }
+    ensures stays { IfSome result (IsPcOf body.now.image.now body.now.r) }
     ensures inside { IfSome result (λ to. to < 4096) }
 {
     let i = body.image.instr(pc);

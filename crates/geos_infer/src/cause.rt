@@ -58,7 +58,7 @@ pub enum Cause {
 /// The edge of the instruction to its target, if that leads back.
 fn back_at(body: &Body, from: u16) -> Option<BackWay>
     requires { from < body.now.end }
-    ensures leads { IfSome result (LeadsBack body.now.image.now) }
+    ensures leads { IfSome result (LeadsBack body.now.image.now body.now.r) }
     ensures here { IfSome result (λ back. back.from ≡ from) }
 {
     let i = body.image.instr(from);
@@ -75,7 +75,7 @@ fn back_at(body: &Body, from: u16) -> Option<BackWay>
 
 /// A way that leads back on a way round that nothing pays for, if there is one.
 fn unpaid_back(alloc: Global, body: &Body) -> Result<Option<BackWay>, AllocError>
-    ensures { IfOk result (λ back. IfSome back (λ back. GoesRound body.now.image.now back.from back.to)) }
+    ensures { IfOk result (λ back. IfSome back (λ back. GoesRound body.now.image.now body.now.r back.from back.to)) }
 {
     let mut into = Table::new(alloc, 0)?;
     let mut listed = Table::new(alloc, 0)?;
@@ -90,7 +90,7 @@ fn unpaid_back(alloc: Global, body: &Body) -> Result<Option<BackWay>, AllocError
 
 /// The first way that leads back.
 fn find_back(body: &Body) -> Option<BackWay>
-    ensures { IfSome result (LeadsBack body.now.image.now) }
+    ensures { IfSome result (LeadsBack body.now.image.now body.now.r) }
 {
     for from in body.start..body.end {
         if let Some(back) = back_at(body, from) {
@@ -146,7 +146,7 @@ fn loops_at(body: &Body, counter: u8, from: u16) -> bool
 /// The way back of the LOOP at a pc, and its counter.
 fn loop_back(body: &Body, from: u16) -> Option<(BackWay, u8)>
     requires { from < body.now.end }
-    ensures loops { IfSome result (λ both. LoopsBack body.now.image.now both.0 both.1) }
+    ensures loops { IfSome result (λ both. LoopsBack body.now.image.now body.now.r both.0 both.1) }
     ensures here { IfSome result (λ both. both.0.from ≡ from) }
 {
     let counter = body.image.instr(from).a;
@@ -162,7 +162,7 @@ fn loop_back(body: &Body, from: u16) -> Option<(BackWay, u8)>
 /// Where the counter of the LOOP at a pc is set within its loop.
 fn set_within(body: &Body, from: u16) -> Option<Within>
     requires { from < body.now.end }
-    ensures { IfSome result (SetsWithin body.now.image.now) }
+    ensures { IfSome result (SetsWithin body.now.image.now body.now.r) }
 {
     let Some((back, counter)) = loop_back(body, from) else {
         return None;
@@ -175,7 +175,7 @@ fn set_within(body: &Body, from: u16) -> Option<Within>
 
 /// The first counter that is set within its loop.
 fn find_set_within(body: &Body) -> Option<Within>
-    ensures { IfSome result (SetsWithin body.now.image.now) }
+    ensures { IfSome result (SetsWithin body.now.image.now body.now.r) }
 {
     for from in body.start..body.end {
         if let Some(within) = set_within(body, from) {
@@ -218,7 +218,7 @@ fn find_touching(body: &Body, touched: &Touched, counter: u8, from: u16, to: u16
 fn touched_within(body: &Body, touched: &Touched, from: u16) -> Option<Within>
     requires here { from < body.now.end }
     requires touched { NotesTouched body.now.image.now touched.now }
-    ensures { IfSome result (TouchesWithin body.now.image.now) }
+    ensures { IfSome result (TouchesWithin body.now.image.now body.now.r) }
 {
     let Some((back, counter)) = loop_back(body, from) else {
         return None;
@@ -232,7 +232,7 @@ fn touched_within(body: &Body, touched: &Touched, from: u16) -> Option<Within>
 /// The first counter that a call within its loop touches.
 fn find_touched_within(body: &Body, touched: &Touched) -> Option<Within>
     requires { NotesTouched body.now.image.now touched.now }
-    ensures { IfSome result (TouchesWithin body.now.image.now) }
+    ensures { IfSome result (TouchesWithin body.now.image.now body.now.r) }
 {
     for from in body.start..body.end {
         if let Some(within) = touched_within(body, touched, from) {
@@ -263,7 +263,7 @@ fn cause_of_steps(body: &Body, touched: &Touched, steps: &mut Table<u64>) -> Cau
 }
 
 /// Why `infer` finds no rows or no numbers of steps for routine r, which it names in `NoRows`: of what may be the
-/// cause, the first that is found. What the cause says holds of the image. `AllocError` where the allocator refuses
+/// cause, the first that is found. What the cause says holds of that routine. `AllocError` where the allocator refuses
 /// memory.
 pub fn find_cause(alloc: Global, image: &Image, r: u16) -> Result<Cause, AllocError>
     requires { r < length image.now.routines }

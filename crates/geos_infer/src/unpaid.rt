@@ -19,7 +19,7 @@ struct Came {
 /// Where an edge of the instruction leads, if it has it, it stays in the routine, and it is no LOOP's way to its target.
 fn lead_unpaid(body: &Body, pc: u16, branch: bool) -> Option<u16>
     requires { pc < body.now.end }
-    ensures leads { IfSome result (LeadsUnpaid body.now.image.now pc branch) }
+    ensures leads { IfSome result (LeadsUnpaid body.now.image.now body.now.r pc branch) }
     ensures inside { IfSome result (λ to. to < 4096) }
 {
     if branch && is_loop(body.image.instr(pc).opcode) {
@@ -88,7 +88,7 @@ fn place_on_round(body: &Body, came: &Table<Option<Came>>) -> Option<u16>
 
 /// Whether the edge that is noted at a place leads there.
 fn came_to(body: &Body, came: Came, to: u16) -> bool
-    ensures { result ≡ true → LeadsUnpaid body.now.image.now came.from came.branch to }
+    ensures { result ≡ true → LeadsUnpaid body.now.image.now body.now.r came.from came.branch to }
 {
     if body.end <= came.from {
         return false;
@@ -102,7 +102,7 @@ fn came_to(body: &Body, came: Came, to: u16) -> bool
 /// Whether the edges that are noted lead from one pc to another.
 fn leads_on(body: &Body, came: &Table<Option<Came>>, from: u16, to: u16) -> bool
     requires { to < body.now.end }
-    ensures { result ≡ true → (branches : List Bool) × IsUnpaidWay body.now.image.now from branches to }
+    ensures { result ≡ true → (branches : List Bool) × IsUnpaidWay body.now.image.now body.now.r from branches to }
 {
     let mut at = to;
     for _ in body.start..body.end {
@@ -122,7 +122,7 @@ fn leads_on(body: &Body, came: &Table<Option<Came>>, from: u16, to: u16) -> bool
 
 /// Whether an instruction leads back to a pc from which the edges that are noted lead to it again.
 fn goes_round(body: &Body, came: &Table<Option<Came>>, from: u16, to: u16) -> bool
-    ensures { result ≡ true → GoesRound body.now.image.now from to }
+    ensures { result ≡ true → GoesRound body.now.image.now body.now.r from to }
 {
     if body.end <= from || from < to {
         return false;
@@ -136,7 +136,7 @@ fn goes_round(body: &Body, came: &Table<Option<Came>>, from: u16, to: u16) -> bo
 /// The way back on the way round that a place is on: where it comes from, and where it leads.
 fn back_on_round(body: &Body, came: &Table<Option<Came>>, place: u16) -> Option<(u16, u16)>
     requires { place < 4096 }
-    ensures { IfSome result (λ both. GoesRound body.now.image.now both.0 both.1) }
+    ensures { IfSome result (λ both. GoesRound body.now.image.now body.now.r both.0 both.1) }
 {
     let mut at = place;
     for _ in body.start..body.end {
@@ -156,7 +156,7 @@ pub(crate) fn find_round(
     body: &Body,
     into: &Table<u16>,
 ) -> Result<Option<(u16, u16)>, AllocError>
-    ensures { IfOk result (λ round. IfSome round (λ both. GoesRound body.now.image.now both.0 both.1)) }
+    ensures { IfOk result (λ round. IfSome round (λ both. GoesRound body.now.image.now body.now.r both.0 both.1)) }
 {
     let mut came = Table::new(alloc, None)?;
     note_all(body, into, &mut came);
