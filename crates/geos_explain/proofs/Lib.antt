@@ -1,2 +1,3 @@
 mod Places
-mod Points
+mod Sentences
+mod Told

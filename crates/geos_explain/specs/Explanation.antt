@@ -8,7 +8,7 @@ use Rattle.geos_listing.specs.Instrs.{label_line, instr_code}
 use Rattle.geos_listing.specs.Listing.{routine_line}
 use Rattle.geos_verify.specs.declared.rule.Reject.{Reject}
 use Rattle.geos_verify.specs.Rules.{Accepted, FirstRefusal}
-use Rattle.geos_explain.specs.Places.{Place, place_at}
+use Rattle.geos_explain.specs.Places.{Place, Explained, place_at}
 use Rattle.geos_explain.specs.Notes.{note}
 use Rattle.geos_explain.specs.Words.{refusal_line}
 
@@ -26,25 +26,27 @@ unfoldable pub point_text : Option Reject → Place → List ℕ
 point_text reject place = instr_code place.image.routines place.i ++ noted reject place
 
 -- the same behind its label, where another leads to it
-unfoldable pub place_text : Parts → Option Reject → ℕ → Routine → ℕ → List ℕ
-place_text image reject r routine pc =
-    label_line image.points pc ++ option_map_or (λ point. point_text reject (place_at image [] r routine pc point)) (slice_get image.points pc) []
+unfoldable pub place_text : Explained → ℕ → Routine → ℕ → List ℕ
+place_text explained r routine pc =
+    label_line explained.image.points pc
+    ++ option_map_or (λ point. point_text explained.reject (place_at explained r routine pc point)) (slice_get explained.image.points pc) []
 
 -- a routine's line, its entry row and its exit row
 unfoldable pub head_text : Routine → List ℕ
 head_text routine = routine_line routine ++ row_line (codes "in") routine.entry ++ row_line (codes "out") routine.exit
 
 -- the same, and its instructions from a pc
-abbrev pub routine_text : Parts → Option Reject → ℕ → ℕ → Routine → List ℕ
-routine_text image reject r start routine = head_text routine ++ texts_below routine.count (λ k. place_text image reject r routine (start + k))
+abbrev pub routine_text : Explained → ℕ → ℕ → Routine → List ℕ
+routine_text explained r start routine = head_text routine ++ texts_below routine.count (λ k. place_text explained r routine (start + k))
 
 -- the same of the routine with a number, if there is one
-abbrev pub numbered_routine : Parts → Option Reject → ℕ → List ℕ
-numbered_routine image reject r = option_map_or (routine_text image reject r (start_of image.routines r)) (slice_get image.routines r) []
+abbrev pub numbered_routine : Explained → ℕ → List ℕ
+numbered_routine explained r =
+    option_map_or (routine_text explained r (start_of explained.image.routines r)) (slice_get explained.image.routines r) []
 
 -- the routines one after another, and at most one refusal
 abbrev pub explanation : Parts → Option Reject → List ℕ
-explanation image reject = texts_below (length image.routines) (λ r. numbered_routine image reject r)
+explanation image reject = texts_below (length image.routines) (λ r. numbered_routine (record { image = image; lines = []; reject = reject }) r)
 
 -- the refusal is the image's first, or there is none
 abbrev pub IsVerdict : Parts → Option Reject → Type 0

@@ -7,7 +7,7 @@ use Rattle.geos_listing.specs.Rows.{row_items}
 use Rattle.geos_verify.specs.Rows.{after, falls_through, is_empty, slot_state}
 use Rattle.geos_verify.specs.Rules.{has_place}
 use Rattle.geos_explain.specs.Lacks.{lacking, lacking_items}
-use Rattle.geos_explain.specs.Numbers.{these_are, pc_text}
+use Rattle.geos_explain.specs.Numbers.{is_or_are, pc_text}
 use Rattle.geos_explain.specs.Places.{Place}
 use Rattle.geos_explain.specs.Uses.{state_item}
 use Rattle.geos_explain.specs.declared.held.Since.{Since}
@@ -57,15 +57,11 @@ unfoldable pub since_below : Place → ℕ → ℕ → Since
 since_below place a zero = Nowhere
 since_below place a (suc n) = also place.pc (since_below place a n) n (fills_here place a n)
 
--- a slot is held since
-unfoldable pub since_head : ℕ → List ℕ
-since_head a = codes "; s" ++ decimal a ++ codes " is held since"
-
 -- since where a slot is held; of several places, one
 abbrev pub since_text : List ℕ → ℕ → Since → List ℕ
-since_text lines a Nowhere = since_head a ++ codes " the in line"
-since_text lines a (Once from) = since_head a ++ pc_text lines from
-since_text lines a (Often last) = since_head a ++ pc_text lines last ++ codes " or another place"
+since_text lines a Nowhere = codes "; s" ++ decimal a ++ codes " is held since" ++ codes " the in line" ++ []
+since_text lines a (Once from) = codes "; s" ++ decimal a ++ codes " is held since" ++ pc_text lines from ++ []
+since_text lines a (Often last) = codes "; s" ++ decimal a ++ codes " is held since" ++ pc_text lines last ++ codes " or another place"
 
 -- the same of a slot that the exit row has empty
 unfoldable pub since_item : Place → ℕ → List ℕ
@@ -80,11 +76,11 @@ since_items place = since_item place 0 ++ since_item place 1 ++ since_item place
 
 -- what else the exit row wants
 unfoldable pub also_wanted : List ℕ → List ℕ
-also_wanted items = if length items == 0 then [] else codes ";" ++ these_are items ++ codes " wanted by the exit row, and not known here"
+also_wanted items = if length items == 0 then [] else codes ";" ++ items ++ is_or_are items ++ codes " wanted by the exit row, and not known here"
 
 -- slots are still held at the return
 unfoldable pub kept_head : List ℕ → List ℕ
-kept_head items = these_are items ++ codes " still held at the return"
+kept_head items = items ++ is_or_are items ++ codes " still held at the return"
 
 -- what else the exit row of a place wants
 unfoldable pub else_wanted : Place → List ℕ
@@ -94,9 +90,13 @@ else_wanted place = also_wanted (row_items (lacking place.row place.routine.exit
 unfoldable pub kept_words : Place → List ℕ
 kept_words place = kept_head (kept_items place.row place.routine.exit) ++ since_items place ++ else_wanted place
 
+-- these items are wanted by the exit row
+unfoldable pub unmet_head : List ℕ → List ℕ
+unmet_head items = items ++ is_or_are items ++ codes " wanted by the exit row, and not known here"
+
 -- the exit row wants more than the row says
 unfoldable pub unmet_words : Place → List ℕ
-unmet_words place = these_are (lacking_items place.row place.routine.exit) ++ codes " wanted by the exit row, and not known here"
+unmet_words place = unmet_head (lacking_items place.row place.routine.exit)
 
 -- a row does not fit the exit row: slots are still held, or else it wants more
 unfoldable pub exit_words : Place → List ℕ

@@ -1,4 +1,5 @@
 pub mod Numbers
+pub mod Parts
 pub mod Led
 pub mod Places
 pub mod Notes

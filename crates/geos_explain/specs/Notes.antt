@@ -51,4 +51,4 @@ note place = note_head place ++ unled_text place ++ known_text place.row ++ pote
 
 -- the potential is above the budget
 unfoldable pub budget_words : Routine → Potential → List ℕ
-budget_words routine p = potential_text p ++ verb (is_one p) ++ codes " owed from here, the budget is " ++ decimal routine.budget
+budget_words routine p = potential_text p ++ (verb (is_one p) ++ codes " owed from here, the budget is " ++ decimal routine.budget)

@@ -30,21 +30,9 @@ is_blank c = c == 32
 abbrev pub items_in : List ℕ → ℕ
 items_in items = count_by is_blank items
 
--- items, and that it is or that they are
-unfoldable pub these_are : List ℕ → List ℕ
-these_are items = items ++ verb (items_in items == 1)
-
--- so many bytes
-unfoldable pub bytes_text : ℕ → List ℕ
-bytes_text n = decimal n ++ bytes_word (n == 1)
-
--- so many steps are owed
-unfoldable pub owed_text : ℕ → List ℕ
-owed_text n = decimal n ++ steps_word (n == 1) ++ verb (n == 1) ++ codes " owed"
-
--- so many are left
-unfoldable pub left_text : ℕ → List ℕ
-left_text n = codes ", " ++ decimal n ++ verb (n == 1) ++ codes " left"
+-- that it is or that they are, behind items
+unfoldable pub is_or_are : List ℕ → List ℕ
+is_or_are items = verb (items_in items == 1)
 
 -- a target as the reader has it: in an author's text its line, else the label that the listing gives it
 unfoldable pub label_text : List ℕ → ℕ → List ℕ

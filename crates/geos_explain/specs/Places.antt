@@ -1,5 +1,5 @@
 -- An instruction of a routine, with what is known there.
-use Rattle.std.specs.Prelude.{◌≡◌, ◌<◌, ◌≤◌, ℕ, Bool, List, true, length, slice_get, IfSome}
+use Rattle.std.specs.Prelude.{◌≡◌, ◌<◌, ◌≤◌, ℕ, Bool, List, Option, true, length, slice_get, IfSome}
 use Rattle.geos_image.specs.declared.instr.Instr.{Instr}
 use Rattle.geos_image.specs.declared.row.Row.{Row}
 use Rattle.geos_image.specs.declared.potential.Potential.{Potential}
@@ -9,8 +9,10 @@ use Rattle.geos_image.specs.Legal.{is_image}
 use Rattle.geos_image.specs.declared.point.Point.{Point}
 use Rattle.geos_image.specs.Parts.{Parts, start_of}
 use Rattle.geos_listing.specs.Instrs.{KeepsLimits}
+use Rattle.geos_verify.specs.declared.rule.Reject.{Reject}
 use Rattle.geos_explain.specs.Led.{is_reached}
 use Rattle.geos_explain.specs.declared.place.Place as code
+use Rattle.geos_explain.specs.declared.explained.Explained as told
 
 -- the instruction at a pc of routine r, its row and its potential, and whether control reaches it; and the line of each
 -- instruction in an author's text, or nothing
@@ -25,9 +27,29 @@ pub record Place : Type 0 where
   pub potential : Potential
   pub reached : Bool
 
+-- an image that is explained, with the line of each instruction in an author's text, or nothing, and the refusal, if there is one
+pub record Explained : Type 0 where
+  pub image : Parts
+  pub lines : List ℕ
+  pub reject : Option Reject
+
 -- the place of a point
-abbrev pub place_at : Parts → List ℕ → ℕ → Routine → ℕ → Point → Place
-place_at image lines r routine pc point = record { image = image; lines = lines; r = r; routine = routine; pc = pc; i = point.instr; row = point.row; potential = point.potential; reached = is_reached image pc }
+abbrev pub place_at : Explained → ℕ → Routine → ℕ → Point → Place
+place_at explained r routine pc point = record {
+  image = explained.image;
+  lines = explained.lines;
+  r = r;
+  routine = routine;
+  pc = pc;
+  i = point.instr;
+  row = point.row;
+  potential = point.potential;
+  reached = is_reached explained.image pc;
+}
+
+-- what the code explains
+abbrev pub explained_of : told.Explained → Explained
+explained_of explained = record { image = explained.image.now; lines = explained.lines.now; reject = explained.reject }
 
 -- the place that the code has
 abbrev pub place_of : code.Place → Place

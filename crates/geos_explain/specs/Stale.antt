@@ -1,9 +1,8 @@
 -- Which pointers may be stale where they are used, and where and by what they became so.
-use Rattle.std.specs.Prelude.{ℕ, ◌==◌, Bool, true, false, ◌&&◌, if◌then◌else◌, List, [], ◌++◌, Option, Some, None, length, slice_get, codes, decimal}
+use Rattle.std.specs.Prelude.{ℕ, ◌==◌, Bool, ◌&&◌, if◌then◌else◌, List, [], ◌++◌, Option, Some, None, length, slice_get, codes, decimal}
 use Rattle.std.specs.Option.{option_map_or}
 use Rattle.geos_image.specs.declared.instr.Instr.{Instr}
 use Rattle.geos_image.specs.declared.row.Row.{Row}
-use Rattle.geos_image.specs.declared.row.Pointer.{Pointer}
 use Rattle.geos_image.specs.declared.point.Point.{Point}
 use Rattle.geos_image.specs.declared.routine.Routine.{Routine}
 use Rattle.geos_image.specs.Parts.{Parts}
@@ -17,8 +16,10 @@ use Rattle.geos_verify.specs.Rows.{pointer_at, is_stale}
 use Rattle.geos_explain.specs.Numbers.{pc_text}
 use Rattle.geos_explain.specs.Places.{Place}
 use Rattle.geos_explain.specs.Uses.{slot_behind}
+use Rattle.geos_explain.specs.declared.ways.Edge.{Edge}
+use Rattle.geos_explain.specs.declared.ways.Followed.{Followed}
 use Rattle.geos_explain.specs.declared.ways.Way.{Way}
-use Rattle.geos_explain.specs.declared.ways.Way.TheVariants.{Entry, Along, Branch}
+use Rattle.geos_explain.specs.declared.ways.Way.TheVariants.{Entry, Along}
 use Rattle.geos_explain.specs.declared.ways.End.{End}
 use Rattle.geos_explain.specs.declared.ways.End.TheVariants.{Lost, Unset, Unreached, Merged}
 use Rattle.geos_explain.specs.declared.ways.Meeting.{Meeting}
@@ -42,24 +43,17 @@ pointer_item (Some p) = codes " p" ++ decimal p
 -- where a way comes from
 abbrev pub way_text : List ℕ → Way → List ℕ
 way_text lines Entry = codes " the in line"
-way_text lines (Along from) = pc_text lines from
-way_text lines (Branch from) = pc_text lines from
+way_text lines (Along edge) = pc_text lines edge.from
 
 -- where ways meet, unless it is here
 abbrev pub meeting_place : Place → ℕ → List ℕ
 meeting_place place to = if to == place.pc then codes ";" else codes "; at" ++ pc_text place.lines to
 
--- the way that brings a pointer
-unfoldable pub known_from : List ℕ → ℕ → Way → List ℕ
-known_from lines p way = codes " p" ++ decimal p ++ codes " is known from" ++ way_text lines way
-
--- the way that does not
-unfoldable pub not_from : List ℕ → Way → List ℕ
-not_from lines way = codes ", and not from" ++ way_text lines way
-
 -- of ways that meet one brings a pointer, and another does not
 unfoldable pub meeting_words : Place → ℕ → Meeting → List ℕ
-meeting_words place p m = meeting_place place m.to ++ known_from place.lines p m.known ++ not_from place.lines m.lost
+meeting_words place p m =
+    meeting_place place m.to
+    ++ (codes " p" ++ decimal p ++ codes " is known from" ++ way_text place.lines m.known ++ codes ", and not from" ++ way_text place.lines m.lost)
 
 -- the same, if ways meet
 abbrev pub meeting_item : Place → ℕ → Option Meeting → List ℕ
@@ -70,82 +64,49 @@ meeting_item place p (Some m) = meeting_words place p m
 unfoldable pub named : List ℕ → ℕ → Point → List ℕ
 named lines from point = codes "; " ++ word_of point.instr.opcode ++ codes " at" ++ pc_text lines from
 
--- the name of a routine
+-- the name of a routine, if there is one
 unfoldable pub name_at : Parts → ℕ → List ℕ
 name_at image r = option_map_or name_of (slice_get image.routines r) []
 
--- the out line does not say a pointer
-unfoldable pub unsaid_words : ℕ → List ℕ
-unsaid_words p = codes " says, and it does not say p" ++ decimal p ++ codes ": say it in the out line, or fetch it again"
-
 -- a call leaves nothing but the exit row, which does not know the pointer
 unfoldable pub call_loss : Parts → ℕ → ℕ → List ℕ
-call_loss image p r = codes " leaves what the out line of " ++ name_at image r ++ unsaid_words p
+call_loss image p r =
+    codes " leaves what the out line of " ++ name_at image r ++ codes " says, and it does not say p" ++ decimal p
+    ++ codes ": say it in the out line, or fetch it again"
 
 -- the instruction was to set the pointer and was refused
 unfoldable pub refused_loss : ℕ → List ℕ
 refused_loss p = codes " goes to its label where it is refused, and has not set p" ++ decimal p ++ codes ": give it another label"
 
--- an instruction that moves chunks moves what the pointer leads to
-unfoldable pub moved_words : ℕ → List ℕ
-moved_words p = codes " may have moved what is behind p" ++ decimal p ++ []
-
--- two slots may hold one block
-unfoldable pub one_block_words : ℕ → ℕ → List ℕ
-one_block_words a b =
-    (codes ", since s" ++ decimal a ++ codes " and s" ++ decimal b) ++ codes " may hold one block: fetch it again, or tell them apart"
-
--- the instruction that tells two slots apart
-unfoldable pub sne_words : ℕ → ℕ → List ℕ
-sne_words a b = codes " by SNE s" ++ decimal a ++ codes " s" ++ decimal b
-
--- two slots may hold one block, and what is to be done
-unfoldable pub two_words : ℕ → ℕ → List ℕ
-two_words a b = one_block_words a b ++ sne_words a b
-
--- the slot of the instruction and that of the pointer, if they are two, may hold one block
-unfoldable pub apart_words : ℕ → ℕ → List ℕ
-apart_words a b = if a == b then codes ": fetch it again" else two_words a b
-
--- the block that the pointer led into was given back
-unfoldable pub given_words : ℕ → List ℕ
-given_words p = codes " gave back the block behind p" ++ decimal p ++ codes ": lock it and fetch it again"
-
--- an instruction on an item moves the items of whatever group it names
-unfoldable pub regrouped_words : ℕ → List ℕ
-regrouped_words p = codes " moves items, and the group behind p" ++ decimal p ++ codes " may be its group: fetch it again"
-
--- something else
-unfoldable pub left_words : ℕ → List ℕ
-left_words p = codes " leaves p" ++ decimal p ++ codes " stale: fetch it again"
+-- an instruction that moves chunks moves what a pointer into slot b leads to, if the blocks of its slot a and of b may be one
+unfoldable pub moved_words : ℕ → ℕ → ℕ → List ℕ
+moved_words p a b =
+    if a == b
+    then codes " may have moved what is behind p" ++ decimal p ++ codes ": fetch it again"
+    else codes " may have moved what is behind p" ++ decimal p ++ codes ", since s" ++ decimal a ++ codes " and s" ++ decimal b
+    ++ codes " may hold one block: fetch it again, or tell them apart by SNE s" ++ decimal a ++ codes " s" ++ decimal b
 
 -- what an instruction did to a pointer into slot b by what it does to its slot
-abbrev pub use_loss : Instr → SlotUse → ℕ → ℕ → List ℕ
-use_loss i Moves p b = moved_words p ++ apart_words i.a b
-use_loss i (Unlocks kind) p b = given_words p
-use_loss i MovesGroup p b = regrouped_words p
-use_loss i _ p b = left_words p
+unfoldable pub use_loss : Instr → SlotUse → ℕ → ℕ → List ℕ
+use_loss i Moves p b = moved_words p i.a b
+use_loss i (Unlocks kind) p b = codes " gave back the block behind p" ++ decimal p ++ codes ": lock it and fetch it again"
+use_loss i MovesGroup p b = codes " moves items, and the group behind p" ++ decimal p ++ codes " may be its group: fetch it again"
+use_loss i _ p b = codes " leaves p" ++ decimal p ++ codes " stale: fetch it again"
 
--- how an instruction lost a pointer on one of its ways
-unfoldable pub how_lost : Parts → ℕ → Option Pointer → Bool → Point → List ℕ
-how_lost image p hint branch point =
-    if forgets point.instr.opcode then call_loss image p point.instr.imm
-    else if branch && sets point.instr (uses_of point.instr.opcode).pointer p then refused_loss p
-    else use_loss point.instr (uses_of point.instr.opcode).slot p (slot_behind (with_hint point.row p hint) p)
+-- how an instruction lost a pointer, at its target or else on the next instruction
+unfoldable pub how_lost : Parts → Followed → Bool → Point → List ℕ
+how_lost image followed branch point =
+    if forgets point.instr.opcode then call_loss image followed.p point.instr.imm
+    else if branch && sets point.instr (uses_of point.instr.opcode).pointer followed.p then refused_loss followed.p
+    else use_loss point.instr (uses_of point.instr.opcode).slot followed.p (slot_behind (with_hint point.row followed) followed.p)
 
--- the instruction at a pc lost the pointer
-unfoldable pub lost_point : Place → ℕ → Option Pointer → ℕ → Bool → Point → List ℕ
-lost_point place p hint from branch point = named place.lines from point ++ how_lost place.image p hint branch point
+-- an instruction lost a pointer on an edge
+unfoldable pub lost_point : Place → Followed → Edge → Point → List ℕ
+lost_point place followed edge point = named place.lines edge.from point ++ how_lost place.image followed edge.branch point
 
 -- the same, if there is an instruction
-unfoldable pub lost_by : Place → ℕ → Option Pointer → ℕ → Bool → List ℕ
-lost_by place p hint from branch = elim (slice_get place.image.points from) [ None ↦ [] | Some point ↦ lost_point place p hint from branch point ]
-
--- the pointer was lost on a way
-abbrev pub lost_words : Place → ℕ → Option Pointer → Way → List ℕ
-lost_words place p hint Entry = []
-lost_words place p hint (Along from) = lost_by place p hint from false
-lost_words place p hint (Branch from) = lost_by place p hint from true
+unfoldable pub lost_by : Place → Followed → Edge → List ℕ
+lost_by place followed edge = elim (slice_get place.image.points edge.from) [ None ↦ [] | Some point ↦ lost_point place followed edge point ]
 
 -- what a caller may bring, where the caller is a routine
 abbrev pub in_wish : Routine → ℕ → List ℕ
@@ -156,27 +117,20 @@ unfoldable pub unset_words : Place → ℕ → List ℕ
 unset_words place p =
     (codes "; p" ++ decimal p ++ codes " is not set on the way from the start of the routine: fetch it first") ++ in_wish place.routine p
 
--- no way leads to a pc
-unfoldable pub unreached_at : List ℕ → ℕ → List ℕ
-unreached_at lines to = codes "; nothing leads to" ++ pc_text lines to
-
 -- no way leads to a pc, which is said of this one elsewhere
 unfoldable pub unreached_words : Place → ℕ → List ℕ
-unreached_words place to = if to == place.pc then [] else unreached_at place.lines to
-
--- the pointer is known, and then not
-unfoldable pub merged_behind : ℕ → List ℕ
-merged_behind p =
-    codes " knows p" ++ decimal p ++ codes ", and it is not known there, as where it leads into two slots: fetch it again"
+unreached_words place to = if to == place.pc then [] else codes "; nothing leads to" ++ pc_text place.lines to
 
 -- each way to a pc brings the pointer, which is not known there
 unfoldable pub merged_words : Place → ℕ → ℕ → List ℕ
-merged_words place p to = codes "; each way to" ++ pc_text place.lines to ++ merged_behind p
+merged_words place p to =
+    codes "; each way to" ++ pc_text place.lines to ++ codes " knows p" ++ decimal p
+    ++ codes ", and it is not known there, as where it leads into two slots: fetch it again"
 
 -- where the way back ends
 abbrev pub end_words : Place → ℕ → Trace → Option End → List ℕ
 end_words place p t None = codes ": fetch it again"
-end_words place p t (Some (Lost way)) = lost_words place p (hint_of t.meeting) way
+end_words place p t (Some (Lost edge)) = lost_by place (record { p = p; hint = hint_of t.meeting }) edge
 end_words place p t (Some Unset) = unset_words place p
 end_words place p t (Some Unreached) = unreached_words place t.at
 end_words place p t (Some Merged) = merged_words place p t.at

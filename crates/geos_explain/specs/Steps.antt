@@ -11,12 +11,14 @@ use Rattle.geos_verify.specs.Rows.{falls_through, branches}
 use Rattle.geos_verify.specs.declared.asked.Asked.{Asked}
 use Rattle.geos_verify.specs.Potentials.{asked_along, asked_branching, left_with, is_paid}
 use Rattle.geos_explain.specs.Notes.{coefficients_text}
-use Rattle.geos_explain.specs.Numbers.{owed_text, left_text}
+use Rattle.geos_explain.specs.Numbers.{steps_word, verb}
 use Rattle.geos_explain.specs.Places.{Place}
 
 -- so many steps are owed, and so many are left
 abbrev pub owed_words : ℕ → ℕ → List ℕ
-owed_words owed left = codes " " ++ owed_text owed ++ codes " from here" ++ left_text left
+owed_words owed left =
+    codes " " ++ decimal owed ++ steps_word (owed == 1) ++ verb (owed == 1) ++ codes " owed from here, "
+    ++ decimal left ++ verb (left == 1) ++ codes " left"
 
 -- the same in whole, with what each counter must pay, and pays
 abbrev pub whole_words : Asked → Potential → List ℕ

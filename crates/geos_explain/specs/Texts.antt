@@ -5,7 +5,7 @@ use Rattle.std.specs.Str.Lines.{lines}
 use Rattle.geos_image.specs.declared.routine.Routine.{Routine}
 use Rattle.geos_image.specs.Parts.{Parts, start_of}
 use Rattle.geos_verify.specs.declared.rule.Reject.{Reject}
-use Rattle.geos_explain.specs.Places.{place_at}
+use Rattle.geos_explain.specs.Places.{Explained, place_at}
 use Rattle.geos_explain.specs.Explanation.{noted}
 
 -- of the first n routines, the last that begins at the pc or before
@@ -13,18 +13,18 @@ unfoldable pub last_begun : Parts → ℕ → ℕ → Option ℕ
 last_begun image pc zero = None
 last_begun image pc (suc n) = if nat_le (start_of image.routines n) pc then Some n else last_begun image pc n
 
--- what is said of the instruction at a pc of a routine; the table has the line of each instruction
-unfoldable pub noted_in : Parts → List ℕ → Option Reject → ℕ → ℕ → Routine → List ℕ
-noted_in image table reject pc r routine =
-    option_map_or (λ point. noted reject (place_at image table r routine pc point)) (slice_get image.points pc) []
+-- what is said of the instruction at a pc of a routine
+unfoldable pub noted_in : Explained → ℕ → ℕ → Routine → List ℕ
+noted_in explained pc r routine =
+    option_map_or (λ point. noted explained.reject (place_at explained r routine pc point)) (slice_get explained.image.points pc) []
 
 -- the same of a routine's number
-unfoldable pub noted_of : Parts → List ℕ → Option Reject → ℕ → ℕ → List ℕ
-noted_of image table reject pc r = option_map_or (noted_in image table reject pc r) (slice_get image.routines r) []
+unfoldable pub noted_of : Explained → ℕ → ℕ → List ℕ
+noted_of explained pc r = option_map_or (noted_in explained pc r) (slice_get explained.image.routines r) []
 
 -- the same of the routine that the pc lies in
-unfoldable pub noted_at : Parts → List ℕ → Option Reject → ℕ → List ℕ
-noted_at image table reject pc = elim (last_begun image pc (length image.routines)) [ None ↦ [] | Some r ↦ noted_of image table reject pc r ]
+unfoldable pub noted_at : Explained → ℕ → List ℕ
+noted_at explained pc = elim (last_begun explained.image pc (length explained.image.routines)) [ None ↦ [] | Some r ↦ noted_of explained pc r ]
 
 -- the table has the line as that of the instruction at a pc
 unfoldable pub is_line_of : List ℕ → ℕ → ℕ → Bool
@@ -35,24 +35,24 @@ unfoldable pub numbered : ℕ → List ℕ → List ℕ
 numbered number line = decimal number ++ codes "\t" ++ line
 
 -- what stands behind a line: what is said of its instruction, or nothing
-abbrev pub behind_line : Parts → List ℕ → Option Reject → ℕ → ℕ → List ℕ
-behind_line image table reject pc number =
-    if is_line_of table pc number && nat_lt pc (length image.points) then noted_at image table reject pc else codes "\n"
+abbrev pub behind_line : Explained → ℕ → ℕ → List ℕ
+behind_line explained pc number =
+    if is_line_of explained.lines pc number && nat_lt pc (length explained.image.points) then noted_at explained pc else codes "\n"
 
 -- a line with its number, and what stands behind it, where pc is the next instruction
-unfoldable pub line_text : Parts → List ℕ → Option Reject → ℕ → ℕ → List ℕ → List ℕ
-line_text image table reject pc number line = numbered number line ++ behind_line image table reject pc number
+unfoldable pub line_text : Explained → ℕ → ℕ → List ℕ → List ℕ
+line_text explained pc number line = numbered number line ++ behind_line explained pc number
 
 -- the next instruction behind a line
 unfoldable pub next_pc : List ℕ → ℕ → ℕ → ℕ
 next_pc table pc number = if is_line_of table pc number && nat_lt pc 4096 then pc + 1 else pc
 
 -- lines from a number on, where pc is the next instruction
-abbrev pub lines_text : Parts → List ℕ → Option Reject → ℕ → ℕ → List (List ℕ) → List ℕ
-lines_text image table reject pc number [] = []
-lines_text image table reject pc number (line ∷ rest) =
-    line_text image table reject pc number line ++ lines_text image table reject (next_pc table pc number) (number + 1) rest
+abbrev pub lines_text : Explained → ℕ → ℕ → List (List ℕ) → List ℕ
+lines_text explained pc number [] = []
+lines_text explained pc number (line ∷ rest) =
+    line_text explained pc number line ++ lines_text explained (next_pc explained.lines pc number) (number + 1) rest
 
 -- a text with what is known at each instruction, whose lines the table has, and at most one refusal
 abbrev pub text_explanation : List ℕ → List ℕ → Parts → Option Reject → List ℕ
-text_explanation text table image reject = lines_text image table reject 0 1 (lines text)
+text_explanation text table image reject = lines_text (record { image = image; lines = table; reject = reject }) 0 1 (lines text)

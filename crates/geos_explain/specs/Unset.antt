@@ -55,17 +55,10 @@ unfoldable pub searched : Parts → ℕ → ℕ → ℕ → Search
 searched image k pc zero = At pc
 searched image k pc (suc n) = search_on image k (searched image k pc n)
 
--- the counter is not set
-unfoldable pub unset_head : ℕ → List ℕ
-unset_head k = codes "; k" ++ decimal k ++ codes " is not set on the way to LOOP at"
-
--- the counter is not set on the way to an instruction that takes from it
-unfoldable pub unset_text : List ℕ → ℕ → ℕ → List ℕ
-unset_text lines k pc = unset_head k ++ pc_text lines pc ++ codes ": set it first by SETK or SETKW"
-
--- the same where there is such an instruction
+-- the counter is not set on the way to an instruction that takes from it, where there is such an instruction
 abbrev pub found_text : List ℕ → ℕ → Search → List ℕ
-found_text lines k (Found pc) = unset_text lines k pc
+found_text lines k (Found pc) =
+    codes "; k" ++ decimal k ++ codes " is not set on the way to LOOP at" ++ pc_text lines pc ++ codes ": set it first by SETK or SETKW"
 found_text lines k _ = []
 
 -- the same of a counter that still pays at a place

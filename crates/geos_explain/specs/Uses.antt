@@ -20,7 +20,7 @@ use Rattle.geos_listing.specs.Rows.{state_word}
 use Rattle.geos_verify.specs.Uses.{bytes_in}
 use Rattle.geos_verify.specs.Rows.{bound, slot_state, pointer_at, leads_nowhere}
 use Rattle.geos_verify.specs.Rules.{reach, least_at}
-use Rattle.geos_explain.specs.Numbers.{bytes_text, verb, items_in}
+use Rattle.geos_explain.specs.Numbers.{bytes_word, verb, items_in}
 
 -- a slot, and what the row says that it holds
 unfoldable pub state_item : ℕ → Row → List ℕ
@@ -47,37 +47,22 @@ nowhere_items items = items ++ nowhere_tail (items_in items == 1)
 unfoldable pub nowhere_words : Row → List ℕ
 nowhere_words row = nowhere_items (row_items (leading_nowhere row))
 
--- so many bytes are wanted
-unfoldable pub wanted_count : ℕ → List ℕ
-wanted_count wanted = codes " " ++ bytes_text wanted ++ verb (wanted == 1) ++ codes " wanted"
-
--- so many bytes are wanted behind a pointer
-unfoldable pub wanted_bytes : ℕ → ℕ → List ℕ
-wanted_bytes p wanted = wanted_count wanted ++ codes " behind p" ++ decimal p
-
--- so many are known there
-unfoldable pub known_there : ℕ → List ℕ
-known_there n = codes ", and " ++ decimal n ++ verb (n == 1) ++ codes " known there"
-
--- so many bytes are wanted, and how many there are
+-- so many bytes are wanted behind a pointer, and how many are known there
 unfoldable pub short_words : ℕ → ℕ → Row → List ℕ
-short_words p wanted row = wanted_bytes p wanted ++ known_there (least_at row p)
+short_words p wanted row =
+    codes " " ++ decimal wanted ++ bytes_word (wanted == 1) ++ verb (wanted == 1) ++ codes " wanted behind p" ++ decimal p
+    ++ codes ", and " ++ decimal (least_at row p) ++ verb (least_at row p == 1) ++ codes " known there"
 
 -- a word may be any number
 abbrev pub is_any : ℕ → Bool
 is_any most = most == 65535
 
--- nothing is known of the word that is the index
-unfoldable pub index_unknown : ℕ → List ℕ
-index_unknown w = codes " nothing is known of w" ++ decimal w ++ codes ", the index"
-
--- how high the word is at most
-unfoldable pub index_most : ℕ → ℕ → List ℕ
-index_most w most = codes " w" ++ decimal w ++ codes "<=" ++ decimal most ++ codes " is known of the index"
-
 -- what is known of the word that is the index
-abbrev pub index_known : ℕ → ℕ → List ℕ
-index_known w most = if is_any most then index_unknown w else index_most w most
+unfoldable pub index_known : ℕ → ℕ → List ℕ
+index_known w most =
+    if is_any most
+    then codes " nothing is known of w" ++ decimal w ++ codes ", the index"
+    else codes " w" ++ decimal w ++ codes "<=" ++ decimal most ++ codes " is known of the index"
 
 -- what must be known of it for a read or a write so wide; nothing serves where fewer bytes are there
 unfoldable pub index_wanted : ℕ → ℕ → ℕ → List ℕ
@@ -88,7 +73,7 @@ index_wanted w wide least =
 
 -- how many bytes are known behind a pointer
 unfoldable pub known_bytes : ℕ → ℕ → List ℕ
-known_bytes p least = codes ": p" ++ decimal p ++ codes " is known to have " ++ bytes_text least
+known_bytes p least = codes ": p" ++ decimal p ++ codes " is known to have " ++ decimal least ++ bytes_word (least == 1)
 
 -- an index may be too high for the bytes behind its pointer
 unfoldable pub index_words : ℕ → ℕ → ℕ → ℕ → ℕ → List ℕ
@@ -120,17 +105,13 @@ abbrev pub mark_word : SlotState → List ℕ
 mark_word (Db marked) = codes "IDIRTY"
 mark_word _ = codes "VDIRTY"
 
--- that instruction marks it
-unfoldable pub mark_words : ℕ → SlotState → List ℕ
-mark_words a state = codes ": " ++ mark_word state ++ codes " s" ++ decimal a ++ codes " marks it"
-
--- the block of a slot is changed, and may not be marked
-unfoldable pub unmarked_slot : ℕ → Row → List ℕ
-unmarked_slot a row = state_item a row ++ codes " is changed here, and may not be marked yet" ++ mark_words a (slot_state row a)
-
--- a block is changed that may not be marked
+-- a block is changed that may not be marked, and what marks it
 unfoldable pub unmarked_words : Instr → PointerUse → Row → List ℕ
-unmarked_words i pointer row = unmarked_slot (changed_slot i pointer row) row
+unmarked_words i pointer row =
+    let a = changed_slot i pointer row in
+    let state = slot_state row a in
+    codes " s" ++ decimal a ++ codes "=" ++ state_word state ++ codes " is changed here, and may not be marked yet: "
+    ++ mark_word state ++ codes " s" ++ decimal a ++ codes " marks it"
 
 -- a block is locked into a slot that is held
 unfoldable pub held_words : Instr → Row → List ℕ
@@ -176,4 +157,4 @@ other_item i _ row = []
 
 -- a slot is not held as the instruction wants it, and what serves in its place
 unfoldable pub slot_words : Instr → SlotUse → Row → List ℕ
-slot_words i slot row = state_item i.a row ++ other_item i slot row ++ slot_wish slot ++ serving slot (slot_state row i.a)
+slot_words i slot row = state_item i.a row ++ other_item i slot row ++ (slot_wish slot ++ serving slot (slot_state row i.a))

@@ -11,8 +11,11 @@ use Rattle.geos_image.specs.declared.row.Row.{Row}
 use Rattle.geos_image.specs.declared.row.Pointer.{Pointer}
 use Rattle.geos_image.specs.Parts.{Parts, start_of}
 use Rattle.geos_verify.specs.Rows.{falls_through, branches, pointer_at, is_stale, after}
+use Rattle.geos_explain.specs.declared.ways.Edge.{Edge}
 use Rattle.geos_explain.specs.declared.ways.Way.{Way}
-use Rattle.geos_explain.specs.declared.ways.Way.TheVariants.{Entry, Along, Branch}
+use Rattle.geos_explain.specs.declared.ways.Way.TheVariants.{Entry, Along}
+use Rattle.geos_explain.specs.declared.ways.Sought.{Sought}
+use Rattle.geos_explain.specs.declared.ways.Followed.{Followed}
 use Rattle.geos_explain.specs.declared.ways.End.{End}
 use Rattle.geos_explain.specs.declared.ways.End.TheVariants.{Lost, Unset, Unreached, Merged}
 use Rattle.geos_explain.specs.declared.ways.Meeting.{Meeting}
@@ -24,67 +27,76 @@ abbrev pub is_as : Bool → Option Pointer → Bool
 is_as true pointer = not (is_stale pointer)
 is_as false pointer = is_stale pointer
 
--- the instruction at a pc stands in front of another and goes on to it, and the pointer is known behind it, or is not, as is asked
-abbrev pub leads_along : Parts → ℕ → ℕ → Bool → ℕ → Point → Bool
-leads_along image p to known from point =
-    from + 1 == to && falls_through point.instr.opcode && is_as known (pointer_at (after image from point.row false) p)
+-- the instruction at a pc stands in front of the place that is sought and goes on to it, and the pointer is known behind it, or is
+-- not, as is asked
+abbrev pub leads_along : Parts → Sought → ℕ → Point → Bool
+leads_along image sought from point =
+    from + 1 == sought.to && falls_through point.instr.opcode && is_as sought.known (pointer_at (after image from point.row false) sought.p)
 
 -- the same of its way to its target
-abbrev pub leads_branching : Parts → ℕ → ℕ → Bool → ℕ → Point → Bool
-leads_branching image p to known from point =
-    point.instr.target == to && branches point.instr.opcode && is_as known (pointer_at (after image from point.row true) p)
+abbrev pub leads_branching : Parts → Sought → ℕ → Point → Bool
+leads_branching image sought from point =
+    point.instr.target == sought.to && branches point.instr.opcode && is_as sought.known (pointer_at (after image from point.row true) sought.p)
 
--- the first way of the instruction at a pc to another on which the pointer is known, or is not, as is asked
-abbrev pub way_of : Parts → ℕ → ℕ → Bool → ℕ → Point → Option Way
-way_of image p to known from point =
-    if leads_along image p to known from point then Some (Along from)
-    else if leads_branching image p to known from point then Some (Branch from)
+-- the first way of the instruction at a pc that is sought
+abbrev pub way_of : Parts → Sought → ℕ → Point → Option Way
+way_of image sought from point =
+    if leads_along image sought from point then Some (Along (record { from = from; branch = false }))
+    else if leads_branching image sought from point then Some (Along (record { from = from; branch = true }))
     else None
 
 -- the same, if there is an instruction
-unfoldable pub way_at : Parts → ℕ → ℕ → Bool → ℕ → Option Way
-way_at image p to known from = elim (slice_get image.points from) [ None ↦ None | Some point ↦ way_of image p to known from point ]
+unfoldable pub way_at : Parts → Sought → ℕ → Option Way
+way_at image sought from = elim (slice_get image.points from) [ None ↦ None | Some point ↦ way_of image sought from point ]
 
 -- the first of two ways, if there is one
 abbrev pub or_way : Option Way → Option Way → Option Way
 or_way None other = other
 or_way (Some way) other = Some way
 
--- of the first n instructions, the first way to a pc on which the pointer is known, or is not, as is asked
-unfoldable pub first_way : Parts → ℕ → ℕ → Bool → ℕ → Option Way
-first_way image p to known zero = None
-first_way image p to known (suc n) = or_way (first_way image p to known n) (way_at image p to known n)
+-- of the first n instructions, the first way that is sought
+unfoldable pub first_way : Parts → Sought → ℕ → Option Way
+first_way image sought zero = None
+first_way image sought (suc n) = or_way (first_way image sought n) (way_at image sought n)
 
 -- the way from the caller, where the pc is the routine's first, and the entry row knows the pointer, or does not
-abbrev pub entry_way : Place → ℕ → ℕ → Bool → Option Way
-entry_way place p to known =
-    if to == start_of place.image.routines place.r && is_as known (pointer_at place.routine.entry p) then Some Entry else None
+abbrev pub entry_way : Place → Sought → Option Way
+entry_way place sought =
+    if sought.to == start_of place.image.routines place.r && is_as sought.known (pointer_at place.routine.entry sought.p) then Some Entry else None
 
--- the first way to a pc on which the pointer is known, or is not, as is asked
-unfoldable pub way_to : Place → ℕ → ℕ → Bool → Option Way
-way_to place p to known = or_way (entry_way place p to known) (first_way place.image p to known (length place.image.points))
+-- the first way that is sought
+unfoldable pub way_to : Place → Sought → Option Way
+way_to place sought = or_way (entry_way place sought) (first_way place.image sought (length place.image.points))
+
+-- the first way to a pc that brings a pointer
+abbrev pub bringing : Place → ℕ → ℕ → Option Way
+bringing place p to = way_to place (record { p = p; to = to; known = true })
+
+-- the first way to a pc that does not
+abbrev pub losing : Place → ℕ → ℕ → Option Way
+losing place p to = way_to place (record { p = p; to = to; known = false })
 
 -- the instruction has the edge
 abbrev pub has_edge : Instr → Bool → Bool
 has_edge i branch = if branch then branches i.opcode else falls_through i.opcode
 
--- what is known of the pointer behind an instruction, on an edge that it has
-abbrev pub behind_point : Parts → ℕ → ℕ → Bool → Point → Option Pointer
-behind_point image p from branch point = if has_edge point.instr branch then pointer_at (after image from point.row branch) p else None
+-- what is known of a pointer behind an instruction, on an edge that it has
+abbrev pub behind_point : Parts → ℕ → Edge → Point → Option Pointer
+behind_point image p edge point =
+    if has_edge point.instr edge.branch then pointer_at (after image edge.from point.row edge.branch) p else None
 
--- the same of the instruction at a pc
-unfoldable pub behind : Parts → ℕ → ℕ → Bool → Option Pointer
-behind image p from branch = elim (slice_get image.points from) [ None ↦ None | Some point ↦ behind_point image p from branch point ]
+-- the same, if there is an instruction
+unfoldable pub behind : Parts → ℕ → Edge → Option Pointer
+behind image p edge = elim (slice_get image.points edge.from) [ None ↦ None | Some point ↦ behind_point image p edge point ]
 
--- what a way brings of the pointer
+-- what a way brings of a pointer
 abbrev pub brought : Place → ℕ → Way → Option Pointer
 brought place p Entry = pointer_at place.routine.entry p
-brought place p (Along from) = behind place.image p from false
-brought place p (Branch from) = behind place.image p from true
+brought place p (Along edge) = behind place.image p edge
 
 -- ways to a pc meet: one brings the pointer, and another does not
 abbrev pub meets : Place → ℕ → ℕ → Way → Option Meeting
-meets place p to lost = elim (way_to place p to true) [
+meets place p to lost = elim (bringing place p to) [
   | None ↦ None
   | Some known ↦ Some (record { to = to; known = known; lost = lost; pointer = brought place p known })
 ]
@@ -100,9 +112,11 @@ hint_of None = None
 hint_of (Some meeting) = meeting.pointer
 
 -- a row; where it knows nothing of the pointer, with what is known of it on another way
-abbrev pub with_hint : Row → ℕ → Option Pointer → Row
-with_hint row p hint =
-    if nat_lt p 4 && is_stale (pointer_at row p) then record row { pointers = slice_set row.pointers p hint } else row
+abbrev pub with_hint : Row → Followed → Row
+with_hint row followed =
+    if nat_lt followed.p 4 && is_stale (pointer_at row followed.p)
+    then record row { pointers = slice_set row.pointers followed.p followed.hint }
+    else row
 
 -- a pointer is known before, and not behind
 abbrev pub goes_stale : ℕ → Row → Row → Bool
@@ -119,32 +133,31 @@ forgets Call = true
 forgets _ = false
 
 -- an instruction makes the pointer stale on this edge
-abbrev pub makes_stale : Parts → ℕ → ℕ → Bool → Instr → Row → Bool
-makes_stale image p from branch i row = has_edge i branch && goes_stale p row (after image from row branch)
+abbrev pub makes_stale : Parts → ℕ → Edge → Instr → Row → Bool
+makes_stale image p edge i row = has_edge i edge.branch && goes_stale p row (after image edge.from row edge.branch)
 
--- an instruction loses a pointer on one of its ways: it is a call, or was to set it and was refused, or makes it stale
-abbrev pub loses : Parts → ℕ → Option Pointer → ℕ → Bool → Point → Bool
-loses image p hint from branch point =
+-- an instruction loses a pointer on one of its edges: it is a call, or was to set it and was refused, or makes it stale
+abbrev pub loses : Parts → Followed → Edge → Point → Bool
+loses image followed edge point =
     forgets point.instr.opcode
-    || (branch && sets point.instr (uses_of point.instr.opcode).pointer p)
-    || makes_stale image p from branch point.instr (with_hint point.row p hint)
+    || (edge.branch && sets point.instr (uses_of point.instr.opcode).pointer followed.p)
+    || makes_stale image followed.p edge point.instr (with_hint point.row followed)
 
--- the same of the instruction at a pc
-unfoldable pub loses_at : Parts → ℕ → Option Pointer → ℕ → Bool → Bool
-loses_at image p hint from branch = elim (slice_get image.points from) [ None ↦ false | Some point ↦ loses image p hint from branch point ]
+-- the same, if there is an instruction
+unfoldable pub loses_at : Parts → Followed → Edge → Bool
+loses_at image followed edge = elim (slice_get image.points edge.from) [ None ↦ false | Some point ↦ loses image followed edge point ]
 
 -- going back along an edge: the pointer was lost there, or the way goes on back
-abbrev pub back_by : Parts → ℕ → Option Meeting → ℕ → Bool → Way → Trace
-back_by image p meeting from branch way =
-    if loses_at image p (hint_of meeting) from branch
-    then record { at = from; meeting = meeting; end = Some (Lost way) }
-    else record { at = from; meeting = meeting; end = None }
+abbrev pub back_by : Parts → ℕ → Option Meeting → Edge → Trace
+back_by image p meeting edge =
+    if loses_at image (record { p = p; hint = hint_of meeting }) edge
+    then record { at = edge.from; meeting = meeting; end = Some (Lost edge) }
+    else record { at = edge.from; meeting = meeting; end = None }
 
--- going back along a way
-abbrev pub back_along : Place → ℕ → ℕ → Option Meeting → Way → Trace
-back_along place p to meeting Entry = record { at = to; meeting = meeting; end = Some Unset }
-back_along place p to meeting (Along from) = back_by place.image p meeting from false (Along from)
-back_along place p to meeting (Branch from) = back_by place.image p meeting from true (Branch from)
+-- going back along a way to a pc
+abbrev pub back_along : Parts → ℕ → ℕ → Option Meeting → Way → Trace
+back_along image p to meeting Entry = record { at = to; meeting = meeting; end = Some Unset }
+back_along image p to meeting (Along edge) = back_by image p meeting edge
 
 -- no way to a pc lacks the pointer: each brings it, or there is none
 abbrev pub without_way : Option Way → End
@@ -153,9 +166,9 @@ without_way (Some way) = Merged
 
 -- one step back from a pc, along the first way that does not bring the pointer
 unfoldable pub back_from : Place → ℕ → ℕ → Option Meeting → Trace
-back_from place p to met = elim (way_to place p to false) [
-  | None ↦ record { at = to; meeting = met; end = Some (without_way (way_to place p to true)) }
-  | Some way ↦ back_along place p to (or_meeting met (meets place p to way)) way
+back_from place p to met = elim (losing place p to) [
+  | None ↦ record { at = to; meeting = met; end = Some (without_way (bringing place p to)) }
+  | Some way ↦ back_along place.image p to (or_meeting met (meets place p to way)) way
 ]
 
 -- one more step back, unless the end was found

@@ -15,7 +15,7 @@ use Rattle.geos_verify.specs.Rules.{has_place}
 use Rattle.geos_explain.specs.Places.{Place}
 use Rattle.geos_explain.specs.Unset.{over_words}
 use Rattle.geos_explain.specs.Lacks.{lacking_items}
-use Rattle.geos_explain.specs.Numbers.{these_are, label_text, pc_text}
+use Rattle.geos_explain.specs.Numbers.{is_or_are, label_text, pc_text}
 use Rattle.geos_explain.specs.Held.{exit_words}
 use Rattle.geos_explain.specs.Written.{written_words}
 use Rattle.geos_explain.specs.Uses.{nowhere_words, past_words, unmarked_words, held_words, slot_words}
@@ -31,7 +31,7 @@ leaves_words place =
 
 -- these items are wanted at a routine's beginning
 unfoldable pub not_from_entry : List ℕ → List ℕ
-not_from_entry items = these_are items ++ codes " wanted here, and not known from the entry row"
+not_from_entry items = items ++ is_or_are items ++ codes " wanted here, and not known from the entry row"
 
 -- the row wants more than the routine's entry row says, or the routine is public and wants or leaves
 -- what a caller from outside does not have
@@ -53,24 +53,20 @@ unmarked_here i row = unmarked_words i (uses_of i.opcode).pointer row
 unfoldable pub slot_here : Instr → Row → List ℕ
 slot_here i row = slot_words i (uses_of i.opcode).slot row
 
--- the routine that is called wants them
-unfoldable pub callee_wants : Routine → List ℕ
-callee_wants callee = codes " wanted by " ++ name_of callee ++ codes ", and not known here"
-
 -- these items are wanted by the routine that is called
 unfoldable pub wanted_by : List ℕ → Routine → List ℕ
-wanted_by items callee = these_are items ++ callee_wants callee
+wanted_by items callee = items ++ is_or_are items ++ codes " wanted by " ++ name_of callee ++ codes ", and not known here"
 
--- the routine that is called does not stand before routine r, or its entry row wants more than the row says
-abbrev pub callee_words : ℕ → ℕ → Row → Routine → List ℕ
-callee_words r n row callee =
-    if nat_lt n r
-    then wanted_by (lacking_items row callee.entry) callee
+-- the routine that is called does not stand before that of the place, or its entry row wants more than the row says
+abbrev pub callee_words : Place → Routine → List ℕ
+callee_words place callee =
+    if nat_lt place.i.imm place.r
+    then wanted_by (lacking_items place.row callee.entry) callee
     else codes " " ++ name_of callee ++ codes " does not stand before this routine"
 
 -- the same of the routine that a call names
 abbrev pub call_words : Place → Opcode → List ℕ
-call_words place Call = elim (slice_get place.image.routines place.i.imm) [ None ↦ [] | Some callee ↦ callee_words place.r place.i.imm place.row callee ]
+call_words place Call = elim (slice_get place.image.routines place.i.imm) [ None ↦ [] | Some callee ↦ callee_words place callee ]
 call_words place _ = []
 
 -- the same of a place
@@ -89,13 +85,9 @@ wanted_along place = if falls_through place.i.opcode then wanted_at place.image 
 unfoldable pub wanted_branching : Place → List ℕ
 wanted_branching place = if branches place.i.opcode then wanted_at place.image place.i.target (after place.image place.pc place.row true) else []
 
--- the instruction at a pc wants them
-unfoldable pub wanted_there : List ℕ → ℕ → List ℕ
-wanted_there lines to = codes " wanted at" ++ pc_text lines to ++ codes ", and not known here"
-
 -- these items are wanted at a pc
 unfoldable pub wanted_words : List ℕ → ℕ → List ℕ → List ℕ
-wanted_words lines to items = these_are items ++ wanted_there lines to
+wanted_words lines to items = items ++ is_or_are items ++ codes " wanted at" ++ pc_text lines to ++ codes ", and not known here"
 
 -- a row does not fit that at the end of an edge: the edge to the next instruction is tried first
 unfoldable pub edge_words : Place → List ℕ

@@ -4,7 +4,7 @@ use Rattle.geos_verify.specs.Rows.{slot_state}
 use Rattle.geos_verify.specs.Rules.{is_of_file}
 use Rattle.geos_explain.specs.Places.{Place}
 use Rattle.geos_explain.specs.Held.{since_below, since_text}
-use Rattle.geos_explain.specs.Numbers.{items_in, object, these_are}
+use Rattle.geos_explain.specs.Numbers.{items_in, object, is_or_are}
 use Rattle.geos_explain.specs.Uses.{state_item}
 
 -- a slot that holds a block of the VM file, and what it holds
@@ -28,7 +28,7 @@ file_sinces place = file_since place 0 ++ file_since place 1 ++ file_since place
 
 -- these slots are held where the file is written
 unfoldable pub written_head : List ℕ → List ℕ
-written_head items = these_are items ++ codes " held where the file is written: unlock" ++ object (items_in items == 1) ++ codes " before"
+written_head items = items ++ is_or_are items ++ codes " held where the file is written: unlock" ++ object (items_in items == 1) ++ codes " before"
 
 -- the VM file is written while slots hold blocks of it
 unfoldable pub written_words : Place → List ℕ

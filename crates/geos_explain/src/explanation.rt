@@ -4,13 +4,13 @@ ghost use Rattle.std.specs.Prelude.{◌≡◌, ◌<◌, ◌≤◌, ◌+◌, ◌+
 ghost use Rattle.geos_image.specs.Legal.{is_image};
 ghost use Rattle.geos_listing.specs.Rows.{texts_below};
 ghost use Rattle.geos_listing.specs.Instrs.{MarksTargets};
-ghost use Rattle.geos_explain.specs.Led.{reached};
-ghost use Rattle.geos_explain.specs.Places.{HasRoutine, IsPlace, place_of};
+ghost use Rattle.geos_explain.specs.Places.{IsPlace, explained_of, place_of};
 ghost use Rattle.geos_explain.specs.Explanation.{refusal_text, noted, point_text, place_text, head_text, numbered_routine, explanation};
 
-use crate::led::{Marks, is_reached, reached};
+use crate::explained::Explained;
+use crate::led::reached;
 use crate::notes::put_note;
-use crate::place::Place;
+use crate::place::{ExplainedRoutine, Place, place_at};
 use crate::words::put_refusal_line;
 use geos_image::{Image, Routine};
 use geos_listing::{Targets, put_code, put_label_line, put_routine_line, put_row, targets_of};
@@ -71,33 +71,17 @@ fn put_point(
 fn put_place(
     alloc: Global,
     out: &mut Vec<u8>,
-    image: &Image,
     targets: &Targets,
-    marks: &Marks,
-    reject: Option<Reject>,
-    r: u16,
-    routine: &Routine,
+    within: &ExplainedRoutine,
     pc: u16,
 ) -> Result<(), AllocError>
-    requires routine { HasRoutine image.now r }
-    requires within { pc < length image.now.points }
-    requires targets { MarksTargets image.now.points targets.now }
-    requires reached { marks.now ≡ reached image.now }
-    ensures { OnOk result (out.new.items ≡ out.old.items ++ place_text image.now reject r routine.now pc) }
+    requires within { pc < length within.now.explained.now.image.now.points }
+    requires targets { MarksTargets within.now.explained.now.image.now.points targets.now }
+    ensures { OnOk result (out.new.items ≡ out.old.items ++ place_text (explained_of within.now.explained.now) within.now.r within.now.routine.now pc) }
 {
-    put_label_line(out, image, targets, pc)?;
-    let place = Place {
-        image,
-        lines: &[],
-        r,
-        routine,
-        pc,
-        i: image.instr(pc),
-        row: image.row(pc),
-        potential: image.potential(pc),
-        reached: is_reached(image, marks, pc),
-    };
-    put_point(alloc, out, reject, &place)
+    put_label_line(out, within.explained.image, targets, pc)?;
+    let place = place_at(within, pc);
+    put_point(alloc, out, within.explained.reject, &place)
 }
 
 /// So many of the routine's instructions, from a pc.
@@ -105,33 +89,16 @@ fn put_place(
 fn put_places(
     alloc: Global,
     out: &mut Vec<u8>,
-    image: &Image,
     targets: &Targets,
-    marks: &Marks,
-    reject: Option<Reject>,
-    r: u16,
-    routine: &Routine,
+    within: &ExplainedRoutine,
     start: u16,
-    count: u16,
 ) -> Result<(), AllocError>
-    requires routine { HasRoutine image.now r }
-    requires within { start + count ≤ length image.now.points }
-    requires targets { MarksTargets image.now.points targets.now }
-    requires reached { marks.now ≡ reached image.now }
-    ensures { OnOk result (out.new.items ≡ out.old.items ++ texts_below count (λ k. place_text image.now reject r routine.now (start + k))) }
+    requires within { start + within.now.routine.now.count ≤ length within.now.explained.now.image.now.points }
+    requires targets { MarksTargets within.now.explained.now.image.now.points targets.now }
+    ensures { OnOk result (out.new.items ≡ out.old.items ++ texts_below within.now.routine.now.count (λ k. place_text (explained_of within.now.explained.now) within.now.r within.now.routine.now (start + k))) }
 {
-    for k in 0..count {
-        put_place(
-            alloc,
-            out,
-            image,
-            targets,
-            marks,
-            reject,
-            r,
-            routine,
-            start + k,
-        )?;
+    for k in 0..within.routine.count {
+        put_place(alloc, out, targets, within, start + k)?;
     }
     Ok(())
 }
@@ -146,28 +113,28 @@ fn put_head(alloc: Global, out: &mut Vec<u8>, routine: &Routine) -> Result<(), A
     put_row(alloc, out, "out", &routine.exit)
 }
 
+/// The same, and its instructions.
 fn put_routine(
     alloc: Global,
     out: &mut Vec<u8>,
-    image: &Image,
     targets: &Targets,
-    marks: &Marks,
-    reject: Option<Reject>,
+    explained: &Explained,
     r: u16,
 ) -> Result<(), AllocError>
-    requires within { r < length image.now.routines }
-    requires legal { is_image image.now ≡ true }
-    requires targets { MarksTargets image.now.points targets.now }
-    requires reached { marks.now ≡ reached image.now }
-    ensures { OnOk result (out.new.items ≡ out.old.items ++ numbered_routine image.now reject r) }
+    requires within { r < length explained.now.image.now.routines }
+    requires legal { is_image explained.now.image.now ≡ true }
+    requires targets { MarksTargets explained.now.image.now.points targets.now }
+    ensures { OnOk result (out.new.items ≡ out.old.items ++ numbered_routine (explained_of explained.now) r) }
 {
-    let routine = image.routine(r);
+    let routine = explained.image.routine(r);
     put_head(alloc, out, routine)?;
-    let start = image.start(r);
-    let count = routine.count;
-    put_places(
-        alloc, out, image, targets, marks, reject, r, routine, start, count,
-    )
+    let start = explained.image.start(r);
+    let within = ExplainedRoutine {
+        explained,
+        r,
+        routine,
+    };
+    put_places(alloc, out, targets, &within, start)
 }
 
 /// The listing of the image, behind each instruction what is known there, and a line for the
@@ -179,9 +146,15 @@ pub fn explain(alloc: Global, image: &Image, reject: Option<Reject>) -> Result<V
 {
     let targets = targets_of(image);
     let marks = reached(image);
+    let explained = Explained {
+        image,
+        lines: &[],
+        marks: &marks,
+        reject,
+    };
     let mut out = Vec::new(alloc);
     for r in 0..image.count() {
-        put_routine(alloc, &mut out, image, &targets, &marks, reject, r)?;
+        put_routine(alloc, &mut out, &targets, &explained, r)?;
     }
     Ok(out)
 }

@@ -2,11 +2,13 @@
 
 ghost use Rattle.std.specs.Prelude.{◌≡◌, ◌<◌, ◌++◌, Some, OnOk, length, slice_get};
 ghost use Rattle.geos_explain.specs.Places.{IsPlace, place_of};
-ghost use Rattle.geos_explain.specs.Held.{is_kept, kept_item, kept_items, fills, fills_at, fills_here, later, one_more, also, since_below, since_head, since_text, since_item, since_items, also_wanted, kept_head, else_wanted, kept_words, unmet_words, exit_words};
+ghost use Rattle.geos_explain.specs.Held.{is_kept, kept_item, kept_items, fills, fills_at, fills_here, later, one_more, also, since_below, since_text, since_item, since_items, also_wanted, kept_head, else_wanted, kept_words, unmet_head, unmet_words, exit_words};
 
 use crate::lacks::{lacking, put_lacking};
-use crate::numbers::{put_numbered, put_pc, put_these_are};
+use crate::numbers::is_or_are;
+use crate::parts::{Part, put_parts};
 use crate::place::Place;
+use crate::points::point_at;
 use crate::uses::put_state;
 use geos_image::{Image, Point, Row};
 use geos_listing::put_items;
@@ -69,7 +71,7 @@ fn fills(image: &Image, a: u8, from: u16, point: &Point) -> bool
 fn fills_at(image: &Image, a: u8, from: u16) -> bool
     ensures { result ≡ fills_at image.now a from }
 {
-    match image.points().get(usize::from(from)) {
+    match point_at(image, from) {
         Some(point) => fills(image, a, from, point),
         None => false,
     }
@@ -125,15 +127,6 @@ pub(crate) fn held_since(place: &Place, a: u8) -> Since
     since
 }
 
-/// The slot is held since.
-#[tactic(auto, unfolding(crate::specs::Held::since_head))]
-fn put_since_head(out: &mut Vec<u8>, a: u8) -> Result<(), AllocError>
-    ensures { OnOk result (out.new.items ≡ out.old.items ++ since_head a) }
-{
-    put_numbered(out, "; s", u64::from(a))?;
-    out.extend_from_slice(b" is held since")
-}
-
 /// Since where the slot is held; of several places, one.
 pub(crate) fn put_since_text(
     out: &mut Vec<u8>,
@@ -143,21 +136,21 @@ pub(crate) fn put_since_text(
 ) -> Result<(), AllocError>
     ensures { OnOk result (out.new.items ≡ out.old.items ++ since_text lines.now a s) }
 {
-    match s {
-        Since::Nowhere => {
-            put_since_head(out, a)?;
-            out.extend_from_slice(b" the in line")
-        }
-        Since::Once(from) => {
-            put_since_head(out, a)?;
-            put_pc(out, lines, from)
-        }
-        Since::Often(last) => {
-            put_since_head(out, a)?;
-            put_pc(out, lines, last)?;
-            out.extend_from_slice(b" or another place")
-        }
-    }
+    let (since, behind) = match s {
+        Since::Nowhere => (Part::Text(" the in line"), ""),
+        Since::Once(from) => (Part::Pc(lines, from), ""),
+        Since::Often(last) => (Part::Pc(lines, last), " or another place"),
+    };
+    put_parts(
+        out,
+        &[
+            Part::Text("; s"),
+            Part::Register(a),
+            Part::Text(" is held since"),
+            since,
+            Part::Text(behind),
+        ],
+    )
 }
 
 /// The same of a slot that the exit row has empty.
@@ -193,9 +186,15 @@ fn put_also_wanted(out: &mut Vec<u8>, items: &[u8]) -> Result<(), AllocError>
     if items.is_empty() {
         return Ok(());
     }
-    out.extend_from_slice(b";")?;
-    put_these_are(out, items)?;
-    out.extend_from_slice(b" wanted by the exit row, and not known here")
+    put_parts(
+        out,
+        &[
+            Part::Text(";"),
+            Part::Bytes(items),
+            Part::Text(is_or_are(items)),
+            Part::Text(" wanted by the exit row, and not known here"),
+        ],
+    )
 }
 
 /// Slots are still held at the return.
@@ -203,8 +202,14 @@ fn put_also_wanted(out: &mut Vec<u8>, items: &[u8]) -> Result<(), AllocError>
 fn put_kept_head(out: &mut Vec<u8>, items: &[u8]) -> Result<(), AllocError>
     ensures { OnOk result (out.new.items ≡ out.old.items ++ kept_head items.now) }
 {
-    put_these_are(out, items)?;
-    out.extend_from_slice(b" still held at the return")
+    put_parts(
+        out,
+        &[
+            Part::Bytes(items),
+            Part::Text(is_or_are(items)),
+            Part::Text(" still held at the return"),
+        ],
+    )
 }
 
 /// What else the exit row wants.
@@ -234,6 +239,21 @@ fn put_kept_words(
     put_else_wanted(alloc, out, place)
 }
 
+/// These items are wanted by the exit row.
+#[tactic(auto, unfolding(crate::specs::Held::unmet_head))]
+fn put_unmet_head(out: &mut Vec<u8>, items: &[u8]) -> Result<(), AllocError>
+    ensures { OnOk result (out.new.items ≡ out.old.items ++ unmet_head items.now) }
+{
+    put_parts(
+        out,
+        &[
+            Part::Bytes(items),
+            Part::Text(is_or_are(items)),
+            Part::Text(" wanted by the exit row, and not known here"),
+        ],
+    )
+}
+
 /// The exit row wants more than the row says.
 #[tactic(auto, unfolding(crate::specs::Held::unmet_words))]
 fn put_unmet(alloc: Global, out: &mut Vec<u8>, place: &Place) -> Result<(), AllocError>
@@ -241,8 +261,7 @@ fn put_unmet(alloc: Global, out: &mut Vec<u8>, place: &Place) -> Result<(), Allo
 {
     let mut items = Vec::new(alloc);
     put_lacking(&mut items, place.row, &place.routine.exit)?;
-    put_these_are(out, &items)?;
-    out.extend_from_slice(b" wanted by the exit row, and not known here")
+    put_unmet_head(out, &items)
 }
 
 /// The row does not fit the exit row: slots are still held, or else it wants more.

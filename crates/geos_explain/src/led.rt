@@ -3,6 +3,7 @@
 ghost use Rattle.std.specs.Prelude.{◌≡◌, length};
 ghost use Rattle.geos_explain.specs.Led.{no_marks, marked, is_marked, next_marked, target_marked, marked_from, marked_at, marked_round, starts_marked, reached_within, reached, is_reached};
 
+use crate::points::point_at;
 use geos_image::{Image, Instr};
 use geos_verify::{branches, falls_through};
 
@@ -70,7 +71,7 @@ fn mark_from(marks: &mut Marks, from: u16, i: &Instr)
 fn mark_at(marks: &mut Marks, image: &Image, from: u16)
     ensures { marks.new ≡ marked_at image.now marks.old from }
 {
-    match image.points().get(usize::from(from)) {
+    match point_at(image, from) {
         Some(point) => mark_from(marks, from, &point.instr),
         None => {}
     }

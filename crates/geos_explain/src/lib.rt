@@ -4,13 +4,16 @@
 //! docs/FORMATS.md has the form.
 #![tactic(auto)]
 
+mod explained;
 mod explanation;
 mod held;
 mod lacks;
 mod led;
 mod notes;
 mod numbers;
+mod parts;
 mod place;
+mod points;
 mod stale;
 mod steps;
 mod texts;

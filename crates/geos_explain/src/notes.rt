@@ -6,6 +6,7 @@ ghost use Rattle.geos_explain.specs.Places.{IsPlace, place_of};
 ghost use Rattle.geos_explain.specs.Notes.{known_text, coefficient_text, coefficients_text, is_one, potential_text, where_text, note_head, unled_text, note, budget_words};
 
 use crate::numbers::{put_numbered, steps_word, verb};
+use crate::parts::{Part, put_parts};
 use crate::place::Place;
 use geos_image::{Potential, Routine, Row};
 use geos_listing::put_items;
@@ -21,8 +22,7 @@ fn put_known(alloc: Global, out: &mut Vec<u8>, row: &Row) -> Result<(), AllocErr
     if items.is_empty() {
         return Ok(());
     }
-    out.extend_from_slice(&items)?;
-    out.extend_from_slice(b",")
+    put_parts(out, &[Part::Bytes(&items), Part::Text(",")])
 }
 
 /// So many steps for each that is on counter k, unless there are none.
@@ -32,8 +32,15 @@ fn put_coefficient(out: &mut Vec<u8>, k: usize, n: u32) -> Result<(), AllocError
     if n == 0 {
         return Ok(());
     }
-    put_numbered(out, " + ", u64::from(n))?;
-    put_numbered(out, " k", k as u64)
+    put_parts(
+        out,
+        &[
+            Part::Text(" + "),
+            Part::Number(u64::from(n)),
+            Part::Text(" k"),
+            Part::Number(k as u64),
+        ],
+    )
 }
 
 /// Those for each counter.
@@ -70,10 +77,16 @@ fn put_potential(out: &mut Vec<u8>, potential: &Potential) -> Result<(), AllocEr
 fn put_where(out: &mut Vec<u8>, routine: &Routine, pc: u16) -> Result<(), AllocError>
     ensures { OnOk result (out.new.items ≡ out.old.items ++ where_text routine.now pc) }
 {
-    out.extend_from_slice(b" ; ")?;
-    out.extend_from_slice(routine.name_text())?;
-    put_numbered(out, " ", u64::from(pc))?;
-    out.extend_from_slice(b":")
+    put_parts(
+        out,
+        &[
+            Part::Text(" ; "),
+            Part::Bytes(routine.name_text()),
+            Part::Text(" "),
+            Part::Number(u64::from(pc)),
+            Part::Text(":"),
+        ],
+    )
 }
 
 /// How a note begins: in an author's text by nothing, else by the routine and the pc.
@@ -121,10 +134,12 @@ pub(crate) fn put_budget(
     ensures { OnOk result (out.new.items ≡ out.old.items ++ budget_words routine.now potential.now) }
 {
     put_potential(out, potential)?;
-    out.extend_from_slice(verb(is_one(potential)).as_bytes())?;
-    put_numbered(
+    put_parts(
         out,
-        " owed from here, the budget is ",
-        u64::from(routine.budget),
+        &[
+            Part::Text(verb(is_one(potential))),
+            Part::Text(" owed from here, the budget is "),
+            Part::Number(u64::from(routine.budget)),
+        ],
     )
 }

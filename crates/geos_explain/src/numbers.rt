@@ -1,7 +1,7 @@
 //! Numbers in decimal digits, and the words that go with a number of steps or of items.
 
 ghost use Rattle.std.specs.Prelude.{◌≡◌, ◌==◌, ◌++◌, OnOk, decimal};
-ghost use Rattle.geos_explain.specs.Numbers.{steps_word, bytes_word, bytes_text, verb, object, items_in, these_are, owed_text, left_text, label_text, pc_text};
+ghost use Rattle.geos_explain.specs.Numbers.{steps_word, bytes_word, verb, object, items_in, is_or_are, label_text, pc_text};
 
 use std::alloc::AllocError;
 
@@ -14,33 +14,6 @@ pub fn put_numbered(out: &mut Vec<u8>, sign: &str, n: u64) -> Result<(), AllocEr
     out.extend_from_slice(digits.format(n).as_bytes())
 }
 
-/// A number between two texts.
-pub(crate) fn put_about(
-    out: &mut Vec<u8>,
-    before: &str,
-    n: u8,
-    behind: &str,
-) -> Result<(), AllocError>
-    ensures { OnOk result (out.new.items ≡ out.old.items ++ before.now ++ decimal n ++ behind.now) }
-{
-    put_numbered(out, before, u64::from(n))?;
-    out.extend_from_slice(behind.as_bytes())
-}
-
-/// Two numbers, between and behind texts.
-pub(crate) fn put_both(
-    out: &mut Vec<u8>,
-    before: &str,
-    a: u8,
-    between: &str,
-    b: u8,
-) -> Result<(), AllocError>
-    ensures { OnOk result (out.new.items ≡ out.old.items ++ before.now ++ decimal a ++ between.now ++ decimal b) }
-{
-    put_numbered(out, before, u64::from(a))?;
-    put_numbered(out, between, u64::from(b))
-}
-
 /// The word for steps, and whether there is just one.
 #[tactic(auto, unfolding(crate::specs::Numbers::steps_word))]
 pub(crate) fn steps_word(one: bool) -> &'static str
@@ -51,7 +24,7 @@ pub(crate) fn steps_word(one: bool) -> &'static str
 
 /// The word for bytes, and whether there is just one.
 #[tactic(auto, unfolding(crate::specs::Numbers::bytes_word))]
-fn bytes_word(one: bool) -> &'static str
+pub(crate) fn bytes_word(one: bool) -> &'static str
     ensures { result.now ≡ bytes_word one }
 {
     if one { " byte" } else { " bytes" }
@@ -93,43 +66,12 @@ pub(crate) fn is_one_item(items: &[u8]) -> bool
     items_in(items) == 1
 }
 
-/// The items, and that it is or that they are.
-#[tactic(auto, unfolding(crate::specs::Numbers::these_are))]
-pub(crate) fn put_these_are(out: &mut Vec<u8>, items: &[u8]) -> Result<(), AllocError>
-    ensures { OnOk result (out.new.items ≡ out.old.items ++ these_are items.now) }
+/// That it is or that they are, behind the items.
+#[tactic(auto, unfolding(crate::specs::Numbers::is_or_are))]
+pub(crate) fn is_or_are(items: &[u8]) -> &'static str
+    ensures { result.now ≡ is_or_are items.now }
 {
-    out.extend_from_slice(items)?;
-    out.extend_from_slice(verb(is_one_item(items)).as_bytes())
-}
-
-/// A sign, and so many bytes.
-#[tactic(auto, unfolding(crate::specs::Numbers::bytes_text))]
-pub(crate) fn put_bytes(out: &mut Vec<u8>, sign: &str, n: u64) -> Result<(), AllocError>
-    ensures { OnOk result (out.new.items ≡ out.old.items ++ sign.now ++ bytes_text n) }
-{
-    put_numbered(out, sign, n)?;
-    out.extend_from_slice(bytes_word(n == 1).as_bytes())
-}
-
-/// A sign, and that so many steps are owed.
-#[tactic(auto, unfolding(crate::specs::Numbers::owed_text))]
-pub(crate) fn put_owed(out: &mut Vec<u8>, sign: &str, n: u64) -> Result<(), AllocError>
-    ensures { OnOk result (out.new.items ≡ out.old.items ++ sign.now ++ owed_text n) }
-{
-    put_numbered(out, sign, n)?;
-    out.extend_from_slice(steps_word(n == 1).as_bytes())?;
-    out.extend_from_slice(verb(n == 1).as_bytes())?;
-    out.extend_from_slice(b" owed")
-}
-
-/// That so many are left.
-#[tactic(auto, unfolding(crate::specs::Numbers::left_text))]
-pub(crate) fn put_left(out: &mut Vec<u8>, n: u64) -> Result<(), AllocError>
-    ensures { OnOk result (out.new.items ≡ out.old.items ++ left_text n) }
-{
-    put_numbered(out, ", ", n)?;
-    out.extend_from_slice(verb(n == 1).as_bytes())?;
-    out.extend_from_slice(b" left")
+    verb(is_one_item(items))
 }
 
 /// A target as the reader has it: in an author's text its line, else the label that the listing gives it.

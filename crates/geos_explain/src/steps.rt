@@ -5,8 +5,10 @@ ghost use Rattle.geos_explain.specs.Places.{IsPlace, place_of};
 ghost use Rattle.geos_explain.specs.Steps.{whole_words, owed_words, asked_words, asks_along, asks_branching, paying_item, paying_items, touched_words, touched_here, last_words, unpaid_words};
 
 use crate::notes::put_coefficients;
-use crate::numbers::{put_left, put_numbered, put_owed};
+use crate::numbers::{put_numbered, steps_word, verb};
+use crate::parts::{Part, put_parts};
 use crate::place::Place;
+use crate::points::point_at;
 use geos_image::{Opcode, Potential, Routine};
 use geos_verify::{Asked, asked_along, asked_branching, branches, falls_through};
 use std::alloc::AllocError;
@@ -30,9 +32,19 @@ fn put_asked(out: &mut Vec<u8>, asked: &Asked, p: &Potential) -> Result<(), Allo
     if asked.steps <= left {
         put_whole(out, asked, p)
     } else {
-        put_owed(out, " ", asked.steps)?;
-        out.extend_from_slice(b" from here")?;
-        put_left(out, left)
+        put_parts(
+            out,
+            &[
+                Part::Text(" "),
+                Part::Number(asked.steps),
+                Part::Text(steps_word(asked.steps == 1)),
+                Part::Text(verb(asked.steps == 1)),
+                Part::Text(" owed from here, "),
+                Part::Number(left),
+                Part::Text(verb(left == 1)),
+                Part::Text(" left"),
+            ],
+        )
     }
 }
 
@@ -44,7 +56,7 @@ fn asks_along(place: &Place) -> Option<Asked>
     if !falls_through(place.i.opcode) {
         return None;
     }
-    match place.image.points().get(usize::from(place.pc + 1)) {
+    match point_at(place.image, place.pc + 1) {
         Some(next) => Some(asked_along(place.image, place.i, place.row, &next.potential)),
         None => None,
     }
@@ -58,7 +70,7 @@ fn asks_branching(place: &Place) -> Option<Asked>
     if !branches(place.i.opcode) {
         return None;
     }
-    match place.image.points().get(usize::from(place.i.target)) {
+    match point_at(place.image, place.i.target) {
         Some(next) => Some(asked_branching(place.i, &next.potential)),
         None => None,
     }
@@ -89,9 +101,14 @@ fn put_all_paying(out: &mut Vec<u8>, coefficients: &[u32; 4]) -> Result<(), Allo
 fn put_touched(out: &mut Vec<u8>, callee: &Routine, q: &Potential) -> Result<(), AllocError>
     ensures { OnOk result (out.new.items ≡ out.old.items ++ touched_words callee.now q.now) }
 {
-    out.extend_from_slice(b" ")?;
-    out.extend_from_slice(callee.name_text())?;
-    out.extend_from_slice(b" touches a counter that still pays behind the call:")?;
+    put_parts(
+        out,
+        &[
+            Part::Text(" "),
+            Part::Bytes(callee.name_text()),
+            Part::Text(" touches a counter that still pays behind the call:"),
+        ],
+    )?;
     put_all_paying(out, &q.coefficients)
 }
 
@@ -101,7 +118,7 @@ fn put_touched_here(out: &mut Vec<u8>, place: &Place) -> Result<(), AllocError>
     requires callee { place.now.i.now.imm < length place.now.image.now.routines }
     ensures { OnOk result (out.new.items ≡ out.old.items ++ touched_here (place_of place.now)) }
 {
-    match place.image.points().get(usize::from(place.pc + 1)) {
+    match point_at(place.image, place.pc + 1) {
         Some(next) => put_touched(out, place.image.routine(place.i.imm), &next.potential),
         None => Ok(()),
     }

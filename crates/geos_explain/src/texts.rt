@@ -1,16 +1,15 @@
 //! An author's text with what is known at each instruction.
 
 ghost use Rattle.std.specs.Prelude.{◌≡◌, ◌<◌, ◌≤◌, ◌++◌, true, OnOk, IfOk, length, slice_get};
-ghost use Rattle.geos_image.specs.Legal.{is_image};
-ghost use Rattle.geos_explain.specs.Led.{reached};
-ghost use Rattle.geos_explain.specs.Places.{HasRoutine};
+ghost use Rattle.geos_explain.specs.Places.{explained_of};
 ghost use Rattle.geos_explain.specs.Texts.{last_begun, noted_in, noted_of, noted_at, is_line_of, numbered, behind_line, line_text, next_pc, text_explanation};
 
+use crate::explained::Explained;
 use crate::explanation::put_noted;
-use crate::led::{Marks, is_reached, reached};
-use crate::numbers::put_numbered;
-use crate::place::Place;
-use geos_image::{Image, Routine};
+use crate::led::reached;
+use crate::parts::{Part, put_parts};
+use crate::place::{ExplainedRoutine, place_at};
+use geos_image::Image;
 use geos_text::first_line;
 use geos_verify::Reject;
 use std::alloc::{AllocError, Global};
@@ -29,35 +28,18 @@ fn last_begun(image: &Image, pc: u16) -> Option<u16>
     last
 }
 
-/// What is said of the instruction at a pc of a routine; the table has the line of each instruction.
+/// What is said of the instruction at a pc of a routine.
 fn put_noted_in(
     alloc: Global,
     out: &mut Vec<u8>,
-    image: &Image,
-    lines: &[usize],
-    marks: &Marks,
-    reject: Option<Reject>,
+    within: &ExplainedRoutine,
     pc: u16,
-    r: u16,
-    routine: &Routine,
 ) -> Result<(), AllocError>
-    requires routine { HasRoutine image.now r }
-    requires within { pc < length image.now.points }
-    requires reached { marks.now ≡ reached image.now }
-    ensures { OnOk result (out.new.items ≡ out.old.items ++ noted_in image.now lines.now reject pc r routine.now) }
+    requires { pc < length within.now.explained.now.image.now.points }
+    ensures { OnOk result (out.new.items ≡ out.old.items ++ noted_in (explained_of within.now.explained.now) pc within.now.r within.now.routine.now) }
 {
-    let place = Place {
-        image,
-        lines,
-        r,
-        routine,
-        pc,
-        i: image.instr(pc),
-        row: image.row(pc),
-        potential: image.potential(pc),
-        reached: is_reached(image, marks, pc),
-    };
-    put_noted(alloc, out, reject, &place)
+    let place = place_at(within, pc);
+    put_noted(alloc, out, within.explained.reject, &place)
 }
 
 /// The same of a routine's number.
@@ -65,21 +47,22 @@ fn put_noted_in(
 fn put_noted_of(
     alloc: Global,
     out: &mut Vec<u8>,
-    image: &Image,
-    lines: &[usize],
-    marks: &Marks,
-    reject: Option<Reject>,
+    explained: &Explained,
     pc: u16,
     r: u16,
 ) -> Result<(), AllocError>
-    requires within { pc < length image.now.points }
-    requires reached { marks.now ≡ reached image.now }
-    ensures { OnOk result (out.new.items ≡ out.old.items ++ noted_of image.now lines.now reject pc r) }
+    requires { pc < length explained.now.image.now.points }
+    ensures { OnOk result (out.new.items ≡ out.old.items ++ noted_of (explained_of explained.now) pc r) }
 {
-    if r < image.count() {
-        let routine = image.routine(r);
-        let _start = image.start(r);
-        put_noted_in(alloc, out, image, lines, marks, reject, pc, r, routine)
+    if r < explained.image.count() {
+        let routine = explained.image.routine(r);
+        let _start = explained.image.start(r);
+        let within = ExplainedRoutine {
+            explained,
+            r,
+            routine,
+        };
+        put_noted_in(alloc, out, &within, pc)
     } else {
         Ok(())
     }
@@ -90,18 +73,14 @@ fn put_noted_of(
 fn put_noted_at(
     alloc: Global,
     out: &mut Vec<u8>,
-    image: &Image,
-    lines: &[usize],
-    marks: &Marks,
-    reject: Option<Reject>,
+    explained: &Explained,
     pc: u16,
 ) -> Result<(), AllocError>
-    requires within { pc < length image.now.points }
-    requires reached { marks.now ≡ reached image.now }
-    ensures { OnOk result (out.new.items ≡ out.old.items ++ noted_at image.now lines.now reject pc) }
+    requires { pc < length explained.now.image.now.points }
+    ensures { OnOk result (out.new.items ≡ out.old.items ++ noted_at (explained_of explained.now) pc) }
 {
-    match last_begun(image, pc) {
-        Some(r) => put_noted_of(alloc, out, image, lines, marks, reject, pc, r),
+    match last_begun(explained.image, pc) {
+        Some(r) => put_noted_of(alloc, out, explained, pc, r),
         None => Ok(()),
     }
 }
@@ -117,32 +96,40 @@ fn is_line_of(lines: &[usize], pc: u16, number: usize) -> bool
     }
 }
 
+/// A line of an author's text.
+#[derive(Clone, Copy)]
+struct Line<'a> {
+    number: usize,
+    text: &'a [u8],
+}
+
 /// A line with its number.
 #[tactic(auto, unfolding(crate::specs::Texts::numbered))]
-fn put_numbered_line(out: &mut Vec<u8>, number: usize, line: &[u8]) -> Result<(), AllocError>
-    ensures { OnOk result (out.new.items ≡ out.old.items ++ numbered number line.now) }
+fn put_numbered_line(out: &mut Vec<u8>, line: &Line) -> Result<(), AllocError>
+    ensures { OnOk result (out.new.items ≡ out.old.items ++ numbered line.now.number line.now.text.now) }
 {
-    put_numbered(out, "", number as u64)?;
-    out.extend_from_slice(b"\t")?;
-    out.extend_from_slice(line)
+    put_parts(
+        out,
+        &[
+            Part::Number(line.number as u64),
+            Part::Text("\t"),
+            Part::Bytes(line.text),
+        ],
+    )
 }
 
 /// What stands behind a line: what is said of its instruction, or nothing.
 fn put_behind_line(
     alloc: Global,
     out: &mut Vec<u8>,
-    image: &Image,
-    lines: &[usize],
-    marks: &Marks,
-    reject: Option<Reject>,
+    explained: &Explained,
     pc: u16,
     number: usize,
 ) -> Result<(), AllocError>
-    requires { marks.now ≡ reached image.now }
-    ensures { OnOk result (out.new.items ≡ out.old.items ++ behind_line image.now lines.now reject pc number) }
+    ensures { OnOk result (out.new.items ≡ out.old.items ++ behind_line (explained_of explained.now) pc number) }
 {
-    if is_line_of(lines, pc, number) && pc < image.len() {
-        put_noted_at(alloc, out, image, lines, marks, reject, pc)
+    if is_line_of(explained.lines, pc, number) && pc < explained.image.len() {
+        put_noted_at(alloc, out, explained, pc)
     } else {
         out.extend_from_slice(b"\n")
     }
@@ -153,19 +140,14 @@ fn put_behind_line(
 fn put_line(
     alloc: Global,
     out: &mut Vec<u8>,
-    image: &Image,
-    lines: &[usize],
-    marks: &Marks,
-    reject: Option<Reject>,
+    explained: &Explained,
     pc: u16,
-    number: usize,
-    line: &[u8],
+    line: &Line,
 ) -> Result<(), AllocError>
-    requires { marks.now ≡ reached image.now }
-    ensures { OnOk result (out.new.items ≡ out.old.items ++ line_text image.now lines.now reject pc number line.now) }
+    ensures { OnOk result (out.new.items ≡ out.old.items ++ line_text (explained_of explained.now) pc line.now.number line.now.text.now) }
 {
-    put_numbered_line(out, number, line)?;
-    put_behind_line(alloc, out, image, lines, marks, reject, pc, number)
+    put_numbered_line(out, line)?;
+    put_behind_line(alloc, out, explained, pc, line.number)
 }
 
 /// The next instruction behind a line.
@@ -194,17 +176,21 @@ pub fn explain_text(
     ensures { IfOk result (λ explained. explained.items ≡ text_explanation text.now lines.now image.now reject) }
 {
     let marks = reached(image);
+    let explained = Explained {
+        image,
+        lines,
+        marks: &marks,
+        reject,
+    };
     let mut out = Vec::new(alloc);
     let mut rest = text;
     let mut number: usize = 0;
     let mut pc: u16 = 0;
     while !rest.is_empty() {
-        let (line, behind) = first_line(rest);
+        let (text, behind) = first_line(rest);
         rest = behind;
         number += 1;
-        put_line(
-            alloc, &mut out, image, lines, &marks, reject, pc, number, line,
-        )?;
+        put_line(alloc, &mut out, &explained, pc, &Line { number, text })?;
         pc = next_pc(lines, pc, number);
     }
     Ok(out)

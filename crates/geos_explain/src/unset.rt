@@ -2,11 +2,12 @@
 
 ghost use Rattle.std.specs.Prelude.{◌≡◌, ◌<◌, ◌++◌, OnOk, length};
 ghost use Rattle.geos_explain.specs.Places.{place_of};
-ghost use Rattle.geos_explain.specs.Unset.{takes, gives, pays_at, next_search, search_from, search_at, search_on, searched, unset_head, unset_text, found_text, unset_item, unset_items, over_words};
+ghost use Rattle.geos_explain.specs.Unset.{takes, gives, pays_at, next_search, search_from, search_at, search_on, searched, found_text, unset_item, unset_items, over_words};
 
 use crate::notes::put_budget;
-use crate::numbers::{put_about, put_pc};
+use crate::parts::{Part, put_parts};
 use crate::place::Place;
+use crate::points::point_at;
 use geos_image::{Image, Instr};
 use geos_opcodes::CounterUse;
 use geos_verify::{branches, falls_through};
@@ -49,7 +50,7 @@ fn pays_at(image: &Image, k: u8, pc: u16) -> bool
     requires { k < 4 }
     ensures { result ≡ pays_at image.now k pc }
 {
-    match image.points().get(usize::from(pc)) {
+    match point_at(image, pc) {
         Some(point) => point.potential.coefficients[usize::from(k)] != 0,
         None => false,
     }
@@ -91,7 +92,7 @@ fn search_at(image: &Image, k: u8, pc: u16) -> Search
     requires { k < 4 }
     ensures { result ≡ search_at image.now k pc }
 {
-    match image.points().get(usize::from(pc)) {
+    match point_at(image, pc) {
         Some(point) => search_from(image, k, pc, &point.instr),
         None => Search::Ended,
     }
@@ -121,29 +122,21 @@ fn searched(image: &Image, k: u8, pc: u16) -> Search
     search
 }
 
-/// The counter is not set.
-fn put_unset_head(out: &mut Vec<u8>, k: u8) -> Result<(), AllocError>
-    ensures { OnOk result (out.new.items ≡ out.old.items ++ unset_head k) }
-{
-    put_about(out, "; k", k, " is not set on the way to LOOP at")
-}
-
-/// The counter is not set on the way to an instruction that takes from it.
-#[tactic(auto, unfolding(crate::specs::Unset::unset_text))]
-fn put_unset_text(out: &mut Vec<u8>, lines: &[usize], k: u8, pc: u16) -> Result<(), AllocError>
-    ensures { OnOk result (out.new.items ≡ out.old.items ++ unset_text lines.now k pc) }
-{
-    put_unset_head(out, k)?;
-    put_pc(out, lines, pc)?;
-    out.extend_from_slice(b": set it first by SETK or SETKW")
-}
-
-/// The same where there is such an instruction.
+/// The counter is not set on the way to an instruction that takes from it, where there is such an instruction.
 fn put_found(out: &mut Vec<u8>, lines: &[usize], k: u8, search: Search) -> Result<(), AllocError>
     ensures { OnOk result (out.new.items ≡ out.old.items ++ found_text lines.now k search) }
 {
     match search {
-        Search::Found(pc) => put_unset_text(out, lines, k, pc),
+        Search::Found(pc) => put_parts(
+            out,
+            &[
+                Part::Text("; k"),
+                Part::Register(k),
+                Part::Text(" is not set on the way to LOOP at"),
+                Part::Pc(lines, pc),
+                Part::Text(": set it first by SETK or SETKW"),
+            ],
+        ),
         _ => Ok(()),
     }
 }

@@ -2,9 +2,10 @@
 
 ghost use Rattle.std.specs.Prelude.{◌≡◌, ◌<◌, ◌++◌, OnOk, map};
 ghost use Rattle.geos_verify.specs.Uses.{bytes_in, OffsetFits, PointerFits};
-ghost use Rattle.geos_explain.specs.Uses.{state_item, nowhere_only, leading_nowhere, nowhere_tail, nowhere_items, nowhere_words, wanted_count, wanted_bytes, known_there, short_words, is_any, index_unknown, index_most, index_known, index_wanted, known_bytes, index_words, reach_words, past_words, slot_behind, changed_slot, mark_word, mark_words, unmarked_slot, unmarked_words, held_words, kind_wish, slot_wish, unlocks_text, marks_text, serving, other_item, slot_words};
+ghost use Rattle.geos_explain.specs.Uses.{state_item, nowhere_only, leading_nowhere, nowhere_tail, nowhere_items, nowhere_words, short_words, is_any, index_known, index_wanted, known_bytes, index_words, reach_words, past_words, slot_behind, changed_slot, mark_word, unmarked_words, held_words, kind_wish, slot_wish, unlocks_text, marks_text, serving, other_item, slot_words};
 
-use crate::numbers::{is_one_item, put_about, put_bytes, put_numbered, verb};
+use crate::numbers::{bytes_word, is_one_item, verb};
+use crate::parts::{Part, put_parts};
 use geos_image::{Instr, Pointer, Row, SlotState};
 use geos_listing::{put_items, state_word};
 use geos_opcodes::{Kind, Offset, PointerUse, SlotUse, Width};
@@ -16,9 +17,15 @@ use std::alloc::{AllocError, Global};
 pub(crate) fn put_state(out: &mut Vec<u8>, a: u8, row: &Row) -> Result<(), AllocError>
     ensures { OnOk result (out.new.items ≡ out.old.items ++ state_item a row.now) }
 {
-    put_numbered(out, " s", u64::from(a))?;
-    out.extend_from_slice(b"=")?;
-    out.extend_from_slice(state_word(slot_state(row, a)).as_bytes())
+    put_parts(
+        out,
+        &[
+            Part::Text(" s"),
+            Part::Register(a),
+            Part::Text("="),
+            Part::Text(state_word(slot_state(row, a))),
+        ],
+    )
 }
 
 /// The pointer, where it leads into an empty slot.
@@ -64,8 +71,8 @@ fn nowhere_tail(one: bool) -> &'static str
 fn put_nowhere_items(out: &mut Vec<u8>, items: &[u8]) -> Result<(), AllocError>
     ensures { OnOk result (out.new.items ≡ out.old.items ++ nowhere_items items.now) }
 {
-    out.extend_from_slice(items)?;
-    out.extend_from_slice(nowhere_tail(is_one_item(items)).as_bytes())
+    let tail = nowhere_tail(is_one_item(items));
+    put_parts(out, &[Part::Bytes(items), Part::Text(tail)])
 }
 
 /// The pointers of the row that lead into empty slots do so.
@@ -78,42 +85,27 @@ pub(crate) fn put_nowhere(alloc: Global, out: &mut Vec<u8>, row: &Row) -> Result
     put_nowhere_items(out, &items)
 }
 
-/// So many bytes are wanted.
-#[tactic(auto, unfolding(crate::specs::Uses::wanted_count))]
-fn put_wanted_count(out: &mut Vec<u8>, wanted: u64) -> Result<(), AllocError>
-    ensures { OnOk result (out.new.items ≡ out.old.items ++ wanted_count wanted) }
-{
-    put_bytes(out, " ", wanted)?;
-    out.extend_from_slice(verb(wanted == 1).as_bytes())?;
-    out.extend_from_slice(b" wanted")
-}
-
-/// So many bytes are wanted behind a pointer.
-#[tactic(auto, unfolding(crate::specs::Uses::wanted_bytes))]
-fn put_wanted(out: &mut Vec<u8>, p: u8, wanted: u32) -> Result<(), AllocError>
-    ensures { OnOk result (out.new.items ≡ out.old.items ++ wanted_bytes p wanted) }
-{
-    put_wanted_count(out, u64::from(wanted))?;
-    put_numbered(out, " behind p", u64::from(p))
-}
-
-/// So many are known there.
-#[tactic(auto, unfolding(crate::specs::Uses::known_there))]
-fn put_known_there(out: &mut Vec<u8>, n: u64) -> Result<(), AllocError>
-    ensures { OnOk result (out.new.items ≡ out.old.items ++ known_there n) }
-{
-    put_numbered(out, ", and ", n)?;
-    out.extend_from_slice(verb(n == 1).as_bytes())?;
-    out.extend_from_slice(b" known there")
-}
-
-/// So many bytes are wanted, and how many there are.
+/// So many bytes are wanted behind a pointer, and how many are known there.
 #[tactic(auto, unfolding(crate::specs::Uses::short_words))]
 fn put_short(out: &mut Vec<u8>, p: u8, wanted: u32, row: &Row) -> Result<(), AllocError>
     ensures { OnOk result (out.new.items ≡ out.old.items ++ short_words p wanted row.now) }
 {
-    put_wanted(out, p, wanted)?;
-    put_known_there(out, u64::from(least_at(row, p)))
+    let least = least_at(row, p);
+    put_parts(
+        out,
+        &[
+            Part::Text(" "),
+            Part::Number(u64::from(wanted)),
+            Part::Text(bytes_word(wanted == 1)),
+            Part::Text(verb(wanted == 1)),
+            Part::Text(" wanted behind p"),
+            Part::Register(p),
+            Part::Text(", and "),
+            Part::Number(u64::from(least)),
+            Part::Text(verb(least == 1)),
+            Part::Text(" known there"),
+        ],
+    )
 }
 
 /// How many bytes a read or a write is wide.
@@ -133,32 +125,38 @@ fn is_any(most: u16) -> bool
     most == u16::MAX
 }
 
-/// Nothing is known of the word that is the index.
-fn put_index_unknown(out: &mut Vec<u8>, w: u8) -> Result<(), AllocError>
-    ensures { OnOk result (out.new.items ≡ out.old.items ++ index_unknown w) }
-{
-    put_about(out, " nothing is known of w", w, ", the index")
-}
-
-/// How high the word is at most.
-#[tactic(auto, unfolding(crate::specs::Uses::index_most))]
-fn put_index_most(out: &mut Vec<u8>, w: u8, most: u16) -> Result<(), AllocError>
-    ensures { OnOk result (out.new.items ≡ out.old.items ++ index_most w most) }
-{
-    put_numbered(out, " w", u64::from(w))?;
-    put_numbered(out, "<=", u64::from(most))?;
-    out.extend_from_slice(b" is known of the index")
+/// The word that is the index of a read or a write, and how high it is at most.
+#[derive(Clone, Copy)]
+pub(crate) struct Index {
+    pub w: u8,
+    pub most: u16,
 }
 
 /// What is known of the word that is the index.
-fn put_index_known(out: &mut Vec<u8>, w: u8, most: u16) -> Result<(), AllocError>
-    ensures { OnOk result (out.new.items ≡ out.old.items ++ index_known w most) }
+#[tactic(auto, unfolding(crate::specs::Uses::index_known))]
+fn put_index_known(out: &mut Vec<u8>, index: Index) -> Result<(), AllocError>
+    ensures { OnOk result (out.new.items ≡ out.old.items ++ index_known index.w index.most) }
 {
-    if is_any(most) {
-        put_index_unknown(out, w)
-    } else {
-        put_index_most(out, w, most)
+    if is_any(index.most) {
+        return put_parts(
+            out,
+            &[
+                Part::Text(" nothing is known of w"),
+                Part::Register(index.w),
+                Part::Text(", the index"),
+            ],
+        );
     }
+    put_parts(
+        out,
+        &[
+            Part::Text(" w"),
+            Part::Register(index.w),
+            Part::Text("<="),
+            Part::Number(u64::from(index.most)),
+            Part::Text(" is known of the index"),
+        ],
+    )
 }
 
 /// What must be known of it for a read or a write so wide; nothing serves where fewer bytes are there.
@@ -167,36 +165,51 @@ fn put_index_wanted(out: &mut Vec<u8>, w: u8, wide: u16, least: u16) -> Result<(
     ensures { OnOk result (out.new.items ≡ out.old.items ++ index_wanted w wide least) }
 {
     if wide <= least {
-        put_numbered(out, ", and w", u64::from(w))?;
-        put_numbered(out, "<=", u64::from(least - wide))?;
-        out.extend_from_slice(b" is wanted")
+        put_parts(
+            out,
+            &[
+                Part::Text(", and w"),
+                Part::Register(w),
+                Part::Text("<="),
+                Part::Number(u64::from(least - wide)),
+                Part::Text(" is wanted"),
+            ],
+        )
     } else {
         out.extend_from_slice(b", and none is low enough")
     }
 }
 
 /// How many bytes are known behind a pointer.
+#[tactic(auto, unfolding(crate::specs::Uses::known_bytes))]
 fn put_known_bytes(out: &mut Vec<u8>, p: u8, least: u16) -> Result<(), AllocError>
     ensures { OnOk result (out.new.items ≡ out.old.items ++ known_bytes p least) }
 {
-    put_numbered(out, ": p", u64::from(p))?;
-    put_bytes(out, " is known to have ", u64::from(least))
+    put_parts(
+        out,
+        &[
+            Part::Text(": p"),
+            Part::Register(p),
+            Part::Text(" is known to have "),
+            Part::Number(u64::from(least)),
+            Part::Text(bytes_word(least == 1)),
+        ],
+    )
 }
 
 /// An index may be too high for the bytes behind its pointer.
 #[tactic(auto, unfolding(crate::specs::Uses::index_words))]
 fn put_index_words(
     out: &mut Vec<u8>,
-    w: u8,
-    most: u16,
+    index: Index,
     wide: u16,
     p: u8,
     least: u16,
 ) -> Result<(), AllocError>
-    ensures { OnOk result (out.new.items ≡ out.old.items ++ index_words w most wide p least) }
+    ensures { OnOk result (out.new.items ≡ out.old.items ++ index_words index.w index.most wide p least) }
 {
-    put_index_known(out, w, most)?;
-    put_index_wanted(out, w, wide, least)?;
+    put_index_known(out, index)?;
+    put_index_wanted(out, index.w, wide, least)?;
     put_known_bytes(out, p, least)
 }
 
@@ -214,7 +227,8 @@ fn put_reach(
     match offset {
         Offset::Indexed => {
             let most = row.bounds[usize::from(i.c)];
-            put_index_words(out, i.c, most, bytes_in(width), i.b, least_at(row, i.b))
+            let index = Index { w: i.c, most };
+            put_index_words(out, index, bytes_in(width), i.b, least_at(row, i.b))
         }
         _ => put_short(out, i.b, reach(i, width, offset, row), row),
     }
@@ -273,28 +287,7 @@ fn mark_word(state: SlotState) -> &'static str
     }
 }
 
-/// That instruction marks it.
-#[tactic(auto, unfolding(crate::specs::Uses::mark_words))]
-fn put_mark(out: &mut Vec<u8>, a: u8, state: SlotState) -> Result<(), AllocError>
-    ensures { OnOk result (out.new.items ≡ out.old.items ++ mark_words a state) }
-{
-    out.extend_from_slice(b": ")?;
-    out.extend_from_slice(mark_word(state).as_bytes())?;
-    put_numbered(out, " s", u64::from(a))?;
-    out.extend_from_slice(b" marks it")
-}
-
-/// The block of the slot is changed, and may not be marked.
-#[tactic(auto, unfolding(crate::specs::Uses::unmarked_slot))]
-fn put_unmarked_slot(out: &mut Vec<u8>, a: u8, row: &Row) -> Result<(), AllocError>
-    ensures { OnOk result (out.new.items ≡ out.old.items ++ unmarked_slot a row.now) }
-{
-    put_state(out, a, row)?;
-    out.extend_from_slice(b" is changed here, and may not be marked yet")?;
-    put_mark(out, a, slot_state(row, a))
-}
-
-/// A block is changed that may not be marked.
+/// A block is changed that may not be marked, and what marks it.
 #[tactic(auto, unfolding(crate::specs::Uses::unmarked_words))]
 pub(crate) fn put_unmarked(
     out: &mut Vec<u8>,
@@ -304,7 +297,22 @@ pub(crate) fn put_unmarked(
 ) -> Result<(), AllocError>
     ensures { OnOk result (out.new.items ≡ out.old.items ++ unmarked_words i.now pointer row.now) }
 {
-    put_unmarked_slot(out, changed_slot(i, pointer, row), row)
+    let a = changed_slot(i, pointer, row);
+    let state = slot_state(row, a);
+    put_parts(
+        out,
+        &[
+            Part::Text(" s"),
+            Part::Register(a),
+            Part::Text("="),
+            Part::Text(state_word(state)),
+            Part::Text(" is changed here, and may not be marked yet: "),
+            Part::Text(mark_word(state)),
+            Part::Text(" s"),
+            Part::Register(a),
+            Part::Text(" marks it"),
+        ],
+    )
 }
 
 /// A block is locked into a slot that is held.
@@ -397,6 +405,7 @@ pub(crate) fn put_slot(
 {
     put_state(out, i.a, row)?;
     put_other(out, i, slot, row)?;
-    out.extend_from_slice(slot_wish(slot).as_bytes())?;
-    out.extend_from_slice(serving(slot, slot_state(row, i.a)).as_bytes())
+    let wish = slot_wish(slot);
+    let serving = serving(slot, slot_state(row, i.a));
+    put_parts(out, &[Part::Text(wish), Part::Text(serving)])
 }

@@ -6,19 +6,44 @@ ghost use Rattle.geos_explain.specs.Places.{IsPlace, place_of};
 ghost use Rattle.geos_explain.specs.Ways.{is_as, leads_along, leads_branching, way_of, way_at, or_way, first_way, entry_way, way_to, behind, brought, meets, or_meeting, hint_of, with_hint, goes_stale, makes_stale, behind_point, sets, forgets, has_edge, loses, loses_at, back_by, back_along, without_way, back_from, step_back, traced};
 
 use crate::place::Place;
+use crate::points::point_at;
 use geos_image::{Image, Instr, Opcode, Point, Pointer, Row};
 use geos_opcodes::PointerUse;
 use geos_verify::{after, branches, falls_through, pointer_at, uses_at};
+
+/// An edge of the instruction at a pc: to its target, or on to the next instruction.
+#[derive(Clone, Copy)]
+pub(crate) struct Edge {
+    pub from: u16,
+    pub branch: bool,
+}
 
 /// A way to an instruction.
 #[derive(Clone, Copy)]
 pub(crate) enum Way {
     /// From the routine's caller.
     Entry,
-    /// From the instruction at a pc, on to the next.
-    Along(u16),
-    /// From the instruction at a pc, to its target.
-    Branch(u16),
+    /// From an instruction.
+    Along(Edge),
+}
+
+/// Which ways are looked for.
+#[derive(Clone, Copy)]
+pub(crate) struct Sought {
+    /// The pointer.
+    pub p: u8,
+    /// Where they lead.
+    pub to: u16,
+    /// Whether they bring it.
+    pub known: bool,
+}
+
+/// A pointer that is followed back.
+#[derive(Clone, Copy)]
+pub(crate) struct Followed {
+    pub p: u8,
+    /// What is known of it on a way that brings it.
+    pub hint: Option<Pointer>,
 }
 
 /// Ways meet, of which one brings a pointer and another does not.
@@ -37,8 +62,8 @@ pub(crate) struct Meeting {
 /// Where a way back ends.
 #[derive(Clone, Copy)]
 pub(crate) enum End {
-    /// At an instruction that loses the pointer on this way.
-    Lost(Way),
+    /// At an instruction that loses the pointer on this edge.
+    Lost(Edge),
     /// At the beginning of the routine, whose entry row does not know it.
     Unset,
     /// Where no way leads.
@@ -74,36 +99,45 @@ fn is_as(known: bool, pointer: Option<Pointer>) -> bool
     }
 }
 
-/// Whether the instruction stands in front of another and goes on to it, and the pointer is known behind it, or is not, as is
-/// asked. Few instructions pass the test of the numbers, so it comes before the look into the table of opcodes.
-fn leads_along(image: &Image, p: u8, to: u16, known: bool, from: u16, point: &Point) -> bool
+/// Whether the instruction stands in front of the place that is sought and goes on to it, and brings the pointer there, or does
+/// not, as is asked. Few instructions pass the test of the numbers, so it comes before the look into the table of opcodes.
+fn leads_along(image: &Image, sought: Sought, from: u16, point: &Point) -> bool
     requires { slice_get image.now.points from ≡ Some point.now }
-    ensures { result ≡ leads_along image.now p to known from point.now }
+    ensures { result ≡ leads_along image.now sought from point.now }
 {
-    u32::from(from) + 1 == u32::from(to)
+    u32::from(from) + 1 == u32::from(sought.to)
         && falls_through(point.instr.opcode)
-        && is_as(known, pointer_at(&after(image, from, &point.row, false), p))
+        && is_as(
+            sought.known,
+            pointer_at(&after(image, from, &point.row, false), sought.p),
+        )
 }
 
 /// The same of its way to its target.
-fn leads_branching(image: &Image, p: u8, to: u16, known: bool, from: u16, point: &Point) -> bool
+fn leads_branching(image: &Image, sought: Sought, from: u16, point: &Point) -> bool
     requires { slice_get image.now.points from ≡ Some point.now }
-    ensures { result ≡ leads_branching image.now p to known from point.now }
+    ensures { result ≡ leads_branching image.now sought from point.now }
 {
-    point.instr.target == to
+    point.instr.target == sought.to
         && branches(point.instr.opcode)
-        && is_as(known, pointer_at(&after(image, from, &point.row, true), p))
+        && is_as(
+            sought.known,
+            pointer_at(&after(image, from, &point.row, true), sought.p),
+        )
 }
 
-/// The first way of the instruction to another on which the pointer is known, or is not, as is asked.
-fn way_of(image: &Image, p: u8, to: u16, known: bool, from: u16, point: &Point) -> Option<Way>
+/// The first way of the instruction that is sought.
+fn way_of(image: &Image, sought: Sought, from: u16, point: &Point) -> Option<Way>
     requires { slice_get image.now.points from ≡ Some point.now }
-    ensures { result ≡ way_of image.now p to known from point.now }
+    ensures { result ≡ way_of image.now sought from point.now }
 {
-    if leads_along(image, p, to, known, from, point) {
-        Some(Way::Along(from))
-    } else if leads_branching(image, p, to, known, from, point) {
-        Some(Way::Branch(from))
+    if leads_along(image, sought, from, point) {
+        Some(Way::Along(Edge {
+            from,
+            branch: false,
+        }))
+    } else if leads_branching(image, sought, from, point) {
+        Some(Way::Along(Edge { from, branch: true }))
     } else {
         None
     }
@@ -111,11 +145,11 @@ fn way_of(image: &Image, p: u8, to: u16, known: bool, from: u16, point: &Point) 
 
 /// The same, if there is an instruction.
 #[tactic(auto, unfolding(crate::specs::Ways::way_at))]
-fn way_at(image: &Image, p: u8, to: u16, known: bool, from: u16) -> Option<Way>
-    ensures { result ≡ way_at image.now p to known from }
+fn way_at(image: &Image, sought: Sought, from: u16) -> Option<Way>
+    ensures { result ≡ way_at image.now sought from }
 {
-    match image.points().get(usize::from(from)) {
-        Some(point) => way_of(image, p, to, known, from, point),
+    match point_at(image, from) {
+        Some(point) => way_of(image, sought, from, point),
         None => None,
     }
 }
@@ -130,59 +164,61 @@ fn or_way(way: Option<Way>, other: Option<Way>) -> Option<Way>
     }
 }
 
-/// Of all instructions, the first way to a pc on which the pointer is known, or is not, as is asked.
+/// Of all instructions, the first way that is sought.
 #[tactic(auto, unfolding(crate::specs::Ways::first_way))]
-fn first_way(image: &Image, p: u8, to: u16, known: bool) -> Option<Way>
-    ensures { result ≡ first_way image.now p to known (length image.now.points) }
+fn first_way(image: &Image, sought: Sought) -> Option<Way>
+    ensures { result ≡ first_way image.now sought (length image.now.points) }
 {
     let mut first = None;
     for from in 0..image.len() {
-        first = or_way(first, way_at(image, p, to, known, from));
+        first = or_way(first, way_at(image, sought, from));
     }
     first
 }
 
 /// The way from the caller, where the pc is the routine's first, and the entry row knows the pointer, or does not.
-fn entry_way(place: &Place, p: u8, to: u16, known: bool) -> Option<Way>
+fn entry_way(place: &Place, sought: Sought) -> Option<Way>
     requires { IsPlace (place_of place.now) }
-    ensures { result ≡ entry_way (place_of place.now) p to known }
+    ensures { result ≡ entry_way (place_of place.now) sought }
 {
-    if to == place.image.start(place.r) && is_as(known, pointer_at(&place.routine.entry, p)) {
+    if sought.to == place.image.start(place.r)
+        && is_as(sought.known, pointer_at(&place.routine.entry, sought.p))
+    {
         Some(Way::Entry)
     } else {
         None
     }
 }
 
-/// The first way to a pc on which the pointer is known, or is not, as is asked.
+/// The first way that is sought.
 #[tactic(auto, unfolding(crate::specs::Ways::way_to))]
-fn way_to(place: &Place, p: u8, to: u16, known: bool) -> Option<Way>
+fn way_to(place: &Place, sought: Sought) -> Option<Way>
     requires { IsPlace (place_of place.now) }
-    ensures { result ≡ way_to (place_of place.now) p to known }
+    ensures { result ≡ way_to (place_of place.now) sought }
 {
-    let entry = entry_way(place, p, to, known);
-    or_way(entry, first_way(place.image, p, to, known))
+    let entry = entry_way(place, sought);
+    or_way(entry, first_way(place.image, sought))
 }
 
-/// What is known of the pointer behind an instruction.
-fn behind_point(image: &Image, p: u8, from: u16, branch: bool, point: &Point) -> Option<Pointer>
-    requires { slice_get image.now.points from ≡ Some point.now }
-    ensures { result ≡ behind_point image.now p from branch point.now }
+/// What is known of the pointer behind an instruction, on an edge that it has.
+fn behind_point(image: &Image, p: u8, edge: Edge, point: &Point) -> Option<Pointer>
+    requires { slice_get image.now.points edge.from ≡ Some point.now }
+    ensures { result ≡ behind_point image.now p edge point.now }
 {
-    if has_edge(&point.instr, branch) {
-        pointer_at(&after(image, from, &point.row, branch), p)
+    if has_edge(&point.instr, edge.branch) {
+        pointer_at(&after(image, edge.from, &point.row, edge.branch), p)
     } else {
         None
     }
 }
 
-/// What is known of the pointer behind the instruction at a pc, on an edge that it has.
+/// The same, if there is an instruction.
 #[tactic(auto, unfolding(crate::specs::Ways::behind))]
-fn behind(image: &Image, p: u8, from: u16, branch: bool) -> Option<Pointer>
-    ensures { result ≡ behind image.now p from branch }
+fn behind(image: &Image, p: u8, edge: Edge) -> Option<Pointer>
+    ensures { result ≡ behind image.now p edge }
 {
-    match image.points().get(usize::from(from)) {
-        Some(point) => behind_point(image, p, from, branch, point),
+    match point_at(image, edge.from) {
+        Some(point) => behind_point(image, p, edge, point),
         None => None,
     }
 }
@@ -193,8 +229,7 @@ fn brought(place: &Place, p: u8, way: Way) -> Option<Pointer>
 {
     match way {
         Way::Entry => pointer_at(&place.routine.entry, p),
-        Way::Along(from) => behind(place.image, p, from, false),
-        Way::Branch(from) => behind(place.image, p, from, true),
+        Way::Along(edge) => behind(place.image, p, edge),
     }
 }
 
@@ -203,7 +238,7 @@ fn meets(place: &Place, p: u8, to: u16, lost: Way) -> Option<Meeting>
     requires { IsPlace (place_of place.now) }
     ensures { result ≡ meets (place_of place.now) p to lost }
 {
-    match way_to(place, p, to, true) {
+    match way_to(place, Sought { p, to, known: true }) {
         Some(known) => Some(Meeting {
             to,
             known,
@@ -235,12 +270,12 @@ pub(crate) fn hint_of(meeting: Option<Meeting>) -> Option<Pointer>
 }
 
 /// The row; where it knows nothing of the pointer, with what is known of it on another way.
-pub(crate) fn with_hint(row: &Row, p: u8, hint: Option<Pointer>) -> Row
-    ensures { result ≡ with_hint row.now p hint }
+pub(crate) fn with_hint(row: &Row, followed: Followed) -> Row
+    ensures { result ≡ with_hint row.now followed }
 {
     let mut hinted = *row;
-    if p < 4 && is_stale(pointer_at(row, p)) {
-        hinted.pointers[usize::from(p)] = hint;
+    if followed.p < 4 && is_stale(pointer_at(row, followed.p)) {
+        hinted.pointers[usize::from(followed.p)] = followed.hint;
     }
     hinted
 }
@@ -284,70 +319,57 @@ fn has_edge(i: &Instr, branch: bool) -> bool
 }
 
 /// Whether the instruction makes the pointer stale on this edge.
-fn makes_stale(image: &Image, p: u8, from: u16, branch: bool, i: &Instr, row: &Row) -> bool
-    requires here { IfSome (slice_get image.now.points from) (λ point. i.now ≡ point.instr) }
-    requires there { from < length image.now.points }
-    ensures { result ≡ makes_stale image.now p from branch i.now row.now }
+fn makes_stale(image: &Image, p: u8, edge: Edge, i: &Instr, row: &Row) -> bool
+    requires here { IfSome (slice_get image.now.points edge.from) (λ point. i.now ≡ point.instr) }
+    requires there { edge.from < length image.now.points }
+    ensures { result ≡ makes_stale image.now p edge i.now row.now }
 {
-    has_edge(i, branch) && goes_stale(p, row, &after(image, from, row, branch))
+    has_edge(i, edge.branch) && goes_stale(p, row, &after(image, edge.from, row, edge.branch))
 }
 
 /// Whether the instruction loses the pointer on this edge: it is a call, or was to set it and was refused, or makes it
 /// stale.
-fn loses(
-    image: &Image,
-    p: u8,
-    hint: Option<Pointer>,
-    from: u16,
-    branch: bool,
-    point: &Point,
-) -> bool
-    requires { slice_get image.now.points from ≡ Some point.now }
-    ensures { result ≡ loses image.now p hint from branch point.now }
+fn loses(image: &Image, followed: Followed, edge: Edge, point: &Point) -> bool
+    requires { slice_get image.now.points edge.from ≡ Some point.now }
+    ensures { result ≡ loses image.now followed edge point.now }
 {
     let i = &point.instr;
     forgets(i.opcode)
-        || (branch && sets(i, i.opcode.uses().pointer, p))
-        || makes_stale(image, p, from, branch, i, &with_hint(&point.row, p, hint))
+        || (edge.branch && sets(i, i.opcode.uses().pointer, followed.p))
+        || makes_stale(image, followed.p, edge, i, &with_hint(&point.row, followed))
 }
 
-/// The same of the instruction at a pc.
+/// The same, if there is an instruction.
 #[tactic(auto, unfolding(crate::specs::Ways::loses_at))]
-fn loses_at(image: &Image, p: u8, hint: Option<Pointer>, from: u16, branch: bool) -> bool
-    ensures { result ≡ loses_at image.now p hint from branch }
+fn loses_at(image: &Image, followed: Followed, edge: Edge) -> bool
+    ensures { result ≡ loses_at image.now followed edge }
 {
-    match image.points().get(usize::from(from)) {
-        Some(point) => loses(image, p, hint, from, branch, point),
+    match point_at(image, edge.from) {
+        Some(point) => loses(image, followed, edge, point),
         None => false,
     }
 }
 
 /// Going back along an edge: the pointer was lost there, or the way goes on back.
-fn back_by(
-    image: &Image,
-    p: u8,
-    meeting: Option<Meeting>,
-    from: u16,
-    branch: bool,
-    way: Way,
-) -> Trace
-    ensures { result ≡ back_by image.now p meeting from branch way }
+fn back_by(image: &Image, p: u8, meeting: Option<Meeting>, edge: Edge) -> Trace
+    ensures { result ≡ back_by image.now p meeting edge }
 {
-    let end = if loses_at(image, p, hint_of(meeting), from, branch) {
-        Some(End::Lost(way))
+    let hint = hint_of(meeting);
+    let end = if loses_at(image, Followed { p, hint }, edge) {
+        Some(End::Lost(edge))
     } else {
         None
     };
     Trace {
-        at: from,
+        at: edge.from,
         meeting,
         end,
     }
 }
 
-/// Going back along a way.
-fn back_along(place: &Place, p: u8, to: u16, meeting: Option<Meeting>, way: Way) -> Trace
-    ensures { result ≡ back_along (place_of place.now) p to meeting way }
+/// Going back along a way to a pc.
+fn back_along(image: &Image, p: u8, to: u16, meeting: Option<Meeting>, way: Way) -> Trace
+    ensures { result ≡ back_along image.now p to meeting way }
 {
     match way {
         Way::Entry => Trace {
@@ -355,8 +377,7 @@ fn back_along(place: &Place, p: u8, to: u16, meeting: Option<Meeting>, way: Way)
             meeting,
             end: Some(End::Unset),
         },
-        Way::Along(from) => back_by(place.image, p, meeting, from, false, way),
-        Way::Branch(from) => back_by(place.image, p, meeting, from, true, way),
+        Way::Along(edge) => back_by(image, p, meeting, edge),
     }
 }
 
@@ -376,15 +397,22 @@ fn back_from(place: &Place, p: u8, to: u16, met: Option<Meeting>) -> Trace
     requires { IsPlace (place_of place.now) }
     ensures { result ≡ back_from (place_of place.now) p to met }
 {
-    match way_to(place, p, to, false) {
+    match way_to(
+        place,
+        Sought {
+            p,
+            to,
+            known: false,
+        },
+    ) {
         Some(way) => {
             let met = or_meeting(met, meets(place, p, to, way));
-            back_along(place, p, to, met, way)
+            back_along(place.image, p, to, met, way)
         }
         None => Trace {
             at: to,
             meeting: met,
-            end: Some(without_way(way_to(place, p, to, true))),
+            end: Some(without_way(way_to(place, Sought { p, to, known: true }))),
         },
     }
 }

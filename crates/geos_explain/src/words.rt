@@ -3,12 +3,14 @@
 ghost use Rattle.std.specs.Prelude.{◌≡◌, ◌<◌, ◌≤◌, ◌+◌, ◌++◌, ◌&&◌, OnOk};
 ghost use Rattle.geos_image.specs.Fields.{FieldsFit};
 ghost use Rattle.geos_explain.specs.Places.{IsPlace, place_of};
-ghost use Rattle.geos_explain.specs.Words.{leaves_words, not_from_entry, entry_words, past_here, unmarked_here, slot_here, callee_wants, wanted_by, callee_words, call_words, call_here, wanted_at, wanted_along, wanted_branching, wanted_there, wanted_words, edge_words, words, refusal_head, refusal_line};
+ghost use Rattle.geos_explain.specs.Words.{leaves_words, not_from_entry, entry_words, past_here, unmarked_here, slot_here, wanted_by, callee_words, call_words, call_here, wanted_at, wanted_along, wanted_branching, wanted_words, edge_words, words, refusal_head, refusal_line};
 
 use crate::held::put_exit;
 use crate::lacks::put_lacking;
-use crate::numbers::{put_label, put_pc, put_these_are};
+use crate::numbers::is_or_are;
+use crate::parts::{Part, put_parts};
 use crate::place::Place;
+use crate::points::point_at;
 use crate::stale::put_stale;
 use crate::steps::put_unpaid;
 use crate::unset::put_over;
@@ -29,8 +31,13 @@ fn put_leaves(out: &mut Vec<u8>, place: &Place) -> Result<(), AllocError>
     if falls_through(place.i.opcode) && !has_place(start, place.routine, next) {
         out.extend_from_slice(b" control goes on past the end of the routine")
     } else {
-        put_label(out, place.lines, place.i.target)?;
-        out.extend_from_slice(b" stands outside of the routine")
+        put_parts(
+            out,
+            &[
+                Part::Label(place.lines, place.i.target),
+                Part::Text(" stands outside of the routine"),
+            ],
+        )
     }
 }
 
@@ -39,8 +46,14 @@ fn put_leaves(out: &mut Vec<u8>, place: &Place) -> Result<(), AllocError>
 fn put_not_from_entry(out: &mut Vec<u8>, items: &[u8]) -> Result<(), AllocError>
     ensures { OnOk result (out.new.items ≡ out.old.items ++ not_from_entry items.now) }
 {
-    put_these_are(out, items)?;
-    out.extend_from_slice(b" wanted here, and not known from the entry row")
+    put_parts(
+        out,
+        &[
+            Part::Bytes(items),
+            Part::Text(is_or_are(items)),
+            Part::Text(" wanted here, and not known from the entry row"),
+        ],
+    )
 }
 
 /// The row wants more than the routine's entry row says, or the routine is public and wants or
@@ -91,45 +104,49 @@ fn put_slot_here(out: &mut Vec<u8>, i: &Instr, row: &Row) -> Result<(), AllocErr
     put_slot(out, i, uses_at(i).slot, row)
 }
 
-/// The routine that is called wants them.
-#[tactic(auto, unfolding(crate::specs::Words::callee_wants))]
-fn put_callee_wants(out: &mut Vec<u8>, callee: &Routine) -> Result<(), AllocError>
-    ensures { OnOk result (out.new.items ≡ out.old.items ++ callee_wants callee.now) }
-{
-    out.extend_from_slice(b" wanted by ")?;
-    out.extend_from_slice(callee.name_text())?;
-    out.extend_from_slice(b", and not known here")
-}
-
 /// These items are wanted by the routine that is called.
 #[tactic(auto, unfolding(crate::specs::Words::wanted_by))]
-fn put_wanted_by(out: &mut Vec<u8>, items: &[u8], callee: &Routine) -> Result<(), AllocError>
+fn put_wanted_by<'a>(
+    out: &mut Vec<u8>,
+    items: &'a [u8],
+    callee: &'a Routine,
+) -> Result<(), AllocError>
     ensures { OnOk result (out.new.items ≡ out.old.items ++ wanted_by items.now callee.now) }
 {
-    put_these_are(out, items)?;
-    put_callee_wants(out, callee)
+    put_parts(
+        out,
+        &[
+            Part::Bytes(items),
+            Part::Text(is_or_are(items)),
+            Part::Text(" wanted by "),
+            Part::Bytes(callee.name_text()),
+            Part::Text(", and not known here"),
+        ],
+    )
 }
 
-/// The routine that is called, which is n, does not stand before routine r, or its entry row wants
-/// more than the row says.
+/// The routine that is called does not stand before that of the place, or its entry row wants more than the row says.
 fn put_callee(
     alloc: Global,
     out: &mut Vec<u8>,
-    r: u16,
-    n: u16,
-    row: &Row,
+    place: &Place,
     callee: &Routine,
 ) -> Result<(), AllocError>
-    ensures { OnOk result (out.new.items ≡ out.old.items ++ callee_words r n row.now callee.now) }
+    ensures { OnOk result (out.new.items ≡ out.old.items ++ callee_words (place_of place.now) callee.now) }
 {
-    if n < r {
+    if place.i.imm < place.r {
         let mut items = Vec::new(alloc);
-        put_lacking(&mut items, row, &callee.entry)?;
+        put_lacking(&mut items, place.row, &callee.entry)?;
         put_wanted_by(out, &items, callee)
     } else {
-        out.extend_from_slice(b" ")?;
-        out.extend_from_slice(callee.name_text())?;
-        out.extend_from_slice(b" does not stand before this routine")
+        put_parts(
+            out,
+            &[
+                Part::Text(" "),
+                Part::Bytes(callee.name_text()),
+                Part::Text(" does not stand before this routine"),
+            ],
+        )
     }
 }
 
@@ -139,9 +156,8 @@ fn put_call(alloc: Global, out: &mut Vec<u8>, place: &Place) -> Result<(), Alloc
     requires { IsPlace (place_of place.now) }
     ensures { OnOk result (out.new.items ≡ out.old.items ++ call_here (place_of place.now)) }
 {
-    let n = place.i.imm;
     match place.i.opcode {
-        Opcode::Call => put_callee(alloc, out, place.r, n, place.row, place.image.routine(n)),
+        Opcode::Call => put_callee(alloc, out, place, place.image.routine(place.i.imm)),
         _ => Ok(()),
     }
 }
@@ -151,7 +167,7 @@ fn put_call(alloc: Global, out: &mut Vec<u8>, place: &Place) -> Result<(), Alloc
 fn put_wanted_at(out: &mut Vec<u8>, image: &Image, to: u16, row: &Row) -> Result<(), AllocError>
     ensures { OnOk result (out.new.items ≡ out.old.items ++ wanted_at image.now to row.now) }
 {
-    match image.points().get(usize::from(to)) {
+    match point_at(image, to) {
         Some(next) => put_lacking(out, row, &next.row),
         None => Ok(()),
     }
@@ -183,23 +199,26 @@ fn put_wanted_branching(out: &mut Vec<u8>, place: &Place) -> Result<(), AllocErr
     put_wanted_at(out, place.image, place.i.target, &next)
 }
 
-/// The instruction at a pc wants them.
-#[tactic(auto, unfolding(crate::specs::Words::wanted_there))]
-fn put_wanted_there(out: &mut Vec<u8>, lines: &[usize], to: u16) -> Result<(), AllocError>
-    ensures { OnOk result (out.new.items ≡ out.old.items ++ wanted_there lines.now to) }
-{
-    out.extend_from_slice(b" wanted at")?;
-    put_pc(out, lines, to)?;
-    out.extend_from_slice(b", and not known here")
-}
-
 /// These items are wanted at a pc.
 #[tactic(auto, unfolding(crate::specs::Words::wanted_words))]
-fn put_wanted(out: &mut Vec<u8>, lines: &[usize], to: u16, items: &[u8]) -> Result<(), AllocError>
+fn put_wanted<'a>(
+    out: &mut Vec<u8>,
+    lines: &'a [usize],
+    to: u16,
+    items: &'a [u8],
+) -> Result<(), AllocError>
     ensures { OnOk result (out.new.items ≡ out.old.items ++ wanted_words lines.now to items.now) }
 {
-    put_these_are(out, items)?;
-    put_wanted_there(out, lines, to)
+    put_parts(
+        out,
+        &[
+            Part::Bytes(items),
+            Part::Text(is_or_are(items)),
+            Part::Text(" wanted at"),
+            Part::Pc(lines, to),
+            Part::Text(", and not known here"),
+        ],
+    )
 }
 
 /// A row does not fit that at the end of an edge: the edge to the next instruction is tried first.

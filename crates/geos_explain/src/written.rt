@@ -5,7 +5,8 @@ ghost use Rattle.geos_explain.specs.Places.{IsPlace, place_of};
 ghost use Rattle.geos_explain.specs.Written.{file_item, file_items, file_since, file_sinces, written_head, written_words};
 
 use crate::held::{held_since, put_since_text};
-use crate::numbers::{is_one_item, object, put_these_are};
+use crate::numbers::{is_one_item, is_or_are, object};
+use crate::parts::{Part, put_parts};
 use crate::place::Place;
 use crate::uses::put_state;
 use geos_verify::{is_of_file, slot_state};
@@ -64,10 +65,16 @@ fn put_file_sinces(out: &mut Vec<u8>, place: &Place) -> Result<(), AllocError>
 fn put_written_head(out: &mut Vec<u8>, items: &[u8]) -> Result<(), AllocError>
     ensures { OnOk result (out.new.items ≡ out.old.items ++ written_head items.now) }
 {
-    put_these_are(out, items)?;
-    out.extend_from_slice(b" held where the file is written: unlock")?;
-    out.extend_from_slice(object(is_one_item(items)).as_bytes())?;
-    out.extend_from_slice(b" before")
+    put_parts(
+        out,
+        &[
+            Part::Bytes(items),
+            Part::Text(is_or_are(items)),
+            Part::Text(" held where the file is written: unlock"),
+            Part::Text(object(is_one_item(items))),
+            Part::Text(" before"),
+        ],
+    )
 }
 
 /// The VM file is written while slots hold blocks of it.

@@ -1,18 +1,12 @@
-use Rattle.std.proofs.Common.{sym, refl, arith}
+use Rattle.std.proofs.Common.{arith}
 use Rattle.std.proofs.lemmas.Grind.{common_steps}
-use Rattle.std.proofs.lemmas.Option.{slice_get_read, slice_get_past}
 use Rattle.geos_explain.specs.Stale.{lost_by}
 use Rattle.geos_explain.proofs.stale.put_lost_by.Goals as goal
 
 pub returns-in-Some : goal.returns-in-Some
 unfolding lost_by
-returns-in-Some c =
-    let lookup = c.in-Some.ensures.lookup in
-    let there = slice_get_read c.points.result.now _ c.from.result c.in-Some.point.now refl lookup.3.0 lookup.1 in
-    rw (sym c.points.ensures.points, sym c.from.ensures, there) (grind (arith, common_steps))
+returns-in-Some c = rw c.in-Some.ensures (grind (arith, common_steps))
 
 pub returns-in-None : goal.returns-in-None
 unfolding lost_by
-returns-in-None c =
-    rw (sym c.points.ensures.points, sym c.from.ensures, slice_get_past c.points.result.now c.from.result c.in-None.ensures.lookup.3)
-    (grind (arith, common_steps))
+returns-in-None c = rw c.in-None.ensures (grind (arith, common_steps))

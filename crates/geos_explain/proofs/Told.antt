@@ -8,17 +8,27 @@ use Rattle.geos_image.specs.declared.potential.Potential.{Potential}
 use Rattle.geos_image.specs.declared.point.Point.{Point}
 use Rattle.geos_listing.specs.Rows.{texts_below}
 use Rattle.geos_listing.proofs.Limits.{item_at}
+use Rattle.geos_explain.specs.Places.{Place}
 
--- its instruction, its row and its potential
-pub point-at : (f : Instr → Row → Potential → List ℕ) (points : List Point) (pc : ℕ) (i : Instr) (row : Row) (p : Potential) → pc < length points
+-- a place that is made of a point's instruction, its row and its potential
+pub place-of-point : (of : Instr → Row → Potential → Place) (points : List Point) (pc : ℕ) (i : Instr) (row : Row) (p : Potential) → pc < length points
     → IfSome (slice_get points pc) (λ point. i ≡ point.instr) → IfSome (slice_get points pc) (λ point. row ≡ point.row) → IfSome (slice_get points pc) (λ point. p ≡ point.potential)
-    → option_map_or (λ point. f point.instr point.row point.potential) (slice_get points pc) [] ≡ f i row p
-point-at f points pc i row p lt is_i is_row is_p =
+    → IfSome (slice_get points pc) (λ point. of i row p ≡ of point.instr point.row point.potential)
+place-of-point of points pc i row p lt is_i is_row is_p =
     let at = item_at points pc lt in
     let same_i : i ≡ at.0.instr = rw at.1 at is_i in
     let same_row : row ≡ at.0.row = rw at.1 at is_row in
     let same_p : p ≡ at.0.potential = rw at.1 at is_p in
     rw (at.1, same_i, same_row, same_p) refl
+
+-- what is said of a place that is made of the point at a pc
+pub told-at : (tell : Place → List ℕ) (of : Point → Place) (points : List Point) (pc : ℕ) (place : Place) → pc < length points
+    → IfSome (slice_get points pc) (λ point. place ≡ of point)
+    → option_map_or (λ point. tell (of point)) (slice_get points pc) [] ≡ tell place
+told-at tell of points pc place lt is_place =
+    let at = item_at points pc lt in
+    let same : place ≡ of at.0 = rw at.1 at is_place in
+    rw (at.1, same) refl
 
 -- one more text was written
 pub texts_below-step : (start middle after : List ℕ) (text : ℕ → List ℕ) (k : ℕ) → middle ≡ start ++ texts_below k text → after ≡ middle ++ text k

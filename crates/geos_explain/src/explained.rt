@@ -1,0 +1,21 @@
+//! An image that is explained.
+
+ghost use Rattle.std.specs.Prelude.{◌≡◌};
+ghost use Rattle.geos_explain.specs.Led.{reached};
+
+use crate::led::Marks;
+use geos_image::Image;
+use geos_verify::Reject;
+
+/// An image, and what is to be said of it.
+#[derive(Clone, Copy)]
+pub(crate) struct Explained<'a> {
+    pub image: &'a Image,
+    /// The line of each instruction in an author's text; else nothing.
+    pub lines: &'a [usize],
+    /// What control reaches.
+    pub marks: &'a Marks,
+    /// The refusal, if there is one.
+    pub reject: Option<Reject>,
+    ghost marked: { marks.now ≡ reached image.now },
+}
