@@ -67,16 +67,15 @@ impl<D: Device + Drop> Kernel<D> {
     ghost use Rattle.geos_kernel.specs.Spans.{IsStanding, IsWritable};
     ghost use Rattle.geos_kernel.specs.View.{chunks_at, file_over, IsFileOf, IsLocked, MayChange, memory_of};
 
-    /// No block in memory, in a region of `region` bytes, 65,536 to 16,777,216, and a VM file that is
-    /// sure of what its device holds, as each is that was made or opened. This is the only call but
-    /// commits that takes memory; `AllocError` where there is none, and the file comes back.
+    /// No block in memory, in a region of `region` bytes, 65,536 to 16,777,216, and a VM file, which
+    /// may be unsure: then it takes no commit. This is the only call but commits that takes memory;
+    /// `AllocError` where there is none, and the file comes back.
     pub fn new(
         alloc: Global,
         region: u32,
         file: VmFile<D>,
     ) -> Result<Kernel<D>, (VmFile<D>, AllocError)>
-        requires region { (65536 ≤ region) × (region ≤ 16777216) }
-        requires sure { file.sure ≡ true }
+        requires { (65536 ≤ region) × (region ≤ 16777216) }
         ensures store { IfOk result (λ kernel. IsEmpty kernel.core.blocks region) }
         ensures file { IfOk result (λ kernel. file_over kernel.device kernel.core.vm.file ≡ file) }
         ensures lists { IfOk result (λ kernel. IsListOf kernel.core.vm file.current) }

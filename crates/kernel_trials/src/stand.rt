@@ -113,8 +113,7 @@ impl Stand {
         region: u32,
         file: VmFile<Faulty>,
     ) -> Result<Answer, AllocError>
-        requires region { (65536 ≤ region) × (region ≤ 16777216) }
-        requires sure { file.sure ≡ true }
+        requires { (65536 ≤ region) × (region ≤ 16777216) }
     {
         match Kernel::new(alloc, region, file) {
             Ok(kernel) => {

@@ -1,35 +1,44 @@
 -- The model's memory of a file that was opened, none of whose blocks is in memory.
-use Rattle.std.proofs.Common.{◌≡◌, ◌≢◌, ℕ, suc, ◌<◌, List, [], ◌∷◌, length, map, Option, Some, None, Bool, true, false, refl, sym, ap, ◌∙◌, subst, inl, inr, arith}
+use Rattle.std.proofs.Common.{◌≡◌, ◌≢◌, ℕ, suc, ◌<◌, List, [], ◌∷◌, length, map, Option, Some, None, Bool, true, false, not, Result, Ok, Err, refl, sym, ap, ◌∙◌, subst, inl, inr, arith}
 use Rattle.std.specs.Prelude.{All, IfSome, IsSomeAnd, ◌==◌, find, if◌then◌else◌, option_map}
 use Rattle.std.specs.List.{range_with_len}
 use Rattle.std.proofs.lemmas.List.{length-map}
+use Rattle.std.proofs.lemmas.List.Elements.{All-drop, All-nil, All-take}
 use Rattle.std.proofs.lemmas.List.FromFn.{length-map-range_with_len}
+use Rattle.geos_model.specs.Bytes.{AreBytes}
 use Rattle.geos_table.specs.Directories.{KeptBlock, group_uid, idle_block, with_each}
 use Rattle.geos_table.specs.Directories as model
 use Rattle.geos_table.specs.Handles.{at_handle}
-use Rattle.geos_table.specs.Legal.{IsLegalKept, IsStored}
+use Rattle.geos_table.specs.Legal.{ArePairs, IsLegalKept, IsPair, IsStored}
+use Rattle.geos_table.specs.VmFile.{Kept, Sure, Unsure}
 use Rattle.geos_table.proofs.HandleLists.{entry-each}
 use Rattle.geos_table.proofs.LegalDirectories.{loaded-legal}
 use Rattle.block_handles.specs.Names.{IsHandle}
 use Rattle.block_handles.specs.Store.{Store, block_at}
 use Rattle.vm_file.specs.declared.directory.Directory.{Directory}
 use Rattle.vm_file.specs.declared.directory.Entry.{Entry}
-use Rattle.vm_file.specs.Contents.{Block}
+use Rattle.vm_file.specs.Contents.{Block, Pair, listed}
 use Rattle.vm_file.specs.Directories.{is_directory}
+use Rattle.vm_file.specs.Kept.{or_empty, other_pair}
+use Rattle.vm_file.specs.Reading.{area_of, base_of, pair_at}
+use Rattle.vm_file.specs.Spelling.{empty_contents}
 use Rattle.vm_file.specs.State.{bytes_of_block, pair_of}
 use Rattle.vm_file.proofs.DirectoryLaws.{found_entry, legal_from}
+use Rattle.vm_file.proofs.HeapTests.{both}
+use Rattle.vm_file.proofs.ReadLaws.{pair_ok}
 use Rattle.vm_blocks.specs.declared.entries.Held.{Held}
 use Rattle.vm_blocks.specs.View.{VmState, bytes_read, held_at, vm_slot}
 use Rattle.vm_blocks.specs.Tied.{AreMapped, NoneResident}
 use Rattle.vm_blocks.specs.Listed.{IsListOf, as_held, held_in}
-use Rattle.vm_blocks.specs.Matches.{IsListedAs, entry_at, stored_block, stored_directory}
-use Rattle.vm_blocks.specs.FileOf.{IsMemoryOf}
-use Rattle.vm_blocks.specs.Opened.{AreWords, opened_memory}
+use Rattle.vm_blocks.specs.Matches.{IsDirectoryOf, IsListedAs, entry_at, stored_block, stored_directory, stored_pair}
+use Rattle.vm_blocks.specs.FileOf.{IsKeptOf, IsMemoryOf}
+use Rattle.vm_blocks.specs.Opened.{AreWords, opened_memory, opened_pair}
 use Rattle.vm_blocks.proofs.Committed.{idle-away}
 use Rattle.vm_blocks.proofs.HeapsRead.{read-legal}
 use Rattle.vm_blocks.proofs.Opened.{list-maps}
 use Rattle.vm_blocks.proofs.Stored.{directory-is}
 use Rattle.vm_blocks.proofs.Tables.{handle-or, table-made, table-past}
+use Rattle.vm_blocks.proofs.Words.{read-words}
 
 -- what holds of each entry holds of the one that is found
 found-each : (P : Entry → Type 0) (h : ℕ) (es : List Entry) (e : Entry) → All P es → find (λ x. x.h == h) es ≡ Some e → P e
@@ -89,8 +98,27 @@ module _ {D : Type 0} (v : VmState D) (d : Directory) (blocks : List Block) (leg
         };
       }
 
+-- what the other area holds
+module _ {D : Type 0} (image : D → List ℕ) (v : VmState D) where
+  read-legal-pair : (at : ℕ) (bytes : List ℕ) (r : Result Pair ℕ) → AreBytes bytes → pair_at at bytes ≡ r → IsPair (stored_pair (or_empty r))
+  read-legal-pair at bytes (Ok p) each is =
+      let read = pair_ok at bytes p is in let words = read-words at bytes p each is in (
+        stored-legal v (listed p.cur) p.cur.blocks (both _ _ read.cur).0 words.cur,
+        stored-legal v (listed p.saved) p.saved.blocks (both _ _ read.saved).0 words.saved,
+      )
+  read-legal-pair at bytes (Err e) each is =
+      let words : AreWords (listed empty_contents) = record { uids = All-nil (λ (e : Entry). e.uid < 65536); item = omega arith } in
+      let legal = stored-legal v (listed empty_contents) [] refl words in
+      (legal, legal)
+
+  other-legal : AreBytes (image v.file.device) → IsPair (stored_pair (other_pair image v.file))
+  other-legal each =
+      let base = base_of v.file.area (not v.file.second) in
+      let area = area_of (image v.file.device) v.file.area (not v.file.second) in
+      read-legal-pair base area (pair_at base area) (All-take (λ b. b < 256) v.file.area _ (All-drop (λ b. b < 256) base (image v.file.device) each)) refl
+
 -- the file, as the device holds it
-module _ {D : Type 0} (image : D → List ℕ) (honest : D → Type 0) (v : VmState D) (s : Store) (lists : IsListOf v v.file.current) (none : NoneResident s) (sure : v.file.sure ≡ true)
+module _ {D : Type 0} (image : D → List ℕ) (honest : D → Type 0) (v : VmState D) (s : Store) (lists : IsListOf v v.file.current) (none : NoneResident s) (bytes : AreBytes (image v.file.device))
     (cur_legal : is_directory v.file.current ≡ true) (saved_legal : is_directory v.file.saved ≡ true) (cur_words : AreWords v.file.current) (saved_words : AreWords v.file.saved) where
   abbrev cur : model.Directory KeptBlock
   cur = stored_directory v.file.current (pair_of image v.file).cur.blocks
@@ -98,14 +126,34 @@ module _ {D : Type 0} (image : D → List ℕ) (honest : D → Type 0) (v : VmSt
   abbrev saved : model.Directory KeptBlock
   saved = stored_directory v.file.saved (pair_of image v.file).saved.blocks
 
+  one : IsDirectoryOf (honest v.file.device) v.file.current (pair_of image v.file).cur.blocks cur
+  one = directory-is (honest v.file.device) v.file.current (pair_of image v.file).cur.blocks
+
+  two : IsDirectoryOf (honest v.file.device) v.file.saved (pair_of image v.file).saved.blocks saved
+  two = directory-is (honest v.file.device) v.file.saved (pair_of image v.file).saved.blocks
+
+  cur-is : IsStored cur
+  cur-is = stored-legal v v.file.current (pair_of image v.file).cur.blocks cur_legal cur_words
+
+  saved-is : IsStored saved
+  saved-is = stored-legal v v.file.saved (pair_of image v.file).saved.blocks saved_legal saved_words
+
+  -- what it keeps
+  abbrev kept-if : Bool → Kept
+  kept-if b = if b then Sure (opened_pair image v.file) else Unsure (opened_pair image v.file) (stored_pair (other_pair image v.file))
+
+  kept-opened : (b : Bool) → v.file.sure ≡ b → IsKeptOf image honest v.file (kept-if b)
+  kept-opened true is = (is, record { cur = one; saved = two })
+  kept-opened false is = (is, record { cur = one; saved = two }, λ _. refl)
+
+  kept-legal : (b : Bool) → ArePairs (kept-if b)
+  kept-legal true = (cur-is, saved-is)
+  kept-legal false = ((cur-is, saved-is), other-legal image v bytes)
+
   -- it is the model's memory
   pub memory-opened : IsMemoryOf image honest v s (opened_memory image v.file s)
   memory-opened =
       let fair = honest v.file.device in
-      let one = directory-is fair v.file.current (pair_of image v.file).cur.blocks in
-      let two = directory-is fair v.file.saved (pair_of image v.file).saved.blocks in
-      let cur_is = stored-legal v v.file.current (pair_of image v.file).cur.blocks cur_legal cur_words in
-      let saved_is = stored-legal v v.file.saved (pair_of image v.file).saved.blocks saved_legal saved_words in
       let each : (h : ℕ) → IsHandle h → IsListedAs fair (bytes_read image v.file h) (held_at v h) (block_at s (vm_slot h)) (at_handle None (with_each idle_block cur).blocks h) =
       (λ h p. subst (λ x. IsListedAs fair (bytes_read image v.file h) x (block_at s (vm_slot h)) (at_handle None (with_each idle_block cur).blocks h)) (sym (lists.each h p))
       (subst (λ x. IsListedAs fair (bytes_read image v.file h) (held_in v.file.current h) x (at_handle None (with_each idle_block cur).blocks h)) (sym (none h p))
@@ -123,8 +171,8 @@ module _ {D : Type 0} (image : D → List ℕ) (honest : D → Type 0) (v : VmSt
             map_item = sym (ap (λ (i : ℕ × ℕ). i.1) lists.map_item);
           };
           saved = two;
-          kept = (sure, record { cur = one; saved = two });
-          legal = record { cur = loaded-legal cur cur_is; saved = saved_is; kept = (cur_is, saved_is) };
+          kept = kept-opened v.file.sure refl;
+          legal = record { cur = loaded-legal cur cur-is; saved = saved-is; kept = kept-legal v.file.sure };
         };
         region = refl;
       }

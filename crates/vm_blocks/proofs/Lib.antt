@@ -34,5 +34,6 @@ pub mod Lasting
 pub mod MemoryKept
 pub mod Marking
 pub mod Whole
+pub mod Words
 pub mod Begun
 pub mod Walk

@@ -48,13 +48,14 @@ impl<D: Device + Drop> VmBlocks<D> {
         ensures file { IfOk result (λ v. v.file ≡ file) }
         ensures lists { IfOk result (λ v. IsListOf v file.current) }
         ensures tied { IfOk result (λ v. (s : Store) → IsLaidOut s → NoneResident s → IsTied D.image D.honest v s) }
-        // The model's memory to begin with, where the file is sure.
-        ensures memory { IfOk result (λ v. file.sure ≡ true → (s : Store) → NoneResident s → IsMemoryOf D.image D.honest v s (opened_memory D.image file s)) }
+        // The model's memory to begin with.
+        ensures memory { IfOk result (λ v. (s : Store) → NoneResident s → IsMemoryOf D.image D.honest v s (opened_memory D.image file s)) }
         ensures back { IfErr result (λ e. e.0 ≡ file) }
     {
         match empty_table(alloc) {
             Ok(mut entries) => {
                 are_words(file.saved());
+                file.device_gives_bytes();
                 let current = file.current();
                 are_words(current);
                 list(&mut entries, current);

@@ -1,5 +1,6 @@
 //! What a file stands on: bytes that last.
 ghost use Rattle.std.specs.Prelude.{◌≡◌, ◌+◌, ◌≤◌, ℕ, List, length, OnOk};
+ghost use Rattle.geos_model.specs.Bytes.{AreBytes};
 ghost use Rattle.lmem_raw.specs.Bytes.{part, with_part};
 ghost use Rattle.vm_file.specs.Device.{Counts, Only, one_more};
 ghost use Rattle.vm_file.specs.Outcomes.{CausesDisk, ReadsOnly, WritesOnly};
@@ -33,9 +34,10 @@ pub trait Device {
     /// A stop at some moment from the first state to the second may have left this image.
     ghost may_have_left: { Self → Self → List ℕ → Type 0 };
 
-    /// The length in bytes.
+    /// The length in bytes. So many numbers below 256 are what reads give.
     fn len(&self) -> u64
-        ensures { result ≡ length (image self.now) };
+        ensures length { result ≡ length (image self.now) }
+        ensures bytes { AreBytes (image self.now) };
 
     /// How often a call has failed; at the greatest number it stays.
     fn failures(&self) -> u64

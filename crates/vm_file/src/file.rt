@@ -41,6 +41,7 @@ impl<D: Device + Drop> Model for VmFile<D> {
 }
 
 impl<D: Device + Drop> VmFile<D> {
+    ghost use Rattle.geos_model.specs.Bytes.{AreBytes};
     ghost use Rattle.lmem_raw.specs.Bytes.{with_part};
     ghost use Rattle.vm_file.specs.Committing.{AreResident, FindsOneOf, FindsOr, IsAfter, IsContentsOf, KeepsAfter, MayCommit, MayHaveWritten, NeedsNoRead, Spells};
     ghost use Rattle.vm_file.specs.Committing.{contents_from, current_after, image_after, kept_after, length_after, saved_after};
@@ -141,6 +142,13 @@ impl<D: Device + Drop> VmFile<D> {
         ensures stop { D.honest self.now.device → (c : List ℕ) → D.may_leave self.now.device c → Finds D.image self.now c }
     {
         self.sure
+    }
+
+    /// What the device gives are bytes: numbers below 256.
+    pub fn device_gives_bytes(&self)
+        ensures { AreBytes (D.image self.now.device) }
+    {
+        let _len = self.device.len();
     }
 
     /// The current directory of the pair that it keeps.

@@ -67,7 +67,8 @@ impl Device for MemoryDevice {
     ghost may_have_left = { MayHaveLeft };
 
     fn len(&self) -> u64 {
-        self.bytes.len() as u64
+        let bytes = self.as_slice();
+        bytes.len() as u64
     }
 
     fn failures(&self) -> u64 {

@@ -41,7 +41,7 @@ returns-then-len-base-clause-exact g c = λ h.
     let S : List ℕ → Type 0 = λ x. IsOkAnd (selector_at x) (λ y. y ≡ selector) in
     let place = c.base_of-base.ensures.exact in
     let long = ap length (s.reads.same ∙ r.reads.same) in
-    let past = area-past image base c.in-Ok.area (omega (arith, c.if-len-base.true, c.len-len.ensures, place, long)) in
+    let past = area-past image base c.in-Ok.area (omega (arith, c.if-len-base.true, c.len-len.ensures.length, place, long)) in
     file_stop_pair image c.in-Ok.area selector (BadFile c.base_of-base.result) (ok_only (header_at (take 512 image)) c.in-Ok.area (r.exact h))
     (ok_only (selector_at image) selector (subst S r.reads.same (s.exact (r.reads.stays h)))) (past ∙ ap (λ k. let x : Result Pair ℕ = Err k in x) (sym place))
 
@@ -54,7 +54,7 @@ returns-in-Ok-read_pair-clause-exact g c = λ h.
     let P : Result Pair ℕ → Type 0 = λ x. IsOkAnd x (λ p. listed_pair p ≡ made) in
     file_read image c.in-Ok.area selector c.in-Ok-read_pair.current c.in-Ok-read_pair.saved (ok_only (header_at (take 512 image)) c.in-Ok.area (r.exact h))
     (ok_only (selector_at image) selector (subst S r.reads.same (s.exact (r.reads.stays h))))
-    (read_area P image (g.D.Device.image c.read_selector.new.device) c.in-Ok.area selector c.base_of-base.result c.len-len.result c.min-end.result c.base_of-base.ensures.exact (s.reads.same ∙ r.reads.same) c.len-len.ensures c.if-len-base.false
+    (read_area P image (g.D.Device.image c.read_selector.new.device) c.in-Ok.area selector c.base_of-base.result c.len-len.result c.min-end.result c.base_of-base.ensures.exact (s.reads.same ∙ r.reads.same) c.len-len.ensures.length c.if-len-base.false
     (c.min-end.ensures ∙ ap (λ k. min c.len-len.result (c.base_of-base.result + k)) c.from.ensures) (c.in-Ok-read_pair.ensures.exact (s.reads.stays (r.reads.stays h))))
 
 pub returns-in-Err-read_pair-clause-exact : goal.returns-in-Err-read_pair-clause-exact
@@ -65,5 +65,5 @@ returns-in-Err-read_pair-clause-exact g c = λ h.
     let P : Result Pair ℕ → Type 0 = λ x. Tells listed_pair (let e : Result (Directory × Directory) OpenError = Err c.in-Err-read_pair.error in e) x in
     file_stop_pair image c.in-Ok.area selector c.in-Err-read_pair.error (ok_only (header_at (take 512 image)) c.in-Ok.area (r.exact h))
     (ok_only (selector_at image) selector (subst S r.reads.same (s.exact (r.reads.stays h))))
-    (read_area P image (g.D.Device.image c.read_selector.new.device) c.in-Ok.area selector c.base_of-base.result c.len-len.result c.min-end.result c.base_of-base.ensures.exact (s.reads.same ∙ r.reads.same) c.len-len.ensures c.if-len-base.false
+    (read_area P image (g.D.Device.image c.read_selector.new.device) c.in-Ok.area selector c.base_of-base.result c.len-len.result c.min-end.result c.base_of-base.ensures.exact (s.reads.same ∙ r.reads.same) c.len-len.ensures.length c.if-len-base.false
     (c.min-end.ensures ∙ ap (λ k. min c.len-len.result (c.base_of-base.result + k)) c.from.ensures) (c.in-Err-read_pair.ensures.exact (s.reads.stays (r.reads.stays h))))
