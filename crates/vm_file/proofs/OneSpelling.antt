@@ -1,15 +1,18 @@
 -- Bytes that are read as a pair are its spelling. `SpellLaws` says that a spelling is read as its pair.
-use Rattle.std.proofs.Common.{◌≡◌, ◌∙◌, ℕ, zero, suc, ◌+◌, ◌*◌, ◌/◌, ◌%◌, ◌<◌, ◌&&◌, List, [], ◌∷◌, ◌++◌, length, take, drop, map, Ok, get_or, refl, ap, sym, subst, arith, append_assoc, length-take}
+use Rattle.std.proofs.Common.{◌≡◌, ◌∙◌, ℕ, zero, suc, ◌+◌, ◌*◌, ◌/◌, ◌%◌, ◌<◌, ◌&&◌, List, [], ◌∷◌, ◌++◌, length, take, drop, map, true, Ok, get_or, refl, ap, sym, subst, arith, append_assoc, length-take}
 use Rattle.std.specs.List.{flat_map}
 use Rattle.std.proofs.Math.Dec.{leb, ltb}
-use Rattle.std.proofs.lemmas.List.{drop-drop, take_all}
+use Rattle.std.proofs.lemmas.List.{drop-drop, take-append-drop}
 use Rattle.geos_model.specs.Bytes.{AreBytes, word, word_bytes}
 use Rattle.vm_file.specs.declared.directory.Entry.{Entry}
 use Rattle.vm_file.specs.Contents.{Block, Contents, Pair, block_spelling, contents_length, contents_spelling, entry_of, pair_length, pair_spelling}
 use Rattle.vm_file.specs.Directories.{entries_length, may_be_map_block, may_be_map_group, may_be_map_item}
 use Rattle.vm_file.specs.Heaps.{is_block_size}
+use Rattle.vm_file.specs.Laws.{PairsHaveOneSpelling, is_pair}
 use Rattle.vm_file.specs.Reading.{block_at, blocks_at, bytes_at, contents_at, count_at, head_at, maps_at, pair_at, wanted, word_at}
-use Rattle.vm_file.proofs.ReadLaws.{after, blocks_ok, bytes_ok, ok_is, wanted_ok, word_ok}
+use Rattle.vm_file.proofs.HeapTests.{and-true, both}
+use Rattle.vm_file.proofs.ReadLaws.{after, blocks_ok, bytes_ok, ok_is, pair_ok, wanted_ok, word_ok}
+use Rattle.vm_file.proofs.SpellLaws.{pair_again}
 
 -- what is left of bytes are bytes
 bytes_left : (n : ℕ) (bytes : List ℕ) → AreBytes bytes → AreBytes (drop n bytes)
@@ -151,6 +154,15 @@ pair_spelled at bytes p each is =
     ∙ ap (λ l. contents_spelling cur ++ l) (contents_spelled (at + n) (drop n bytes) saved (bytes_left n bytes each) saved_is) in
     subst P (ok_is made p rest2) spelled))
 
--- so a pair has one spelling, and bytes are read as it exactly where they are that, and the pair is legal
-pub pair_whole_read : (at : ℕ) (bytes : List ℕ) (p : Pair) → AreBytes bytes → pair_at at bytes ≡ Ok p → length bytes ≡ pair_length p → bytes ≡ pair_spelling p
-pair_whole_read at bytes p each is long = sym (take_all (pair_length p) bytes (omega (arith, long))) ∙ pair_spelled at bytes p each is
+-- so a pair has one spelling: bytes are read as it exactly where they begin with that, and it is legal
+pub one-spelling : PairsHaveOneSpelling
+one-spelling at bytes p each = (there, back)
+  where
+    there : pair_at at bytes ≡ Ok p → (is_pair p ≡ true) × (take (pair_length p) bytes ≡ pair_spelling p)
+    there is = let read = pair_ok at bytes p is in (and-true _ _ read.cur read.saved, pair_spelled at bytes p each is)
+
+    back : (is_pair p ≡ true) × (take (pair_length p) bytes ≡ pair_spelling p) → pair_at at bytes ≡ Ok p
+    back (legal, begins) =
+        let parts = both _ _ legal in let rest = drop (pair_length p) bytes in
+        let whole : bytes ≡ pair_spelling p ++ rest = sym (take-append-drop (pair_length p) bytes) ∙ ap (λ l. l ++ rest) begins in
+        ap (pair_at at) whole ∙ pair_again p at rest parts.0 parts.1

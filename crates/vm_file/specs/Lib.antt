@@ -7,6 +7,7 @@ pub mod Directories
 pub mod Contents
 pub mod Reading
 pub mod Spelling
+pub mod Laws
 pub mod Outcomes
 pub mod Opening
 pub mod State

@@ -1,0 +1,20 @@
+-- What holds of the definitions, whatever a device holds.
+use Rattle.std.specs.Prelude.{◌≡◌, ◌↔◌, ℕ, ◌&&◌, Bool, true, List, take, Ok}
+use Rattle.geos_model.specs.Bytes.{AreBytes}
+use Rattle.geos_model.specs.Heap.{IsHeap}
+use Rattle.vm_file.specs.Contents.{Pair, is_contents, pair_length, pair_spelling}
+use Rattle.vm_file.specs.Heaps.{is_heap}
+use Rattle.vm_file.specs.Reading.{pair_at}
+
+-- both directories are legal, and their blocks heaps under their handles
+abbrev pub is_pair : Pair → Bool
+is_pair p = is_contents p.cur && is_contents p.saved
+
+-- bytes are read as a pair exactly where it is legal and they begin with its spelling
+abbrev pub PairsHaveOneSpelling : Type 0
+PairsHaveOneSpelling =
+    (at : ℕ) (bytes : List ℕ) (p : Pair) → AreBytes bytes → (pair_at at bytes ≡ Ok p) ↔ ((is_pair p ≡ true) × (take (pair_length p) bytes ≡ pair_spelling p))
+
+-- the test of reading says yes exactly of a heap
+abbrev pub HeapTestIsExact : Type 0
+HeapTestIsExact = (bytes : List ℕ) → (is_heap bytes ≡ true) ↔ IsHeap bytes
