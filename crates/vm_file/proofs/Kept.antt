@@ -1,5 +1,5 @@
 -- The pair that a commit keeps.
-use Rattle.std.proofs.Common.{◌≡◌, ◌⊎◌, ◌≤◌, ℕ, Bool, true, false, cond, not, List, [], ◌∷◌, Result, Ok, refl, ap, sym, ◌∙◌, subst, inl, inr}
+use Rattle.std.proofs.Common.{◌≡◌, ◌⊎◌, ◌≤◌, ℕ, Bool, true, false, cond, not, List, [], ◌∷◌, Result, Ok, refl, ap, sym, ◌∙◌, subst, inl, inr, arith}
 use Rattle.std.specs.Prelude.{MatchBool}
 use Rattle.lmem_raw.specs.Bytes.{with_part}
 use Rattle.vm_file.specs.declared.commit.How.{How}
@@ -76,20 +76,23 @@ module _ {D : Type 0} (image : D → List ℕ) where
       ∙ ap (λ xs. with_part (with_part xs (base_of f.area (not f.second)) bytes) 512 (selector_of (not f.second) ∷ [])) alike
 
   -- what may differ after nothing, one or both of the writes of a commit
-  pub written_nothing : (f : FileState D) (c : List ℕ) → c ≡ image f.device → MayHaveWritten image f c
-  written_nothing f c same = (image f.device, (image f.device, refl, touched_not _ _ _), subst (Touched 512 1 (image f.device)) (sym same) (touched_not 512 1 (image f.device)))
-
-  pub written_both : (f : FileState D) (mid c : List ℕ) (n : ℕ) → n ≤ f.area → Touched (base_of f.area (not f.second)) n (image f.device) mid → Touched 512 1 mid c → MayHaveWritten image f c
+  pub written_both : (f : FileState D) (mid c : List ℕ) (n : ℕ) → n ≤ f.area → Touched (base_of f.area (not f.second)) n (image f.device) mid → Touched 512 1 mid c → MayHaveWritten image f false c
   written_both f mid c n small area selector = (mid, (image f.device, refl, touched_more _ n f.area (image f.device) mid small area), selector)
 
-  pub written_area : (f : FileState D) (c : List ℕ) (n : ℕ) → n ≤ f.area → Touched (base_of f.area (not f.second)) n (image f.device) c → MayHaveWritten image f c
-  written_area f c n small area = written_both f c c n small area (touched_not 512 1 c)
+  pub written_area : (f : FileState D) (sure : Bool) (c : List ℕ) (n : ℕ) → n ≤ f.area → Touched (base_of f.area (not f.second)) n (image f.device) c → MayHaveWritten image f sure c
+  written_area f true c n small area = touched_more _ n f.area (image f.device) c small area
+  written_area f false c n small area = written_both f c c n small area (touched_not 512 1 c)
 
-  pub written_on : (f m : FileState D) (c : List ℕ) → m ≡ (let g : FileState D = record { device = m.device; area = f.area; second = f.second; sure = f.sure; current = f.current; saved = f.saved } in g) →
-      image m.device ≡ image f.device → MayHaveWritten image m c → MayHaveWritten image f c
-  written_on f m c same alike written =
-      let P : FileState D → Type 0 = λ g. MayHaveWritten image g c in
-      let Q : List ℕ → Type 0 = λ xs. AfterWrite 512 1 (AfterWrite (base_of f.area (not f.second)) f.area (λ d. d ≡ xs)) c in
+  pub written_nothing : (f : FileState D) (sure : Bool) (c : List ℕ) → c ≡ image f.device → MayHaveWritten image f sure c
+  written_nothing f sure c same = written_area f sure c f.area (omega arith) (subst (Touched (base_of f.area (not f.second)) f.area (image f.device)) (sym same) (touched_not _ _ _))
+
+  pub written_on : (f m : FileState D) (sure : Bool) (c : List ℕ) → m ≡ (let g : FileState D = record { device = m.device; area = f.area; second = f.second; sure = f.sure; current = f.current; saved = f.saved } in g) →
+      image m.device ≡ image f.device → MayHaveWritten image m sure c → MayHaveWritten image f sure c
+  written_on f m sure c same alike written =
+      let P : FileState D → Type 0 = λ g. MayHaveWritten image g sure c in
+      let Q : List ℕ → Type 0 = λ xs. MatchBool sure
+      (Touched (base_of f.area (not f.second)) f.area xs c)
+      (AfterWrite 512 1 (AfterWrite (base_of f.area (not f.second)) f.area (λ d. d ≡ xs)) c) in
       subst Q alike (subst P same written)
 
   -- what the file keeps is told by the same

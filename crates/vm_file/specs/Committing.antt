@@ -1,5 +1,5 @@
 -- What a commit keeps, and what a stop during it leaves.
-use Rattle.std.specs.Prelude.{◌≡◌, ◌⊎◌, ℕ, ◌+◌, true, not, List, [], ◌∷◌, length, map, Option, Some, None, Ok, unwrap_or, All, MatchOption, IfSome, IsSome}
+use Rattle.std.specs.Prelude.{◌≡◌, ◌⊎◌, ℕ, ◌+◌, Bool, true, not, List, [], ◌∷◌, length, map, Option, Some, None, Ok, unwrap_or, All, MatchBool, MatchOption, IfSome, IsSome}
 use Rattle.std.specs.Borrow.{Bor}
 use Rattle.lmem_raw.specs.Bytes.{part, with_part}
 use Rattle.geos_model.specs.Block.{handle_word}
@@ -9,7 +9,7 @@ use Rattle.vm_file.specs.declared.commit.How.TheVariants.{Update, Save, Revert}
 use Rattle.vm_file.specs.declared.directory.Entry.{Entry}
 use Rattle.vm_file.specs.declared.directory.Directory.{Directory}
 use Rattle.vm_file.specs.Contents.{Block, Contents, Pair, listed, is_contents, pair_spelling}
-use Rattle.vm_file.specs.Device.{AfterWrite}
+use Rattle.vm_file.specs.Device.{AfterWrite, Touched}
 use Rattle.vm_file.specs.Directories.{is_directory, directory_length}
 use Rattle.vm_file.specs.Kept.{Kept, SureOf, UnsureBetween}
 use Rattle.vm_file.specs.Reading.{base_of, found}
@@ -71,9 +71,11 @@ length_after how cur saved = directory_length (current_after how cur saved) + di
 abbrev pub image_after : {D : Type 0} → (D → List ℕ) → List ℕ → FileState D → List ℕ
 image_after image bytes f = with_part (with_part (image f.device) (base_of f.area (not f.second)) bytes) 512 (selector_of (not f.second) ∷ [])
 
--- an image that a commit may have made of what reads gave: the other area differs, and then the selector
-abbrev pub MayHaveWritten : {D : Type 0} → (D → List ℕ) → FileState D → List ℕ → Type 0
-MayHaveWritten image f c = AfterWrite 512 1 (AfterWrite (base_of f.area (not f.second)) f.area (λ d. d ≡ image f.device)) c
+-- an image that a commit which failed may have made of what reads gave: the other area differs and, where the file is not sure any more, the selector
+abbrev pub MayHaveWritten : {D : Type 0} → (D → List ℕ) → FileState D → Bool → List ℕ → Type 0
+MayHaveWritten image f sure c = MatchBool sure
+    (Touched (base_of f.area (not f.second)) f.area (image f.device) c)
+    (AfterWrite 512 1 (AfterWrite (base_of f.area (not f.second)) f.area (λ d. d ≡ image f.device)) c)
 
 -- the blocks of these entries are resident
 abbrev pub AreResident : (ℕ → Option (List ℕ)) → List Entry → Type 0

@@ -270,8 +270,9 @@ impl<D: Device + Drop> VmFile<D> {
         // It has written the pair's bytes to the other area and its selector, and nothing else.
         ensures bytes { D.honest self.old.device → OnOk result (D.image self.new.device
             ≡ image_after D.image (pair_spelling (kept_after D.image (S.resident_bytes source.now) how cur.now self.old)) self.old) }
-        // Where the device failed, nothing but that area and the selector may differ.
-        ensures torn { D.honest self.old.device → result ≡ Err CommitError.Disk → MayHaveWritten D.image self.old (D.image self.new.device) }
+        // Where the device failed, nothing but that area may differ and, where the file turned unsure,
+        // the selector.
+        ensures torn { D.honest self.old.device → result ≡ Err CommitError.Disk → MayHaveWritten D.image self.old self.new.sure (D.image self.new.device) }
         // Where it turned unsure, the other area holds the new pair.
         ensures other { D.honest self.old.device → self.old.sure ≡ true → self.new.sure ≡ false
             → IsOther D.image self.new (kept_after D.image (S.resident_bytes source.now) how cur.now self.old) }
@@ -426,7 +427,7 @@ impl<D: Device + Drop> VmFile<D> {
             (λ _. pair_of D.image self.new ≡ pair_in (current_after how cur.now self.old.saved) (saved_after how cur.now self.old.saved) bytes.now)
             (λ _. pair_of D.image self.new ≡ pair_of D.image self.old) }
         ensures bytes { D.honest self.old.device → OnOk result (D.image self.new.device ≡ image_after D.image bytes.now self.old) }
-        ensures torn { D.honest self.old.device → OnErr result (MayHaveWritten D.image self.old (D.image self.new.device)) }
+        ensures torn { D.honest self.old.device → OnErr result (MayHaveWritten D.image self.old self.new.sure (D.image self.new.device)) }
         ensures other { D.honest self.old.device → self.new.sure ≡ false
             → IsOther D.image self.new (pair_in (current_after how cur.now self.old.saved) (saved_after how cur.now self.old.saved) bytes.now) }
         ensures any_moment { D.honest self.old.device → Passes D.may_have_left self.old.device self.new.device

@@ -142,9 +142,9 @@ returns-clause-kept g c = λ h.
     kept_torn g.D.Device.image c.args.self.now c.select.new.self _ sure (c.in-Err-select.ensures.pair (r.reads.stays h) ∙ r.pair) (returns-clause-other g c h sure)
 
 pub returns-in-Err-spell-clause-torn : goal.returns-in-Err-spell-clause-torn
-returns-in-Err-spell-clause-torn g c = λ _ _. written_nothing g.D.Device.image c.args.self.now _ c.in-Err-spell.ensures.reads.same
+returns-in-Err-spell-clause-torn g c = λ _ _. written_nothing g.D.Device.image c.args.self.now c.spell.new.self.sure _ c.in-Err-spell.ensures.reads.same
 
 pub returns-clause-torn : goal.returns-clause-torn
 returns-clause-torn g c =
     let r = c.in-Ok-spell.ensures in
-    λ h _. written_on g.D.Device.image c.args.self.now c.spell.new.self _ r.same r.reads.same (c.in-Err-select.ensures.torn (r.reads.stays h))
+    λ h _. written_on g.D.Device.image c.args.self.now c.spell.new.self c.select.new.self.sure _ r.same r.reads.same (c.in-Err-select.ensures.torn (r.reads.stays h))

@@ -158,18 +158,18 @@ returns-in-Ok-write_durably-clause-bytes g c =
 
 -- the area was written, in part or whole
 area_torn : (g : Over) (c : goal.In-Err g) → let d = g.D.Device in let i = c.self.inside in
-    d.honest i.device → MayHaveWritten d.image (let f : FileState g.row.D.Denot = record { device = i.device; area = i.area; second = i.second; sure = i.sure; current = i.current; saved = i.saved } in f) (d.image c.write_durably.new.device)
+    d.honest i.device → MayHaveWritten d.image (let f : FileState g.row.D.Denot = record { device = i.device; area = i.area; second = i.second; sure = i.sure; current = i.current; saved = i.saved } in f) i.sure (d.image c.write_durably.new.device)
 area_torn g c = λ h.
     let d = g.D.Device in let i = c.self.inside in let n = length c.args.bytes.now in
     let f : FileState g.row.D.Denot = record { device = i.device; area = i.area; second = i.second; sure = i.sure; current = i.current; saved = i.saved } in
     let A : FileState g.row.D.Denot → Type 0 = λ x. n ≤ x.area in
     let W : ℕ → Type 0 = λ k. WritesOnly d.image d.honest d.may_leave d.may_have_left k n i.device c.write_durably.new.device in
-    written_area d.image f (d.image c.write_durably.new.device) n (subst A (sym c.self.view_is) c.requires.fits.1) ((subst W c.base_of-base.ensures.exact c.in-Err.ensures.writes).torn h)
+    written_area d.image f i.sure (d.image c.write_durably.new.device) n (subst A (sym c.self.view_is) c.requires.fits.1) ((subst W c.base_of-base.ensures.exact c.in-Err.ensures.writes).torn h)
 
 pub returns-in-Err-clause-torn : goal.returns-in-Err-clause-torn
 returns-in-Err-clause-torn g c =
-    let d = g.D.Device in
-    let G : FileState g.row.D.Denot → Type 0 = λ f. d.honest f.device → MayHaveWritten d.image f (d.image c.write_durably.new.device) in
+    let d = g.D.Device in let i = c.self.inside in
+    let G : FileState g.row.D.Denot → Type 0 = λ f. d.honest f.device → MayHaveWritten d.image f i.sure (d.image c.write_durably.new.device) in
     subst G c.self.view_is (area_torn g c)
 
 pub returns-in-Err-write_durably-clause-torn : goal.returns-in-Err-write_durably-clause-torn
@@ -179,5 +179,5 @@ returns-in-Err-write_durably-clause-torn g c =
     let A : FileState g.row.D.Denot → Type 0 = λ x. n ≤ x.area in
     let W : ℕ → Type 0 = λ k. WritesOnly d.image d.honest d.may_leave d.may_have_left k n i.device c.write_durably.new.device in
     let w = subst W c.base_of-base.ensures.exact c.in-Ok.ensures.writes in
-    let G : FileState g.row.D.Denot → Type 0 = λ x. d.honest x.device → MayHaveWritten d.image x (d.image c.write_durably-2.new.device) in
+    let G : FileState g.row.D.Denot → Type 0 = λ x. d.honest x.device → MayHaveWritten d.image x false (d.image c.write_durably-2.new.device) in
     subst G c.self.view_is (λ h. written_both d.image f (d.image c.write_durably.new.device) _ n (subst A (sym c.self.view_is) c.requires.fits.1) (w.torn h) (c.write_durably-2.ensures.writes.torn (w.stays h)))
