@@ -4,6 +4,7 @@ use Rattle.geos_model.specs.declared.name.Owner.{Owner}
 use Rattle.geos_model.specs.declared.name.Owner.TheVariants.{Mem, Vm}
 use Rattle.geos_model.specs.declared.name.Name.{Name}
 use Rattle.block_handles.specs.Calls.{Makes, Grows}
+use Rattle.block_handles.specs.Change.{without}
 use Rattle.block_handles.specs.Layout.{IsLaidOut}
 use Rattle.block_handles.specs.Names.{IsHandle, slot_of}
 use Rattle.block_handles.specs.Store.{Block, Store, block_at, place_of}
@@ -43,6 +44,14 @@ pub record Thins {D : Type 0} (v : VmState D) (old new : Store) (but : ℕ) : Ty
   pub each : (slot : ℕ) → StaysOrGoes v old new but slot
   pub laid : IsLaidOut new
   pub len : new.len ≡ old.len
+
+-- just one block was discarded: one that may be, and not this one
+pub record DiscardsOne {D : Type 0} (v : VmState D) (old new : Store) (but : ℕ) : Type 0 where
+  pub h : ℕ
+  pub handle : IsHandle h
+  pub other : h ≢ but
+  pub idle : is_idle v old h ≡ true
+  pub gone : new ≡ without old (vm_slot h)
 
 -- the handle of a block of the file by its owner, and 0 for a block of global memory
 abbrev pub own_handle_of : Owner → ℕ → ℕ

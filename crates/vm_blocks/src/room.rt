@@ -3,7 +3,7 @@ ghost use Rattle.std.specs.Prelude.{◌≡◌, ◌≢◌, ◌%◌, ◌<◌, ◌�
 ghost use Rattle.geos_model.specs.Heap.{IsBlockSize};
 ghost use Rattle.block_handles.specs.Names.{IsHandle, slot_of};
 ghost use Rattle.block_handles.specs.Store.{IsThere, size_of};
-ghost use Rattle.vm_blocks.specs.Room.{GrowsRoom, LacksRoom, MakesRoom, NoneIdle, Thins, is_idle, own_handle, there_count};
+ghost use Rattle.vm_blocks.specs.Room.{DiscardsOne, GrowsRoom, LacksRoom, MakesRoom, NoneIdle, Thins, is_idle, own_handle, there_count};
 ghost use Rattle.vm_blocks.specs.Tied.{IsTied};
 
 use crate::blocks::VmBlocks;
@@ -70,10 +70,12 @@ impl<D: Device + Drop> VmBlocks<D> {
         None
     }
 
-    /// Discards a block that is in memory, neither marked nor locked, and another than that of
-    /// the handle `but`, of which 0 names none. `false` where there is none: nothing has changed.
+    /// Discards one block that is in memory, neither marked nor locked, and another than that of
+    /// the handle `but`, of which 0 names none; nothing else changes. `false` where there is none:
+    /// nothing has changed.
     pub fn discard_one(&self, blocks: &mut Blocks, but: u16) -> bool
         requires { IsTied D.image D.honest self.now blocks.old }
+        ensures one { IsTrue result → DiscardsOne self.now blocks.old blocks.new but }
         ensures thins { IsTrue result → Thins self.now blocks.old blocks.new but }
         ensures fewer { IsTrue result → there_count blocks.new < there_count blocks.old }
         ensures none { result ≡ false → (blocks.new ≡ blocks.old) × NoneIdle self.now blocks.old but }
