@@ -12,18 +12,23 @@ impl<D: Device + Drop> Kernel<D> {
     ghost use Rattle.geos_model.specs.declared.name.Owner.TheVariants as owner;
     ghost use Rattle.geos_model.specs.Names.{vm};
     ghost use Rattle.geos_table.specs.VmCalls as table;
+    ghost use Rattle.geos_table.specs.VmFile.{VmFile};
+    ghost use Rattle.vm_blocks.specs.Found.{OpensAsKept};
     ghost use Rattle.vm_blocks.specs.Listed.{NoneLocked};
     ghost use Rattle.vm_blocks.specs.ListedCalls.{keeper_of};
     ghost use Rattle.vm_file.specs.State.{Finds};
     ghost use Rattle.geos_kernel.specs.Files.{AsksNothing, Commits, ReadsFile, vm_file_of};
     ghost use Rattle.geos_kernel.specs.Kernel.{Calls, LeavesVm, ListedHasNoRoom, NewListedHasNoRoom};
-    ghost use Rattle.geos_kernel.specs.View.{IsLocked, IsMarked};
+    ghost use Rattle.geos_kernel.specs.View.{IsFileOf, IsLocked, IsMarked};
 
     /// Whether the VM file is sure of the pair that it keeps: where it is not, it takes no commit.
     pub fn is_sure(&self) -> bool
         ensures sure { result ≡ self.now.core.vm.file.sure }
         // What `open` would find after a stop now.
         ensures stop { D.honest self.now.device → (c : List ℕ) → D.may_leave self.now.device c → Finds D.image (vm_file_of self.now) c }
+        // That is what the model has as kept.
+        ensures kept { (f : VmFile) → IsFileOf (D.honest self.now.device) self.now.core f → D.honest self.now.device
+            → (c : List ℕ) → D.may_leave self.now.device c → OpensAsKept f.kept c }
     {
         self.vm.is_sure()
     }

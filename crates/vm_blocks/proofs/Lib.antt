@@ -35,5 +35,6 @@ pub mod MemoryKept
 pub mod Marking
 pub mod Whole
 pub mod Words
+pub mod Found
 pub mod Begun
 pub mod Walk

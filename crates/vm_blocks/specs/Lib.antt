@@ -8,6 +8,7 @@ pub mod Spelled
 pub mod Matches
 pub mod FileOf
 pub mod Opened
+pub mod Found
 pub mod DoesRow
 pub mod ListedCalls
 pub mod Refused

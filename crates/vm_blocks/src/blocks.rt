@@ -9,6 +9,7 @@ ghost use Rattle.vm_file.specs.State.{Finds};
 ghost use Rattle.vm_blocks.specs.Blocks.{uid_of, is_marked_in};
 ghost use Rattle.vm_blocks.specs.DoesRow.{DoesRow};
 ghost use Rattle.vm_blocks.specs.FileOf.{IsMemoryOf};
+ghost use Rattle.vm_blocks.specs.Found.{OpensAsKept};
 ghost use Rattle.vm_blocks.specs.Listed.{IsListOf};
 ghost use Rattle.vm_blocks.specs.Opened.{opened_memory};
 ghost use Rattle.vm_blocks.specs.Refused.{of_uid};
@@ -54,8 +55,8 @@ impl<D: Device + Drop> VmBlocks<D> {
     {
         match empty_table(alloc) {
             Ok(mut entries) => {
-                are_words(file.saved());
                 file.device_gives_bytes();
+                are_words(file.saved());
                 let current = file.current();
                 are_words(current);
                 list(&mut entries, current);
@@ -90,7 +91,12 @@ impl<D: Device + Drop> VmBlocks<D> {
         ensures sure { result ≡ self.now.file.sure }
         // What `open` would find after a stop now.
         ensures stop { D.honest self.now.file.device → (c : List ℕ) → D.may_leave self.now.file.device c → Finds D.image self.now.file c }
+        // That is what the model has as kept.
+        ensures kept { (s : Store) (m : Memory) → IsMemoryOf D.image D.honest self.now s m → D.honest self.now.file.device
+            → (c : List ℕ) → D.may_leave self.now.file.device c → OpensAsKept m.file.kept c }
     {
+        self.file.current();
+        self.file.saved();
         self.file.is_sure()
     }
 
