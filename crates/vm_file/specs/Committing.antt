@@ -8,6 +8,7 @@ use Rattle.vm_file.specs.declared.commit.How.{How}
 use Rattle.vm_file.specs.declared.commit.How.TheVariants.{Update, Save, Revert}
 use Rattle.vm_file.specs.declared.directory.Entry.{Entry}
 use Rattle.vm_file.specs.declared.directory.Directory.{Directory}
+use Rattle.vm_file.specs.declared.spell.Placed.{Placed}
 use Rattle.vm_file.specs.Contents.{Block, Contents, Pair, listed, is_contents, pair_spelling}
 use Rattle.vm_file.specs.Device.{AfterWrite, Touched}
 use Rattle.vm_file.specs.Directories.{is_directory, directory_length}
@@ -117,6 +118,14 @@ block_read resident image at kept e = record { h = e.h; uid = e.uid; bytes = unw
 abbrev pub contents_read : (ℕ → Option (List ℕ)) → List ℕ → ℕ → List Entry → Directory → Contents
 contents_read resident image at kept d =
     record { blocks = map (block_read resident image at kept) d.entries.items; map_block = d.map_block; map_item = d.map_item }
+
+-- that block where the entries are those of a directory that is placed in the image
+abbrev pub placed_block : (ℕ → Option (List ℕ)) → List ℕ → Placed → Entry → Block
+placed_block resident image kept e = block_read resident image kept.from kept.directory.now.entries.items e
+
+-- a directory with the bytes of these blocks
+abbrev pub placed_contents : (ℕ → Option (List ℕ)) → List ℕ → Placed → Directory → Contents
+placed_contents resident image kept d = contents_read resident image kept.from kept.directory.now.entries.items d
 
 -- a block that is resident has the length of its entry
 abbrev pub HasLength : (ℕ → Option (List ℕ)) → Entry → Type 0

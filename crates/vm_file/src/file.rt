@@ -13,7 +13,7 @@ use crate::entries::{directory_length, place_in};
 use crate::error::{CommitError, CreateError, OpenError};
 use crate::opened::{Opened, base_of, read_file};
 use crate::reader::read_block;
-use crate::spell::{put_again, spell_directory};
+use crate::spell::{Placed, put_again, spell_directory};
 use std::alloc::Global;
 use std::marker::Model;
 
@@ -334,7 +334,11 @@ impl<D: Device + Drop> VmFile<D> {
         ensures reads { ReadsOnly D.image D.honest D.may_leave D.may_have_left self.old.device self.new.device }
     {
         let from = base_of(self.area, self.second) + 2;
-        spell_directory(&mut self.device, from, &self.current, cur, source, into)
+        let kept = Placed {
+            directory: &self.current,
+            from,
+        };
+        spell_directory(&mut self.device, &kept, cur, source, into)
     }
 
     /// Appends the saved directory with its blocks.
@@ -354,14 +358,11 @@ impl<D: Device + Drop> VmFile<D> {
     {
         let first = u64::from(directory_length(&self.current));
         let from = base_of(self.area, self.second) + first + 2;
-        spell_directory(
-            &mut self.device,
+        let kept = Placed {
+            directory: &self.saved,
             from,
-            &self.saved,
-            &self.saved,
-            &Nothing,
-            into,
-        )
+        };
+        spell_directory(&mut self.device, &kept, &self.saved, &Nothing, into)
     }
 
     /// Fills an empty buffer that has room for them with the bytes of the pair that a commit keeps.

@@ -7,7 +7,7 @@ ghost use Rattle.geos_model.specs.Block.{handle_word};
 ghost use Rattle.geos_model.specs.Bytes.{word_bytes};
 ghost use Rattle.geos_model.specs.Heap.{IsHeap};
 ghost use Rattle.lmem_raw.specs.Bytes.{part};
-ghost use Rattle.vm_file.specs.Committing.{AreResident, HasLength, block_read, contents_read};
+ghost use Rattle.vm_file.specs.Committing.{AreResident, HasLength, placed_block, placed_contents};
 ghost use Rattle.vm_file.specs.Contents.{block_spelling, contents_spelling, is_filled};
 ghost use Rattle.vm_file.specs.Device.{Rose};
 ghost use Rattle.vm_file.specs.Directories.{directory_length, entries_length};
@@ -88,30 +88,35 @@ fn append_block<D: Device>(
     read_from(device, from, h, into, at)
 }
 
+/// A directory of the file from which blocks are read, with the offset of its first entry.
+#[derive(Drop)]
+pub(crate) struct Placed<'a> {
+    pub(crate) directory: &'a Directory,
+    pub(crate) from: u64,
+}
+
 /// Appends the entry and the bytes of a block: those of the source where they are resident
-/// there, else those that are read from where the entry of the same handle among the kept ones
-/// has them, `from` being where the kept ones begin.
+/// there, else those that are read from where the kept directory's entry of the same handle
+/// has them.
 fn spell_block<D: Device, S: Source>(
     device: &mut D,
-    from: u64,
-    kept: &[Entry],
+    kept: &Placed<'_>,
     e: Entry,
     source: &S,
     into: &mut Vec<u8>,
 ) -> Result<(), Disk>
-    requires range { from < 2 ^ 32 }
-    requires few { length kept.now ≤ MOST_BLOCKS }
+    requires range { kept.now.from < 2 ^ 32 }
     requires room { vec_len into.old + (6 + e.len) ≤ vec_capacity into.old }
     requires length { HasLength (S.resident_bytes source.now) e }
     ensures items { D.honest device.old → OnOk result (into.new.items
-        ≡ into.old.items ++ block_spelling (block_read (S.resident_bytes source.now) (D.image device.old) from kept.now e)) }
+        ≡ into.old.items ++ block_spelling (placed_block (S.resident_bytes source.now) (D.image device.old) kept.now e)) }
     ensures len { vec_len into.new ≡ vec_len into.old + (6 + e.len) }
     ensures room { vec_capacity into.old ≤ vec_capacity into.new }
     ensures reads { ReadsOnly D.image D.honest D.may_leave D.may_have_left device.old device.new }
     ensures ok { OnOk result (D.failed device.new ≡ D.failed device.old) }
     ensures resident { IsSome (S.resident_bytes source.now e.h) → OnErr result ⊥ }
     ensures cause { D.honest device.old
-        → is_filled (block_read (S.resident_bytes source.now) (D.image device.old) from kept.now e) ≡ true
+        → is_filled (placed_block (S.resident_bytes source.now) (D.image device.old) kept.now e) ≡ true
         → OnErr result (Rose (D.failed device.old) (D.failed device.new)) }
 {
     put_words(into, e.h, e.uid, e.len);
@@ -121,7 +126,7 @@ fn spell_block<D: Device, S: Source>(
             Ok(())
         }
         None => {
-            let place = from + u64::from(place_in(kept, e.h));
+            let place = kept.from + u64::from(place_in(&kept.directory.entries, e.h));
             append_block(device, place, e.h, e.len, into)
         }
     }
@@ -130,29 +135,28 @@ fn spell_block<D: Device, S: Source>(
 /// Appends blocks, one behind the other, as `spell_block` does one.
 fn spell_blocks<D: Device, S: Source>(
     device: &mut D,
-    from: u64,
-    kept: &[Entry],
+    kept: &Placed<'_>,
     entries: &[Entry],
     source: &S,
     into: &mut Vec<u8>,
 ) -> Result<(), Disk>
-    requires range { from < 2 ^ 32 }
-    requires few { (length kept.now ≤ MOST_BLOCKS) × (length entries.now ≤ MOST_BLOCKS) }
+    requires range { kept.now.from < 2 ^ 32 }
+    requires few { length entries.now ≤ MOST_BLOCKS }
     requires room { vec_len into.old + entries_length entries.now ≤ vec_capacity into.old }
     requires length { All (HasLength (S.resident_bytes source.now)) entries.now }
     ensures items { D.honest device.old → OnOk result (into.new.items ≡ into.old.items
-        ++ flat_map block_spelling (map (block_read (S.resident_bytes source.now) (D.image device.old) from kept.now) entries.now)) }
+        ++ flat_map block_spelling (map (placed_block (S.resident_bytes source.now) (D.image device.old) kept.now) entries.now)) }
     ensures len { OnOk result (vec_len into.new ≡ vec_len into.old + entries_length entries.now) }
     ensures room { vec_capacity into.old ≤ vec_capacity into.new }
     ensures reads { ReadsOnly D.image D.honest D.may_leave D.may_have_left device.old device.new }
     ensures ok { OnOk result (D.failed device.new ≡ D.failed device.old) }
     ensures resident { AreResident (S.resident_bytes source.now) entries.now → OnErr result ⊥ }
     ensures cause { D.honest device.old
-        → list_all is_filled (map (block_read (S.resident_bytes source.now) (D.image device.old) from kept.now) entries.now) ≡ true
+        → list_all is_filled (map (placed_block (S.resident_bytes source.now) (D.image device.old) kept.now) entries.now) ≡ true
         → OnErr result (Rose (D.failed device.old) (D.failed device.new)) }
 {
     for e in entries {
-        match spell_block(device, from, kept, *e, source, into) {
+        match spell_block(device, kept, *e, source, into) {
             Ok(()) => {}
             Err(Disk) => return Err(Disk),
         }
@@ -163,35 +167,27 @@ fn spell_blocks<D: Device, S: Source>(
 /// Appends a directory with the bytes of its blocks, as `spell_block` does a block.
 pub(crate) fn spell_directory<D: Device, S: Source>(
     device: &mut D,
-    from: u64,
-    kept: &Directory,
+    kept: &Placed<'_>,
     directory: &Directory,
     source: &S,
     into: &mut Vec<u8>,
 ) -> Result<(), Disk>
-    requires range { from < 2 ^ 32 }
+    requires range { kept.now.from < 2 ^ 32 }
     requires room { vec_len into.old + directory_length directory.now ≤ vec_capacity into.old }
     requires length { All (HasLength (S.resident_bytes source.now)) directory.now.entries.items }
     ensures items { D.honest device.old → OnOk result (into.new.items ≡ into.old.items
-        ++ contents_spelling (contents_read (S.resident_bytes source.now) (D.image device.old) from kept.now.entries.items directory.now)) }
+        ++ contents_spelling (placed_contents (S.resident_bytes source.now) (D.image device.old) kept.now directory.now)) }
     ensures len { OnOk result (vec_len into.new ≡ vec_len into.old + directory_length directory.now) }
     ensures room { vec_capacity into.old ≤ vec_capacity into.new }
     ensures reads { ReadsOnly D.image D.honest D.may_leave D.may_have_left device.old device.new }
     ensures ok { OnOk result (D.failed device.new ≡ D.failed device.old) }
     ensures resident { AreResident (S.resident_bytes source.now) directory.now.entries.items → OnErr result ⊥ }
     ensures cause { D.honest device.old
-        → list_all is_filled (contents_read (S.resident_bytes source.now) (D.image device.old) from kept.now.entries.items directory.now).blocks ≡ true
+        → list_all is_filled (placed_contents (S.resident_bytes source.now) (D.image device.old) kept.now directory.now).blocks ≡ true
         → OnErr result (Rose (D.failed device.old) (D.failed device.new)) }
 {
     put_word(into, directory.entries.len() as u16);
-    match spell_blocks(
-        device,
-        from,
-        &kept.entries,
-        &directory.entries,
-        source,
-        into,
-    ) {
+    match spell_blocks(device, kept, &directory.entries, source, into) {
         Ok(()) => {}
         Err(Disk) => return Err(Disk),
     }

@@ -15,5 +15,5 @@ invariant-loop-e g l =
       room : vec_capacity l.fn.into ≤ vec_capacity l.into;
       reads : ReadsOnly d.image d.honest d.may_leave d.may_have_left l.fn.device l.device;
       count : d.failed l.device ≡ d.failed l.fn.device;
-      items : d.honest l.fn.device → vec_items l.into ≡ vec_items l.fn.into ++ flat_map block_spelling (map (block_read (g.S.Source.resident_bytes l.source) (d.image l.fn.device) l.from l.kept) (take l.e-index l.entries));
+      items : d.honest l.fn.device → vec_items l.into ≡ vec_items l.fn.into ++ flat_map block_spelling (map (block_read (g.S.Source.resident_bytes l.source) (d.image l.fn.device) l.kept.from l.kept.directory.now.entries.items) (take l.e-index l.entries));
     }
