@@ -1,5 +1,5 @@
 -- What is seen on either side of a file that is only read.
-use Rattle.std.specs.Prelude.{◌≡◌, ◌≤◌, ℕ, List, [], Result, Ok, Err, slice_index_or}
+use Rattle.std.specs.Prelude.{◌≡◌, ◌≤◌, ℕ, List, [], Result, Ok, Err, codes, slice_index_or}
 use Rattle.vm_file.specs.declared.directory.Directory.{Directory}
 use Rattle.vm_file.specs.declared.directory.Entry.{Entry}
 use Rattle.vm_file.specs.Contents.{Block, Contents, Pair}
@@ -11,6 +11,11 @@ use Rattle.geos_dump.specs.declared.error.DumpError.TheVariants.{Disk, Memory}
 use Rattle.geos_dump.specs.declared.sides.Side.{Side}
 use Rattle.geos_dump.specs.declared.sides.Side.TheVariants.{Current, Saved}
 
+-- the word for a side
+abbrev pub side_word : Side → List ℕ
+side_word Current = codes "current"
+side_word Saved = codes "saved"
+
 -- the contents of a pair on a side
 abbrev pub contents_on : Side → Pair → Contents
 contents_on Current p = p.cur
@@ -21,6 +26,10 @@ abbrev pub directory_on : {D : Type 0} → Side → FileState D → Directory
 directory_on Current f = f.current
 directory_on Saved f = f.saved
 
+-- the block of an entry, among these
+abbrev pub block_of : Entry → List Block → Block
+block_of e blocks = record { h = e.h; uid = e.uid; bytes = bytes_of_block blocks e.h }
+
 -- what stands for a block where there is none
 abbrev pub no_block : Block
 no_block = record { h = 0; uid = 0; bytes = [] }
@@ -29,7 +38,7 @@ no_block = record { h = 0; uid = 0; bytes = [] }
 pub record IsEntryOf (d : Directory) (blocks : List Block) (i : ℕ) (e : Entry) : Type 0 where
   pub has : HasBlock d e.h e.len
   pub size : e.len ≤ 65520
-  pub is : (record { h = e.h; uid = e.uid; bytes = bytes_of_block blocks e.h }) ≡ slice_index_or blocks i no_block
+  pub is : block_of e blocks ≡ slice_index_or blocks i no_block
 
 -- a file that was only read: it is what it was but for its device, keeps the same pair, and nothing was written
 pub record IsOnlyRead {D : Type 0} (image : D → List ℕ) (honest : D → Type 0) (may_leave : D → List ℕ → Type 0)

@@ -10,7 +10,7 @@ use crate::areas::Areas;
 use crate::bars::{columns_of, put_bar, put_number_right, put_right};
 use crate::error::DumpError;
 use crate::numbers::put_numbered;
-use crate::sides::{Side, count, directory, entry_at, read_block};
+use crate::sides::{Listed, Side, count, directory, entry_at, read_block};
 use crate::text::{MOST_BYTES, put_directory_line};
 use lmem_block::total_free;
 use std::alloc::{AllocError, Global};
@@ -98,16 +98,16 @@ fn used_bytes(block: &[u8]) -> u16
 fn put_block<D: Device + Drop>(
     out: &mut Vec<u8>,
     file: &mut VmFile<D>,
-    side: Side,
-    entry: Entry,
+    block: Listed,
     scale: Scale,
     buffer: &mut [u8],
 ) -> Result<(), DumpError>
-    requires listed { HasBlock (directory_on side file.old) entry.h entry.len }
-    requires room { entry.len ≤ length buffer.old }
+    requires listed { HasBlock (directory_on block.side file.old) block.entry.h block.entry.len }
+    requires room { block.entry.len ≤ length buffer.old }
     ensures looks { IsOnlyRead D.image D.honest D.may_leave D.may_have_left file.old file.new }
     ensures cause { Causes (D.honest file.old.device) (D.failed file.old.device) (D.failed file.new.device) result }
 {
+    let Listed { side, entry } = block;
     let bytes = &mut buffer[..usize::from(entry.len)];
     read_block(file, side, entry.h, bytes)?;
     put_row(out, entry, used_bytes(bytes), scale)?;
@@ -128,7 +128,7 @@ fn put_blocks<D: Device + Drop>(
 {
     for i in 0..count(file, side) {
         let entry = entry_at(file, side, i);
-        put_block(out, file, side, entry, scale, buffer)?;
+        put_block(out, file, Listed { side, entry }, scale, buffer)?;
     }
     Ok(())
 }
@@ -136,7 +136,6 @@ fn put_blocks<D: Device + Drop>(
 /// A directory, its columns and its blocks, behind an empty line.
 fn put_directory<D: Device + Drop>(
     out: &mut Vec<u8>,
-    word: &str,
     file: &mut VmFile<D>,
     side: Side,
     scale: Scale,
@@ -147,7 +146,7 @@ fn put_directory<D: Device + Drop>(
     ensures cause { Causes (D.honest file.old.device) (D.failed file.old.device) (D.failed file.new.device) result }
 {
     out.extend_from_slice(b"\n")?;
-    put_directory_line(out, word, directory(file, side))?;
+    put_directory_line(out, side, directory(file, side))?;
     if count(file, side) > 0 {
         out.extend_from_slice(b"handle   uid  size  used\n")?;
     }
@@ -183,7 +182,7 @@ pub fn map<D: Device + Drop>(
     let mut buffer = vec![in alloc; 0u8; MOST_BYTES]?;
     let mut out = Vec::new(alloc);
     put_areas(&mut out, file, areas, width)?;
-    put_directory(&mut out, "current", file, Side::Current, scale, &mut buffer)?;
-    put_directory(&mut out, "saved", file, Side::Saved, scale, &mut buffer)?;
+    put_directory(&mut out, file, Side::Current, scale, &mut buffer)?;
+    put_directory(&mut out, file, Side::Saved, scale, &mut buffer)?;
     Ok(out)
 }

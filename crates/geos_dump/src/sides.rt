@@ -6,7 +6,7 @@ ghost use Rattle.vm_file.specs.Contents.{listed};
 ghost use Rattle.vm_file.specs.Device.{Rose};
 ghost use Rattle.vm_file.specs.Directories.{is_directory};
 ghost use Rattle.vm_file.specs.State.{HasBlock, bytes_of_block, pair_of};
-ghost use Rattle.geos_dump.specs.Sides.{IsEntryOf, IsOnlyRead, contents_on, directory_on};
+ghost use Rattle.geos_dump.specs.Sides.{IsEntryOf, IsOnlyRead, contents_on, directory_on, side_word};
 
 use vm_file::{Device, Directory, Disk, Entry, MOST_BLOCKS, VmFile};
 
@@ -15,6 +15,23 @@ use vm_file::{Device, Directory, Disk, Entry, MOST_BLOCKS, VmFile};
 pub(crate) enum Side {
     Current,
     Saved,
+}
+
+/// The word for a side.
+pub(crate) fn word_of(side: Side) -> &'static str
+    ensures { result.now ≡ side_word side }
+{
+    match side {
+        Side::Current => "current",
+        Side::Saved => "saved",
+    }
+}
+
+/// A block that the directory on a side lists.
+#[derive(Clone, Copy)]
+pub(crate) struct Listed {
+    pub(crate) side: Side,
+    pub(crate) entry: Entry,
 }
 
 /// The directory on a side.

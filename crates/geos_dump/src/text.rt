@@ -3,16 +3,16 @@
 ghost use Rattle.std.specs.Prelude.{◌≡◌, ◌≤◌, ◌++◌, ℕ, OnOk, IfOk, codes, flat_map, length};
 ghost use Rattle.geos_model.specs.Heap.{IsHeap};
 ghost use Rattle.vm_file.specs.Outcomes.{ReadsOnly};
-ghost use Rattle.vm_file.specs.State.{HasBlock, bytes_of_block, pair_of};
+ghost use Rattle.vm_file.specs.State.{HasBlock, pair_of};
 ghost use Rattle.geos_dump.specs.DumpText.{block_line, block_text, directory_line, directory_text, dump_text};
-ghost use Rattle.geos_dump.specs.Sides.{Causes, IsOnlyRead, contents_on, directory_on};
+ghost use Rattle.geos_dump.specs.Sides.{Causes, IsOnlyRead, block_of, contents_on, directory_on, side_word};
 
 use crate::chunks::{put_chunk_dumps, put_chunks};
 use crate::error::DumpError;
 use crate::numbers::put_numbered;
-use crate::sides::{Side, count, directory, entry_at, read_block};
+use crate::sides::{Listed, Side, count, directory, entry_at, read_block, word_of};
 use std::alloc::{AllocError, Global};
-use vm_file::{Device, Directory, Entry, VmFile};
+use vm_file::{Device, Directory, VmFile};
 
 /// The greatest size of a block.
 pub(crate) const MOST_BYTES: usize = 65520;
@@ -62,33 +62,33 @@ fn put_block<D: Device + Drop>(
     out: &mut Vec<u8>,
     detail: Detail,
     file: &mut VmFile<D>,
-    side: Side,
-    entry: Entry,
+    block: Listed,
     buffer: &mut [u8],
 ) -> Result<(), DumpError>
-    requires listed { HasBlock (directory_on side file.old) entry.h entry.len }
-    requires room { entry.len ≤ length buffer.old }
-    ensures text { D.honest file.old.device → OnOk result (out.new.items ≡ out.old.items
-        ++ block_text detail (record { h = entry.h; uid = entry.uid; bytes = bytes_of_block (contents_on side (pair_of D.image file.old)).blocks entry.h })) }
+    requires listed { HasBlock (directory_on block.side file.old) block.entry.h block.entry.len }
+    requires room { block.entry.len ≤ length buffer.old }
+    ensures text { D.honest file.old.device → OnOk result (out.new.items
+        ≡ out.old.items ++ block_text detail (block_of block.entry (contents_on block.side (pair_of D.image file.old)).blocks)) }
     ensures looks { IsOnlyRead D.image D.honest D.may_leave D.may_have_left file.old file.new }
     ensures cause { Causes (D.honest file.old.device) (D.failed file.old.device) (D.failed file.new.device) result }
 {
+    let Listed { side, entry } = block;
     let bytes = &mut buffer[..usize::from(entry.len)];
     read_block(file, side, entry.h, bytes)?;
     put_block_text(out, detail, entry.h, entry.uid, bytes)?;
     Ok(())
 }
 
-/// The line of a directory, which begins with a word.
+/// The line of the directory on a side.
 pub(crate) fn put_directory_line(
     out: &mut Vec<u8>,
-    word: &str,
+    side: Side,
     directory: &Directory,
 ) -> Result<(), AllocError>
-    ensures { OnOk result (out.new.items ≡ out.old.items ++ directory_line word.now directory.now) }
+    ensures { OnOk result (out.new.items ≡ out.old.items ++ directory_line (side_word side) directory.now) }
 {
     let (group, item) = directory.map_item;
-    out.extend_from_slice(word.as_bytes())?;
+    out.extend_from_slice(word_of(side).as_bytes())?;
     put_numbered(out, " map ", usize::from(directory.map_block))?;
     put_numbered(out, " item ", usize::from(group))?;
     put_numbered(out, " ", usize::from(item))?;
@@ -111,7 +111,7 @@ fn put_blocks<D: Device + Drop>(
 {
     for i in 0..count(file, side) {
         let entry = entry_at(file, side, i);
-        put_block(out, detail, file, side, entry, buffer)?;
+        put_block(out, detail, file, Listed { side, entry }, buffer)?;
     }
     Ok(())
 }
@@ -120,18 +120,17 @@ fn put_blocks<D: Device + Drop>(
 fn put_directory<D: Device + Drop>(
     out: &mut Vec<u8>,
     detail: Detail,
-    word: &str,
     file: &mut VmFile<D>,
     side: Side,
     buffer: &mut [u8],
 ) -> Result<(), DumpError>
     requires room { length buffer.old ≡ MOST_BYTES }
     ensures text { D.honest file.old.device → OnOk result (out.new.items ≡ out.old.items
-        ++ directory_text detail word.now (contents_on side (pair_of D.image file.old))) }
+        ++ directory_text detail (side_word side) (contents_on side (pair_of D.image file.old))) }
     ensures looks { IsOnlyRead D.image D.honest D.may_leave D.may_have_left file.old file.new }
     ensures cause { Causes (D.honest file.old.device) (D.failed file.old.device) (D.failed file.new.device) result }
 {
-    put_directory_line(out, word, directory(file, side))?;
+    put_directory_line(out, side, directory(file, side))?;
     put_blocks(out, detail, file, side, buffer)
 }
 
@@ -157,14 +156,7 @@ pub fn dump<D: Device + Drop>(
 {
     let mut buffer = vec![in alloc; 0u8; MOST_BYTES]?;
     let mut out = Vec::new(alloc);
-    put_directory(
-        &mut out,
-        detail,
-        "current",
-        file,
-        Side::Current,
-        &mut buffer,
-    )?;
-    put_directory(&mut out, detail, "saved", file, Side::Saved, &mut buffer)?;
+    put_directory(&mut out, detail, file, Side::Current, &mut buffer)?;
+    put_directory(&mut out, detail, file, Side::Saved, &mut buffer)?;
     Ok(out)
 }

@@ -3,12 +3,12 @@ use Rattle.std.specs.List.{flat_map}
 use Rattle.std.proofs.lemmas.Result.{on_ok_weaker}
 use Rattle.vm_file.specs.State.{pair_of}
 use Rattle.geos_dump.specs.DumpText.{block_text, directory_line}
-use Rattle.geos_dump.specs.Sides.{contents_on}
+use Rattle.geos_dump.specs.Sides.{contents_on, side_word}
 use Rattle.geos_dump.proofs.text.put_directory.Goals as goal
 
 pub returns-clause-text : goal.returns-clause-text
 returns-clause-text g c = λ h.
-    let out = c.args.out.now.items in let word = c.args.word.now in
+    let out = c.args.out.now.items in let word = side_word c.args.side in
     let line = directory_line word c.directory.result.now in
     let blocks = flat_map (block_text c.args.detail) (contents_on c.args.side (pair_of g.D.Device.image c.args.file.now)).blocks in
     on_ok_weaker c.put_blocks.result
