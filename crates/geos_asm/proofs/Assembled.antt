@@ -9,7 +9,7 @@ use Rattle.geos_source.specs.Texts.{Code, code_of}
 use Rattle.geos_source.specs.Skeletons.{routine_of, skeleton}
 use Rattle.geos_source.proofs.SkeletonLaws.{skeleton-code}
 use Rattle.geos_infer.specs.Code.{SameCode}
-use Rattle.geos_infer.specs.Theorem.{FindsWhatThereIs, NoneIsAccepted, NothingHolds}
+use Rattle.geos_infer.specs.Theorem.{FindsWhatThereIs, NoneIsAccepted, NothingHoldsIn}
 use Rattle.geos_infer.specs.Causes.{Holds}
 use Rattle.geos_infer.specs.declared.cause.Cause.{Cause}
 use Rattle.geos_asm.specs.Assembling.{IsAssembled, HasNoRows, IsCauseOf}
@@ -21,11 +21,11 @@ assembled text code blank image read is same found =
     record { code = code; read = read; has = record { routines = same_code.routines; instrs = same_code.instrs ∙ skeleton-code code }; found = subst (λ (b : Parts). FindsWhatThereIs b image) is found }
 
 -- a routine of the code begins at its line
-pub no_rows : (text : List ℕ) (code : Code) (blank : Parts) (r at : ℕ) (routine : TextRoutine) → code_of text ≡ Ok code → blank ≡ skeleton code → r < length blank.routines → at ≡ r → routine ≡ get_or code.routines at routine → NoneIsAccepted blank → NothingHolds blank → HasNoRows text routine.line
+pub no_rows : (text : List ℕ) (code : Code) (blank : Parts) (r at : ℕ) (routine : TextRoutine) → code_of text ≡ Ok code → blank ≡ skeleton code → r < length blank.routines → at ≡ r → routine ≡ get_or code.routines at routine → NoneIsAccepted blank → NothingHoldsIn blank r → HasNoRows text routine.line
 no_rows text code blank r at routine read is within same here none stuck =
     let count = ap (λ (b : Parts). length b.routines) is ∙ length-map code.routines routine_of in
     let there = slice_get_read code.routines (length blank.routines) r routine count within (subst (λ (k : ℕ). routine ≡ get_or code.routines k routine) same here) in
-    record { code = code; read = read; begins = record { r = r; routine = routine; there = there; line_is = refl }; none = subst NoneIsAccepted is none; stuck = subst NothingHolds is stuck }
+    record { code = code; read = read; begins = record { r = r; routine = routine; there = there; line_is = refl }; none = subst NoneIsAccepted is none; stuck = subst (λ (b : Parts). NothingHoldsIn b r) is stuck }
 
 -- a cause that holds of a routine of the skeleton holds of the text's routine that begins at its line
 pub caused : (text : List ℕ) (code : Code) (blank : Parts) (r at line : ℕ) (items : List TextRoutine) (routine : TextRoutine) (cause : Cause) → code_of text ≡ Ok code → blank ≡ skeleton code → items ≡ code.routines → at ≡ r → at < length items → routine ≡ get_or items at routine → routine.line ≡ line → Holds blank r cause → IsCauseOf text line cause

@@ -7,7 +7,7 @@ use Rattle.geos_source.specs.declared.progress.TextRoutine.{TextRoutine}
 use Rattle.geos_source.specs.Texts.{Code, code_of}
 use Rattle.geos_source.specs.Skeletons.{routine_of, skeleton}
 use Rattle.geos_infer.specs.Code.{instrs_of}
-use Rattle.geos_infer.specs.Theorem.{FindsWhatThereIs, NoneIsAccepted, NothingHolds}
+use Rattle.geos_infer.specs.Theorem.{FindsWhatThereIs, NoneIsAccepted, NothingHoldsIn}
 use Rattle.geos_infer.specs.Causes.{Holds}
 use Rattle.geos_infer.specs.declared.cause.Cause.{Cause}
 use Rattle.geos_asm.specs.declared.error.AssembleError.{AssembleError}
@@ -44,14 +44,14 @@ pub record IsAssembled (text : List ℕ) (image : Parts) : Type 0 where
   pub has : HasCode code image
   pub found : FindsWhatThereIs (skeleton code) image
 
--- the text has no fault, and a routine of it begins at the line; if its code has no loops, no
--- image with that code is accepted, and no rows and numbers of steps hold
+-- the text has no fault, and a routine of it begins at the line; if its code has no loops, no image
+-- with that code is accepted; and if that routine has none, no rows and numbers of steps hold in it
 pub record HasNoRows (text : List ℕ) (line : ℕ) : Type 0 where
   pub code : Code
   pub read : code_of text ≡ Ok code
   pub begins : BeginsAt code line
   pub none : NoneIsAccepted (skeleton code)
-  pub stuck : NothingHolds (skeleton code)
+  pub stuck : NothingHoldsIn (skeleton code) begins.r
 
 -- why there is no image: the text's first fault, no rows, or want of memory
 abbrev pub IsWhyNoImage : List ℕ → AssembleError → Type 0

@@ -18,7 +18,7 @@ use Rattle.geos_verify.specs.Potentials.{asks, asks_setting, asked_along, asked_
 use Rattle.geos_verify.proofs.Places.{item_at, if_some}
 use Rattle.geos_infer.specs.declared.edges.Edge.{Edge}
 use Rattle.geos_infer.specs.Causes.{is_loop}
-use Rattle.geos_infer.specs.Code.{Forward, has_edge, edge_end}
+use Rattle.geos_infer.specs.Code.{ForwardIn, IsPcOf, has_edge, edge_end}
 use Rattle.geos_infer.specs.Edges.{leads_ahead, edge_of, edge_ahead}
 use Rattle.geos_infer.specs.Numbers.{Numbers, zeros}
 use Rattle.geos_infer.specs.Count.{edge_steps, return_steps, steps_at, ZerosFrom, asked_steps, asked_coefficients, AsksFor, HasSteps}
@@ -108,7 +108,7 @@ module _ (image : Parts) (limit pc : ℕ) (branch : Bool) (lt : pc < length imag
       let P : Option Point → Type 0 = λ o. IfSome o (λ point. AsksFor (edge_steps image limit pc point.instr branch steps) None) in
       subst P (sym found.1) (record { steps = nothing; zero = refl })
 
-  pub asks-some : (edge : Edge) (asked : Asked) (i : Instr) (row : Row) (q : Potential) (numbers : Numbers) → ZerosFrom image (pc + 1) numbers.coefficients → edge.to < length image.points
+  pub asks-some : (edge : Edge) (asked : Asked) (i : Instr) (row : Row) (q : Potential) (numbers : Numbers) → ZerosFrom image limit (pc + 1) numbers.coefficients → edge.to < limit
       → IfSome (slice_get image.points pc) (λ point. Some edge ≡ edge_ahead limit pc point.instr branch) → IfSome (slice_get image.points pc) (λ point. i ≡ point.instr)
       → q.constant ≡ get_or numbers.steps edge.to 0 → q.coefficients ≡ get_or numbers.coefficients edge.to []
       → asked ≡ (if branch then asked_branching i i.opcode q else asked_along image i i.opcode row q)
@@ -135,11 +135,11 @@ loop-only Loop e = refl
 loop-only _ e = absurd cc
 
 -- there is no LOOP
-pub no-loop : (image : Parts) → Forward image → (pc : ℕ) (i : Instr) → pc < length image.points → IfSome (slice_get image.points pc) (λ point. i ≡ point.instr) → i.opcode ≢ Loop
-no-loop image forward pc i lt there =
+pub no-loop : (image : Parts) (r : ℕ) → ForwardIn image r → (pc : ℕ) (i : Instr) → IsPcOf image r pc → pc < length image.points → IfSome (slice_get image.points pc) (λ point. i ≡ point.instr) → i.opcode ≢ Loop
+no-loop image r forward pc i within lt there =
     let found = item_at image.points pc lt in
     let same : i ≡ found.0.instr = if_some (λ point. i ≡ point.instr) (slice_get image.points pc) found.0 found.1 there in
-    forward.no_loop pc i (code-at image pc found.0 found.1 ∙ ap (λ (x : Instr). Some x) (sym same))
+    forward.no_loop pc i within (code-at image pc found.0 found.1 ∙ ap (λ (x : Instr). Some x) (sym same))
 
 -- Both edges of an instruction
 

@@ -1,17 +1,26 @@
 -- Where a routine's instructions lie.
-use Rattle.std.proofs.Common.{◌≡◌, ◌<◌, ◌+◌, ℕ, suc, length, sym, ap, ◌∙◌, add-one}
+use Rattle.std.proofs.Common.{◌≡◌, ◌<◌, ◌≤◌, ◌+◌, ℕ, true, [], length, Some, slice_get, arith}
+use Rattle.geos_image.specs.declared.routine.Routine.{Routine}
 use Rattle.geos_image.specs.Parts.{Parts, start_of}
-use Rattle.geos_image.proofs.Starts.{start_of-next}
-use Rattle.geos_verify.proofs.Places.{item_at}
+use Rattle.geos_image.specs.Legal.{is_image}
+use Rattle.geos_image.proofs.Instrs.{image_parts}
+use Rattle.geos_image.proofs.Starts.{start_of-end}
+use Rattle.geos_semantics.proofs.Leads.{routine_parts}
 use Rattle.geos_infer.specs.declared.body.Body.{Body}
-use Rattle.geos_infer.specs.Code.{Spans}
+use Rattle.geos_infer.specs.Code.{IsPcOf}
 
-spans : (image : Parts) (r start end : ℕ) → r < length image.routines → start ≡ start_of image.routines r → end ≡ start_of image.routines (r + 1) → Spans image.routines r start end
-spans image r start end lt begins ends =
-    let found = item_at image.routines r lt in
-    let next : start_of image.routines (suc r) ≡ start_of image.routines r + found.0.count = start_of-next image.routines r found.0 found.1 in
-    record { routine = found.0; there = found.1; start_is = begins; end_is = ends ∙ ap (start_of image.routines) (add-one r) ∙ next ∙ ap (λ n. n + found.0.count) (sym begins) }
+is-pc : (image : Parts) (r start end pc : ℕ) → start ≡ start_of image.routines r → end ≡ start_of image.routines (r + 1) → start ≤ pc → pc < end → IsPcOf image r pc
+is-pc image r start end pc begins ends low high = record { above = omega arith; below = omega arith }
 
 -- the instructions of a body are those of its routine
-pub body-spans : (body : Body) → Spans body.image.now.routines body.r body.start body.end
-body-spans body = spans body.image.now body.r body.start body.end body.there body.begins body.ends
+pub in-body : (body : Body) (pc : ℕ) → body.start ≤ pc → pc < body.end → IsPcOf body.image.now body.r pc
+in-body body pc low high = is-pc body.image.now body.r body.start body.end pc body.begins body.ends low high
+
+-- where a routine lies
+pub lies : (image : Parts) → is_image image ≡ true → (r : ℕ) (routine : Routine) → slice_get image.routines r ≡ Some routine
+    → (start_of image.routines r + routine.count ≤ length image.points) × (0 < routine.count) × (length image.points ≤ 4096)
+lies image legal r routine there =
+    let parts = image_parts image legal in
+    let end = start_of-end image.routines r routine there in
+    let counts = parts.counts in
+    (omega arith, (routine_parts [] image.routines r routine parts.routines there).count, parts.short)

@@ -1,5 +1,5 @@
 -- What is found is enough, where something is.
-use Rattle.std.proofs.Common.{◌≡◌, ℕ, zero, suc, ◌+◌, ◌*◌, ◌<◌, ◌≤◌, Bool, true, false, List, [], ◌∷◌, length, map, Option, Some, None, slice_get, get_or, refl, sym, ap, ◌∙◌, subst, arith}
+use Rattle.std.proofs.Common.{◌≡◌, ℕ, zero, suc, ◌+◌, ◌*◌, ◌<◌, ◌≤◌, Bool, true, false, List, [], ◌∷◌, length, map, Option, Some, None, slice_get, get_or, refl, sym, ap, ◌∙◌, subst, arith, inl, inr, ◌⊎◌}
 use Rattle.std.specs.Prelude.{◌&&◌, ◌==◌, nat_le, nat_lt, option_map}
 use Rattle.std.specs.List.{list_all}
 use Rattle.std.proofs.lemmas.Bool.{and_parts, le-leb, lt-ltb, eq-eqb}
@@ -13,42 +13,30 @@ use Rattle.geos_image.specs.Parts.{Parts, start_of, total_count}
 use Rattle.geos_image.specs.Legal.{is_row, is_instr, is_point, are_routines, is_image}
 use Rattle.geos_image.proofs.Instrs.{image_parts}
 use Rattle.geos_verify.specs.Rows.{fits}
-use Rattle.geos_verify.specs.Rules.{has_place, names_empty_slot, refusal, Accepted, IsChecked}
-use Rattle.geos_verify.proofs.Places.{item_at}
+use Rattle.geos_verify.specs.Rules.{has_place, names_empty_slot, refusal, HasPoint, Accepted, IsChecked}
+use Rattle.geos_verify.proofs.Places.{item_at, place_bounds}
+use Rattle.geos_infer.specs.declared.error.InferError.{InferError}
+use Rattle.geos_infer.specs.declared.error.InferError.TheVariants.{NoRows}
 use Rattle.geos_infer.specs.Joins.{clean}
-use Rattle.geos_infer.specs.Code.{Edge, Forward, SameCode, instrs_of, instr_of, has_edge, edge_end, edge_row}
-use Rattle.geos_infer.specs.Solutions.{RowsHold, StepsHold, call_steps}
-use Rattle.geos_infer.specs.Flow.{row_of, known_at, KnownAt, edge_number, Flowing}
-use Rattle.geos_infer.specs.Numbers.{Numbers}
-use Rattle.geos_infer.specs.Count.{Counting, ZerosFrom, AreCounted}
+use Rattle.geos_infer.specs.Code.{Edge, IsPcOf, Forward, ForwardIn, SameCode, instrs_of, instr_of, has_edge, edge_end, edge_row}
+use Rattle.geos_infer.specs.Solutions.{RowsHoldIn, StepsHoldIn, NoRowsHoldIn, NoStepsHoldIn, call_steps}
+use Rattle.geos_infer.specs.Flow.{row_of, known_at, KnownAt, edge_number, Flowing, HaveFlowed}
+use Rattle.geos_infer.specs.Numbers.{Numbers, zeros}
+use Rattle.geos_infer.specs.Count.{Counting, CountedIn, AreCounted}
 use Rattle.geos_infer.specs.Points.{potential_of, PointsOf, RoutinesOf}
-use Rattle.geos_infer.specs.Theorem.{HasAccepted, FindsWhatThereIs, with_points}
+use Rattle.geos_infer.specs.Theorem.{HasAccepted, FindsWhatThereIs, NoneIsAccepted, NothingHoldsIn, NamesRoutine, with_points}
 use Rattle.geos_infer.proofs.Pairwise.{both}
 use Rattle.geos_infer.proofs.Fits.{fits-trans}
 use Rattle.geos_infer.proofs.Cleaning.{clean-least}
+use Rattle.geos_infer.proofs.Bodies.{lies}
 use Rattle.geos_infer.proofs.Flows.{all-reached}
 use Rattle.geos_infer.proofs.Ends.{code-at, code-length, same-edge}
-use Rattle.geos_infer.proofs.Wanted.{row_at, constant_at, map-get, rows-wanted, steps-wanted}
+use Rattle.geos_infer.proofs.Wanted.{row_at, constant_at, map-get, routine-at, ends-at, closed-wanted, rows-wanted, steps-wanted, forward-in}
 use Rattle.geos_infer.proofs.Accepting.{Beside, accepts}
 
 number-last : (k n : ℕ) (b : Bool) → k < n → edge_number k b < 2 * n
 number-last k n true h = omega arith
 number-last k n false h = omega arith
-
--- an accepted image with the code of another
-pub record Alike (image o : Parts) : Type 0 where
-  pub same : SameCode image o
-  pub checked : IsChecked o
-  pub rows : RowsHold image (map row_at o.points)
-  pub steps : StepsHold image (map constant_at o.points)
-
-pub alike : (image : Parts) → Forward image → (has : HasAccepted image) → Alike image has.other
-alike image forward has = record {
-  same = has.same;
-  checked = has.checked;
-  rows = rows-wanted image has.other has.same has.checked;
-  steps = steps-wanted image has.other has.same forward has.fits has.checked;
-}
 
 -- lists of one length that have the same items
 same-lists : {A : Type 0} (xs ys : List A) → length xs ≡ length ys → ((k : ℕ) (y : A) → slice_get ys k ≡ Some y → slice_get xs k ≡ Some y) → xs ≡ ys
@@ -78,23 +66,26 @@ pub record Plain (image : Parts) (known : List (Option Row)) (steps : List ℕ) 
   pub len : length points ≡ length image.points
   pub each : (pc : ℕ) (old : Point) → slice_get image.points pc ≡ Some old → slice_get points pc ≡ Some (found_point known steps pc old.instr)
 
-plain : (image : Parts) (known : List (Option Row)) (numbers : Numbers) (points : List Point) → ZerosFrom image 0 numbers.coefficients → PointsOf image known numbers points → Plain image known numbers.steps points
-plain image known numbers points none P = record {
+plain : (image : Parts) → is_image image ≡ true → (known : List (Option Row)) (numbers : Numbers) (points : List Point) → ((pc : ℕ) → pc < length image.points → get_or numbers.coefficients pc [] ≡ zeros)
+    → PointsOf image known numbers points → Plain image known numbers.steps points
+plain image legal known numbers points none P = record {
   len = P.len;
   each = λ pc old read.
-      let lt = slice_get_within image.points pc old read in
-      let is = none.each pc (omega arith) lt in
+      let is = none pc (slice_get_within image.points pc old read) in
       subst (λ (k : List ℕ). slice_get points pc ≡ Some (record { instr = old.instr; row = row_of (known_at known pc); potential = record { constant = get_or numbers.steps pc 0; coefficients = k } })) is (P.each pc old read);
 }
 
-module _ (image : Parts) (legal : is_image image ≡ true) (forward : Forward image) (o : Parts) (A : Alike image o) (known : List (Option Row)) (steps : List ℕ) (points : List Point)
-    (F : Flowing image (map row_at o.points) known (2 * length image.points)) (C : Counting image (map constant_at o.points) steps 0) (P : Plain image known steps points) where
+module _ (image : Parts) (legal : is_image image ≡ true) (o : Parts) (same : SameCode image o) (checked : IsChecked o) (known : List (Option Row)) (steps : List ℕ) (points : List Point) (P : Plain image known steps points)
+    (r : ℕ) (routine : Routine) (there : slice_get image.routines r ≡ Some routine) (forward : ForwardIn image r) (rows : RowsHoldIn image r (map row_at o.points))
+    (F : Flowing image r (map row_at o.points) known (2 * start_of image.routines (r + 1)))
+    (C : Counting image (start_of image.routines (r + 1)) (map constant_at o.points) steps (start_of image.routines r)) where
   -- everything is reached
-  reached : (pc : ℕ) (i : Instr) → slice_get (instrs_of image) pc ≡ Some i → (row : Row) × (known_at known pc ≡ Some row)
-  reached pc i read =
+  reached : (pc : ℕ) → IsPcOf image r pc → (row : Row) × (known_at known pc ≡ Some row)
+  reached pc within =
       let len = code-length image in
-      let lt = slice_get_within (instrs_of image) pc i read in
-      all-reached image forward (map row_at o.points) known (2 * length image.points) F (length image.points) (omega arith) (omega arith) pc (omega arith)
+      let room = lies image legal r routine there in
+      let end = ends-at image.routines r routine there in
+      all-reached image r forward routine there (map row_at o.points) known F (omega (arith, room.0)) pc within
 
   found-at : (pc : ℕ) (old : Point) → slice_get image.points pc ≡ Some old → slice_get points pc ≡ Some (found_point known steps pc old.instr)
   found-at pc old read = P.each pc old read
@@ -102,7 +93,7 @@ module _ (image : Parts) (legal : is_image image ≡ true) (forward : Forward im
   -- the point of the other image
   other-at : (pc : ℕ) (old : Point) → slice_get image.points pc ≡ Some old → (point : Point) × (slice_get o.points pc ≡ Some point) × (point.instr ≡ old.instr)
   other-at pc old read =
-      let there : slice_get (instrs_of o) pc ≡ Some old.instr = ap (λ (code : List Instr). slice_get code pc) A.same.instrs ∙ code-at image pc old read in
+      let there : slice_get (instrs_of o) pc ≡ Some old.instr = ap (λ (code : List Instr). slice_get code pc) same.instrs ∙ code-at image pc old read in
       map-get instr_of o.points pc old.instr there
 
   want-row : (pc : ℕ) (point : Point) → slice_get o.points pc ≡ Some point → slice_get (map row_at o.points) pc ≡ Some point.row
@@ -111,17 +102,17 @@ module _ (image : Parts) (legal : is_image image ≡ true) (forward : Forward im
   want-steps : (pc : ℕ) (point : Point) → slice_get o.points pc ≡ Some point → get_or (map constant_at o.points) pc 0 ≡ point.potential.constant
   want-steps pc point read = get_or_from_slice_get (map constant_at o.points) pc point.potential.constant 0 (slice_get-map constant_at o.points pc ∙ ap (option_map constant_at) read)
 
-  row-is : (pc : ℕ) (old : Point) → slice_get image.points pc ≡ Some old → (row : Row) × (known_at known pc ≡ Some row) × (row_of (known_at known pc) ≡ clean row)
-  row-is pc old read = let r = reached pc old.instr (code-at image pc old read) in (r.0, r.1, ap row_of r.1)
+  row-is : (pc : ℕ) → IsPcOf image r pc → (row : Row) × (known_at known pc ≡ Some row) × (row_of (known_at known pc) ≡ clean row)
+  row-is pc within = let got = reached pc within in (got.0, got.1, ap row_of got.1)
 
-  row-below : (pc : ℕ) (old point : Point) → slice_get image.points pc ≡ Some old → slice_get o.points pc ≡ Some point → fits (row_of (known_at known pc)) point.row ≡ true
-  row-below pc old point read at =
-      let r = row-is pc old read in
-      let below = F.below pc r.0 point.row r.1 (want-row pc point at) in
-      subst (λ (x : Row). fits x point.row ≡ true) (sym r.2) ((clean-least r.0).least point.row below (A.rows.clean pc point.row (want-row pc point at)))
+  row-below : (pc : ℕ) (point : Point) → IsPcOf image r pc → slice_get o.points pc ≡ Some point → fits (row_of (known_at known pc)) point.row ≡ true
+  row-below pc point within at =
+      let got = row-is pc within in
+      let below = F.below pc got.0 point.row within got.1 (want-row pc point at) in
+      subst (λ (x : Row). fits x point.row ≡ true) (sym got.2) ((clean-least got.0).least point.row below (rows.clean pc point.row within (want-row pc point at)))
 
-  row-clean : (pc : ℕ) (old : Point) → slice_get image.points pc ≡ Some old → names_empty_slot (row_of (known_at known pc)) ≡ false
-  row-clean pc old read = let r = row-is pc old read in subst (λ (x : Row). names_empty_slot x ≡ false) (sym r.2) ((clean-least r.0).clean)
+  row-clean : (pc : ℕ) → IsPcOf image r pc → names_empty_slot (row_of (known_at known pc)) ≡ false
+  row-clean pc within = let got = row-is pc within in subst (λ (x : Row). names_empty_slot x ≡ false) (sym got.2) ((clean-least got.0).clean)
 
   -- a row that fits what is known fits what is found
   known-fits : (pc : ℕ) (row : Row) → KnownAt known pc row → fits row (row_of (known_at known pc)) ≡ true
@@ -130,53 +121,55 @@ module _ (image : Parts) (legal : is_image image ≡ true) (forward : Forward im
       subst (λ (x : Row). fits row x ≡ true) (sym is) (fits-trans row K.known_row (clean K.known_row) K.fits ((clean-least K.known_row).weaker))
 
   -- where an edge leads
-  edge-found : (pc to : ℕ) (branch : Bool) (old next : Point) → slice_get image.points pc ≡ Some old → has_edge old.instr branch ≡ true → edge_end pc old.instr branch ≡ to → slice_get points to ≡ Some next
+  edge-found : (pc to : ℕ) (branch : Bool) (old next : Point) → IsPcOf image r pc → slice_get image.points pc ≡ Some old → has_edge old.instr branch ≡ true → edge_end pc old.instr branch ≡ to → slice_get points to ≡ Some next
       → (fits (edge_row image old.instr branch (row_of (known_at known pc))) next.row ≡ true) × ((n : ℕ) × (next.potential ≡ potential_of n) × (n + 1 + call_steps image old.instr ≤ get_or steps pc 0))
-  edge-found pc to branch old next read has leads at =
+  edge-found pc to branch old next within read has leads at =
       let edge : Edge (instrs_of image) pc branch to old.instr = record { read = code-at image pc old read; has = has; leads = leads } in
       let lt = slice_get_within points to next at in
-      let from = slice_get_within image.points pc old read in
       let len = code-length image in
       let points_len = P.len in
       let there = item_at image.points to (omega arith) in
       let is : found_point known steps to there.0.instr ≡ next = same_Some (found_point known steps to there.0.instr) next (sym (found-at to there.0 there.1) ∙ at) in
-      let row = row-is pc old read in
-      let K = F.edges pc to branch old.instr row.0 (number-last pc (length image.points) branch from) edge (omega arith) row.1 in
+      let row = row-is pc within in
+      let K = F.edges pc to branch old.instr row.0 within (number-last pc (start_of image.routines (r + 1)) branch within.below) edge row.1 in
       let fit : fits (edge_row image old.instr branch (row_of (known_at known pc))) (row_of (known_at known to)) ≡ true =
       subst (λ (x : Row). fits (edge_row image old.instr branch x) (row_of (known_at known to)) ≡ true) (sym row.2) (known-fits to (edge_row image old.instr branch (clean row.0)) K) in
-      let paid = C.edges pc to branch old.instr (omega arith) edge (omega arith) in
+      let paid = C.edges pc to branch old.instr within.above within.below edge in
       (subst (λ (x : Point). fits (edge_row image old.instr branch (row_of (known_at known pc))) x.row ≡ true) is fit, (get_or steps to 0, ap (λ (x : Point). x.potential) (sym is), paid))
 
-  beside : (r pc : ℕ) (routine : Routine) (old point : Point) → slice_get image.routines r ≡ Some routine → slice_get image.points pc ≡ Some old → slice_get o.points pc ≡ Some point
+  beside : (pc : ℕ) (old point : Point) → IsPcOf image r pc → slice_get image.points pc ≡ Some old → slice_get o.points pc ≡ Some point
       → Beside (with_points image points) routine (start_of image.routines r) pc old.instr (row_of (known_at known pc)) point.row (get_or steps pc 0)
-  beside r pc routine old point there read at = record {
-    below = row-below pc old point read at;
-    clean = row-clean pc old read;
-    entry = λ start. known-fits pc routine.entry (F.entries pc routine.entry (record { r = r; routine = routine; there = there; start = start; entry_is = refl }));
-    along = λ next falls e. (let f = edge-found pc (pc + 1) false old next read falls refl e in (subst (λ (x : Row). fits x next.row ≡ true) (sym (same-edge image (with_points image points) refl old.instr false (row_of (known_at known pc)))) f.0, f.1));
-    branch = λ next goes e. edge-found pc old.instr.target true old next read goes refl e;
-    return = λ is. C.returns pc old.instr (omega arith) (code-at image pc old read) is;
+  beside pc old point within read at = record {
+    below = row-below pc point within at;
+    clean = row-clean pc within;
+    entry = λ start. known-fits pc routine.entry (subst (λ (n : ℕ). KnownAt known n routine.entry) (sym start) (F.entry routine there));
+    along = λ next falls e. (let f = edge-found pc (pc + 1) false old next within read falls refl e in (subst (λ (x : Row). fits x next.row ≡ true) (sym (same-edge image (with_points image points) refl old.instr false (row_of (known_at known pc)))) f.0, f.1));
+    branch = λ next goes e. edge-found pc old.instr.target true old next within read goes refl e;
+    return = λ is. C.returns pc old.instr within.above within.below (code-at image pc old read) is;
   }
 
   -- no rule refuses
-  pub found-accepted : Accepted (with_points image points)
-  found-accepted r pc routine point has =
+  pub found-accepted : (pc : ℕ) (point : Point) → HasPoint (with_points image points) r routine pc point → refusal (with_points image points) r routine (start_of image.routines r) pc point ≡ None
+  found-accepted pc point has =
       let lt = slice_get_within points pc point has.read in
       let points_len = P.len in
       let old = item_at image.points pc (omega arith) in
+      let place = place_bounds (start_of image.routines r) routine.count pc has.within in
+      let end = ends-at image.routines r routine there in
+      let within : IsPcOf image r pc = record { above = place.0; below = omega (arith, place.1) } in
       let is : found_point known steps pc old.0.instr ≡ point = same_Some (found_point known steps pc old.0.instr) point (sym (found-at pc old.0 old.1) ∙ has.read) in
       let other = other-at pc old.0 old.1 in
-      let there : slice_get o.routines r ≡ Some routine = ap (λ (rs : List Routine). slice_get rs r) A.same.routines ∙ has.there in
-      let within = subst (λ (rs : List Routine). has_place (start_of rs r) routine.count pc ≡ true) (sym A.same.routines) has.within in
-      let accepted : refusal o r routine (start_of o.routines r) pc other.0 ≡ None = A.checked.1 r pc routine other.0 (record { there = there; within = within; read = other.1 }) in
+      let there_other : slice_get o.routines r ≡ Some routine = ap (λ (rs : List Routine). slice_get rs r) same.routines ∙ there in
+      let within_other = subst (λ (rs : List Routine). has_place (start_of rs r) routine.count pc ≡ true) (sym same.routines) has.within in
+      let accepted : refusal o r routine (start_of o.routines r) pc other.0 ≡ None = checked.1 r pc routine other.0 (record { there = there_other; within = within_other; read = other.1 }) in
       let here : refusal o r routine (start_of image.routines r) pc (record other.0 { instr = old.0.instr }) ≡ None =
-      subst (λ (rs : List Routine). refusal o r routine (start_of rs r) pc (record other.0 { instr = old.0.instr }) ≡ None) A.same.routines
+      subst (λ (rs : List Routine). refusal o r routine (start_of rs r) pc (record other.0 { instr = old.0.instr }) ≡ None) same.routines
       (subst (λ (i : Instr). refusal o r routine (start_of o.routines r) pc (record other.0 { instr = i }) ≡ None) other.2 accepted) in
-      let below = C.below pc (omega arith) (let len = code-length image in omega arith) in
+      let below = C.below pc within.above within.below in
       let want = want-steps pc other.0 other.1 in
       subst (λ (x : Point). refusal (with_points image points) r routine (start_of image.routines r) pc x ≡ None) is
-      (accepts o (with_points image points) A.same.routines r routine (start_of image.routines r) pc old.0.instr (row_of (known_at known pc)) other.0.row (get_or steps pc 0) other.0.potential (omega arith) here
-      (beside r pc routine old.0 other.0 has.there old.1 other.1))
+      (accepts o (with_points image points) same.routines r routine (start_of image.routines r) pc old.0.instr (row_of (known_at known pc)) other.0.row (get_or steps pc 0) other.0.potential (omega arith) here
+      (beside pc old.0 other.0 within old.1 other.1))
 
 -- the format allows what is found
 pub found-legal : (image : Parts) (known : List (Option Row)) (numbers : Numbers) (points : List Point) → is_image image ≡ true → PointsOf image known numbers points → is_image (with_points image points) ≡ true
@@ -217,16 +210,63 @@ found-code image known numbers points P = same-lists (map instr_of points) (map 
         let old = map-get instr_of image.points k i e in
         slice_get-map instr_of points k ∙ ap (option_map instr_of) (P.each k old.0 old.1) ∙ ap (λ (x : Instr). Some x) old.2
 
+-- code without loops that is accepted has none in any routine
+pub forward-accepted : (image : Parts) → is_image image ≡ true → Forward image → (has : HasAccepted image) → (r : ℕ) → ForwardIn image r
+forward-accepted image legal forward has r = forward-in image legal forward (λ q routine there. closed-wanted image has.other has.same has.checked q routine there) r
+
+module _ (image : Parts) (legal : is_image image ≡ true) (known : List (Option Row)) (numbers : Numbers) (points : List Point) (flowed : HaveFlowed image known (length image.routines)) (counts : AreCounted image 0 (length image.routines) numbers)
+    (P : PointsOf image known numbers points) (forward : Forward image) (has : HasAccepted image) where
+  forward-at : (r : ℕ) → ForwardIn image r
+  forward-at = forward-accepted image legal forward has
+
+  rows-at : (r : ℕ) → r < length image.routines → RowsHoldIn image r (map row_at has.other.points)
+  rows-at r lt = let routine = item_at image.routines r lt in rows-wanted image has.other has.same has.checked r routine.0 routine.1
+
+  steps-at : (r : ℕ) → r < length image.routines → StepsHoldIn image r (map constant_at has.other.points)
+  steps-at r lt = let routine = item_at image.routines r lt in steps-wanted image has.other has.same has.checked r routine.0 routine.1 forward has.fits
+
+  rows-of : (r : ℕ) → r < length image.routines → Flowing image r (map row_at has.other.points) known (2 * start_of image.routines (r + 1))
+  rows-of = flowed (map row_at has.other.points) (λ r lt. (forward-at r, rows-at r lt))
+
+  counted-of : (r : ℕ) → r < length image.routines → CountedIn image r (map constant_at has.other.points) numbers
+  counted-of r lt = counts (map constant_at has.other.points) (λ q q_lt. (forward-at q, steps-at q q_lt)) r (omega arith) lt
+
+  zeros-at : (pc : ℕ) → pc < length image.points → get_or numbers.coefficients pc [] ≡ zeros
+  zeros-at pc lt =
+      let all = (image_parts image legal).counts in
+      let at = routine-at image.routines pc (omega arith) in
+      let end = ends-at image.routines at.0 at.1 at.2 in
+      (counted-of at.0 (slice_get_within image.routines at.0 at.1 at.2)).zero.each pc at.3 (omega (arith, at.4))
+
+  all-accepted : Accepted (with_points image points)
+  all-accepted r pc routine point at =
+      let lt = slice_get_within image.routines r routine at.there in
+      let L = plain image legal known numbers points zeros-at P in
+      found-accepted image legal has.other has.same has.checked known numbers.steps points L r routine at.there (forward-at r) (rows-at r lt) (rows-of r lt) (counted-of r lt).steps pc point at
+
 -- where an image with that code is accepted, what is found is
-pub found-checked : (image : Parts) → is_image image ≡ true → (known : List (Option Row)) (numbers : Numbers) (points : List Point)
-    → ((want : List Row) → Forward image → RowsHold image want → Flowing image want known (2 * length image.points))
-    → AreCounted image numbers → PointsOf image known numbers points → FindsWhatThereIs image (with_points image points)
-found-checked image legal known numbers points rows counts P = λ forward has.
-    let A = alike image forward has in
-    let F = rows (map row_at has.other.points) forward A.rows in
-    let C = counts (map constant_at has.other.points) forward A.steps in
-    let L = plain image known numbers points C.zero P in
-    (found-legal image known numbers points legal P, found-accepted image legal forward has.other A known numbers.steps points F C.steps L)
+pub found-checked : (image : Parts) → is_image image ≡ true → (known : List (Option Row)) (numbers : Numbers) (points : List Point) → HaveFlowed image known (length image.routines) → AreCounted image 0 (length image.routines) numbers
+    → PointsOf image known numbers points → FindsWhatThereIs image (with_points image points)
+found-checked image legal known numbers points flowed counts P = λ forward has. (found-legal image known numbers points legal P, all-accepted image legal known numbers points flowed counts P forward has)
+
+-- where nothing holds in some routine, no image is accepted
+pub none-accepted : (image : Parts) → is_image image ≡ true → (r : ℕ) → r < length image.routines → NothingHoldsIn image r → NoneIsAccepted image
+none-accepted image legal r lt nothing = λ forward has.
+    let routine = item_at image.routines r lt in
+    nothing (forward-accepted image legal forward has r) (map row_at has.other.points) (map constant_at has.other.points)
+    (rows-wanted image has.other has.same has.checked r routine.0 routine.1) (steps-wanted image has.other has.same has.checked r routine.0 routine.1 forward has.fits)
+
+-- the routine that an error names is one in which nothing holds
+pub stuck-in : (image : Parts) (r routines : ℕ) (error : InferError) → NamesRoutine image error → error ≡ NoRows r → (routines < length image.routines → NoRowsHoldIn image routines) → (r ≡ routines) ⊎ NoStepsHoldIn image r
+    → (r < length image.routines) × NothingHoldsIn image r
+stuck-in image r routines error names e none_rows why =
+    let lt : r < length image.routines = subst (NamesRoutine image) e names in (
+      lt,
+      λ forward rows steps rows_hold steps_hold. elim why [
+        | inl same ↦ none_rows (omega arith) rows (subst (ForwardIn image) same forward) (subst (λ (n : ℕ). RowsHoldIn image n rows) same rows_hold)
+        | inr none ↦ none steps forward steps_hold
+      ],
+    )
 
 -- The image that is made of them
 

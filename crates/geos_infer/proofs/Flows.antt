@@ -1,5 +1,5 @@
 -- What is known stays below rows that hold, and comes to hold, while rows flow.
-use Rattle.std.proofs.Common.{◌≡◌, ◌≢◌, ℕ, zero, suc, ◌+◌, ◌*◌, ◌<◌, ◌≤◌, Bool, true, false, List, length, Option, Some, None, slice_get, get_or, set, refl, sym, ap, ◌∙◌, subst, arith, inl, inr, ◌⊎◌}
+use Rattle.std.proofs.Common.{◌≡◌, ◌≢◌, ℕ, zero, suc, ◌+◌, ◌*◌, ◌<◌, ◌≤◌, Bool, true, false, List, length, Option, Some, None, slice_get, get_or, set, refl, sym, ap, ◌∙◌, subst, arith, add-one, inl, inr, ◌⊎◌}
 use Rattle.std.specs.Prelude.{◌&&◌, nat_lt, MatchBool, IfSome, if◌then◌else◌}
 use Rattle.std.proofs.lemmas.Bool.{and_parts, ltb-true, lt-ltb, cases_eq, cases_lt, false≢true}
 use Rattle.std.proofs.lemmas.List.{get_or-set_same, get_or-set_other, length-set}
@@ -7,18 +7,22 @@ use Rattle.std.proofs.lemmas.Option.{slice_get_within, none-some}
 use Rattle.geos_image.specs.declared.instr.Instr.{Instr}
 use Rattle.geos_image.specs.declared.row.Row.{Row}
 use Rattle.geos_image.specs.declared.point.Point.{Point}
+use Rattle.geos_image.specs.declared.routine.Routine.{Routine}
 use Rattle.geos_image.specs.Parts.{Parts, start_of}
 use Rattle.geos_verify.specs.Rows.{fits, after, row_along, row_branching}
+use Rattle.geos_image.specs.Legal.{is_image}
+use Rattle.geos_image.proofs.Starts.{start_of-next, start_of-le}
 use Rattle.geos_verify.proofs.Places.{item_at, if_some}
 use Rattle.geos_infer.specs.Joins.{joined, clean}
-use Rattle.geos_infer.specs.Code.{Edge, Forward, Spans, instrs_of, has_edge, edge_end, edge_row}
-use Rattle.geos_infer.specs.Solutions.{RowsHold}
+use Rattle.geos_infer.specs.Code.{Edge, IsPcOf, ForwardIn, instrs_of, has_edge, edge_end, edge_row}
+use Rattle.geos_infer.specs.Solutions.{RowsHoldIn}
 use Rattle.geos_infer.specs.declared.flow.Arrival.{Arrival}
 use Rattle.geos_infer.specs.declared.flow.Arrival.TheVariants.{Same, Weaker, Apart}
 use Rattle.geos_infer.specs.declared.edges.Edge.{Edge as Edge_}
 use Rattle.geos_infer.specs.Edges.{leads_ahead, edge_ahead}
-use Rattle.geos_infer.specs.Flow.{known_at, join_known, put, spread, KnownAt, edge_number, Flowing, AllKnown, Arrives, has_joined, Spreads, FlowsOn}
+use Rattle.geos_infer.specs.Flow.{known_at, join_known, put, spread, KnownAt, edge_number, Flowing, AllKnown, Arrives, has_joined, Spreads, StaysBefore, FlowsAnew, HaveFlowed}
 use Rattle.geos_infer.proofs.Asks.{read-ahead}
+use Rattle.geos_infer.proofs.Bodies.{lies}
 use Rattle.geos_infer.proofs.Pairwise.{both}
 use Rattle.geos_infer.proofs.Fits.{fits-refl, fits-trans}
 use Rattle.geos_infer.proofs.Joining.{agreeing, joined-least}
@@ -70,9 +74,9 @@ record Joined (known : List (Option Row)) (to : ℕ) (next w : Row) : Type 0 whe
   upper : fits next joined ≡ true
   least : fits joined w ≡ true
 
-module _ (image : Parts) (forward : Forward image) (want : List Row) (holds : RowsHold image want) (known : List (Option Row)) (pc : ℕ) (branch : Bool) (i : Instr)
-    (F : Flowing image want known (edge_number pc branch)) (read : slice_get (instrs_of image) pc ≡ Some i)
-    (limit : ℕ) (small : limit ≤ length (instrs_of image)) (inside : (to : ℕ) (j : Instr) → Edge (instrs_of image) pc branch to j → to < limit) where
+module _ (image : Parts) (r : ℕ) (forward : ForwardIn image r) (want : List Row) (holds : RowsHoldIn image r want) (known : List (Option Row)) (pc : ℕ) (branch : Bool) (i : Instr) (within : IsPcOf image r pc)
+    (F : Flowing image r want known (edge_number pc branch)) (read : slice_get (instrs_of image) pc ≡ Some i)
+    (limit : ℕ) (small : limit ≤ length (instrs_of image)) (ends : limit ≡ start_of image.routines (r + 1)) where
   module _ (row : Row) (here : known_at known pc ≡ Some row) (ahead : leads_ahead limit pc i branch ≡ true) where
     parts : (has_edge i branch ≡ true) × (pc < edge_end pc i branch) × (edge_end pc i branch < length (instrs_of image))
     parts =
@@ -83,13 +87,17 @@ module _ (image : Parts) (forward : Forward image) (want : List Row) (holds : Ro
     edge : Edge (instrs_of image) pc branch (edge_end pc i branch) i
     edge = record { read = read; has = parts.0; leads = refl }
 
+    -- it leads to an instruction of the routine
+    within-too : IsPcOf image r (edge_end pc i branch)
+    within-too = record { above = (let low = within.above in let lt = parts.1 in omega arith); below = holds.closed pc (edge_end pc i branch) branch i within edge }
+
     -- the row that comes fits the one that is wanted
     comes : (w : Row) → slice_get want (edge_end pc i branch) ≡ Some w → fits (edge_row image i branch (clean row)) w ≡ true
     comes w at =
         let before = item_at want pc (let len = holds.len in let lt = slice_get_within (instrs_of image) pc i read in omega arith) in
-        let below = F.below pc row (before.0) here (before.1) in
-        let least = (clean-least row).least before.0 below (holds.clean pc before.0 before.1) in
-        fits-trans (edge_row image i branch (clean row)) (edge_row image i branch before.0) w (edge-mono image i branch (clean row) before.0 least) (holds.edges pc (edge_end pc i branch) branch i before.0 w edge before.1 at)
+        let below = F.below pc row (before.0) within here (before.1) in
+        let least = (clean-least row).least before.0 below (holds.clean pc before.0 within before.1) in
+        fits-trans (edge_row image i branch (clean row)) (edge_row image i branch before.0) w (edge-mono image i branch (clean row) before.0 least) (holds.edges pc (edge_end pc i branch) branch i before.0 w within edge before.1 at)
 
     joined-with : (o : Option Row) (w : Row) → known_at known (edge_end pc i branch) ≡ o → slice_get want (edge_end pc i branch) ≡ Some w → Joined known (edge_end pc i branch) (edge_row image i branch (clean row)) w
     joined-with None w e at = record {
@@ -101,7 +109,7 @@ module _ (image : Parts) (forward : Forward image) (want : List Row) (holds : Ro
     }
     joined-with (Some old) w e at =
         let next = edge_row image i branch (clean row) in
-        let before = F.below (edge_end pc i branch) old w e at in
+        let before = F.below (edge_end pc i branch) old w within-too e at in
         let agreed = agreeing old next w before (comes w at) in
         let both_fit = joined-least old next agreed in
         let agrees : join_known (Some old) next ≡ Some (joined old next) = rw agreed.slots refl in
@@ -117,25 +125,25 @@ module _ (image : Parts) (forward : Forward image) (want : List Row) (holds : Ro
     goes w at = joined-with (known_at known (edge_end pc i branch)) w refl at
 
     after-joined : (w : Row) → slice_get want (edge_end pc i branch) ≡ Some w → (J : Joined known (edge_end pc i branch) (edge_row image i branch (clean row)) w)
-        → Flowing image want (set known (edge_end pc i branch) (Some J.joined)) (suc (edge_number pc branch))
+        → Flowing image r want (set known (edge_end pc i branch) (Some J.joined)) (suc (edge_number pc branch))
     after-joined w at J =
         let lt : edge_end pc i branch < length known = (let len = F.len in let p = parts.2 in omega arith) in
         record {
           len = (let same = length-set known (edge_end pc i branch) (Some J.joined) in let len = F.len in omega arith);
-          below = λ t row v e f. elim (cases_eq t (edge_end pc i branch)) [
+          below = λ t row v t_in e f. elim (cases_eq t (edge_end pc i branch)) [
             | inl same ↦
                 let at_to : known_at (set known (edge_end pc i branch) (Some J.joined)) (edge_end pc i branch) ≡ Some row = ap (known_at (set known (edge_end pc i branch) (Some J.joined))) (sym same) ∙ e in
                 let is_joined : J.joined ≡ row = some-is J.joined row (sym (get_or-set_same known (edge_end pc i branch) (Some J.joined) None lt) ∙ at_to) in
                 let is_w : w ≡ v = some-is w v (sym at ∙ ap (slice_get want) (sym same) ∙ f) in
                 subst (λ (x : Row). fits row x ≡ true) is_w (subst (λ (x : Row). fits x w ≡ true) is_joined J.least)
-            | inr ne ↦ F.below t row v (sym (get_or-set_other known (edge_end pc i branch) t (Some J.joined) None ne) ∙ e) f
+            | inr ne ↦ F.below t row v t_in (sym (get_or-set_other known (edge_end pc i branch) t (Some J.joined) None ne) ∙ e) f
           ];
-          entries = λ t entry b. stays known (edge_end pc i branch) J.joined lt J.above t entry (F.entries t entry b);
-          edges = λ k t b j from less other within there. elim (number-split k pc b branch less) [
+          entry = λ routine there. stays known (edge_end pc i branch) J.joined lt J.above (start_of image.routines r) routine.entry (F.entry routine there);
+          edges = λ k t b j from k_in less other there. elim (number-split k pc b branch less) [
             | inl before ↦
                 let ne : k ≢ edge_end pc i branch = (λ same. not-behind k b branch before same) in
                 let same_row : known_at (set known (edge_end pc i branch) (Some J.joined)) k ≡ known_at known k = get_or-set_other known (edge_end pc i branch) k (Some J.joined) None ne in
-                stays known (edge_end pc i branch) J.joined lt J.above t (edge_row image j b (clean from)) (F.edges k t b j from before other within (sym same_row ∙ there))
+                stays known (edge_end pc i branch) J.joined lt J.above t (edge_row image j b (clean from)) (F.edges k t b j from k_in before other (sym same_row ∙ there))
             | inr this ↦ this-edge w J lt k t b j from this.0 this.1 other there
           ];
         }
@@ -169,24 +177,25 @@ module _ (image : Parts) (forward : Forward image) (want : List Row) (holds : Ro
     spreads-to w at J = rw (here, ahead, J.is) refl
 
   module _ (behind : leads_ahead limit pc i branch ≡ false) where
-    none-ahead : (to : ℕ) (j : Instr) → Edge (instrs_of image) pc branch to j → to < length (instrs_of image) → ⊥
-    none-ahead t j other within =
+    none-ahead : (to : ℕ) (j : Instr) → Edge (instrs_of image) pc branch to j → ⊥
+    none-ahead t j other =
         let same : j ≡ i = some-is j i (sym other.read ∙ read) in
         let has : has_edge i branch ≡ true = ap (λ x. has_edge x branch) (sym same) ∙ other.has in
         let leads : edge_end pc i branch ≡ t = ap (λ x. edge_end pc x branch) (sym same) ∙ other.leads in
-        let lt = forward.ahead pc t branch j other in
+        let lt = forward.ahead pc t branch j within other in
+        let inside = holds.closed pc t branch j within other in
         let yes : leads_ahead limit pc i branch ≡ true = both (has_edge i branch && nat_lt pc (edge_end pc i branch)) (nat_lt (edge_end pc i branch) limit)
-        (both (has_edge i branch) (nat_lt pc (edge_end pc i branch)) has (lt-ltb pc (edge_end pc i branch) (omega arith))) (lt-ltb (edge_end pc i branch) limit (omega (arith, leads, inside t j other))) in
+        (both (has_edge i branch) (nat_lt pc (edge_end pc i branch)) has (lt-ltb pc (edge_end pc i branch) (omega arith))) (lt-ltb (edge_end pc i branch) limit (omega arith)) in
         false≢true (sym behind ∙ yes)
 
-    stays-flowing : Flowing image want known (suc (edge_number pc branch))
+    stays-flowing : Flowing image r want known (suc (edge_number pc branch))
     stays-flowing = record {
       len = F.len;
       below = F.below;
-      entries = F.entries;
-      edges = λ k t b j from less other within there. elim (number-split k pc b branch less) [
-        | inl before ↦ F.edges k t b j from before other within there
-        | inr this ↦ absurd (none-ahead t j (here k t b j this.0 this.1 other) within)
+      entry = F.entry;
+      edges = λ k t b j from k_in less other there. elim (number-split k pc b branch less) [
+        | inl before ↦ F.edges k t b j from k_in before other there
+        | inr this ↦ absurd (none-ahead t j (here k t b j this.0 this.1 other))
       ];
     }
       where
@@ -194,13 +203,13 @@ module _ (image : Parts) (forward : Forward image) (want : List Row) (holds : Ro
         here k t b j same same_branch other = subst (λ x. Edge (instrs_of image) x branch t j) same (subst (λ x. Edge (instrs_of image) k x t j) same_branch other)
 
   -- nothing flows from where nothing is known
-  nothing-flows : known_at known pc ≡ None → Flowing image want known (suc (edge_number pc branch))
+  nothing-flows : known_at known pc ≡ None → Flowing image r want known (suc (edge_number pc branch))
   nothing-flows nothing = record {
     len = F.len;
     below = F.below;
-    entries = F.entries;
-    edges = λ k t b j from less other within there. elim (number-split k pc b branch less) [
-      | inl before ↦ F.edges k t b j from before other within there
+    entry = F.entry;
+    edges = λ k t b j from k_in less other there. elim (number-split k pc b branch less) [
+      | inl before ↦ F.edges k t b j from k_in before other there
       | inr this ↦ absurd (none-some from (sym nothing ∙ ap (known_at known) (sym this.0) ∙ there))
     ];
   }
@@ -208,18 +217,18 @@ module _ (image : Parts) (forward : Forward image) (want : List Row) (holds : Ro
   -- one edge: the rows that are known agree, and flow on
   pub spread-flows : (ok : Bool) (new : List (Option Row))
       → (let next = spread image limit pc i branch (known_at known pc) known in MatchBool ok (next ≡ Some new) (next ≡ None))
-      → (ok ≡ true) × Flowing image want new (suc (edge_number pc branch))
+      → (ok ≡ true) × Flowing image r want new (suc (edge_number pc branch))
   spread-flows ok new h = by_known (known_at known pc) refl ok h
     where
-      conclude : (table : List (Option Row)) → spread image limit pc i branch (known_at known pc) known ≡ Some table → Flowing image want table (suc (edge_number pc branch))
+      conclude : (table : List (Option Row)) → spread image limit pc i branch (known_at known pc) known ≡ Some table → Flowing image r want table (suc (edge_number pc branch))
           → (b : Bool) → (let next = spread image limit pc i branch (known_at known pc) known in MatchBool b (next ≡ Some new) (next ≡ None))
-          → (b ≡ true) × Flowing image want new (suc (edge_number pc branch))
-      conclude table is G true e = (refl, subst (λ x. Flowing image want x (suc (edge_number pc branch))) (some-is table new (sym is ∙ e)) G)
+          → (b ≡ true) × Flowing image r want new (suc (edge_number pc branch))
+      conclude table is G true e = (refl, subst (λ x. Flowing image r want x (suc (edge_number pc branch))) (some-is table new (sym is ∙ e)) G)
       conclude table is G false e = absurd (none-some table (sym e ∙ is))
 
       by_case : (row : Row) → known_at known pc ≡ Some row → (b : Bool) → leads_ahead limit pc i branch ≡ b → (c : Bool)
           → (let next = spread image limit pc i branch (known_at known pc) known in MatchBool c (next ≡ Some new) (next ≡ None))
-          → (c ≡ true) × Flowing image want new (suc (edge_number pc branch))
+          → (c ≡ true) × Flowing image r want new (suc (edge_number pc branch))
       by_case row here true e c h =
           let p = parts row here e in
           let there = item_at want (edge_end pc i branch) (let len = holds.len in let lt = p.2 in omega arith) in
@@ -230,42 +239,44 @@ module _ (image : Parts) (forward : Forward image) (want : List Row) (holds : Ro
           conclude known unchanged (stays-flowing e) c h
 
       by_known : (o : Option Row) → known_at known pc ≡ o → (c : Bool) → (let next = spread image limit pc i branch (known_at known pc) known in MatchBool c (next ≡ Some new) (next ≡ None))
-          → (c ≡ true) × Flowing image want new (suc (edge_number pc branch))
+          → (c ≡ true) × Flowing image r want new (suc (edge_number pc branch))
       by_known None e c h =
           let unchanged : spread image limit pc i branch (known_at known pc) known ≡ Some known = rw e refl in
           conclude known unchanged (nothing-flows e) c h
       by_known (Some row) e c h = by_case row e (leads_ahead limit pc i branch) refl c h
 
--- the same at a pc of a routine, where the instruction is given by its point
-pub flows-on : (image : Parts) → Forward image → (want : List Row) → RowsHold image want → (known new : List (Option Row)) (r start limit pc : ℕ) (branch ok : Bool) (done more : ℕ)
-    → Spans image.routines r start limit → limit ≤ length image.points → start ≤ pc → pc < limit → done ≡ edge_number pc branch → more ≡ done + 1 → Flowing image want known done
+-- the same, where the instruction is given by its point
+pub flows-on : (image : Parts) (r : ℕ) → ForwardIn image r → (want : List Row) → RowsHoldIn image r want → (known new : List (Option Row)) (limit pc : ℕ) (branch ok : Bool) (done more : ℕ)
+    → limit ≡ start_of image.routines (r + 1) → limit ≤ length image.points → IsPcOf image r pc → done ≡ edge_number pc branch → more ≡ done + 1 → Flowing image r want known done
     → IfSome (slice_get image.points pc) (λ point. let next = spread image limit pc point.instr branch (known_at known pc) known in MatchBool ok (next ≡ Some new) (next ≡ None))
-    → (ok ≡ true) × Flowing image want new more
-flows-on image forward want holds known new r start limit pc branch ok done more spans small from lt done_is more_is F h =
-    let found = item_at image.points pc (omega arith) in
+    → (ok ≡ true) × Flowing image r want new more
+flows-on image r forward want holds known new limit pc branch ok done more ends small within done_is more_is F h =
+    let len = code-length image in
+    let found = item_at image.points pc (let below = within.below in omega arith) in
     let read = code-at image pc found.0 found.1 in
-    let D : ℕ → Type 0 = λ n. Flowing image want known n in
+    let D : ℕ → Type 0 = λ n. Flowing image r want known n in
     let here = if_some (λ point. let next = spread image limit pc point.instr branch (known_at known pc) known in MatchBool ok (next ≡ Some new) (next ≡ None)) (slice_get image.points pc) found.0 found.1 h in
-    let step = spread-flows image forward want holds known pc branch found.0.instr (subst D done_is F) read limit (let len = code-length image in omega arith)
-    (λ to j edge. holds.closed r start limit pc to branch j spans from lt edge) ok new here in
+    let step = spread-flows image r forward want holds known pc branch found.0.instr within (subst D done_is F) read limit (omega arith) ends ok new here in
     let count : suc (edge_number pc branch) ≡ more = (let a = done_is in let b = more_is in omega arith) in
-    (step.0, subst (λ n. Flowing image want new n) count step.1)
+    (step.0, subst (λ n. Flowing image r want new n) count step.1)
 
--- where rows have flowed, something is known
-pub all-reached : (image : Parts) → Forward image → (want : List Row) (known : List (Option Row)) (done : ℕ) → Flowing image want known done → (limit : ℕ) → 2 * limit ≤ done → limit ≤ length (instrs_of image) → AllKnown known limit
-all-reached image forward want known done F limit enough small pc lt = reached-before (suc pc) pc (omega arith) lt (omega arith)
+-- where rows have flowed along all edges of a routine, something is known at each instruction
+pub all-reached : (image : Parts) (r : ℕ) → ForwardIn image r → (routine : Routine) → slice_get image.routines r ≡ Some routine → (want : List Row) (known : List (Option Row)) → Flowing image r want known (2 * start_of image.routines (r + 1))
+    → start_of image.routines (r + 1) ≤ length (instrs_of image) → AllKnown image r known
+all-reached image r forward routine there want known F small pc within = reached-before (suc pc) pc (omega arith) within
   where
-    reached-before : (n pc : ℕ) → pc < n → pc < limit → pc < length (instrs_of image) → (row : Row) × (known_at known pc ≡ Some row)
-    reached-before zero pc less lt within = absurd (omega arith)
-    reached-before (suc n) pc less lt within =
-        let i = item_at (instrs_of image) pc within in
-        elim (forward.entered pc i.0 i.1) [
-          | inl b ↦ let K = F.entries pc b.0 b.1 in (K.known_row, K.read)
+    reached-before : (n pc : ℕ) → pc < n → IsPcOf image r pc → (row : Row) × (known_at known pc ≡ Some row)
+    reached-before zero pc less within = absurd (omega arith)
+    reached-before (suc n) pc less within =
+        let i = item_at (instrs_of image) pc (let below = within.below in omega arith) in
+        elim (forward.entered pc i.0 within i.1) [
+          | inl is ↦ let K = F.entry routine there in (K.known_row, ap (known_at known) is ∙ K.read)
           | inr e ↦
-              let earlier = forward.ahead e.pc pc e.branch e.i e.edge in
-              let from = reached-before n e.pc (omega arith) (omega arith) (omega arith) in
+              let earlier = forward.ahead e.pc pc e.branch e.i e.within e.edge in
+              let from = reached-before n e.pc (omega arith) e.within in
               let number = number-last e.pc pc e.branch earlier in
-              let K = F.edges e.pc pc e.branch e.i from.0 (omega arith) e.edge within from.1 in
+              let below = within.below in
+              let K = F.edges e.pc pc e.branch e.i from.0 e.within (omega arith) e.edge from.1 in
               (K.known_row, K.read)
         ]
 
@@ -294,8 +305,77 @@ spreads-on image limit pc branch edge row known next arrival lt here h pc_is bra
     by_arrival Weaker goes came = goes ∙ came
     by_arrival Apart goes came = goes ∙ ap (put known edge.to) came
 
--- the same of a routine, where its body is of it
-pub flows-in : (image here : Parts) (number r : ℕ) (known new : List (Option Row)) (done : Bool) → here ≡ image → number ≡ r → FlowsOn here number known new done
-    → (want : List Row) → Forward image → RowsHold image want → Flowing image want known (2 * start_of image.routines r) → (done ≡ true) × Flowing image want new (2 * start_of image.routines (r + 1))
-flows-in image here number r known new done same_image same_number flows =
-    subst (λ (x : Parts). FlowsOn x r known new done) same_image (subst (λ (n : ℕ). FlowsOn here n known new done) same_number flows)
+-- What stays
+
+stays-put : (known next : List (Option Row)) (to start : ℕ) (o : Option Row) → put known to o ≡ Some next → start ≤ to → StaysBefore start known next
+stays-put known next to start None e le = absurd (none-some next e)
+stays-put known next to start (Some row) e le = λ k lt.
+    let ne : k ≢ to = (λ same. absurd (omega arith)) in
+    ap (λ (x : List (Option Row)). known_at x k) (sym (some-is (set known to (Some row)) next e)) ∙ get_or-set_other known to k (Some row) None ne
+
+stays-spread : (image : Parts) (limit pc start : ℕ) (i : Instr) (branch : Bool) (o : Option Row) (known next : List (Option Row)) → spread image limit pc i branch o known ≡ Some next → start ≤ pc → StaysBefore start known next
+stays-spread image limit pc start i branch None known next e le = λ k lt. ap (λ (x : List (Option Row)). known_at x k) (sym (some-is known next e))
+stays-spread image limit pc start i branch (Some row) known next e le = by_test (leads_ahead limit pc i branch) refl
+  where
+    by_test : (b : Bool) → leads_ahead limit pc i branch ≡ b → StaysBefore start known next
+    by_test true h =
+        let a = and_parts (has_edge i branch && nat_lt pc (edge_end pc i branch)) (nat_lt (edge_end pc i branch) limit) h in
+        let b = and_parts (has_edge i branch) (nat_lt pc (edge_end pc i branch)) a.0 in
+        let later = ltb-true pc (edge_end pc i branch) b.1 in
+        let goes : spread image limit pc i branch (Some row) known ≡ put known (edge_end pc i branch) (join_known (known_at known (edge_end pc i branch)) (edge_row image i branch (clean row))) = rw h refl in
+        stays-put known next (edge_end pc i branch) start (join_known (known_at known (edge_end pc i branch)) (edge_row image i branch (clean row))) (sym goes ∙ e) (omega arith)
+    by_test false h =
+        let unchanged : spread image limit pc i branch (Some row) known ≡ Some known = rw h refl in
+        λ k lt. ap (λ (x : List (Option Row)). known_at x k) (sym (some-is known next (sym unchanged ∙ e)))
+
+-- what is known before a pc stays where what is known there goes along an edge ahead
+pub spreads-stay : (image : Parts) (limit pc start : ℕ) (branch : Bool) (known next : List (Option Row)) (done : Bool) → pc < length image.points → Spreads image limit pc branch known next done → done ≡ true → start ≤ pc → StaysBefore start known next
+spreads-stay image limit pc start branch known next done lt spreads is le =
+    let found = item_at image.points pc lt in
+    let at : Spreads image limit pc branch known next true = subst (λ (b : Bool). Spreads image limit pc branch known next b) is spreads in
+    let here = if_some (λ point. spread image limit pc point.instr branch (known_at known pc) known ≡ Some next) (slice_get image.points pc) found.0 found.1 at in
+    stays-spread image limit pc start found.0.instr branch (known_at known pc) known next here le
+
+pub stays-trans : (start : ℕ) (a b c : List (Option Row)) → StaysBefore start a b → StaysBefore start b c → StaysBefore start a c
+stays-trans start a b c ab bc = λ k lt. bc k lt ∙ ab k lt
+
+-- Routine after routine
+
+known-stays : (known next : List (Option Row)) (start pc : ℕ) (row : Row) → StaysBefore start known next → pc < start → KnownAt known pc row → KnownAt next pc row
+known-stays known next start pc row stay lt K = record { known_row = K.known_row; read = stay pc lt ∙ K.read; fits = K.fits }
+
+flowing-stays : (image : Parts) (q : ℕ) (want : List Row) (known next : List (Option Row)) (start done : ℕ) → RowsHoldIn image q want → StaysBefore start known next → start_of image.routines q < start → start_of image.routines (q + 1) ≤ start
+    → length (instrs_of image) ≤ length next → Flowing image q want known done → Flowing image q want next done
+flowing-stays image q want known next start done holds stay begins ends len F = record {
+  len = len;
+  below = λ pc row w within e f. (let below = within.below in F.below pc row w within (sym (stay pc (omega arith)) ∙ e) f);
+  entry = λ routine there. known-stays known next start (start_of image.routines q) routine.entry stay begins (F.entry routine there);
+  edges = λ pc to branch i row within less edge e.
+      let below = within.below in
+      let inside = holds.closed pc to branch i within edge in
+      known-stays known next start to (edge_row image i branch (clean row)) stay (omega arith) (F.edges pc to branch i row within less edge (sym (stay pc (omega arith)) ∙ e));
+}
+
+-- one more routine
+pub have_flowed-more : (image : Parts) → is_image image ≡ true → (known next : List (Option Row)) (r : ℕ) → r < length image.routines → HaveFlowed image known r → FlowsAnew image r known next true → HaveFlowed image next (r + 1)
+have_flowed-more image legal known next r lt before anew = λ want all q q_lt.
+    let this = all r (omega arith) in
+    let here = anew want this.0 this.1 in
+    elim (cases_lt q r) [
+      | inl less ↦
+          let routine = item_at image.routines q (omega arith) in
+          let some = lies image legal q routine.0 routine.1 in
+          let end = start_of-next image.routines q routine.0 routine.1 in
+          let later = start_of-le image.routines (q + 1) r (omega arith) in
+          let one : start_of image.routines (q + 1) ≡ start_of image.routines (suc q) = ap (start_of image.routines) (add-one q) in
+          flowing-stays image q want known next (start_of image.routines r) (2 * start_of image.routines (q + 1)) (all q q_lt).1 here.2 (let count = some.1 in omega arith) (omega arith) here.1.len
+          (before want (λ k k_lt. all k (omega arith)) q less)
+      | inr le ↦
+          let same : r ≡ q = omega arith in
+          subst (λ (n : ℕ). Flowing image n want next (2 * start_of image.routines (n + 1))) same here.1
+    ]
+
+-- what is found in a routine, where its body is of it
+pub flows-anew : (image here : Parts) (number r : ℕ) (known next : List (Option Row)) (done : Bool) → here ≡ image → number ≡ r → FlowsAnew here number known next done → FlowsAnew image r known next done
+flows-anew image here number r known next done same_image same_number flows =
+    subst (λ (x : Parts). FlowsAnew x r known next done) same_image (subst (λ (n : ℕ). FlowsAnew here n known next done) same_number flows)

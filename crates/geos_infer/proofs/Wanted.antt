@@ -1,5 +1,5 @@
 -- The rows and numbers of steps of an accepted image hold.
-use Rattle.std.proofs.Common.{◌≡◌, ◌≢◌, ℕ, zero, suc, ◌+◌, ◌*◌, ◌<◌, ◌≤◌, Bool, true, false, List, [], ◌∷◌, length, map, take, ◌-◌, Some, None, slice_get, get_or, refl, sym, ap, ◌∙◌, subst, arith, inl, inr}
+use Rattle.std.proofs.Common.{◌≡◌, ◌≢◌, ℕ, zero, suc, ◌+◌, ◌*◌, ◌<◌, ◌≤◌, Bool, true, false, List, [], ◌∷◌, length, map, take, ◌-◌, Some, None, slice_get, get_or, refl, sym, ap, ◌∙◌, subst, arith, add-one, inl, inr}
 use Rattle.std.specs.Prelude.{◌&&◌, nat_le, if◌then◌else◌, slice_index, slice_set, option_map}
 use Rattle.std.proofs.lemmas.Bool.{and_parts, leb-true, cases_lt}
 use Rattle.std.proofs.lemmas.List.{length-map}
@@ -16,6 +16,7 @@ use Rattle.geos_image.specs.Parts.{Parts, start_of, total_count}
 use Rattle.geos_image.specs.Legal.{is_image}
 use Rattle.geos_image.specs.Ranges.{ImageFits, PointFits}
 use Rattle.geos_image.proofs.Instrs.{image_parts}
+use Rattle.geos_image.proofs.Starts.{start_of-next, start_of-le}
 use Rattle.geos_verify.specs.Lists.{all2}
 use Rattle.geos_verify.specs.Rows.{branches, fits, bound, row_along, row_branching}
 use Rattle.geos_verify.specs.Potentials.{pays, pays_setting, pays_calling, budget_of, pays_along, pays_branching}
@@ -24,8 +25,9 @@ use Rattle.geos_verify.specs.Rules.{has_place, returns, names_empty_slot, tests,
 use Rattle.geos_verify.proofs.Passed.{passed}
 use Rattle.geos_verify.proofs.Places.{place_bounds, place_true, item_at}
 use Rattle.geos_semantics.proofs.Leads.{leads-along, leads-branching, may_return, may_begin, begins-within}
-use Rattle.geos_infer.specs.Code.{Edge, Begins, Spans, Closed, SameCode, Forward, instrs_of, instr_of, edge_row}
-use Rattle.geos_infer.specs.Solutions.{RowsHold, StepsHold, call_steps}
+use Rattle.geos_infer.specs.Code.{Edge, IsPcOf, ClosedIn, Entered, EnteredIn, SameCode, Forward, ForwardIn, instrs_of, instr_of, edge_row}
+use Rattle.geos_infer.specs.Solutions.{RowsHoldIn, StepsHoldIn, call_steps}
+use Rattle.geos_infer.proofs.Bodies.{lies}
 use Rattle.geos_infer.proofs.Ends.{code-length, same-edge}
 use Rattle.geos_infer.proofs.Asks.{called}
 
@@ -60,6 +62,10 @@ has-point o legal pc point read =
     let lt = slice_get_within o.points pc point read in
     let at = routine-at o.routines pc (omega arith) in
     (at.0, at.1, record { there = at.2; within = place_true (start_of o.routines at.0) at.1.count pc at.3 at.4; read = read })
+
+-- a routine ends where the next one begins
+pub ends-at : (routines : List Routine) (r : ℕ) (routine : Routine) → slice_get routines r ≡ Some routine → start_of routines (r + 1) ≡ start_of routines r + routine.count
+ends-at routines r routine there = ap (start_of routines) (add-one r) ∙ start_of-next routines r routine there
 
 setting-steps : (k n : ℕ) (p q : Potential) → pays_setting k n p q ≡ true → q.constant + 1 + 0 ≤ p.constant
 setting-steps k n p q h =
@@ -124,94 +130,89 @@ module _ (o : Parts) (checked : IsChecked o) where
       let same : i ≡ point.instr = same_Some i point.instr (sym edge.read ∙ here) in
       (same, subst (λ x. Edge (instrs_of o) pc branch to x) same edge)
 
-  -- no edge leaves a routine
-  stays-inside : Closed o
-  stays-inside r start end pc to branch i spans from lt edge =
-      let point = map-get instr_of o.points pc i edge.read in
-      let e = edge-of pc to branch i point.0 point.1 edge in
-      let begin = spans.start_is in
-      let stop = spans.end_is in
-      let within = place_true (start_of o.routines r) spans.routine.count pc (omega arith) (omega arith) in
-      let has : HasPoint o r spans.routine pc point.0 = record { there = spans.there; within = within; read = point.1 } in
-      let place = place_bounds (start_of o.routines r) spans.routine.count to (leads branch point.0 spans.routine has e.1) in
-      omega (arith, place.1)
-    where
-      leads : (branch : Bool) (point : Point) (routine : Routine) → HasPoint o r routine pc point → Edge (instrs_of o) pc branch to point.instr → has_place (start_of o.routines r) routine.count to ≡ true
-      leads true point routine has e =
-          let L = leads-branching o checked.0 checked.1 r pc routine point has point.instr.opcode refl e.has in
-          let P : ℕ → Type 0 = λ n. has_place (start_of o.routines r) routine.count n ≡ true in
-          subst P e.leads L.has.within
-      leads false point routine has e =
-          let L = leads-along o checked.0 checked.1 r pc routine point has point.instr.opcode refl e.has in
-          let P : ℕ → Type 0 = λ n. has_place (start_of o.routines r) routine.count n ≡ true in
-          subst P e.leads L.has.within
+  module _ (r : ℕ) (routine : Routine) (there : slice_get o.routines r ≡ Some routine) where
+    has-place : (pc : ℕ) (point : Point) → IsPcOf o r pc → slice_get o.points pc ≡ Some point → HasPoint o r routine pc point
+    has-place pc point within read =
+        let end = ends-at o.routines r routine there in
+        record { there = there; within = place_true (start_of o.routines r) routine.count pc within.above (let below = within.below in omega arith); read = read }
 
-  rows-hold : RowsHold o (map row_at o.points)
-  rows-hold = record {
-    len = length-map o.points row_at ∙ sym (code-length o);
-    closed = stays-inside;
-    entries = λ pc entry row b at. entries_ pc entry row b (map-get row_at o.points pc row at);
-    edges = λ pc to branch i row next edge at there. edges_ pc to branch i row next edge (map-get row_at o.points pc row at) (map-get row_at o.points to next there);
-    clean = λ pc row at. clean_ pc row (map-get row_at o.points pc row at);
-  }
-    where
-      entries_ : (pc : ℕ) (entry row : Row) → Begins o.routines pc entry → (point : Point) × (slice_get o.points pc ≡ Some point) × (row_at point ≡ row) → fits entry row ≡ true
-      entries_ pc entry row b (point, read, is) =
-          let within = begins-within o checked.0 b.r b.routine b.there in
-          let has : HasPoint o b.r b.routine pc point = record { there = b.there; within = (let P : ℕ → Type 0 = λ n. has_place (start_of o.routines b.r) b.routine.count n ≡ true in subst P (sym b.start) within); read = read } in
-          let may = (may_begin o checked.0 checked.1 b.r pc b.routine point has b.start).0 in
-          subst (λ (x : Row). fits x row ≡ true) b.entry_is (subst (λ (x : Row). fits b.routine.entry x ≡ true) is may)
+    -- no edge leaves the routine
+    stays-inside : ClosedIn o r
+    stays-inside pc to branch i within edge =
+        let point = map-get instr_of o.points pc i edge.read in
+        let e = edge-of pc to branch i point.0 point.1 edge in
+        let end = ends-at o.routines r routine there in
+        let place = place_bounds (start_of o.routines r) routine.count to (leads branch point.0 (has-place pc point.0 within point.1) e.1) in
+        omega (arith, place.1)
+      where
+        leads : (branch : Bool) (point : Point) → HasPoint o r routine pc point → Edge (instrs_of o) pc branch to point.instr → has_place (start_of o.routines r) routine.count to ≡ true
+        leads true point has e =
+            let L = leads-branching o checked.0 checked.1 r pc routine point has point.instr.opcode refl e.has in
+            let P : ℕ → Type 0 = λ n. has_place (start_of o.routines r) routine.count n ≡ true in
+            subst P e.leads L.has.within
+        leads false point has e =
+            let L = leads-along o checked.0 checked.1 r pc routine point has point.instr.opcode refl e.has in
+            let P : ℕ → Type 0 = λ n. has_place (start_of o.routines r) routine.count n ≡ true in
+            subst P e.leads L.has.within
 
-      edges_ : (pc to : ℕ) (branch : Bool) (i : Instr) (row next : Row) → Edge (instrs_of o) pc branch to i → (point : Point) × (slice_get o.points pc ≡ Some point) × (row_at point ≡ row)
-          → (point : Point) × (slice_get o.points to ≡ Some point) × (row_at point ≡ next) → fits (edge_row o i branch row) next ≡ true
-      edges_ pc to branch i row next edge (point, read, is) (other, at, next_is) =
-          let e = edge-of pc to branch i point read edge in
-          let k = row-fits pc branch point other read to e.1 at in
-          subst (λ (x : Instr). fits (edge_row o x branch row) next ≡ true) (sym e.0)
-          (subst (λ (x : Row). fits (edge_row o point.instr branch x) next ≡ true) is (subst (λ (x : Row). fits (edge_row o point.instr branch point.row) x ≡ true) next_is k))
+    rows-hold : RowsHoldIn o r (map row_at o.points)
+    rows-hold = record {
+      len = length-map o.points row_at ∙ sym (code-length o);
+      closed = stays-inside;
+      entry = λ other row at_r at. entry_ other row at_r (map-get row_at o.points (start_of o.routines r) row at);
+      edges = λ pc to branch i row next within edge at there. edges_ pc to branch i row next edge (map-get row_at o.points pc row at) (map-get row_at o.points to next there);
+      clean = λ pc row within at. clean_ pc row (map-get row_at o.points pc row at);
+    }
+      where
+        entry_ : (other : Routine) (row : Row) → slice_get o.routines r ≡ Some other → (point : Point) × (slice_get o.points (start_of o.routines r) ≡ Some point) × (row_at point ≡ row) → fits other.entry row ≡ true
+        entry_ other row at_r (point, read, is) =
+            let has : HasPoint o r other (start_of o.routines r) point = record { there = at_r; within = begins-within o checked.0 r other at_r; read = read } in
+            subst (λ (x : Row). fits other.entry x ≡ true) is ((may_begin o checked.0 checked.1 r (start_of o.routines r) other point has refl).0)
 
-      clean_ : (pc : ℕ) (row : Row) → (point : Point) × (slice_get o.points pc ≡ Some point) × (row_at point ≡ row) → names_empty_slot row ≡ false
-      clean_ pc row (point, read, is) =
-          let has = has-point o checked.0 pc point read in
-          let all = passed (tests o has.0 has.1 (start_of o.routines has.0) pc point) (checked.1 has.0 pc has.1 point has.2) in
-          subst (λ (x : Row). names_empty_slot x ≡ false) is all.1.0
+        edges_ : (pc to : ℕ) (branch : Bool) (i : Instr) (row next : Row) → Edge (instrs_of o) pc branch to i → (point : Point) × (slice_get o.points pc ≡ Some point) × (row_at point ≡ row)
+            → (point : Point) × (slice_get o.points to ≡ Some point) × (row_at point ≡ next) → fits (edge_row o i branch row) next ≡ true
+        edges_ pc to branch i row next edge (point, read, is) (other, at, next_is) =
+            let e = edge-of pc to branch i point read edge in
+            let k = row-fits pc branch point other read to e.1 at in
+            subst (λ (x : Instr). fits (edge_row o x branch row) next ≡ true) (sym e.0)
+            (subst (λ (x : Row). fits (edge_row o point.instr branch x) next ≡ true) is (subst (λ (x : Row). fits (edge_row o point.instr branch point.row) x ≡ true) next_is k))
 
-  constant-at : (pc : ℕ) (point : Point) → slice_get o.points pc ≡ Some point → get_or (map constant_at o.points) pc 0 ≡ point.potential.constant
-  constant-at pc point read = get_or_from_slice_get (map constant_at o.points) pc point.potential.constant 0 (slice_get-map constant_at o.points pc ∙ ap (option_map constant_at) read)
+        clean_ : (pc : ℕ) (row : Row) → (point : Point) × (slice_get o.points pc ≡ Some point) × (row_at point ≡ row) → names_empty_slot row ≡ false
+        clean_ pc row (point, read, is) =
+            let has = has-point o checked.0 pc point read in
+            let all = passed (tests o has.0 has.1 (start_of o.routines has.0) pc point) (checked.1 has.0 pc has.1 point has.2) in
+            subst (λ (x : Row). names_empty_slot x ≡ false) is all.1.0
 
-  steps-hold : ((pc : ℕ) (i : Instr) → slice_get (instrs_of o) pc ≡ Some i → i.opcode ≢ Loop) → ImageFits o → StepsHold o (map constant_at o.points)
-  steps-hold no_loop fit = record {
-    closed = stays-inside;
-    edges = λ pc to branch i edge within. (
-        let from = map-get instr_of o.points pc i edge.read in
-        let next = item_at o.points to (let len = code-length o in omega arith) in
-        let e = edge-of pc to branch i from.0 from.1 edge in
-        let ne : from.0.instr.opcode ≢ Loop = no_loop pc from.0.instr e.1.read in
-        let paid = step-paid pc branch from.0 next.0 from.1 to e.1 next.1 ne in
-        let paid_here : next.0.potential.constant + 1 + call_steps o i ≤ from.0.potential.constant = subst (λ (x : Instr). next.0.potential.constant + 1 + call_steps o x ≤ from.0.potential.constant) (sym e.0) paid in
-        rw (constant-at pc from.0 from.1, constant-at to next.0 next.1) paid_here
-        );
-    returns = λ pc i there is. (
-        let from = map-get instr_of o.points pc i there in
-        let has = has-point o checked.0 pc from.0 from.1 in
-        rw (constant-at pc from.0 from.1) ((may_return o checked.0 checked.1 has.0 pc has.1 from.0 has.2 (ap (λ (x : Instr). returns x.opcode) from.2 ∙ is)).1)
-        );
-    long = λ pc. elim (cases_lt pc (length o.points)) [
-      | inl lt ↦
+    constant-at : (pc : ℕ) (point : Point) → slice_get o.points pc ≡ Some point → get_or (map constant_at o.points) pc 0 ≡ point.potential.constant
+    constant-at pc point read = get_or_from_slice_get (map constant_at o.points) pc point.potential.constant 0 (slice_get-map constant_at o.points pc ∙ ap (option_map constant_at) read)
+
+    steps-hold : ((pc : ℕ) (i : Instr) → IsPcOf o r pc → slice_get (instrs_of o) pc ≡ Some i → i.opcode ≢ Loop) → ImageFits o → StepsHoldIn o r (map constant_at o.points)
+    steps-hold no_loop fit = record {
+      closed = stays-inside;
+      edges = λ pc to branch i within edge. (
+          let from = map-get instr_of o.points pc i edge.read in
+          let next = item_at o.points to (let inside = stays-inside pc to branch i within edge in let room = lies o checked.0 r routine there in let end = ends-at o.routines r routine there in omega (arith, room.0)) in
+          let e = edge-of pc to branch i from.0 from.1 edge in
+          let ne : from.0.instr.opcode ≢ Loop = no_loop pc from.0.instr within e.1.read in
+          let paid = step-paid pc branch from.0 next.0 from.1 to e.1 next.1 ne in
+          let paid_here : next.0.potential.constant + 1 + call_steps o i ≤ from.0.potential.constant = subst (λ (x : Instr). next.0.potential.constant + 1 + call_steps o x ≤ from.0.potential.constant) (sym e.0) paid in
+          rw (constant-at pc from.0 from.1, constant-at to next.0 next.1) paid_here
+          );
+      returns = λ pc i within there is. (
+          let from = map-get instr_of o.points pc i there in
+          let has = has-point o checked.0 pc from.0 from.1 in
+          rw (constant-at pc from.0 from.1) ((may_return o checked.0 checked.1 has.0 pc has.1 from.0 has.2 (ap (λ (x : Instr). returns x.opcode) from.2 ∙ is)).1)
+          );
+      long = λ pc within.
+          let room = lies o checked.0 r routine there in
+          let end = ends-at o.routines r routine there in
+          let below = within.below in
+          let lt : pc < length o.points = omega (arith, room.0) in
           let point = item_at o.points pc lt in
           let fitting : PointFits point.0 = subst PointFits (get_or_from_slice_get o.points pc point.0 point.0 point.1) (fit.points pc point.0 lt) in
           let long = fitting.potential.constant in
-          rw (constant-at pc point.0 point.1) (omega arith)
-      | inr past ↦
-          let none = past-zero (map constant_at o.points) pc (let len = length-map o.points constant_at in omega arith) in
-          rw none (omega arith)
-    ];
-  }
-    where
-      past-zero : (xs : List ℕ) (k : ℕ) → length xs ≤ k → get_or xs k 0 ≡ 0
-      past-zero [] k h = refl
-      past-zero (x ∷ xs) zero h = absurd (omega arith)
-      past-zero (x ∷ xs) (suc k) h = past-zero xs k (omega arith)
+          rw (constant-at pc point.0 point.1) (omega arith);
+    }
 
 -- Another image with the same code
 
@@ -219,39 +220,92 @@ module _ (image o : Parts) (same : SameCode image o) where
   edge-there : (pc to : ℕ) (branch : Bool) (i : Instr) → Edge (instrs_of image) pc branch to i → Edge (instrs_of o) pc branch to i
   edge-there pc to branch i edge = subst (λ (code : List Instr). Edge code pc branch to i) (sym same.instrs) edge
 
-  closed-here : Closed o → Closed image
-  closed-here c = λ r start end pc to branch i spans from lt edge. c r start end pc to branch i (subst (λ (rs : List Routine). Spans rs r start end) (sym same.routines) spans) from lt (edge-there pc to branch i edge)
+  pc-there : (r pc : ℕ) → IsPcOf image r pc → IsPcOf o r pc
+  pc-there r pc within = record {
+    above = subst (λ (rs : List Routine). start_of rs r ≤ pc) (sym same.routines) within.above;
+    below = subst (λ (rs : List Routine). pc < start_of rs (r + 1)) (sym same.routines) within.below;
+  }
 
-  rows-here : (rows : List Row) → RowsHold o rows → RowsHold image rows
-  rows-here rows H = record {
+  closed-here : (r : ℕ) → ClosedIn o r → ClosedIn image r
+  closed-here r c = λ pc to branch i within edge. subst (λ (rs : List Routine). to < start_of rs (r + 1)) same.routines (c pc to branch i (pc-there r pc within) (edge-there pc to branch i edge))
+
+  rows-here : (r : ℕ) (rows : List Row) → RowsHoldIn o r rows → RowsHoldIn image r rows
+  rows-here r rows H = record {
     len = H.len ∙ ap length same.instrs;
-    closed = closed-here H.closed;
-    entries = λ pc entry row b at. H.entries pc entry row (subst (λ (rs : List Routine). Begins rs pc entry) (sym same.routines) b) at;
-    edges = λ pc to branch i row next edge at there.
-        subst (λ (x : Row). fits x next ≡ true) (same-edge image o same.routines i branch row) (H.edges pc to branch i row next (edge-there pc to branch i edge) at there);
-    clean = H.clean;
+    closed = closed-here r H.closed;
+    entry = λ routine row there at.
+        H.entry routine row (subst (λ (rs : List Routine). slice_get rs r ≡ Some routine) (sym same.routines) there) (subst (λ (rs : List Routine). slice_get rows (start_of rs r) ≡ Some row) (sym same.routines) at);
+    edges = λ pc to branch i row next within edge at there.
+        subst (λ (x : Row). fits x next ≡ true) (same-edge image o same.routines i branch row) (H.edges pc to branch i row next (pc-there r pc within) (edge-there pc to branch i edge) at there);
+    clean = λ pc row within at. H.clean pc row (pc-there r pc within) at;
   }
 
   call-same : (i : Instr) → call_steps o i ≡ call_steps image i
   call-same i = ap (λ (rs : List Routine). if calls i.opcode then elim (slice_get rs i.imm) [ None ↦ 0 | Some routine ↦ routine.budget ] else 0) same.routines
 
-  steps-here : (steps : List ℕ) → StepsHold o steps → StepsHold image steps
-  steps-here steps H = record {
-    closed = closed-here H.closed;
-    edges = λ pc to branch i edge within. (
-        let len = ap length same.instrs in
-        let paid = H.edges pc to branch i (edge-there pc to branch i edge) (omega arith) in
+  steps-here : (r : ℕ) (steps : List ℕ) → StepsHoldIn o r steps → StepsHoldIn image r steps
+  steps-here r steps H = record {
+    closed = closed-here r H.closed;
+    edges = λ pc to branch i within edge. (
+        let paid = H.edges pc to branch i (pc-there r pc within) (edge-there pc to branch i edge) in
         let called = call-same i in
         omega arith
         );
-    returns = λ pc i there is. H.returns pc i (subst (λ (code : List Instr). slice_get code pc ≡ Some i) (sym same.instrs) there) is;
-    long = H.long;
+    returns = λ pc i within there is. H.returns pc i (pc-there r pc within) (subst (λ (code : List Instr). slice_get code pc ≡ Some i) (sym same.instrs) there) is;
+    long = λ pc within. H.long pc (pc-there r pc within);
   }
 
-  pub rows-wanted : IsChecked o → RowsHold image (map row_at o.points)
-  rows-wanted checked = rows-here (map row_at o.points) (rows-hold o checked)
+  module _ (checked : IsChecked o) (r : ℕ) (routine : Routine) (there : slice_get image.routines r ≡ Some routine) where
+    at-other : slice_get o.routines r ≡ Some routine
+    at-other = subst (λ (rs : List Routine). slice_get rs r ≡ Some routine) (sym same.routines) there
 
-  pub steps-wanted : Forward image → ImageFits o → IsChecked o → StepsHold image (map constant_at o.points)
-  steps-wanted forward fit checked =
-      let no_loop = subst (λ (code : List Instr). (pc : ℕ) (i : Instr) → slice_get code pc ≡ Some i → i.opcode ≢ Loop) (sym same.instrs) forward.no_loop in
-      steps-here (map constant_at o.points) (steps-hold o checked no_loop fit)
+    pub closed-wanted : ClosedIn image r
+    closed-wanted = closed-here r (stays-inside o checked r routine at-other)
+
+    pub rows-wanted : RowsHoldIn image r (map row_at o.points)
+    rows-wanted = rows-here r (map row_at o.points) (rows-hold o checked r routine at-other)
+
+    pub steps-wanted : Forward image → ImageFits o → StepsHoldIn image r (map constant_at o.points)
+    steps-wanted forward fit =
+        let no_loop : (pc : ℕ) (i : Instr) → IsPcOf o r pc → slice_get (instrs_of o) pc ≡ Some i → i.opcode ≢ Loop = λ pc i within read. forward.no_loop pc i (ap (λ (code : List Instr). slice_get code pc) (sym same.instrs) ∙ read) in
+        steps-here r (map constant_at o.points) (steps-hold o checked r routine at-other no_loop fit)
+
+-- Code without loops has none in any routine
+
+-- routines of which a pc is
+same-routine : (image : Parts) → is_image image ≡ true → (q r pc : ℕ) (routine : Routine) → slice_get image.routines q ≡ Some routine → IsPcOf image r pc → start_of image.routines q ≤ pc → pc < start_of image.routines (q + 1) → q ≡ r
+same-routine image legal q r pc routine there within low high = elim (cases_lt q r) [
+  | inl less ↦ (let later = start_of-le image.routines (q + 1) r (omega arith) in let above = within.above in absurd (omega arith))
+  | inr le ↦ elim (cases_lt r q) [
+    | inl more ↦ (let later = start_of-le image.routines (r + 1) q (omega arith) in let below = within.below in absurd (omega arith))
+    | inr ge ↦ omega arith
+  ]
+]
+
+pub forward-in : (image : Parts) → is_image image ≡ true → Forward image → ((q : ℕ) (routine : Routine) → slice_get image.routines q ≡ Some routine → ClosedIn image q) → (r : ℕ) → ForwardIn image r
+forward-in image legal forward closed r = record {
+  no_loop = λ pc i within read. forward.no_loop pc i read;
+  ahead = λ pc to branch i within edge. forward.ahead pc to branch i edge;
+  entered = λ pc i within read. elim (forward.entered pc i read) [
+    | inl b ↦
+        let some = lies image legal b.r b.routine b.there in
+        let end = ends-at image.routines b.r b.routine b.there in
+        let start = b.start in
+        let same = same-routine image legal b.r r pc b.routine b.there within (omega arith) (omega (arith, some.1)) in
+        inl (b.start ∙ ap (start_of image.routines) same)
+    | inr e ↦ inr (from-here pc within e)
+  ];
+}
+  where
+    from-here : (pc : ℕ) → IsPcOf image r pc → Entered (instrs_of image) pc → EnteredIn image r pc
+    from-here pc within e =
+        let len = code-length image in
+        let counts = (image_parts image legal).counts in
+        let lt = slice_get_within (instrs_of image) e.pc e.i e.edge.read in
+        let at = routine-at image.routines e.pc (omega arith) in
+        let end = ends-at image.routines at.0 at.1 at.2 in
+        let from : IsPcOf image at.0 e.pc = record { above = at.3; below = omega (arith, at.4) } in
+        let earlier = forward.ahead e.pc pc e.branch e.i e.edge in
+        let inside = closed at.0 at.1 at.2 e.pc pc e.branch e.i from e.edge in
+        let same = same-routine image legal at.0 r pc at.1 at.2 within (omega (arith, at.3)) inside in
+        record { pc = e.pc; within = subst (λ (n : ℕ). IsPcOf image n e.pc) same from; branch = e.branch; i = e.i; edge = e.edge }

@@ -6,7 +6,8 @@ use Rattle.geos_image.specs.declared.instr.Instr.{Instr}
 use Rattle.geos_image.specs.declared.point.Point.{Point}
 use Rattle.geos_image.specs.Parts.{Parts}
 use Rattle.geos_verify.specs.Touched.{calls, noted, touches}
-use Rattle.geos_infer.specs.Why.{IsPcOf, LeadsTo, AreApart}
+use Rattle.geos_infer.specs.Code.{IsPcOf}
+use Rattle.geos_infer.specs.Why.{LeadsTo, AreApart}
 use Rattle.geos_infer.specs.Ahead as ahead
 use Rattle.geos_infer.specs.declared.cause.BackWay.{BackWay}
 use Rattle.geos_infer.specs.declared.cause.Within.{Within}

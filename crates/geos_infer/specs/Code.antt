@@ -47,26 +47,30 @@ pub record Edge (code : List Instr) (pc : ℕ) (branch : Bool) (to : ℕ) (i : I
 
 -- Routines
 
--- a routine begins at the pc, with this entry row
-pub record Begins (routines : List Routine) (pc : ℕ) (entry : Row) : Type 0 where
-  pub r : ℕ
-  pub routine : Routine
-  pub there : slice_get routines r ≡ Some routine
-  pub start : pc ≡ start_of routines r
-  pub entry_is : routine.entry ≡ entry
+-- the pc is one of routine r
+pub record IsPcOf (image : Parts) (r pc : ℕ) : Type 0 where
+  pub above : start_of image.routines r ≤ pc
+  pub below : pc < start_of image.routines (r + 1)
 
--- the instructions of routine r are those from start on, up to end
-pub record Spans (routines : List Routine) (r start end : ℕ) : Type 0 where
-  pub routine : Routine
-  pub there : slice_get routines r ≡ Some routine
-  pub start_is : start ≡ start_of routines r
-  pub end_is : end ≡ start + routine.count
-
--- no edge leaves a routine
-abbrev pub Closed : Parts → Type 0
-Closed image = (r start end pc to : ℕ) (branch : Bool) (i : Instr) → Spans image.routines r start end → start ≤ pc → pc < end → Edge (instrs_of image) pc branch to i → to < end
+-- no edge leaves routine r
+abbrev pub ClosedIn : Parts → ℕ → Type 0
+ClosedIn image r = (pc to : ℕ) (branch : Bool) (i : Instr) → IsPcOf image r pc → Edge (instrs_of image) pc branch to i → to < start_of image.routines (r + 1)
 
 -- Code without loops
+
+-- an edge of routine r leads to the pc
+pub record EnteredIn (image : Parts) (r to : ℕ) : Type 0 where
+  pub pc : ℕ
+  pub within : IsPcOf image r pc
+  pub branch : Bool
+  pub i : Instr
+  pub edge : Edge (instrs_of image) pc branch to i
+
+-- routine r has no LOOP; each target lies ahead; and each instruction but the first has an edge of the routine into it
+pub record ForwardIn (image : Parts) (r : ℕ) : Type 0 where
+  pub no_loop : (pc : ℕ) (i : Instr) → IsPcOf image r pc → slice_get (instrs_of image) pc ≡ Some i → i.opcode ≢ Loop
+  pub ahead : (pc to : ℕ) (branch : Bool) (i : Instr) → IsPcOf image r pc → Edge (instrs_of image) pc branch to i → pc < to
+  pub entered : (pc : ℕ) (i : Instr) → IsPcOf image r pc → slice_get (instrs_of image) pc ≡ Some i → (pc ≡ start_of image.routines r) ⊎ EnteredIn image r pc
 
 -- some edge leads to the pc
 pub record Entered (code : List Instr) (to : ℕ) : Type 0 where
@@ -75,8 +79,15 @@ pub record Entered (code : List Instr) (to : ℕ) : Type 0 where
   pub i : Instr
   pub edge : Edge code pc branch to i
 
+-- a routine begins at the pc
+pub record Begins (routines : List Routine) (pc : ℕ) : Type 0 where
+  pub r : ℕ
+  pub routine : Routine
+  pub there : slice_get routines r ≡ Some routine
+  pub start : pc ≡ start_of routines r
+
 -- no LOOP; each target lies ahead; and each instruction but a routine's first has an edge into it
 pub record Forward (image : Parts) : Type 0 where
   pub no_loop : (pc : ℕ) (i : Instr) → slice_get (instrs_of image) pc ≡ Some i → i.opcode ≢ Loop
   pub ahead : (pc to : ℕ) (branch : Bool) (i : Instr) → Edge (instrs_of image) pc branch to i → pc < to
-  pub entered : (pc : ℕ) (i : Instr) → slice_get (instrs_of image) pc ≡ Some i → ((entry : Row) × Begins image.routines pc entry) ⊎ Entered (instrs_of image) pc
+  pub entered : (pc : ℕ) (i : Instr) → slice_get (instrs_of image) pc ≡ Some i → Begins image.routines pc ⊎ Entered (instrs_of image) pc

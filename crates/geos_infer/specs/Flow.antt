@@ -3,14 +3,15 @@ use Rattle.std.specs.Prelude.{◌≡◌, ◌<◌, ◌≤◌, ℕ, ◌+◌, ◌*�
 use Rattle.geos_image.specs.declared.instr.Instr.{Instr}
 use Rattle.geos_image.specs.declared.row.Row.{Row}
 use Rattle.geos_image.specs.declared.row.SlotState.TheVariants.{Empty}
+use Rattle.geos_image.specs.declared.routine.Routine.{Routine}
 use Rattle.geos_image.specs.Parts.{Parts, start_of}
 use Rattle.geos_verify.specs.Rows.{fits}
 use Rattle.geos_infer.specs.Joins.{join, clean}
-use Rattle.geos_infer.specs.Code.{Edge, Begins, Forward, instrs_of, edge_end, edge_row}
+use Rattle.geos_infer.specs.Code.{Edge, IsPcOf, ForwardIn, instrs_of, edge_end, edge_row}
 use Rattle.geos_infer.specs.declared.flow.Arrival.{Arrival}
 use Rattle.geos_infer.specs.declared.flow.Arrival.TheVariants.{Same, Weaker, Apart}
 use Rattle.geos_infer.specs.Edges.{leads_ahead}
-use Rattle.geos_infer.specs.Solutions.{RowsHold}
+use Rattle.geos_infer.specs.Solutions.{RowsHoldIn}
 
 -- of a place that nothing reaches: words are 0, no slot is held, and all pairs are known
 abbrev pub strongest : Row
@@ -60,23 +61,27 @@ abbrev pub edge_number : ℕ → Bool → ℕ
 edge_number pc true = 2 * pc + 1
 edge_number pc false = 2 * pc
 
--- rows have flowed along the first so many edges, and all that is known fits rows that hold
-pub record Flowing (image : Parts) (want : List Row) (known : List (Option Row)) (done : ℕ) : Type 0 where
+-- rows have flowed along the edges of routine r that are among the first so many, and all that is known in it fits rows that hold
+pub record Flowing (image : Parts) (r : ℕ) (want : List Row) (known : List (Option Row)) (done : ℕ) : Type 0 where
   pub len : length (instrs_of image) ≤ length known
-  pub below : (pc : ℕ) (row w : Row) → known_at known pc ≡ Some row → slice_get want pc ≡ Some w → fits row w ≡ true
-  pub entries : (pc : ℕ) (entry : Row) → Begins image.routines pc entry → KnownAt known pc entry
-  pub edges : (pc to : ℕ) (branch : Bool) (i : Instr) (row : Row) → edge_number pc branch < done → Edge (instrs_of image) pc branch to i → to < length (instrs_of image)
+  pub below : (pc : ℕ) (row w : Row) → IsPcOf image r pc → known_at known pc ≡ Some row → slice_get want pc ≡ Some w → fits row w ≡ true
+  pub entry : (routine : Routine) → slice_get image.routines r ≡ Some routine → KnownAt known (start_of image.routines r) routine.entry
+  pub edges : (pc to : ℕ) (branch : Bool) (i : Instr) (row : Row) → IsPcOf image r pc → edge_number pc branch < done → Edge (instrs_of image) pc branch to i
       → known_at known pc ≡ Some row → KnownAt known to (edge_row image i branch (clean row))
 
--- something is known at each place before the limit
-abbrev pub AllKnown : List (Option Row) → ℕ → Type 0
-AllKnown known limit = (pc : ℕ) → pc < limit → (row : Row) × (known_at known pc ≡ Some row)
+-- something is known at each instruction of routine r
+abbrev pub AllKnown : Parts → ℕ → List (Option Row) → Type 0
+AllKnown image r known = (pc : ℕ) → IsPcOf image r pc → (row : Row) × (known_at known pc ≡ Some row)
 
--- each routine's entry row is known where it begins, and nothing else is
-pub record Seeded (image : Parts) (known : List (Option Row)) : Type 0 where
+-- the entry row of routine r is known where it begins, and nothing at its other instructions
+pub record Seeded (image : Parts) (r : ℕ) (known : List (Option Row)) : Type 0 where
   pub len : length (instrs_of image) ≤ length known
-  pub entries : (pc : ℕ) (entry : Row) → Begins image.routines pc entry → known_at known pc ≡ Some entry
-  pub only : (pc : ℕ) (row : Row) → known_at known pc ≡ Some row → Begins image.routines pc row
+  pub entry : (routine : Routine) → slice_get image.routines r ≡ Some routine → known_at known (start_of image.routines r) ≡ Some routine.entry
+  pub only : (pc : ℕ) → start_of image.routines r < pc → pc < start_of image.routines (r + 1) → known_at known pc ≡ None
+
+-- what is known before a pc is the same next
+abbrev pub StaysBefore : ℕ → List (Option Row) → List (Option Row) → Type 0
+StaysBefore pc known next = (k : ℕ) → k < pc → known_at next k ≡ known_at known k
 
 -- What the flow of rows promises
 
@@ -97,11 +102,17 @@ abbrev pub Spreads : Parts → ℕ → ℕ → Bool → List (Option Row) → Li
 Spreads image limit pc branch known next done =
     IfSome (slice_get image.points pc) (λ point. let after = spread image limit pc point.instr branch (known_at known pc) known in MatchBool done (after ≡ Some next) (after ≡ None))
 
--- where rows have flowed up to routine r, they have flowed through it next; of code without loops
+-- where rows have flowed along no edge of routine r, they have along all of them next; of code without loops
 abbrev pub FlowsOn : Parts → ℕ → List (Option Row) → List (Option Row) → Bool → Type 0
-FlowsOn image r known next done = (want : List Row) → Forward image → RowsHold image want → Flowing image want known (2 * start_of image.routines r)
-    → (done ≡ true) × Flowing image want next (2 * start_of image.routines (r + 1))
+FlowsOn image r known next done = (want : List Row) → ForwardIn image r → RowsHoldIn image r want → Flowing image r want known (2 * start_of image.routines r)
+    → (done ≡ true) × Flowing image r want next (2 * start_of image.routines (r + 1))
 
--- rows have flowed in so many routines: in all of them, along all edges; of code without loops
+-- rows have flowed along all edges of routine r next, and what was known before it stays; of code without loops
+abbrev pub FlowsAnew : Parts → ℕ → List (Option Row) → List (Option Row) → Bool → Type 0
+FlowsAnew image r known next done = (want : List Row) → ForwardIn image r → RowsHoldIn image r want
+    → (done ≡ true) × Flowing image r want next (2 * start_of image.routines (r + 1)) × StaysBefore (start_of image.routines r) known next
+
+-- rows have flowed along all edges of so many routines; of code without loops
 abbrev pub HaveFlowed : Parts → List (Option Row) → ℕ → Type 0
-HaveFlowed image known done = (want : List Row) → Forward image → RowsHold image want → (done ≡ length image.routines) × Flowing image want known (2 * length image.points)
+HaveFlowed image known count = (want : List Row) → ((r : ℕ) → r < count → ForwardIn image r × RowsHoldIn image r want) → (r : ℕ) → r < count
+    → Flowing image r want known (2 * start_of image.routines (r + 1))

@@ -7,8 +7,8 @@ use Rattle.geos_image.specs.Ranges.{ImageFits}
 use Rattle.geos_verify.specs.Rules.{IsChecked}
 use Rattle.geos_infer.specs.declared.error.InferError.{InferError}
 use Rattle.geos_infer.specs.declared.error.InferError.TheVariants.{NoRows, Memory}
-use Rattle.geos_infer.specs.Code.{SameCode, Forward}
-use Rattle.geos_infer.specs.Solutions.{RowsHold, StepsHold}
+use Rattle.geos_infer.specs.Code.{SameCode, Forward, ForwardIn}
+use Rattle.geos_infer.specs.Solutions.{RowsHoldIn, StepsHoldIn}
 
 -- the image with these points in place of its own
 abbrev pub with_points : Parts → List Point → Parts
@@ -29,9 +29,9 @@ FindsWhatThereIs skeleton found = Forward skeleton → HasAccepted skeleton → 
 abbrev pub NoneIsAccepted : Parts → Type 0
 NoneIsAccepted skeleton = Forward skeleton → HasAccepted skeleton → ⊥
 
--- no rows and numbers of steps hold, or the code has loops
-abbrev pub NothingHolds : Parts → Type 0
-NothingHolds image = Forward image → (rows : List Row) (steps : List ℕ) → RowsHold image rows → StepsHold image steps → ⊥
+-- no rows and numbers of steps hold in routine r, or it has loops
+abbrev pub NothingHoldsIn : Parts → ℕ → Type 0
+NothingHoldsIn image r = ForwardIn image r → (rows : List Row) (steps : List ℕ) → RowsHoldIn image r rows → StepsHoldIn image r steps → ⊥
 
 -- if an error names a routine, it is one of the image
 abbrev pub NamesRoutine : Parts → InferError → Type 0

@@ -1,5 +1,5 @@
 -- Causes for which no rows or no numbers of steps are found for a routine.
-use Rattle.std.specs.Prelude.{◌≡◌, ◌≤◌, ◌<◌, ◌+◌, ℕ, Bool, true, false, List, [], ◌∷◌, Option, Some, None, slice_get}
+use Rattle.std.specs.Prelude.{◌≡◌, ℕ, Bool, true, false, List, [], ◌∷◌, Option, Some, None, slice_get}
 use Rattle.geos_image.specs.declared.row.Row.{Row}
 use Rattle.geos_image.specs.declared.point.Point.{Point}
 use Rattle.geos_image.specs.declared.routine.Routine.{Routine}
@@ -12,11 +12,6 @@ use Rattle.geos_infer.specs.declared.apart.Apart.{Apart}
 use Rattle.geos_infer.specs.declared.apart.Went.{Went}
 use Rattle.geos_infer.specs.declared.apart.Went.TheVariants as went
 use Rattle.geos_infer.specs.Flow.{known_at}
-
--- the pc is one of routine r
-pub record IsPcOf (image : Parts) (r pc : ℕ) : Type 0 where
-  pub above : start_of image.routines r ≤ pc
-  pub below : pc < start_of image.routines (r + 1)
 
 -- the instruction at a pc has an edge to another
 pub record LeadsTo (image : Parts) (pc : ℕ) (branch : Bool) (to : ℕ) : Type 0 where

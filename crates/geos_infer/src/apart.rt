@@ -2,7 +2,8 @@
 
 ghost use Rattle.std.specs.Prelude.{◌≡◌, ◌<◌, IfSome, IfOk};
 ghost use Rattle.geos_infer.specs.Flow.{known_at};
-ghost use Rattle.geos_infer.specs.Why.{IsPcOf, LeadsTo, ComesBy, IsUnlike, IsWent, AreApartIf, AllCome};
+ghost use Rattle.geos_infer.specs.Code.{IsPcOf};
+ghost use Rattle.geos_infer.specs.Why.{LeadsTo, ComesBy, IsUnlike, IsWent, AreApartIf, AllCome};
 
 use crate::body::Body;
 use crate::common::agree;

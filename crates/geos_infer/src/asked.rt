@@ -22,7 +22,7 @@ pub(crate) fn asked_over(
     branch: bool,
 ) -> Option<Asked>
     requires { pc < body.now.end }
-    ensures { AsksSteps body.now.image.now body.now.end pc branch potentials.now result }
+    ensures { AsksSteps body.now.image.now body.now.r body.now.end pc branch potentials.now result }
 {
     let edge = edge_in(body, pc, branch)?;
     let i = body.image.instr(pc);
@@ -109,7 +109,7 @@ pub(crate) fn potential_at(
     pc: u16,
 ) -> Option<Potential>
     requires { pc < body.now.end }
-    ensures { IsFound body.now.image.now body.now.end pc potentials.now result }
+    ensures { IsFound body.now.image.now body.now.r body.now.end pc potentials.now result }
 {
     let i = body.image.instr(pc);
     let along = asked_over(body, known, potentials, pc, false);

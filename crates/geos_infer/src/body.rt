@@ -15,7 +15,7 @@ pub(crate) struct Body<'a> {
     ghost there: { r < length image.now.routines },
     ghost begins: { start ≡ start_of image.now.routines r },
     ghost ends: { end ≡ start_of image.now.routines (r + 1) },
-    ghost order: { start ≤ end },
+    ghost some: { start < end },
     ghost room: { end ≤ length image.now.points },
     ghost short: { length image.now.points ≤ 4096 },
 }
@@ -26,6 +26,8 @@ pub(crate) fn body_of(image: &Image, r: u16) -> Body
     ensures image { result.image.now ≡ image.now }
     ensures r { result.r ≡ r }
 {
+    // For what `len` says of the image: it is one that the format allows.
+    let _legal = image.len();
     let start = image.start(r);
     let end = start + image.routine(r).count;
     Body {

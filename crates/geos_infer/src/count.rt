@@ -1,17 +1,17 @@
 //! How many steps are left at most, and what units of counters pay for, routine by routine.
 
-ghost use Rattle.std.specs.Prelude.{◌≡◌, ◌<◌, ◌≤◌, ℕ, false, is_some, length, IfOk, IfErr, IfSome};
+ghost use Rattle.std.specs.Prelude.{◌≡◌, ◌<◌, ◌≤◌, ◌⊎◌, ℕ, false, is_some, length, IfOk, IfErr, IfSome};
 ghost use Rattle.geos_infer.specs.declared.error.InferError.TheVariants.{NoRows};
-ghost use Rattle.geos_infer.specs.Code.{Forward};
-ghost use Rattle.geos_infer.specs.Solutions.{NoStepsHold};
-ghost use Rattle.geos_infer.specs.Count.{CountsOn, CountsAll, AreCounted};
+ghost use Rattle.geos_infer.specs.Code.{ForwardIn};
+ghost use Rattle.geos_infer.specs.Solutions.{NoStepsHoldIn};
+ghost use Rattle.geos_infer.specs.Count.{CountsOn, AreCounted};
 ghost use Rattle.geos_infer.specs.Theorem.{NamesRoutine};
 
 use crate::asked::potential_at;
 use crate::body::{Body, body_of};
 use crate::costly::note_costly;
 use crate::cycles::has_unpaid_cycle;
-use crate::edges::{edge_back, is_loop};
+use crate::edges::{is_loop, leads_back};
 use crate::error::InferError;
 use crate::known::Known;
 use crate::paid::are_paid;
@@ -29,6 +29,7 @@ use std::alloc::{AllocError, Global};
 fn sweep(body: &Body, known: &Known, potentials: &mut Potentials) -> Option<()>
     ensures { CountsOn body.now.image.now body.now.r potentials.old potentials.new (is_some result) }
 {
+    potentials.lengths();
     for pc in (body.start..body.end).rev() {
         let next = potential_at(body, known, potentials, pc)?;
         potentials.set(pc, next);
@@ -38,15 +39,16 @@ fn sweep(body: &Body, known: &Known, potentials: &mut Potentials) -> Option<()>
 
 /// Whether the instruction at a pc is a LOOP, or leads back.
 fn loops_at(body: &Body, pc: u16) -> bool
-    requires { pc < body.now.end }
-    ensures { Forward body.now.image.now → result ≡ false }
+    requires above { body.now.start ≤ pc }
+    requires below { pc < body.now.end }
+    ensures { ForwardIn body.now.image.now body.now.r → result ≡ false }
 {
-    is_loop(body.image.instr(pc).opcode) || edge_back(body, pc, true).is_some()
+    is_loop(body.image.instr(pc).opcode) || leads_back(body, pc)
 }
 
 /// Whether some instruction of a routine does.
 fn has_loops(body: &Body) -> bool
-    ensures { Forward body.now.image.now → result ≡ false }
+    ensures { ForwardIn body.now.image.now body.now.r → result ≡ false }
 {
     for pc in body.start..body.end {
         if loops_at(body, pc) {
@@ -139,8 +141,9 @@ fn count_all(
     potentials: &mut Potentials,
 ) -> Option<u16>
     requires { routines ≤ length image.now.routines }
-    ensures counted { routines ≡ length image.now.routines → CountsAll image.now potentials.old potentials.new result }
+    ensures counted { AreCounted image.now 0 routines potentials.new }
     ensures within { IfSome result (λ r. r < routines) }
+    ensures none { IfSome result (NoStepsHoldIn image.now) }
 {
     let touched = find_touched(image);
     let mut left = None;
@@ -152,22 +155,6 @@ fn count_all(
     left
 }
 
-/// Counts as `count_all` does, with tables that are made for it.
-fn count_with_tables(
-    alloc: Global,
-    image: &Image,
-    routines: u16,
-    known: &Known,
-    potentials: &mut Potentials,
-) -> Result<Option<u16>, AllocError>
-    requires { routines ≤ length image.now.routines }
-    ensures counted { IfOk result (λ left. routines ≡ length image.now.routines → CountsAll image.now potentials.old potentials.new left) }
-    ensures within { IfOk result (λ left. IfSome left (λ r. r < routines)) }
-{
-    let mut tables = Tables::new(alloc)?;
-    Ok(count_all(image, routines, known, &mut tables, potentials))
-}
-
 /// Enough steps at each instruction, and coefficients, where so many routines have rows. `NoRows`
 /// names the first one that has none, or for which no steps were found.
 pub(crate) fn count(
@@ -177,14 +164,15 @@ pub(crate) fn count(
     known: &Known,
 ) -> Result<Potentials, InferError>
     requires { routines ≤ length image.now.routines }
-    ensures found { IfOk result (λ potentials. AreCounted image.now potentials) }
+    ensures all { IfOk result (λ _. routines ≡ length image.now.routines) }
+    ensures counted { IfOk result (AreCounted image.now 0 routines) }
     ensures within { IfErr result (NamesRoutine image.now) }
-    ensures none { IfErr result (λ error. (r : ℕ) → error ≡ NoRows r → routines ≡ length image.now.routines → NoStepsHold image.now) }
+    ensures none { IfErr result (λ error. (r : ℕ) → error ≡ NoRows r → (r ≡ routines) ⊎ NoStepsHoldIn image.now r) }
 {
     let all = image.count();
     let mut potentials = Potentials::new(alloc)?;
-    let left = count_with_tables(alloc, image, routines, known, &mut potentials)?;
-    match left {
+    let mut tables = Tables::new(alloc)?;
+    match count_all(image, routines, known, &mut tables, &mut potentials) {
         Some(r) => Err(InferError::NoRows(r)),
         None if routines < all => Err(InferError::NoRows(routines)),
         None => Ok(potentials),

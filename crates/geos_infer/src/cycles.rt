@@ -1,7 +1,7 @@
 //! Cycles that no counter pays for.
 
 ghost use Rattle.std.specs.Prelude.{◌≡◌, ◌<◌, false, IfSome};
-ghost use Rattle.geos_infer.specs.Code.{Forward};
+ghost use Rattle.geos_infer.specs.Code.{ForwardIn};
 
 use crate::body::Body;
 use crate::edges::{Edge, edge_in};
@@ -71,7 +71,7 @@ fn take_edges(
 /// Whether control can go round in a routine and never take a LOOP's way to its target: no number
 /// of steps is enough for that. It looks at each edge twice. The tables are only written.
 pub(crate) fn has_unpaid_cycle(body: &Body, into: &mut Table<u16>, listed: &mut Table<u16>) -> bool
-    ensures { Forward body.now.image.now → result ≡ false }
+    ensures { ForwardIn body.now.image.now body.now.r → result ≡ false }
 {
     if back_edges(body) == 0 {
         return false;

@@ -1,13 +1,14 @@
 //! Rows that were widened come down again.
 
 ghost use Rattle.std.specs.Prelude.{◌≡◌, ◌<◌, true};
-ghost use Rattle.geos_infer.specs.Code.{Forward};
+ghost use Rattle.geos_infer.specs.Code.{ForwardIn};
 
 use crate::body::Body;
 use crate::edges::edge_back;
 use crate::flow::{flow, spread};
 use crate::known::Known;
 use crate::paid::back_edges;
+use crate::seeds::seed_entry;
 
 /// What was given up may come back one loop further in at each descent.
 const DESCENTS: u16 = 2;
@@ -29,10 +30,7 @@ fn seed_target(body: &Body, pc: u16, known: &Known, from: &mut Known) -> bool
 /// Makes what is known at first in a routine its entry row, and what edges that lead back say of
 /// the rows that are known; `false` where two of them have no join.
 fn seed(body: &Body, known: &Known, from: &mut Known) -> bool {
-    let entry = body.image.routine(body.r).entry;
-    for pc in body.start..body.end {
-        from.set(pc, if pc == body.start { Some(entry) } else { None });
-    }
+    seed_entry(body, from);
     for pc in body.start..body.end {
         if !seed_target(body, pc, known, from) {
             return false;
@@ -44,7 +42,7 @@ fn seed(body: &Body, known: &Known, from: &mut Known) -> bool {
 /// Where edges of a routine lead back, rows flow again, from what those edges say of the rows that
 /// are known: they fit what is known, and still hold. `false` where two have no join.
 pub(crate) fn descend(body: &Body, from: &mut Known, known: &mut Known) -> bool
-    ensures { Forward body.now.image.now → (result ≡ true) × (known.new ≡ known.old) }
+    ensures { ForwardIn body.now.image.now body.now.r → (result ≡ true) × (known.new ≡ known.old) }
 {
     if back_edges(body) == 0 {
         return true;

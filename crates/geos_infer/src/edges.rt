@@ -1,8 +1,8 @@
 //! Where control goes from an instruction, within its routine.
 
-ghost use Rattle.std.specs.Prelude.{◌≡◌, ◌<◌, None, slice_get, IfSome};
+ghost use Rattle.std.specs.Prelude.{◌≡◌, ◌<◌, None, false, slice_get, IfSome};
 ghost use Rattle.geos_infer.specs.Causes.{is_loop};
-ghost use Rattle.geos_infer.specs.Code.{Forward, has_edge, edge_end};
+ghost use Rattle.geos_infer.specs.Code.{ForwardIn, has_edge, edge_end};
 ghost use Rattle.geos_infer.specs.Edges.{edge_ahead, IsInside};
 
 use crate::body::Body;
@@ -66,7 +66,7 @@ pub(crate) fn edge_ahead(body: &Body, pc: u16, branch: bool) -> Option<Edge>
 /// The same, if it leads back or to the instruction itself.
 pub(crate) fn edge_back(body: &Body, pc: u16, branch: bool) -> Option<Edge>
     requires { pc < body.now.end }
-    ensures never { Forward body.now.image.now → result ≡ None }
+    ensures never { ForwardIn body.now.image.now body.now.r → result ≡ None }
     ensures inside { IfSome result (IsInside body.now.image.now body.now.end pc branch) }
 {
     let i = body.image.instr(pc);
@@ -78,10 +78,18 @@ pub(crate) fn edge_back(body: &Body, pc: u16, branch: bool) -> Option<Edge>
     }
 }
 
-/// The same, wherever in the routine it leads.
+/// Whether the edge to the target leads back in the routine.
+pub(crate) fn leads_back(body: &Body, pc: u16) -> bool
+    requires { pc < body.now.end }
+    ensures { ForwardIn body.now.image.now body.now.r → result ≡ false }
+{
+    edge_back(body, pc, true).is_some()
+}
+
+/// The edge, wherever in the routine it leads.
 pub(crate) fn edge_in(body: &Body, pc: u16, branch: bool) -> Option<Edge>
     requires { pc < body.now.end }
-    ensures ahead { Forward body.now.image.now → IfSome (slice_get body.now.image.now.points pc) (λ point. result ≡ edge_ahead body.now.end pc point.instr branch) }
+    ensures ahead { ForwardIn body.now.image.now body.now.r → IfSome (slice_get body.now.image.now.points pc) (λ point. result ≡ edge_ahead body.now.end pc point.instr branch) }
     ensures inside { IfSome result (IsInside body.now.image.now body.now.end pc branch) }
 {
     match edge_ahead(body, pc, branch) {

@@ -4,7 +4,7 @@ ghost use Rattle.std.specs.Prelude.{◌≡◌, ℕ, length, IfOk, IfErr};
 ghost use Rattle.geos_infer.specs.declared.error.InferError.TheVariants.{NoRows};
 ghost use Rattle.geos_infer.specs.Code.{SameCode};
 ghost use Rattle.geos_infer.specs.Points.{PointsOf, RoutinesOf};
-ghost use Rattle.geos_infer.specs.Theorem.{FindsWhatThereIs, NoneIsAccepted, NothingHolds, NamesRoutine};
+ghost use Rattle.geos_infer.specs.Theorem.{FindsWhatThereIs, NoneIsAccepted, NothingHoldsIn, NamesRoutine};
 
 use crate::count::count;
 use crate::error::InferError;
@@ -54,12 +54,13 @@ fn routines_of(alloc: Global, image: &Image) -> Result<Vec<Routine>, AllocError>
 /// verifier accepts the image that is answered if it accepts any with that code. The image may be
 /// one that it refuses: then `geos_verify::check` says where. `NoRows` names the first routine
 /// where slots differ in more than marks where ways of control meet, or for which no potential
-/// was found.
+/// was found: if no edge of that routine leads back, and each instruction of it but the first has
+/// an edge of it into it, no rows and numbers of steps hold in it, whatever the others are.
 pub fn infer(alloc: Global, skeleton: &Image) -> Result<Image, InferError>
     ensures code { IfOk result (λ image. SameCode skeleton.now image) }
     ensures found { IfOk result (λ image. FindsWhatThereIs skeleton.now image) }
     ensures none { IfErr result (λ error. (r : ℕ) → error ≡ NoRows r → NoneIsAccepted skeleton.now) }
-    ensures stuck { IfErr result (λ error. (r : ℕ) → error ≡ NoRows r → NothingHolds skeleton.now) }
+    ensures stuck { IfErr result (λ error. (r : ℕ) → error ≡ NoRows r → NothingHoldsIn skeleton.now r) }
     ensures within { IfErr result (NamesRoutine skeleton.now) }
 {
     // For what `len` says of the skeleton: it is one that the format allows.

@@ -39,6 +39,13 @@ impl Known {
         Ok(Known { rows })
     }
 
+    /// A law: there is room for each pc that there may be.
+    pub(crate) fn lengths(&self)
+        ensures { length self.now ≡ 4096 }
+    {
+        let _rows = &self.rows;
+    }
+
     /// What is known at a pc.
     pub(crate) fn at(&self, pc: u16) -> Option<Row>
         requires { pc < 4096 }

@@ -1,11 +1,11 @@
 //! Whether edges are paid for, and how many of them lead back.
 
 ghost use Rattle.std.specs.Prelude.{◌≡◌, ◌<◌, ◌≤◌};
-ghost use Rattle.geos_infer.specs.Code.{Forward};
+ghost use Rattle.geos_infer.specs.Code.{ForwardIn};
 
 use crate::asked::asked_over;
 use crate::body::Body;
-use crate::edges::edge_back;
+use crate::edges::leads_back;
 use crate::known::Known;
 use crate::potentials::Potentials;
 
@@ -35,11 +35,11 @@ pub(crate) fn are_paid(body: &Body, known: &Known, potentials: &Potentials) -> b
 /// How many edges of a routine lead back.
 pub(crate) fn back_edges(body: &Body) -> u32
     ensures few { result ≤ 4096 }
-    ensures none { Forward body.now.image.now → result ≡ 0 }
+    ensures none { ForwardIn body.now.image.now body.now.r → result ≡ 0 }
 {
     let mut edges = 0;
     for pc in body.start..body.end {
-        if edge_back(body, pc, true).is_some() {
+        if leads_back(body, pc) {
             edges += 1;
         }
     }

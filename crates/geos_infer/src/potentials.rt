@@ -27,10 +27,7 @@ impl Model for Potentials {
 
 impl Potentials {
     /// No steps and no coefficients anywhere.
-    pub(crate) fn new(alloc: Global) -> Result<Potentials, AllocError>
-        ensures steps { IfOk result (λ numbers. length numbers.steps ≡ 4096) }
-        ensures coefficients { IfOk result (λ numbers. length numbers.coefficients ≡ 4096) }
-    {
+    pub(crate) fn new(alloc: Global) -> Result<Potentials, AllocError> {
         let mut steps = Vec::new(alloc);
         let mut coefficients = Vec::new(alloc);
         for _ in 0..MOST_INSTRS {
@@ -41,6 +38,14 @@ impl Potentials {
             steps,
             coefficients,
         })
+    }
+
+    /// A law: there is room for each pc that there may be.
+    pub(crate) fn lengths(&self)
+        ensures steps { length self.now.steps ≡ 4096 }
+        ensures coefficients { length self.now.coefficients ≡ 4096 }
+    {
+        let _steps = &self.steps;
     }
 
     /// The potential at a pc.

@@ -1,7 +1,7 @@
 //! Rows flow on along the edges that lead back, until nothing new comes to any place.
 
 ghost use Rattle.std.specs.Prelude.{◌≡◌, ◌<◌, true};
-ghost use Rattle.geos_infer.specs.Code.{Forward};
+ghost use Rattle.geos_infer.specs.Code.{ForwardIn};
 ghost use Rattle.geos_infer.specs.Edges.{IsInside};
 
 use crate::body::Body;
@@ -108,7 +108,7 @@ fn round(body: &Body, turns: &mut Table<Turn>, known: &mut Known) -> Arrival {
 /// Where edges of a routine lead back, rows flow until nothing new comes to any place; `false` where
 /// two have no join.
 pub(crate) fn settle(body: &Body, turns: &mut Table<Turn>, known: &mut Known) -> bool
-    ensures { Forward body.now.image.now → (result ≡ true) × (known.new ≡ known.old) }
+    ensures { ForwardIn body.now.image.now body.now.r → (result ≡ true) × (known.new ≡ known.old) }
 {
     if back_edges(body) == 0 {
         return true;

@@ -1,14 +1,15 @@
 //! What is known at each instruction.
 
-ghost use Rattle.std.specs.Prelude.{◌≡◌, ◌≤◌, length, IfOk};
-ghost use Rattle.geos_infer.specs.Flow.{FlowsOn, HaveFlowed, Seeded};
+ghost use Rattle.std.specs.Prelude.{◌≡◌, ◌<◌, ◌≤◌, length, IfOk};
+ghost use Rattle.geos_infer.specs.Flow.{FlowsAnew, HaveFlowed};
+ghost use Rattle.geos_infer.specs.Solutions.{NoRowsHoldIn};
 
 use crate::body::{Body, body_of};
 use crate::descent::descend;
 use crate::flow::flow;
 use crate::known::Known;
 use crate::rounds::{Turn, settle};
-use crate::seeds::seeds;
+use crate::seeds::seed_entry;
 use crate::table::Table;
 use crate::unreached::fill;
 use geos_image::Image;
@@ -34,8 +35,9 @@ impl Tables {
 
 /// Finds what is known at each instruction of a routine; `false` where two rows have no join.
 fn find_rows_in(body: &Body, tables: &mut Tables, known: &mut Known) -> bool
-    ensures { FlowsOn body.now.image.now body.now.r known.old known.new result }
+    ensures { FlowsAnew body.now.image.now body.now.r known.old known.new result }
 {
+    seed_entry(body, known);
     if !flow(body, known) {
         return false;
     }
@@ -57,10 +59,10 @@ fn find_rows_in(body: &Body, tables: &mut Tables, known: &mut Known) -> bool
 
 /// Finds what is known at each instruction, up to the first routine where two rows have no join;
 /// how many routines there are before it.
-fn find_rows_behind_seeds(image: &Image, tables: &mut Tables, known: &mut Known) -> u16
-    requires { Seeded image.now known.old }
+fn find_all_rows(image: &Image, tables: &mut Tables, known: &mut Known) -> u16
     ensures few { result ≤ length image.now.routines }
-    ensures found { HaveFlowed image.now known.new result }
+    ensures found { result ≡ length image.now.routines → HaveFlowed image.now known.new result }
+    ensures none { result < length image.now.routines → NoRowsHoldIn image.now result }
 {
     for r in 0..image.count() {
         if !find_rows_in(&body_of(image, r), tables, known) {
@@ -74,10 +76,11 @@ fn find_rows_behind_seeds(image: &Image, tables: &mut Tables, known: &mut Known)
 /// and how many routines there are before it.
 pub(crate) fn find_rows(alloc: Global, image: &Image) -> Result<(Known, u16), AllocError>
     ensures few { IfOk result (λ both. both.1 ≤ length image.now.routines) }
-    ensures found { IfOk result (λ both. HaveFlowed image.now both.0 both.1) }
+    ensures found { IfOk result (λ both. both.1 ≡ length image.now.routines → HaveFlowed image.now both.0 both.1) }
+    ensures none { IfOk result (λ both. both.1 < length image.now.routines → NoRowsHoldIn image.now both.1) }
 {
-    let mut known = seeds(alloc, image)?;
+    let mut known = Known::new(alloc)?;
     let mut tables = Tables::new(alloc)?;
-    let routines = find_rows_behind_seeds(image, &mut tables, &mut known);
+    let routines = find_all_rows(image, &mut tables, &mut known);
     Ok((known, routines))
 }

@@ -1,20 +1,23 @@
-//! What is known before rows flow.
+//! What is known in a routine before rows flow.
 
-ghost use Rattle.std.specs.Prelude.{IfOk};
-ghost use Rattle.geos_infer.specs.Flow.{Seeded};
+ghost use Rattle.geos_image.specs.Fields.{FieldsFit, CalleeFits};
+ghost use Rattle.geos_infer.specs.Flow.{Seeded, StaysBefore};
 
-use crate::body::body_of;
+use crate::body::Body;
 use crate::known::Known;
-use geos_image::Image;
-use std::alloc::{AllocError, Global};
 
-/// Each routine's entry row where it begins.
-pub(crate) fn seeds(alloc: Global, image: &Image) -> Result<Known, AllocError>
-    ensures { IfOk result (λ known. Seeded image.now known) }
+/// The entry row of a routine where it begins, and nothing at its other instructions.
+pub(crate) fn seed_entry(body: &Body, known: &mut Known)
+    ensures seeded { Seeded body.now.image.now body.now.r known.new }
+    ensures stays { StaysBefore body.now.start known.old known.new }
 {
-    let mut known = Known::new(alloc)?;
-    for r in 0..image.count() {
-        known.set(image.start(r), Some(image.routine(r).entry));
+    known.lengths();
+    let entry = body.image.routine(body.r).entry;
+    for pc in body.start..body.end {
+        if pc == body.start {
+            known.set(pc, Some(entry));
+        } else {
+            known.set(pc, None);
+        }
     }
-    Ok(known)
 }

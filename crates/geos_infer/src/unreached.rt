@@ -1,8 +1,7 @@
 //! Rows at places that nothing reaches: the rules are tried there too.
 
-ghost use Rattle.std.specs.Prelude.{◌≡◌, ◌<◌, ◌+◌, true};
+ghost use Rattle.std.specs.Prelude.{◌≡◌, ◌<◌, true};
 ghost use Rattle.geos_image.specs.Fields.{FieldsFit, CalleeFits};
-ghost use Rattle.geos_image.specs.Parts.{start_of};
 ghost use Rattle.geos_infer.specs.Flow.{AllKnown};
 
 use crate::body::Body;
@@ -18,7 +17,7 @@ use geos_verify::uses_at;
 
 /// Whether something is known at each instruction of a routine.
 fn all_known(body: &Body, known: &Known) -> bool
-    ensures { AllKnown known.now (start_of body.now.image.now.routines (body.now.r + 1)) → result ≡ true }
+    ensures { AllKnown body.now.image.now body.now.r known.now → result ≡ true }
 {
     for pc in body.start..body.end {
         let Some(_row) = known.at(pc) else {
@@ -194,7 +193,7 @@ pub(crate) fn fill(
     turns: &mut Table<Turn>,
     known: &mut Known,
 )
-    ensures { AllKnown known.old (start_of body.now.image.now.routines (body.now.r + 1)) → known.new ≡ known.old }
+    ensures { AllKnown body.now.image.now body.now.r known.old → known.new ≡ known.old }
 {
     if all_known(body, known) {
         return;

@@ -7,4 +7,4 @@ returns-else-branch c = λ forward none.
     let body = c.args.body.now in
     let inside = c.in_ok-edge.ensures.inside in
     asks-some body.image.now body.end c.args.pc c.args.branch (omega (arith, body.room)) c.in_ok-edge.edge c.asked_along.result c.instr-i.result.now c.row_of-row.result c.at-next.result c.args.potentials.now none
-    (omega (arith, inside.inside, body.room)) (c.in_ok-edge.ensures.ahead forward) c.instr-i.ensures.there c.at-next.ensures.constant c.at-next.ensures.coefficients (rw c.if-branch.false c.asked_along.ensures)
+    inside.inside (c.in_ok-edge.ensures.ahead forward) c.instr-i.ensures.there c.at-next.ensures.constant c.at-next.ensures.coefficients (rw c.if-branch.false c.asked_along.ensures)

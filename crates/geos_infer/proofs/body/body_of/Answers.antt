@@ -1,5 +1,6 @@
 use Rattle.std.proofs.Common.{◌+◌, ap, add-one, arith, rules}
 use Rattle.geos_image.proofs.Starts.{start_of-next}
+use Rattle.geos_infer.proofs.Bodies.{lies}
 use Rattle.geos_infer.proofs.body.body_of.Goals as goal
 
 pub invariant_of-result : goal.invariant_of-result
@@ -11,7 +12,7 @@ invariant_of-result c =
       there = c.requires;
       begins = c.start-start.ensures.start;
       ends = rw add-one (rw next (ap (λ n. n + routine.count) c.start-start.ensures.start));
-      order = omega arith;
+      some = omega (arith, (lies image c.len-legal.ensures.legal c.args.r routine c.routine.ensures).1);
       room = search rules;
       short = c.start-start.ensures.short;
     }
