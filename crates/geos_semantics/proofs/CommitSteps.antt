@@ -24,6 +24,7 @@ use Rattle.geos_opcodes.specs.declared.uses.Kind.TheVariants.{MemBlock, VmBlock,
 use Rattle.geos_opcodes.specs.declared.uses.SlotUse.TheVariants.{Commits}
 use Rattle.geos_verify.specs.Rows as rows
 use Rattle.geos_verify.specs.Potentials.{pays}
+use Rattle.geos_table.proofs.Outcomes.{after-kept}
 use Rattle.geos_semantics.specs.State.{Held, owner_of, name_of, SlotReference, State, slot, kept_pointer, kept_pointers}
 use Rattle.geos_semantics.specs.Faults.{is_vm, holds_of_file}
 use Rattle.geos_semantics.specs.Model.{calls, nowhere}
@@ -31,7 +32,7 @@ use Rattle.geos_semantics.specs.Meets.{Meets, Sound, name_held, PointerIsSound, 
 use Rattle.geos_semantics.proofs.Stays.{Stays, HeldStay, slots-sound, slots-left}
 use Rattle.geos_semantics.proofs.Kept.{Leaves, each-map, kept-nothing}
 use Rattle.geos_semantics.proofs.Leads.{Leads}
-use Rattle.geos_semantics.proofs.Fine.{Fine, after-legal, fine-nothing}
+use Rattle.geos_semantics.proofs.Fine.{Fine, fine-nothing}
 use Rattle.geos_semantics.proofs.Moments.{Moment, Well, StepsWell, unfaulted-here, along_edge, branch_edge}
 use Rattle.geos_semantics.proofs.KernelSteps.{calls-well}
 use Rattle.geos_semantics.proofs.FileSteps.{leaves-blocks}
@@ -138,7 +139,7 @@ module _ (moment : Moment) where
       calls-well moment Commits G.point.row (commit keeper) nowhere choice L B
       (λ r. fine-nothing base s G.point.row G.sound G.meets i.a _ (left-leaves i.a choice s.memory pair r (left-legal choice s.memory pair r legal_pair G.sound.memory)))
       (λ e.
-      let legal_after = after-legal (commit keeper choice s.memory) (commit-kept keeper keeps choice s.memory G.sound.memory) e in
+      let legal_after = after-kept (commit keeper choice s.memory) (commit-kept keeper keeps choice s.memory G.sound.memory) e in
       let none = none-locked base s G.point.row G.sound G.meets i.a free in
       fine-beside base s G.point.row G.sound G.meets i.a free (committed s.memory pair) legal_after refl (commit-counts s.memory pair none))
       refl

@@ -21,6 +21,7 @@ use Rattle.geos_table.specs.Table.{Vnew}
 use Rattle.geos_table.specs.declared.call.Refer.TheVariants.{Deref}
 use Rattle.geos_table.proofs.HandleLists.{entry-kept, lowest-none}
 use Rattle.geos_table.proofs.Keeps.{rows_keep_memory}
+use Rattle.geos_table.proofs.Outcomes.{after-kept}
 use Rattle.geos_table.proofs.Leaves.{rows_leave}
 use Rattle.geos_table.proofs.NamedBlocks.{locks_of-mark, marked-set}
 use Rattle.geos_table.proofs.Passing.{none-behind}
@@ -48,7 +49,7 @@ use Rattle.geos_semantics.proofs.Kept.{Leaves, sound-left, kept-nothing}
 use Rattle.geos_semantics.proofs.Locking.{LocksInto, leads-there}
 use Rattle.geos_semantics.proofs.Bounds.{empty-at}
 use Rattle.geos_semantics.proofs.ChunkAnswers.{refer-led}
-use Rattle.geos_semantics.proofs.Fine.{Fine, after-legal, fine-word, fine-pointing}
+use Rattle.geos_semantics.proofs.Fine.{Fine, fine-word, fine-pointing}
 use Rattle.geos_semantics.proofs.FineLocks.{locks-into, fine-locked, fine-made}
 use Rattle.geos_semantics.proofs.Items.{block_of-mark, stays-marked, group-some}
 use Rattle.geos_semantics.proofs.NewListed.{new-small, new-free, with_new, new-others, new-apart, stays-new}
@@ -183,7 +184,7 @@ module _ (moment : Moment) where
       (λ e.
       let pass = passed (vnew uid choice m).refusals e in
       let below = word-small base s i.c G.sound in
-      let legal_after = after-legal (vnew uid choice m) (rows_keep_memory.by_vnew uid (omega (arith, below)) choice m G.sound.memory) e in
+      let legal_after = after-kept (vnew uid choice m) (rows_keep_memory.by_vnew uid (omega (arith, below)) choice m G.sound.memory) e in
       let once = rows_leave.counts (Vnew uid) choice m tt e in
       let marked = rows_leave.marks (Vnew uid) choice m tt e in
       let L = new-into base s uid pass.0 legal_after once in
@@ -212,7 +213,7 @@ module _ (moment : Moment) where
       let group : is_group m g ≡ true = not-false (is_group m g) (passed (ilock g item i.imm choice m).refusals e).0 in
       let own = none-behind (no_group m g ∷ locks_full m (vm g) ∷ bringing choice m g) (deref (vm g) item i.imm choice m).refusals e in
       let led = refer-led choice m (vm g) (Deref item i.imm) G.sound.memory own in
-      let legal_after = after-legal (ilock g item i.imm choice m) (rows_keep_memory.by_ilock g item i.imm choice m G.sound.memory) e in
+      let legal_after = after-kept (ilock g item i.imm choice m) (rows_keep_memory.by_ilock g item i.imm choice m G.sound.memory) e in
       let L = locks-into base s (held_group g) (group-some (listed_at m g) group, group) legal_after in
       let F = fine-locked base s G.point.row G.sound G.meets i a (held_group g) _ empty L in
       let target : SlotReference = record { slot = i.a; reference = (ilock g item i.imm choice m).answer } in

@@ -16,6 +16,7 @@ use Rattle.geos_table.specs.ItemCalls.{isetmap}
 use Rattle.geos_table.specs.Table.{KernelCall, Vfree, Gfree, row}
 use Rattle.geos_table.specs.Leaving.{scope_of, LeavesOthers}
 use Rattle.geos_table.proofs.Keeps.{rows_keep_memory}
+use Rattle.geos_table.proofs.Outcomes.{after-kept}
 use Rattle.geos_table.proofs.Leaves.{rows_leave}
 use Rattle.geos_opcodes.specs.declared.opcode.Opcode.TheVariants as op
 use Rattle.geos_opcodes.specs.declared.uses.SlotUse.TheVariants.{NoSlot}
@@ -26,7 +27,7 @@ use Rattle.geos_semantics.proofs.NoFaults.{word-small}
 use Rattle.geos_semantics.proofs.Stays.{stays-from}
 use Rattle.geos_semantics.proofs.Kept.{Leaves}
 use Rattle.geos_semantics.proofs.FileAnswers.{map_block-small, map_group-small, map_item-small, found-small, uid-small}
-use Rattle.geos_semantics.proofs.Fine.{after-legal, fine-word, fine-nothing}
+use Rattle.geos_semantics.proofs.Fine.{fine-word, fine-nothing}
 use Rattle.geos_semantics.proofs.Moments.{Moment, StepsWell, along_edge, branch_edge, fine-goes}
 use Rattle.geos_semantics.proofs.KernelSteps.{fine-unchanged, calls-well, freeing-well, telling-well}
 
@@ -89,7 +90,7 @@ module _ (moment : Moment) where
       let h = word s i.a in
       calls-well moment NoSlot _ (vsetmap h) nowhere choice (along_edge moment op.Vsetmap is refl) (branch_edge moment op.Vsetmap is refl) (λ r. fine-unchanged moment)
       (λ e.
-      let legal_after = after-legal (vsetmap h choice s.memory) (rows_keep_memory.by_vsetmap h choice s.memory G.sound.memory) e in
+      let legal_after = after-kept (vsetmap h choice s.memory) (rows_keep_memory.by_vsetmap h choice s.memory G.sound.memory) e in
       fine-nothing base s G.point.row G.sound G.meets i.a _ (leaves-blocks i.a s.memory _ legal_after refl refl))
       refl
 
@@ -101,7 +102,7 @@ module _ (moment : Moment) where
       let item = word s i.b in
       calls-well moment NoSlot _ (isetmap g item) nowhere choice (along_edge moment op.Isetmap is refl) (branch_edge moment op.Isetmap is refl) (λ r. fine-unchanged moment)
       (λ e.
-      let legal_after = after-legal (isetmap g item choice s.memory) (rows_keep_memory.by_isetmap g item (omega (arith, small)) choice s.memory G.sound.memory) e in
+      let legal_after = after-kept (isetmap g item choice s.memory) (rows_keep_memory.by_isetmap g item (omega (arith, small)) choice s.memory G.sound.memory) e in
       fine-nothing base s G.point.row G.sound G.meets i.a _ (leaves-blocks i.a s.memory _ legal_after refl refl))
       refl
 

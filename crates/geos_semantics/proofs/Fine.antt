@@ -4,12 +4,11 @@ use Rattle.std.specs.Prelude.{map, unwrap_or}
 use Rattle.lmem_raw.specs.Bytes.{with_part}
 use Rattle.lmem_raw.proofs.Parts.{length-with_part}
 use Rattle.geos_model.specs.declared.name.Name.{Name}
-use Rattle.geos_model.specs.Refusals.{first_refusal}
 use Rattle.geos_model.specs.Chunks.{chunk_of, bytes_of, with_bytes}
 use Rattle.geos_table.specs.Memory.{Memory, chunks_at, rechunked_block, with_chunks}
 use Rattle.geos_table.specs.Legal.{IsMemory}
 use Rattle.geos_table.specs.Calls.{written}
-use Rattle.geos_table.specs.Effects.{Reference, Nothing, InBlock, Effect, come_to, outcome}
+use Rattle.geos_table.specs.Effects.{Reference, Nothing, InBlock}
 use Rattle.geos_image.specs.declared.instr.Instr.{Instr}
 use Rattle.geos_image.specs.declared.row.Row.{Row}
 use Rattle.geos_image.specs.declared.row.Pointer.{Pointer}
@@ -19,16 +18,12 @@ use Rattle.geos_semantics.specs.Lists.{Each2}
 use Rattle.geos_semantics.specs.State.{SlotReference, State, with_word, slot, with_pointer, kept_pointer, kept_pointers}
 use Rattle.geos_semantics.specs.Meets.{Meets, Sound, PointerMeets, name_held, IsInChunk, PointerIsSound}
 use Rattle.geos_semantics.proofs.Lists.{each2-set}
-use Rattle.geos_semantics.proofs.Memories.{same_name-true, chunks_at-other, chunks_at-same, locks_of-rechunked, names, names-apart, chunk-kept}
+use Rattle.geos_semantics.proofs.Memories.{same_name-true, chunks_at-other, chunks_at-same, locks_of-chunks, names, names-apart, chunk-kept}
 use Rattle.geos_semantics.proofs.Stays.{stays-mapped, slots-left}
 use Rattle.geos_semantics.proofs.Kept.{Leaves, leaves-all, sound-left, kept-nothing, pointer-kept, each2-map}
 use Rattle.geos_semantics.proofs.Locking.{each-set, leads-there}
 use Rattle.geos_semantics.proofs.Apart.{not-same}
 use Rattle.geos_semantics.proofs.Rows.{meets-word}
-
--- memory after a call that was not refused is legal, where the memory that it leaves is
-pub after-legal : {A : Type 0} (effect : Effect A) → IsMemory (outcome effect).1 → first_refusal effect.refusals ≡ None → IsMemory effect.after
-after-legal effect legal e = subst (λ o. IsMemory (come_to o effect.left effect.answer effect.after).1) e legal
 
 -- a state that control comes to within a routine: sound, as the row says, and with what belongs
 -- to control as it was
@@ -96,7 +91,7 @@ module _ (base : Name → ℕ) (s : State) (row : Row) (S : Sound base s) (M : M
   pub leaves-chunks : (a : ℕ) (name : Name) (chunks : List (Option (List ℕ))) → IsMemory (with_chunks s.memory name chunks) → Leaves a (InBlock name) s.memory (with_chunks s.memory name chunks)
   leaves-chunks a name chunks legal = record {
     legal = legal;
-    locks = λ other. locks_of-rechunked s.memory name other chunks;
+    locks = λ other. locks_of-chunks s.memory name other chunks;
     held = λ other. stays-mapped s.memory (rechunked_block chunks) name other;
     chunks = λ target fresh h. record { bytes = h.bytes; there = rw (chunks_at-other s.memory name target.reference.name chunks (names-apart target.reference.name name fresh)) h.there; fits = h.fits };
   }
@@ -105,7 +100,7 @@ module _ (base : Name → ℕ) (s : State) (row : Row) (S : Sound base s) (M : M
   pub leaves-written : (a : ℕ) (ref : Reference) (at : ℕ) (ws : List ℕ) → IsInChunk s.memory ref → IsMemory (written s.memory ref at ws) → Leaves a Nothing s.memory (written s.memory ref at ws)
   leaves-written a ref at ws here legal = record {
     legal = legal;
-    locks = λ other. locks_of-rechunked s.memory ref.name other (chunks_written s.memory ref at ws);
+    locks = λ other. locks_of-chunks s.memory ref.name other (chunks_written s.memory ref at ws);
     held = λ other. stays-mapped s.memory (rechunked_block (chunks_written s.memory ref at ws)) ref.name other;
     chunks = λ target fresh h. kept target.reference h;
   }

@@ -21,7 +21,7 @@ use Rattle.geos_semantics.specs.Lists.{Each2}
 use Rattle.geos_semantics.specs.State.{Held, name_of, SlotReference, State, slot, same_name, kept_pointer, kept_pointers}
 use Rattle.geos_semantics.specs.Meets.{Meets, Sound, SlotMeets, PointerMeets, name_held, IsOfKind, SlotIsSound, PointerIsSound}
 use Rattle.geos_semantics.proofs.Lists.{each2-set}
-use Rattle.geos_semantics.proofs.Memories.{same_name-true, block_of-other, locks_of-same, locks_of-other, chunks_at-locked, lowest-free}
+use Rattle.geos_semantics.proofs.Memories.{same_name-true, block_of-other, locks_of-set, locks_of-other, chunks_at-locked, lowest-free}
 use Rattle.geos_semantics.proofs.Stays.{Stays, kind-some, kind-there, stays-from, stays-mapped, slots-left, meets-held}
 use Rattle.geos_semantics.proofs.Kept.{kept-nothing, pointer-kept, each2-map}
 use Rattle.geos_semantics.proofs.Locking.{LocksInto, GivesBack, there-some, sound-locked, sound-unlocked, held-stay, sound-freed, leads-there}
@@ -42,7 +42,7 @@ locks-into base s locked is legal =
     record {
       legal = legal;
       is = (stays-mapped s.memory (locked_block n) name locked).is is;
-      once = locks_of-same s.memory name n (kind-there s.memory locked.kind name is);
+      once = locks_of-set s.memory name n (kind-there s.memory locked.kind name is);
       locks = λ other ne. locks_of-other s.memory name other n ne;
       held = λ other. stays-mapped s.memory (locked_block n) name other;
       chunks = λ ref h. record { bytes = h.bytes; there = rw (chunks_at-locked s.memory name ref.name n) h.there; fits = h.fits };
@@ -94,7 +94,7 @@ unlocks s name there legal =
     let n = locks_of s.memory name - 1 in
     record {
       legal = legal;
-      once = locks_of-same s.memory name n there;
+      once = locks_of-set s.memory name n there;
       locks = λ other ne. locks_of-other s.memory name other n ne;
       held = λ other. stays-mapped s.memory (locked_block n) name other;
       chunks = λ ref h. record { bytes = h.bytes; there = rw (chunks_at-locked s.memory name ref.name n) h.there; fits = h.fits };

@@ -15,6 +15,7 @@ use Rattle.geos_table.specs.ItemCalls.{no_group, in_group, on_group, gnew}
 use Rattle.geos_table.specs.Keeping.{Keeps, HasWordSize}
 use Rattle.geos_table.specs.Leaving.{new_vm}
 use Rattle.geos_table.proofs.Keeps.{rows_keep_memory}
+use Rattle.geos_table.proofs.Outcomes.{after-kept}
 use Rattle.geos_table.proofs.Laws.{change-shape}
 use Rattle.geos_table.proofs.Passing.{none-behind}
 use Rattle.geos_image.specs.declared.row.Row.{Row}
@@ -29,7 +30,7 @@ use Rattle.geos_semantics.specs.Model.{nowhere, changing_items, making_item}
 use Rattle.geos_semantics.proofs.ChunkAnswers.{make-most}
 use Rattle.geos_semantics.proofs.Leads.{Leads}
 use Rattle.geos_semantics.proofs.Kept.{leaves-all}
-use Rattle.geos_semantics.proofs.Fine.{Fine, after-legal, fine-word, fine-nothing}
+use Rattle.geos_semantics.proofs.Fine.{Fine, fine-word, fine-nothing}
 use Rattle.geos_semantics.proofs.Items.{with_items, leaves-items, fine-regrouped}
 use Rattle.geos_semantics.proofs.NewListed.{with_new, new-small, leaves-new}
 use Rattle.geos_semantics.proofs.Moments.{Moment, Well, StepsWell, along_edge, branch_edge}
@@ -43,7 +44,7 @@ module _ (moment : Moment) where
       let i = G.point.instr in
       calls-well moment NoSlot (with_bound i.a 65535 G.point.row) gnew (with_word i.a) choice (along_edge moment op.Gnew is refl) (branch_edge moment op.Gnew is refl) (λ r. fine-unchanged moment)
       (λ e.
-      let legal_after = after-legal (gnew choice s.memory) (rows_keep_memory.by_gnew choice s.memory G.sound.memory) e in
+      let legal_after = after-kept (gnew choice s.memory) (rows_keep_memory.by_gnew choice s.memory G.sound.memory) e in
       let F = fine-nothing base s G.point.row G.sound G.meets i.a (with_new s.memory group_uid 0) (leaves-new s.memory group_uid i.a legal_after) in
       fine-word base s _ G.point.row i.a (new_vm s.memory).h 65535 F (new-small s.memory G.sound.memory) (new-small s.memory G.sound.memory))
       refl
@@ -62,7 +63,7 @@ module _ (moment : Moment) where
         (λ r. rw (shape.2 r) (fine-regrouped base s G.point.row G.sound G.meets i g s.memory (leaves-all i.a (in_group s.memory g) s.memory G.sound.memory))),
         (λ e.
             let group : is_group s.memory g ≡ true = not-false (is_group s.memory g) (passed (on_group g row choice s.memory).refusals e).0 in
-            let legal_after = after-legal (on_group g row choice s.memory) (keeps choice s.memory G.sound.memory) e in
+            let legal_after = after-kept (on_group g row choice s.memory) (keeps choice s.memory G.sound.memory) e in
             let legal_items = subst (λ m. IsMemory (with_mark m g true)) shape.0 legal_after in
             rw shape.0 (fine-regrouped base s G.point.row G.sound G.meets i g (with_items s.memory g chunks) (leaves-items i.a s.memory g chunks group legal_items))),
       )

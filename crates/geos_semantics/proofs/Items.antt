@@ -22,7 +22,7 @@ use Rattle.geos_semantics.specs.Lists.{Each2}
 use Rattle.geos_semantics.specs.State.{Held, owner_of, name_of, SlotReference, State, slot, same_name, is_made_stale, kept_pointer, kept_pointers}
 use Rattle.geos_semantics.specs.Faults.{is_unmarked_block}
 use Rattle.geos_semantics.specs.Meets.{Meets, Sound, PointerMeets, name_held, SlotIsSound, PointerIsSound}
-use Rattle.geos_semantics.proofs.Memories.{same_name-true, chunks_at-other, locks_of-rechunked, names-apart}
+use Rattle.geos_semantics.proofs.Memories.{same_name-true, chunks_at-other, locks_of-chunks, names-apart}
 use Rattle.geos_semantics.proofs.Stays.{Stays, kind-from, stays-mapped, slots-left}
 use Rattle.geos_semantics.proofs.Kept.{Leaves, sound-left, pointer-kept, each2-map}
 use Rattle.geos_semantics.proofs.NoFaults.{kind-known, slot-sound}
@@ -86,7 +86,7 @@ stays-items m g chunks held =
 pub leaves-items : (a : ℕ) (m : Memory) (g : ℕ) (chunks : List (Option (List ℕ))) → is_group m g ≡ true → IsMemory (with_items m g chunks) → Leaves a (in_group m g) m (with_items m g chunks)
 leaves-items a m g chunks group legal = record {
   legal = legal;
-  locks = λ other. locks_of-mark (with_chunks m (vm g) chunks) g true other ∙ locks_of-rechunked m (vm g) other chunks;
+  locks = λ other. locks_of-mark (with_chunks m (vm g) chunks) g true other ∙ locks_of-chunks m (vm g) other chunks;
   held = λ held. stays-items m g chunks held;
   chunks = λ target fresh h.
       let other = target.reference.name in

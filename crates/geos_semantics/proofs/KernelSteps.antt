@@ -11,6 +11,7 @@ use Rattle.geos_table.specs.Keeping.{Keeps}
 use Rattle.geos_table.specs.Leaving.{LeavesOthers, OneBlock}
 use Rattle.geos_table.specs.Calls.{written}
 use Rattle.geos_table.proofs.Keeps.{rows_keep_memory}
+use Rattle.geos_table.proofs.Outcomes.{after-kept}
 use Rattle.geos_image.specs.declared.row.Row.{Row}
 use Rattle.geos_opcodes.specs.declared.uses.SlotUse.{SlotUse}
 use Rattle.geos_opcodes.specs.declared.uses.SlotUse.TheVariants.{Moves, NoSlot, LooksAt}
@@ -23,7 +24,7 @@ use Rattle.geos_semantics.specs.Meets.{IsInChunk}
 use Rattle.geos_semantics.proofs.Leads.{Leads}
 use Rattle.geos_semantics.proofs.Kept.{leaves-all}
 use Rattle.geos_semantics.proofs.Bounds.{held-at, refusal_number-le}
-use Rattle.geos_semantics.proofs.Fine.{Fine, after-legal, fine-word, fine-same, fine-nothing, fine-moved, leaves-chunks, leaves-written, fine-pointing}
+use Rattle.geos_semantics.proofs.Fine.{Fine, fine-word, fine-same, fine-nothing, fine-moved, leaves-chunks, leaves-written, fine-pointing}
 use Rattle.geos_semantics.proofs.FineLocks.{fine-freed}
 use Rattle.geos_semantics.proofs.Moments.{Moment, Well, fine-goes}
 
@@ -124,7 +125,7 @@ module _ (moment : Moment) where
       let held = held-at s i.a full in (
         (λ r. rw (shape.1, shape.2 r) (fine-moved base s G.point.row G.sound G.meets i name s.memory held (leaves-all i.a (InBlock name) s.memory G.sound.memory))),
         (λ e.
-            let legal_after = after-legal (row choice s.memory) (keeps choice s.memory G.sound.memory) e in
+            let legal_after = after-kept (row choice s.memory) (keeps choice s.memory G.sound.memory) e in
             let legal_chunks = subst IsMemory shape.0 legal_after in
             rw (shape.1, shape.0) (fine-moved base s G.point.row G.sound G.meets i name (with_chunks s.memory name chunks) held (leaves-chunks base s G.point.row G.sound G.meets i.a name chunks legal_chunks))),
       )
@@ -160,7 +161,7 @@ module _ (moment : Moment) where
       (λ r. rw (shape.0, shape.1 r) fine-unchanged)
       (λ e.
       let f = frees choice e in
-      let legal_after = after-legal (call choice s.memory) (keeps choice s.memory G.sound.memory) e in
+      let legal_after = after-kept (call choice s.memory) (keeps choice s.memory G.sound.memory) e in
       rw shape.0 (fine-freed base s G.point.row G.sound G.meets G.point.instr.a name (call choice s.memory).after f.0 legal_after f.1 f.2))
       refl
 

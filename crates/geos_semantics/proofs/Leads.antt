@@ -1,5 +1,5 @@
 -- What the rules, where none refuses, say of the points that control comes to.
-use Rattle.std.proofs.Common.{◌≡◌, ℕ, zero, suc, ◌+◌, ◌<◌, ◌≤◌, Bool, true, false, not, Some, List, [], ◌∷◌, ◌++◌, length, slice_get, refl, sym, ap, ◌∙◌, subst, arith}
+use Rattle.std.proofs.Common.{◌≡◌, ℕ, zero, suc, ◌+◌, ◌<◌, ◌≤◌, Bool, true, not, Some, List, [], ◌∷◌, ◌++◌, length, slice_get, refl, sym, ap, ◌∙◌, subst, arith}
 use Rattle.std.specs.Prelude.{nat_lt, ◌==◌, ◌&&◌}
 use Rattle.std.proofs.lemmas.Bool.{eqb-false, and_parts, or_parts, not-false, ltb-true, eq-eqb}
 use Rattle.geos_opcodes.specs.declared.opcode.Opcode.{Opcode}
@@ -16,6 +16,7 @@ use Rattle.geos_verify.specs.Potentials.{pays_along, pays_branching, is_within}
 use Rattle.geos_verify.specs.Rules.{has_place, returns, leaves_routine, entry_misfits, exit_misfits, misfits_at, edge_misfits, unpaid_along, unpaid_branching, edge_unpaid, over_budget, at_routine, call_misfits, HasPoint, Accepted}
 use Rattle.geos_verify.specs.Touched.{calls}
 use Rattle.geos_image.proofs.Starts.{start_of-end}
+use Rattle.geos_verify.proofs.Noted.{and-false}
 use Rattle.geos_verify.proofs.Passed.{NoneRefuses, none-refuses}
 use Rattle.geos_verify.proofs.Places.{place_bounds, place_true, item_at}
 
@@ -26,11 +27,6 @@ pub record Leads (image : Parts) (r : ℕ) (routine : Routine) (to : ℕ) (row :
   pub has : HasPoint image r routine to point
   pub fits : fits row point.row ≡ true
   pub pays : paid point.potential ≡ true
-
--- a part of a test that is false, where the other part is true
-and-false : (a b : Bool) → (a && b) ≡ false → a ≡ true → b ≡ false
-and-false true b e h = e
-and-false false b e h = absurd cc
 
 -- what an image's rules say of a routine
 pub record RoutineParts (routine : Routine) : Type 0 where

@@ -17,7 +17,9 @@ use Rattle.geos_table.specs.Legal.{IsMemory}
 use Rattle.geos_model.proofs.Costs.{cost-over}
 use Rattle.geos_table.proofs.Laws.{entry-other}
 use Rattle.geos_table.proofs.LegalBlocks.{chunks-need}
-pub use Rattle.geos_table.proofs.NamedBlocks.{block_of-mapped, block_of-gone}
+use Rattle.geos_table.proofs.HandleLists.{none-is}
+use Rattle.geos_table.proofs.NamedBlocks.{told-mapped}
+pub use Rattle.geos_table.proofs.NamedBlocks.{block_of-mapped, block_of-gone, locks_of-chunks, locks_of-set}
 use Rattle.geos_semantics.specs.State.{same_owner, same_name}
 
 -- Names
@@ -63,42 +65,20 @@ owned-other m Vm Vm h k b ne = ap (option_map (λ (l : VmBlock). l.block)) (entr
 pub block_of-other : (m : Memory) (name other : Name) (b : Option Block) → same_name name other ≡ false → block_of (with_block m name b) other ≡ block_of m other
 block_of-other m name other b ne = owned-other m name.owner other.owner name.h other.h b ne
 
--- what is asked of a changed block, of whatever name
-mapped-at : {X : Type 0} (g : Option Block → X) (m : Memory) (f : Block → Block) (name other : Name) → (g (option_map f (block_of m name)) ≡ g (block_of m name))
-    → g (block_of (with_block m name (option_map f (block_of m name))) other) ≡ g (block_of m other)
-mapped-at g m f name other same = elim (names name other) [
-  | inl is ↦ (let here = same_name-true name other is in subst (λ q. g (block_of (with_block m name (option_map f (block_of m name))) q) ≡ g (block_of m q)) here (ap g (block_of-mapped m f name) ∙ same))
-  | inr ne ↦ ap g (block_of-other m name other (option_map f (block_of m name)) ne)
-]
-
 chunks-locked : (n : ℕ) (b : Option Block) → chunks_in (option_map (locked_block n) b) ≡ chunks_in b
 chunks-locked n None = refl
 chunks-locked n (Some b) = refl
 
-locks-rechunked : (cs : List (Option (List ℕ))) (b : Option Block) → locks_in (option_map (rechunked_block cs) b) ≡ locks_in b
-locks-rechunked cs None = refl
-locks-rechunked cs (Some b) = refl
-
--- Locking leaves the chunks of each block, and changing chunks leaves the locks
+-- Locking leaves the chunks of each block
 pub chunks_at-locked : (m : Memory) (name other : Name) (n : ℕ) → chunks_at (with_locks m name n) other ≡ chunks_at m other
-chunks_at-locked m name other n = mapped-at chunks_in m (locked_block n) name other (chunks-locked n (block_of m name))
-
-pub locks_of-rechunked : (m : Memory) (name other : Name) (cs : List (Option (List ℕ))) → locks_of (with_chunks m name cs) other ≡ locks_of m other
-locks_of-rechunked m name other cs = mapped-at locks_in m (rechunked_block cs) name other (locks-rechunked cs (block_of m name))
+chunks_at-locked m name other n = told-mapped chunks_in m (locked_block n) (chunks-locked n) name other
 
 pub chunks_at-other : (m : Memory) (name other : Name) (cs : List (Option (List ℕ))) → same_name name other ≡ false → chunks_at (with_chunks m name cs) other ≡ chunks_at m other
 chunks_at-other m name other cs ne = ap chunks_in (block_of-other m name other (option_map (rechunked_block cs) (block_of m name)) ne)
 
-locks-set : (n : ℕ) (b : Option Block) → is_none b ≡ false → locks_in (option_map (locked_block n) b) ≡ n
-locks-set n None h = absurd cc
-locks-set n (Some b) h = refl
-
 chunks-set : (cs : List (Option (List ℕ))) (b : Option Block) → is_none b ≡ false → chunks_in (option_map (rechunked_block cs) b) ≡ cs
 chunks-set cs None h = absurd cc
 chunks-set cs (Some b) h = refl
-
-pub locks_of-same : (m : Memory) (name : Name) (n : ℕ) → is_none (block_of m name) ≡ false → locks_of (with_locks m name n) name ≡ n
-locks_of-same m name n there = ap locks_in (block_of-mapped m (locked_block n) name) ∙ locks-set n (block_of m name) there
 
 pub chunks_at-same : (m : Memory) (name : Name) (cs : List (Option (List ℕ))) → is_none (block_of m name) ≡ false → chunks_at (with_chunks m name cs) name ≡ cs
 chunks_at-same m name cs there = ap chunks_in (block_of-mapped m (rechunked_block cs) name) ∙ chunks-set cs (block_of m name) there
@@ -107,10 +87,6 @@ pub locks_of-other : (m : Memory) (name other : Name) (n : ℕ) → same_name na
 locks_of-other m name other n ne = ap locks_in (block_of-other m name other (option_map (locked_block n) (block_of m name)) ne)
 
 -- The lowest free handle
-
-pub none-is : {X : Type 0} (o : Option X) → is_none o ≡ true → o ≡ None
-none-is None h = refl
-none-is (Some x) h = absurd cc
 
 -- it names no block, and a block that is put there is there
 pub lowest-free : (m : Memory) (h : ℕ) (b : Option Block) → lowest_handle m Mem ≡ Some h → (block_of m (mem h) ≡ None) × (block_of (with_block m (mem h) b) (mem h) ≡ b)

@@ -45,7 +45,7 @@ pub entry-each : {A B : Type 0} (f : A → B) (xs : List (Option A)) (h : ℕ) �
 entry-each f xs zero = refl
 entry-each f xs (suc h) = get-each f xs h
 
-none-is : {X : Type 0} (o : Option X) → is_none o ≡ true → o ≡ None
+pub none-is : {X : Type 0} (o : Option X) → is_none o ≡ true → o ≡ None
 none-is None h = refl
 none-is (Some x) h = absurd cc
 

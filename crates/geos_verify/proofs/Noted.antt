@@ -35,7 +35,7 @@ and-same : (b x y : Bool) → (b ≡ true → x ≡ y) → (b && x) ≡ (b && y)
 and-same true x y h = h refl
 and-same false x y h = refl
 
-and-false : (b x : Bool) → (b && x) ≡ false → b ≡ true → x ≡ false
+pub and-false : (b x : Bool) → (b && x) ≡ false → b ≡ true → x ≡ false
 and-false true x e h = e
 and-false false x e h = absurd cc
 
