@@ -1,29 +1,31 @@
 -- Which slots are still held at a return, and since where.
 use Rattle.std.specs.Prelude.{ℕ, zero, suc, Bool, false, ◌&&◌, not, nat_lt, if◌then◌else◌, ◌==◌, List, [], ◌++◌, Some, None, length, slice_get, codes, decimal}
-use Rattle.geos_image.specs.declared.row.Row.{Row}
 use Rattle.geos_image.specs.declared.point.Point.{Point}
 use Rattle.geos_image.specs.Parts.{Parts, start_of}
-use Rattle.geos_listing.specs.Rows.{row_items}
+use Rattle.geos_listing.specs.Rows.{texts_below, row_items}
 use Rattle.geos_verify.specs.Rows.{after, falls_through, is_empty, slot_state}
-use Rattle.geos_verify.specs.Rules.{has_place}
+use Rattle.geos_verify.specs.Rules.{has_place, is_of_file}
 use Rattle.geos_explain.specs.Lacks.{lacking, lacking_items}
-use Rattle.geos_explain.specs.Numbers.{is_or_are, pc_text}
+use Rattle.geos_explain.specs.Numbers.{is_or_are, are_text, pc_text}
 use Rattle.geos_explain.specs.Places.{Place}
 use Rattle.geos_explain.specs.Uses.{state_item}
+use Rattle.geos_explain.specs.declared.held.HeldAt.{HeldAt}
+use Rattle.geos_explain.specs.declared.held.HeldAt.TheVariants.{Return, Write}
 use Rattle.geos_explain.specs.declared.held.Since.{Since}
 use Rattle.geos_explain.specs.declared.held.Since.TheVariants.{Nowhere, Once, Often}
 
--- a slot is held, and another row has it empty
-abbrev pub is_kept : ℕ → Row → Row → Bool
-is_kept a known wanted = not (is_empty (slot_state known a)) && is_empty (slot_state wanted a)
+-- a slot is held at a return, and the exit row has it empty; or it holds a block of the VM file where that is written
+abbrev pub is_held_at : HeldAt → Place → ℕ → Bool
+is_held_at Return place a = not (is_empty (slot_state place.row a)) && is_empty (slot_state place.routine.exit a)
+is_held_at Write place a = is_of_file (slot_state place.row a)
 
 -- such a slot, and what it holds
-unfoldable pub kept_item : ℕ → Row → Row → List ℕ
-kept_item a known wanted = if is_kept a known wanted then state_item a known else []
+unfoldable pub slot_at : HeldAt → Place → ℕ → List ℕ
+slot_at which place a = if is_held_at which place a then state_item a place.row else []
 
 -- the same of each slot
-unfoldable pub kept_items : Row → Row → List ℕ
-kept_items known wanted = kept_item 0 known wanted ++ kept_item 1 known wanted ++ kept_item 2 known wanted ++ kept_item 3 known wanted
+abbrev pub slots_at : HeldAt → Place → List ℕ
+slots_at which place = texts_below 4 (λ a. slot_at which place a)
 
 -- the slot is empty before the instruction at a pc, and held behind it
 abbrev pub fills : Parts → ℕ → ℕ → Point → Bool
@@ -63,24 +65,18 @@ since_text lines a Nowhere = codes "; s" ++ decimal a ++ codes " is held since" 
 since_text lines a (Once from) = codes "; s" ++ decimal a ++ codes " is held since" ++ pc_text lines from ++ []
 since_text lines a (Often last) = codes "; s" ++ decimal a ++ codes " is held since" ++ pc_text lines last ++ codes " or another place"
 
--- the same of a slot that the exit row has empty
-unfoldable pub since_item : Place → ℕ → List ℕ
-since_item place a =
-    if is_kept a place.row place.routine.exit
-    then since_text place.lines a (since_below place a (length place.image.points))
-    else []
+-- the same of a slot that is held and must not be
+unfoldable pub since_at : HeldAt → Place → ℕ → List ℕ
+since_at which place a =
+    if is_held_at which place a then since_text place.lines a (since_below place a (length place.image.points)) else []
 
 -- the same of each slot
-unfoldable pub since_items : Place → List ℕ
-since_items place = since_item place 0 ++ since_item place 1 ++ since_item place 2 ++ since_item place 3
+abbrev pub sinces_at : HeldAt → Place → List ℕ
+sinces_at which place = texts_below 4 (λ a. since_at which place a)
 
 -- what else the exit row wants
 unfoldable pub also_wanted : List ℕ → List ℕ
 also_wanted items = if length items == 0 then [] else codes ";" ++ items ++ is_or_are items ++ codes " wanted by the exit row, and not known here"
-
--- slots are still held at the return
-unfoldable pub kept_head : List ℕ → List ℕ
-kept_head items = items ++ is_or_are items ++ codes " still held at the return"
 
 -- what else the exit row of a place wants
 unfoldable pub else_wanted : Place → List ℕ
@@ -88,16 +84,13 @@ else_wanted place = also_wanted (row_items (lacking place.row place.routine.exit
 
 -- slots are still held at the return, since where, and what else the exit row wants
 unfoldable pub kept_words : Place → List ℕ
-kept_words place = kept_head (kept_items place.row place.routine.exit) ++ since_items place ++ else_wanted place
-
--- these items are wanted by the exit row
-unfoldable pub unmet_head : List ℕ → List ℕ
-unmet_head items = items ++ is_or_are items ++ codes " wanted by the exit row, and not known here"
+kept_words place =
+    are_text (slots_at Return place) (codes " still held at the return") ++ sinces_at Return place ++ else_wanted place
 
 -- the exit row wants more than the row says
 unfoldable pub unmet_words : Place → List ℕ
-unmet_words place = unmet_head (lacking_items place.row place.routine.exit)
+unmet_words place = are_text (lacking_items place.row place.routine.exit) (codes " wanted by the exit row, and not known here")
 
 -- a row does not fit the exit row: slots are still held, or else it wants more
 unfoldable pub exit_words : Place → List ℕ
-exit_words place = if length (kept_items place.row place.routine.exit) == 0 then unmet_words place else kept_words place
+exit_words place = if length (slots_at Return place) == 0 then unmet_words place else kept_words place

@@ -1,8 +1,8 @@
 pub mod Numbers
-pub mod Parts
 pub mod Led
 pub mod Places
 pub mod Notes
+pub mod Parts
 pub mod Lacks
 pub mod Uses
 pub mod Held

@@ -34,6 +34,10 @@ items_in items = count_by is_blank items
 unfoldable pub is_or_are : List ℕ → List ℕ
 is_or_are items = verb (items_in items == 1)
 
+-- items, that it is or that they are, and what
+unfoldable pub are_text : List ℕ → List ℕ → List ℕ
+are_text items what = items ++ is_or_are items ++ what
+
 -- a target as the reader has it: in an author's text its line, else the label that the listing gives it
 unfoldable pub label_text : List ℕ → ℕ → List ℕ
 label_text lines target = elim (slice_get lines target) [ None ↦ codes " L" ++ decimal target | Some line ↦ codes " line " ++ decimal line ]

@@ -1,8 +1,9 @@
 -- Sentences, by their parts.
 use Rattle.std.specs.Prelude.{ℕ, List, [], ◌∷◌, ◌++◌, decimal}
+use Rattle.geos_explain.specs.Notes.{coefficients_text}
 use Rattle.geos_explain.specs.Numbers.{label_text, pc_text}
 use Rattle.geos_explain.specs.declared.parts.Part.{Part}
-use Rattle.geos_explain.specs.declared.parts.Part.TheVariants.{Text, Bytes, Number, Register, Pc, Label}
+use Rattle.geos_explain.specs.declared.parts.Part.TheVariants.{Text, Bytes, Number, Register, Coefficients, Pc, Label}
 
 -- a part of a sentence
 abbrev pub part_text : Part → List ℕ
@@ -10,6 +11,7 @@ part_text (Text text) = text.now
 part_text (Bytes bytes) = bytes.now
 part_text (Number n) = decimal n
 part_text (Register n) = decimal n
+part_text (Coefficients coefficients) = coefficients_text coefficients.now
 part_text (Pc lines pc) = pc_text lines.now pc
 part_text (Label lines target) = label_text lines.now target
 

@@ -5,6 +5,7 @@ use Rattle.geos_opcodes.specs.declared.facts.CounterUse.TheVariants.{SetTo, SetT
 use Rattle.geos_opcodes.specs.Facts.{facts}
 use Rattle.geos_image.specs.declared.instr.Instr.{Instr}
 use Rattle.geos_image.specs.Parts.{Parts}
+use Rattle.geos_listing.specs.Rows.{texts_below}
 use Rattle.geos_verify.specs.Rows.{falls_through, branches}
 use Rattle.geos_explain.specs.Numbers.{pc_text}
 use Rattle.geos_explain.specs.Notes.{budget_words}
@@ -69,8 +70,8 @@ unset_item place k =
     else []
 
 -- the same of each counter
-unfoldable pub unset_items : Place → List ℕ
-unset_items place = unset_item place 0 ++ unset_item place 1 ++ unset_item place 2 ++ unset_item place 3
+abbrev pub unset_items : Place → List ℕ
+unset_items place = texts_below 4 (λ k. unset_item place k)
 
 -- a potential is above the budget, and which counters are never set
 unfoldable pub over_words : Place → List ℕ

@@ -15,7 +15,7 @@ use Rattle.geos_verify.specs.Rules.{has_place}
 use Rattle.geos_explain.specs.Places.{Place}
 use Rattle.geos_explain.specs.Unset.{over_words}
 use Rattle.geos_explain.specs.Lacks.{lacking_items}
-use Rattle.geos_explain.specs.Numbers.{is_or_are, label_text, pc_text}
+use Rattle.geos_explain.specs.Numbers.{is_or_are, are_text, label_text, pc_text}
 use Rattle.geos_explain.specs.Held.{exit_words}
 use Rattle.geos_explain.specs.Written.{written_words}
 use Rattle.geos_explain.specs.Uses.{nowhere_words, past_words, unmarked_words, held_words, slot_words}
@@ -29,17 +29,13 @@ leaves_words place =
     then codes " control goes on past the end of the routine"
     else label_text place.lines place.i.target ++ codes " stands outside of the routine"
 
--- these items are wanted at a routine's beginning
-unfoldable pub not_from_entry : List ℕ → List ℕ
-not_from_entry items = items ++ is_or_are items ++ codes " wanted here, and not known from the entry row"
-
 -- the row wants more than the routine's entry row says, or the routine is public and wants or leaves
 -- what a caller from outside does not have
 unfoldable pub entry_words : Routine → Row → List ℕ
 entry_words routine row =
     if length (lacking_items routine.entry row) == 0
     then codes " a public routine begins and ends with empty slots and stale pointers"
-    else not_from_entry (lacking_items routine.entry row)
+    else are_text (lacking_items routine.entry row) (codes " wanted here, and not known from the entry row")
 
 -- the instruction may reach past the bytes behind its pointer
 unfoldable pub past_here : Instr → Row → List ℕ
@@ -89,11 +85,15 @@ wanted_branching place = if branches place.i.opcode then wanted_at place.image p
 unfoldable pub wanted_words : List ℕ → ℕ → List ℕ → List ℕ
 wanted_words lines to items = items ++ is_or_are items ++ codes " wanted at" ++ pc_text lines to ++ codes ", and not known here"
 
+-- a row does not fit that at the end of the edge to the target
+unfoldable pub branching_words : Place → List ℕ
+branching_words place = wanted_words place.lines place.i.target (wanted_branching place)
+
 -- a row does not fit that at the end of an edge: the edge to the next instruction is tried first
 unfoldable pub edge_words : Place → List ℕ
 edge_words place =
     if length (wanted_along place) == 0
-    then wanted_words place.lines place.i.target (wanted_branching place)
+    then branching_words place
     else wanted_words place.lines (place.pc + 1) (wanted_along place)
 
 -- what is wrong at a place, by a rule

@@ -2,17 +2,17 @@
 
 ghost use Rattle.std.specs.Prelude.{◌≡◌, ◌<◌, ◌++◌, Some, OnOk, length, slice_get};
 ghost use Rattle.geos_explain.specs.Places.{IsPlace, place_of};
-ghost use Rattle.geos_explain.specs.Held.{is_kept, kept_item, kept_items, fills, fills_at, fills_here, later, one_more, also, since_below, since_text, since_item, since_items, also_wanted, kept_head, else_wanted, kept_words, unmet_head, unmet_words, exit_words};
+ghost use Rattle.geos_explain.specs.Held.{is_held_at, slot_at, slots_at, fills, fills_at, fills_here, later, one_more, also, since_below, since_text, since_at, sinces_at, also_wanted, else_wanted, kept_words, unmet_words, exit_words};
 
 use crate::lacks::{lacking, put_lacking};
 use crate::numbers::is_or_are;
-use crate::parts::{Part, put_parts};
+use crate::parts::{Part, put_are, put_parts};
 use crate::place::Place;
 use crate::points::point_at;
 use crate::uses::put_state;
-use geos_image::{Image, Point, Row};
+use geos_image::{Image, Point};
 use geos_listing::put_items;
-use geos_verify::{after, falls_through, has_place, is_empty, slot_state};
+use geos_verify::{after, falls_through, has_place, is_empty, is_of_file, slot_state};
 use std::alloc::{AllocError, Global};
 
 /// Where in a routine a slot becomes held.
@@ -26,34 +26,51 @@ pub(crate) enum Since {
     Often(u16),
 }
 
-/// Whether the slot is held, and another row has it empty.
-fn is_kept(a: u8, known: &Row, wanted: &Row) -> bool
-    ensures { result ≡ is_kept a known.now wanted.now }
+/// Where slots are held that must not be.
+#[derive(Clone, Copy)]
+pub(crate) enum HeldAt {
+    /// At a return, and the exit row has them empty.
+    Return,
+    /// Where the VM file is written, and they hold blocks of it.
+    Write,
+}
+
+/// Whether the slot is one of these.
+fn is_held_at(which: HeldAt, place: &Place, a: u8) -> bool
+    ensures { result ≡ is_held_at which (place_of place.now) a }
 {
-    !is_empty(slot_state(known, a)) && is_empty(slot_state(wanted, a))
+    let state = slot_state(place.row, a);
+    match which {
+        HeldAt::Return => !is_empty(state) && is_empty(slot_state(&place.routine.exit, a)),
+        HeldAt::Write => is_of_file(state),
+    }
 }
 
 /// Such a slot, and what it holds.
-#[tactic(auto, unfolding(crate::specs::Held::kept_item))]
-fn put_kept_item(out: &mut Vec<u8>, a: u8, known: &Row, wanted: &Row) -> Result<(), AllocError>
-    ensures { OnOk result (out.new.items ≡ out.old.items ++ kept_item a known.now wanted.now) }
+#[tactic(auto, unfolding(crate::specs::Held::slot_at))]
+fn put_slot_at(out: &mut Vec<u8>, which: HeldAt, place: &Place, a: u8) -> Result<(), AllocError>
+    ensures { OnOk result (out.new.items ≡ out.old.items ++ slot_at which (place_of place.now) a) }
 {
-    if is_kept(a, known, wanted) {
-        put_state(out, a, known)
+    if is_held_at(which, place, a) {
+        put_state(out, a, place.row)
     } else {
         Ok(())
     }
 }
 
 /// The same of each slot.
-#[tactic(auto, unfolding(crate::specs::Held::kept_items))]
-fn put_kept_items(out: &mut Vec<u8>, known: &Row, wanted: &Row) -> Result<(), AllocError>
-    ensures { OnOk result (out.new.items ≡ out.old.items ++ kept_items known.now wanted.now) }
+#[tactic(auto, unfolding(geos_listing::specs::Rows::texts_below))]
+pub(crate) fn put_slots_at(
+    out: &mut Vec<u8>,
+    which: HeldAt,
+    place: &Place,
+) -> Result<(), AllocError>
+    ensures { OnOk result (out.new.items ≡ out.old.items ++ slots_at which (place_of place.now)) }
 {
-    put_kept_item(out, 0, known, wanted)?;
-    put_kept_item(out, 1, known, wanted)?;
-    put_kept_item(out, 2, known, wanted)?;
-    put_kept_item(out, 3, known, wanted)
+    for a in 0..4 {
+        put_slot_at(out, which, place, a)?;
+    }
+    Ok(())
 }
 
 /// Whether the slot is empty before the instruction at the pc, and held behind it.
@@ -116,7 +133,7 @@ fn also(pc: u16, since: Since, from: u16, here: bool) -> Since
 
 /// Where in the routine the slot becomes held.
 #[tactic(auto, unfolding(crate::specs::Held::since_below))]
-pub(crate) fn held_since(place: &Place, a: u8) -> Since
+fn held_since(place: &Place, a: u8) -> Since
     requires { IsPlace (place_of place.now) }
     ensures { result ≡ since_below (place_of place.now) a (length place.now.image.now.points) }
 {
@@ -128,12 +145,7 @@ pub(crate) fn held_since(place: &Place, a: u8) -> Since
 }
 
 /// Since where the slot is held; of several places, one.
-pub(crate) fn put_since_text(
-    out: &mut Vec<u8>,
-    lines: &[usize],
-    a: u8,
-    s: Since,
-) -> Result<(), AllocError>
+fn put_since_text(out: &mut Vec<u8>, lines: &[usize], a: u8, s: Since) -> Result<(), AllocError>
     ensures { OnOk result (out.new.items ≡ out.old.items ++ since_text lines.now a s) }
 {
     let (since, behind) = match s {
@@ -153,13 +165,13 @@ pub(crate) fn put_since_text(
     )
 }
 
-/// The same of a slot that the exit row has empty.
-#[tactic(auto, unfolding(crate::specs::Held::since_item))]
-fn put_since_item(out: &mut Vec<u8>, place: &Place, a: u8) -> Result<(), AllocError>
+/// The same of a slot that is held and must not be.
+#[tactic(auto, unfolding(crate::specs::Held::since_at))]
+fn put_since_at(out: &mut Vec<u8>, which: HeldAt, place: &Place, a: u8) -> Result<(), AllocError>
     requires { IsPlace (place_of place.now) }
-    ensures { OnOk result (out.new.items ≡ out.old.items ++ since_item (place_of place.now) a) }
+    ensures { OnOk result (out.new.items ≡ out.old.items ++ since_at which (place_of place.now) a) }
 {
-    if is_kept(a, place.row, &place.routine.exit) {
+    if is_held_at(which, place, a) {
         put_since_text(out, place.lines, a, held_since(place, a))
     } else {
         Ok(())
@@ -167,15 +179,19 @@ fn put_since_item(out: &mut Vec<u8>, place: &Place, a: u8) -> Result<(), AllocEr
 }
 
 /// The same of each slot.
-#[tactic(auto, unfolding(crate::specs::Held::since_items))]
-fn put_since_items(out: &mut Vec<u8>, place: &Place) -> Result<(), AllocError>
+#[tactic(auto, unfolding(geos_listing::specs::Rows::texts_below))]
+pub(crate) fn put_sinces_at(
+    out: &mut Vec<u8>,
+    which: HeldAt,
+    place: &Place,
+) -> Result<(), AllocError>
     requires { IsPlace (place_of place.now) }
-    ensures { OnOk result (out.new.items ≡ out.old.items ++ since_items (place_of place.now)) }
+    ensures { OnOk result (out.new.items ≡ out.old.items ++ sinces_at which (place_of place.now)) }
 {
-    put_since_item(out, place, 0)?;
-    put_since_item(out, place, 1)?;
-    put_since_item(out, place, 2)?;
-    put_since_item(out, place, 3)
+    for a in 0..4 {
+        put_since_at(out, which, place, a)?;
+    }
+    Ok(())
 }
 
 /// What else the exit row wants.
@@ -193,21 +209,6 @@ fn put_also_wanted(out: &mut Vec<u8>, items: &[u8]) -> Result<(), AllocError>
             Part::Bytes(items),
             Part::Text(is_or_are(items)),
             Part::Text(" wanted by the exit row, and not known here"),
-        ],
-    )
-}
-
-/// Slots are still held at the return.
-#[tactic(auto, unfolding(crate::specs::Held::kept_head))]
-fn put_kept_head(out: &mut Vec<u8>, items: &[u8]) -> Result<(), AllocError>
-    ensures { OnOk result (out.new.items ≡ out.old.items ++ kept_head items.now) }
-{
-    put_parts(
-        out,
-        &[
-            Part::Bytes(items),
-            Part::Text(is_or_are(items)),
-            Part::Text(" still held at the return"),
         ],
     )
 }
@@ -231,27 +232,12 @@ fn put_kept_words(
     kept: &[u8],
 ) -> Result<(), AllocError>
     requires place { IsPlace (place_of place.now) }
-    requires kept { kept.now ≡ kept_items place.now.row.now place.now.routine.now.exit }
+    requires kept { kept.now ≡ slots_at HeldAt.Return (place_of place.now) }
     ensures { OnOk result (out.new.items ≡ out.old.items ++ kept_words (place_of place.now)) }
 {
-    put_kept_head(out, kept)?;
-    put_since_items(out, place)?;
+    put_are(out, kept, " still held at the return")?;
+    put_sinces_at(out, HeldAt::Return, place)?;
     put_else_wanted(alloc, out, place)
-}
-
-/// These items are wanted by the exit row.
-#[tactic(auto, unfolding(crate::specs::Held::unmet_head))]
-fn put_unmet_head(out: &mut Vec<u8>, items: &[u8]) -> Result<(), AllocError>
-    ensures { OnOk result (out.new.items ≡ out.old.items ++ unmet_head items.now) }
-{
-    put_parts(
-        out,
-        &[
-            Part::Bytes(items),
-            Part::Text(is_or_are(items)),
-            Part::Text(" wanted by the exit row, and not known here"),
-        ],
-    )
 }
 
 /// The exit row wants more than the row says.
@@ -261,7 +247,7 @@ fn put_unmet(alloc: Global, out: &mut Vec<u8>, place: &Place) -> Result<(), Allo
 {
     let mut items = Vec::new(alloc);
     put_lacking(&mut items, place.row, &place.routine.exit)?;
-    put_unmet_head(out, &items)
+    put_are(out, &items, " wanted by the exit row, and not known here")
 }
 
 /// The row does not fit the exit row: slots are still held, or else it wants more.
@@ -271,7 +257,7 @@ pub(crate) fn put_exit(alloc: Global, out: &mut Vec<u8>, place: &Place) -> Resul
     ensures { OnOk result (out.new.items ≡ out.old.items ++ exit_words (place_of place.now)) }
 {
     let mut kept = Vec::new(alloc);
-    put_kept_items(&mut kept, place.row, &place.routine.exit)?;
+    put_slots_at(&mut kept, HeldAt::Return, place)?;
     if kept.is_empty() {
         return put_unmet(alloc, out, place);
     }

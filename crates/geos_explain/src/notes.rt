@@ -32,15 +32,8 @@ fn put_coefficient(out: &mut Vec<u8>, k: usize, n: u32) -> Result<(), AllocError
     if n == 0 {
         return Ok(());
     }
-    put_parts(
-        out,
-        &[
-            Part::Text(" + "),
-            Part::Number(u64::from(n)),
-            Part::Text(" k"),
-            Part::Number(k as u64),
-        ],
-    )
+    put_numbered(out, " + ", u64::from(n))?;
+    put_numbered(out, " k", k as u64)
 }
 
 /// Those for each counter.
@@ -67,9 +60,15 @@ fn is_one(potential: &Potential) -> bool
 fn put_potential(out: &mut Vec<u8>, potential: &Potential) -> Result<(), AllocError>
     ensures { OnOk result (out.new.items ≡ out.old.items ++ potential_text potential.now) }
 {
-    put_numbered(out, " ", u64::from(potential.constant))?;
-    put_coefficients(out, &potential.coefficients)?;
-    out.extend_from_slice(steps_word(is_one(potential)).as_bytes())
+    put_parts(
+        out,
+        &[
+            Part::Text(" "),
+            Part::Number(u64::from(potential.constant)),
+            Part::Coefficients(&potential.coefficients),
+            Part::Text(steps_word(is_one(potential))),
+        ],
+    )
 }
 
 /// The routine and the pc.

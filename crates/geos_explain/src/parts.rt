@@ -1,9 +1,11 @@
 //! Sentences, by their parts.
 
 ghost use Rattle.std.specs.Prelude.{◌≡◌, ◌++◌, OnOk};
+ghost use Rattle.geos_explain.specs.Numbers.{are_text};
 ghost use Rattle.geos_explain.specs.Parts.{part_text, parts_text};
 
-use crate::numbers::{put_label, put_numbered, put_pc};
+use crate::notes::put_coefficients;
+use crate::numbers::{is_or_are, put_label, put_numbered, put_pc};
 use std::alloc::AllocError;
 
 /// A part of a sentence.
@@ -16,6 +18,8 @@ pub(crate) enum Part<'a> {
     Number(u64),
     /// The same of the number of a register.
     Register(u8),
+    /// So many steps for each that is on a counter.
+    Coefficients(&'a [u32; 4]),
     /// A pc as the reader has it: in an author's text, whose lines these are, its line, else itself.
     Pc(&'a [usize], u16),
     /// The same of a target, else the label that the listing gives it.
@@ -31,6 +35,7 @@ fn put_part(out: &mut Vec<u8>, part: &Part) -> Result<(), AllocError>
         Part::Bytes(bytes) => out.extend_from_slice(bytes),
         Part::Number(n) => put_numbered(out, "", n),
         Part::Register(n) => put_numbered(out, "", u64::from(n)),
+        Part::Coefficients(coefficients) => put_coefficients(out, coefficients),
         Part::Pc(lines, pc) => put_pc(out, lines, pc),
         Part::Label(lines, target) => put_label(out, lines, target),
     }
@@ -44,4 +49,22 @@ pub(crate) fn put_parts(out: &mut Vec<u8>, parts: &[Part]) -> Result<(), AllocEr
         put_part(out, part)?;
     }
     Ok(())
+}
+
+/// Items, that it is or that they are, and what.
+pub(crate) fn put_are<'a>(
+    out: &mut Vec<u8>,
+    items: &'a [u8],
+    what: &'a str,
+) -> Result<(), AllocError>
+    ensures { OnOk result (out.new.items ≡ out.old.items ++ are_text items.now what.now) }
+{
+    put_parts(
+        out,
+        &[
+            Part::Bytes(items),
+            Part::Text(is_or_are(items)),
+            Part::Text(what),
+        ],
+    )
 }

@@ -4,7 +4,6 @@ ghost use Rattle.std.specs.Prelude.{◌≡◌, ◌<◌, ◌++◌, OnOk, length};
 ghost use Rattle.geos_explain.specs.Places.{IsPlace, place_of};
 ghost use Rattle.geos_explain.specs.Steps.{whole_words, owed_words, asked_words, asks_along, asks_branching, paying_item, paying_items, touched_words, touched_here, last_words, unpaid_words};
 
-use crate::notes::put_coefficients;
 use crate::numbers::{put_numbered, steps_word, verb};
 use crate::parts::{Part, put_parts};
 use crate::place::Place;
@@ -14,14 +13,21 @@ use geos_verify::{Asked, asked_along, asked_branching, branches, falls_through};
 use std::alloc::AllocError;
 
 /// The steps that are asked and those that are left, with what each counter must pay, and pays.
-fn put_whole(out: &mut Vec<u8>, asked: &Asked, p: &Potential) -> Result<(), AllocError>
+fn put_whole<'a>(out: &mut Vec<u8>, asked: &'a Asked, p: &'a Potential) -> Result<(), AllocError>
     ensures { OnOk result (out.new.items ≡ out.old.items ++ whole_words asked.now p.now) }
 {
-    put_numbered(out, " ", asked.steps)?;
-    put_coefficients(out, &asked.coefficients)?;
-    put_numbered(out, " steps are owed from here, with ", asked.left(p))?;
-    put_coefficients(out, &p.coefficients)?;
-    out.extend_from_slice(b" left")
+    put_parts(
+        out,
+        &[
+            Part::Text(" "),
+            Part::Number(asked.steps),
+            Part::Coefficients(&asked.coefficients),
+            Part::Text(" steps are owed from here, with "),
+            Part::Number(asked.left(p)),
+            Part::Coefficients(&p.coefficients),
+            Part::Text(" left"),
+        ],
+    )
 }
 
 /// What is asked and not left: steps, or else what counters pay.

@@ -155,14 +155,14 @@ fn put_unset_item(out: &mut Vec<u8>, place: &Place, k: u8) -> Result<(), AllocEr
 }
 
 /// The same of each counter.
-#[tactic(auto, unfolding(crate::specs::Unset::unset_items))]
+#[tactic(auto, unfolding(geos_listing::specs::Rows::texts_below))]
 fn put_unset_items(out: &mut Vec<u8>, place: &Place) -> Result<(), AllocError>
     ensures { OnOk result (out.new.items ≡ out.old.items ++ unset_items (place_of place.now)) }
 {
-    put_unset_item(out, place, 0)?;
-    put_unset_item(out, place, 1)?;
-    put_unset_item(out, place, 2)?;
-    put_unset_item(out, place, 3)
+    for k in 0..4 {
+        put_unset_item(out, place, k)?;
+    }
+    Ok(())
 }
 
 /// The potential is above the budget, and which counters are never set.

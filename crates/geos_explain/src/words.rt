@@ -3,12 +3,12 @@
 ghost use Rattle.std.specs.Prelude.{◌≡◌, ◌<◌, ◌≤◌, ◌+◌, ◌++◌, ◌&&◌, OnOk};
 ghost use Rattle.geos_image.specs.Fields.{FieldsFit};
 ghost use Rattle.geos_explain.specs.Places.{IsPlace, place_of};
-ghost use Rattle.geos_explain.specs.Words.{leaves_words, not_from_entry, entry_words, past_here, unmarked_here, slot_here, wanted_by, callee_words, call_words, call_here, wanted_at, wanted_along, wanted_branching, wanted_words, edge_words, words, refusal_head, refusal_line};
+ghost use Rattle.geos_explain.specs.Words.{leaves_words, entry_words, past_here, unmarked_here, slot_here, wanted_by, callee_words, call_words, call_here, wanted_at, wanted_along, wanted_branching, wanted_words, branching_words, edge_words, words, refusal_head, refusal_line};
 
 use crate::held::put_exit;
 use crate::lacks::put_lacking;
 use crate::numbers::is_or_are;
-use crate::parts::{Part, put_parts};
+use crate::parts::{Part, put_are, put_parts};
 use crate::place::Place;
 use crate::points::point_at;
 use crate::stale::put_stale;
@@ -41,21 +41,6 @@ fn put_leaves(out: &mut Vec<u8>, place: &Place) -> Result<(), AllocError>
     }
 }
 
-/// These items are wanted at the routine's beginning.
-#[tactic(auto, unfolding(crate::specs::Words::not_from_entry))]
-fn put_not_from_entry(out: &mut Vec<u8>, items: &[u8]) -> Result<(), AllocError>
-    ensures { OnOk result (out.new.items ≡ out.old.items ++ not_from_entry items.now) }
-{
-    put_parts(
-        out,
-        &[
-            Part::Bytes(items),
-            Part::Text(is_or_are(items)),
-            Part::Text(" wanted here, and not known from the entry row"),
-        ],
-    )
-}
-
 /// The row wants more than the routine's entry row says, or the routine is public and wants or
 /// leaves what a caller from outside does not have.
 #[tactic(auto, unfolding(crate::specs::Words::entry_words))]
@@ -74,7 +59,11 @@ fn put_entry(
             b" a public routine begins and ends with empty slots and stale pointers",
         );
     }
-    put_not_from_entry(out, &items)
+    put_are(
+        out,
+        &items,
+        " wanted here, and not known from the entry row",
+    )
 }
 
 /// The instruction may reach past the bytes behind its pointer.
@@ -221,20 +210,30 @@ fn put_wanted<'a>(
     )
 }
 
+/// A row does not fit that at the end of the edge to the target.
+#[tactic(auto, unfolding(crate::specs::Words::branching_words))]
+fn put_branching(alloc: Global, out: &mut Vec<u8>, place: &Place) -> Result<(), AllocError>
+    requires { IsPlace (place_of place.now) }
+    ensures { OnOk result (out.new.items ≡ out.old.items ++ branching_words (place_of place.now)) }
+{
+    let mut items = Vec::new(alloc);
+    put_wanted_branching(&mut items, place)?;
+    put_wanted(out, place.lines, place.i.target, &items)
+}
+
 /// A row does not fit that at the end of an edge: the edge to the next instruction is tried first.
 #[tactic(auto, unfolding(crate::specs::Words::edge_words))]
 fn put_edge(alloc: Global, out: &mut Vec<u8>, place: &Place) -> Result<(), AllocError>
     requires { IsPlace (place_of place.now) }
     ensures { OnOk result (out.new.items ≡ out.old.items ++ edge_words (place_of place.now)) }
 {
-    let mut along = Vec::new(alloc);
-    put_wanted_along(&mut along, place)?;
-    if !along.is_empty() {
-        return put_wanted(out, place.lines, place.pc + 1, &along);
+    let mut items = Vec::new(alloc);
+    put_wanted_along(&mut items, place)?;
+    if items.is_empty() {
+        put_branching(alloc, out, place)
+    } else {
+        put_wanted(out, place.lines, place.pc + 1, &items)
     }
-    let mut branching = Vec::new(alloc);
-    put_wanted_branching(&mut branching, place)?;
-    put_wanted(out, place.lines, place.i.target, &branching)
 }
 
 /// What is wrong at the place, by the rule.
