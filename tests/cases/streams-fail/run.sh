@@ -1,6 +1,7 @@
 # Reads and writes of the standard streams, of images and of texts fail at each turn: the answer is one line that says what can't be read or
 # written, behind a beginning of the standard output, and no file has changed. A call that is interrupted is made again, or is such a fault;
-# where each call moves one byte, the answer is the whole one. A line for each way: how many calls of a run can fail so, and the faults.
+# where each call moves one byte, the answer is the whole one; and so it is where calls on a VM file are interrupted or move one byte. A line
+# for each way: how many calls of a run can fail so, and the faults.
 export LC_ALL=C
 folder=$(mktemp -d)
 trap 'rm -rf "$folder"' EXIT
@@ -70,17 +71,32 @@ each() {
         tried $call 1 100000 byte
         is_whole || wrong $call 1 byte
     done
+    for number in 1 2 3 4 5 6 7 8; do
+        tried any $number $number again
+        is_whole || wrong any $number again
+    done
+    tried any 1 100000 byte
+    is_whole || wrong any 1 byte
 }
 
 cp "$top/examples/records.asm" text.asm
 "$program" asm "$top/examples/accounts.asm" kept/image
 "$program" new kept/file.vm --area 1024
 "$program" run kept/image kept/file.vm "$top/examples/accounts.script" >/dev/null
+cp kept/image image
 printf 'call list\n; the same\ncall list\n' >script
 { cat "$top/tests/cases/loop-of-1024-outputs/stdin"; yes "; a line that says nothing" | head -n 300; echo "call outputs 8"; } >session
 each session
 each kept/image check -
+each script check made/image
+each kept/image list -
 each script list made/image
+each kept/image explain -
+each script explain text.asm
 each script asm text.asm made/image
+each text.asm asm - -
 each script run made/image made/file.vm -
-each script dump made/file.vm
+each image run - made/file.vm script
+each script dump made/file.vm --chunks
+each script map made/file.vm
+each script help
