@@ -31,7 +31,7 @@ fn behind_links(rt: &HostRuntime, path: &str) -> io::Result<PathBuf> {
 
 /// What the system says of a file, if there is one. An error where it does not say so: else its
 /// permissions might be lost.
-fn found(rt: &HostRuntime, path: Path<'_>) -> io::Result<Option<Metadata>> {
+fn found(rt: &HostRuntime, path: &str) -> io::Result<Option<Metadata>> {
     match fs::metadata(rt, path) {
         Ok(found) => Ok(Some(found)),
         Err(error) if error.kind() == ErrorKind::NotFound => Ok(None),
@@ -63,21 +63,36 @@ fn fill(mut file: File, permissions: Option<Permissions>, bytes: &[u8]) -> io::R
     file.sync_all()
 }
 
-/// Puts the bytes in the place of the file's, or makes the file: they are written beside it, and
-/// the whole file is renamed. A link stays, and the file that it leads to is replaced; the permissions
-/// stay. After an error the file is as it was. What is no file, as a device, is written into.
-pub(crate) fn replace(rt: &HostRuntime, path: &str, bytes: &[u8]) -> io::Result<()> {
-    let path = behind_links(rt, path)?;
-    let path = path.as_path();
-    let found = found(rt, path)?;
-    if found.as_ref().is_some_and(|found| !found.is_file()) {
-        return fs::create(rt, path)?.write_all(bytes);
-    }
+/// Puts the bytes beside the file with the path, and renames the whole one: the permissions of the file
+/// that is there, if there is one, stay.
+fn put_whole(
+    rt: &HostRuntime,
+    path: Path<'_>,
+    there: Option<Metadata>,
+    bytes: &[u8],
+) -> io::Result<()> {
     let (name, file) = beside(rt, path)?;
-    let permissions = found.map(|found| found.permissions());
+    let permissions = there.map(|there| there.permissions());
     let done = fill(file, permissions, bytes).and_then(|()| fs::rename(rt, name.as_str(), path));
     if done.is_err() {
         let _ = fs::remove_file(rt, name.as_str());
     }
     done
+}
+
+/// Puts the bytes in the place of the file's, or makes the file: they are written beside it, and
+/// the whole file is renamed. A link stays, and the file that it leads to is replaced; the permissions
+/// stay. After an error the file is as it was. What is no file, as a device or a pipe, is written into,
+/// and so is a file that has no name any more.
+pub(crate) fn replace(rt: &HostRuntime, path: &str, bytes: &[u8]) -> io::Result<()> {
+    let led_to = found(rt, path)?;
+    if led_to.as_ref().is_some_and(|led_to| !led_to.is_file()) {
+        return fs::create(rt, path)?.write_all(bytes);
+    }
+    let named = behind_links(rt, path)?;
+    let there = found(rt, named.as_str())?;
+    if led_to.is_some() && there.is_none() {
+        return fs::create(rt, path)?.write_all(bytes);
+    }
+    put_whole(rt, named.as_path(), there, bytes)
 }
