@@ -2,9 +2,11 @@
 
 ghost use Rattle.geos_model.specs.Heap.{IsHeap};
 
+use crate::state::Detail;
 use lmem_heap::{check, next, size};
 use std::alloc::{AllocError, Global};
 use std::fmt::Write;
+use trial_lines::Runs;
 use vm_file::{Device, Directory, Disk, Entry, MOST_BLOCKS, VmFile};
 
 /// Which of the two directories.
@@ -23,16 +25,17 @@ struct Kept {
     outcome: Result<(), Disk>,
 }
 
-/// Both directories of a file, with their blocks.
+/// Both directories of a file, with their blocks; with the bytes of each block where those of chunks are wanted.
 pub(crate) fn listed<D: Device + Drop>(
     alloc: Global,
     file: &mut VmFile<D>,
+    detail: Detail,
 ) -> Result<String, AllocError> {
     let mut text = String::new(alloc);
     text.push_str("current")?;
-    put_directory(alloc, &mut text, file, Which::Current)?;
+    put_directory(alloc, &mut text, file, Which::Current, detail)?;
     text.push_str("; saved")?;
-    put_directory(alloc, &mut text, file, Which::Saved)?;
+    put_directory(alloc, &mut text, file, Which::Saved, detail)?;
     Ok(text)
 }
 
@@ -42,6 +45,7 @@ fn put_directory<D: Device + Drop>(
     text: &mut String,
     file: &mut VmFile<D>,
     which: Which,
+    detail: Detail,
 ) -> Result<(), AllocError> {
     match which {
         Which::Current => put_maps(text, file.current())?,
@@ -53,7 +57,7 @@ fn put_directory<D: Device + Drop>(
             Which::Saved => saved_block(alloc, file, h)?,
         };
         if let Some(block) = block {
-            put_block(text, &block)?;
+            put_block(text, &block, detail)?;
         }
     }
     Ok(())
@@ -102,17 +106,18 @@ fn put_maps(text: &mut String, directory: &Directory) -> Result<(), AllocError> 
     Ok(())
 }
 
-/// Tells of a block, and of its chunks, each with its length.
-fn put_block(text: &mut String, block: &Kept) -> Result<(), AllocError> {
+/// Tells of a block, and of its chunks, each with its length; then of its bytes where they are wanted.
+fn put_block(text: &mut String, block: &Kept, detail: Detail) -> Result<(), AllocError> {
     let Entry { h, uid, len } = block.entry;
     write!(text, "; {h} uid {uid} size {len} chunks")?;
     match block.outcome {
-        Ok(()) if check(&block.bytes) => put_chunks(text, &block.bytes),
-        _ => {
-            write!(text, " unread, {Disk}")?;
-            Ok(())
-        }
+        Ok(()) if check(&block.bytes) => put_chunks(text, &block.bytes)?,
+        _ => write!(text, " unread, {Disk}")?,
     }
+    if detail == Detail::Bytes {
+        write!(text, " ({})", Runs(&block.bytes))?;
+    }
+    Ok(())
 }
 
 /// Tells the chunks of a heap, each with its length.

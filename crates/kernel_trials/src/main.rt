@@ -8,10 +8,14 @@
 //! index of an element stands behind the chunk. `copy H TO FROM N` copies from chunk to chunk, and `bytes H C` reads all bytes of a chunk.
 //!
 //! `state` tells what the kernel has: whether it is sure of its file, what is mapped, and each block with its user ID, mark, count of
-//! locks and chunks (`HANDLE:LENGTH`). It locks each block of the file for that, and so brings it into memory.
+//! locks and chunks (`HANDLE:LENGTH`). It locks each block of the file for that, and so brings it into memory. `contents` tells the bytes
+//! of each chunk too.
 //!
-//! `close` lets the kernel go, and its device stays. `open` makes a kernel on what that holds, `kept` tells it, and `calls` how many
-//! calls the device had since it was made or opened. `power_off PART..` makes of it what a stop leaves: 0 what lasted, 1 what was
+//! `image` begins an image, whose hexadecimal digits are on the lines up to `end`; that is answered whether it may run. `call R WORD ..`
+//! runs its routine R, counted from 0, on at most seven words over the kernel, and tells the words and the output that it leaves.
+//!
+//! `close` lets the kernel go, and its device stays. `open` makes a kernel on what that holds, `kept` tells it, `kept_bytes` with the bytes
+//! of blocks, and `calls` how many calls the device had since it was made or opened. `power_off PART..` makes of it what a stop leaves: 0 what lasted, 1 what was
 //! written or 2 garbage, in each part of 512 bytes. `fail CALL` and `stop CALL` stand before `kernel` or `open`: of that kernel's device
 //! the call of this number fails, or that and each later one.
 //!
@@ -23,15 +27,17 @@ mod block_call;
 mod calls;
 mod file_calls;
 mod kept;
+mod routines;
 mod spans;
 mod stand;
 mod state;
 
-use crate::stand::{Fault, Stand};
+use crate::routines::Routines;
+use crate::stand::{Fault, NO_KERNEL, Stand};
 use geos_model::Refusal;
 use std::alloc::{AllocError, Global};
 use std::io;
-use trial_lines::{Line, run};
+use trial_lines::{Line, carry_out};
 
 /// What a call answers.
 type Answer = trial_lines::Answer<Refusal>;
@@ -53,9 +59,27 @@ struct Trial {
     /// Which calls of the next device fail.
     fault: Fault,
     stand: Stand,
+    routines: Routines,
 }
 
 impl Trial {
+    /// Takes a line: digits of an image, or a call.
+    fn take(&mut self, rt: &HostRuntime, text: &str) -> io::Result<()> {
+        if self.routines.takes(text) {
+            self.routines.take(rt, text)
+        } else {
+            carry_out(rt, rt.alloc(), self, text)
+        }
+    }
+
+    /// Runs a routine over the kernel.
+    fn call(&mut self, alloc: Global, line: &Line<'_>) -> Result<Answer, AllocError> {
+        match &mut self.stand {
+            Stand::Kernel(kernel) => self.routines.call(alloc, kernel, line),
+            _ => Ok(Answer::NotAsked(NO_KERNEL)),
+        }
+    }
+
     /// Makes the kernel anew, with a region and an area of so many bytes.
     fn renew(&mut self, alloc: Global, line: &Line<'_>) -> Result<Answer, AllocError> {
         let [region, area, ..] = line.numbers;
@@ -99,6 +123,9 @@ impl trial_lines::Trial for Trial {
             "open" => self.open(alloc),
             "fail" => Ok(self.fail(line, false)),
             "stop" => Ok(self.fail(line, true)),
+            "image" => Ok(self.routines.begin()),
+            "end" => self.routines.end(alloc),
+            "call" => self.call(alloc, line),
             _ => self.stand.answer(alloc, line),
         }
     }
@@ -109,6 +136,10 @@ fn main(rt: HostRuntime) -> io::Result<()> {
         region: LEAST,
         fault: Fault::NONE,
         stand: Stand::Nothing,
+        routines: Routines::new(rt.alloc()),
     };
-    run(&rt, rt.alloc(), &mut trial)
+    for line in rt.lines(rt.alloc()) {
+        trial.take(&rt, line?.as_str())?;
+    }
+    Ok(())
 }

@@ -146,3 +146,18 @@ fn text_of<D: Device + Drop>(
     }
     Ok(text)
 }
+
+/// The bytes of a span.
+pub(crate) fn bytes_of<D: Device + Drop>(
+    alloc: Global,
+    kernel: &Kernel<D>,
+    span: Span,
+) -> Result<Vec<u8>, AllocError>
+    requires { IsStanding kernel.now.core span }
+{
+    let mut bytes = Vec::new(alloc);
+    for at in 0..span.len {
+        bytes.push(kernel.load8(span, at))?;
+    }
+    Ok(bytes)
+}

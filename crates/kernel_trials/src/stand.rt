@@ -7,7 +7,7 @@ use crate::calls::{answer, fill};
 use crate::file_calls::map_item;
 use crate::kept::listed;
 use crate::spans::bytes;
-use crate::state::state;
+use crate::state::{Detail, state};
 use cached_device::{CachedDevice, Part};
 use geos_kernel::Kernel;
 use std::alloc::{AllocError, Global};
@@ -19,7 +19,7 @@ use vm_file::{CreateError, Device, FaultDevice, OpenError, VmFile};
 type Faulty = FaultDevice<CachedDevice>;
 
 /// That there is no kernel to make a call on.
-const NO_KERNEL: &str = "no kernel";
+pub(crate) const NO_KERNEL: &str = "no kernel";
 
 /// That there is no device, or a kernel on it.
 const NO_DEVICE: &str = "no device without a kernel";
@@ -143,7 +143,7 @@ impl Stand {
         match line.word {
             "close" => Ok(self.close()),
             "power_off" => self.power_off(alloc, line),
-            "calls" | "kept" => self.on_device(alloc, line),
+            "calls" | "kept" | "kept_bytes" => self.on_device(alloc, line),
             _ => match self {
                 Stand::Kernel(kernel) => on_kernel(alloc, kernel, line),
                 _ => Ok(Answer::NotAsked(NO_KERNEL)),
@@ -183,7 +183,10 @@ impl Stand {
                 self.put(Stand::Device(device));
                 told(alloc, calls)
             }
-            Stand::Device(device) => self.kept(alloc, device),
+            Stand::Device(device) if line.word == "kept" => {
+                self.kept(alloc, device, Detail::Length)
+            }
+            Stand::Device(device) => self.kept(alloc, device, Detail::Bytes),
             other => {
                 self.put(other);
                 Ok(Answer::NotAsked(NO_DEVICE))
@@ -192,10 +195,15 @@ impl Stand {
     }
 
     /// Tells what a device holds.
-    fn kept(&mut self, alloc: Global, device: Faulty) -> Result<Answer, AllocError> {
+    fn kept(
+        &mut self,
+        alloc: Global,
+        device: Faulty,
+        detail: Detail,
+    ) -> Result<Answer, AllocError> {
         match VmFile::open(alloc, Fault::NONE.on(device.into_inner())) {
             Ok(mut file) => {
-                let text = listed(alloc, &mut file)?;
+                let text = listed(alloc, &mut file, detail)?;
                 self.put(Stand::Device(file.into_device()));
                 Ok(Answer::Text(text))
             }
@@ -218,7 +226,8 @@ fn on_kernel<D: Device + Drop>(
         "fill" => fill(alloc, kernel, line),
         "bytes" | "vm_bytes" => bytes(alloc, kernel, line),
         "igetmap" => map_item(alloc, kernel),
-        "state" => state(alloc, kernel),
+        "state" => state(alloc, kernel, Detail::Length),
+        "contents" => state(alloc, kernel, Detail::Bytes),
         _ => Ok(answer(kernel, line)),
     }
 }
