@@ -1,8 +1,8 @@
 """Times `geos check`, `list` and `explain` on images of 4,096 instructions that are made to hurt, and `explain` on their texts; and
-`geos run` on scripts that are. Beside each time stands its ratio to that of an image of 4,095 additions, or of the script before, in the
-same run.
+`geos run` on scripts that are, and the trial of the kernel's calls on a region that they are to hurt. Beside each time stands its ratio to
+that of an image of 4,095 additions, or of the script before, in the same run.
 
-    python3 worst.py PROGRAM
+    python3 worst.py PROGRAM KERNEL_TRIALS
 """
 
 import subprocess
@@ -47,12 +47,62 @@ routine grow public budget 100
 said:   OUT w7 free
 free:   MUNLOCK s0
 gone:   RET
+
+routine half public budget 100000
+        SETK k0 1023
+        LDI w4 8170
+each:   MNEW s0 w0 made
+        LALLOC s0 w7 w4 kept
+kept:   MUNLOCK s0
+        LOOP k0 each
+made:   RET
+"""
+
+# Each of 1,024 blocks grows in turn, and w5 counts those that have no room.
+GROWS = """
+        LDI w0 1
+        LDI w1 1
+        LDI w4 8000
+        LDI w5 0
+        SETK k0 1023
+@next:  MLOCK s0 w0 @past
+        LALLOC s0 w7 w4 @full
+        JMP @larger
+@full:  ADD w5 w5 w1
+@larger: MUNLOCK s0
+@past:  ADD w0 w0 w1
+        LOOP k0 @next
+        OUT w5 @end
+@end:   RET
+"""
+ROUTINES += f"""
+routine grow_each public budget 100000
+{GROWS.replace("@", "each_")}
+routine grow_others budget 50000
+        in s1=mem s2=mem s3=mem
+        out s1=mem s2=mem s3=mem
+{GROWS.replace("@", "others_")}
+routine grow_beside public budget 100000
+        LDI w0 256
+        MLOCK s1 w0 none
+        LDI w0 512
+        MLOCK s2 w0 one
+        LDI w0 768
+        MLOCK s3 w0 two
+        CALL grow_others
+        MUNLOCK s3
+two:    MUNLOCK s2
+one:    MUNLOCK s1
+none:   RET
 """
 FILLED = ["call fill", "call grow", "call blocks", "update"]
 SCRIPTS = {
     "a script of no commands": [],
     "255 blocks of 65,520 bytes, 1,000 blocks of the file, update": FILLED,
     "the same, and a block that grows to 65,520 bytes": [*FILLED, "call grow"],
+    "1,024 blocks of 8,192 bytes": ["call half"],
+    "the same, each of which grows to 16,208 bytes": ["call half", "call grow_each"],
+    "the same, while three are locked": ["call half", "call grow_beside"],
 }
 
 
@@ -140,11 +190,49 @@ def run_scripts(program, folder):
         before = min(times)
 
 
+HANDLES = range(1, 1025)
+# Lines for a kernel whose region has the blocks of all handles, of 8,192 or of 16,384 bytes, each locked once; and for one of which every
+# second block is gone, so that there are as many gaps.
+HALF_FULL = ["fill 1 1024 8170"]
+FULL = ["fill 1 1024 16362"]
+GAPS = [*FULL, *(f"{call} {h}" for h in HANDLES[1::2] for call in ("munlock", "mfree"))]
+GROW, GROW_EACH = 2, 4
+ON_KERNEL = {
+    "no blocks": [],
+    "1,024 blocks of 8,192 bytes, every second one locked": [*HALF_FULL, *(f"munlock {h}" for h in HANDLES[::2])],
+    "the same, and each grows to 16,208 bytes": [*HALF_FULL, *(f"munlock {h}" for h in HANDLES[::2]), f"call {GROW_EACH}"],
+    "512 locked blocks of 16,384 bytes, and 512 gaps as long": GAPS,
+    "the same, and 500 blocks that are to grow to 65,520 bytes": [*GAPS, f"times 500 call {GROW}"],
+    "512 such blocks and gaps, none locked": [*GAPS, *(f"munlock {h}" for h in HANDLES[::2])],
+    "the same, and one block that grows to 65,520 bytes": [*GAPS, *(f"munlock {h}" for h in HANDLES[::2]), f"call {GROW}"],
+}
+
+
+def run_on_kernel(program, trials, folder):
+    """A line for calls of a kernel and runs of routines over it: a routine by itself can lock four blocks and no more."""
+    text, image = folder / "text.asm", folder / "image"
+    text.write_text(ROUTINES)
+    subprocess.run([program, "asm", text, image], check=True)
+    before = None
+    for name, lines in ON_KERNEL.items():
+        asked = "\n".join(["image", image.read_bytes().hex(), "end", f"kernel {REGION}", *lines, ""]).encode()
+        times = []
+        for _ in range(RUNS):
+            start = time.perf_counter()
+            done = subprocess.run([trials], input=asked, stdout=subprocess.PIPE, check=True)
+            times.append(time.perf_counter() - start)
+        said = done.stdout.decode().split("; ")[-1].split(" -> ")[-1].strip()
+        print(f"{name}: {shown(min(times), before or min(times))}; it says {said}")
+        before = min(times)
+
+
 def main():
     """Prints a line for each image and each script."""
+    program, trials = sys.argv[1:]
     with tempfile.TemporaryDirectory() as folder:
-        look_at_images(sys.argv[1], Path(folder))
-        run_scripts(sys.argv[1], Path(folder))
+        look_at_images(program, Path(folder))
+        run_scripts(program, Path(folder))
+        run_on_kernel(program, trials, Path(folder))
 
 
 main()
