@@ -95,8 +95,6 @@ impl<D: Device + Drop> VmBlocks<D> {
         ensures kept { (s : Store) (m : Memory) → IsMemoryOf D.image D.honest self.now s m → D.honest self.now.file.device
             → (c : List ℕ) → D.may_leave self.now.file.device c → OpensAsKept m.file.kept c }
     {
-        self.file.current();
-        self.file.saved();
         self.file.is_sure()
     }
 

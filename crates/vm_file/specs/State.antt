@@ -2,7 +2,7 @@
 use Rattle.std.specs.Prelude.{◌≡◌, ◌⊎◌, ℕ, ◌+◌, ◌≤◌, ◌<◌, Bool, true, not, ◌==◌, List, [], ◌∷◌, length, take, find, Ok, slice_index, if◌then◌else◌, MatchBool, IsSomeAnd}
 use Rattle.vm_file.specs.declared.directory.Entry.{Entry}
 use Rattle.vm_file.specs.declared.directory.Directory.{Directory}
-use Rattle.vm_file.specs.Contents.{Block, Pair, pair_in}
+use Rattle.vm_file.specs.Contents.{Block, Pair, listed, pair_in}
 use Rattle.vm_file.specs.Device.{Touched}
 use Rattle.vm_file.specs.Directories.{is_directory, directory_length}
 use Rattle.vm_file.specs.Reading.{File, header_at, pair_at, is_area, is_second, base_of, area_of, found}
@@ -19,6 +19,11 @@ pub record FileState (D : Type 0) : Type 0 where
 -- the pair that the area holds which is read
 abbrev pub pair_of : {D : Type 0} → (D → List ℕ) → FileState D → Pair
 pair_of image f = pair_in f.current f.saved (area_of (image f.device) f.area f.second)
+
+-- the pair is of these directories
+pub record ListsPair (p : Pair) (now last : Directory) : Type 0 where
+  pub cur : listed p.cur ≡ now
+  pub saved : listed p.saved ≡ last
 
 -- the file that the device holds
 abbrev pub file_of : {D : Type 0} → (D → List ℕ) → FileState D → File

@@ -50,7 +50,7 @@ impl<D: Device + Drop> VmFile<D> {
     ghost use Rattle.vm_file.specs.Kept.{SureOf, kept_of};
     ghost use Rattle.vm_file.specs.Spelling.{empty_contents, empty_pair, new_file};
     ghost use Rattle.vm_file.specs.Reading.{is_area};
-    ghost use Rattle.vm_file.specs.State.{FileState, Finds, HasBlock, IsOther, bytes_of_block, file_of, pair_of};
+    ghost use Rattle.vm_file.specs.State.{FileState, Finds, HasBlock, IsOther, ListsPair, bytes_of_block, file_of, pair_of};
 
     /// Makes a file on a device: writes the header, the selector and two empty directories,
     /// and ends with a `sync`. `area` is a legal area size, and the device has room for two
@@ -138,6 +138,7 @@ impl<D: Device + Drop> VmFile<D> {
     /// no commit.
     pub fn is_sure(&self) -> bool
         ensures sure { result ≡ self.now.sure }
+        ensures pair { ListsPair (pair_of D.image self.now) self.now.current self.now.saved }
         // What `open` would find after a stop now.
         ensures stop { D.honest self.now.device → (c : List ℕ) → D.may_leave self.now.device c → Finds D.image self.now c }
     {

@@ -1,4 +1,4 @@
-use Rattle.std.proofs.Common.{◌∙◌, ℕ, List, subst}
+use Rattle.std.proofs.Common.{ℕ, List, subst}
 use Rattle.block_handles.specs.Store.{Store}
 use Rattle.geos_table.specs.Memory.{Memory}
 use Rattle.vm_blocks.specs.FileOf.{IsMemoryOf}
@@ -8,6 +8,6 @@ use Rattle.vm_blocks.proofs.blocks.VmBlocks.is_sure.Goals as goal
 
 pub returns-clause-kept : goal.returns-clause-kept
 returns-clause-kept g c =
-    let d = g.D.Device in let cur = c.current.ensures in let saved = c.saved.ensures in
+    let d = g.D.Device in let pair = c.is_sure.ensures.pair in
     subst (λ v. (s : Store) (m : Memory) → IsMemoryOf d.image d.honest v s m → d.honest v.file.device → (x : List ℕ) → d.may_leave v.file.device x → OpensAsKept m.file.kept x) c.self.view_is
-    (λ s m is good x left. opens-as-kept d.image d.honest c.self.inside.file good (cur.lists ∙ cur.same) (saved.lists ∙ saved.same) m.file.kept x is.file.kept (c.is_sure.ensures.stop good x left))
+    (λ s m is good x left. opens-as-kept d.image d.honest c.self.inside.file good pair.cur pair.saved m.file.kept x is.file.kept (c.is_sure.ensures.stop good x left))
