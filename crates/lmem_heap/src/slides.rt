@@ -34,6 +34,14 @@ impl Slide {
     }
 }
 
+/// Runs of chunks that have moved, which stood between two offsets.
+#[derive(Clone, Copy)]
+struct Slides<'a> {
+    runs: &'a [Slide],
+    low: u16,
+    high: u16,
+}
+
 /// Writes where the chunks of these runs stand into the table. Runs of entries of which none is
 /// that of a chunk that moved are left out.
 pub(crate) fn write_entries(block: &mut [u8], slides: &[Slide])
@@ -44,14 +52,19 @@ pub(crate) fn write_entries(block: &mut [u8], slides: &[Slide])
 {
     let low = slides[0].from;
     let high = slides[slides.len() - 1].end;
+    let moved = Slides {
+        runs: slides,
+        low,
+        high,
+    };
     let n = entries(block);
     let runs = n / RUN;
     for run in 0..runs {
         if !is_apart(block, RUN * run, low, high) {
-            write_run(block, slides, low, high, RUN * run, RUN * run + RUN);
+            write_run(block, &moved, RUN * run, RUN * run + RUN);
         }
     }
-    write_run(block, slides, low, high, RUN * runs, n);
+    write_run(block, &moved, RUN * runs, n);
 }
 
 /// Whether no entry of the run that begins at this one lies between two offsets. It reads all of
@@ -74,29 +87,30 @@ fn is_inside(entry: u16, low: u16, high: u16) -> bool
 }
 
 /// Writes the entries from one on up to another.
-fn write_run(block: &mut [u8], slides: &[Slide], low: u16, high: u16, from: usize, end: usize)
+fn write_run(block: &mut [u8], slides: &Slides, from: usize, end: usize)
     requires table { table_end block.old ≤ length block.old }
     requires within { (from ≤ end) × (end ≤ entries block.old) }
-    requires order { AreInOrder low slides.now high }
-    requires some { 0 < length slides.now }
-    ensures { MapsEntries block.old block.new (entry_slid slides.now) from end }
+    requires order { AreInOrder slides.now.low slides.now.runs.now slides.now.high }
+    requires some { 0 < length slides.now.runs.now }
+    ensures { MapsEntries block.old block.new (entry_slid slides.now.runs.now) from end }
 {
     for i in from..end {
-        let slid = slid_entry(slides, low, high, entry(block, i));
+        let slid = slid_entry(slides, entry(block, i));
         put_entry(block, i, slid);
     }
 }
 
-/// An entry, where these runs have moved, which stood from `low` to `high`.
-fn slid_entry(slides: &[Slide], low: u16, high: u16, entry: u16) -> u16
-    requires order { AreInOrder low slides.now high }
-    requires some { 0 < length slides.now }
-    ensures { result ≡ entry_slid slides.now entry }
+/// An entry, where these runs have moved.
+fn slid_entry(slides: &Slides, entry: u16) -> u16
+    requires order { AreInOrder slides.now.low slides.now.runs.now slides.now.high }
+    requires some { 0 < length slides.now.runs.now }
+    ensures { result ≡ entry_slid slides.now.runs.now entry }
 {
+    let Slides { runs, low, high } = *slides;
     if entry <= low || high <= entry {
         return entry;
     }
-    slides[last_below(slides, entry)].moved(entry)
+    runs[last_below(runs, entry)].moved(entry)
 }
 
 /// The last run that begins below an entry, by binary search; the first one where none does.
