@@ -11,7 +11,8 @@ use Rattle.geos_model.proofs.Words.{get_or-with_part_before, get_or-with_part_be
 pub length-resized : (bs : List ℕ) (n : ℕ) → length (resized bs n) ≡ n
 length-resized bs n = omega (arith, length-append (take n bs) (replicate (n - length bs) 0), length-take n bs, length-replicate {A = ℕ} (n - length bs) 0)
 
-zero-at : (n k : ℕ) → get_or (replicate {A = ℕ} n 0) k 0 ≡ 0
+-- of zeros each is one, past their end too
+pub zero-at : (n k : ℕ) → get_or (replicate {A = ℕ} n 0) k 0 ≡ 0
 zero-at zero k = refl
 zero-at (suc n) zero = refl
 zero-at (suc n) (suc k) = zero-at n k

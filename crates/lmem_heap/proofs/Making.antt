@@ -1,5 +1,5 @@
 -- From the moves and writes of the code to the steps that they make.
-use Rattle.std.proofs.Common.{◌≡◌, ℕ, zero, suc, ◌+◌, ◌-◌, ◌*◌, ◌<◌, ◌≤◌, ◌⊎◌, List, length, get_or, replicate, drop, refl, ap, sym, ◌∙◌, subst, inl, inr, arith, length-take, length-drop}
+use Rattle.std.proofs.Common.{◌≡◌, ℕ, ◌+◌, ◌-◌, ◌*◌, ◌<◌, ◌≤◌, ◌⊎◌, List, length, get_or, replicate, drop, refl, ap, sym, ◌∙◌, subst, inl, inr, arith, length-take, length-drop}
 use Rattle.std.proofs.lemmas.Bool.{cases_lt}
 use Rattle.std.proofs.lemmas.List.{same_lists, get_or-take, get_or-drop, get_or_default, get_or_past, length-replicate}
 use Rattle.lmem_raw.specs.Bytes.{part, with_part}
@@ -9,7 +9,7 @@ use Rattle.geos_model.specs.Chunks.{cost, resized}
 use Rattle.geos_model.specs.Block.{entry, entries, table_end, total_free}
 use Rattle.geos_model.proofs.Words.{word-same, word-other, word-part_other, length-with_word, byte-other, word-bytes, part-shifted, get_or-with_part_before, get_or-with_part_behind, get_or-with_part_within}
 use Rattle.geos_model.proofs.Costs.{cost-least}
-use Rattle.geos_model.proofs.Resizes.{length-resized, get_or-resized}
+use Rattle.geos_model.proofs.Resizes.{length-resized, get_or-resized, zero-at}
 use Rattle.lmem_heap.specs.Moves.{MovesRun}
 use Rattle.lmem_heap.specs.Packed.{IsPacked, EndsFree, SetsTail, EditsChunk, HasResized, PutsChunk, GrowsTable, chunks_end, chunk_end, chunk_length}
 use Rattle.lmem_heap.specs.Extents.{IsExtent}
@@ -46,11 +46,6 @@ resized_at-is d d1 d2 begin len n e1 e2 = e2 ∙ ap (λ x. with_part x (begin + 
 zeros-byte : (d : List ℕ) (from len n k : ℕ) → (k < from) ⊎ (from + (n - len) ≤ k) → get_or (with_part d from (replicate (n - len) 0)) k 0 ≡ get_or d k 0
 zeros-byte d from len n k (inl h) = get_or-with_part_before d from (replicate (n - len) 0) k h
 zeros-byte d from len n k (inr h) = let z = length-replicate {A = ℕ} (n - len) 0 in get_or-with_part_behind d from (replicate (n - len) 0) k (omega (arith, z))
-
-zero-at : (n k : ℕ) → get_or (replicate {A = ℕ} n 0) k 0 ≡ 0
-zero-at zero k = refl
-zero-at (suc n) zero = refl
-zero-at (suc n) (suc k) = zero-at n k
 
 pub resize-made : (b d d2 c : List ℕ) (i begin n : ℕ) → i < entries b → table_end b ≤ begin → entry b i ≡ begin + 2 → 0 < n → 0 < chunk_length b i → begin + cost (chunk_length b i) ≡ chunk_end b i → chunk_end b i ≤ chunks_end b →
     chunks_end b ≤ length b → begin + cost n + (chunks_end b - chunk_end b i) ≤ length b → length b ≤ 65520 →

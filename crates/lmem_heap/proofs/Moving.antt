@@ -1,5 +1,5 @@
 -- A chunk that moves into a hole, and the hole that it leaves.
-use Rattle.std.proofs.Common.{◌≡◌, ◌≢◌, ℕ, zero, suc, ◌+◌, ◌-◌, ◌*◌, ◌%◌, ◌<◌, ◌≤◌, ◌⊎◌, List, [], ◌∷◌, ◌++◌, Some, length, get_or, set, replicate, drop, refl, ap, sym, ◌∙◌, subst, inl, inr, arith, length-take, length-drop}
+use Rattle.std.proofs.Common.{◌≡◌, ◌≢◌, ℕ, ◌+◌, ◌-◌, ◌*◌, ◌%◌, ◌<◌, ◌≤◌, ◌⊎◌, List, [], ◌∷◌, ◌++◌, Some, length, get_or, set, replicate, drop, refl, ap, sym, ◌∙◌, subst, inl, inr, arith, length-take, length-drop}
 use Rattle.std.proofs.lemmas.Bool.{cases_eq, cases_lt}
 use Rattle.std.proofs.lemmas.List.{same_lists, get_or-take, get_or-drop, get_or_default, get_or_past, length-replicate}
 use Rattle.lmem_raw.specs.Bytes.{part, with_part}
@@ -12,7 +12,7 @@ use Rattle.geos_model.proofs.Words.{word-bytes, get_or-with_part_before, get_or-
 use Rattle.geos_model.proofs.Costs.{cost-four, cost-least}
 use Rattle.geos_model.proofs.Pieces.{lies, tiles-le, tiles-join, has-left, has-right, has-split, free_bytes-append}
 use Rattle.geos_model.proofs.Moves.{tiles-kept}
-use Rattle.geos_model.proofs.Resizes.{length-resized, get_or-resized}
+use Rattle.geos_model.proofs.Resizes.{length-resized, get_or-resized, zero-at}
 use Rattle.geos_model.proofs.Tables.{chunks-set}
 use Rattle.geos_model.proofs.Headers.{SameHead, head-word, same-header}
 use Rattle.geos_model.proofs.Entries.{chunk-told}
@@ -177,11 +177,6 @@ redirects b c link at end i n bytes o h t some whole long keep back here says co
             handle = handle;
           })
     ]
-
-zero-at : (n k : ℕ) → get_or (replicate {A = ℕ} n 0) k 0 ≡ 0
-zero-at zero k = refl
-zero-at (suc n) zero = refl
-zero-at (suc n) (suc k) = zero-at n k
 
 -- the writes that move a chunk into a hole: its entry, the size word, the bytes that it keeps,
 -- and zeros

@@ -1,5 +1,5 @@
 -- From the writes of the code to what they do to a hole.
-use Rattle.std.proofs.Common.{◌≡◌, ◌≢◌, ℕ, zero, suc, ◌+◌, ◌-◌, ◌*◌, ◌%◌, ◌<◌, ◌≤◌, ◌⊎◌, List, length, get_or, replicate, drop, refl, ap, sym, ◌∙◌, inl, inr, arith, length-take, length-drop}
+use Rattle.std.proofs.Common.{◌≡◌, ◌≢◌, ℕ, ◌+◌, ◌-◌, ◌*◌, ◌%◌, ◌<◌, ◌≤◌, ◌⊎◌, List, length, get_or, replicate, drop, ap, sym, ◌∙◌, inl, inr, arith, length-take, length-drop}
 use Rattle.std.proofs.lemmas.Bool.{cases_lt}
 use Rattle.std.proofs.lemmas.List.{same_lists, get_or-take, get_or-drop, get_or_default, get_or_past, length-replicate}
 use Rattle.lmem_raw.specs.Bytes.{part, with_part}
@@ -11,7 +11,7 @@ use Rattle.geos_model.specs.Heap.{free_bytes}
 use Rattle.geos_model.proofs.Words.{word-part_other, get_or-with_part_before, get_or-with_part_behind, get_or-with_part_within}
 use Rattle.geos_model.proofs.Pieces.{tiles-le}
 use Rattle.geos_model.proofs.Costs.{cost-least}
-use Rattle.geos_model.proofs.Resizes.{length-resized, get_or-resized}
+use Rattle.geos_model.proofs.Resizes.{length-resized, get_or-resized, zero-at}
 use Rattle.lmem_heap.specs.Holes.{IsOpen, IsBeside, Widens, GivesBack}
 use Rattle.lmem_heap.proofs.FreeLists.{OpenPlace, open-place}
 use Rattle.lmem_heap.proofs.Relinking.{Apart, KeepsFront, KeepsBack, other, clear, put, long, free-behind}
@@ -104,11 +104,6 @@ hole-merged b d c link at end left total s less fours apart ne touch left_is sum
     (λ k l. other d c 14 total k e2 (inr (omega arith)) ∙ other b d (link - 2) left k e1 (inr (omega arith)))
     (clear d c 14 total (link - 2) e2 (inr (omega arith)) ∙ put b d (link - 2) left e1 (omega (arith, left_is)) (omega arith) ∙ left_is)
     (put d c 14 total e2 (omega (arith, sum, room)) (omega (arith, n1)) ∙ sum)
-
-zero-at : (n k : ℕ) → get_or (replicate {A = ℕ} n 0) k 0 ≡ 0
-zero-at zero k = refl
-zero-at (suc n) zero = refl
-zero-at (suc n) (suc k) = zero-at n k
 
 -- the chunk of an entry in a hole, once its entry says where it is: its first bytes are those
 -- that stood there
