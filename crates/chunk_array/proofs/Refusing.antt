@@ -4,7 +4,7 @@ use Rattle.geos_model.specs.Chunks.{chunk_of, bytes_of}
 use Rattle.geos_model.proofs.ChunkItems.{known-bytes}
 use Rattle.lmem_heap.specs.declared.error.DeleteError.{DeleteError}
 use Rattle.lmem_heap.specs.declared.error.DeleteError.TheVariants.{BadChunk, Range}
-use Rattle.lmem_heap.specs.DeleteErrors.{IsDeleteError}
+use Rattle.lmem_heap.specs.Refusals.{IsDeleteError}
 
 -- bytes of a chunk that is there can be deleted
 pub can-delete : (e : DeleteError) (cs : List (Option (List ℕ))) (c at n : ℕ) (bytes : List ℕ) → chunk_of cs c ≡ Some bytes → at + n ≤ length bytes → IsDeleteError e cs c at n → ⊥

@@ -22,10 +22,7 @@ use Rattle.lmem_heap.specs.declared.error.InsertError.{InsertError}
 use Rattle.lmem_heap.specs.declared.error.InsertError.TheVariants as insert
 use Rattle.lmem_heap.specs.declared.error.DeleteError.{DeleteError}
 use Rattle.lmem_heap.specs.declared.error.DeleteError.TheVariants as delete
-use Rattle.lmem_heap.specs.Refusals.{IsRoomError}
-use Rattle.lmem_heap.specs.ReallocErrors.{IsReallocError}
-use Rattle.lmem_heap.specs.InsertErrors.{IsInsertError}
-use Rattle.lmem_heap.specs.DeleteErrors.{IsDeleteError}
+use Rattle.lmem_heap.specs.Refusals.{IsRoomError, IsReallocError, IsInsertError, IsDeleteError}
 use Rattle.chunk_array.specs.declared.error.AppendError.{AppendError}
 use Rattle.chunk_array.specs.declared.error.AppendError.TheVariants as append
 use Rattle.chunk_array.specs.declared.error.GrowthError.{GrowthError}

@@ -5,10 +5,7 @@ ghost use Rattle.geos_model.specs.Chunks.{bytes_of, chunk_of, entry_bytes, need,
 ghost use Rattle.geos_model.specs.Block.{chunks, entries, entry, handle_word};
 ghost use Rattle.geos_model.specs.Heap.{IsHeap};
 ghost use Rattle.lmem_heap.specs.Changes.{closed, entry_resized, opened};
-ghost use Rattle.lmem_heap.specs.Refusals.{IsRoomError};
-ghost use Rattle.lmem_heap.specs.ReallocErrors.{IsReallocError};
-ghost use Rattle.lmem_heap.specs.InsertErrors.{IsInsertError};
-ghost use Rattle.lmem_heap.specs.DeleteErrors.{IsDeleteError};
+ghost use Rattle.lmem_heap.specs.Refusals.{IsRoomError, IsReallocError, IsInsertError, IsDeleteError};
 
 use crate::chunks::resize_chunk;
 use crate::error::{DeleteError, InsertError, ReallocError, RoomError};

@@ -5,8 +5,7 @@ use Rattle.geos_model.specs.Chunks.{need, with_inserted, with_zeros, bytes_of}
 use Rattle.geos_model.specs.Arrays.{spelled, with_element}
 use Rattle.geos_model.specs.ArrayEdits.{array_of, with_array}
 use Rattle.geos_model.proofs.ChunkItems.{written-twice}
-use Rattle.lmem_heap.specs.Refusals.{IsRoomError}
-use Rattle.lmem_heap.specs.InsertErrors.{IsInsertError}
+use Rattle.lmem_heap.specs.Refusals.{IsRoomError, IsInsertError}
 use Rattle.chunk_array.specs.Insertions.{room_of}
 use Rattle.chunk_array.proofs.Growing.{grown, grown-need, grown-big, roomy}
 use Rattle.chunk_array.proofs.grow.insert_at.Goals as goal

@@ -5,8 +5,7 @@ use Rattle.geos_model.proofs.JoinedEdits.{resized-grows, resized-shrinks, length
 use Rattle.geos_model.proofs.Needs.{need-with_bytes}
 use Rattle.geos_model.proofs.Lowest.{block-used}
 use Rattle.lmem_heap.specs.declared.error.InsertError.{InsertError}
-use Rattle.lmem_heap.specs.InsertErrors.{IsInsertError}
-use Rattle.lmem_heap.specs.Refusals.{IsRoomError}
+use Rattle.lmem_heap.specs.Refusals.{IsRoomError, IsInsertError}
 use Rattle.chunk_array.proofs.resize.resize_part.Goals as goal
 
 pub overflow_cast-at : goal.overflow_cast-at
