@@ -49,7 +49,10 @@ marks-same starts from end le clear = by (end - from) from (omega arith) (omega 
 
 pub marks-clear : (starts : List Bool) (from end k : ℕ) → marks_from starts from ≡ marks_from starts end → from ≤ k → k < end → get_or starts k false ≡ true → ⊥
 marks-clear starts from end k same low high is_set =
-    let a = marks-le starts from k low in let b = marks-yes starts k is_set in let c = marks-le starts (k + 1) end (omega arith) in omega arith
+    let a = marks-le starts from k low in
+    let b = marks-yes starts k is_set in
+    let c = marks-le starts (k + 1) end (omega arith) in
+    omega arith
 
 -- no mark from a place on
 pub marks-none_from : (starts : List Bool) (n : ℕ) → ((k : ℕ) → n ≤ k → get_or starts k false ≡ true → ⊥) → marks_from starts n ≡ 0

@@ -22,11 +22,13 @@ one-entry b at f [] end next i j s h g e = absurd h
 one-entry b at f (Used k n ∷ ps) end next i j s (inl h) (inl g) e = h ∙ sym g
 one-entry b at f (Used k n ∷ ps) end next i j s (inl h) (inr g) e =
     let is : entry b i ≡ at + 2 = ap (λ x. entry b x) h ∙ s.2 in
-    let l = lies b (at + cost n) f ps end next j s.4 g in let c = cost-four n s.0 in
+    let l = lies b (at + cost n) f ps end next j s.4 g in
+    let c = cost-four n s.0 in
     absurd (omega (arith, is, l.from, c))
 one-entry b at f (Used k n ∷ ps) end next i j s (inr h) (inl g) e =
     let is : entry b j ≡ at + 2 = ap (λ x. entry b x) g ∙ s.2 in
-    let l = lies b (at + cost n) f ps end next i s.4 h in let c = cost-four n s.0 in
+    let l = lies b (at + cost n) f ps end next i s.4 h in
+    let c = cost-four n s.0 in
     absurd (omega (arith, is, l.from, c))
 one-entry b at f (Used k n ∷ ps) end next i j s (inr h) (inr g) e = one-entry b (at + cost n) f ps end next i j s.4 h g e
 one-entry b at f (Free m ∷ ps) end next i j s h g e = one-entry b (at + m) (word b (at + 2)) ps end next i j s.5 h g e

@@ -127,7 +127,9 @@ free-forward b at free sum w next starts m fours low inside is next_is h (ps, le
     by (Free k ∷ ps) s all total =
         let size : k ≡ w = sym s.3 ∙ sym is in
         let more : Tiles b (at + w) next ps (length b) 0 = (let P : ℕ → ℕ → Type 0 = λ x y. Tiles b (at + x) y ps (length b) 0 in
-        let Q : ℕ → Type 0 = λ x. P x next in let R : ℕ → Type 0 = λ y. P k y in subst Q size (subst R (sym next_is) s.5)) in
+        let Q : ℕ → Type 0 = λ x. P x next in
+        let R : ℕ → Type 0 = λ y. P k y in
+        subst Q size (subst R (sym next_is) s.5)) in
         let fits = tiles-le b (at + w) next ps (length b) 0 more in
         let rest : (i : ℕ) → i < entries b → IsOffset (entry b i) → at + 2 < entry b i → HasChunk i ps = (λ i l t lt. all i l t (omega arith)) in (
           s.2,
@@ -201,7 +203,10 @@ end-forward b at free sum past (ps, left) = by ps left.tiles left.total
   where
     by : (ps : List Piece) → Tiles b at free ps (length b) 0 → sum + free_bytes ps ≡ word b 14 → (free ≡ 0) × (sum ≡ word b 14)
     by [] s total = (s.1, omega (arith, total))
-    by (Used j n ∷ ps) s total = let le = tiles-le b (at + cost n) free ps (length b) 0 s.4 in let wide = cost-four n s.0 in absurd (omega (arith, le, wide))
+    by (Used j n ∷ ps) s total =
+        let le = tiles-le b (at + cost n) free ps (length b) 0 s.4 in
+        let wide = cost-four n s.0 in
+        absurd (omega (arith, le, wide))
     by (Free k ∷ ps) s total = let le = tiles-le b (at + k) (word b (at + 2)) ps (length b) 0 s.5 in absurd (omega (arith, le, s.0))
 
 pub end-back : (b : List ℕ) (at free sum : ℕ) (starts : List Bool) → Marks b (entries b) starts → at ≡ length b → free ≡ 0 → sum ≡ word b 14 → CanTile b at free sum

@@ -20,9 +20,15 @@ use Rattle.lmem_heap.proofs.Movers.{moved-in, moved-low, moved-high}
 
 pub put-packed : (b c : List ℕ) (i n : ℕ) → IsPacked b → i < entries b → entry b i ≡ 0 → 0 < n → cost n ≤ total_free b → PutsChunk b c i n → IsPacked c
 put-packed b c i n p h free some fits k =
-    let at = chunks_end b in let room = p.room in let most = p.header.most in let long = k.long in let total = k.total in
+    let at = chunks_end b in
+    let room = p.room in
+    let most = p.header.most in
+    let long = k.long in
+    let total = k.total in
     let at_is : p.at ≡ at = omega arith in
-    let wide = cost-least n some in let fours = cost-fours n in let four = p.fours in
+    let wide = cost-least n some in
+    let fours = cost-fours n in
+    let four = p.fours in
     let count : entries c ≡ entries b = head-word b c 12 10 k.head (omega arith) in
     let start : table_end b ≡ table_end c = ap (λ x. 16 + 2 * x) (sym count) in
     let T : ℕ → Type 0 = λ x. Tiles b (table_end b) 0 p.pre x 0 in
@@ -47,7 +53,11 @@ put-packed b c i n p h free some fits k =
 
 pub put-chunks : (b c : List ℕ) (i n : ℕ) → IsPacked b → i < entries b → 0 < n → cost n ≤ total_free b → PutsChunk b c i n → chunks c ≡ set (chunks b) i (Some (replicate n 0))
 put-chunks b c i n p h some fits k =
-    let at = chunks_end b in let room = p.room in let most = p.header.most in let long = k.long in let fits_table = p.header.fits in
+    let at = chunks_end b in
+    let room = p.room in
+    let most = p.header.most in
+    let long = k.long in
+    let fits_table = p.header.fits in
     let at_is : p.at ≡ at = omega arith in
     let wide = cost-least n some in
     let count : entries c ≡ entries b = head-word b c 12 10 k.head (omega arith) in
@@ -60,15 +70,18 @@ put-chunks b c i n p h some fits k =
     chunks-set b c i (Some (replicate n 0)) count h here (λ j l ne.
     let d : entry c j ≡ entry b j = k.others j l ne in
     chunk-cases b c (entry b j) (entry c j) (λ z. d ∙ z) (λ z. d ∙ z) (λ t.
-    let r = lies b (table_end b) 0 p.pre at 0 j tiles (p.all j l t) in let from = r.from in
+    let r = lies b (table_end b) 0 p.pre at 0 j tiles (p.all j l t) in
+    let from = r.from in
     chunk-shifted b c 0 0 (table_end b) at at (entry b j) (entry c j) r k.before (omega (arith, d)) (omega arith) (omega (arith, d)) (omega arith) (omega arith) t ((λ z. t.0 (sym d ∙ z)), (λ z. t.1 (sym d ∙ z)))))
 
 grown-header : (b c : List ℕ) → IsPacked b → 4 ≤ total_free b → GrowsTable b c → IsHeader c
 grown-header b c p fits k =
-    let h = p.header in let room = p.room in
+    let h = p.header in
+    let room = p.room in
     let low = tiles-le b (table_end b) 0 p.pre p.at 0 p.tiles in
     let w : (j : ℕ) → j + 2 ≤ 10 → word c j ≡ word b j = (λ j l. head-word b c 10 j k.head l) in
-    let long = k.long in let m = k.count in
+    let long = k.long in
+    let m = k.count in
     record {
       table = w 2 (omega arith) ∙ h.table;
       flags = w 4 (omega arith) ∙ h.flags;
@@ -87,8 +100,14 @@ grown-up b c i k h low high = let e = k.places i h ∙ moved-in (table_end b) (c
 
 pub grown-packed : (b c : List ℕ) → IsPacked b → 4 ≤ total_free b → GrowsTable b c → IsPacked c
 grown-packed b c p fits k =
-    let at = chunks_end b in let end = table_end b in
-    let m = k.count in let long = k.long in let room = p.room in let most = p.header.most in let four = p.fours in let total = k.total in
+    let at = chunks_end b in
+    let end = table_end b in
+    let m = k.count in
+    let long = k.long in
+    let room = p.room in
+    let most = p.header.most in
+    let four = p.fours in
+    let total = k.total in
     let at_is : p.at ≡ at = omega arith in
     let T : ℕ → Type 0 = λ x. Tiles b end 0 p.pre x 0 in
     let tiles : Tiles b end 0 p.pre at 0 = subst T at_is p.tiles in
@@ -120,8 +139,13 @@ grown-packed b c p fits k =
 
 pub grown-chunks : (b c : List ℕ) → IsPacked b → 4 ≤ total_free b → GrowsTable b c → chunks c ≡ chunks b ++ (None ∷ (None ∷ []))
 grown-chunks b c p fits k =
-    let at = chunks_end b in let end = table_end b in
-    let m = k.count in let long = k.long in let room = p.room in let most = p.header.most in let n = entries b in
+    let at = chunks_end b in
+    let end = table_end b in
+    let m = k.count in
+    let long = k.long in
+    let room = p.room in
+    let most = p.header.most in
+    let n = entries b in
     let at_is : p.at ≡ at = omega arith in
     let T : ℕ → Type 0 = λ x. Tiles b end 0 p.pre x 0 in
     let tiles : Tiles b end 0 p.pre at 0 = subst T at_is p.tiles in
@@ -132,7 +156,9 @@ grown-chunks b c p fits k =
     let h : i < n = omega arith in
     chunk-cases b c (entry b i) (entry c i) (λ e. k.places i h ∙ moved-low end at (end + 4) (entry b i) (omega (arith, e)) ∙ e) (λ e. k.places i h ∙ moved-high end at (end + 4) (entry b i) (omega (arith, e)) ∙ e) (λ t.
     let r = lies b end 0 p.pre at 0 i tiles (p.all i h t) in
-    let from = r.from in let upto = r.upto in let wide = cost-four r.n r.some in
+    let from = r.from in
+    let upto = r.upto in
+    let wide = cost-four r.n r.some in
     let d = grown-up b c i k h (omega arith) (omega arith) in
     chunk-shifted b c end (end + 4) end at (at + 4) (entry b i) (entry c i) r k.moved d (omega arith) (omega arith) (omega arith) (omega (arith, long)) t ((λ e. absurd (omega (arith, e))), (λ e. absurd (omega (arith, e)))))) in
     let e0 : F n ≡ None = chunk-none c (entry c n) k.fresh.0 in

@@ -22,7 +22,9 @@ first-inside b heap open_still = let r = first-room b (first_free b) heap refl (
 -- a gap that closes by itself
 pub closes-one : (b c : List ℕ) (gap : Gap) → IsHeap b → IsFirstGap b gap → (IsCompact b → ⊥) → ClosesGap b c gap → ClosesGaps b c
 closes-one b c gap heap g open_still k =
-    let p = g.has b (but-itself b heap) in let first = g.first in let inner = g.inner in
+    let p = g.has b (but-itself b heap) in
+    let first = g.first in
+    let inner = g.inner in
     record {
       heap = closed-heap b c gap heap.0 p k;
       chunks = closed-chunks b c gap heap.0 p k;
@@ -50,11 +52,17 @@ slides-none b heap small = record {
 pub slides-more : (old c d : List ℕ) (ss : List Slide) (gap : Gap) → SlidesGaps old c ss → IsFirstGap c gap → gap.after < 65536 → d ≡ slid c gap →
     SlidesGaps old d (ss ++ (slide_of gap ∷ []))
 slides-more old c d ss gap s g small is =
-    let b = s.heap in let p = g.has b s.slid.but in let first = g.first in let size = g.size in let inner = g.inner in let header = s.slid.but.is.0 in
+    let b = s.heap in
+    let p = g.has b s.slid.but in
+    let first = g.first in
+    let size = g.size in
+    let inner = g.inner in
+    let header = s.slid.but.is.0 in
     let reach : first_free c + word c (first_free c) ≡ gap.first + gap.size = ap (λ x. x + word c x) (sym first) ∙ ap (λ x. gap.first + x) (sym size) in
     let under = s.below in
     let on = slid-on c b d ss gap s.high s.slid p small s.order (omega (arith, under, reach)) is in
-    let k = on.closed in let but = on.slid.but in
+    let k = on.closed in
+    let but = on.slid.but in
     let count = head-word b on.next 12 10 k.head (omega arith) in
     let low = tiles-le b (table_end b) gap.first p.pre gap.first gap.first p.before in
     let new_first : first_free d ≡ gap.end - gap.size = but-head d on.next 12 but (omega arith) ∙ k.first in
@@ -90,7 +98,8 @@ slides-one-more old c d ss after gap s so_far g small bytes run is =
 
 pub slides-done : (old c d : List ℕ) (ss : List Slide) → SlidesGaps old c ss → IsHeap old → (IsCompact old → ⊥) → 0 < length ss → MapsEntries c d (entry_slid ss) 0 (entries c) → ClosesGaps old d
 slides-done old c d ss s heap open_still some m =
-    let w = written c s.heap d ss s.slid m in let same = but-head c s.heap 12 s.slid.but (omega arith) in
+    let w = written c s.heap d ss s.slid m in
+    let same = but-head c s.heap 12 s.slid.but (omega arith) in
     record {
       heap = w.0;
       chunks = w.1 ∙ s.chunks;

@@ -34,10 +34,17 @@ offset-back b c gap i k small h told = (
 
 closed-tiles : (b c : List ℕ) (gap : Gap) → IsHeader b → HasGap b gap → ClosesGap b c gap → (pieces : List Piece) × IsTiledBy c pieces
 closed-tiles b c gap header p k =
-    let f = gap.first in let s = gap.size in let end = gap.end in let t = gap.more in
+    let f = gap.first in
+    let s = gap.size in
+    let end = gap.end in
+    let t = gap.more in
     let n : entries c ≡ entries b = head-word b c 12 10 k.head (omega arith) in
     let start : table_end c ≡ table_end b = ap (λ x. 16 + 2 * x) n in
-    let long = k.long in let places = p.places in let gap_size = p.size in let size = k.size in let most = header.most in
+    let long = k.long in
+    let places = p.places in
+    let gap_size = p.size in
+    let size = k.size in
+    let most = header.most in
     let pre : Tiles c (table_end b) f p.pre f f = tiles-kept b c (table_end b) f p.pre f f p.before k.before (omega (arith, n)) (λ i l low high. entry-before b c gap i k l (omega arith)) in
     let pre' : Tiles c (table_end b) (end - s) p.pre f (end - s) = used-any c (table_end b) f (end - s) p.pre f f p.pre_used pre in
     let middle : Tiles c f (end - s) p.mid (end - s) (end - s) = tiles-shifted b c (f + s) f (f + s) 0 p.mid end 0 f (end - s) (end - s) p.mid_used p.middle (omega arith) (omega arith) k.moved (omega (arith, n))
@@ -65,7 +72,8 @@ closed-tiles b c gap header p k =
               ])
             ]);
         total = (let e = free_bytes-append p.pre (p.mid ++ (Free (s + t) ∷ p.post)) in let d = free_bytes-append p.mid (Free (s + t) ∷ p.post) in
-            let u = used-free p.pre p.pre_used in let v = used-free p.mid p.mid_used in
+            let u = used-free p.pre p.pre_used in
+            let v = used-free p.mid p.mid_used in
             omega (arith, e, d, u, v, k.total, p.total));
       },
     )
@@ -75,18 +83,28 @@ closed-heap b c gap header p k = (same-header b c header k.long k.head, closed-t
 
 pub closed-chunks : (b c : List ℕ) (gap : Gap) → IsHeader b → HasGap b gap → ClosesGap b c gap → chunks c ≡ chunks b
 closed-chunks b c gap header p k =
-    let f = gap.first in let s = gap.size in let end = gap.end in let t = gap.more in
+    let f = gap.first in
+    let s = gap.size in
+    let end = gap.end in
+    let t = gap.more in
     let n : entries c ≡ entries b = head-word b c 12 10 k.head (omega arith) in
-    let long = k.long in let places = p.places in let gap_size = p.size in let most = header.most in
+    let long = k.long in
+    let places = p.places in
+    let gap_size = p.size in
+    let most = header.most in
     chunks-same b c n (λ i h. chunk-cases b c (entry b i) (entry c i) (λ e. entry-before b c gap i k h (omega (arith, e)) ∙ e) (λ e. entry-behind b c gap i k h (omega (arith, e)) ∙ e) (λ told.
     elim (p.all i h told) [
       | inl x ↦ (let l = lies b (table_end b) f p.pre f f i p.before x in
-          let wide = cost-four l.n l.some in let from = l.from in let upto = l.upto in
+          let wide = cost-four l.n l.some in
+          let from = l.from in
+          let upto = l.upto in
           let d : entry c i ≡ entry b i = entry-before b c gap i k h (omega arith) in
           chunk-shifted b c 0 0 (table_end b) f f (entry b i) (entry c i) l k.before (omega arith) (omega arith) (omega arith) (omega arith) (omega arith) told ((λ e. told.0 (sym d ∙ e)), (λ e. told.1 (sym d ∙ e))))
       | inr y ↦ elim y [
         | inl x ↦ (let l = lies b (f + s) 0 p.mid end 0 i p.middle x in
-            let wide = cost-four l.n l.some in let from = l.from in let upto = l.upto in
+            let wide = cost-four l.n l.some in
+            let from = l.from in
+            let upto = l.upto in
             let d : entry c i + (f + s) ≡ entry b i + f = entry-moves b c gap i k h (omega arith) (omega arith) in
             chunk-shifted b c (f + s) f (f + s) end (end - s) (entry b i) (entry c i) l k.moved d (omega arith) (omega arith) (omega arith) (omega arith) told ((λ e. absurd (omega (arith, e))), (λ e. absurd (omega (arith, e)))))
         | inr x ↦ (let l = lies b (end + t) gap.after p.post (length b) 0 i p.behind x in
@@ -100,7 +118,9 @@ closed-chunks b c gap header p k =
 pub words-byte : (d : List ℕ) (gap : Gap) (k : ℕ) → (k < 12) ⊎ ((14 ≤ k) × (k < gap.end - gap.size)) ⊎ ((14 ≤ k) × (gap.end - gap.size + 4 ≤ k)) → 16 ≤ gap.end - gap.size → get_or (closing_words d gap) k 0 ≡ get_or d k 0
 unfolding closing_words
 words-byte d gap k where_is low =
-    let at = gap.end - gap.size in let d1 = with_word d at (gap.size + gap.more) in let d2 = with_word d1 (at + 2) gap.after in
+    let at = gap.end - gap.size in
+    let d1 = with_word d at (gap.size + gap.more) in
+    let d2 = with_word d1 (at + 2) gap.after in
     elim where_is [
       | inl h ↦ byte-other d2 12 at k (inl h) ∙ byte-other d1 (at + 2) gap.after k (inl (omega arith)) ∙ byte-other d at (gap.size + gap.more) k (inl (omega arith))
       | inr (inl h) ↦ byte-other d2 12 at k (inr h.0) ∙ byte-other d1 (at + 2) gap.after k (inl (omega (arith, h.1))) ∙ byte-other d at (gap.size + gap.more) k (inl h.1)
@@ -111,11 +131,22 @@ words-byte d gap k where_is low =
 pub closes : (b d c : List ℕ) (gap : Gap) → IsHeader b → HasGap b gap → gap.after < 65536 → MovesRun b d (gap.first + gap.size) gap.end gap.first → c ≡ closing_words d gap → ClosesGap b c gap
 unfolding closing_words
 closes b d c gap header p small m is =
-    let f = gap.first in let s = gap.size in let end = gap.end in let t = gap.more in let at = end - s in
-    let places = p.places in let most = header.most in let size = p.size in let four : 4 ≤ s = omega arith in
+    let f = gap.first in
+    let s = gap.size in
+    let end = gap.end in
+    let t = gap.more in
+    let at = end - s in
+    let places = p.places in
+    let most = header.most in
+    let size = p.size in
+    let four : 4 ≤ s = omega arith in
     let low = tiles-le b (table_end b) f p.pre f f p.before in
-    let d1 = with_word d at (s + t) in let d2 = with_word d1 (at + 2) gap.after in
-    let n0 = m.long in let n1 = length-with_word d at (s + t) in let n2 = length-with_word d1 (at + 2) gap.after in let n3 = length-with_word d2 12 at in
+    let d1 = with_word d at (s + t) in
+    let d2 = with_word d1 (at + 2) gap.after in
+    let n0 = m.long in
+    let n1 = length-with_word d at (s + t) in
+    let n2 = length-with_word d1 (at + 2) gap.after in
+    let n3 = length-with_word d2 12 at in
     let byte : (k : ℕ) → (k < 12) ⊎ ((14 ≤ k) × (k < at)) ⊎ ((14 ≤ k) × (at + 4 ≤ k)) → get_or c k 0 ≡ get_or d k 0 = (λ k h. ap (λ x. get_or x k 0) is ∙ words-byte d gap k h (omega arith)) in
     let words : (j : ℕ) → word c j ≡ word (with_word d2 12 at) j = (λ j. ap (λ x. word x j) is) in
     record {

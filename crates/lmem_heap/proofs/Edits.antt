@@ -34,17 +34,20 @@ pub record Split (b : List ℕ) (i : ℕ) : Type 0 where
 
 pub split : (b : List ℕ) (i : ℕ) → IsPacked b → i < entries b → IsOffset (entry b i) → Split b i
 split b i p h t =
-    let e = entry b i in let room = p.room in
+    let e = entry b i in
+    let room = p.room in
     let at : p.at ≡ chunks_end b = omega arith in
     let r = find b (table_end b) 0 p.pre p.at 0 i p.tiles (p.all i h t) in
     let some = r.some in
     let n : r.n ≡ chunk_length b i = (let s = r.size in omega (arith, s)) in
     let U : List Piece → Type 0 = λ ps. AreUsed ps in
     let used : AreUsed (r.pre ++ (Used i r.n ∷ r.post)) = subst U r.is p.used in
-    let pre_used = used-left r.pre (Used i r.n ∷ r.post) used in let post_used : AreUsed r.post = used-right r.pre (Used i r.n ∷ r.post) used in
+    let pre_used = used-left r.pre (Used i r.n ∷ r.post) used in
+    let post_used : AreUsed r.post = used-right r.pre (Used i r.n ∷ r.post) used in
     let le = tiles-le b (e - 2 + cost r.n) r.g r.post p.at 0 r.behind in
     let end : e - 2 + cost r.n ≡ chunk_end b i = ap (λ x. e - 2 + cost x) n in
-    let P : ℕ → Type 0 = λ x. Tiles b x 0 r.post p.at 0 in let Q : ℕ → Type 0 = λ x. Tiles b (chunk_end b i) 0 r.post x 0 in
+    let P : ℕ → Type 0 = λ x. Tiles b x 0 r.post p.at 0 in
+    let Q : ℕ → Type 0 = λ x. Tiles b (chunk_end b i) 0 r.post x 0 in
     record {
       pre = r.pre;
       post = r.post;
@@ -71,8 +74,15 @@ pub record Edited (b c : List ℕ) (i to : ℕ) (s : Split b i) : Type 0 where
 
 pub edited : (b c : List ℕ) (i to : ℕ) → IsPacked b → i < entries b → IsOffset (entry b i) → (s : Split b i) → table_end b ≤ to → to + (chunks_end b - chunk_end b i) ≤ length b → EditsChunk b c i to → Edited b c i to s
 edited b c i to p h t s low' fits k =
-    let e = entry b i in let end = chunk_end b i in let at = chunks_end b in
-    let most = p.header.most in let low = s.low in let high = s.high in let some = s.some in let room = s.room in let long = k.long in
+    let e = entry b i in
+    let end = chunk_end b i in
+    let at = chunks_end b in
+    let most = p.header.most in
+    let low = s.low in
+    let high = s.high in
+    let some = s.some in
+    let room = s.room in
+    let long = k.long in
     let wide = cost-least (chunk_length b i) some in
     let n : entries c ≡ entries b = head-word b c 12 10 k.head (omega arith) in
     let start : table_end b ≡ table_end c = ap (λ x. 16 + 2 * x) (sym n) in
@@ -107,10 +117,20 @@ edited b c i to p h t s low' fits k =
 
 pub resized-packed : (b c : List ℕ) (i n : ℕ) → IsPacked b → i < entries b → IsOffset (entry b i) → 0 < n → cost n ≤ total_free b + cost (chunk_length b i) → EditsChunk b c i (entry b i - 2 + cost n) → HasResized b c i n → IsPacked c
 resized-packed b c i n p h t some_n fits k here =
-    let s = split b i p h t in let low = s.low in let high = s.high in let some = s.some in let room = s.room in let wide = cost-least (chunk_length b i) some in let fours = cost-fours (chunk_length b i) in let fours' = cost-fours n in
+    let s = split b i p h t in
+    let low = s.low in
+    let high = s.high in
+    let some = s.some in
+    let room = s.room in
+    let wide = cost-least (chunk_length b i) some in
+    let fours = cost-fours (chunk_length b i) in
+    let fours' = cost-fours n in
     let to = entry b i - 2 + cost n in
     let d = edited b c i to p h t s (omega arith) (omega arith) k in
-    let count = d.count in let total = k.total in let long = k.long in let four = p.fours in
+    let count = d.count in
+    let total = k.total in
+    let long = k.long in
+    let four = p.fours in
     record {
       header = d.header;
       pre = s.pre ++ (Used i n ∷ s.post);
@@ -129,7 +149,12 @@ resized-packed b c i n p h t some_n fits k here =
 pub resized-chunks : (b c : List ℕ) (i n : ℕ) → IsPacked b → i < entries b → IsOffset (entry b i) → 0 < n → cost n ≤ total_free b + cost (chunk_length b i) → EditsChunk b c i (entry b i - 2 + cost n) → HasResized b c i n →
     chunks c ≡ set (chunks b) i (Some (resized (part b (entry b i) (chunk_length b i)) n))
 resized-chunks b c i n p h t some_n fits k here =
-    let s = split b i p h t in let low = s.low in let high = s.high in let some = s.some in let room = s.room in let wide = cost-least (chunk_length b i) some in
+    let s = split b i p h t in
+    let low = s.low in
+    let high = s.high in
+    let some = s.some in
+    let room = s.room in
+    let wide = cost-least (chunk_length b i) some in
     let to = entry b i - 2 + cost n in
     let d = edited b c i to p h t s (omega arith) (omega arith) k in
     let told : IsOffset (entry c i) = ((λ z. t.0 (sym here.place ∙ z)), (λ z. t.1 (sym here.place ∙ z))) in
@@ -143,5 +168,9 @@ chunk-bytes b i h t = chunks-at b i h ∙ chunk-told b (entry b i) t
 
 pub chunk-cost : (b : List ℕ) (i : ℕ) → IsPacked b → i < entries b → IsOffset (entry b i) → cost_of (get_or (chunks b) i None) ≡ cost (chunk_length b i)
 chunk-cost b i p h t =
-    let s = split b i p h t in let low = s.low in let high = s.high in let room = s.room in let wide = cost-least (chunk_length b i) s.some in
+    let s = split b i p h t in
+    let low = s.low in
+    let high = s.high in
+    let room = s.room in
+    let wide = cost-least (chunk_length b i) s.some in
     ap cost_of (chunk-bytes b i h t) ∙ ap cost (omega (arith, length-take (chunk_length b i) (drop (entry b i) b), length-drop (entry b i) b))

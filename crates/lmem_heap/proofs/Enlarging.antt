@@ -39,9 +39,16 @@ pub record Enlarged (b e c : List ℕ) (old : ℕ) : Type 0 where
 
 pub enlarges : (b c : List ℕ) (old : ℕ) → IsHeap (take old b) → old ≤ length b → IsBlockSize (length b) → c ≡ with_word b 8 (length b) → Enlarged b (take old b) c old
 enlarges b c old heap fits legal made =
-    let e = take old b in let h = heap.0 in let fill = heap.1.1 in
+    let e = take old b in
+    let h = heap.0 in
+    let fill = heap.1.1 in
     let long : length e ≡ old = omega (arith, fits, length-take old b) in
-    let least = h.least in let sixteens = h.sixteens in let fits_table = h.fits in let some = h.some in let most = legal.1 in let legal_sixteens = legal.2 in
+    let least = h.least in
+    let sixteens = h.sixteens in
+    let fits_table = h.fits in
+    let some = h.some in
+    let most = legal.1 in
+    let legal_sixteens = legal.2 in
     let k = longer b c old fits legal.1 (omega arith) made in
     let longs = k.long in
     let n : entries c ≡ entries e = k.words 10 (omega arith) (inr (omega arith)) in
@@ -82,7 +89,9 @@ enlarges b c old heap fits legal made =
         total = (let t = fill.total in omega (arith, t, total));
       };
       chunks = chunks-same e c n (λ i l. chunk-cases e c (entry e i) (entry c i) (λ z. each i l ∙ z) (λ z. each i l ∙ z) (λ told.
-          let d_is = each i l in let r = lies e (table_end e) (first_free e) heap.1.0 old 0 i tiles (fill.all i l told) in let from = r.from in
+          let d_is = each i l in
+          let r = lies e (table_end e) (first_free e) heap.1.0 old 0 i tiles (fill.all i l told) in
+          let from = r.from in
           chunk-shifted e c 0 0 (table_end e) old old (entry e i) (entry c i) r kept (omega (arith, d_is)) (omega arith) (omega (arith, d_is)) (omega arith) (omega arith) told ((λ z. told.0 (sym d_is ∙ z)), (λ z. told.1 (sym d_is ∙ z)))));
       handle = ap (λ x. word x 0) made ∙ word-other b 8 (length b) 0 (inl (omega arith));
     }

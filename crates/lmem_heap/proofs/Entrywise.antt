@@ -23,7 +23,11 @@ pub record Entered (b c : List ℕ) (i e : ℕ) (chunk : Option (List ℕ)) : Ty
 
 pub entered : (b : List ℕ) (i e : ℕ) (chunk : Option (List ℕ)) → IsPacked b → i < entries b → (IsOffset (entry b i) → ⊥) → e < 65536 → (IsOffset e → ⊥) → ((c : List ℕ) → chunk_at c e ≡ chunk) → Entered b (with_word b (16 + 2 * i) e) i e chunk
 entered b i e chunk p h silent small silent' is =
-    let c = with_word b (16 + 2 * i) e in let long = length-with_word b (16 + 2 * i) e in let fits = p.header.fits in let most = p.header.most in let room = p.room in
+    let c = with_word b (16 + 2 * i) e in
+    let long = length-with_word b (16 + 2 * i) e in
+    let fits = p.header.fits in
+    let most = p.header.most in
+    let room = p.room in
     let low = tiles-le b (table_end b) 0 p.pre p.at 0 p.tiles in
     let head : (k : ℕ) → k < 16 → get_or c k 0 ≡ get_or b k 0 = (λ k g. byte-other b (16 + 2 * i) e k (inl (omega arith))) in
     let word_head : (k : ℕ) → k + 2 ≤ 16 → word c k ≡ word b k = (λ k g. word-other b (16 + 2 * i) e k (inl (omega arith))) in
@@ -63,7 +67,8 @@ entered b i e chunk p h silent small silent' is =
       chunks = chunks-set b c i chunk n h (ap (chunk_at c) here ∙ is c) (λ j l ne.
           let d : entry c j ≡ entry b j = other j ne in
           chunk-cases b c (entry b j) (entry c j) (λ z. d ∙ z) (λ z. d ∙ z) (λ t.
-          let r = lies b (table_end b) 0 p.pre p.at 0 j p.tiles (p.all j l t) in let from = r.from in
+          let r = lies b (table_end b) 0 p.pre p.at 0 j p.tiles (p.all j l t) in
+          let from = r.from in
           chunk-shifted b c 0 0 (table_end b) p.at p.at (entry b j) (entry c j) r (λ a k q g z. kept a k q g (omega arith)) (omega (arith, d)) (omega arith) (omega (arith, d)) (omega arith) (omega (arith, long)) t ((λ z. t.0 (sym d ∙ z)), (λ z. t.1 (sym d ∙ z)))));
       handle = word_head 0 (omega arith);
       count = n;

@@ -20,8 +20,13 @@ pub record Read (b : List ℕ) (i e w : ℕ) : Type 0 where
 
 pub read : (b : List ℕ) (i e w : ℕ) → IsPacked b → i < entries b → IsOffset (entry b i) → e ≡ entry b i → w ≡ word b (e - 2) → Read b i e w
 read b i e w p h t e_is w_is =
-    let s = split b i p h t in let bs = bounds b p in
-    let some = s.some in let low = s.low in let high = s.high in let room = bs.room in let most = bs.most in
+    let s = split b i p h t in
+    let bs = bounds b p in
+    let some = s.some in
+    let low = s.low in
+    let high = s.high in
+    let room = bs.room in
+    let most = bs.most in
     let wide = cost-least (chunk_length b i) some in
     let back : word b (e - 2) ≡ word b (entry b i - 2) = ap (λ x. word b (x - 2)) e_is in
     let size : w ≡ chunk_length b i + 2 = (let z = s.size in omega (arith, z, w_is, back)) in

@@ -43,9 +43,14 @@ pub record LeftHole (b c : List ℕ) (i : ℕ) : Type 0 where
 
 pub left-hole : (b c : List ℕ) (i : ℕ) → IsHeap b → i < entries b → IsOffset (entry b i) → c ≡ with_word b (16 + 2 * i) 0 → LeftHole b c i
 left-hole b c i heap h t is =
-    let fill = heap.1.1 in let e = entry b i in let fits = heap.0.fits in let most = heap.0.most in let some_entries = heap.0.some in
+    let fill = heap.1.1 in
+    let e = entry b i in
+    let fits = heap.0.fits in
+    let most = heap.0.most in
+    let some_entries = heap.0.some in
     let r = find b (table_end b) (word b 12) heap.1.0 (length b) 0 i fill.tiles (fill.all i h t) in
-    let some = r.some in let low = r.low in
+    let some = r.some in
+    let low = r.low in
     let m : r.n ≡ chunk_length b i = (let s = r.size in omega (arith, s)) in
     let end : e - 2 + cost r.n ≡ chunk_end b i = ap (λ x. e - 2 + cost x) m in
     let wide = cost-four r.n some in
@@ -63,7 +68,8 @@ left-hole b c i heap h t is =
     let first : word b 12 ≡ word c 12 = sym (ap (λ x. word x 12) is ∙ word-other b (16 + 2 * i) 0 12 (inl (omega arith))) in
     let total : total_free c ≡ total_free b = ap (λ x. word x 14) is ∙ word-other b (16 + 2 * i) 0 14 (inl (omega arith)) in
     let F : ℕ → Type 0 = λ x. Tiles c (table_end b) x r.pre (e - 2) r.g in
-    let E : ℕ → Type 0 = λ x. Tiles c x r.g r.post (length b) 0 in let L : ℕ → Type 0 = λ x. Tiles c (chunk_end b i) r.g r.post x 0 in
+    let E : ℕ → Type 0 = λ x. Tiles c x r.g r.post (length b) 0 in
+    let L : ℕ → Type 0 = λ x. Tiles c (chunk_end b i) r.g r.post x 0 in
     let start_fours : table_end b % 4 ≡ 0 = (let pairs = heap.0.pairs in omega (arith, pairs)) in
     let split : (j : ℕ) → j < entries b → IsOffset (entry b j) → j ≢ i → HasChunk j r.pre ⊎ HasChunk j r.post = (λ j l u ne. let H : List Piece → Type 0 = λ ps. HasChunk j ps in
     elim (has-split j r.pre (Used i r.n ∷ r.post) (subst H r.is (fill.all j l u))) [ inl x ↦ inl x | inr x ↦ elim x [ inl z ↦ absurd (ne z) | inr y ↦ inr y ] ]) in
@@ -110,9 +116,20 @@ pub record Filled (b c : List ℕ) (link at end i n : ℕ) (bytes : List ℕ) (o
 pub filled : (b c : List ℕ) (link at end i n : ℕ) (bytes : List ℕ) → (o : IsOpen b link at end) → 0 < n → at + cost n ≤ end → i < entries b → entry b i ≡ 0 → length c ≡ length b →
     ((k : ℕ) → k < at → Apart k (16 + 2 * i) → get_or c k 0 ≡ get_or b k 0) → KeepsBack b c (at + cost n) → entry c i ≡ at + 2 → word c at ≡ n + 2 → part c (at + 2) n ≡ bytes → Filled b c link at end i n bytes o
 filled b c link at end i n bytes o some fits h none long keep back here says content =
-    let p = open-place b link at end o in let low = p.low in let table = p.table in let out = p.link_out in let link_high = p.link_high in let high = p.high in let most = p.most in let link_low = p.link_low in
-    let k = link-place b link o.upto o.before o.linked in let within = k.within in let start = k.start in
-    let wide = cost-least n some in let four = cost-fours n in let at_fours = o.fours in
+    let p = open-place b link at end o in
+    let low = p.low in
+    let table = p.table in
+    let out = p.link_out in
+    let link_high = p.link_high in
+    let high = p.high in
+    let most = p.most in
+    let link_low = p.link_low in
+    let k = link-place b link o.upto o.before o.linked in
+    let within = k.within in
+    let start = k.start in
+    let wide = cost-least n some in
+    let four = cost-fours n in
+    let at_fours = o.fours in
     let le = tiles-le b o.upto (word b link) o.ahead at o.next o.tiles_ahead in
     let head : SameHead b c 12 = (λ q l. keep q (omega arith) (inl (omega arith))) in
     let m : entries c ≡ entries b = head-word b c 12 10 head (omega arith) in
@@ -139,7 +156,8 @@ filled b c link at end i n bytes o some fits h none long keep back here says con
     } in
     let ahead : Tiles c o.upto (word b link) o.ahead at o.next = tiles-kept b c o.upto (word b link) o.ahead at o.next o.tiles_ahead r.mid (omega (arith, m)) (λ j l a z. each j l (apart j (omega arith))) in
     let behind : Tiles c end o.next o.behind (length b) 0 = tiles-kept b c end o.next o.behind (length b) 0 o.tiles_behind rear (omega (arith, m)) (λ j l a z. each j l (apart j (omega arith))) in
-    let K : ℕ → Type 0 = λ x. Tiles c o.upto x o.ahead at o.next in let V : ℕ → Type 0 = λ x. Tiles c end o.next o.behind x 0 in
+    let K : ℕ → Type 0 = λ x. Tiles c o.upto x o.ahead at o.next in
+    let V : ℕ → Type 0 = λ x. Tiles c end o.next o.behind x 0 in
     let mine : Tiles c at o.next (Used i n ∷ []) (at + cost n) o.next = (some, omega (arith, m), here, says, (refl, refl)) in
     let told_c : IsOffset (entry c i) = ((λ z. absurd (omega (arith, z, here))), (λ z. absurd (omega (arith, z, here)))) in
     let chunk : chunk_at c (entry c i) ≡ Some bytes = (let back_2 : entry c i - 2 ≡ at = omega (arith, here) in

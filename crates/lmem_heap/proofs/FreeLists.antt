@@ -20,7 +20,9 @@ pub none-before : (b : List ℕ) (at f : ℕ) (ps : List Piece) (end next : ℕ)
 none-before b at f [] end next s low h = tt
 none-before b at f (Used i n ∷ ps) end next s low h = none-before b (at + cost n) f ps end next s.4 (omega arith) h
 none-before b at f (Free m ∷ ps) end next s low h =
-    let le = tiles-le b (at + m) (word b (at + 2)) ps end next s.5 in let e = s.2 in let some = s.0 in
+    let le = tiles-le b (at + m) (word b (at + 2)) ps end next s.5 in
+    let e = s.2 in
+    let some = s.0 in
     absurd (elim h [ inl z ↦ omega (arith, z, e) | inr g ↦ omega (arith, g, e, le, some) ])
 
 -- chunks leave the next free one as it is
@@ -63,11 +65,15 @@ tiles-fours b at f (Free m ∷ ps) end next s h = let c = s.1 in tiles-fours b (
 -- the pieces of a link
 pub link-tiles : (b : List ℕ) (link upto : ℕ) (before : List Piece) → IsLink b link upto before → Tiles b (table_end b) (first_free b) before upto (word b link)
 link-tiles b link upto before (inl k) =
-    let none = k.none in let is = k.is in let start = k.start in
+    let none = k.none in
+    let is = k.is in
+    let start = k.start in
     let B : List Piece → Type 0 = λ ps. Tiles b (table_end b) (first_free b) ps upto (word b link) in
     subst B (sym none) (sym start, ap (word b) (sym is))
 link-tiles b link upto before (inr k) =
-    let low = k.low in let ends = k.ends in let apart = k.apart in
+    let low = k.low in
+    let ends = k.ends in
+    let apart = k.apart in
     let place : link - 2 + 2 ≡ link = omega arith in
     let w : word b (link - 2 + 2) ≡ word b link = ap (word b) place in
     let here : Tiles b (link - 2) (link - 2) (Free k.size ∷ []) upto (word b link) = (k.some, k.fours, refl, k.says, (λ e. apart (sym w ∙ e ∙ sym ends)), (sym ends, w)) in
@@ -76,7 +82,10 @@ link-tiles b link upto before (inr k) =
 
 -- its chunks lie before it
 pub link-lies : (b : List ℕ) (link upto : ℕ) (before : List Piece) (j : ℕ) → IsLink b link upto before → HasChunk j before → LiesWithin b (entry b j) (table_end b) (link - 2)
-link-lies b link upto before j (inl k) h = let H : List Piece → Type 0 = λ ps. HasChunk j ps in let no : HasChunk j [] = subst H k.none h in absurd no
+link-lies b link upto before j (inl k) h =
+    let H : List Piece → Type 0 = λ ps. HasChunk j ps in
+    let no : HasChunk j [] = subst H k.none h in
+    absurd no
 link-lies b link upto before j (inr k) h =
     let H : List Piece → Type 0 = λ ps. HasChunk j ps in
     elim (has-split j k.pre (Free k.size ∷ []) (subst H k.is h)) [ inl x ↦ lies b (table_end b) (first_free b) k.pre (link - 2) (link - 2) j k.front x | inr x ↦ absurd x ]
@@ -89,15 +98,23 @@ pub record LinkPlace (b : List ℕ) (link upto : ℕ) : Type 0 where
   pub out : (link ≡ 12) ⊎ (table_end b + 2 ≤ link)
 
 pub link-place : (b : List ℕ) (link upto : ℕ) (before : List Piece) → IsLink b link upto before → LinkPlace b link upto
-link-place b link upto before (inl k) = let is = k.is in let start = k.start in record { low = omega (arith, is); start = omega (arith, start); within = omega (arith, is, start); out = inl is }
+link-place b link upto before (inl k) =
+    let is = k.is in
+    let start = k.start in
+    record { low = omega (arith, is); start = omega (arith, start); within = omega (arith, is, start); out = inl is }
 link-place b link upto before (inr k) =
-    let low = k.low in let some = k.some in let fours = k.fours in let ends = k.ends in let four : 4 ≤ k.size = omega (arith, some, fours) in
+    let low = k.low in
+    let some = k.some in
+    let fours = k.fours in
+    let ends = k.ends in
+    let four : 4 ≤ k.size = omega (arith, some, fours) in
     record { low = omega (arith, low); start = omega (arith, low, ends, four); within = omega (arith, low, ends, four); out = inr low }
 
 -- a heap is open at its end, with nothing in the hole
 pub heap-open : (b : List ℕ) → IsHeap b → IsOpen b 12 (length b) (length b)
 heap-open b heap =
-    let fill = heap.1.1 in let sixteens = heap.0.sixteens in
+    let fill = heap.1.1 in
+    let sixteens = heap.0.sixteens in
     record {
       header = heap.0;
       before = [];
@@ -147,11 +164,18 @@ pub record OpenPlace (b : List ℕ) (link at end : ℕ) : Type 0 where
 pub open-place : (b : List ℕ) (link at end : ℕ) → IsOpen b link at end → OpenPlace b link at end
 open-place b link at end o =
     let k = link-place b link o.upto o.before o.linked in
-    let low = k.low in let start = k.start in let within = k.within in
-    let a = tiles-le b o.upto (word b link) o.ahead at o.next o.tiles_ahead in let z = tiles-le b end o.next o.behind (length b) 0 o.tiles_behind in
+    let low = k.low in
+    let start = k.start in
+    let within = k.within in
+    let a = tiles-le b o.upto (word b link) o.ahead at o.next o.tiles_ahead in
+    let z = tiles-le b end o.next o.behind (length b) 0 o.tiles_behind in
     let f1 = free-le b (table_end b) (first_free b) o.before o.upto (word b link) (link-tiles b link o.upto o.before o.linked) in
-    let f2 = free-le b o.upto (word b link) o.ahead at o.next o.tiles_ahead in let f3 = free-le b end o.next o.behind (length b) 0 o.tiles_behind in
-    let total = o.total in let order = o.order in let some = o.header.some in let most = o.header.most in
+    let f2 = free-le b o.upto (word b link) o.ahead at o.next o.tiles_ahead in
+    let f3 = free-le b end o.next o.behind (length b) 0 o.tiles_behind in
+    let total = o.total in
+    let order = o.order in
+    let some = o.header.some in
+    let most = o.header.most in
     record { link_low = low; link_high = omega (arith, within, a); link_out = k.out; low = omega (arith, start, a); table = omega (arith, some); high = z; most = most; room = omega (arith, f1, f2, f3, total, order) }
 
 -- what the last free chunk before the hole leaves
@@ -170,10 +194,14 @@ pub open-next : (b : List ℕ) (link at end : ℕ) → IsOpen b link at end → 
 open-next b link at end o ne l =
     let f = word b link in
     let r = reach b o.upto f o.ahead at o.next o.tiles_ahead l (next-behind b link at end o) ne in
-    let k = link-place b link o.upto o.before o.linked in let start = k.start in let within = k.within in
+    let k = link-place b link o.upto o.before o.linked in
+    let start = k.start in
+    let within = k.within in
     let p = tiles-le b o.upto f r.pre f f r.front in
     let q = tiles-le b (f + r.size) (word b (f + 2)) r.rest at o.next r.here.5 in
-    let some = r.here.0 in let fours = r.here.1 in let says = r.here.3 in
+    let some = r.here.0 in
+    let fours = r.here.1 in
+    let says = r.here.3 in
     let start_fours : table_end b % 4 ≡ 0 = (let pairs = o.header.pairs in omega (arith, pairs)) in
     let back : f + 2 - 2 ≡ f = omega arith in
     let front : Tiles b (table_end b) (first_free b) (o.before ++ r.pre) f f = tiles-join b (table_end b) (first_free b) o.before r.pre o.upto f f f (link-tiles b link o.upto o.before o.linked) r.front in
@@ -225,19 +253,26 @@ open-next b link at end o ne l =
 -- where there is none before the hole
 pub open-beside : (b : List ℕ) (link at end : ℕ) → IsOpen b link at end → (word b link ≡ 0) ⊎ (at ≤ word b link) → IsBeside b link at end
 open-beside b link at end o h =
-    let k = link-place b link o.upto o.before o.linked in let low = k.low in let within = k.within in
+    let k = link-place b link o.upto o.before o.linked in
+    let low = k.low in
+    let within = k.within in
     record { is = o; used = none-before b o.upto (word b link) o.ahead at o.next o.tiles_ahead (omega (arith, low, within)) h }
 
 -- a free chunk lies before the end
 free-below : (b : List ℕ) (at f : ℕ) (ps : List Piece) (end next : ℕ) → Tiles b at f ps end next → next ≡ 0 → f ≢ 0 → f < end
 free-below b at f [] end next s z ne = absurd (ne (s.1 ∙ z))
 free-below b at f (Used i n ∷ ps) end next s z ne = free-below b (at + cost n) f ps end next s.4 z ne
-free-below b at f (Free m ∷ ps) end next s z ne = let le = tiles-le b (at + m) (word b (at + 2)) ps end next s.5 in let is = s.2 in let some = s.0 in omega (arith, le, is, some)
+free-below b at f (Free m ∷ ps) end next s z ne =
+    let le = tiles-le b (at + m) (word b (at + 2)) ps end next s.5 in
+    let is = s.2 in
+    let some = s.0 in
+    omega (arith, le, is, some)
 
 -- the next free chunk of a heap, behind an empty hole
 pub open-fits : (b : List ℕ) (link : ℕ) → IsOpen b link (length b) (length b) → word b link ≢ 0 → (size : ℕ) → size ≤ word b (word b link) → FitsBehind b link (word b link) (word b link) size
 open-fits b link o ne size fits =
-    let f = word b link in let end = length b in
+    let f = word b link in
+    let end = length b in
     let none : o.behind ≡ [] = nothing-left b end o.next o.behind end 0 (omega arith) o.tiles_behind in
     let B : List Piece → Type 0 = λ ps. Tiles b end o.next ps end 0 in
     let next : o.next ≡ 0 = (let t : Tiles b end o.next [] end 0 = subst B none o.tiles_behind in t.1) in
@@ -288,5 +323,7 @@ heap-next b link o ne =
     let B : List Piece → Type 0 = λ ps. Tiles b end o.next ps end 0 in
     let next : o.next ≡ 0 = (let t : Tiles b end o.next [] end 0 = subst B none o.tiles_behind in t.1) in
     let l : word b link < end = free-below b o.upto (word b link) o.ahead end o.next o.tiles_ahead next ne in
-    let n = open-next b link end end o ne l in let inside = n.inside in let four = n.four in
+    let n = open-next b link end end o ne l in
+    let inside = n.inside in
+    let four = n.four in
     record { is = n.is; above = n.above; inside = omega (arith, inside, four) }

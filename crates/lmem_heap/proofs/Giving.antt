@@ -14,7 +14,12 @@ use Rattle.lmem_heap.proofs.FreeLists.{first-behind, used-next, link-place, open
 use Rattle.lmem_heap.proofs.Relinking.{Apart, KeepsFront, KeepsBack, reopened, relinks, kept-entry, kept-chunk, front-kept, mid-kept, FreeBehind, free-behind}
 
 front-head : (b c : List ℕ) (link at end : ℕ) → IsOpen b link at end → KeepsFront b c link at → SameHead b c 12
-front-head b c link at end o keep = let p = open-place b link at end o in let low = p.low in let table = p.table in let link_low = p.link_low in (λ q h. keep q (omega arith) (inl (omega arith)) (inl (omega arith)))
+front-head b c link at end o keep =
+    let p = open-place b link at end o in
+    let low = p.low in
+    let table = p.table in
+    let link_low = p.link_low in
+    (λ q h. keep q (omega arith) (inl (omega arith)) (inl (omega arith)))
 
 back-kept : (b c : List ℕ) (lo hi end : ℕ) → KeepsBack b c lo → lo ≤ hi → IsShifted b c 0 0 hi end
 back-kept b c lo hi end back le j q e g l = let is : j ≡ q = omega arith in ap (λ x. get_or c x 0) is ∙ back q (omega arith)
@@ -22,26 +27,37 @@ back-kept b c lo hi end back le j q e g l = let is : j ≡ q = omega arith in ap
 back-entries : (b c : List ℕ) (link at end i : ℕ) (ps : List Piece) → (o : IsOpen b link at end) → KeepsFront b c link at → entries c ≡ entries b → (HasChunk i o.behind → HasChunk i ps) → i < entries c → IsOffset (entry c i) →
     HasChunk i o.before ⊎ (HasChunk i o.ahead ⊎ HasChunk i ps)
 back-entries b c link at end i ps o keep n to h t =
-    let l : i < entries b = omega (arith, n) in let d = kept-entry b c link at end i o keep l in
+    let l : i < entries b = omega (arith, n) in
+    let d = kept-entry b c link at end i o keep l in
     let u : IsOffset (entry b i) = ((λ z. t.0 (d ∙ z)), (λ z. t.1 (d ∙ z))) in
     elim (o.all i l u) [ inl x ↦ inl x | inr x ↦ elim x [ inl y ↦ inr (inl y) | inr y ↦ inr (inr (to y)) ] ]
 
 -- the chunks behind the free chunk behind a hole
 free-lies : (b : List ℕ) (link at end j : ℕ) → (s : IsBeside b link at end) → (f : FreeBehind b link at end s.is) → HasChunk j s.is.behind → LiesWithin b (entry b j) (end + f.size) (length b)
 free-lies b link at end j s f h =
-    let H : List Piece → Type 0 = λ ps. HasChunk j ps in let x : HasChunk j f.rest = subst H f.is h in
+    let H : List Piece → Type 0 = λ ps. HasChunk j ps in
+    let x : HasChunk j f.rest = subst H f.is h in
     lies b (end + f.size) (word b (end + 2)) f.rest (length b) 0 j f.here.5 x
 
 -- the whole free chunk behind a hole
 pub took-whole : (b c : List ℕ) (link at end : ℕ) → IsBeside b link at end → word b link ≡ end → length c ≡ length b → KeepsFront b c link end → KeepsBack b c end →
     word c link ≡ word b (end + 2) → total_free c + word b end ≡ total_free b → Widens b c link at end (end + word b end) × (word c link ≢ end + word b end)
 took-whole b c link at end s is same all_keep back says total =
-    let o = s.is in let p = open-place b link at end o in let low = p.low in let table = p.table in let order = o.order in let link_high = p.link_high in
+    let o = s.is in
+    let p = open-place b link at end o in
+    let low = p.low in
+    let table = p.table in
+    let order = o.order in
+    let link_high = p.link_high in
     let keep : KeepsFront b c link at = (λ q h u v. all_keep q (omega arith) u v) in
     let inner : IsShifted b c 0 0 at end = (λ j q e g l. let q_is : j ≡ q = omega arith in ap (λ x. get_or c x 0) q_is ∙ all_keep q l (inr (omega arith)) (inr (omega arith))) in
-    let f = free-behind b link at end s is in let m = f.size in let size : word b end ≡ m = f.here.3 in
+    let f = free-behind b link at end s is in
+    let m = f.size in
+    let size : word b end ≡ m = f.here.3 in
     let n : entries c ≡ entries b = head-word b c 12 10 (front-head b c link at end o keep) (omega arith) in
-    let k = link-place b link o.upto o.before o.linked in let start = k.start in let le = tiles-le b o.upto (word b link) o.ahead at o.next o.tiles_ahead in
+    let k = link-place b link o.upto o.before o.linked in
+    let start = k.start in
+    let le = tiles-le b o.upto (word b link) o.ahead at o.next o.tiles_ahead in
     let some = f.here.0 in
     let apart : word c link ≢ o.upto = (λ e. absurd (elim (first-behind b (end + m) (word b (end + 2)) f.rest (length b) f.here.5) [ inl z ↦ omega (arith, e, z, says) | inr h ↦ omega (arith, e, h, says) ])) in
     let rest : Tiles c (end + m) (word b (end + 2)) f.rest (length b) 0 =
@@ -68,13 +84,23 @@ took-whole b c link at end s is same all_keep back says total =
 pub took-front : (b c : List ℕ) (link at end size : ℕ) → IsBeside b link at end → word b link ≡ end → 0 < size → size % 4 ≡ 0 → size < word b end → length c ≡ length b → KeepsFront b c link end → KeepsBack b c (end + size + 4) →
     word c link ≡ end + size → word c (end + size) ≡ word b end - size → word c (end + size + 2) ≡ word b (end + 2) → total_free c + size ≡ total_free b → Widens b c link at end (end + size)
 took-front b c link at end size s is pos fours less same all_keep back says left next total =
-    let o = s.is in let p = open-place b link at end o in let low = p.low in let table = p.table in let order = o.order in let link_high = p.link_high in
+    let o = s.is in
+    let p = open-place b link at end o in
+    let low = p.low in
+    let table = p.table in
+    let order = o.order in
+    let link_high = p.link_high in
     let keep : KeepsFront b c link at = (λ q h u v. all_keep q (omega arith) u v) in
     let inner : IsShifted b c 0 0 at end = (λ j q e g l. let q_is : j ≡ q = omega arith in ap (λ x. get_or c x 0) q_is ∙ all_keep q l (inr (omega arith)) (inr (omega arith))) in
-    let f = free-behind b link at end s is in let m = f.size in let whole : word b end ≡ m = f.here.3 in
+    let f = free-behind b link at end s is in
+    let m = f.size in
+    let whole : word b end ≡ m = f.here.3 in
     let n : entries c ≡ entries b = head-word b c 12 10 (front-head b c link at end o keep) (omega arith) in
-    let k = link-place b link o.upto o.before o.linked in let start = k.start in let le = tiles-le b o.upto (word b link) o.ahead at o.next o.tiles_ahead in
-    let some = f.here.0 in let four = f.here.1 in
+    let k = link-place b link o.upto o.before o.linked in
+    let start = k.start in
+    let le = tiles-le b o.upto (word b link) o.ahead at o.next o.tiles_ahead in
+    let some = f.here.0 in
+    let four = f.here.1 in
     let room : end + size + 4 ≤ end + m = omega (arith, less, whole, fours, four) in
     let apart : word c link ≢ o.upto = (λ e. absurd (omega (arith, e, says))) in
     let rear = back-kept b c (end + size + 4) (end + m) (length b) back room in
@@ -101,7 +127,12 @@ took-front b c link at end size s is pos fours less same all_keep back says left
 pub linked-in : (b c : List ℕ) (link at end : ℕ) → IsBeside b link at end → at < end → end % 4 ≡ 0 → word b link ≢ end → (table_end b + 2 ≤ link → link - 2 + word b (link - 2) ≢ at) →
     length c ≡ length b → KeepsFront b c link at → KeepsBack b c end → word c link ≡ at → word c at ≡ end - at → word c (at + 2) ≡ word b link → total_free c ≡ total_free b + (end - at) → GivesBack b c
 linked-in b c link at end s less fours apart alone same keep back says size next total =
-    let o = s.is in let p = open-place b link at end o in let low = p.low in let table = p.table in let order = o.order in let at_fours = o.fours in
+    let o = s.is in
+    let p = open-place b link at end o in
+    let low = p.low in
+    let table = p.table in
+    let order = o.order in
+    let at_fours = o.fours in
     let n : entries c ≡ entries b = head-word b c 12 10 (front-head b c link at end o keep) (omega arith) in
     let is : word b link ≡ o.next = used-next b o.upto (word b link) o.ahead at o.next s.used o.tiles_ahead in
     let away : table_end b + 2 ≤ link → word c link ≢ o.upto = (λ far e. elim o.linked [
@@ -130,7 +161,10 @@ pub merged-before : (b c : List ℕ) (link at end : ℕ) → IsBeside b link at 
 merged-before b c link at end s less fours apart far touch same keep back size total = elim s.is.linked [
   | inl k ↦ (let first = k.is in absurd (omega (arith, first, far)))
   | inr k ↦ (let o = s.is in let p = open-place b link at end o in let low = p.low in let table = p.table in let order = o.order in let at_fours = o.fours in let high = p.link_high in
-      let whole = k.says in let ends = k.ends in let some = k.some in let four = k.fours in
+      let whole = k.says in
+      let ends = k.ends in
+      let some = k.some in
+      let four = k.fours in
       let upto : o.upto ≡ at = omega (arith, ends, whole, touch) in
       let head : SameHead b c 12 = (λ q h. keep q (omega arith) (inl (omega arith)) (inl (omega arith))) in
       let n : entries c ≡ entries b = head-word b c 12 10 head (omega arith) in

@@ -21,8 +21,14 @@ pub record Leaves (b : List ℕ) (i e : ℕ) : Type 0 where
 
 pub leaves : (b : List ℕ) (i e : ℕ) → IsHeap b → i < entries b → IsOffset (entry b i) → e ≡ entry b i → Leaves b i e
 leaves b i e heap h t is =
-    let l = told b i heap h t in let from = l.from in let says = l.says in let upto = l.upto in let some_entries = heap.0.some in
-    let n : l.n ≡ chunk_length b i = omega (arith, says) in let cost_n : cost l.n ≡ cost (chunk_length b i) = ap cost n in let wide = cost-least l.n l.some in
+    let l = told b i heap h t in
+    let from = l.from in
+    let says = l.says in
+    let upto = l.upto in
+    let some_entries = heap.0.some in
+    let n : l.n ≡ chunk_length b i = omega (arith, says) in
+    let cost_n : cost l.n ≡ cost (chunk_length b i) = ap cost n in
+    let wide = cost-least l.n l.some in
     let read : word b (e - 2) ≡ word b (entry b i - 2) = ap (λ x. word b (x - 2)) is in
     record {
       low = omega (arith, from, is);

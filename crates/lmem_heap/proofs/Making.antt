@@ -25,7 +25,8 @@ SameBut old new i from to = (k : ℕ) → (k < 16 + 2 * i) ⊎ (18 + 2 * i ≤ k
 pub edit-made : (b d d1 c : List ℕ) (i to : ℕ) → i < entries b → table_end b + 2 ≤ entry b i → entry b i - 2 ≤ to → entry b i ≤ chunk_end b i → chunk_end b i ≤ chunks_end b →
     MovesRun b d (chunk_end b i) (chunks_end b) to → length d1 ≡ length d → SameBut d d1 i (entry b i - 2) to → SetsTail d1 c (to + (chunks_end b - chunk_end b i)) → EditsChunk b c i to
 edit-made b d d1 c i to h low ahead wide high m long same t =
-    let end = chunk_end b i in let at = chunks_end b in
+    let end = chunk_end b i in
+    let at = chunks_end b in
     record {
       long = t.long ∙ long ∙ m.long;
       head = (λ k g. t.same k (omega arith) (inl g) ∙ same k (inl (omega arith)) (inl (omega arith)) ∙ m.head k (omega arith));
@@ -52,11 +53,19 @@ pub resize-made : (b d d2 c : List ℕ) (i begin n : ℕ) → i < entries b → 
     MovesRun b d (chunk_end b i) (chunks_end b) (begin + cost n) → d2 ≡ with_part (with_word d begin (n + 2)) (begin + 2 + chunk_length b i) (replicate (n - chunk_length b i) 0) →
     SetsTail d2 c (begin + cost n + (chunks_end b - chunk_end b i)) → EditsChunk b c i (begin + cost n) × HasResized b c i n
 resize-made b d d2 c i begin n h low is some some_old whole high fits fits' most m made t =
-    let e = entry b i in let len = chunk_length b i in let end = chunk_end b i in let at = chunks_end b in let to = begin + cost n in
-    let wide = cost-least n some in let wide_old = cost-least len some_old in let long_d = m.long in
+    let e = entry b i in
+    let len = chunk_length b i in
+    let end = chunk_end b i in
+    let at = chunks_end b in
+    let to = begin + cost n in
+    let wide = cost-least n some in
+    let wide_old = cost-least len some_old in
+    let long_d = m.long in
     let back : e - 2 ≡ begin = omega arith in
-    let d1 = with_word d begin (n + 2) in let n1 = length-with_word d begin (n + 2) in
-    let zs : List ℕ = replicate (n - len) 0 in let nz = length-replicate {A = ℕ} (n - len) 0 in
+    let d1 = with_word d begin (n + 2) in
+    let n1 = length-with_word d begin (n + 2) in
+    let zs : List ℕ = replicate (n - len) 0 in
+    let nz = length-replicate {A = ℕ} (n - len) 0 in
     let long : length d2 ≡ length d = ap length made ∙ length-with_part d1 (begin + 2 + len) zs ∙ n1 in
     let byte : (k : ℕ) → (k < begin) ⊎ (begin + 2 ≤ k) → (k < begin + 2 + len) ⊎ (begin + 2 + len + (n - len) ≤ k) → get_or d2 k 0 ≡ get_or d k 0 = (λ k out far.
     ap (λ x. get_or x k 0) made ∙ zeros-byte d1 (begin + 2 + len) len n k far ∙ byte-other d begin (n + 2) k out) in
@@ -91,8 +100,12 @@ resize-made b d d2 c i begin n h low is some some_old whole high fits fits' most
 pub put-made : (b b1 b2 b3 c : List ℕ) (i n at : ℕ) → table_end b ≤ at → i < entries b → 0 < n → at + cost n ≤ length b → length b ≤ 65520 → at ≡ chunks_end b →
     b1 ≡ with_word b (16 + 2 * i) (at + 2) → b2 ≡ with_word b1 at (n + 2) → b3 ≡ with_part b2 (at + 2) (replicate n 0) → SetsTail b3 c (at + cost n) → PutsChunk b c i n
 put-made b b1 b2 b3 c i n at low h some fits most is e1 e2 e3 t =
-    let wide = cost-least n some in let zs : List ℕ = replicate n 0 in let nz = length-replicate {A = ℕ} n 0 in
-    let n1 : length b1 ≡ length b = ap length e1 ∙ length-with_word b (16 + 2 * i) (at + 2) in let n2 : length b2 ≡ length b1 = ap length e2 ∙ length-with_word b1 at (n + 2) in let n3 : length b3 ≡ length b2 = ap length e3 ∙ length-with_part b2 (at + 2) zs in
+    let wide = cost-least n some in
+    let zs : List ℕ = replicate n 0 in
+    let nz = length-replicate {A = ℕ} n 0 in
+    let n1 : length b1 ≡ length b = ap length e1 ∙ length-with_word b (16 + 2 * i) (at + 2) in
+    let n2 : length b2 ≡ length b1 = ap length e2 ∙ length-with_word b1 at (n + 2) in
+    let n3 : length b3 ≡ length b2 = ap length e3 ∙ length-with_part b2 (at + 2) zs in
     let byte : (k : ℕ) → k < at → (k < 16 + 2 * i) ⊎ (18 + 2 * i ≤ k) → get_or b3 k 0 ≡ get_or b k 0 = (λ k l out. ap (λ x. get_or x k 0) e3 ∙ get_or-with_part_before b2 (at + 2) zs k (omega arith) ∙ ap (λ x. get_or x k 0) e2 ∙ byte-other b1 at (n + 2) k (inl l)
     ∙ ap (λ x. get_or x k 0) e1 ∙ byte-other b (16 + 2 * i) (at + 2) k (elim out [ inl a ↦ inl a | inr a ↦ inr (omega arith) ])) in
     let words : (j : ℕ) → 16 ≤ j → j + 2 ≤ at + cost n → word c j ≡ word b3 j = (λ j g r. word-bytes b3 c j j (t.same j (omega arith) (inr g)) (t.same (j + 1) (omega arith) (inr (omega arith)))) in
@@ -119,7 +132,10 @@ put-made b b1 b2 b3 c i n at low h some fits most is e1 e2 e3 t =
 pub grow-made : (b d d1 d2 d3 c : List ℕ) (n end at : ℕ) → n ≡ entries b → end ≡ table_end b → at ≡ chunks_end b → end ≤ at → at + 4 ≤ length b → length b ≤ 65520 → MovesRun b d end at (end + 4) →
     d1 ≡ with_word d end 0 → d2 ≡ with_word d1 (end + 2) 0 → d3 ≡ with_word d2 10 (n + 2) → SetsTail d3 c (at + 4) → GrowsTable b c
 grow-made b d d1 d2 d3 c n end at n_is end_is at_is low fits most m e1 e2 e3 t =
-    let n0 = m.long in let n1 : length d1 ≡ length d = ap length e1 ∙ length-with_word d end 0 in let n2 : length d2 ≡ length d1 = ap length e2 ∙ length-with_word d1 (end + 2) 0 in let n3 : length d3 ≡ length d2 = ap length e3 ∙ length-with_word d2 10 (n + 2) in
+    let n0 = m.long in
+    let n1 : length d1 ≡ length d = ap length e1 ∙ length-with_word d end 0 in
+    let n2 : length d2 ≡ length d1 = ap length e2 ∙ length-with_word d1 (end + 2) 0 in
+    let n3 : length d3 ≡ length d2 = ap length e3 ∙ length-with_word d2 10 (n + 2) in
     let byte : (k : ℕ) → (k < 10) ⊎ (((12 ≤ k) × (k < end)) ⊎ (end + 4 ≤ k)) → get_or d3 k 0 ≡ get_or d k 0 = (λ k out. ap (λ x. get_or x k 0) e3 ∙ byte-other d2 10 (n + 2) k (elim out [ inl a ↦ inl a | inr a ↦ inr (elim a [ inl z ↦ omega arith | inr z ↦ omega arith ]) ])
     ∙ ap (λ x. get_or x k 0) e2 ∙ byte-other d1 (end + 2) 0 k (elim out [ inl a ↦ inl (omega arith) | inr a ↦ elim a [ inl z ↦ inl (omega arith) | inr z ↦ inr (omega arith) ] ])
     ∙ ap (λ x. get_or x k 0) e1 ∙ byte-other d end 0 k (elim out [ inl a ↦ inl (omega arith) | inr a ↦ elim a [ inl z ↦ inl (omega arith) | inr z ↦ inr (omega arith) ] ])) in
@@ -146,7 +162,14 @@ pub resized-in-place : (b d d1 d2 c : List ℕ) (i at n : ℕ) (x : Extent) → 
     MovesRun b d x.end at (x.begin + cost n) → d1 ≡ with_word d x.begin (n + 2) → d2 ≡ with_part d1 (x.begin + 2 + x.len) (replicate (n - x.len) 0) → SetsTail d2 c (x.begin + cost n + (at - x.end)) →
     EditsChunk b c i (entry b i - 2 + cost n) × HasResized b c i n
 resized-in-place b d d1 d2 c i at n x p h k at_is some fits m is1 is2 t =
-    let bs = bounds b p in let low = k.low in let high = k.high in let wide = k.wide in let e = k.entry in let end_is = k.end in let len_is = k.len in let room = bs.room in
+    let bs = bounds b p in
+    let low = k.low in
+    let high = k.high in
+    let wide = k.wide in
+    let e = k.entry in
+    let end_is = k.end in
+    let len_is = k.len in
+    let room = bs.room in
     let begin_is : x.begin ≡ entry b i - 2 = omega arith in
     let same_cost : cost x.len ≡ cost (chunk_length b i) = ap cost len_is in
     let MovesBehind : ℕ → Type 0 = λ y. MovesRun b d y at (x.begin + cost n) in

@@ -50,7 +50,10 @@ pub record Aside (b : List ℕ) (at end i : ℕ) : Type 0 where
 
 pub aside : (b : List ℕ) (link at end i : ℕ) → (o : IsOpen b link at end) → i < entries b → IsOffset (entry b i) → Aside b at end i
 aside b link at end i o h t =
-    let p = open-place b link at end o in let high = p.high in let low = p.low in let order = o.order in
+    let p = open-place b link at end o in
+    let high = p.high in
+    let low = p.low in
+    let order = o.order in
     elim (side b link at end i o h t) [
       | Before r ↦ (let some = r.some in let size = r.size in let from = r.low in let n : r.n ≡ chunk_length b i = omega (arith, size) in let c = ap cost n in
           let le = tiles-le b (entry b i - 2 + cost r.n) r.g r.post at o.next r.behind in
@@ -69,9 +72,21 @@ pub record Redirects (b c : List ℕ) (i : ℕ) (bytes : List ℕ) : Type 0 wher
 pub redirects : (b c : List ℕ) (link at end i n : ℕ) (bytes : List ℕ) → (o : IsOpen b link at end) → i < entries b → IsOffset (entry b i) → 0 < n → at + cost n ≡ end → length c ≡ length b →
     ((k : ℕ) → k < at → Apart k (16 + 2 * i) → get_or c k 0 ≡ get_or b k 0) → KeepsBack b c end → entry c i ≡ at + 2 → word c at ≡ n + 2 → part c (at + 2) n ≡ bytes → Redirects b c i bytes
 redirects b c link at end i n bytes o h t some whole long keep back here says content =
-    let p = open-place b link at end o in let low = p.low in let table = p.table in let out = p.link_out in let link_high = p.link_high in let high = p.high in let most = p.most in let link_low = p.link_low in
-    let e = entry b i in let four = cost-four n some in let order = o.order in let some_b = o.header.some in
-    let k = link-place b link o.upto o.before o.linked in let within = k.within in let start = k.start in
+    let p = open-place b link at end o in
+    let low = p.low in
+    let table = p.table in
+    let out = p.link_out in
+    let link_high = p.link_high in
+    let high = p.high in
+    let most = p.most in
+    let link_low = p.link_low in
+    let e = entry b i in
+    let four = cost-four n some in
+    let order = o.order in
+    let some_b = o.header.some in
+    let k = link-place b link o.upto o.before o.linked in
+    let within = k.within in
+    let start = k.start in
     let head : SameHead b c 12 = (λ q l. keep q (omega arith) (inl (omega arith))) in
     let m : entries c ≡ entries b = head-word b c 12 10 head (omega arith) in
     let each : (j : ℕ) → j < entries b → j ≢ i → entry c j ≡ entry b j = (λ j l ne. elim (cases_lt j i) [
@@ -94,12 +109,15 @@ redirects b c link at end i n bytes o h t some whole long keep back here says co
     elim (o.all j lb ((λ z. u.0 (d ∙ z)), (λ z. u.1 (d ∙ z)))) [ inl x ↦ inl (has-left j o.before o.ahead x) | inr x ↦ elim x [ inl y ↦ inl (has-right j o.before o.ahead y) | inr y ↦ inr y ] ]) in
     let start_fours : table_end b % 4 ≡ 0 = (let pairs = o.header.pairs in omega (arith, pairs)) in
     let mine_room : at + cost n ≡ end = whole in
-    let sum = o.total in let app = free_bytes-append o.before o.ahead in
-    let P = o.before ++ o.ahead in let whole_front = front b link at end o in
+    let sum = o.total in
+    let app = free_bytes-append o.before o.ahead in
+    let P = o.before ++ o.ahead in
+    let whole_front = front b link at end o in
     let handle = head-word b c 12 0 head (omega arith) in
     elim (side b link at end i o h t) [
       | Before r ↦ (let low_e = r.low in let some_e = r.some in let size_e = r.size in let wide = cost-four r.n some_e in
-          let n_is : r.n ≡ chunk_length b i = omega (arith, size_e) in let end_is : e - 2 + cost r.n ≡ chunk_end b i = ap (λ x. e - 2 + cost x) n_is in
+          let n_is : r.n ≡ chunk_length b i = omega (arith, size_e) in
+          let end_is : e - 2 + cost r.n ≡ chunk_end b i = ap (λ x. e - 2 + cost x) n_is in
           let le = tiles-le b (e - 2 + cost r.n) r.g r.post at o.next r.behind in
           let pre : Tiles c (table_end b) (first_free b) r.pre (e - 2) r.g = tiles-kept b c (table_end b) (first_free b) r.pre (e - 2) r.g r.before (far (table_end b) (e - 2) (omega arith) (omega arith)) (omega (arith, m)) (λ j l a z. each j l (apart j (λ q. absurd (omega arith)))) in
           let post : Tiles c (e - 2 + cost r.n) r.g r.post at o.next = tiles-kept b c (e - 2 + cost r.n) r.g r.post at o.next r.behind (far (e - 2 + cost r.n) at (omega arith) (omega arith)) (omega (arith, m)) (λ j l a z. each j l (apart j (λ q. absurd (omega arith)))) in
@@ -108,7 +126,8 @@ redirects b c link at end i n bytes o h t some whole long keep back here says co
           let mine : Tiles c at o.next (Used i n ∷ o.behind) (length b) 0 = (some, omega (arith, m), here, says, subst E (sym whole) behind) in
           let rest = tiles-join c (e - 2 + cost r.n) r.g r.post (Used i n ∷ o.behind) at o.next (length b) 0 post mine in
           let F : ℕ → Type 0 = λ x. Tiles c (table_end b) x r.pre (e - 2) r.g in
-          let X : ℕ → Type 0 = λ x. Tiles c x r.g (r.post ++ (Used i n ∷ o.behind)) (length b) 0 in let L : ℕ → Type 0 = λ x. Tiles c (chunk_end b i) r.g (r.post ++ (Used i n ∷ o.behind)) x 0 in
+          let X : ℕ → Type 0 = λ x. Tiles c x r.g (r.post ++ (Used i n ∷ o.behind)) (length b) 0 in
+          let L : ℕ → Type 0 = λ x. Tiles c (chunk_end b i) r.g (r.post ++ (Used i n ∷ o.behind)) x 0 in
           record {
             is = record {
               header = same-header b c o.header long head;
@@ -138,7 +157,8 @@ redirects b c link at end i n bytes o h t some whole long keep back here says co
             handle = handle;
           })
       | Behind r ↦ (let low_e = r.low in let some_e = r.some in let size_e = r.size in let wide = cost-four r.n some_e in
-          let n_is : r.n ≡ chunk_length b i = omega (arith, size_e) in let end_is : e - 2 + cost r.n ≡ chunk_end b i = ap (λ x. e - 2 + cost x) n_is in
+          let n_is : r.n ≡ chunk_length b i = omega (arith, size_e) in
+          let end_is : e - 2 + cost r.n ≡ chunk_end b i = ap (λ x. e - 2 + cost x) n_is in
           let le = tiles-le b (e - 2 + cost r.n) r.g r.post (length b) 0 r.behind in
           let pre : Tiles c end o.next r.pre (e - 2) r.g = tiles-kept b c end o.next r.pre (e - 2) r.g r.before (rear end (e - 2) (omega arith)) (omega (arith, m)) (λ j l a z. each j l (apart j (λ q. absurd (omega arith)))) in
           let post : Tiles c (e - 2 + cost r.n) r.g r.post (length b) 0 = tiles-kept b c (e - 2 + cost r.n) r.g r.post (length b) 0 r.behind (rear (e - 2 + cost r.n) (length b) (omega arith)) (omega (arith, m)) (λ j l a z. each j l (apart j (λ q. absurd (omega arith)))) in
@@ -147,7 +167,8 @@ redirects b c link at end i n bytes o h t some whole long keep back here says co
           let mine : Tiles c at o.next (Used i n ∷ r.pre) (e - 2) r.g = (some, omega (arith, m), here, says, subst E (sym whole) pre) in
           let ahead = tiles-join c (table_end b) (first_free b) P (Used i n ∷ r.pre) at o.next (e - 2) r.g pieces mine in
           let F : ℕ → Type 0 = λ x. Tiles c (table_end b) x (P ++ (Used i n ∷ r.pre)) (e - 2) r.g in
-          let X : ℕ → Type 0 = λ x. Tiles c x r.g r.post (length b) 0 in let L : ℕ → Type 0 = λ x. Tiles c (chunk_end b i) r.g r.post x 0 in
+          let X : ℕ → Type 0 = λ x. Tiles c x r.g r.post (length b) 0 in
+          let L : ℕ → Type 0 = λ x. Tiles c (chunk_end b i) r.g r.post x 0 in
           record {
             is = record {
               header = same-header b c o.header long head;
@@ -184,10 +205,26 @@ pub moved-in-hole : (b d1 d2 d3 c : List ℕ) (link at end i keep n : ℕ) → (
     d1 ≡ with_word b (16 + 2 * i) (at + 2) → d2 ≡ with_word d1 at (n + 2) → d3 ≡ with_part d2 (at + 2) (part d2 (entry b i) keep) → c ≡ with_part d3 (at + 2 + keep) (replicate (n - keep) 0) →
     Redirects b c i (resized (part b (entry b i) (chunk_length b i)) n)
 moved-in-hole b d1 d2 d3 c link at end i keep n o h t some whole keep_n keep_len exact e1 e2 e3 e4 =
-    let p = open-place b link at end o in let high = p.high in let most = p.most in let low = p.low in let table = p.table in let wide = cost-least n some in
-    let a = aside b link at end i o h t in let len = chunk_length b i in let e = entry b i in let low_e = a.low in let high_e = a.high in let some_e = a.some in let wide_e = cost-least len some_e in
-    let zs : List ℕ = replicate (n - keep) 0 in let nz = length-replicate {A = ℕ} (n - keep) 0 in let moved = part d2 e keep in
-    let n1 = long b d1 (16 + 2 * i) (at + 2) e1 in let n2 = long d1 d2 at (n + 2) e2 in let n3 : length d3 ≡ length d2 = ap length e3 ∙ length-with_part d2 (at + 2) moved in let n4 : length c ≡ length d3 = ap length e4 ∙ length-with_part d3 (at + 2 + keep) zs in
+    let p = open-place b link at end o in
+    let high = p.high in
+    let most = p.most in
+    let low = p.low in
+    let table = p.table in
+    let wide = cost-least n some in
+    let a = aside b link at end i o h t in
+    let len = chunk_length b i in
+    let e = entry b i in
+    let low_e = a.low in
+    let high_e = a.high in
+    let some_e = a.some in
+    let wide_e = cost-least len some_e in
+    let zs : List ℕ = replicate (n - keep) 0 in
+    let nz = length-replicate {A = ℕ} (n - keep) 0 in
+    let moved = part d2 e keep in
+    let n1 = long b d1 (16 + 2 * i) (at + 2) e1 in
+    let n2 = long d1 d2 at (n + 2) e2 in
+    let n3 : length d3 ≡ length d2 = ap length e3 ∙ length-with_part d2 (at + 2) moved in
+    let n4 : length c ≡ length d3 = ap length e4 ∙ length-with_part d3 (at + 2 + keep) zs in
     let nm : length moved ≡ keep = omega (arith, length-take keep (drop e d2), length-drop e d2, n1, n2) in
     let byte4 : (k : ℕ) → (k < at + 2 + keep) ⊎ (at + 2 + n ≤ k) → get_or c k 0 ≡ get_or d3 k 0 = (λ k out. ap (λ x. get_or x k 0) e4 ∙ elim out [
       | inl l ↦ get_or-with_part_before d3 (at + 2 + keep) zs k l

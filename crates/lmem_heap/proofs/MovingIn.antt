@@ -24,9 +24,15 @@ pub record MovesIn (b : List ℕ) (at i n e : ℕ) : Type 0 where
 
 pub moves-in : (b : List ℕ) (link at end i n e : ℕ) → IsOpen b link at end → i < entries b → IsOffset (entry b i) → 0 < n → at + cost n ≡ end → e ≡ entry b i → MovesIn b at i n e
 moves-in b link at end i n e o h t some fits is =
-    let p = open-place b link at end o in let high = p.high in let table = p.table in
-    let a = aside b link at end i o h t in let low = a.low in let ends = a.high in let size = a.size in
-    let wide_e = cost-least (chunk_length b i) a.some in let wide = cost-least n some in
+    let p = open-place b link at end o in
+    let high = p.high in
+    let table = p.table in
+    let a = aside b link at end i o h t in
+    let low = a.low in
+    let ends = a.high in
+    let size = a.size in
+    let wide_e = cost-least (chunk_length b i) a.some in
+    let wide = cost-least n some in
     record {
       low = omega (arith, table, low, is);
       says = ap (λ x. word b (x - 2)) is ∙ size;

@@ -21,7 +21,8 @@ pub record OpensAt (b : List ℕ) (f : ℕ) : Type 0 where
 
 pub first-gap : (b : List ℕ) (f : ℕ) → IsHeap b → (IsCompact b → ⊥) → f ≡ first_free b → OpensAt b f
 first-gap b f heap open_still is =
-    let some : f ≢ 0 = (λ e. open_still (inl (sym is ∙ e))) in let r = first-room b f heap is some in
+    let some : f ≢ 0 = (λ e. open_still (inl (sym is ∙ e))) in
+    let r = first-room b f heap is some in
     record { some = some; four = r.1; within = r.2; inner = (λ e. open_still (inr (ap (λ x. x + word b x) (sym is) ∙ e))) }
 
 -- where no free chunk is behind it
@@ -81,7 +82,10 @@ gap-inner b f g heap is ne next some =
         | inr x ↦ inr (has-split i q.pre (Free q.s ∷ q.rest) (subst H q.is x))
       ]);
       total = (let e = ap free_bytes r.is ∙ free_bytes-append r.pre (Free r.s ∷ r.rest) in let d = ap free_bytes q.is ∙ free_bytes-append q.pre (Free q.s ∷ q.rest) in
-          let u = used-free r.pre r.used in let v = used-free q.pre q.used in let w = fill.total in omega (arith, e, d, u, v, w));
+          let u = used-free r.pre r.used in
+          let v = used-free q.pre q.used in
+          let w = fill.total in
+          omega (arith, e, d, u, v, w));
       places = (omega arith, mid, high);
     } in
     let GapBehind : ℕ → Type 0 = λ x. HasGap b (gap_of f x g q.s (word b (g + 2))) in

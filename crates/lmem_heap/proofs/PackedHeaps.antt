@@ -32,7 +32,8 @@ packed-full b heap none =
 
 packed-tail : (b : List ℕ) → IsHeap b → first_free b ≢ 0 → first_free b + word b (first_free b) ≡ length b → IsPacked b
 packed-tail b heap ne last =
-    let fill = heap.1.1 in let f = first_free b in
+    let fill = heap.1.1 in
+    let f = first_free b in
     let r = first-piece b (table_end b) f heap.1.0 (length b) fill.tiles ne in
     let size : word b f ≡ r.s = r.here.3 in
     let rest : r.rest ≡ [] = nothing-left b (f + r.s) (word b (f + 2)) r.rest (length b) 0 (omega (arith, last, size)) r.here.5 in
@@ -68,7 +69,8 @@ packed-heap b p = elim (cases_eq (total_free b) 0) [
       let u = used-free p.pre p.used in
       (p.header, (p.pre, record { tiles = subst P (sym first) (subst Q at p.tiles); all = p.all; total = z ∙ sym u })))
   | inr nz ↦ (let room = p.room in let some = p.ends.some (omega arith) in let fours = p.fours in
-      let s = total_free b in let f = first_free b in
+      let s = total_free b in
+      let f = first_free b in
       let low = tiles-le b (table_end b) 0 p.pre p.at 0 p.tiles in
       let here : Tiles b p.at p.at (Free s ∷ []) (length b) 0 = (omega arith, fours, refl, some.1, (λ e. absurd (let n = some.2 in omega (arith, e, n))), (room, some.2)) in
       let whole : Tiles b (table_end b) p.at (p.pre ++ (Free s ∷ [])) (length b) 0 =
@@ -97,7 +99,9 @@ pub record Bounds (b : List ℕ) : Type 0 where
 
 pub bounds : (b : List ℕ) → IsPacked b → Bounds b
 bounds b p =
-    let low = tiles-le b (table_end b) 0 p.pre p.at 0 p.tiles in let room = p.room in let some = p.header.some in
+    let low = tiles-le b (table_end b) 0 p.pre p.at 0 p.tiles in
+    let room = p.room in
+    let some = p.header.some in
     record { low = omega arith; room = omega arith; most = p.header.most; least = p.header.least; fours = p.fours; table = omega arith }
 
 -- packing leaves as many bytes free
@@ -107,7 +111,8 @@ packed-room b d heap p same long = let e = ap used_bytes same in omega (arith, e
 -- nor does it change which entries are in use
 pub free-same : (b d : List ℕ) (i : ℕ) → chunks d ≡ chunks b → i < entries b → entry b i ≡ 0 → (i < entries d) × (entry d i ≡ 0)
 free-same b d i same h none =
-    let n = entries-same b d same in let l : i < entries d = omega (arith, n) in (
+    let n = entries-same b d same in
+    let l : i < entries d = omega (arith, n) in (
       l,
       (elim (cases_eq (entry d i) 0) [
         | inl e ↦ e

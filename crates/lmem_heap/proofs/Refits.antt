@@ -28,7 +28,8 @@ set-same (y ∷ xs) (suc i) x d h e = ap (λ zs. y ∷ zs) (set-same xs i x d (o
 -- an entry whose chunk went is not in use
 pub freed : (b d : List ℕ) (i : ℕ) → i < entries b → chunks d ≡ set (chunks b) i None → (i < entries d) × (entry d i ≡ 0)
 freed b d i h is =
-    let n : entries d ≡ entries b = sym (count-chunks d) ∙ ap length is ∙ length-set (chunks b) i None ∙ count-chunks b in let count = count-chunks b in
+    let n : entries d ≡ entries b = sym (count-chunks d) ∙ ap length is ∙ length-set (chunks b) i None ∙ count-chunks b in
+    let count = count-chunks b in
     let l : i < entries d = omega (arith, n) in (
       l,
       (elim (cases_eq (entry d i) 0) [
@@ -53,20 +54,32 @@ pub record Says (b : List ℕ) (i : ℕ) : Type 0 where
 
 pub says : (b : List ℕ) (i : ℕ) → IsHeap b → i < entries b → IsOffset (entry b i) → Says b i
 says b i heap h t =
-    let y = told b i heap h t in let some = y.some in let from = y.from in let is = y.says in let upto = y.upto in let wide = cost-least y.n some in
+    let y = told b i heap h t in
+    let some = y.some in
+    let from = y.from in
+    let is = y.says in
+    let upto = y.upto in
+    let wide = cost-least y.n some in
     record { some = omega (arith, is, some); size = omega (arith, is); low = omega (arith, from); inside = omega (arith, is, upto, wide) }
 
 pub placed-length : (b : List ℕ) (i : ℕ) → IsHeap b → i < entries b → IsOffset (entry b i) → length (entry_bytes (chunks b) i) ≡ chunk_length b i
-placed-length b i heap h t = let y = says b i heap h t in let inside = y.inside in ap length (placed b i h t) ∙ length-part b (entry b i) (chunk_length b i) inside
+placed-length b i heap h t =
+    let y = says b i heap h t in
+    let inside = y.inside in
+    ap length (placed b i h t) ∙ length-part b (entry b i) (chunk_length b i) inside
 
 -- an entry that is an offset is one in a block with the same chunks
 pub offset-same : (b d : List ℕ) (i : ℕ) → IsHeap b → chunks d ≡ chunks b → i < entries b → IsOffset (entry b i) → (i < entries d) × IsOffset (entry d i)
 offset-same b d i heap same h t =
-    let u = in-use-same b d i same h t.0 in let y = says b i heap h t in let some = y.some in (
+    let u = in-use-same b d i same h t.0 in
+    let y = says b i heap h t in
+    let some = y.some in (
       u.0,
       (
         u.1,
         (λ e. let nothing : entry_bytes (chunks d) i ≡ [] = ap (λ x. unwrap_or x []) (chunks-at d i u.0 ∙ chunk-nothing d (entry d i) e) in
-            let long = sym (ap (λ xs. length (entry_bytes xs i)) same) ∙ ap length nothing in let l = placed-length b i heap h t in absurd (omega (arith, long, l, some))),
+            let long = sym (ap (λ xs. length (entry_bytes xs i)) same) ∙ ap length nothing in
+            let l = placed-length b i heap h t in
+            absurd (omega (arith, long, l, some))),
       ),
     )

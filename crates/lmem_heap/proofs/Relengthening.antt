@@ -18,9 +18,17 @@ use Rattle.lmem_heap.proofs.Refits.{says, placed}
 pub relengthened : (b d c : List ℕ) (i len n : ℕ) → IsHeap b → i < entries b → IsOffset (entry b i) → 0 < n → cost n ≡ cost (chunk_length b i) → len ≡ chunk_length b i →
     d ≡ with_word b (entry b i - 2) (n + 2) → c ≡ with_part d (entry b i + len) (replicate (n - len) 0) → ResizesChunk b c i n
 relengthened b d c i len n heap h t some same len_is e2 e3 =
-    let z = with_word b (16 + 2 * i) 0 in let e = entry b i in let at = e - 2 in let end = chunk_end b i in
-    let l = left-hole b z i heap h t refl in let y = says b i heap h t in let low = y.low in let inside = y.inside in
-    let count = l.count in let long = length-with_word b (16 + 2 * i) 0 in let from = l.low in
+    let z = with_word b (16 + 2 * i) 0 in
+    let e = entry b i in
+    let at = e - 2 in
+    let end = chunk_end b i in
+    let l = left-hole b z i heap h t refl in
+    let y = says b i heap h t in
+    let low = y.low in
+    let inside = y.inside in
+    let count = l.count in
+    let long = length-with_word b (16 + 2 * i) 0 in
+    let from = l.low in
     let at_2 : at + 2 ≡ e = omega (arith, low) in
     let W : ℕ → Type 0 = λ x. c ≡ with_part d (x + len) (replicate (n - len) 0) in
     let f = hole-refilled z b d c 12 at end i len n l.is some (omega (arith, same)) (omega (arith, at_2, len_is, inside, long)) (omega (arith, count)) l.here

@@ -51,10 +51,13 @@ pub record Relinks (b c : List ℕ) (link at upto : ℕ) : Type 0 where
 
 pub relinked : (b c : List ℕ) (link at upto : ℕ) (before : List Piece) → IsHeader b → IsLink b link upto before → upto ≤ at → Relinks b c link at upto → IsLink c link upto before
 relinked b c link at upto before header (inl k) le r =
-    let n : entries c ≡ entries b = head-word b c 12 10 r.head (omega arith) in let start = k.start in
+    let n : entries c ≡ entries b = head-word b c 12 10 r.head (omega arith) in
+    let start = k.start in
     inl (record { is = k.is; none = k.none; start = omega (arith, start, n) })
 relinked b c link at upto before header (inr k) le r =
-    let n : entries c ≡ entries b = head-word b c 12 10 r.head (omega arith) in let low = k.low in let ends = k.ends in
+    let n : entries c ≡ entries b = head-word b c 12 10 r.head (omega arith) in
+    let low = k.low in
+    let ends = k.ends in
     let front : Tiles c (table_end b) (first_free b) k.pre (link - 2) (link - 2) =
     tiles-kept b c (table_end b) (first_free b) k.pre (link - 2) (link - 2) k.front r.low (omega (arith, n)) (λ j l a z. r.each j l a (omega (arith, ends))) in
     let start : table_end b ≡ table_end c = ap (λ x. 16 + 2 * x) (sym n) in
@@ -80,7 +83,8 @@ pub reopened : (b c : List ℕ) (link at end end' : ℕ) (behind : List Piece) �
 reopened b c link at end end' behind s r tiles order all total =
     let o = s.is in
     let n : entries c ≡ entries b = head-word b c 12 10 r.head (omega arith) in
-    let k = link-place b link o.upto o.before o.linked in let start = k.start in
+    let k = link-place b link o.upto o.before o.linked in
+    let start = k.start in
     let le = tiles-le b o.upto (word b link) o.ahead at o.next o.tiles_ahead in
     let ahead : Tiles c o.upto (word b link) o.ahead at o.next =
     tiles-kept b c o.upto (word b link) o.ahead at o.next o.tiles_ahead r.mid (omega (arith, n)) (λ j l a z. r.each j l (omega (arith, start)) z) in
@@ -112,14 +116,20 @@ KeepsBack b c lo = (k : ℕ) → lo ≤ k → get_or c k 0 ≡ get_or b k 0
 
 pub kept-entry : (b c : List ℕ) (link at end j : ℕ) → IsOpen b link at end → KeepsFront b c link at → j < entries b → entry c j ≡ entry b j
 kept-entry b c link at end j o keep h =
-    let p = open-place b link at end o in let low = p.low in let out = p.link_out in
+    let p = open-place b link at end o in
+    let low = p.low in
+    let out = p.link_out in
     let byte : (k : ℕ) → 16 ≤ k → k < table_end b → get_or c k 0 ≡ get_or b k 0 = (λ k g l. keep k (omega arith) (elim out [ inl e ↦ inr (omega (arith, e)) | inr f ↦ inl (omega (arith, f)) ]) (inr (omega arith))) in
     word-bytes b c (16 + 2 * j) (16 + 2 * j) (byte (16 + 2 * j) (omega arith) (omega arith)) (byte (16 + 2 * j + 1) (omega arith) (omega arith))
 
 pub relinks : (b c : List ℕ) (link at end : ℕ) → (o : IsOpen b link at end) → length c ≡ length b → KeepsFront b c link at → (table_end b + 2 ≤ link → word c link ≢ o.upto) → Relinks b c link at o.upto
 relinks b c link at end o same keep apart =
-    let p = open-place b link at end o in let low = p.link_low in let high = p.link_high in let start = p.low in
-    let k = link-place b link o.upto o.before o.linked in let within = k.within in
+    let p = open-place b link at end o in
+    let low = p.link_low in
+    let high = p.link_high in
+    let start = p.low in
+    let k = link-place b link o.upto o.before o.linked in
+    let within = k.within in
     record {
       long = same;
       head = (λ q h. keep q (omega arith) (inl (omega arith)) (inl (omega arith)));
@@ -134,19 +144,30 @@ relinks b c link at end o same keep apart =
 -- the parts of the front that stay
 pub front-kept : (b c : List ℕ) (link at end : ℕ) → IsOpen b link at end → KeepsFront b c link at → IsShifted b c 0 0 (table_end b) (link - 2)
 front-kept b c link at end o keep =
-    let p = open-place b link at end o in let high = p.link_high in let table = p.table in
+    let p = open-place b link at end o in
+    let high = p.link_high in
+    let table = p.table in
     (λ j q e g l. let is : j ≡ q = omega arith in ap (λ x. get_or c x 0) is ∙ keep q (omega arith) (inl (omega arith)) (inr (omega arith)))
 
 pub mid-kept : (b c : List ℕ) (link at end : ℕ) → (o : IsOpen b link at end) → KeepsFront b c link at → IsShifted b c 0 0 o.upto at
 mid-kept b c link at end o keep =
-    let p = open-place b link at end o in let table = p.table in let k = link-place b link o.upto o.before o.linked in let within = k.within in let start = k.start in
+    let p = open-place b link at end o in
+    let table = p.table in
+    let k = link-place b link o.upto o.before o.linked in
+    let within = k.within in
+    let start = k.start in
     (λ j q e g l. let is : j ≡ q = omega arith in ap (λ x. get_or c x 0) is ∙ keep q l (inr (omega arith)) (inr (omega arith)))
 
 -- a chunk whose bytes and entry stay
 pub kept-chunk : (b c : List ℕ) (link at end lo j : ℕ) → (o : IsOpen b link at end) → length c ≡ length b → IsShifted b c 0 0 (table_end b) (link - 2) → IsShifted b c 0 0 o.upto at → IsShifted b c 0 0 lo (length b) →
     (HasChunk j o.behind → LiesWithin b (entry b j) lo (length b)) → j < entries b → entry c j ≡ entry b j → chunk_at c (entry c j) ≡ chunk_at b (entry b j)
 kept-chunk b c link at end lo j o same front mid rear lies_behind h d =
-    let p = open-place b link at end o in let low = p.low in let high = p.high in let most = p.most in let link_high = p.link_high in let order = o.order in
+    let p = open-place b link at end o in
+    let low = p.low in
+    let high = p.high in
+    let most = p.most in
+    let link_high = p.link_high in
+    let order = o.order in
     chunk-cases b c (entry b j) (entry c j) (λ z. d ∙ z) (λ z. d ∙ z) (λ u.
     let told : IsOffset (entry c j) = ((λ z. u.0 (sym d ∙ z)), (λ z. u.1 (sym d ∙ z))) in
     elim (o.all j h u) [
@@ -174,7 +195,11 @@ free-at b at (Free m ∷ ps) end s low = (m, (ps, refl))
 
 pub free-behind : (b : List ℕ) (link at end : ℕ) → (s : IsBeside b link at end) → word b link ≡ end → FreeBehind b link at end s.is
 free-behind b link at end s is =
-    let o = s.is in let p = open-place b link at end o in let low = p.low in let table = p.table in let order = o.order in
+    let o = s.is in
+    let p = open-place b link at end o in
+    let low = p.low in
+    let table = p.table in
+    let order = o.order in
     let next : o.next ≡ end = sym (used-next b o.upto (word b link) o.ahead at o.next s.used o.tiles_ahead) ∙ is in
     let N : ℕ → Type 0 = λ x. Tiles b end x o.behind (length b) 0 in
     let tiles : Tiles b end end o.behind (length b) 0 = subst N next o.tiles_behind in

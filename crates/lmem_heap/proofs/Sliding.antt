@@ -64,7 +64,8 @@ slid-behind low (s ∷ ss) high e o h = slid-high s ss e (let le = order-le s.en
 pub slid-more : (low : ℕ) (ss : List Slide) (high : ℕ) (s : Slide) (e : ℕ) → AreInOrder low ss high → high ≤ s.from → entry_slid (ss ++ (s ∷ [])) e ≡ entry_moved s.from s.end s.to (entry_slid ss e)
 slid-more low [] high s e o h = refl
 slid-more low (x ∷ ss) high s e o h =
-    let le = order-le x.end ss high o.3 in let low_to = o.2 in
+    let le = order-le x.end ss high o.3 in
+    let low_to = o.2 in
     let M : ℕ → ℕ = λ y. entry_moved s.from s.end s.to y in
     let rest = slid-more x.end ss high s e o.3 h in
     elim (cases_lt x.from e) [
@@ -106,7 +107,8 @@ slid-at low (s ∷ ss) high zero (suc zero) e o n known below next =
       ]
     ]
 slid-at low (s ∷ ss) high (suc k) (suc (suc j)) e o n known below next =
-    let here : (run_at ss k).from < e = below (omega arith) in let place = order-at s.end ss high k o.3 (omega (arith, known)) in
+    let here : (run_at ss k).from < e = below (omega arith) in
+    let place = order-at s.end ss high k o.3 (omega (arith, known)) in
     slid-high s ss e (omega (arith, here, place.0)) ∙ slid-at s.end ss high k (suc j) e o.3 (omega (arith, n)) (omega (arith, known)) (λ z. here) (λ l. next (omega (arith, l)))
 
 -- entries of chunks that stood below the runs or behind them

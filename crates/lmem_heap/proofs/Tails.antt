@@ -7,7 +7,10 @@ use Rattle.lmem_heap.specs.Packed.{SetsTail}
 -- no bytes
 pub tail-none : (b b1 b2 : List ℕ) (at left : ℕ) → 16 ≤ at → at ≤ length b → left ≡ length b - at → left ≡ 0 → b1 ≡ with_word b 14 left → b2 ≡ with_word b1 12 0 → SetsTail b b2 at
 tail-none b b1 b2 at left low fits is none e1 e2 =
-    let n1 = length-with_word b 14 left in let n2 = length-with_word b1 12 0 in let l1 = ap length e1 in let l2 = ap length e2 in
+    let n1 = length-with_word b 14 left in
+    let n2 = length-with_word b1 12 0 in
+    let l1 = ap length e1 in
+    let l2 = ap length e2 in
     let total : word b2 14 ≡ left = ap (λ x. word x 14) e2 ∙ word-other b1 12 0 14 (inr (omega arith)) ∙ ap (λ x. word x 14) e1 ∙ word-same b 14 left (omega arith) (omega arith) in
     record {
       long = l2 ∙ n2 ∙ l1 ∙ n1;
@@ -24,8 +27,14 @@ tail-none b b1 b2 at left low fits is none e1 e2 =
 pub tail-some : (b b1 b2 b3 b4 : List ℕ) (at left : ℕ) → 16 ≤ at → at ≤ length b → length b ≤ 65520 → left ≡ length b - at → left % 4 ≡ 0 → left ≢ 0 →
     b1 ≡ with_word b 14 left → b2 ≡ with_word b1 12 at → b3 ≡ with_word b2 at left → b4 ≡ with_word b3 (at + 2) 0 → SetsTail b b4 at
 tail-some b b1 b2 b3 b4 at left low fits most is fours some e1 e2 e3 e4 =
-    let n1 = length-with_word b 14 left in let n2 = length-with_word b1 12 at in let n3 = length-with_word b2 at left in let n4 = length-with_word b3 (at + 2) 0 in
-    let l1 = ap length e1 in let l2 = ap length e2 in let l3 = ap length e3 in let l4 = ap length e4 in
+    let n1 = length-with_word b 14 left in
+    let n2 = length-with_word b1 12 at in
+    let n3 = length-with_word b2 at left in
+    let n4 = length-with_word b3 (at + 2) 0 in
+    let l1 = ap length e1 in
+    let l2 = ap length e2 in
+    let l3 = ap length e3 in
+    let l4 = ap length e4 in
     let four : 4 ≤ left = omega arith in
     let w4 : (j : ℕ) → (j + 2 ≤ at + 2) ⊎ (at + 2 + 2 ≤ j) → word b4 j ≡ word b3 j = (λ j h. ap (λ x. word x j) e4 ∙ word-other b3 (at + 2) 0 j h) in
     let w3 : (j : ℕ) → (j + 2 ≤ at) ⊎ (at + 2 ≤ j) → word b3 j ≡ word b2 j = (λ j h. ap (λ x. word x j) e3 ∙ word-other b2 at left j h) in

@@ -26,8 +26,17 @@ link-apart b link at end p = let table = p.table in elim p.link_out [ inl e ↦ 
 pub whole-taken : (b d c : List ℕ) (link at end next total : ℕ) → IsBeside b link at end → word b link ≡ end → next ≡ word b (end + 2) → next < 65536 → total + word b end ≡ total_free b → d ≡ with_word b link next → c ≡ with_word d 14 total →
     Widens b c link at end (end + word b end) × (word c link ≢ end + word b end)
 whole-taken b d c link at end next total s is next_is small sum e1 e2 =
-    let o = s.is in let p = open-place b link at end o in let link_high = p.link_high in let order = o.order in let high = p.high in let most = p.most in let room = p.room in let table = p.table in let low = p.low in
-    let n1 = long b d link next e1 in let n2 = long d c 14 total e2 in
+    let o = s.is in
+    let p = open-place b link at end o in
+    let link_high = p.link_high in
+    let order = o.order in
+    let high = p.high in
+    let most = p.most in
+    let room = p.room in
+    let table = p.table in
+    let low = p.low in
+    let n1 = long b d link next e1 in
+    let n2 = long d c 14 total e2 in
     let byte : (k : ℕ) → Apart k link → Apart k 14 → get_or c k 0 ≡ get_or b k 0 = (λ k u v. other d c 14 total k e2 v ∙ other b d link next k e1 u) in
     took-whole b c link at end s is (n2 ∙ n1) (λ k l u v. byte k u v) (λ k l. byte k (inr (omega arith)) (inr (omega arith)))
     (clear d c 14 total link e2 (link-apart b link at end p) ∙ put b d link next e1 small (omega arith) ∙ next_is)
@@ -46,7 +55,10 @@ record Written (b c : List ℕ) (link to left next total : ℕ) : Type 0 where
 written : (b d1 d2 d3 c : List ℕ) (link to left next total : ℕ) → (link + 2 ≤ 14) ⊎ (16 ≤ link) → 16 ≤ to → link + 2 ≤ to → to + 4 ≤ length b → to < 65536 → left < 65536 → next < 65536 → total < 65536 →
     d1 ≡ with_word b to left → d2 ≡ with_word d1 (to + 2) next → d3 ≡ with_word d2 link to → c ≡ with_word d3 14 total → Written b c link to left next total
 written b d1 d2 d3 c link to left next total out low above fits s1 s2 s3 s4 e1 e2 e3 e4 =
-    let n1 = long b d1 to left e1 in let n2 = long d1 d2 (to + 2) next e2 in let n3 = long d2 d3 link to e3 in let n4 = long d3 c 14 total e4 in
+    let n1 = long b d1 to left e1 in
+    let n2 = long d1 d2 (to + 2) next e2 in
+    let n3 = long d2 d3 link to e3 in
+    let n4 = long d3 c 14 total e4 in
     record {
       same = n4 ∙ n3 ∙ n2 ∙ n1;
       front = (λ k l u v. other d3 c 14 total k e4 v ∙ other d2 d3 link to k e3 u ∙ other d1 d2 (to + 2) next k e2 (inl (omega arith)) ∙ other b d1 to left k e1 (inl l));
@@ -59,7 +71,11 @@ written b d1 d2 d3 c link to left next total out low above fits s1 s2 s3 s4 e1 e
 
 -- the free chunk behind a hole lies in the block
 pub free-inside : (b : List ℕ) (link at end : ℕ) → IsBeside b link at end → word b link ≡ end → end + word b end ≤ length b
-free-inside b link at end s is = let f = free-behind b link at end s is in let le = tiles-le b (end + f.size) (word b (end + 2)) f.rest (length b) 0 f.here.5 in let z = f.here.3 in omega (arith, le, z)
+free-inside b link at end s is =
+    let f = free-behind b link at end s is in
+    let le = tiles-le b (end + f.size) (word b (end + 2)) f.rest (length b) 0 f.here.5 in
+    let z = f.here.3 in
+    omega (arith, le, z)
 
 -- its bounds
 pub record FreeFits (b : List ℕ) (end : ℕ) : Type 0 where
@@ -70,15 +86,27 @@ pub record FreeFits (b : List ℕ) (end : ℕ) : Type 0 where
 
 pub free-fits : (b : List ℕ) (link at end : ℕ) → IsBeside b link at end → word b link ≡ end → FreeFits b end
 free-fits b link at end s is =
-    let f = free-behind b link at end s is in let some = f.here.0 in let fours = f.here.1 in let size = f.here.3 in
-    let g = ap free_bytes f.is in let t = s.is.total in
+    let f = free-behind b link at end s is in
+    let some = f.here.0 in
+    let fours = f.here.1 in
+    let size = f.here.3 in
+    let g = ap free_bytes f.is in
+    let t = s.is.total in
     record { four = omega (arith, some, fours, size); fours = omega (arith, fours, size); inside = free-inside b link at end s is; sum = omega (arith, g, t, size) }
 
 -- the front of the free chunk behind a hole
 pub front-taken : (b d1 d2 d3 c : List ℕ) (link at end size left next total : ℕ) → IsBeside b link at end → word b link ≡ end → 0 < size → size % 4 ≡ 0 → size < word b end → left + size ≡ word b end → next ≡ word b (end + 2) → next < 65536 → total + size ≡ total_free b →
     d1 ≡ with_word b (end + size) left → d2 ≡ with_word d1 (end + size + 2) next → d3 ≡ with_word d2 link (end + size) → c ≡ with_word d3 14 total → Widens b c link at end (end + size)
 front-taken b d1 d2 d3 c link at end size left next total s is pos fours less left_is next_is small sum e1 e2 e3 e4 =
-    let o = s.is in let p = open-place b link at end o in let link_high = p.link_high in let order = o.order in let high = p.high in let most = p.most in let room = p.room in let table = p.table in let low = p.low in
+    let o = s.is in
+    let p = open-place b link at end o in
+    let link_high = p.link_high in
+    let order = o.order in
+    let high = p.high in
+    let most = p.most in
+    let room = p.room in
+    let table = p.table in
+    let low = p.low in
     let f = free-behind b link at end s is in
     let inside : end + word b end ≤ length b = free-inside b link at end s is in
     let four : word b end % 4 ≡ 0 = (let q = f.here.1 in let z = f.here.3 in omega (arith, q, z)) in
@@ -89,7 +117,16 @@ front-taken b d1 d2 d3 c link at end size left next total s is pos fours less le
 pub hole-linked : (b d1 d2 d3 c : List ℕ) (link at end left next total : ℕ) → IsBeside b link at end → at < end → end % 4 ≡ 0 → word b link ≢ end → (table_end b + 2 ≤ link → link - 2 + word b (link - 2) ≢ at) → left ≡ end - at → next ≡ word b link → next < 65536 → total ≡ total_free b + (end - at) →
     d1 ≡ with_word b at left → d2 ≡ with_word d1 (at + 2) next → d3 ≡ with_word d2 link at → c ≡ with_word d3 14 total → GivesBack b c
 hole-linked b d1 d2 d3 c link at end left next total s less fours apart alone left_is next_is small sum e1 e2 e3 e4 =
-    let o = s.is in let p = open-place b link at end o in let link_high = p.link_high in let order = o.order in let high = p.high in let most = p.most in let room = p.room in let table = p.table in let low = p.low in let at_fours = o.fours in
+    let o = s.is in
+    let p = open-place b link at end o in
+    let link_high = p.link_high in
+    let order = o.order in
+    let high = p.high in
+    let most = p.most in
+    let room = p.room in
+    let table = p.table in
+    let low = p.low in
+    let at_fours = o.fours in
     let w = written b d1 d2 d3 c link at left next total (link-apart b link at end p) (omega arith) link_high (omega (arith, fours, at_fours)) (omega arith) (omega (arith, left_is)) small (omega (arith, sum, room)) e1 e2 e3 e4 in
     linked-in b c link at end s less fours apart alone w.same w.front (λ k l. w.back k (omega (arith, fours, at_fours))) w.says (w.size_is ∙ left_is) (w.next_is ∙ next_is) (w.total_is ∙ sum)
 
@@ -97,9 +134,18 @@ hole-linked b d1 d2 d3 c link at end left next total s less fours apart alone le
 pub hole-merged : (b d c : List ℕ) (link at end left total : ℕ) → IsBeside b link at end → at < end → end % 4 ≡ 0 → word b link ≢ end → link ≢ 12 → link - 2 + word b (link - 2) ≡ at → left ≡ end - (link - 2) → total ≡ total_free b + (end - at) →
     d ≡ with_word b (link - 2) left → c ≡ with_word d 14 total → GivesBack b c
 hole-merged b d c link at end left total s less fours apart ne touch left_is sum e1 e2 =
-    let o = s.is in let p = open-place b link at end o in let link_high = p.link_high in let order = o.order in let high = p.high in let most = p.most in let room = p.room in let table = p.table in let low = p.low in
+    let o = s.is in
+    let p = open-place b link at end o in
+    let link_high = p.link_high in
+    let order = o.order in
+    let high = p.high in
+    let most = p.most in
+    let room = p.room in
+    let table = p.table in
+    let low = p.low in
     let far : table_end b + 2 ≤ link = elim p.link_out [ inl e ↦ absurd (ne e) | inr f ↦ f ] in
-    let n1 = long b d (link - 2) left e1 in let n2 = long d c 14 total e2 in
+    let n1 = long b d (link - 2) left e1 in
+    let n2 = long d c 14 total e2 in
     merged-before b c link at end s less fours apart far touch (n2 ∙ n1) (λ k l u v. other d c 14 total k e2 v ∙ other b d (link - 2) left k e1 u)
     (λ k l. other d c 14 total k e2 (inr (omega arith)) ∙ other b d (link - 2) left k e1 (inr (omega arith)))
     (clear d c 14 total (link - 2) e2 (inr (omega arith)) ∙ put b d (link - 2) left e1 (omega (arith, left_is)) (omega arith) ∙ left_is)
@@ -110,9 +156,16 @@ hole-merged b d c link at end left total s less fours apart ne touch left_is sum
 pub hole-refilled : (b d1 d2 c : List ℕ) (link at end i keep n : ℕ) → (o : IsOpen b link at end) → 0 < n → at + cost n ≤ end → at + 2 + keep ≤ length b → i < entries b → entry b i ≡ 0 →
     length d1 ≡ length b → ((k : ℕ) → Apart k (16 + 2 * i) → get_or d1 k 0 ≡ get_or b k 0) → entry d1 i ≡ at + 2 → d2 ≡ with_word d1 at (n + 2) → c ≡ with_part d2 (at + 2 + keep) (replicate (n - keep) 0) → Filled b c link at end i n (resized (part b (at + 2) keep) n) o
 hole-refilled b d1 d2 c link at end i keep n o some fits kept h none n1 same1 here1 e2 e3 =
-    let p = open-place b link at end o in let high = p.high in let most = p.most in let low = p.low in let table = p.table in let wide = cost-least n some in
-    let zs : List ℕ = replicate (n - keep) 0 in let nz = length-replicate {A = ℕ} (n - keep) 0 in
-    let n2 = long d1 d2 at (n + 2) e2 in let n3 : length c ≡ length d2 = ap length e3 ∙ length-with_part d2 (at + 2 + keep) zs in
+    let p = open-place b link at end o in
+    let high = p.high in
+    let most = p.most in
+    let low = p.low in
+    let table = p.table in
+    let wide = cost-least n some in
+    let zs : List ℕ = replicate (n - keep) 0 in
+    let nz = length-replicate {A = ℕ} (n - keep) 0 in
+    let n2 = long d1 d2 at (n + 2) e2 in
+    let n3 : length c ≡ length d2 = ap length e3 ∙ length-with_part d2 (at + 2 + keep) zs in
     let byte3 : (k : ℕ) → (k < at + 2 + keep) ⊎ (at + 2 + keep + (n - keep) ≤ k) → get_or c k 0 ≡ get_or d2 k 0 = (λ k out. ap (λ x. get_or x k 0) e3 ∙ elim out [
       | inl l ↦ get_or-with_part_before d2 (at + 2 + keep) zs k l
       | inr g ↦ get_or-with_part_behind d2 (at + 2 + keep) zs k (omega (arith, nz))
@@ -144,5 +197,9 @@ hole-refilled b d1 d2 c link at end i keep n o some fits kept h none n1 same1 he
 pub hole-filled : (b d1 d2 c : List ℕ) (link at end i keep n : ℕ) → (o : IsOpen b link at end) → 0 < n → at + cost n ≤ end → at + 2 + keep ≤ length b → i < entries b → entry b i ≡ 0 →
     d1 ≡ with_word b (16 + 2 * i) (at + 2) → d2 ≡ with_word d1 at (n + 2) → c ≡ with_part d2 (at + 2 + keep) (replicate (n - keep) 0) → Filled b c link at end i n (resized (part b (at + 2) keep) n) o
 hole-filled b d1 d2 c link at end i keep n o some fits kept h none e1 e2 e3 =
-    let p = open-place b link at end o in let high = p.high in let most = p.most in let low = p.low in let wide = cost-least n some in
+    let p = open-place b link at end o in
+    let high = p.high in
+    let most = p.most in
+    let low = p.low in
+    let wide = cost-least n some in
     hole-refilled b d1 d2 c link at end i keep n o some fits kept h none (long b d1 (16 + 2 * i) (at + 2) e1) (λ k u. other b d1 (16 + 2 * i) (at + 2) k e1 u) (put b d1 (16 + 2 * i) (at + 2) e1 (omega arith) (omega arith)) e2 e3

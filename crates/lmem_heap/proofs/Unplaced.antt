@@ -18,7 +18,12 @@ pub record EntersHeap (b c : List ℕ) (i e : ℕ) (chunk : Option (List ℕ)) :
 
 enters : (b : List ℕ) (i e : ℕ) (chunk : Option (List ℕ)) → IsHeap b → i < entries b → (IsOffset (entry b i) → ⊥) → e < 65536 → (IsOffset e → ⊥) → ((c : List ℕ) → chunk_at c e ≡ chunk) → EntersHeap b (with_word b (16 + 2 * i) e) i e chunk
 enters b i e chunk heap h silent small silent' is =
-    let c = with_word b (16 + 2 * i) e in let long = length-with_word b (16 + 2 * i) e in let fits = heap.0.fits in let most = heap.0.most in let fill = heap.1.1 in let ps = heap.1.0 in
+    let c = with_word b (16 + 2 * i) e in
+    let long = length-with_word b (16 + 2 * i) e in
+    let fits = heap.0.fits in
+    let most = heap.0.most in
+    let fill = heap.1.1 in
+    let ps = heap.1.0 in
     let word_head : (k : ℕ) → k + 2 ≤ 16 → word c k ≡ word b k = (λ k g. word-other b (16 + 2 * i) e k (inl (omega arith))) in
     let n : entries c ≡ entries b = word_head 10 (omega arith) in
     let first : first_free b ≡ first_free c = sym (word_head 12 (omega arith)) in
@@ -30,7 +35,9 @@ enters b i e chunk heap h silent small silent' is =
     let kept : IsShifted b c 0 0 (table_end b) (length b) = (λ j k q g r. let s : j ≡ k = omega arith in ap (λ x. get_or c x 0) s ∙ byte-other b (16 + 2 * i) e k (inr (omega arith))) in
     let apart : (j : ℕ) → table_end b + 2 ≤ entry b j → entry b j < length b → j ≢ i = (λ j g r q. let O : ℕ → Type 0 = λ x. IsOffset (entry b x) in let t : IsOffset (entry b j) = ((λ z. absurd (omega arith)), (λ z. absurd (omega arith))) in silent (subst O q t)) in
     let start : table_end b ≡ table_end c = ap (λ x. 16 + 2 * x) (sym n) in
-    let T : ℕ → Type 0 = λ x. Tiles c x (first_free b) ps (length b) 0 in let F : ℕ → Type 0 = λ x. Tiles c (table_end c) x ps (length b) 0 in let L : ℕ → Type 0 = λ x. Tiles c (table_end c) (first_free c) ps x 0 in
+    let T : ℕ → Type 0 = λ x. Tiles c x (first_free b) ps (length b) 0 in
+    let F : ℕ → Type 0 = λ x. Tiles c (table_end c) x ps (length b) 0 in
+    let L : ℕ → Type 0 = λ x. Tiles c (table_end c) (first_free c) ps x 0 in
     record {
       heap = (
         same-header b c heap.0 long (λ k g. byte-other b (16 + 2 * i) e k (inl (omega arith))),
@@ -49,7 +56,8 @@ enters b i e chunk heap h silent small silent' is =
       chunks = chunks-set b c i chunk n h (ap (chunk_at c) here ∙ is c) (λ j l ne.
           let d : entry c j ≡ entry b j = other j ne in
           chunk-cases b c (entry b j) (entry c j) (λ z. d ∙ z) (λ z. d ∙ z) (λ t.
-          let r = told b j heap l t in let from = r.from in
+          let r = told b j heap l t in
+          let from = r.from in
           chunk-shifted b c 0 0 (table_end b) (length b) (length b) (entry b j) (entry c j) r kept (omega (arith, d)) (omega arith) (omega (arith, d)) (omega arith) (omega (arith, long)) t ((λ z. t.0 (sym d ∙ z)), (λ z. t.1 (sym d ∙ z)))));
       handle = word_head 0 (omega arith);
     }

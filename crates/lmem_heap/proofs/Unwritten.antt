@@ -36,7 +36,10 @@ but-behind c b k but h = word-bytes b c k k (but.same k (inr h)) (but.same (k + 
 -- bytes that are a heap's but for the entries are that heap where the entries are
 pub but-heap : (c b : List ℕ) → IsButForEntries c b → ((i : ℕ) → i < entries b → entry c i ≡ entry b i) → IsHeap c × (chunks c ≡ chunks b)
 but-heap c b but each =
-    let heap = but.is in let fill = heap.1.1 in let ps = heap.1.0 in let long = but.long in
+    let heap = but.is in
+    let fill = heap.1.1 in
+    let ps = heap.1.0 in
+    let long = but.long in
     let n : entries c ≡ entries b = but-head c b 10 but (omega arith) in
     let start : table_end b ≡ table_end c = ap (λ x. 16 + 2 * x) (sym n) in
     let first : first_free b ≡ first_free c = sym (but-head c b 12 but (omega arith)) in
@@ -59,7 +62,8 @@ but-heap c b but each =
         ),
       ),
       chunks-same b c n (λ i h. let d = each i h in chunk-cases b c (entry b i) (entry c i) (λ e. d ∙ e) (λ e. d ∙ e) (λ told.
-          let l = lies b (table_end b) (first_free b) ps (length b) 0 i fill.tiles (fill.all i h told) in let from = l.from in
+          let l = lies b (table_end b) (first_free b) ps (length b) 0 i fill.tiles (fill.all i h told) in
+          let from = l.from in
           chunk-shifted b c 0 0 (table_end b) (length b) (length b) (entry b i) (entry c i) l kept (omega (arith, d)) (omega arith) (omega (arith, d)) (omega arith) (omega (arith, long)) told ((λ e. told.0 (sym d ∙ e)), (λ e. told.1 (sym d ∙ e))))),
     )
 
@@ -103,17 +107,22 @@ same-word x y at w k n e = same-part x y at (word_bytes w) k n e
 same-closing : (x y : List ℕ) (gap : Gap) (k : ℕ) → length x ≡ length y → get_or x k 0 ≡ get_or y k 0 → get_or (closing_words x gap) k 0 ≡ get_or (closing_words y gap) k 0
 unfolding closing_words
 same-closing x y gap k n e =
-    let at = gap.end - gap.size in let t = gap.size + gap.more in
-    let x1 = with_word x at t in let y1 = with_word y at t in
+    let at = gap.end - gap.size in
+    let t = gap.size + gap.more in
+    let x1 = with_word x at t in
+    let y1 = with_word y at t in
     let n1 : length x1 ≡ length y1 = length-with_word x at t ∙ n ∙ sym (length-with_word y at t) in
-    let x2 = with_word x1 (at + 2) gap.after in let y2 = with_word y1 (at + 2) gap.after in
+    let x2 = with_word x1 (at + 2) gap.after in
+    let y2 = with_word y1 (at + 2) gap.after in
     let n2 : length x2 ≡ length y2 = length-with_word x1 (at + 2) gap.after ∙ n1 ∙ sym (length-with_word y1 (at + 2) gap.after) in
     same-word x2 y2 12 at k n2 (same-word x1 y1 (at + 2) gap.after k n1 (same-word x y at t k n e))
 
 long-closing : (x : List ℕ) (gap : Gap) → length (closing_words x gap) ≡ length x
 unfolding closing_words
 long-closing x gap =
-    let at = gap.end - gap.size in let x1 = with_word x at (gap.size + gap.more) in let x2 = with_word x1 (at + 2) gap.after in
+    let at = gap.end - gap.size in
+    let x1 = with_word x at (gap.size + gap.more) in
+    let x2 = with_word x1 (at + 2) gap.after in
     length-with_word x2 12 at ∙ length-with_word x1 (at + 2) gap.after ∙ length-with_word x at (gap.size + gap.more)
 
 -- one more gap is closed, in a heap whose entries are still to be written
@@ -124,8 +133,16 @@ pub record SlidOn (c b : List ℕ) (ss : List Slide) (gap : Gap) : Type 0 where
 
 pub slid-on : (c b d : List ℕ) (ss : List Slide) (gap : Gap) (high : ℕ) → HasSlid c b ss → HasGap b gap → gap.after < 65536 → AreInOrder 0 ss high → high ≤ gap.first + gap.size → d ≡ slid c gap → SlidOn d b (ss ++ (slide_of gap ∷ [])) gap
 slid-on c b d ss gap high s p small order below is =
-    let f = gap.first in let from = gap.first + gap.size in let end = gap.end in let n = end - from in
-    let heap = s.but.is in let header = heap.0 in let most = header.most in let places = p.places in let size = p.size in let four : 4 ≤ gap.size = omega arith in
+    let f = gap.first in
+    let from = gap.first + gap.size in
+    let end = gap.end in
+    let n = end - from in
+    let heap = s.but.is in
+    let header = heap.0 in
+    let most = header.most in
+    let places = p.places in
+    let size = p.size in
+    let four : 4 ≤ gap.size = omega arith in
     let low = tiles-le b (table_end b) f p.pre f f p.before in
     let long = s.but.long in
     let ws = part b from n in
@@ -188,7 +205,8 @@ pub record ButFirst (c b : List ℕ) (f : ℕ) : Type 0 where
 pub but-first : (c b : List ℕ) (f : ℕ) → IsButForEntries c b → (IsCompact c → ⊥) → f ≡ first_free c → ButFirst c b f
 but-first c b f but open_still e =
     let is : f ≡ first_free b = e ∙ but-head c b 12 but (omega arith) in
-    let g = first-gap b f but.is (λ x. open_still (but-compact c b but x)) is in let r = first-room b f but.is is g.some in
+    let g = first-gap b f but.is (λ x. open_still (but-compact c b but x)) is in
+    let r = first-room b f but.is is g.some in
     record { gap = g; is = is; size = but-behind c b f but r.0; next = but-behind c b (f + 2) but (omega (arith, r.0)); long = but.long }
 
 pub record ButInner (c b : List ℕ) (f g : ℕ) : Type 0 where
@@ -198,7 +216,8 @@ pub record ButInner (c b : List ℕ) (f g : ℕ) : Type 0 where
 
 pub but-inner : (c b : List ℕ) (f g : ℕ) → IsButForEntries c b → ButFirst c b f → g ≡ word c (f + 2) → g ≢ 0 → ButInner c b f g
 but-inner c b f g but q next some =
-    let n = gap-inner b f g but.is q.is q.gap.some (next ∙ q.next) some in let r = first-room b f but.is q.is q.gap.some in
+    let n = gap-inner b f g but.is q.is q.gap.some (next ∙ q.next) some in
+    let r = first-room b f but.is q.is q.gap.some in
     let size : word b f ≡ word c f = sym q.size in
     let more : word b g ≡ word c g = sym (but-behind c b g but (omega (arith, n.1, r.0))) in
     let after : word b (g + 2) ≡ word c (g + 2) = sym (but-behind c b (g + 2) but (omega (arith, n.1, r.0))) in
@@ -209,5 +228,6 @@ but-inner c b f g but q next some =
 
 pub but-last : (c b : List ℕ) (f g : ℕ) → IsButForEntries c b → ButFirst c b f → g ≡ word c (f + 2) → g ≡ 0 → HasGap b (gap_of f (word c f) (length c) 0 0)
 but-last c b f g but q next none =
-    let P : ℕ → Type 0 = λ x. HasGap b (gap_of f x (length b) 0 0) in let Q : ℕ → Type 0 = λ x. HasGap b (gap_of f (word c f) x 0 0) in
+    let P : ℕ → Type 0 = λ x. HasGap b (gap_of f x (length b) 0 0) in
+    let Q : ℕ → Type 0 = λ x. HasGap b (gap_of f (word c f) x 0 0) in
     subst Q (sym q.long) (subst P (sym q.size) (gap-last b f g but.is q.is q.gap.some (next ∙ q.next) none))

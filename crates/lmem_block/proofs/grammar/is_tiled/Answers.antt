@@ -6,7 +6,9 @@ use Rattle.lmem_block.proofs.grammar.is_tiled.Goals.{then-free-ne0-via-then-free
 
 pub loop-at-init : goal.loop-at-init
 loop-at-init c =
-    let b = c.args.block.now in let at = c.table_end-at.result in let is = c.table_end-at.ensures.value in
+    let b = c.args.block.now in
+    let at = c.table_end-at.result in
+    let is = c.table_end-at.ensures.value in
     let fours : at % 4 ≡ 0 = omega (arith, is, c.requires.header.pairs) in
     let first = start b at c.get16-free.result c.args.starts.now c.requires.marks is c.get16-free.ensures in
     let none = c.requires.counted ∙ before b at c.args.starts.now c.requires.marks fours is in
@@ -21,7 +23,9 @@ loop-at-init c =
 
 pub returns-then-free-ne0 : goal.returns-then-free-ne0
 returns-then-free-ne0 c =
-    let i = c.loop-at.invariant in let b = c.args.block.now in let at = c.loop-at.at in (
+    let i = c.loop-at.invariant in
+    let b = c.args.block.now in
+    let at = c.loop-at.at in (
       (λ t. absurd (false≢true t)),
       (λ full. let can = i.same.0 full in let e = end-forward b at c.loop-at.free c.loop-at.sum c.loop-at-test.false can.0 in
           let none = behind b at c.args.starts.now c.requires.marks c.loop-at-test.false i.fours in
@@ -34,7 +38,9 @@ returns-then-free-ne0 c =
 
 pub returns : goal.returns
 returns c =
-    let i = c.loop-at.invariant in let b = c.args.block.now in let at = c.loop-at.at in
+    let i = c.loop-at.invariant in
+    let b = c.args.block.now in
+    let at = c.loop-at.at in
     let end : at ≡ length b = omega (arith, i.upto) in
     let none = behind b at c.args.starts.now c.requires.marks c.loop-at-test.false i.fours in (
       (λ t. i.same.1 (end-back b at c.loop-at.free c.loop-at.sum c.args.starts.now c.requires.marks end (omega arith) (omega (arith, c.get16-total.ensures)), omega (arith, none))),

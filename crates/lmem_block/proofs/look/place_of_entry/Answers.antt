@@ -10,9 +10,13 @@ pub get16-requires : goal.get16-requires
 get16-requires c = let t = told-within c.args.block.now c.args.i c.requires.heap c.requires.known (c.requires.used, λ e. c.if-at.false (c.entry-at.ensures ∙ e)) in omega (arith, t.0, t.2, c.entry-at.ensures)
 
 pub overflow_sub-result : goal.overflow_sub-result
-overflow_sub-result c = let b = c.args.block.now in let t = told-within b c.args.i c.requires.heap c.requires.known (c.requires.used, λ e. c.if-at.false (c.entry-at.ensures ∙ e)) in
+overflow_sub-result c =
+    let b = c.args.block.now in
+    let t = told-within b c.args.i c.requires.heap c.requires.known (c.requires.used, λ e. c.if-at.false (c.entry-at.ensures ∙ e)) in
     let size = c.get16.ensures ∙ ap (λ x. word b (x - 2)) c.entry-at.ensures in omega (arith, t.1, size)
 
 pub returns-clause-within : goal.returns-clause-within
-returns-clause-within c = let b = c.args.block.now in let t = told-within b c.args.i c.requires.heap c.requires.known (c.requires.used, λ e. c.if-at.false (c.entry-at.ensures ∙ e)) in
+returns-clause-within c =
+    let b = c.args.block.now in
+    let t = told-within b c.args.i c.requires.heap c.requires.known (c.requires.used, λ e. c.if-at.false (c.entry-at.ensures ∙ e)) in
     let size = c.get16.ensures ∙ ap (λ x. word b (x - 2)) c.entry-at.ensures in omega (arith, t.2, size, c.entry-at.ensures)

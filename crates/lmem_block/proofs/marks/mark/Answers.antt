@@ -26,7 +26,11 @@ returns-then-at-lowest c =
 
 pub loop-i-preserved : goal.loop-i-preserved
 loop-i-preserved c =
-    let b = c.args.block.now in let i = c.loop-i.i in let e = c.entry-e.result in let starts = c.loop-i.starts in let is = c.entry-e.ensures in
+    let b = c.args.block.now in
+    let i = c.loop-i.i in
+    let e = c.entry-e.result in
+    let starts = c.loop-i.starts in
+    let is = c.entry-e.ensures in
     let long : length starts ≡ length c.args.starts.now = c.loop-i.auto.starts in
     elim c.if-e-ne0.branch [
       | then-e-ne0+then-e+else-at-lowest+else-at-block+else-at-ne2+else-starts-at w ↦

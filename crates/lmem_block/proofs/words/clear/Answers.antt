@@ -6,7 +6,9 @@ use Rattle.lmem_block.proofs.words.clear.Goals as goal
 
 pub returns : goal.returns
 returns c =
-    let bs = c.args.block.now in let at = c.args.at in let n = c.args.n in
+    let bs = c.args.block.now in
+    let at = c.args.at in
+    let n = c.args.n in
     let long : length (take (at + n - at) (drop at bs)) ≡ n = omega (arith, length-take (at + n - at) (drop at bs), length-drop at bs) in
     let zeros : c.fill.new.self ≡ replicate n 0 = c.fill.ensures.after (λ y e. e) ∙ ap (λ m. replicate m 0) long in
     put_over bs at (at + n - at) n c.fill.new.self c.requires (omega arith) (ap length zeros ∙ length-replicate n 0) ∙ ap (λ zs. with_part bs at zs) zeros

@@ -8,7 +8,10 @@ use Rattle.lmem_block.proofs.words.put16.Goals as goal
 pub returns : goal.returns
 unfolding with_word
 returns c =
-    let bs = c.args.block.now in let at = c.args.at in let w = c.args.word in let two = take (at + 2 - at) (drop at bs) in
+    let bs = c.args.block.now in
+    let at = c.args.at in
+    let w = c.args.word in
+    let two = take (at + 2 - at) (drop at bs) in
     let rest : drop 2 two ≡ [] = drop_all 2 two (omega (arith, length-take (at + 2 - at) (drop at bs))) in
     let high : w / 256 % 256 ≡ w / 256 = (let small : w < 65536 = omega arith in omega arith) in
     let is : c.write_u16.new.buf ≡ word_bytes w = c.write_u16.ensures ∙ ap (λ (zs : List ℕ). w % 256 ∷ w / 256 % 256 ∷ zs) rest ∙ ap (λ (h : ℕ). w % 256 ∷ h ∷ []) high in

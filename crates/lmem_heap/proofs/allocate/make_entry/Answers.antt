@@ -23,10 +23,14 @@ returns-else-i-entries-clause-chunks c =
 
 pub returns-else-i-entries-clause-known : goal.returns-else-i-entries-clause-known
 returns-else-i-entries-clause-known c =
-    let b = c.args.block.now in let l = lowest-within (chunks b) in let n = count-chunks b in
+    let b = c.args.block.now in
+    let l = lowest-within (chunks b) in
+    let n = count-chunks b in
     omega (arith, l, n, c.requires.lowest, c.if-i-entries.false, c.entries.ensures.value)
 
 pub returns-else-i-entries-clause-free : goal.returns-else-i-entries-clause-free
 returns-else-i-entries-clause-free c =
-    let b = c.args.block.now in let l = lowest-within (chunks b) in let n = count-chunks b in
+    let b = c.args.block.now in
+    let l = lowest-within (chunks b) in
+    let n = count-chunks b in
     ap (entry b) c.requires.lowest ∙ lowest-free b (omega (arith, l, n, c.requires.lowest, c.if-i-entries.false, c.entries.ensures.value))

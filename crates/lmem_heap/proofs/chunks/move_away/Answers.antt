@@ -21,8 +21,15 @@ move_in-left-requires-clause-offset c =
 
 pub returns-in-Some : goal.returns-in-Some
 returns-in-Some c =
-    let b = c.args.block.now in let i = c.args.i in let n = c.args.n in let w = c.take-hole.new.block in let t = c.take-hole.ensures.wider in let m = c.move_in-left.ensures in let g = c.give_back.ensures in
-    let e = t.each i c.requires.known in let known : i < entries w = (let k = t.count in let h = c.requires.known in omega (arith, k, h)) in
+    let b = c.args.block.now in
+    let i = c.args.i in
+    let n = c.args.n in
+    let w = c.take-hole.new.block in
+    let t = c.take-hole.ensures.wider in
+    let m = c.move_in-left.ensures in
+    let g = c.give_back.ensures in
+    let e = t.each i c.requires.known in
+    let known : i < entries w = (let k = t.count in let h = c.requires.known in omega (arith, k, h)) in
     let offset : IsOffset (entry w i) = ((λ z. c.requires.offset.0 (sym e ∙ z)), (λ z. c.requires.offset.1 (sym e ∙ z))) in
     record {
       heap = g.heap;

@@ -23,13 +23,18 @@ new_chunk-requires-clause-free c = (freed c.args.block.now c.release_chunk.new.b
 
 pub new_chunk-requires-clause-room : goal.new_chunk-requires-clause-room
 new_chunk-requires-clause-room c =
-    let b = c.args.block.now in let d = c.release_chunk.new.block in let r = c.release_chunk.ensures in
+    let b = c.args.block.now in
+    let d = c.release_chunk.new.block in
+    let r = c.release_chunk.ensures in
     let t = total-set b d c.args.i None c.requires.heap r.heap c.release_chunk.auto.block c.requires.known r.chunks in
     omega (arith, t, c.requires.room)
 
 pub returns-then-n-eq0-clause-chunks : goal.returns-then-n-eq0-clause-chunks
 returns-then-n-eq0-clause-chunks c =
-    let b = c.args.block.now in let i = c.args.i in let n = c.args.n in let cs = chunks b in
+    let b = c.args.block.now in
+    let i = c.args.i in
+    let n = c.args.n in
+    let cs = chunks b in
     let zeros : replicate n 0 ≡ resized (unwrap_or (get_or cs i None) []) n = elim c.then-n-eq0.branch [
       | then-n-eq0-via-then-n-eq0 w ↦ (let bytes = unwrap_or (get_or cs i None) [] in zeros-for cs i n bytes (ap (resized bytes) w.if-n-eq0.true ∙ resized-none bytes ∙ ap (λ m. replicate {A = ℕ} m 0) (sym w.if-n-eq0.true)) refl)
       | then-n-eq0-via-else-n-eq0+then-entry w ↦ zeros-for cs i n [] (resized-nothing n) (ap (λ x. unwrap_or x []) (chunks-at b i c.requires.known ∙ chunk-nothing b (entry b i) (sym w.entry.ensures ∙ w.if-entry.true)))
@@ -38,28 +43,49 @@ returns-then-n-eq0-clause-chunks c =
 
 pub resize_in_place-requires-clause-known : goal.resize_in_place-requires-clause-known
 resize_in_place-requires-clause-known c =
-    let b = c.args.block.now in let i = c.args.i in let d = c.pack.new.block in let g = c.if-resize_beside.ensures in let same : chunks d ≡ chunks b = c.pack.ensures.chunks ∙ ap chunks c.if-move_away.ensures ∙ g.chunks in
-    let t : IsOffset (entry b i) = (c.requires.used, λ e. c.if-entry.false (c.entry.ensures ∙ e)) in let o = offset-same b d i c.requires.heap same c.requires.known t in
+    let b = c.args.block.now in
+    let i = c.args.i in
+    let d = c.pack.new.block in
+    let g = c.if-resize_beside.ensures in
+    let same : chunks d ≡ chunks b = c.pack.ensures.chunks ∙ ap chunks c.if-move_away.ensures ∙ g.chunks in
+    let t : IsOffset (entry b i) = (c.requires.used, λ e. c.if-entry.false (c.entry.ensures ∙ e)) in
+    let o = offset-same b d i c.requires.heap same c.requires.known t in
     o.0
 
 pub resize_in_place-requires-clause-offset : goal.resize_in_place-requires-clause-offset
 resize_in_place-requires-clause-offset c =
-    let b = c.args.block.now in let i = c.args.i in let d = c.pack.new.block in let g = c.if-resize_beside.ensures in let same : chunks d ≡ chunks b = c.pack.ensures.chunks ∙ ap chunks c.if-move_away.ensures ∙ g.chunks in
-    let t : IsOffset (entry b i) = (c.requires.used, λ e. c.if-entry.false (c.entry.ensures ∙ e)) in let o = offset-same b d i c.requires.heap same c.requires.known t in
+    let b = c.args.block.now in
+    let i = c.args.i in
+    let d = c.pack.new.block in
+    let g = c.if-resize_beside.ensures in
+    let same : chunks d ≡ chunks b = c.pack.ensures.chunks ∙ ap chunks c.if-move_away.ensures ∙ g.chunks in
+    let t : IsOffset (entry b i) = (c.requires.used, λ e. c.if-entry.false (c.entry.ensures ∙ e)) in
+    let o = offset-same b d i c.requires.heap same c.requires.known t in
     o.1
 
 pub resize_in_place-requires-clause-room : goal.resize_in_place-requires-clause-room
 resize_in_place-requires-clause-room c =
-    let b = c.args.block.now in let i = c.args.i in let d = c.pack.new.block in let g = c.if-resize_beside.ensures in let same : chunks d ≡ chunks b = c.pack.ensures.chunks ∙ ap chunks c.if-move_away.ensures ∙ g.chunks in
-    let t : IsOffset (entry b i) = (c.requires.used, λ e. c.if-entry.false (c.entry.ensures ∙ e)) in let o = offset-same b d i c.requires.heap same c.requires.known t in
-    let room = chunk-cost d i c.pack.ensures.packed o.0 o.1 in let e = ap (λ xs. cost_of (get_or xs i None)) same in
+    let b = c.args.block.now in
+    let i = c.args.i in
+    let d = c.pack.new.block in
+    let g = c.if-resize_beside.ensures in
+    let same : chunks d ≡ chunks b = c.pack.ensures.chunks ∙ ap chunks c.if-move_away.ensures ∙ g.chunks in
+    let t : IsOffset (entry b i) = (c.requires.used, λ e. c.if-entry.false (c.entry.ensures ∙ e)) in
+    let o = offset-same b d i c.requires.heap same c.requires.known t in
+    let room = chunk-cost d i c.pack.ensures.packed o.0 o.1 in
+    let e = ap (λ xs. cost_of (get_or xs i None)) same in
     let total = packed-room b d c.requires.heap c.pack.ensures.packed same (c.pack.auto.block ∙ ap length c.if-move_away.ensures ∙ c.resize_beside.auto.block) in
     omega (arith, room, e, total, c.requires.room)
 
 pub returns-clause-chunks : goal.returns-clause-chunks
 returns-clause-chunks c =
-    let b = c.args.block.now in let i = c.args.i in let d = c.pack.new.block in let g = c.if-resize_beside.ensures in let same : chunks d ≡ chunks b = c.pack.ensures.chunks ∙ ap chunks c.if-move_away.ensures ∙ g.chunks in
-    let t : IsOffset (entry b i) = (c.requires.used, λ e. c.if-entry.false (c.entry.ensures ∙ e)) in let o = offset-same b d i c.requires.heap same c.requires.known t in
+    let b = c.args.block.now in
+    let i = c.args.i in
+    let d = c.pack.new.block in
+    let g = c.if-resize_beside.ensures in
+    let same : chunks d ≡ chunks b = c.pack.ensures.chunks ∙ ap chunks c.if-move_away.ensures ∙ g.chunks in
+    let t : IsOffset (entry b i) = (c.requires.used, λ e. c.if-entry.false (c.entry.ensures ∙ e)) in
+    let o = offset-same b d i c.requires.heap same c.requires.known t in
     c.resize_in_place.ensures.chunks ∙ ap (λ xs. set xs i (Some (resized (unwrap_or (get_or xs i None) []) c.args.n))) same
 
 pub returns-clause-handle : goal.returns-clause-handle
@@ -67,19 +93,29 @@ returns-clause-handle c = c.resize_in_place.ensures.handle ∙ c.pack.ensures.ha
 
 pub move_away-requires-clause-known : goal.move_away-requires-clause-known
 move_away-requires-clause-known c =
-    let b = c.args.block.now in let i = c.args.i in let d = c.resize_beside.new.block in let g = c.if-resize_beside.ensures in
-    let t : IsOffset (entry b i) = (c.requires.used, λ e. c.if-entry.false (c.entry.ensures ∙ e)) in let o = offset-same b d i c.requires.heap g.chunks c.requires.known t in
+    let b = c.args.block.now in
+    let i = c.args.i in
+    let d = c.resize_beside.new.block in
+    let g = c.if-resize_beside.ensures in
+    let t : IsOffset (entry b i) = (c.requires.used, λ e. c.if-entry.false (c.entry.ensures ∙ e)) in
+    let o = offset-same b d i c.requires.heap g.chunks c.requires.known t in
     o.0
 
 pub move_away-requires-clause-offset : goal.move_away-requires-clause-offset
 move_away-requires-clause-offset c =
-    let b = c.args.block.now in let i = c.args.i in let d = c.resize_beside.new.block in let g = c.if-resize_beside.ensures in
-    let t : IsOffset (entry b i) = (c.requires.used, λ e. c.if-entry.false (c.entry.ensures ∙ e)) in let o = offset-same b d i c.requires.heap g.chunks c.requires.known t in
+    let b = c.args.block.now in
+    let i = c.args.i in
+    let d = c.resize_beside.new.block in
+    let g = c.if-resize_beside.ensures in
+    let t : IsOffset (entry b i) = (c.requires.used, λ e. c.if-entry.false (c.entry.ensures ∙ e)) in
+    let o = offset-same b d i c.requires.heap g.chunks c.requires.known t in
     o.1
 
 pub returns-then-move_away-clause-chunks : goal.returns-then-move_away-clause-chunks
 returns-then-move_away-clause-chunks c =
-    let i = c.args.i in let g = c.if-resize_beside.ensures in c.if-move_away.ensures.chunks ∙ ap (λ xs. set xs i (Some (resized (unwrap_or (get_or xs i None) []) c.args.n))) g.chunks
+    let i = c.args.i in
+    let g = c.if-resize_beside.ensures in
+    c.if-move_away.ensures.chunks ∙ ap (λ xs. set xs i (Some (resized (unwrap_or (get_or xs i None) []) c.args.n))) g.chunks
 
 pub returns-then-move_away-clause-handle : goal.returns-then-move_away-clause-handle
 returns-then-move_away-clause-handle c = c.if-move_away.ensures.handle ∙ c.if-resize_beside.ensures.handle

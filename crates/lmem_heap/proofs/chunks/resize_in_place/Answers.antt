@@ -13,18 +13,26 @@ use Rattle.lmem_heap.proofs.chunks.resize_in_place.Goals as goal
 
 pub overflow_add-n : goal.overflow_add-n
 overflow_add-n c =
-    let bs = bounds c.args.block.now c.requires.packed in let k = c.of-chunk.ensures in let w = cost-least c.args.n c.requires.some in
+    let bs = bounds c.args.block.now c.requires.packed in
+    let k = c.of-chunk.ensures in
+    let w = cost-least c.args.n c.requires.some in
     let len = ap cost k.len in omega (arith, w, len, k.wide, k.high, k.low, bs.table, bs.room, bs.most, c.requires.room)
 
 pub clear-requires : goal.clear-requires
 clear-requires c =
-    let bs = bounds c.args.block.now c.requires.packed in let k = c.of-chunk.ensures in let w = cost-least c.args.n c.requires.some in
+    let bs = bounds c.args.block.now c.requires.packed in
+    let k = c.of-chunk.ensures in
+    let w = cost-least c.args.n c.requires.some in
     let len = ap cost k.len in omega (arith, w, len, k.wide, k.high, k.low, bs.room, c.requires.room, c.put16.auto.block, c.move_run.auto.block)
 
 pub set_tail-requires-clause-fours : goal.set_tail-requires-clause-fours
 set_tail-requires-clause-fours c =
-    let bs = bounds c.args.block.now c.requires.packed in let k = c.of-chunk.ensures in let f = cost-fours c.of-chunk.result.len in let g = cost-fours c.args.n in
-    let len = ap cost k.len in let r = c.requires.room in
+    let bs = bounds c.args.block.now c.requires.packed in
+    let k = c.of-chunk.ensures in
+    let f = cost-fours c.of-chunk.result.len in
+    let g = cost-fours c.args.n in
+    let len = ap cost k.len in
+    let r = c.requires.room in
     omega (arith, f, g, len, r, k.wide, k.high, bs.room, bs.fours, c.chunks_end-at.ensures, c.cost.ensures, c.clear.auto.block, c.put16.auto.block, c.move_run.auto.block)
 
 pub returns-clause-heap : goal.returns-clause-heap

@@ -16,19 +16,40 @@ said-length b i n e = omega (arith, e)
 
 pub overflow_sub-at : goal.overflow_sub-at
 overflow_sub-at c =
-    let b = c.args.block.now in let i = c.args.i in let n = c.args.n in let y = says b i c.requires.heap c.requires.known c.requires.offset in let size = y.size in let some = y.some in let low = y.low in let inside = y.inside in
+    let b = c.args.block.now in
+    let i = c.args.i in
+    let n = c.args.n in
+    let y = says b i c.requires.heap c.requires.known c.requires.offset in
+    let size = y.size in
+    let some = y.some in
+    let low = y.low in
+    let inside = y.inside in
     let at_is = c.entry-at.ensures in
     omega (arith, low, at_is)
 
 pub get16-requires : goal.get16-requires
 get16-requires c =
-    let b = c.args.block.now in let i = c.args.i in let n = c.args.n in let y = says b i c.requires.heap c.requires.known c.requires.offset in let size = y.size in let some = y.some in let low = y.low in let inside = y.inside in
+    let b = c.args.block.now in
+    let i = c.args.i in
+    let n = c.args.n in
+    let y = says b i c.requires.heap c.requires.known c.requires.offset in
+    let size = y.size in
+    let some = y.some in
+    let low = y.low in
+    let inside = y.inside in
     let at_is = c.entry-at.ensures in
     omega (arith, low, inside, at_is)
 
 pub overflow_sub-len : goal.overflow_sub-len
 overflow_sub-len c =
-    let b = c.args.block.now in let i = c.args.i in let n = c.args.n in let y = says b i c.requires.heap c.requires.known c.requires.offset in let size = y.size in let some = y.some in let low = y.low in let inside = y.inside in
+    let b = c.args.block.now in
+    let i = c.args.i in
+    let n = c.args.n in
+    let y = says b i c.requires.heap c.requires.known c.requires.offset in
+    let size = y.size in
+    let some = y.some in
+    let low = y.low in
+    let inside = y.inside in
     let at_is = c.entry-at.ensures in
     let word_is : c.get16.result ≡ word b (entry b i - 2) = c.get16.ensures ∙ ap (λ x. word b (x - 2)) at_is in
     let len_is : c.get16.result - 2 ≡ chunk_length b i = omega (arith, word_is) in
@@ -36,39 +57,84 @@ overflow_sub-len c =
 
 pub overflow_sub-at-2 : goal.overflow_sub-at-2
 overflow_sub-at-2 c =
-    let b = c.args.block.now in let i = c.args.i in let n = c.args.n in let y = says b i c.requires.heap c.requires.known c.requires.offset in let size = y.size in let some = y.some in let low = y.low in let inside = y.inside in
+    let b = c.args.block.now in
+    let i = c.args.i in
+    let n = c.args.n in
+    let y = says b i c.requires.heap c.requires.known c.requires.offset in
+    let size = y.size in
+    let some = y.some in
+    let low = y.low in
+    let inside = y.inside in
     let at_is = c.entry-at.ensures in
     omega (arith, low, at_is)
 
 pub overflow_add-n : goal.overflow_add-n
 overflow_add-n c =
-    let b = c.args.block.now in let i = c.args.i in let n = c.args.n in let y = says b i c.requires.heap c.requires.known c.requires.offset in let size = y.size in let some = y.some in let low = y.low in let inside = y.inside in
+    let b = c.args.block.now in
+    let i = c.args.i in
+    let n = c.args.n in
+    let y = says b i c.requires.heap c.requires.known c.requires.offset in
+    let size = y.size in
+    let some = y.some in
+    let low = y.low in
+    let inside = y.inside in
     let at_is = c.entry-at.ensures in
-    let t = told b i c.requires.heap c.requires.known c.requires.offset in let upto = t.upto in let told_says = t.says in let most = c.requires.heap.0.most in
-    let same = c.requires.same in let wide = cost-least n c.requires.some in let cost_is = ap cost (said-length b i t.n told_says) in
+    let t = told b i c.requires.heap c.requires.known c.requires.offset in
+    let upto = t.upto in
+    let told_says = t.says in
+    let most = c.requires.heap.0.most in
+    let same = c.requires.same in
+    let wide = cost-least n c.requires.some in
+    let cost_is = ap cost (said-length b i t.n told_says) in
     let fits : entry b i + n ≤ length b = omega (arith, upto, same, wide, cost_is) in
     omega (arith, fits, most)
 
 pub put16-requires : goal.put16-requires
 put16-requires c =
-    let b = c.args.block.now in let i = c.args.i in let n = c.args.n in let y = says b i c.requires.heap c.requires.known c.requires.offset in let size = y.size in let some = y.some in let low = y.low in let inside = y.inside in
+    let b = c.args.block.now in
+    let i = c.args.i in
+    let n = c.args.n in
+    let y = says b i c.requires.heap c.requires.known c.requires.offset in
+    let size = y.size in
+    let some = y.some in
+    let low = y.low in
+    let inside = y.inside in
     let at_is = c.entry-at.ensures in
     omega (arith, low, inside, at_is)
 
 pub clear-requires : goal.clear-requires
 clear-requires c =
-    let b = c.args.block.now in let i = c.args.i in let n = c.args.n in let y = says b i c.requires.heap c.requires.known c.requires.offset in let size = y.size in let some = y.some in let low = y.low in let inside = y.inside in
+    let b = c.args.block.now in
+    let i = c.args.i in
+    let n = c.args.n in
+    let y = says b i c.requires.heap c.requires.known c.requires.offset in
+    let size = y.size in
+    let some = y.some in
+    let low = y.low in
+    let inside = y.inside in
     let at_is = c.entry-at.ensures in
     let word_is : c.get16.result ≡ word b (entry b i - 2) = c.get16.ensures ∙ ap (λ x. word b (x - 2)) at_is in
     let len_is : c.get16.result - 2 ≡ chunk_length b i = omega (arith, word_is) in
-    let t = told b i c.requires.heap c.requires.known c.requires.offset in let upto = t.upto in let told_says = t.says in let most = c.requires.heap.0.most in
-    let same = c.requires.same in let wide = cost-least n c.requires.some in let cost_is = ap cost (said-length b i t.n told_says) in
+    let t = told b i c.requires.heap c.requires.known c.requires.offset in
+    let upto = t.upto in
+    let told_says = t.says in
+    let most = c.requires.heap.0.most in
+    let same = c.requires.same in
+    let wide = cost-least n c.requires.some in
+    let cost_is = ap cost (said-length b i t.n told_says) in
     let fits : entry b i + n ≤ length b = omega (arith, upto, same, wide, cost_is) in
     omega (arith, fits, inside, at_is, len_is, c.saturating_sub-more.ensures, c.put16.auto.block)
 
 pub returns : goal.returns
 returns c =
-    let b = c.args.block.now in let i = c.args.i in let n = c.args.n in let y = says b i c.requires.heap c.requires.known c.requires.offset in let size = y.size in let some = y.some in let low = y.low in let inside = y.inside in
+    let b = c.args.block.now in
+    let i = c.args.i in
+    let n = c.args.n in
+    let y = says b i c.requires.heap c.requires.known c.requires.offset in
+    let size = y.size in
+    let some = y.some in
+    let low = y.low in
+    let inside = y.inside in
     let at_is = c.entry-at.ensures in
     let word_is : c.get16.result ≡ word b (entry b i - 2) = c.get16.ensures ∙ ap (λ x. word b (x - 2)) at_is in
     let len_is : c.get16.result - 2 ≡ chunk_length b i = omega (arith, word_is) in

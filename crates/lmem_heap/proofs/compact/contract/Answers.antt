@@ -6,7 +6,10 @@ pub is_compact-requires : goal.is_compact-requires
 is_compact-requires c = (c.loop-block.block, but-itself c.loop-block.block c.loop-block.invariant.heap)
 
 pub loop-block-preserved : goal.loop-block-preserved
-loop-block-preserved c = let k = c.close_gaps.ensures in let i = c.loop-block.invariant in record { heap = k.heap; chunks = k.chunks ∙ i.chunks; handle = k.handle ∙ i.handle }
+loop-block-preserved c =
+    let k = c.close_gaps.ensures in
+    let i = c.loop-block.invariant in
+    record { heap = k.heap; chunks = k.chunks ∙ i.chunks; handle = k.handle ∙ i.handle }
 
 pub loop-block-smaller : goal.loop-block-smaller
 loop-block-smaller c = let k = c.close_gaps.ensures in omega (arith, k.went, k.within)

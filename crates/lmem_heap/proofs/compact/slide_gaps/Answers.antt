@@ -21,26 +21,34 @@ next_short block n (Some gap) first some few = (first, few)
 
 pub loop-next-init : goal.loop-next-init
 loop-next-init c =
-    let b = c.args.block.now in let P : List Slide → Type 0 = λ x. SlidesGaps b b x in let n : length c.new-slides.result.items ≡ 0 = ap length c.new-slides.ensures in
+    let b = c.args.block.now in
+    let P : List Slide → Type 0 = λ x. SlidesGaps b b x in
+    let n : length c.new-slides.result.items ≡ 0 = ap length c.new-slides.ensures in
     record { so_far = subst P (sym c.new-slides.ensures) (slides-none b c.requires.heap (λ k. omega (arith, c.type_inv.block k))); next = (c.requires.first, omega (arith, n)) }
 
 pub short_gap-next-requires : goal.short_gap-next-requires
 short_gap-next-requires c =
-    let i = c.loop-next.invariant in let block = c.loop-next.block in let items = c.loop-next.slides.items in
+    let i = c.loop-next.invariant in
+    let block = c.loop-next.block in
+    let items = c.loop-next.slides.items in
     let now = subst (Next block (length items)) c.in-Some.is i.next in
     let s = slides-one-more c.args.block.now block c.slide-slide.new.block items c.push.new.self.items c.in-Some.gap c.slide-slide.result i.so_far now.0 (omega arith) c.slide-slide.ensures.bytes c.slide-slide.ensures.run c.push.ensures.items in
     (s.so_far.heap, s.so_far.slid.but)
 
 pub loop-next-preserved-then-is_full : goal.loop-next-preserved-then-is_full
 loop-next-preserved-then-is_full c =
-    let i = c.loop-next.invariant in let block = c.loop-next.block in let items = c.loop-next.slides.items in
+    let i = c.loop-next.invariant in
+    let block = c.loop-next.block in
+    let items = c.loop-next.slides.items in
     let now = subst (Next block (length items)) c.in-Some.is i.next in
     let s = slides-one-more c.args.block.now block c.slide-slide.new.block items c.push.new.self.items c.in-Some.gap c.slide-slide.result i.so_far now.0 (omega arith) c.slide-slide.ensures.bytes c.slide-slide.ensures.run c.push.ensures.items in
     record { so_far = s.so_far; next = s.some }
 
 pub loop-next-preserved : goal.loop-next-preserved
 loop-next-preserved c =
-    let i = c.loop-next.invariant in let block = c.loop-next.block in let items = c.loop-next.slides.items in
+    let i = c.loop-next.invariant in
+    let block = c.loop-next.block in
+    let items = c.loop-next.slides.items in
     let now = subst (Next block (length items)) c.in-Some.is i.next in
     let s = slides-one-more c.args.block.now block c.slide-slide.new.block items c.push.new.self.items c.in-Some.gap c.slide-slide.result i.so_far now.0 (omega arith) c.slide-slide.ensures.bytes c.slide-slide.ensures.run c.push.ensures.items in
     let few : length c.push.new.self.items < 128 = grind (arith, nat_tests) in
@@ -48,12 +56,17 @@ loop-next-preserved c =
 
 pub write_entries-requires-clause-table : goal.write_entries-requires-clause-table
 write_entries-requires-clause-table c =
-    let s = c.loop-next.invariant.so_far in let but = s.slid.but in let count = but-head c.loop-next.block s.heap 10 but (omega arith) in
+    let s = c.loop-next.invariant.so_far in
+    let but = s.slid.but in
+    let count = but-head c.loop-next.block s.heap 10 but (omega arith) in
     omega (arith, count, but.long, but.is.0.fits)
 
 pub returns : goal.returns
 returns c =
-    let i = c.loop-next.invariant in let block = c.loop-next.block in let items = c.loop-next.slides.items in let new = c.write_entries.new.block in
+    let i = c.loop-next.invariant in
+    let block = c.loop-next.block in
+    let items = c.loop-next.slides.items in
+    let new = c.write_entries.new.block in
     let P : List Slide → Type 0 = λ x. MapsEntries block new (entry_slid x) 0 (entries block) in
     let some : 0 < length items = subst (Next block (length items)) c.in_default.is i.next in
     slides-done c.args.block.now block new items i.so_far c.requires.heap c.requires.not_compact some (subst P c.deref.ensures.0 c.write_entries.ensures)

@@ -13,13 +13,20 @@ use Rattle.lmem_heap.proofs.resize.delete.Goals as goal
 
 pub returns-then-at-n-clause-refused : goal.returns-then-at-n-clause-refused
 returns-then-at-n-clause-refused c =
-    let b = c.args.block.now in let f = c.in_ok-i.ensures.found in let i = c.in_ok-i.i in let p = c.place_of_entry-len.ensures in
-    let l = entry-length b i _ f.1 p.place p.within in let e = ap length (item-bytes b c.args.c i f.0 f.1) in
+    let b = c.args.block.now in
+    let f = c.in_ok-i.ensures.found in
+    let i = c.in_ok-i.i in
+    let p = c.place_of_entry-len.ensures in
+    let l = entry-length b i _ f.1 p.place p.within in
+    let e = ap length (item-bytes b c.args.c i f.0 f.1) in
     (some-chunk b i c.args.c f.1 f.2 f.0, omega (arith, l, e, c.if-at-n.true))
 
 pub close_bytes-requires-clause-within : goal.close_bytes-requires-clause-within
 close_bytes-requires-clause-within c =
-    let b = c.args.block.now in let f = c.in_ok-i.ensures.found in let i = c.in_ok-i.i in let p = c.place_of_entry-len.ensures in
+    let b = c.args.block.now in
+    let f = c.in_ok-i.ensures.found in
+    let i = c.in_ok-i.i in
+    let p = c.place_of_entry-len.ensures in
     let l = entry-length b i _ f.1 p.place p.within in omega (arith, l, c.if-at-n.false)
 
 pub resize_chunk-requires-clause-known : goal.resize_chunk-requires-clause-known
@@ -30,8 +37,16 @@ resize_chunk-requires-clause-used c = (in-use-set c.args.block.now c.close_bytes
 
 pub resize_chunk-requires-clause-room : goal.resize_chunk-requires-clause-room
 resize_chunk-requires-clause-room c =
-    let b = c.args.block.now in let f = c.in_ok-i.ensures.found in let i = c.in_ok-i.i in let p = c.place_of_entry-len.ensures in let count = count-chunks b in let known = f.1 in
-    let at = c.args.at in let n = c.args.n in let bytes = entry_bytes (chunks b) i in let len = c.place_of_entry-len.result.1 in
+    let b = c.args.block.now in
+    let f = c.in_ok-i.ensures.found in
+    let i = c.in_ok-i.i in
+    let p = c.place_of_entry-len.ensures in
+    let count = count-chunks b in
+    let known = f.1 in
+    let at = c.args.at in
+    let n = c.args.n in
+    let bytes = entry_bytes (chunks b) i in
+    let len = c.place_of_entry-len.result.1 in
     let l : length bytes ≡ len = entry-length b i _ f.1 p.place p.within in
     let moved = with_part bytes at (part bytes (at + n) (length bytes - (at + n))) in
     let here : cost_of (get_or (chunks c.close_bytes.new.block) i None) ≡ cost len = ap (λ xs. cost_of (get_or xs i None)) c.close_bytes.ensures.chunks
@@ -40,9 +55,20 @@ resize_chunk-requires-clause-room c =
 
 pub returns-clause-ok : goal.returns-clause-ok
 returns-clause-ok c =
-    let b = c.args.block.now in let f = c.in_ok-i.ensures.found in let i = c.in_ok-i.i in let p = c.place_of_entry-len.ensures in let count = count-chunks b in let known = f.1 in
-    let at = c.args.at in let n = c.args.n in let cs = chunks b in let bytes = entry_bytes cs i in let len = c.place_of_entry-len.result.1 in let d = c.close_bytes.new.block in
-    let l : length bytes ≡ len = entry-length b i _ f.1 p.place p.within in let e = ap length (item-bytes b c.args.c i f.0 f.1) in
+    let b = c.args.block.now in
+    let f = c.in_ok-i.ensures.found in
+    let i = c.in_ok-i.i in
+    let p = c.place_of_entry-len.ensures in
+    let count = count-chunks b in
+    let known = f.1 in
+    let at = c.args.at in
+    let n = c.args.n in
+    let cs = chunks b in
+    let bytes = entry_bytes cs i in
+    let len = c.place_of_entry-len.result.1 in
+    let d = c.close_bytes.new.block in
+    let l : length bytes ≡ len = entry-length b i _ f.1 p.place p.within in
+    let e = ap length (item-bytes b c.args.c i f.0 f.1) in
     let moved = with_part bytes at (part bytes (at + n) (length bytes - (at + n))) in
     let before : chunks d ≡ set cs i (Some moved) = c.close_bytes.ensures.chunks in
     let now : entry_bytes (chunks d) i ≡ moved = ap (λ xs. entry_bytes xs i) before ∙ set-bytes cs i moved (omega (arith, count)) in

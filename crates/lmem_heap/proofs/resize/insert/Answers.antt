@@ -14,20 +14,29 @@ use Rattle.lmem_heap.proofs.resize.insert.Goals as goal
 -- what is needed for a chunk with n more bytes
 needed-same : (b : List ℕ) (c i len at n : ℕ) → c ≡ 16 + 2 * i → i < entries b → length (entry_bytes (chunks b) i) ≡ len → at ≤ len → need (set (chunks b) i (Some (resized (entry_bytes (chunks b) i) (len + n)))) ≡ need (with_inserted (chunks b) c at n)
 needed-same b c i len at n is h long fits =
-    let bytes = entry_bytes (chunks b) i in let count = count-chunks b in
+    let bytes = entry_bytes (chunks b) i in
+    let count = count-chunks b in
     ap sixteens (used-length (chunks b) i (resized bytes (len + n)) (with_zeros bytes at n) (omega (arith, count)) (length-resized bytes (len + n) ∙ sym (length-with_zeros bytes at n (omega arith) ∙ ap (λ x. x + n) long)))
     ∙ ap need (item-set b c i (λ x. with_zeros x at n) is h)
 
 pub returns-then-at-len-clause-refused : goal.returns-then-at-len-clause-refused
 returns-then-at-len-clause-refused c =
-    let b = c.args.block.now in let f = c.in_ok-i.ensures.found in let i = c.in_ok-i.i in let p = c.place_of_entry-len.ensures in
-    let l = entry-length b i _ f.1 p.place p.within in let e = ap length (item-bytes b c.args.c i f.0 f.1) in
+    let b = c.args.block.now in
+    let f = c.in_ok-i.ensures.found in
+    let i = c.in_ok-i.i in
+    let p = c.place_of_entry-len.ensures in
+    let l = entry-length b i _ f.1 p.place p.within in
+    let e = ap length (item-bytes b c.args.c i f.0 f.1) in
     (some-chunk b i c.args.c f.1 f.2 f.0, omega (arith, l, e, c.if-at-len.true))
 
 pub returns-in_err-resize-clause-refused : goal.returns-in_err-resize-clause-refused
 returns-in_err-resize-clause-refused c =
-    let b = c.args.block.now in let f = c.in_ok-i.ensures.found in let i = c.in_ok-i.i in let p = c.place_of_entry-len.ensures in
-    let l = entry-length b i _ f.1 p.place p.within in let e = ap length (item-bytes b c.args.c i f.0 f.1) in
+    let b = c.args.block.now in
+    let f = c.in_ok-i.ensures.found in
+    let i = c.in_ok-i.i in
+    let p = c.place_of_entry-len.ensures in
+    let l = entry-length b i _ f.1 p.place p.within in
+    let e = ap length (item-bytes b c.args.c i f.0 f.1) in
     let N : ℕ → Type 0 = λ x. IsRoomError c.in_err-resize.field-0.0 x (length b) in
     let q = err_from_is_err_and c.from_residual-in_err-resize.result c.from_residual-in_err-resize.ensures.1 in
     rw (q.1, q.2) (some-chunk b i c.args.c f.1 f.2 f.0, omega (arith, l, e, c.if-at-len.false), subst N (needed-same b c.args.c i _ c.args.at c.args.n f.0 f.1 l c.if-at-len.false) c.in_err-resize.ensures.refused)
@@ -40,17 +49,34 @@ open_bytes-requires-clause-used c = let b = c.args.block.now in (in-use-set b c.
 
 pub open_bytes-requires-clause-within : goal.open_bytes-requires-clause-within
 open_bytes-requires-clause-within c =
-    let b = c.args.block.now in let f = c.in_ok-i.ensures.found in let i = c.in_ok-i.i in let count = count-chunks b in let known = f.1 in
-    let bytes = entry_bytes (chunks b) i in let len = c.place_of_entry-len.result.1 in
+    let b = c.args.block.now in
+    let f = c.in_ok-i.ensures.found in
+    let i = c.in_ok-i.i in
+    let count = count-chunks b in
+    let known = f.1 in
+    let bytes = entry_bytes (chunks b) i in
+    let len = c.place_of_entry-len.result.1 in
     let now : length (entry_bytes (chunks c.resize.new.block) i) ≡ len + c.args.n = ap (λ xs. length (entry_bytes xs i)) c.in_ok-resize.ensures.ok ∙ ap length (set-bytes (chunks b) i (resized bytes (len + c.args.n)) (omega (arith, count))) ∙ length-resized bytes (len + c.args.n) in
     omega (arith, now, c.if-at-len.false)
 
 pub returns-clause-ok : goal.returns-clause-ok
 returns-clause-ok c =
-    let b = c.args.block.now in let f = c.in_ok-i.ensures.found in let i = c.in_ok-i.i in let p = c.place_of_entry-len.ensures in let count = count-chunks b in let known = f.1 in
-    let at = c.args.at in let n = c.args.n in let cs = chunks b in let bytes = entry_bytes cs i in let len = c.place_of_entry-len.result.1 in let d = c.resize.new.block in
-    let l : length bytes ≡ len = entry-length b i _ f.1 p.place p.within in let e = ap length (item-bytes b c.args.c i f.0 f.1) in
-    let r = resized bytes (len + n) in let ok = c.in_ok-resize.ensures.ok in
+    let b = c.args.block.now in
+    let f = c.in_ok-i.ensures.found in
+    let i = c.in_ok-i.i in
+    let p = c.place_of_entry-len.ensures in
+    let count = count-chunks b in
+    let known = f.1 in
+    let at = c.args.at in
+    let n = c.args.n in
+    let cs = chunks b in
+    let bytes = entry_bytes cs i in
+    let len = c.place_of_entry-len.result.1 in
+    let d = c.resize.new.block in
+    let l : length bytes ≡ len = entry-length b i _ f.1 p.place p.within in
+    let e = ap length (item-bytes b c.args.c i f.0 f.1) in
+    let r = resized bytes (len + n) in
+    let ok = c.in_ok-resize.ensures.ok in
     let now : entry_bytes (chunks d) i ≡ r = ap (λ xs. entry_bytes xs i) ok ∙ set-bytes cs i r (omega (arith, count)) in
     let F : List ℕ → List ℕ = λ x. with_part (with_part x (at + n) (part x at (length x - (at + n)))) at (replicate n 0) in
     let rest : length r - (at + n) ≡ length bytes - at = omega (arith, length-resized bytes (len + n), l) in
@@ -64,7 +90,10 @@ returns-clause-ok c =
 
 pub returns-clause-fits : goal.returns-clause-fits
 returns-clause-fits c =
-    let b = c.args.block.now in let f = c.in_ok-i.ensures.found in let i = c.in_ok-i.i in let p = c.place_of_entry-len.ensures in
+    let b = c.args.block.now in
+    let f = c.in_ok-i.ensures.found in
+    let i = c.in_ok-i.i in
+    let p = c.place_of_entry-len.ensures in
     let l = entry-length b i _ f.1 p.place p.within in
     let N : ℕ → Type 0 = λ x. x ≤ length b in
     subst N (needed-same b c.args.c i _ c.args.at c.args.n f.0 f.1 l c.if-at-len.false) c.in_ok-resize.ensures.fits

@@ -3,31 +3,61 @@ use Rattle.lmem_heap.proofs.Shifts.{lies-in-chunk, opened}
 use Rattle.lmem_heap.proofs.resize.open_bytes.Goals as goal
 
 pub overflow_add-begin : goal.overflow_add-begin
-overflow_add-begin c = let p = c.place_of_entry-begin.ensures in let l = lies-in-chunk c.args.block.now c.args.i _ c.args.at c.args.n c.requires.heap c.requires.known p.place p.within c.requires.within in omega (arith, l.part, l.place, l.small)
+overflow_add-begin c =
+    let p = c.place_of_entry-begin.ensures in
+    let l = lies-in-chunk c.args.block.now c.args.i _ c.args.at c.args.n c.requires.heap c.requires.known p.place p.within c.requires.within in
+    omega (arith, l.part, l.place, l.small)
 
 pub overflow_add-begin-2 : goal.overflow_add-begin-2
-overflow_add-begin-2 c = let p = c.place_of_entry-begin.ensures in let l = lies-in-chunk c.args.block.now c.args.i _ c.args.at c.args.n c.requires.heap c.requires.known p.place p.within c.requires.within in omega (arith, l.part, l.place, l.small)
+overflow_add-begin-2 c =
+    let p = c.place_of_entry-begin.ensures in
+    let l = lies-in-chunk c.args.block.now c.args.i _ c.args.at c.args.n c.requires.heap c.requires.known p.place p.within c.requires.within in
+    omega (arith, l.part, l.place, l.small)
 
 pub overflow_add-at : goal.overflow_add-at
-overflow_add-at c = let p = c.place_of_entry-begin.ensures in let l = lies-in-chunk c.args.block.now c.args.i _ c.args.at c.args.n c.requires.heap c.requires.known p.place p.within c.requires.within in omega (arith, l.part, l.place, l.small)
+overflow_add-at c =
+    let p = c.place_of_entry-begin.ensures in
+    let l = lies-in-chunk c.args.block.now c.args.i _ c.args.at c.args.n c.requires.heap c.requires.known p.place p.within c.requires.within in
+    omega (arith, l.part, l.place, l.small)
 
 pub overflow_sub-len : goal.overflow_sub-len
-overflow_sub-len c = let p = c.place_of_entry-begin.ensures in let l = lies-in-chunk c.args.block.now c.args.i _ c.args.at c.args.n c.requires.heap c.requires.known p.place p.within c.requires.within in omega (arith, l.part, l.place, l.small)
+overflow_sub-len c =
+    let p = c.place_of_entry-begin.ensures in
+    let l = lies-in-chunk c.args.block.now c.args.i _ c.args.at c.args.n c.requires.heap c.requires.known p.place p.within c.requires.within in
+    omega (arith, l.part, l.place, l.small)
 
 pub move_bytes-requires-clause-source : goal.move_bytes-requires-clause-source
-move_bytes-requires-clause-source c = let p = c.place_of_entry-begin.ensures in let l = lies-in-chunk c.args.block.now c.args.i _ c.args.at c.args.n c.requires.heap c.requires.known p.place p.within c.requires.within in omega (arith, l.part, l.place, l.small)
+move_bytes-requires-clause-source c =
+    let p = c.place_of_entry-begin.ensures in
+    let l = lies-in-chunk c.args.block.now c.args.i _ c.args.at c.args.n c.requires.heap c.requires.known p.place p.within c.requires.within in
+    omega (arith, l.part, l.place, l.small)
 
 pub move_bytes-requires-clause-target : goal.move_bytes-requires-clause-target
-move_bytes-requires-clause-target c = let p = c.place_of_entry-begin.ensures in let l = lies-in-chunk c.args.block.now c.args.i _ c.args.at c.args.n c.requires.heap c.requires.known p.place p.within c.requires.within in omega (arith, l.part, l.place, l.small)
+move_bytes-requires-clause-target c =
+    let p = c.place_of_entry-begin.ensures in
+    let l = lies-in-chunk c.args.block.now c.args.i _ c.args.at c.args.n c.requires.heap c.requires.known p.place p.within c.requires.within in
+    omega (arith, l.part, l.place, l.small)
 
 pub clear-requires : goal.clear-requires
-clear-requires c = let p = c.place_of_entry-begin.ensures in let l = lies-in-chunk c.args.block.now c.args.i _ c.args.at c.args.n c.requires.heap c.requires.known p.place p.within c.requires.within in omega (arith, l.part, l.place, l.small, c.move_bytes.auto.block)
+clear-requires c =
+    let p = c.place_of_entry-begin.ensures in
+    let l = lies-in-chunk c.args.block.now c.args.i _ c.args.at c.args.n c.requires.heap c.requires.known p.place p.within c.requires.within in
+    omega (arith, l.part, l.place, l.small, c.move_bytes.auto.block)
 
 pub returns-clause-heap : goal.returns-clause-heap
-returns-clause-heap c = let p = c.place_of_entry-begin.ensures in let l = lies-in-chunk c.args.block.now c.args.i _ c.args.at c.args.n c.requires.heap c.requires.known p.place p.within c.requires.within in (opened c.args.block.now c.move_bytes.new.block c.clear.new.block c.args.i _ c.args.at c.args.n _ _ c.requires.heap c.requires.known p.place p.within l.part refl refl c.move_bytes.ensures c.clear.ensures).heap
+returns-clause-heap c =
+    let p = c.place_of_entry-begin.ensures in
+    let l = lies-in-chunk c.args.block.now c.args.i _ c.args.at c.args.n c.requires.heap c.requires.known p.place p.within c.requires.within in
+    (opened c.args.block.now c.move_bytes.new.block c.clear.new.block c.args.i _ c.args.at c.args.n _ _ c.requires.heap c.requires.known p.place p.within l.part refl refl c.move_bytes.ensures c.clear.ensures).heap
 
 pub returns-clause-handle : goal.returns-clause-handle
-returns-clause-handle c = let p = c.place_of_entry-begin.ensures in let l = lies-in-chunk c.args.block.now c.args.i _ c.args.at c.args.n c.requires.heap c.requires.known p.place p.within c.requires.within in (opened c.args.block.now c.move_bytes.new.block c.clear.new.block c.args.i _ c.args.at c.args.n _ _ c.requires.heap c.requires.known p.place p.within l.part refl refl c.move_bytes.ensures c.clear.ensures).handle
+returns-clause-handle c =
+    let p = c.place_of_entry-begin.ensures in
+    let l = lies-in-chunk c.args.block.now c.args.i _ c.args.at c.args.n c.requires.heap c.requires.known p.place p.within c.requires.within in
+    (opened c.args.block.now c.move_bytes.new.block c.clear.new.block c.args.i _ c.args.at c.args.n _ _ c.requires.heap c.requires.known p.place p.within l.part refl refl c.move_bytes.ensures c.clear.ensures).handle
 
 pub returns-clause-chunks : goal.returns-clause-chunks
-returns-clause-chunks c = let p = c.place_of_entry-begin.ensures in let l = lies-in-chunk c.args.block.now c.args.i _ c.args.at c.args.n c.requires.heap c.requires.known p.place p.within c.requires.within in (opened c.args.block.now c.move_bytes.new.block c.clear.new.block c.args.i _ c.args.at c.args.n _ _ c.requires.heap c.requires.known p.place p.within l.part refl refl c.move_bytes.ensures c.clear.ensures).chunks
+returns-clause-chunks c =
+    let p = c.place_of_entry-begin.ensures in
+    let l = lies-in-chunk c.args.block.now c.args.i _ c.args.at c.args.n c.requires.heap c.requires.known p.place p.within c.requires.within in
+    (opened c.args.block.now c.move_bytes.new.block c.clear.new.block c.args.i _ c.args.at c.args.n _ _ c.requires.heap c.requires.known p.place p.within l.part refl refl c.move_bytes.ensures c.clear.ensures).chunks

@@ -8,7 +8,9 @@ use Rattle.lmem_heap.proofs.resize.realloc.Goals as goal
 
 pub returns-in_err-resize-clause-refused : goal.returns-in_err-resize-clause-refused
 returns-in_err-resize-clause-refused c =
-    let b = c.args.block.now in let f = c.in_ok-i.ensures.found in let i = c.in_ok-i.i in
+    let b = c.args.block.now in
+    let f = c.in_ok-i.ensures.found in
+    let i = c.in_ok-i.i in
     let needed = ap need (item-set b c.args.c i (λ x. resized x c.args.n) f.0 f.1) in
     let N : ℕ → Type 0 = λ x. IsRoomError c.in_err-resize.field-0.0 x (length b) in
     let p = err_from_is_err_and c.from_residual-in_err-resize.result c.from_residual-in_err-resize.ensures.1 in
@@ -16,5 +18,6 @@ returns-in_err-resize-clause-refused c =
 
 pub returns-clause-ok : goal.returns-clause-ok
 returns-clause-ok c =
-    let b = c.args.block.now in let f = c.in_ok-i.ensures.found in
+    let b = c.args.block.now in
+    let f = c.in_ok-i.ensures.found in
     (some-chunk b c.in_ok-i.i c.args.c f.1 f.2 f.0, c.in_ok-resize.ensures.ok ∙ item-set b c.args.c c.in_ok-i.i (λ x. resized x c.args.n) f.0 f.1)

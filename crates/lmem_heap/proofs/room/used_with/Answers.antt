@@ -9,8 +9,12 @@ use Rattle.lmem_heap.proofs.room.used_with.Goals as goal
 
 pub overflow_sub-result : goal.overflow_sub-result
 overflow_sub-result c =
-    let b = c.args.block.now in let p = c.place_of_entry-len.ensures in let n = count-chunks b in let known = c.requires.known in
-    let k = placed-cost b c.args.i _ known p.place p.within in let s = used-set (chunks b) c.args.i None (omega (arith, n)) in
+    let b = c.args.block.now in
+    let p = c.place_of_entry-len.ensures in
+    let n = count-chunks b in
+    let known = c.requires.known in
+    let k = placed-cost b c.args.i _ known p.place p.within in
+    let s = used-set (chunks b) c.args.i None (omega (arith, n)) in
     omega (arith, k, s, c.used_bytes.ensures, c.cost.ensures)
 
 pub overflow_add-result : goal.overflow_add-result
@@ -18,8 +22,13 @@ overflow_add-result c = omega (arith, block-used c.args.block.now c.requires.hea
 
 pub returns-clause-value : goal.returns-clause-value
 returns-clause-value c bytes long =
-    let b = c.args.block.now in let p = c.place_of_entry-len.ensures in let n = count-chunks b in let known = c.requires.known in
-    let k = placed-cost b c.args.i _ known p.place p.within in let s = used-set (chunks b) c.args.i (Some bytes) (omega (arith, n)) in let m = ap cost long in
+    let b = c.args.block.now in
+    let p = c.place_of_entry-len.ensures in
+    let n = count-chunks b in
+    let known = c.requires.known in
+    let k = placed-cost b c.args.i _ known p.place p.within in
+    let s = used-set (chunks b) c.args.i (Some bytes) (omega (arith, n)) in
+    let m = ap cost long in
     let t = used-set (chunks b) c.args.i None (omega (arith, n)) in
     omega (arith, k, s, t, m, c.used_bytes.ensures, c.cost.ensures, c.cost-2.ensures)
 

@@ -6,7 +6,9 @@ use Rattle.lmem_heap.proofs.compact.Gap.close.Goals as goal
 
 pub move_run-requires-clause-behind_table : goal.move_run-requires-clause-behind_table
 move_run-requires-clause-behind_table c =
-    let b = c.args.block.now in let g = c.args.self in let p = c.requires.gap in
+    let b = c.args.block.now in
+    let g = c.args.self in
+    let p = c.requires.gap in
     let low = tiles-le b (table_end b) g.first p.pre g.first g.first p.before in (omega arith, low)
 
 pub returns : goal.returns

@@ -16,7 +16,8 @@ get16-next-requires c = let q = but-first c.args.block.now c.requires.heap.0 c.g
 
 pub returns-then-next-eq0 : goal.returns-then-next-eq0
 returns-then-next-eq0 c =
-    let d = c.args.block.now in let f = c.get16-first.result in
+    let d = c.args.block.now in
+    let f = c.get16-first.result in
     record {
       has = (λ b but. let q = but-first d b f but c.requires.not_compact c.get16-first.ensures in
           let P : ℕ → Type 0 = λ x. HasGap b (gap_of f x (length d) 0 0) in
@@ -27,14 +28,22 @@ returns-then-next-eq0 c =
     }
 
 pub get16-more-requires : goal.get16-more-requires
-get16-more-requires c = let q = but-first c.args.block.now c.requires.heap.0 c.get16-first.result c.requires.heap.1 c.requires.not_compact c.get16-first.ensures in let n = but-inner c.args.block.now c.requires.heap.0 c.get16-first.result c.get16-next.result c.requires.heap.1 q c.get16-next.ensures c.if-next-eq0.false in omega (arith, n.within)
+get16-more-requires c =
+    let q = but-first c.args.block.now c.requires.heap.0 c.get16-first.result c.requires.heap.1 c.requires.not_compact c.get16-first.ensures in
+    let n = but-inner c.args.block.now c.requires.heap.0 c.get16-first.result c.get16-next.result c.requires.heap.1 q c.get16-next.ensures c.if-next-eq0.false in
+    omega (arith, n.within)
 
 pub get16-after-requires : goal.get16-after-requires
-get16-after-requires c = let q = but-first c.args.block.now c.requires.heap.0 c.get16-first.result c.requires.heap.1 c.requires.not_compact c.get16-first.ensures in let n = but-inner c.args.block.now c.requires.heap.0 c.get16-first.result c.get16-next.result c.requires.heap.1 q c.get16-next.ensures c.if-next-eq0.false in omega (arith, n.within)
+get16-after-requires c =
+    let q = but-first c.args.block.now c.requires.heap.0 c.get16-first.result c.requires.heap.1 c.requires.not_compact c.get16-first.ensures in
+    let n = but-inner c.args.block.now c.requires.heap.0 c.get16-first.result c.get16-next.result c.requires.heap.1 q c.get16-next.ensures c.if-next-eq0.false in
+    omega (arith, n.within)
 
 pub returns : goal.returns
 returns c =
-    let d = c.args.block.now in let f = c.get16-first.result in let g = c.get16-next.result in
+    let d = c.args.block.now in
+    let f = c.get16-first.result in
+    let g = c.get16-next.result in
     record {
       has = (λ b but. let q = but-first d b f but c.requires.not_compact c.get16-first.ensures in
           let n = but-inner d b f g but q c.get16-next.ensures c.if-next-eq0.false in

@@ -29,7 +29,8 @@ overflow_add-begin c =
 pub at-requires : goal.at-requires
 at-requires c =
     let m = leaves c.args.block.now c.args.i c.entry.result c.requires.heap c.requires.known c.requires.offset c.entry.ensures in
-    let is = c.cost.ensures ∙ ap cost (length-read c.args.block.now c.args.i _ c.get16.result c.get16.ensures m.says) in let l = left-hole c.args.block.now c.put_entry.new.block c.args.i c.requires.heap c.requires.known c.requires.offset c.put_entry.ensures in
+    let is = c.cost.ensures ∙ ap cost (length-read c.args.block.now c.args.i _ c.get16.result c.get16.ensures m.says) in
+    let l = left-hole c.args.block.now c.put_entry.new.block c.args.i c.requires.heap c.requires.known c.requires.offset c.put_entry.ensures in
     let A : ℕ → Type 0 = λ x. IsOpen c.put_entry.new.block 12 (x - 2) (chunk_end c.args.block.now c.args.i) in
     let B : ℕ → Type 0 = λ x. IsOpen c.put_entry.new.block 12 (c.entry.result - 2) x in
     subst B (sym (ap (λ x. c.entry.result - 2 + x) is ∙ m.whole)) (subst A (sym c.entry.ensures) l.is)
@@ -42,8 +43,10 @@ returns-clause-some c =
 pub returns-clause-fours : goal.returns-clause-fours
 returns-clause-fours c =
     let m = leaves c.args.block.now c.args.i c.entry.result c.requires.heap c.requires.known c.requires.offset c.entry.ensures in
-    let is = c.cost.ensures ∙ ap cost (length-read c.args.block.now c.args.i _ c.get16.result c.get16.ensures m.says) in let l = left-hole c.args.block.now c.put_entry.new.block c.args.i c.requires.heap c.requires.known c.requires.offset c.put_entry.ensures in
-    let fours = l.fours in let cost_fours = cost-fours (chunk_length c.args.block.now c.args.i) in
+    let is = c.cost.ensures ∙ ap cost (length-read c.args.block.now c.args.i _ c.get16.result c.get16.ensures m.says) in
+    let l = left-hole c.args.block.now c.put_entry.new.block c.args.i c.requires.heap c.requires.known c.requires.offset c.put_entry.ensures in
+    let fours = l.fours in
+    let cost_fours = cost-fours (chunk_length c.args.block.now c.args.i) in
     omega (arith, c.at.ensures.place, is, cost_fours, fours, c.entry.ensures)
 
 pub returns-clause-chunks : goal.returns-clause-chunks
@@ -60,6 +63,9 @@ returns-clause-free c = (left-hole c.args.block.now c.put_entry.new.block c.args
 
 pub returns-clause-bytes : goal.returns-clause-bytes
 returns-clause-bytes c =
-    let b = c.args.block.now in let i = c.args.i in let m = leaves c.args.block.now c.args.i c.entry.result c.requires.heap c.requires.known c.requires.offset c.entry.ensures in let l = left-hole c.args.block.now c.put_entry.new.block c.args.i c.requires.heap c.requires.known c.requires.offset c.put_entry.ensures in
+    let b = c.args.block.now in
+    let i = c.args.i in
+    let m = leaves c.args.block.now c.args.i c.entry.result c.requires.heap c.requires.known c.requires.offset c.entry.ensures in
+    let l = left-hole c.args.block.now c.put_entry.new.block c.args.i c.requires.heap c.requires.known c.requires.offset c.put_entry.ensures in
     let is = c.entry.ensures in
     part-shifted b c.put_entry.new.block 0 0 (table_end b) (length b) (entry b i) (entry b i) (chunk_length b i) l.bytes refl (omega (arith, m.low, is)) (omega (arith, m.bytes, is)) (omega (arith, m.bytes, is)) (omega (arith, m.bytes, is, c.put_entry.auto.block))

@@ -9,60 +9,86 @@ use Rattle.lmem_heap.proofs.holes.Hole.move_in.Goals as goal
 
 pub overflow_sub-from : goal.overflow_sub-from
 overflow_sub-from c =
-    let h = c.args.self in let m = moves-in c.args.block.now h.link h.at h.end c.args.i c.args.n c.entry-from.result c.requires.hole.is c.requires.known c.requires.offset c.requires.some c.requires.room c.entry-from.ensures in omega (arith, m.low)
+    let h = c.args.self in
+    let m = moves-in c.args.block.now h.link h.at h.end c.args.i c.args.n c.entry-from.result c.requires.hole.is c.requires.known c.requires.offset c.requires.some c.requires.room c.entry-from.ensures in
+    omega (arith, m.low)
 
 pub get16-requires : goal.get16-requires
 get16-requires c =
-    let h = c.args.self in let m = moves-in c.args.block.now h.link h.at h.end c.args.i c.args.n c.entry-from.result c.requires.hole.is c.requires.known c.requires.offset c.requires.some c.requires.room c.entry-from.ensures in omega (arith, m.low, m.bytes)
+    let h = c.args.self in
+    let m = moves-in c.args.block.now h.link h.at h.end c.args.i c.args.n c.entry-from.result c.requires.hole.is c.requires.known c.requires.offset c.requires.some c.requires.room c.entry-from.ensures in
+    omega (arith, m.low, m.bytes)
 
 pub overflow_sub-len : goal.overflow_sub-len
 overflow_sub-len c =
-    let h = c.args.self in let m = moves-in c.args.block.now h.link h.at h.end c.args.i c.args.n c.entry-from.result c.requires.hole.is c.requires.known c.requires.offset c.requires.some c.requires.room c.entry-from.ensures in omega (arith, m.says, c.get16.ensures)
+    let h = c.args.self in
+    let m = moves-in c.args.block.now h.link h.at h.end c.args.i c.args.n c.entry-from.result c.requires.hole.is c.requires.known c.requires.offset c.requires.some c.requires.room c.entry-from.ensures in
+    omega (arith, m.says, c.get16.ensures)
 
 pub overflow_cast-self : goal.overflow_cast-self
 overflow_cast-self c =
-    let h = c.args.self in let m = moves-in c.args.block.now h.link h.at h.end c.args.i c.args.n c.entry-from.result c.requires.hole.is c.requires.known c.requires.offset c.requires.some c.requires.room c.entry-from.ensures in omega (arith, m.room, m.most)
+    let h = c.args.self in
+    let m = moves-in c.args.block.now h.link h.at h.end c.args.i c.args.n c.entry-from.result c.requires.hole.is c.requires.known c.requires.offset c.requires.some c.requires.room c.entry-from.ensures in
+    omega (arith, m.room, m.most)
 
 pub overflow_add-n : goal.overflow_add-n
 overflow_add-n c =
-    let h = c.args.self in let m = moves-in c.args.block.now h.link h.at h.end c.args.i c.args.n c.entry-from.result c.requires.hole.is c.requires.known c.requires.offset c.requires.some c.requires.room c.entry-from.ensures in omega (arith, m.room, m.most)
+    let h = c.args.self in
+    let m = moves-in c.args.block.now h.link h.at h.end c.args.i c.args.n c.entry-from.result c.requires.hole.is c.requires.known c.requires.offset c.requires.some c.requires.room c.entry-from.ensures in
+    omega (arith, m.room, m.most)
 
 pub put16-requires : goal.put16-requires
 put16-requires c =
-    let h = c.args.self in let m = moves-in c.args.block.now h.link h.at h.end c.args.i c.args.n c.entry-from.result c.requires.hole.is c.requires.known c.requires.offset c.requires.some c.requires.room c.entry-from.ensures in omega (arith, m.room, c.put_entry.auto.block, c.requires.some)
+    let h = c.args.self in
+    let m = moves-in c.args.block.now h.link h.at h.end c.args.i c.args.n c.entry-from.result c.requires.hole.is c.requires.known c.requires.offset c.requires.some c.requires.room c.entry-from.ensures in
+    omega (arith, m.room, c.put_entry.auto.block, c.requires.some)
 
 pub move_bytes-requires-clause-source : goal.move_bytes-requires-clause-source
 move_bytes-requires-clause-source c =
-    let h = c.args.self in let m = moves-in c.args.block.now h.link h.at h.end c.args.i c.args.n c.entry-from.result c.requires.hole.is c.requires.known c.requires.offset c.requires.some c.requires.room c.entry-from.ensures in omega (arith, m.says, c.get16.ensures, m.bytes, c.min-keep.ensures, c.put_entry.auto.block, c.put16.auto.block)
+    let h = c.args.self in
+    let m = moves-in c.args.block.now h.link h.at h.end c.args.i c.args.n c.entry-from.result c.requires.hole.is c.requires.known c.requires.offset c.requires.some c.requires.room c.entry-from.ensures in
+    omega (arith, m.says, c.get16.ensures, m.bytes, c.min-keep.ensures, c.put_entry.auto.block, c.put16.auto.block)
 
 pub move_bytes-requires-clause-target : goal.move_bytes-requires-clause-target
 move_bytes-requires-clause-target c =
-    let h = c.args.self in let m = moves-in c.args.block.now h.link h.at h.end c.args.i c.args.n c.entry-from.result c.requires.hole.is c.requires.known c.requires.offset c.requires.some c.requires.room c.entry-from.ensures in omega (arith, m.room, c.min-keep.ensures, c.put_entry.auto.block, c.put16.auto.block)
+    let h = c.args.self in
+    let m = moves-in c.args.block.now h.link h.at h.end c.args.i c.args.n c.entry-from.result c.requires.hole.is c.requires.known c.requires.offset c.requires.some c.requires.room c.entry-from.ensures in
+    omega (arith, m.room, c.min-keep.ensures, c.put_entry.auto.block, c.put16.auto.block)
 
 pub overflow_add-self-4 : goal.overflow_add-self-4
 overflow_add-self-4 c =
-    let h = c.args.self in let m = moves-in c.args.block.now h.link h.at h.end c.args.i c.args.n c.entry-from.result c.requires.hole.is c.requires.known c.requires.offset c.requires.some c.requires.room c.entry-from.ensures in omega (arith, m.room, m.most, c.min-keep.ensures)
+    let h = c.args.self in
+    let m = moves-in c.args.block.now h.link h.at h.end c.args.i c.args.n c.entry-from.result c.requires.hole.is c.requires.known c.requires.offset c.requires.some c.requires.room c.entry-from.ensures in
+    omega (arith, m.room, m.most, c.min-keep.ensures)
 
 pub clear-requires : goal.clear-requires
 clear-requires c =
-    let h = c.args.self in let m = moves-in c.args.block.now h.link h.at h.end c.args.i c.args.n c.entry-from.result c.requires.hole.is c.requires.known c.requires.offset c.requires.some c.requires.room c.entry-from.ensures in omega (arith, m.room, c.min-keep.ensures, c.put_entry.auto.block, c.put16.auto.block, c.move_bytes.auto.block)
+    let h = c.args.self in
+    let m = moves-in c.args.block.now h.link h.at h.end c.args.i c.args.n c.entry-from.result c.requires.hole.is c.requires.known c.requires.offset c.requires.some c.requires.room c.entry-from.ensures in
+    omega (arith, m.room, c.min-keep.ensures, c.put_entry.auto.block, c.put16.auto.block, c.move_bytes.auto.block)
 
 pub overflow_sub-from-2 : goal.overflow_sub-from-2
 overflow_sub-from-2 c =
-    let h = c.args.self in let m = moves-in c.args.block.now h.link h.at h.end c.args.i c.args.n c.entry-from.result c.requires.hole.is c.requires.known c.requires.offset c.requires.some c.requires.room c.entry-from.ensures in omega (arith, m.low)
+    let h = c.args.self in
+    let m = moves-in c.args.block.now h.link h.at h.end c.args.i c.args.n c.entry-from.result c.requires.hole.is c.requires.known c.requires.offset c.requires.some c.requires.room c.entry-from.ensures in
+    omega (arith, m.low)
 
 pub overflow_sub-from-3 : goal.overflow_sub-from-3
 overflow_sub-from-3 c =
-    let h = c.args.self in let m = moves-in c.args.block.now h.link h.at h.end c.args.i c.args.n c.entry-from.result c.requires.hole.is c.requires.known c.requires.offset c.requires.some c.requires.room c.entry-from.ensures in omega (arith, m.low)
+    let h = c.args.self in
+    let m = moves-in c.args.block.now h.link h.at h.end c.args.i c.args.n c.entry-from.result c.requires.hole.is c.requires.known c.requires.offset c.requires.some c.requires.room c.entry-from.ensures in
+    omega (arith, m.low)
 
 pub overflow_add-from : goal.overflow_add-from
 overflow_add-from c =
-    let h = c.args.self in let m = moves-in c.args.block.now h.link h.at h.end c.args.i c.args.n c.entry-from.result c.requires.hole.is c.requires.known c.requires.offset c.requires.some c.requires.room c.entry-from.ensures in
+    let h = c.args.self in
+    let m = moves-in c.args.block.now h.link h.at h.end c.args.i c.args.n c.entry-from.result c.requires.hole.is c.requires.known c.requires.offset c.requires.some c.requires.room c.entry-from.ensures in
     let is = c.cost.ensures ∙ ap cost (length-read c.args.block.now c.args.i _ c.get16.result c.get16.ensures m.says) in omega (arith, is, m.whole, m.ends, m.most)
 
 pub at-requires : goal.at-requires
 at-requires c =
-    let h = c.args.self in let n = c.args.n in
+    let h = c.args.self in
+    let n = c.args.n in
     let r = moved-in-read c.args.block.now c.put_entry.new.block c.put16.new.block c.move_bytes.new.block c.clear.new.block h.link h.at h.end c.args.i c.min-keep.result n c.entry-from.result c.get16.result c.requires.hole.is c.requires.known c.requires.offset
     c.requires.some c.requires.room c.entry-from.ensures c.get16.ensures c.min-keep.ensures c.put_entry.ensures c.put16.ensures c.move_bytes.ensures c.clear.ensures in
     let m = moves-in c.args.block.now h.link h.at h.end c.args.i c.args.n c.entry-from.result c.requires.hole.is c.requires.known c.requires.offset c.requires.some c.requires.room c.entry-from.ensures in
@@ -73,24 +99,28 @@ at-requires c =
 
 pub returns-clause-fours : goal.returns-clause-fours
 returns-clause-fours c =
-    let h = c.args.self in let n = c.args.n in
+    let h = c.args.self in
+    let n = c.args.n in
     let r = moved-in-read c.args.block.now c.put_entry.new.block c.put16.new.block c.move_bytes.new.block c.clear.new.block h.link h.at h.end c.args.i c.min-keep.result n c.entry-from.result c.get16.result c.requires.hole.is c.requires.known c.requires.offset
     c.requires.some c.requires.room c.entry-from.ensures c.get16.ensures c.min-keep.ensures c.put_entry.ensures c.put16.ensures c.move_bytes.ensures c.clear.ensures in
     let m = moves-in c.args.block.now h.link h.at h.end c.args.i c.args.n c.entry-from.result c.requires.hole.is c.requires.known c.requires.offset c.requires.some c.requires.room c.entry-from.ensures in
     let is = c.cost.ensures ∙ ap cost (length-read c.args.block.now c.args.i _ c.get16.result c.get16.ensures m.says) in
-    let fours = r.is.fours in let cost_fours = cost-fours (chunk_length c.args.block.now c.args.i) in
+    let fours = r.is.fours in
+    let cost_fours = cost-fours (chunk_length c.args.block.now c.args.i) in
     omega (arith, c.at.ensures.place, is, cost_fours, fours, c.entry-from.ensures)
 
 pub returns-clause-chunks : goal.returns-clause-chunks
 returns-clause-chunks c =
-    let h = c.args.self in let n = c.args.n in
+    let h = c.args.self in
+    let n = c.args.n in
     let r = moved-in-read c.args.block.now c.put_entry.new.block c.put16.new.block c.move_bytes.new.block c.clear.new.block h.link h.at h.end c.args.i c.min-keep.result n c.entry-from.result c.get16.result c.requires.hole.is c.requires.known c.requires.offset
     c.requires.some c.requires.room c.entry-from.ensures c.get16.ensures c.min-keep.ensures c.put_entry.ensures c.put16.ensures c.move_bytes.ensures c.clear.ensures in
     r.chunks
 
 pub returns-clause-handle : goal.returns-clause-handle
 returns-clause-handle c =
-    let h = c.args.self in let n = c.args.n in
+    let h = c.args.self in
+    let n = c.args.n in
     let r = moved-in-read c.args.block.now c.put_entry.new.block c.put16.new.block c.move_bytes.new.block c.clear.new.block h.link h.at h.end c.args.i c.min-keep.result n c.entry-from.result c.get16.result c.requires.hole.is c.requires.known c.requires.offset
     c.requires.some c.requires.room c.entry-from.ensures c.get16.ensures c.min-keep.ensures c.put_entry.ensures c.put16.ensures c.move_bytes.ensures c.clear.ensures in
     r.handle

@@ -4,10 +4,34 @@ use Rattle.lmem_heap.proofs.holes.Hole.touches_before.Goals as goal
 
 pub get16-requires : goal.get16-requires
 get16-requires c =
-    let b = c.args.block.now in let h = c.args.self in let s = c.requires in let p = open-place b h.link h.at h.end s.is in let link_high = p.link_high in let link_low = p.link_low in let high = p.high in let most = p.most in let low = p.low in let room = p.room in let table = p.table in let order = s.is.order in let at_fours = s.is.fours in
+    let b = c.args.block.now in
+    let h = c.args.self in
+    let s = c.requires in
+    let p = open-place b h.link h.at h.end s.is in
+    let link_high = p.link_high in
+    let link_low = p.link_low in
+    let high = p.high in
+    let most = p.most in
+    let low = p.low in
+    let room = p.room in
+    let table = p.table in
+    let order = s.is.order in
+    let at_fours = s.is.fours in
     omega (arith, link_high, link_low, high, order)
 
 pub overflow_add-result : goal.overflow_add-result
 overflow_add-result c =
-    let b = c.args.block.now in let h = c.args.self in let s = c.requires in let p = open-place b h.link h.at h.end s.is in let link_high = p.link_high in let link_low = p.link_low in let high = p.high in let most = p.most in let low = p.low in let room = p.room in let table = p.table in let order = s.is.order in let at_fours = s.is.fours in
+    let b = c.args.block.now in
+    let h = c.args.self in
+    let s = c.requires in
+    let p = open-place b h.link h.at h.end s.is in
+    let link_high = p.link_high in
+    let link_low = p.link_low in
+    let high = p.high in
+    let most = p.most in
+    let low = p.low in
+    let room = p.room in
+    let table = p.table in
+    let order = s.is.order in
+    let at_fours = s.is.fours in
     omega (arith, link_high, link_low, high, order, most)
