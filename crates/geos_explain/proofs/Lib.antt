@@ -1,3 +1,4 @@
+mod Fits
 mod Places
 mod Sentences
 mod Told

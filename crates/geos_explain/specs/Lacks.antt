@@ -1,12 +1,13 @@
 -- What a row lacks to fit another.
-use Rattle.std.specs.Prelude.{ℕ, Bool, ◌&&◌, not, nat_le, if◌then◌else◌, List, [], ◌++◌, Option, None, slice_index_or, codes, decimal}
+use Rattle.std.specs.Prelude.{◌≡◌, ◌≤◌, ◌↔◌, ℕ, Bool, true, ◌&&◌, not, nat_le, if◌then◌else◌, List, [], ◌++◌, Option, None, slice_index_or, codes, decimal}
 use Rattle.geos_image.specs.declared.row.Row.{Row}
 use Rattle.geos_image.specs.declared.row.Pointer.{Pointer}
 use Rattle.geos_image.specs.declared.row.SlotState.{SlotState}
 use Rattle.geos_image.specs.declared.row.SlotState.TheVariants.{Empty}
+use Rattle.geos_image.specs.Legal.{is_shaped}
 use Rattle.geos_listing.specs.Rows.{texts_below, row_items}
 use Rattle.geos_verify.specs.Lists.{zip2}
-use Rattle.geos_verify.specs.Rows.{slot_fits, pointer_fits, pair_fits, is_empty}
+use Rattle.geos_verify.specs.Rows.{bound, slot_fits, pointer_fits, pair_fits, fits, is_empty}
 
 -- a bound that is wanted and not kept, else any word's
 abbrev pub lacking_bound : ℕ → ℕ → ℕ
@@ -44,3 +45,9 @@ held_items n known wanted = texts_below n (λ i. held_item i (slice_index_or kno
 -- the items of a row that is wanted which a row that is known does not meet; none where it fits
 unfoldable pub lacking_items : Row → Row → List ℕ
 lacking_items known wanted = row_items (lacking known wanted) ++ held_items 4 known.slots wanted.slots
+
+-- a row of words, slots, pointers and pairs lacks nothing to fit another exactly where it fits
+abbrev pub LacksNothingWhereItFits : Type 0
+LacksNothingWhereItFits =
+    (known wanted : Row) → is_shaped known ≡ true → is_shaped wanted ≡ true → ((a : ℕ) → bound known a ≤ 65535)
+    → (lacking_items known wanted ≡ []) ↔ (fits known wanted ≡ true)

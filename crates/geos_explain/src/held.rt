@@ -1,4 +1,4 @@
-//! Which slots are still held at a return, and since where.
+//! Which slots are held that must not be, and since where.
 
 ghost use Rattle.std.specs.Prelude.{◌≡◌, ◌<◌, ◌++◌, Some, OnOk, length, slice_get};
 ghost use Rattle.geos_explain.specs.Places.{IsPlace, place_of};

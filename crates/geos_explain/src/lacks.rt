@@ -2,7 +2,7 @@
 
 ghost use Rattle.std.specs.Prelude.{◌≡◌, ◌<◌, ◌++◌, OnOk};
 ghost use Rattle.geos_verify.specs.Lists.{zip2};
-ghost use Rattle.geos_explain.specs.Lacks.{lacking_bound, lacking_slot, lacking_pointer, lacking_pair, lacking, held_item, held_items, lacking_items};
+ghost use Rattle.geos_explain.specs.Lacks.{lacking_bound, lacking_slot, lacking_pointer, lacking_pair, lacking, held_item, held_items, lacking_items, LacksNothingWhereItFits};
 
 use crate::numbers::put_numbered;
 use geos_image::{Pointer, Row, SlotState};
@@ -158,3 +158,8 @@ pub(crate) fn put_lacking(out: &mut Vec<u8>, known: &Row, wanted: &Row) -> Resul
     put_items(out, &lacking(known, wanted))?;
     put_all_held(out, &known.slots, &wanted.slots)
 }
+
+/// Where a row does not fit another, some item is named that it lacks, and where it fits, none.
+pub fn rows_that_fit_lack_nothing()
+    ensures { LacksNothingWhereItFits }
+{}

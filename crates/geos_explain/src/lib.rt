@@ -24,5 +24,6 @@ mod words;
 mod written;
 
 pub use explanation::explain;
+pub use lacks::rows_that_fit_lack_nothing;
 pub use numbers::{put_numbered, put_pc};
 pub use texts::explain_text;
