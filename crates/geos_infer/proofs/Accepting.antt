@@ -67,12 +67,15 @@ calling-zero : (budget m n : ℕ) (a b c d : Bool) → n + 1 + budget ≤ m → 
 calling-zero budget m n a b c d h =
     both (nat_le (n + 1 + budget) m && true) (all2 (λ is_touched k. not is_touched || k == 0) (a ∷ b ∷ c ∷ d ∷ []) zeros) (both (nat_le (n + 1 + budget) m) true (le-leb (n + 1 + budget) m h) refl) (spent-zero a b c d)
 
+without-call : (m n : ℕ) → n + 1 + 0 ≤ m → n + 1 ≤ m
+without-call m n h = omega arith
+
 along-zero : (image : Parts) (i : Instr) (opcode : Opcode) (row : Row) (m n : ℕ) → n + 1 + called image i opcode ≤ m → pays_along image i opcode row (potential_of m) (potential_of n) ≡ true
 along-zero image i Setk row m n h = setting-zero i.a i.imm m n (omega arith)
 along-zero image i Setkw row m n h = setting-zero i.a (bound row i.b) m n (omega arith)
 along-zero image i Loop row m n h = setting-zero i.a 0 m n (omega arith)
 along-zero image i Call row m n h = calling-zero (budget_of image i.imm) m n (touches image 0 i.imm) (touches image 1 i.imm) (touches image 2 i.imm) (touches image 3 i.imm) h
-along-zero image i _ row m n h = pays-zero m n (omega arith)
+along-zero image i _ row m n h = pays-zero m n (without-call m n h)
 
 branching-zero : (i : Instr) (opcode : Opcode) (m n : ℕ) → n + 1 ≤ m → pays_branching i opcode (potential_of m) (potential_of n) ≡ true
 branching-zero i Loop m n h = taking-zero i.a m n h

@@ -1,7 +1,7 @@
 -- A row that fits another still does after an instruction.
 use Rattle.std.proofs.Common.{◌≡◌, ℕ, ◌≤◌, ◌+◌, ◌*◌, ◌/◌, ◌^◌, Bool, true, false, not, List, [], ◌∷◌, map, Option, Some, None, get_or, slice_get, refl, ap, ◌∙◌, arith}
 use Rattle.std.specs.Prelude.{◌&&◌, ◌||◌, ◌==◌, nat_le, min, if◌then◌else◌}
-use Rattle.std.proofs.lemmas.Bool.{and_parts, leb-true, le-leb, eqb-true}
+use Rattle.std.proofs.lemmas.Bool.{and_parts, leb-true, le-leb, eqb-true, false≢true}
 use Rattle.std.proofs.Math.Nat.{mul-le-mul_right, div-mul-le_self}
 use Rattle.std.proofs.lemmas.Nat.{le-div, pow_pos}
 use Rattle.geos_opcodes.specs.declared.opcode.Opcode.{Opcode}
@@ -96,7 +96,7 @@ kind-same Empty Empty h = refl
 kind-same Mem Mem h = refl
 kind-same (Vm a) (Vm b) h = refl
 kind-same (Db a) (Db b) h = refl
-kind-same _ _ h = absurd cc
+kind-same _ _ h = absurd (false≢true h)
 
 pub same-kind : (r s : Row) (a : ℕ) → fits r s ≡ true → kind_in (slot_state r a) ≡ kind_in (slot_state s a)
 same-kind r s a h = kind-same (slot_state r a) (slot_state s a) (slot-mono r s a h)
@@ -112,7 +112,7 @@ marked-mono Empty Empty h = refl
 marked-mono Mem Mem h = refl
 marked-mono (Vm a) (Vm b) h = refl
 marked-mono (Db a) (Db b) h = refl
-marked-mono _ _ h = absurd cc
+marked-mono _ _ h = absurd (false≢true h)
 
 slots_after-mono : (i : Instr) (slot : SlotUse) (xs ys : List SlotState) → all2 slot_fits xs ys ≡ true → all2 slot_fits (slots_after i slot xs) (slots_after i slot ys) ≡ true
 slots_after-mono i (LocksNew kind) xs ys h = all2-set slot_fits xs ys i.a (held_state kind true) (held_state kind true) h (slot-refl (held_state kind true))
@@ -266,7 +266,7 @@ exit-mono image callee r s (Some routine) e h = rw (e, exit_row) (fits-refl rout
 
 pub is-call : (opcode : Opcode) → calls opcode ≡ true → opcode ≡ Call
 is-call Call e = refl
-is-call _ e = absurd cc
+is-call _ e = absurd (false≢true e)
 
 pub along-mono : (image : Parts) (i : Instr) (opcode : Opcode) (r s : Row) → fits r s ≡ true → fits (row_along image i opcode r) (row_along image i opcode s) ≡ true
 along-mono image i opcode r s h = by_test (calls opcode) refl

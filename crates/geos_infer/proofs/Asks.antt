@@ -1,7 +1,7 @@
 -- What the edges of code whose edges all lead ahead ask for.
 use Rattle.std.proofs.Common.{◌≡◌, ◌≢◌, ℕ, zero, suc, ◌+◌, ◌*◌, ◌<◌, Bool, true, false, List, [], length, Option, Some, None, slice_get, get_or, set, refl, sym, ap, ◌∙◌, subst, arith}
 use Rattle.std.specs.Prelude.{◌&&◌, nat_lt, max, IfSome, if◌then◌else◌}
-use Rattle.std.proofs.lemmas.Bool.{and_parts, ltb-true}
+use Rattle.std.proofs.lemmas.Bool.{and_parts, ltb-true, false≢true}
 use Rattle.std.proofs.lemmas.Option.{same_Some, none-some}
 use Rattle.geos_opcodes.specs.declared.opcode.Opcode.{Opcode}
 use Rattle.geos_opcodes.specs.declared.opcode.Opcode.TheVariants.{Setk, Setkw, Loop, Call}
@@ -132,7 +132,7 @@ module _ (image : Parts) (limit pc : ℕ) (branch : Bool) (lt : pc < length imag
 -- what is a LOOP has that opcode
 pub loop-only : (opcode : Opcode) → is_loop opcode ≡ true → opcode ≡ Loop
 loop-only Loop e = refl
-loop-only _ e = absurd cc
+loop-only _ e = absurd (false≢true e)
 
 -- there is no LOOP
 pub no-loop : (image : Parts) (r : ℕ) → ForwardIn image r → (pc : ℕ) (i : Instr) → IsPcOf image r pc → pc < length image.points → IfSome (slice_get image.points pc) (λ point. i ≡ point.instr) → i.opcode ≢ Loop

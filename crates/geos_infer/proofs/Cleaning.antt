@@ -2,7 +2,7 @@
 use Rattle.std.proofs.Common.{◌≡◌, ℕ, zero, suc, Bool, true, false, List, [], ◌∷◌, Option, Some, None, map, length, get_or, ◌<◌, refl, ap, ◌∙◌, arith}
 use Rattle.std.specs.Prelude.{◌&&◌, ◌==◌, nat_le, nat_lt}
 use Rattle.std.specs.List.{list_any, list_all}
-use Rattle.std.proofs.lemmas.Bool.{and_parts, or_parts, eqb-true, lt-ltb}
+use Rattle.std.proofs.lemmas.Bool.{and_parts, or_parts, eqb-true, lt-ltb, false≢true}
 use Rattle.std.proofs.lemmas.List.{length-map}
 use Rattle.geos_image.specs.declared.row.Row.{Row}
 use Rattle.geos_image.specs.declared.row.Pointer.{Pointer}
@@ -21,7 +21,7 @@ slot-empty Empty Empty h = refl
 slot-empty Mem Mem h = refl
 slot-empty (Vm a) (Vm b) h = refl
 slot-empty (Db a) (Db b) h = refl
-slot-empty _ _ h = absurd cc
+slot-empty _ _ h = absurd (false≢true h)
 
 -- slots that fit are empty together
 empty-at : (xs us : List SlotState) (k : ℕ) → all2 slot_fits xs us ≡ true → is_empty (get_or xs k Empty) ≡ is_empty (get_or us k Empty)

@@ -2,7 +2,7 @@
 use Rattle.std.proofs.Common.{◌≡◌, ℕ, ◌≤◌, Bool, true, false, not, Option, Some, None, List, [], ◌∷◌, slice_get, refl, sym, ap, ◌∙◌, arith}
 use Rattle.std.specs.Prelude.{◌&&◌, ◌||◌, ◌==◌, nat_le, nat_lt}
 use Rattle.std.specs.List.{list_any}
-use Rattle.std.proofs.lemmas.Bool.{and_parts, or_parts, leb-true, ltb-false, le-ltb, eqb-true, not-false}
+use Rattle.std.proofs.lemmas.Bool.{and_parts, or_parts, leb-true, ltb-false, le-ltb, eqb-true, not-false, false≢true}
 use Rattle.geos_image.specs.declared.instr.Instr.{Instr}
 use Rattle.geos_image.specs.declared.row.Row.{Row}
 use Rattle.geos_image.specs.declared.row.Pointer.{Pointer}
@@ -66,14 +66,14 @@ unmarked-mono Empty y h e = refl
 unmarked-mono Mem y h e = refl
 unmarked-mono (Vm a) (Vm b) h e = mark-mono a b h e
 unmarked-mono (Db a) (Db b) h e = mark-mono a b h e
-unmarked-mono _ _ h e = absurd cc
+unmarked-mono _ _ h e = absurd (false≢true h)
 
 of_file-same : (x y : SlotState) → slot_fits x y ≡ true → is_of_file x ≡ is_of_file y
 of_file-same Empty Empty h = refl
 of_file-same Mem Mem h = refl
 of_file-same (Vm a) (Vm b) h = refl
 of_file-same (Db a) (Db b) h = refl
-of_file-same _ _ h = absurd cc
+of_file-same _ _ h = absurd (false≢true h)
 
 -- slots hold blocks of the VM file in both rows, or in neither
 file-same : (xs ys : List SlotState) → all2 slot_fits xs ys ≡ true → list_any is_of_file xs ≡ list_any is_of_file ys

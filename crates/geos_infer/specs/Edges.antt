@@ -1,10 +1,10 @@
 -- Where control goes from an instruction, within its routine.
-use Rattle.std.specs.Prelude.{◌≡◌, ◌<◌, ℕ, Bool, ◌&&◌, nat_lt, if◌then◌else◌, Option, Some, None}
+use Rattle.std.specs.Prelude.{◌≡◌, ◌<◌, ℕ, Bool, ◌&&◌, nat_lt, if◌then◌else◌, Option, Some, None, slice_get, IfSome}
 use Rattle.geos_image.specs.declared.instr.Instr.{Instr}
 use Rattle.geos_image.specs.Parts.{Parts}
 use Rattle.geos_verify.specs.Rows.{HasEdge}
 use Rattle.geos_infer.specs.declared.edges.Edge.{Edge}
-use Rattle.geos_infer.specs.Code.{has_edge, edge_end}
+use Rattle.geos_infer.specs.Code.{ForwardIn, has_edge, edge_end}
 
 -- the instruction has the edge, and it leads ahead and before the limit
 abbrev pub leads_ahead : ℕ → ℕ → Instr → Bool → Bool
@@ -17,6 +17,10 @@ edge_of pc i branch = record { pc = pc; branch = branch; to = edge_end pc i bran
 -- the same, if it leads ahead and before the limit
 abbrev pub edge_ahead : ℕ → ℕ → Instr → Bool → Option Edge
 edge_ahead limit pc i branch = if leads_ahead limit pc i branch then Some (edge_of pc i branch) else None
+
+-- it is the edge of the instruction at a pc that leads ahead and before the limit, if routine r has no loops
+abbrev pub IsAheadAlone : Parts → ℕ → ℕ → ℕ → Bool → Option Edge → Type 0
+IsAheadAlone image r limit pc branch edge = ForwardIn image r → IfSome (slice_get image.points pc) (λ point. edge ≡ edge_ahead limit pc point.instr branch)
 
 -- it is this edge of the instruction at the pc, and leads before the limit
 pub record IsInside (image : Parts) (limit pc : ℕ) (branch : Bool) (edge : Edge) : Type 0 where

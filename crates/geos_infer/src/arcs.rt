@@ -14,7 +14,7 @@ use geos_verify::Touched;
 use std::alloc::{AllocError, Global};
 
 /// What an edge does to counters.
-#[derive(Clone, Copy, Debug, PartialEq, Eq)]
+#[derive(Clone, Copy, PartialEq, Eq)]
 pub(crate) enum Counting {
     Nothing,
     /// The counter is so much behind it, at most.
@@ -26,7 +26,7 @@ pub(crate) enum Counting {
 }
 
 /// An edge that stays in its routine.
-#[derive(Clone, Copy, Debug, PartialEq, Eq)]
+#[derive(Clone, Copy)]
 pub(crate) struct Arc {
     /// Where it leads.
     pub(crate) to: u16,

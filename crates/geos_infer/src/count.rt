@@ -29,6 +29,7 @@ use std::alloc::{AllocError, Global};
 fn sweep(body: &Body, known: &Known, potentials: &mut Potentials) -> Option<()>
     ensures { CountsOn body.now.image.now body.now.r potentials.old potentials.new (is_some result) }
 {
+    // For what its law says.
     potentials.lengths();
     for pc in (body.start..body.end).rev() {
         let next = potential_at(body, known, potentials, pc)?;
@@ -155,6 +156,23 @@ fn count_all(
     left
 }
 
+/// Counts as `count_all` does, with tables that are made for it.
+fn count_with_tables(
+    alloc: Global,
+    image: &Image,
+    routines: u16,
+    known: &Known,
+    potentials: &mut Potentials,
+) -> Result<Option<u16>, AllocError>
+    requires { routines ≤ length image.now.routines }
+    ensures counted { IfOk result (λ _. AreCounted image.now 0 routines potentials.new) }
+    ensures within { IfOk result (λ left. IfSome left (λ r. r < routines)) }
+    ensures none { IfOk result (λ left. IfSome left (NoStepsHoldIn image.now)) }
+{
+    let mut tables = Tables::new(alloc)?;
+    Ok(count_all(image, routines, known, &mut tables, potentials))
+}
+
 /// Enough steps at each instruction, and coefficients, where so many routines have rows. `NoRows`
 /// names the first one that has none, or for which no steps were found.
 pub(crate) fn count(
@@ -171,8 +189,8 @@ pub(crate) fn count(
 {
     let all = image.count();
     let mut potentials = Potentials::new(alloc)?;
-    let mut tables = Tables::new(alloc)?;
-    match count_all(image, routines, known, &mut tables, &mut potentials) {
+    let left = count_with_tables(alloc, image, routines, known, &mut potentials)?;
+    match left {
         Some(r) => Err(InferError::NoRows(r)),
         None if routines < all => Err(InferError::NoRows(routines)),
         None => Ok(potentials),

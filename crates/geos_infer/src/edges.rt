@@ -3,7 +3,7 @@
 ghost use Rattle.std.specs.Prelude.{◌≡◌, ◌<◌, None, false, slice_get, IfSome};
 ghost use Rattle.geos_infer.specs.Causes.{is_loop};
 ghost use Rattle.geos_infer.specs.Code.{ForwardIn, has_edge, edge_end};
-ghost use Rattle.geos_infer.specs.Edges.{edge_ahead, IsInside};
+ghost use Rattle.geos_infer.specs.Edges.{edge_ahead, IsAheadAlone, IsInside};
 
 use crate::body::Body;
 use geos_image::{Instr, Opcode};
@@ -11,7 +11,7 @@ use geos_verify::{branches, falls_through};
 
 /// An edge of the instruction at a pc: to its target where `branch` says so, else to the next
 /// instruction.
-#[derive(Clone, Copy, Debug, PartialEq, Eq)]
+#[derive(Clone, Copy)]
 pub(crate) struct Edge {
     pub(crate) pc: u16,
     pub(crate) branch: bool,
@@ -89,7 +89,7 @@ pub(crate) fn leads_back(body: &Body, pc: u16) -> bool
 /// The edge, wherever in the routine it leads.
 pub(crate) fn edge_in(body: &Body, pc: u16, branch: bool) -> Option<Edge>
     requires { pc < body.now.end }
-    ensures ahead { ForwardIn body.now.image.now body.now.r → IfSome (slice_get body.now.image.now.points pc) (λ point. result ≡ edge_ahead body.now.end pc point.instr branch) }
+    ensures ahead { IsAheadAlone body.now.image.now body.now.r body.now.end pc branch result }
     ensures inside { IfSome result (IsInside body.now.image.now body.now.end pc branch) }
 {
     match edge_ahead(body, pc, branch) {

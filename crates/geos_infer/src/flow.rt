@@ -44,7 +44,7 @@ fn join_known(old: &Option<Row>, row: &Row) -> Option<Row>
 }
 
 /// How a row came to a place.
-#[derive(Clone, Copy, Debug, PartialEq, Eq)]
+#[derive(Clone, Copy)]
 pub(crate) enum Arrival {
     /// No less is known there than was.
     Same,

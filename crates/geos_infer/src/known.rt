@@ -43,6 +43,7 @@ impl Known {
     pub(crate) fn lengths(&self)
         ensures { length self.now ≡ 4096 }
     {
+        // The invariant is known where a field is looked at.
         let _rows = &self.rows;
     }
 

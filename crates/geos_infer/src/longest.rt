@@ -10,7 +10,7 @@ use crate::table::MOST_INSTRS;
 use crate::ways::{Ways, cost};
 
 /// What came of going over edges.
-#[derive(Clone, Copy, Debug, PartialEq, Eq)]
+#[derive(Clone, Copy)]
 enum Growth {
     /// No way is longer.
     Same,

@@ -45,6 +45,7 @@ impl Potentials {
         ensures steps { length self.now.steps ≡ 4096 }
         ensures coefficients { length self.now.coefficients ≡ 4096 }
     {
+        // The invariant is known where a field is looked at.
         let _steps = &self.steps;
     }
 

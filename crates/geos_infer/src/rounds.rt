@@ -15,7 +15,7 @@ use geos_image::Row;
 
 /// Whether what is known at a place has yet to go along its edges, and how many times an edge that
 /// leads back has weakened it.
-#[derive(Clone, Copy, Debug, PartialEq, Eq)]
+#[derive(Clone, Copy)]
 pub(crate) struct Turn {
     pub(crate) waits: bool,
     pub(crate) times: u8,

@@ -11,6 +11,7 @@ pub(crate) fn seed_entry(body: &Body, known: &mut Known)
     ensures seeded { Seeded body.now.image.now body.now.r known.new }
     ensures stays { StaysBefore body.now.start known.old known.new }
 {
+    // For what its law says.
     known.lengths();
     let entry = body.image.routine(body.r).entry;
     for pc in body.start..body.end {

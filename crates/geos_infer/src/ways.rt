@@ -26,17 +26,46 @@ pub(crate) struct Ways {
     pub(crate) passed: Table<u16>,
 }
 
+/// No unit costs anything, and no way is left out.
+fn tables_of_costs(alloc: Global) -> Result<(Table<[bool; 4]>, Table<bool>), AllocError> {
+    let costly = Table::new(alloc, [false; 4])?;
+    let free = Table::new(alloc, false)?;
+    Ok((costly, free))
+}
+
+/// No unit pays for anything, and none was raised.
+fn tables_of_units(alloc: Global) -> Result<(Table<[u32; 4]>, Table<u16>), AllocError> {
+    let units = Table::new(alloc, [0; 4])?;
+    let raised = Table::new(alloc, 0)?;
+    Ok((units, raised))
+}
+
+/// No steps, no ways, and none followed.
+fn tables_of_steps(
+    alloc: Global,
+) -> Result<(Table<u64>, Table<Option<bool>>, Table<u16>), AllocError> {
+    let steps = Table::new(alloc, 0)?;
+    let first = Table::new(alloc, None)?;
+    let passed = Table::new(alloc, 0)?;
+    Ok((steps, first, passed))
+}
+
 impl Ways {
+    /// No edges, and nothing found.
     pub(crate) fn new(alloc: Global) -> Result<Ways, AllocError> {
+        let arcs = Arcs::new(alloc)?;
+        let (costly, free) = tables_of_costs(alloc)?;
+        let (units, raised) = tables_of_units(alloc)?;
+        let (steps, first, passed) = tables_of_steps(alloc)?;
         Ok(Ways {
-            arcs: Arcs::new(alloc)?,
-            costly: Table::new(alloc, [false; 4])?,
-            free: Table::new(alloc, false)?,
-            units: Table::new(alloc, [0; 4])?,
-            raised: Table::new(alloc, 0)?,
-            steps: Table::new(alloc, 0)?,
-            first: Table::new(alloc, None)?,
-            passed: Table::new(alloc, 0)?,
+            arcs,
+            costly,
+            free,
+            units,
+            raised,
+            steps,
+            first,
+            passed,
         })
     }
 
