@@ -13,9 +13,10 @@ use std::alloc::Global;
 /// are found for them.
 ///
 /// `BadLine` exactly where the text has a fault, and names the first one. `NoRows` only for a
-/// text without fault, and names a routine in which no rows and numbers of steps hold, if no edge
-/// of it leads back, and each instruction of it but the first has an edge of it into it. Where no edge leads back, and each instruction but a routine's first has
-/// an edge into it, the verifier accepts the image if it accepts any with the text's code; it may
+/// text without fault; it names a routine in which no rows and numbers of steps hold, if that has
+/// no LOOP, no edge that leads back, and an edge of its own into each instruction but the first.
+/// Where there is no LOOP, no edge leads back, and each instruction but a routine's first has an
+/// edge into it, the verifier accepts the image if it accepts any with the text's code; it may
 /// refuse the image that is answered, and `geos_verify::check` says where. `Memory` may come at
 /// any text.
 pub fn assemble(alloc: Global, text: &[u8]) -> Result<Image, AssembleError>

@@ -95,7 +95,8 @@ fn put_places(
 ) -> Result<(), AllocError>
     requires within { start + within.now.routine.now.count ≤ length within.now.explained.now.image.now.points }
     requires targets { MarksTargets within.now.explained.now.image.now.points targets.now }
-    ensures { OnOk result (out.new.items ≡ out.old.items ++ texts_below within.now.routine.now.count (λ k. place_text (explained_of within.now.explained.now) within.now.r within.now.routine.now (start + k))) }
+    ensures { OnOk result (out.new.items ≡ out.old.items ++ texts_below within.now.routine.now.count
+        (λ k. place_text (explained_of within.now.explained.now) within.now.r within.now.routine.now (start + k))) }
 {
     for k in 0..within.routine.count {
         put_place(alloc, out, targets, within, start + k)?;

@@ -36,7 +36,8 @@ pub(crate) struct ExplainedRoutine<'a> {
 pub(crate) fn place_at<'a>(within: &ExplainedRoutine<'a>, pc: u16) -> Place<'a>
     requires { pc < length within.now.explained.now.image.now.points }
     ensures place { IsPlace (place_of result) }
-    ensures point { IfSome (slice_get within.now.explained.now.image.now.points pc) (λ point. place_of result ≡ place_at (explained_of within.now.explained.now) within.now.r within.now.routine.now pc point) }
+    ensures point { IfSome (slice_get within.now.explained.now.image.now.points pc)
+        (λ point. place_of result ≡ place_at (explained_of within.now.explained.now) within.now.r within.now.routine.now pc point) }
 {
     let image = within.explained.image;
     Place {
