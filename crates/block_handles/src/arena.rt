@@ -100,7 +100,7 @@ impl Arena {
     ghost use Rattle.block_handles.specs.Search.{IsFirst, IsLast, BeginsNone};
     ghost use Rattle.block_handles.specs.Store.{IsThere, bytes_of, size_of, place_of, end_of, locks_of, region_len};
     ghost use Rattle.block_handles.specs.Layout.{IsLaidOut, IsFreeBut};
-    ghost use Rattle.geos_model.specs.Heap.{IsBlockSize};
+    ghost use Rattle.geos_model.specs.Heap.{IsBlockSize, most_block_bytes};
     ghost use Rattle.block_handles.specs.Change.{with_block, new_block, grown_block, with_place, with_locks, after_write};
     ghost use Rattle.block_handles.specs.Lending.{LendsBytes};
     ghost use Rattle.block_handles.specs.Offsets.{Copies, ReadsByte, ReadsWord};
@@ -244,7 +244,7 @@ impl Arena {
     /// own old place.
     pub(crate) fn relocate(&mut self, slot: usize, to: u32, size: u32)
         requires there { IsThere self.old slot }
-        requires legal { (size_of self.old slot ≤ size) × (size ≤ 65520) × (size % 16 ≡ 0) }
+        requires legal { (size_of self.old slot ≤ size) × (size ≤ most_block_bytes) × (size % 16 ≡ 0) }
         requires room { to + size ≤ region_len self.old }
         requires free { IsFreeBut self.old slot to (to + size) }
         ensures store { self.new ≡ with_block self.old slot (grown_block self.old slot size) to }

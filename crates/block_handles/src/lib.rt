@@ -20,15 +20,13 @@ mod stretch;
 
 use arena::Arena;
 pub use error::{HandleError, RoomError};
+use geos_model::MOST_BLOCK_BYTES;
 pub use geos_model::{Name, Owner};
 use name::{first_slot, name_of, slot_in_use, slot_of};
 use room::{Gap, room_for};
 use slots::SlotSet;
 use std::alloc::{AllocError, Global};
 use std::marker::Model;
-
-/// The greatest size of a block.
-pub const MAX_SIZE: u32 = 65_520;
 
 /// Blocks in one region: a map from names to bytes and lock counts, and the place of each.
 #[derive(Drop)]
@@ -56,7 +54,7 @@ impl Blocks {
     ghost use Rattle.block_handles.specs.Calls.{Makes, Grows};
     ghost use Rattle.block_handles.specs.Change.{with_lock_more, with_lock_less, without, after_write};
     ghost use Rattle.block_handles.specs.Layout.{IsEmpty, IsLaidOut, IsRegion};
-    ghost use Rattle.geos_model.specs.Heap.{IsBlockSize};
+    ghost use Rattle.geos_model.specs.Heap.{IsBlockSize, most_block_bytes};
     ghost use Rattle.block_handles.specs.LendingBlocks.{LendsBlock};
     ghost use Rattle.block_handles.specs.Names.{slot_of, IsHandle};
     ghost use Rattle.block_handles.specs.Offsets.{Copies, CopiesCovered, ReadsByte, ReadsWord, WritesCovered};
@@ -292,10 +290,10 @@ impl Blocks {
         requires size { (64 ≤ size) × (size % 16 ≡ 0) }
         ensures ok { OnOk result (Makes self.old self.new (slot_of name) size) }
         ensures no_room { result ≡ Err RoomError.NoRoom → HasNoRoom self.new (slot_of name) size }
-        ensures too_big { (result ≡ Err RoomError.TooBig) ↔ (65520 < size) }
+        ensures too_big { (result ≡ Err RoomError.TooBig) ↔ (most_block_bytes < size) }
         ensures err { OnErr result (self.new ≡ self.old) }
     {
-        if size > MAX_SIZE {
+        if size as usize > MOST_BLOCK_BYTES {
             return Err(RoomError::TooBig);
         }
         let slot = slot_of(name);
@@ -319,10 +317,10 @@ impl Blocks {
         requires size { (size_of self.old (slot_of name) ≤ size) × (size % 16 ≡ 0) }
         ensures ok { OnOk result (Grows self.old self.new (slot_of name) size) }
         ensures no_room { result ≡ Err RoomError.NoRoom → HasNoRoom self.new (slot_of name) size }
-        ensures too_big { (result ≡ Err RoomError.TooBig) ↔ (65520 < size) }
+        ensures too_big { (result ≡ Err RoomError.TooBig) ↔ (most_block_bytes < size) }
         ensures err { OnErr result (self.new ≡ self.old) }
     {
-        if size > MAX_SIZE {
+        if size as usize > MOST_BLOCK_BYTES {
             return Err(RoomError::TooBig);
         }
         let slot = slot_of(name);

@@ -2,6 +2,7 @@
 use Rattle.std.specs.Prelude.{◌≡◌, ℕ, ◌+◌, ◌<◌, ◌≤◌, ◌==◌, if◌then◌else◌, List, length, slice_index, Some}
 use Rattle.geos_model.specs.Chunks.{with_zeros}
 use Rattle.geos_model.specs.Arrays.{Array, arr, element_at}
+use Rattle.geos_model.specs.Heap.{most_block_bytes}
 use Rattle.chunk_array.specs.declared.shape.ElementPlace.{ElementPlace}
 use Rattle.chunk_array.specs.declared.shape.Shape.{Shape}
 
@@ -18,7 +19,7 @@ pub record HasRoom (bytes before : List ℕ) (a : Array) (shape : Shape) (place 
   pub known : place.index ≤ shape.count
   pub begins : place.begin ≡ element_at a place.index
   pub made : bytes ≡ with_zeros before place.begin (room_of shape.element_size place.len)
-  pub few : length bytes ≤ 65520
+  pub few : length bytes ≤ most_block_bytes
 
 -- they are such bytes
 pub record IsRoomy (bytes : List ℕ) (shape : Shape) (place : ElementPlace) : Type 0 where

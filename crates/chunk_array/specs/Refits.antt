@@ -2,6 +2,7 @@
 use Rattle.std.specs.Prelude.{◌≡◌, ℕ, ◌<◌, ◌≤◌, List, length, slice_index, Some}
 use Rattle.geos_model.specs.Chunks.{resized, with_resized_part}
 use Rattle.geos_model.specs.Arrays.{Array, arr, element_at, element, with_element_bytes}
+use Rattle.geos_model.specs.Heap.{most_block_bytes}
 use Rattle.chunk_array.specs.declared.shape.ElementPlace.{ElementPlace}
 use Rattle.chunk_array.specs.declared.shape.Shape.{Shape}
 
@@ -15,7 +16,7 @@ pub record HasRefit (bytes before : List ℕ) (a : Array) (shape : Shape) (place
   pub known : place.index < shape.count
   pub size : place.len ≡ length (element a place.index)
   pub made : bytes ≡ with_resized_part before (element_at a place.index) place.len n
-  pub few : length bytes ≤ 65520
+  pub few : length bytes ≤ most_block_bytes
 
 -- they are such bytes
 pub record IsRefitted (bytes : List ℕ) (shape : Shape) (place : ElementPlace) (n : ℕ) : Type 0 where

@@ -3,6 +3,7 @@ use Rattle.std.specs.Prelude.{◌≡◌, ℕ, ◌+◌, ◌-◌, ◌<◌, ◌≤�
 use Rattle.geos_model.specs.Block.{chunks}
 use Rattle.geos_model.specs.Chunks.{with_bytes, without_part}
 use Rattle.geos_model.specs.Arrays.{Array, arr, element_at, spelled, without_element}
+use Rattle.geos_model.specs.Heap.{most_block_bytes}
 use Rattle.chunk_array.specs.declared.shape.ElementPlace.{ElementPlace}
 use Rattle.chunk_array.specs.declared.shape.Shape.{Shape}
 use Rattle.chunk_array.specs.Insertions.{room_of}
@@ -16,7 +17,7 @@ pub record HasPart (bytes : List ℕ) (a : Array) (shape : Shape) (place : Eleme
   pub known : place.index < shape.count
   pub begins : place.begin ≡ element_at a place.index
   pub ends : place.begin + place.len ≡ element_at a (place.index + 1)
-  pub few : length bytes ≤ 65520
+  pub few : length bytes ≤ most_block_bytes
 
 -- they are such bytes
 pub record IsParted (bytes : List ℕ) (shape : Shape) (place : ElementPlace) : Type 0 where

@@ -4,7 +4,7 @@ ghost use Rattle.geos_model.specs.Arrays.{element, with_element_bytes};
 ghost use Rattle.geos_model.specs.ArrayEdits.{resize_element};
 ghost use Rattle.geos_model.specs.Block.{chunks, handle_word};
 ghost use Rattle.geos_model.specs.Chunks.{bytes_of, chunk_of, need, resized, with_bytes, with_resized_part};
-ghost use Rattle.geos_model.specs.Heap.{IsHeap};
+ghost use Rattle.geos_model.specs.Heap.{IsHeap, most_block_bytes};
 ghost use Rattle.geos_model.specs.Refusals.{first_refusal};
 ghost use Rattle.lmem_heap.specs.Refusals.{IsRoomError};
 ghost use Rattle.chunk_array.specs.Changes.{ChangesArray};
@@ -57,7 +57,7 @@ fn resize_part(block: &mut [u8], c: u16, at: usize, has: usize, n: u16) -> Resul
     requires heap { IsHeap block.old }
     requires chunk { IsSome (chunk_of (chunks block.old) c) }
     requires within { at + has ≤ length (bytes_of (chunks block.old) c) }
-    requires small { length (bytes_of (chunks block.old) c) ≤ 65520 }
+    requires small { length (bytes_of (chunks block.old) c) ≤ most_block_bytes }
     ensures heap { IsHeap block.new }
     ensures handle { handle_word block.new ≡ handle_word block.old }
     ensures ok { let old = chunks block.old in OnOk result (chunks block.new ≡ with_bytes old c (with_resized_part (bytes_of old c) at has n)) }

@@ -1,5 +1,6 @@
 -- What is seen on either side of a file that is only read.
 use Rattle.std.specs.Prelude.{◌≡◌, ◌≤◌, ℕ, List, [], Result, Ok, Err, codes, slice_index_or}
+use Rattle.geos_model.specs.Heap.{most_block_bytes}
 use Rattle.vm_file.specs.declared.directory.Directory.{Directory}
 use Rattle.vm_file.specs.declared.directory.Entry.{Entry}
 use Rattle.vm_file.specs.Contents.{Block, Contents, Pair}
@@ -37,7 +38,7 @@ no_block = record { h = 0; uid = 0; bytes = [] }
 -- the entry of the block with a number: the directory has a block under its handle at its length, a legal one, and that is the block
 pub record IsEntryOf (d : Directory) (blocks : List Block) (i : ℕ) (e : Entry) : Type 0 where
   pub has : HasBlock d e.h e.len
-  pub size : e.len ≤ 65520
+  pub size : e.len ≤ most_block_bytes
   pub is : block_of e blocks ≡ slice_index_or blocks i no_block
 
 -- a file that was only read: it is what it was but for its device, keeps the same pair, and nothing was written

@@ -1,7 +1,7 @@
 //! A picture of a file in text.
 
 ghost use Rattle.std.specs.Prelude.{◌≡◌, ◌+◌, ◌*◌, ◌≤◌, ◌<◌, ◌^◌, length};
-ghost use Rattle.geos_model.specs.Heap.{IsHeap};
+ghost use Rattle.geos_model.specs.Heap.{IsHeap, most_block_bytes};
 ghost use Rattle.vm_file.specs.Outcomes.{ReadsOnly};
 ghost use Rattle.vm_file.specs.State.{HasBlock, pair_of};
 ghost use Rattle.geos_dump.specs.Sides.{Causes, IsOnlyRead, directory_on};
@@ -11,7 +11,8 @@ use crate::bars::{columns_of, put_bar, put_number_right, put_right};
 use crate::error::DumpError;
 use crate::numbers::put_numbered;
 use crate::sides::{Listed, Side, count, directory, entry_at, read_block};
-use crate::text::{MOST_BYTES, put_directory_line};
+use crate::text::put_directory_line;
+use geos_model::MOST_BLOCK_BYTES;
 use lmem_block::total_free;
 use std::alloc::{AllocError, Global};
 use vm_file::{Device, Entry, GROUP_UID, VmFile};
@@ -122,7 +123,7 @@ fn put_blocks<D: Device + Drop>(
     scale: Scale,
     buffer: &mut [u8],
 ) -> Result<(), DumpError>
-    requires room { length buffer.old ≡ MOST_BYTES }
+    requires room { length buffer.old ≡ most_block_bytes }
     ensures looks { IsOnlyRead D.image D.honest D.may_leave D.may_have_left file.old file.new }
     ensures cause { Causes (D.honest file.old.device) (D.failed file.old.device) (D.failed file.new.device) result }
 {
@@ -141,7 +142,7 @@ fn put_directory<D: Device + Drop>(
     scale: Scale,
     buffer: &mut [u8],
 ) -> Result<(), DumpError>
-    requires room { length buffer.old ≡ MOST_BYTES }
+    requires room { length buffer.old ≡ most_block_bytes }
     ensures looks { IsOnlyRead D.image D.honest D.may_leave D.may_have_left file.old file.new }
     ensures cause { Causes (D.honest file.old.device) (D.failed file.old.device) (D.failed file.new.device) result }
 {
@@ -179,7 +180,7 @@ pub fn map<D: Device + Drop>(
         longest: longest(file, Side::Current).max(longest(file, Side::Saved)),
         columns: width.saturating_sub(FRONT),
     };
-    let mut buffer = vec![in alloc; 0u8; MOST_BYTES]?;
+    let mut buffer = vec![in alloc; 0u8; MOST_BLOCK_BYTES]?;
     let mut out = Vec::new(alloc);
     put_areas(&mut out, file, areas, width)?;
     put_directory(&mut out, file, Side::Current, scale, &mut buffer)?;

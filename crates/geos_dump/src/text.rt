@@ -1,7 +1,7 @@
 //! The text of what a file keeps.
 
 ghost use Rattle.std.specs.Prelude.{◌≡◌, ◌≤◌, ◌++◌, ℕ, OnOk, IfOk, codes, flat_map, length};
-ghost use Rattle.geos_model.specs.Heap.{IsHeap};
+ghost use Rattle.geos_model.specs.Heap.{IsHeap, most_block_bytes};
 ghost use Rattle.vm_file.specs.Outcomes.{ReadsOnly};
 ghost use Rattle.vm_file.specs.State.{HasBlock, pair_of};
 ghost use Rattle.geos_dump.specs.DumpText.{block_line, block_text, directory_line, directory_text, dump_text};
@@ -11,11 +11,9 @@ use crate::chunks::{put_chunk_dumps, put_chunks};
 use crate::error::DumpError;
 use crate::numbers::put_numbered;
 use crate::sides::{Listed, Side, count, directory, entry_at, read_block, word_of};
+use geos_model::MOST_BLOCK_BYTES;
 use std::alloc::{AllocError, Global};
 use vm_file::{Device, Directory, VmFile};
-
-/// The greatest size of a block.
-pub(crate) const MOST_BYTES: usize = 65520;
 
 /// How much is told of a block.
 #[derive(Clone, Copy, Debug, PartialEq, Eq)]
@@ -103,7 +101,7 @@ fn put_blocks<D: Device + Drop>(
     side: Side,
     buffer: &mut [u8],
 ) -> Result<(), DumpError>
-    requires room { length buffer.old ≡ MOST_BYTES }
+    requires room { length buffer.old ≡ most_block_bytes }
     ensures text { D.honest file.old.device → OnOk result (out.new.items ≡ out.old.items
         ++ flat_map (block_text detail) (contents_on side (pair_of D.image file.old)).blocks) }
     ensures looks { IsOnlyRead D.image D.honest D.may_leave D.may_have_left file.old file.new }
@@ -124,7 +122,7 @@ fn put_directory<D: Device + Drop>(
     side: Side,
     buffer: &mut [u8],
 ) -> Result<(), DumpError>
-    requires room { length buffer.old ≡ MOST_BYTES }
+    requires room { length buffer.old ≡ most_block_bytes }
     ensures text { D.honest file.old.device → OnOk result (out.new.items ≡ out.old.items
         ++ directory_text detail (side_word side) (contents_on side (pair_of D.image file.old))) }
     ensures looks { IsOnlyRead D.image D.honest D.may_leave D.may_have_left file.old file.new }
@@ -154,7 +152,7 @@ pub fn dump<D: Device + Drop>(
     ensures reads { ReadsOnly D.image D.honest D.may_leave D.may_have_left file.old.device file.new.device }
     ensures cause { Causes (D.honest file.old.device) (D.failed file.old.device) (D.failed file.new.device) result }
 {
-    let mut buffer = vec![in alloc; 0u8; MOST_BYTES]?;
+    let mut buffer = vec![in alloc; 0u8; MOST_BLOCK_BYTES]?;
     let mut out = Vec::new(alloc);
     put_directory(&mut out, detail, file, Side::Current, &mut buffer)?;
     put_directory(&mut out, detail, file, Side::Saved, &mut buffer)?;

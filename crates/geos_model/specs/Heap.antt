@@ -1,5 +1,5 @@
 -- Which bytes are a heap: header, table, chunks and free chunks that tile the block.
-use Rattle.std.specs.Prelude.{◌≡◌, ◌≢◌, ℕ, ◌+◌, ◌%◌, ◌<◌, ◌≤◌, ◌⊎◌, List, [], ◌∷◌, length}
+use Rattle.std.specs.Prelude.{◌≡◌, ◌≢◌, ℕ, ◌+◌, ◌%◌, ◌<◌, ◌≤◌, ◌⊎◌, Bool, ◌&&◌, nat_le, ◌==◌, List, [], ◌∷◌, length}
 use Rattle.geos_model.specs.Bytes.{word}
 use Rattle.geos_model.specs.Chunks.{cost}
 use Rattle.geos_model.specs.Block.{entries, entry, table_end, first_free, total_free}
@@ -42,9 +42,17 @@ AreUsed [] = Unit {0}
 AreUsed (Used i n ∷ rest) = AreUsed rest
 AreUsed (Free s ∷ rest) = ⊥
 
+-- the most bytes of a block
+abbrev pub most_block_bytes : ℕ
+most_block_bytes = 65520
+
 -- a legal size of a block
 abbrev pub IsBlockSize : ℕ → Type 0
-IsBlockSize size = (64 ≤ size) × (size ≤ 65520) × (size % 16 ≡ 0)
+IsBlockSize size = (64 ≤ size) × (size ≤ most_block_bytes) × (size % 16 ≡ 0)
+
+-- the same, as a test that computes
+abbrev pub is_block_size : ℕ → Bool
+is_block_size size = nat_le 64 size && nat_le size most_block_bytes && (size % 16 == 0)
 
 -- the header's fixed words, the block's size, and a table that fits
 pub record IsHeader (block : List ℕ) : Type 0 where
@@ -53,7 +61,7 @@ pub record IsHeader (block : List ℕ) : Type 0 where
   pub kind : word block 6 ≡ 0
   pub size : word block 8 ≡ length block
   pub least : 64 ≤ length block
-  pub most : length block ≤ 65520
+  pub most : length block ≤ most_block_bytes
   pub sixteens : length block % 16 ≡ 0
   pub pairs : entries block % 2 ≡ 0
   pub some : 2 ≤ entries block

@@ -1,5 +1,5 @@
 //! Definitions that several crates speak of, and their general laws; of code there are only
-//! the names of blocks and the refusals.
+//! the names of blocks, their sizes and the refusals.
 //!
 //! `specs/Chunks.antt` has the chunks of a heap as one list, what they take, and what the
 //! calls on a heap do to them; `specs/Block.antt` what the bytes of a block spell;
@@ -10,6 +10,8 @@
 
 mod name;
 mod refusal;
+mod size;
 
 pub use name::{Name, Owner};
 pub use refusal::Refusal;
+pub use size::{MOST_BLOCK_BYTES, is_block_size};

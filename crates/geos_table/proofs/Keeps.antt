@@ -11,7 +11,7 @@ use Rattle.geos_model.specs.Names.{mem, vm}
 use Rattle.geos_model.specs.Refusals.{first_refusal}
 use Rattle.geos_model.specs.Chunks.{need, bytes_of, with_bytes}
 use Rattle.geos_table.specs.Memory.{Memory, new_heap, block_of, locks_of, lowest_handle, chunks_at}
-use Rattle.geos_table.specs.Effects.{Choice, Reference, most_size, most_locks, cannot_grow, growing}
+use Rattle.geos_table.specs.Effects.{Choice, Reference, most_locks, cannot_grow, growing}
 use Rattle.geos_model.specs.Edits.{Edit, Part, alloc, free, realloc, insert_bytes, delete_bytes, contract}
 use Rattle.geos_model.specs.ArrayEdits.{create_array, append_element, insert_element, remove_element, clear_array, resize_element}
 use Rattle.geos_table.specs.Calls.{changes, enlarges, reads, refers, locks_full, mnew, mlock, unlock, mfree, named_bytes, store, copy}
@@ -33,14 +33,15 @@ use Rattle.geos_table.proofs.KeepsFile.{vnew-kept, gnew-kept, lock_listed-kept, 
 use Rattle.geos_table.proofs.LegalArrays.{create-kept, append-kept, insert-kept, remove-kept, remove-less, clear-kept, clear-less, resize-kept}
 use Rattle.geos_table.proofs.LegalChunks.{KeepsChunks, NeedsNoMore, bytes_of-legal, with_new-legal, without-legal, with_resized-legal, with_inserted-legal, with_deleted-legal, with_written-legal}
 use Rattle.geos_model.proofs.Needs.{need-without, need-with_deleted, need-with_written}
+use Rattle.geos_model.specs.Heap.{most_block_bytes}
 use Rattle.geos_table.proofs.LegalBlocks.{new_heap-legal, mem_block-legal, with_locks-legal, with_chunks-legal, chunks-need, chunks-bytes, locks-most}
 
 -- chunks that are not refused need no more than a block can have
 pub grown-small : (choice : Choice) (memory : Memory) (name : Name) (front : List (Bool × Refusal)) (chunks : List (Option (List ℕ))) →
-    first_refusal (front ++ growing choice memory name chunks) ≡ None → need chunks ≤ most_size
+    first_refusal (front ++ growing choice memory name chunks) ≡ None → need chunks ≤ most_block_bytes
 grown-small choice memory name front chunks h =
     let behind = none-behind front (growing choice memory name chunks) h in
-    ltb-false most_size (need chunks) (none-here (nat_lt most_size (need chunks)) TooBig (first_refusal ((cannot_grow choice memory name chunks, NoRoom) ∷ [])) behind).0
+    ltb-false most_block_bytes (need chunks) (none-here (nat_lt most_block_bytes (need chunks)) TooBig (first_refusal ((cannot_grow choice memory name chunks, NoRoom) ∷ [])) behind).0
 
 -- Calls on the chunks of one block
 
@@ -48,7 +49,7 @@ pub changes-kept : {A : Type 0} (edit : List (Option (List ℕ)) → Edit A) (na
 changes-kept edit name keep less choice memory legal =
     let cs = chunks_at memory name in
     outcome-kept (changes edit name choice memory) (λ r. legal) (λ fine.
-    let small : need (edit cs).chunks ≤ most_size = (let most = chunks-need memory name legal in let l = less cs (chunks-bytes memory name legal) fine in omega (arith, most, l)) in
+    let small : need (edit cs).chunks ≤ most_block_bytes = (let most = chunks-need memory name legal in let l = less cs (chunks-bytes memory name legal) fine in omega (arith, most, l)) in
     with_chunks-legal (λ cs. (edit cs).chunks) memory name (λ are. keep cs are fine small) small legal)
 
 pub enlarges-kept : {A : Type 0} (edit : List (Option (List ℕ)) → Edit A) (name : Name) → KeepsChunks edit → Keeps (enlarges edit name)

@@ -12,9 +12,10 @@ use Rattle.geos_model.specs.Chunks.{need}
 use Rattle.geos_table.specs.Directories.{VmBlock, Directory, relisted}
 use Rattle.geos_table.specs.VmFile.{empty_file}
 use Rattle.geos_table.specs.Memory.{Block, Memory, at_handle, with_entry_at, listed_at, with_cur, with_listed, owned_block, with_owned_block, block_of, with_block, locks_in, chunks_in, locks_of, chunks_at, new_heap, locked_block, rechunked_block, with_locks, with_chunks}
-use Rattle.geos_table.specs.Effects.{most_size, most_locks}
+use Rattle.geos_table.specs.Effects.{most_locks}
 use Rattle.geos_table.specs.Legal.{IsChunk, AreChunks, IsLegalHeap, IsLegalBlock, IsLegalListed, IsCurrent, IsFile, IsMemory}
 use Rattle.geos_model.proofs.Needs.{need-sixteens}
+use Rattle.geos_model.specs.Heap.{most_block_bytes}
 use Rattle.geos_table.proofs.HandleLists.{entry-kept, length-with_entry_at}
 use Rattle.geos_table.proofs.LegalDirectories.{entry-legal, added-legal, empty_file-legal}
 
@@ -37,7 +38,7 @@ pub locked-legal : (block : Block) (n : ℕ) → n ≤ most_locks → IsLegalBlo
 locked-legal block n h legal = record { heap = legal.heap; few = h }
 
 -- a legal block that grows for legal chunks which need no more than a block can have
-pub rechunked-legal : (chunks : List (Option (List ℕ))) (block : Block) → AreChunks chunks → need chunks ≤ most_size → IsLegalBlock block → IsLegalBlock (rechunked_block chunks block)
+pub rechunked-legal : (chunks : List (Option (List ℕ))) (block : Block) → AreChunks chunks → need chunks ≤ most_block_bytes → IsLegalBlock block → IsLegalBlock (rechunked_block chunks block)
 rechunked-legal chunks block are small legal =
     let size = block.heap.size in let n = need chunks in let rest = need-sixteens chunks in
     let heap : IsLegalHeap (record { chunks = chunks; size = max size n }) = record {
@@ -52,7 +53,7 @@ rechunked-legal chunks block are small legal =
     sized-least : (size n : ℕ) → 64 ≤ size → 64 ≤ max size n
     sized-least size n h = omega arith
 
-    sized-most : (size n : ℕ) → size ≤ most_size → n ≤ most_size → max size n ≤ most_size
+    sized-most : (size n : ℕ) → size ≤ most_block_bytes → n ≤ most_block_bytes → max size n ≤ most_block_bytes
     sized-most size n h k = omega arith
 
     sized-sixteens : (size n : ℕ) → size % 16 ≡ 0 → n % 16 ≡ 0 → max size n % 16 ≡ 0
@@ -68,11 +69,11 @@ if-locked None n h legal = tt
 if-locked (Some block) n h legal = locked-legal block n h legal
 
 pub if-rechunked : (f : List (Option (List ℕ)) → List (Option (List ℕ))) (block : Option Block) → (AreChunks (chunks_in block) → AreChunks (f (chunks_in block))) →
-    need (f (chunks_in block)) ≤ most_size → IfSome block IsLegalBlock → IfSome (option_map (rechunked_block (f (chunks_in block))) block) IsLegalBlock
+    need (f (chunks_in block)) ≤ most_block_bytes → IfSome block IsLegalBlock → IfSome (option_map (rechunked_block (f (chunks_in block))) block) IsLegalBlock
 if-rechunked f None keep small legal = tt
 if-rechunked f (Some block) keep small legal = rechunked-legal (f block.heap.chunks) block (keep legal.heap.chunks) small legal
 
-pub need-small : (block : Option Block) → IfSome block IsLegalBlock → need (chunks_in block) ≤ most_size
+pub need-small : (block : Option Block) → IfSome block IsLegalBlock → need (chunks_in block) ≤ most_block_bytes
 need-small None legal = omega arith
 need-small (Some block) legal = let fits = legal.heap.fits in let most = legal.heap.most in omega arith
 
@@ -168,12 +169,12 @@ with_locks-legal memory name n h legal = mapped-legal memory name (locked_block 
 
 -- other legal chunks, which need no more than a block can have
 pub with_chunks-legal : (f : List (Option (List ℕ)) → List (Option (List ℕ))) (memory : Memory) (name : Name) → (AreChunks (chunks_at memory name) → AreChunks (f (chunks_at memory name))) →
-    need (f (chunks_at memory name)) ≤ most_size → IsMemory memory → IsMemory (with_chunks memory name (f (chunks_at memory name)))
+    need (f (chunks_at memory name)) ≤ most_block_bytes → IsMemory memory → IsMemory (with_chunks memory name (f (chunks_at memory name)))
 with_chunks-legal f memory name keep small legal =
     let block = block_of memory name in
     mapped-legal memory name (rechunked_block (f (chunks_in block))) (if-rechunked f block keep small (named-legal memory name legal)) legal
 
-pub chunks-need : (memory : Memory) (name : Name) → IsMemory memory → need (chunks_at memory name) ≤ most_size
+pub chunks-need : (memory : Memory) (name : Name) → IsMemory memory → need (chunks_at memory name) ≤ most_block_bytes
 chunks-need memory name legal = need-small (block_of memory name) (named-legal memory name legal)
 
 pub chunks-bytes : (memory : Memory) (name : Name) → IsMemory memory → All IsChunk (chunks_at memory name)

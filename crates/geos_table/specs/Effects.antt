@@ -6,6 +6,7 @@ use Rattle.geos_model.specs.declared.refusal.Refusal.TheVariants.{NoRoom, TooBig
 use Rattle.geos_model.specs.Names.{vm}
 use Rattle.geos_model.specs.Refusals.{first_refusal}
 use Rattle.geos_model.specs.Chunks.{need}
+use Rattle.geos_model.specs.Heap.{most_block_bytes}
 use Rattle.geos_table.specs.Directories.{is_held_in}
 use Rattle.geos_table.specs.Memory.{Memory, listed_at, size_of}
 use Rattle.geos_table.specs.Given.{given_memory}
@@ -74,10 +75,6 @@ unchanged memory refusal = memory
 abbrev pub tells : {A : Type 0} → Memory → A → Effect A
 tells memory answer = record { refusals = []; left = unchanged memory; after = memory; answer = answer; stale = Nothing }
 
--- the greatest size of a block
-abbrev pub most_size : ℕ
-most_size = 65520
-
 -- the greatest count of locks
 abbrev pub most_locks : ℕ
 most_locks = 65535
@@ -92,7 +89,7 @@ cannot_grow choice memory name chunks = nat_lt (size_of memory name) (need chunk
 
 -- the refusals of giving a block these chunks, for which it may grow
 abbrev pub growing : Choice → Memory → Name → List (Option (List ℕ)) → List (Bool × Refusal)
-growing choice memory name chunks = (nat_lt most_size (need chunks), TooBig) ∷ (cannot_grow choice memory name chunks, NoRoom) ∷ []
+growing choice memory name chunks = (nat_lt most_block_bytes (need chunks), TooBig) ∷ (cannot_grow choice memory name chunks, NoRoom) ∷ []
 
 -- room is refused for a block of the VM file that is brought into memory, where it may be out
 -- of it

@@ -2,10 +2,11 @@
 use Rattle.std.specs.Prelude.{◌≡◌, ◌≢◌, ℕ, ◌%◌, ◌<◌, ◌≤◌, List, length, Option, Some, None, option_map, All, IfSome, IsSomeAnd}
 pub use Rattle.geos_model.specs.Bytes.{AreBytes}
 use Rattle.geos_model.specs.Chunks.{need}
+use Rattle.geos_model.specs.Heap.{most_block_bytes}
 use Rattle.geos_table.specs.Directories.{VmBlock, KeptBlock, Directory, group_uid}
 use Rattle.geos_table.specs.VmFile.{Pair, Kept, Sure, Unsure, VmFile}
 use Rattle.geos_table.specs.Memory.{Heap, Block, Memory, at_handle}
-use Rattle.geos_table.specs.Effects.{most_size, most_locks}
+use Rattle.geos_table.specs.Effects.{most_locks}
 
 -- an entry of a chunk handle table has a chunk of bytes, or none
 abbrev pub IsChunk : Option (List ℕ) → Type 0
@@ -22,7 +23,7 @@ pub record AreChunks (chunks : List (Option (List ℕ))) : Type 0 where
 pub record IsLegalHeap (heap : Heap) : Type 0 where
   pub chunks : AreChunks heap.chunks
   pub least : 64 ≤ heap.size
-  pub most : heap.size ≤ most_size
+  pub most : heap.size ≤ most_block_bytes
   pub sixteens : heap.size % 16 ≡ 0
   pub fits : need heap.chunks ≤ heap.size
 

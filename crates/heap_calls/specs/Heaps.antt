@@ -11,7 +11,7 @@ use Rattle.lmem_heap.specs.declared.error.RoomError.{RoomError}
 use Rattle.lmem_heap.specs.declared.error.RoomError.TheVariants as room
 use Rattle.geos_model.specs.Block as block
 use Rattle.geos_model.specs.Chunks.{need}
-use Rattle.geos_model.specs.Heap.{IsHeap}
+use Rattle.geos_model.specs.Heap.{IsHeap, most_block_bytes}
 use Rattle.geos_model.specs.declared.refusal.Refusal.{Refusal}
 use Rattle.geos_model.specs.declared.refusal.Refusal.TheVariants.{TooBig, NoRoom}
 use Rattle.vm_blocks.specs.Room.{NoneIdle, Thins, own_handle}
@@ -53,7 +53,7 @@ Edits old new name chunks = Rechunks old new (slot_of name) chunks (size_at old 
 -- more than a block can have
 abbrev pub AsksFor : RoomError → ℕ → Type 0
 AsksFor room.TooBig size = Unit {0}
-AsksFor (room.NeedMore k) size = (size < k) × (k ≤ 65520) × (k % 16 ≡ 0)
+AsksFor (room.NeedMore k) size = (size < k) × (k ≤ most_block_bytes) × (k % 16 ≡ 0)
 
 -- no stretch of the region has room for a block of this size
 abbrev pub FindsNoRoom : Refusal → Store → Store → ℕ → ℕ → Type 0
@@ -76,8 +76,8 @@ MakesRoom v (room.NeedMore k) result old new name = Enlarges v old new name k re
 -- why a block does not get these chunks: it would be too big, or it must grow and no stretch
 -- of the region has room
 abbrev pub LacksRoom : Refusal → Store → Name → List (Option (List ℕ)) → Type 0
-LacksRoom TooBig s name chunks = 65520 < need chunks
-LacksRoom NoRoom s name chunks = (size_at s name < need chunks) × (need chunks ≤ 65520) × HasNoRoom s (slot_of name) (need chunks)
+LacksRoom TooBig s name chunks = most_block_bytes < need chunks
+LacksRoom NoRoom s name chunks = (size_at s name < need chunks) × (need chunks ≤ most_block_bytes) × HasNoRoom s (slot_of name) (need chunks)
 LacksRoom _ s name chunks = ⊥
 
 -- a named block gets these chunks, and grows where they need more than it has

@@ -1,6 +1,7 @@
 //! Blocks that grow where their heaps need more room.
 
 ghost use Rattle.std.specs.Prelude.{◌≡◌, ◌<◌, ◌≤◌, ◌%◌};
+ghost use Rattle.geos_model.specs.Heap.{most_block_bytes};
 ghost use Rattle.vm_blocks.specs.Tied.{IsTied};
 ghost use Rattle.heap_calls.specs.Heaps.{HoldsHeap, AsksFor, Enlarges, MakesRoom, size_at};
 
@@ -21,7 +22,7 @@ fn enlarge<D: Device + Drop>(
     requires tied { IsTied D.image D.honest vm.now blocks.old }
     requires heap { HoldsHeap blocks.old name }
     requires larger { size_at blocks.old name < size }
-    requires legal { (size ≤ 65520) × (size % 16 ≡ 0) }
+    requires legal { (size ≤ most_block_bytes) × (size % 16 ≡ 0) }
     ensures { Enlarges vm.now blocks.old blocks.new name size result }
 {
     let old_size = blocks.size(name) as u16;

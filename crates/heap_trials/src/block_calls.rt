@@ -4,6 +4,7 @@ ghost use Rattle.std.specs.Prelude.{◌≤◌, ◌↔◌, IsTrue, length, take};
 ghost use Rattle.geos_model.specs.Heap.{IsBlockSize, IsHeap};
 
 use crate::{Answer, heap_calls};
+use geos_model::is_block_size;
 use lmem_heap::{check, enlarged, init};
 use std::alloc::{AllocError, Global};
 use trial_lines::{Line, shown};
@@ -90,13 +91,6 @@ impl trial_lines::Trial for Trial {
             _ => heap_calls::answer(alloc, &mut self.block[..], line),
         }
     }
-}
-
-/// Whether a block may have this size.
-fn is_block_size(size: usize) -> bool
-    ensures { IsTrue result ↔ IsBlockSize size }
-{
-    size >= 64 && size <= 65_520 && size % 16 == 0
 }
 
 /// Makes a heap without a chunk.

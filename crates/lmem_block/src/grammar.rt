@@ -9,6 +9,7 @@ use crate::header::{
 };
 use crate::marks::mark;
 use crate::words::get16;
+use geos_model::is_block_size;
 
 /// One place for each four bytes of the largest block.
 const PLACES: usize = 16384;
@@ -35,7 +36,7 @@ fn is_header(block: &[u8]) -> bool
     ensures { IsTrue result ↔ IsHeader block.now }
 {
     let size = block.len();
-    if size < 64 || size > 65520 || size % 16 != 0 {
+    if !is_block_size(size) {
         return false;
     }
     let n = entries(block);

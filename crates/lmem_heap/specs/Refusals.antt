@@ -1,6 +1,7 @@
 -- When calls refuse.
 use Rattle.std.specs.Prelude.{◌≡◌, ℕ, ◌+◌, ◌<◌, ◌≤◌, List, Option, None, length, IsSome}
 use Rattle.geos_model.specs.Chunks.{chunk_of, bytes_of, need, with_inserted, with_resized}
+use Rattle.geos_model.specs.Heap.{most_block_bytes}
 use Rattle.lmem_heap.specs.declared.error.DeleteError.{DeleteError}
 use Rattle.lmem_heap.specs.declared.error.DeleteError.TheVariants as deletes
 use Rattle.lmem_heap.specs.declared.error.InsertError.{InsertError}
@@ -13,8 +14,8 @@ use Rattle.lmem_heap.specs.declared.error.RoomError.TheVariants.{TooBig, NeedMor
 -- a block of this size has no room where this size is needed: it needs exactly so much, or
 -- more than a block can have
 abbrev pub IsRoomError : RoomError → ℕ → ℕ → Type 0
-IsRoomError TooBig needed size = 65520 < needed
-IsRoomError (NeedMore k) needed size = (k ≡ needed) × (size < needed) × (needed ≤ 65520)
+IsRoomError TooBig needed size = most_block_bytes < needed
+IsRoomError (NeedMore k) needed size = (k ≡ needed) × (size < needed) × (needed ≤ most_block_bytes)
 
 -- of `realloc`: no chunk has the handle; else the block has no room for the chunk with n bytes
 abbrev pub IsReallocError : ReallocError → List (Option (List ℕ)) → ℕ → ℕ → ℕ → Type 0

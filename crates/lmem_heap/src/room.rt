@@ -7,6 +7,7 @@ ghost use Rattle.lmem_heap.specs.Refusals.{IsRoomError};
 
 use crate::chunks::cost;
 use crate::error::RoomError;
+use geos_model::MOST_BLOCK_BYTES;
 use lmem_block::{TOTAL_FREE, entries, get16, place_of_entry};
 
 /// Whether a block of this size has room for so many bytes; else how large it must be.
@@ -19,7 +20,7 @@ pub(crate) fn room_for(used: usize, size: usize) -> Result<(), RoomError>
         return Ok(());
     }
     let needed = (used + 15) / 16 * 16;
-    if needed > 65520 {
+    if needed > MOST_BLOCK_BYTES {
         return Err(RoomError::TooBig);
     }
     Err(RoomError::NeedMore(needed as u16))

@@ -1,6 +1,7 @@
 //! Chunks that move within a block.
 ghost use Rattle.std.specs.Prelude.{◌≡◌, ℕ, ◌+◌, ◌-◌, ◌≤◌, length};
 ghost use Rattle.geos_model.specs.Block.{entries, table_end};
+ghost use Rattle.geos_model.specs.Heap.{most_block_bytes};
 ghost use Rattle.lmem_heap.specs.Moves.{entry_moved, MapsEntries, MovesRun};
 
 use lmem_block::{entries, entry, move_bytes, put_entry};
@@ -10,7 +11,7 @@ use lmem_block::{entries, entry, move_bytes, put_entry};
 pub(crate) fn move_run(block: &mut [u8], from: usize, end: usize, to: usize)
     requires behind_table { (table_end block.old ≤ from) × (table_end block.old ≤ to) }
     requires within { (from ≤ end) × (end ≤ length block.old) × (to + (end - from) ≤ length block.old) }
-    requires small { length block.old ≤ 65520 }
+    requires small { length block.old ≤ most_block_bytes }
     ensures { MovesRun block.old block.new from end to }
 {
     if from == to {
@@ -23,7 +24,7 @@ pub(crate) fn move_run(block: &mut [u8], from: usize, end: usize, to: usize)
 /// Moves the entries of the chunks that stood from `from` to `end`.
 fn move_entries(block: &mut [u8], from: u16, end: u16, to: u16)
     requires table { table_end block.old ≤ length block.old }
-    requires fits { (from ≤ end) × (to + (end - from) ≤ 65520) }
+    requires fits { (from ≤ end) × (to + (end - from) ≤ most_block_bytes) }
     ensures { MapsEntries block.old block.new (entry_moved from end to) 0 (entries block.old) }
 {
     for i in 0..entries(block) {
@@ -33,7 +34,7 @@ fn move_entries(block: &mut [u8], from: u16, end: u16, to: u16)
 }
 
 fn moved_entry(entry: u16, from: u16, end: u16, to: u16) -> u16
-    requires { (from ≤ end) × (to + (end - from) ≤ 65520) }
+    requires { (from ≤ end) × (to + (end - from) ≤ most_block_bytes) }
     ensures { result ≡ entry_moved from end to entry }
 {
     if from < entry && entry < end {

@@ -1,7 +1,7 @@
 //! The free bytes at the end of a packed heap.
 ghost use Rattle.std.specs.Prelude.{◌≡◌, ◌-◌, ◌%◌, ◌≤◌, length};
 ghost use Rattle.geos_model.specs.Block.{chunks, handle_word};
-ghost use Rattle.geos_model.specs.Heap.{IsHeap};
+ghost use Rattle.geos_model.specs.Heap.{IsHeap, most_block_bytes};
 ghost use Rattle.lmem_heap.specs.Packed.{chunks_end, IsPacked, SetsTail};
 
 use crate::compact::contract;
@@ -28,7 +28,7 @@ pub(crate) fn chunks_end(block: &[u8]) -> usize
 /// Makes the bytes from `at` to the block's end free: one free chunk, or none where there are
 /// none. What they held is left as it is, but for the free chunk's two words.
 pub(crate) fn set_tail(block: &mut [u8], at: usize)
-    requires within { (16 ≤ at) × (at ≤ length block.old) × (length block.old ≤ 65520) }
+    requires within { (16 ≤ at) × (at ≤ length block.old) × (length block.old ≤ most_block_bytes) }
     requires fours { (length block.old - at) % 4 ≡ 0 }
     ensures { SetsTail block.old block.new at }
 {

@@ -6,14 +6,13 @@ use Rattle.std.proofs.Math.Dec.{eqb, leb, ltb}
 use Rattle.std.proofs.lemmas.Bool.{cases_eq, cases_lt, eq-eqb, le-leb, lt-ltb, ne_eqb}
 use Rattle.std.proofs.lemmas.List.{get_or_past}
 use Rattle.geos_table.specs.Handles.{at_handle}
-use Rattle.geos_model.specs.Heap.{IsBlockSize}
+use Rattle.geos_model.specs.Heap.{IsBlockSize, is_block_size}
 use Rattle.block_handles.specs.Names.{IsHandle}
 use Rattle.block_handles.specs.Store.{Block, Store, block_at, bytes_in, IsBlock}
 use Rattle.vm_file.specs.declared.directory.Entry.{Entry}
 use Rattle.vm_file.specs.Contents as file
 use Rattle.vm_file.specs.Committing.{block_from}
 use Rattle.vm_file.specs.Directories.{are_entries, has_block, has_group, is_directory, is_entry}
-use Rattle.vm_file.specs.Heaps.{is_block_size}
 use Rattle.vm_file.specs.State.{HasBlock, bytes_of_block}
 use Rattle.vm_file.proofs.DirectoryLaws.{bytes_found, legal_to}
 use Rattle.vm_file.proofs.HeapTests.{and-true}

@@ -1,6 +1,6 @@
 //! Room for a block: others, which can be read from the file again, are discarded for it.
 ghost use Rattle.std.specs.Prelude.{◌≡◌, ◌≢◌, ◌%◌, ◌<◌, ◌≤◌, IsTrue, IfSome, IfNone, OnOk, OnErr, true, false};
-ghost use Rattle.geos_model.specs.Heap.{IsBlockSize};
+ghost use Rattle.geos_model.specs.Heap.{IsBlockSize, most_block_bytes};
 ghost use Rattle.block_handles.specs.Names.{IsHandle, slot_of};
 ghost use Rattle.block_handles.specs.Store.{IsThere, size_of};
 ghost use Rattle.vm_blocks.specs.Room.{DiscardsOne, GrowsRoom, LacksRoom, MakesRoom, NoneIdle, Thins, is_idle, own_handle, there_count};
@@ -128,7 +128,7 @@ impl<D: Device + Drop> VmBlocks<D> {
     pub fn grow_room(&self, blocks: &mut Blocks, name: Name, size: u32) -> Result<(), NoRoom>
         requires tied { IsTied D.image D.honest self.now blocks.old }
         requires there { IsThere blocks.old (slot_of name) }
-        requires size { (size_of blocks.old (slot_of name) ≤ size) × (size ≤ 65520) × (size % 16 ≡ 0) }
+        requires size { (size_of blocks.old (slot_of name) ≤ size) × (size ≤ most_block_bytes) × (size % 16 ≡ 0) }
         ensures ok { OnOk result (GrowsRoom self.now blocks.old blocks.new name size) }
         ensures err { OnErr result (LacksRoom self.now blocks.old blocks.new name size) }
     {

@@ -5,7 +5,7 @@ use Rattle.std.specs.List.{find}
 use Rattle.std.proofs.Math.Dec.{eqb, leb, ltb}
 use Rattle.std.proofs.lemmas.Bool.{eqb-true, eq-eqb, ne_eqb}
 use borrow.Author.Tests.{ltb-true}
-use Rattle.geos_model.specs.Heap.{IsBlockSize}
+use Rattle.geos_model.specs.Heap.{IsBlockSize, is_block_size}
 use Rattle.vm_file.specs.declared.directory.Directory.{Directory}
 use Rattle.vm_file.specs.declared.directory.Entry.{Entry}
 use Rattle.vm_file.specs.declared.error.CommitError.{CommitError}
@@ -13,7 +13,6 @@ use Rattle.vm_file.specs.declared.error.CommitError.TheVariants.{Unsure, TooBig,
 use Rattle.vm_file.specs.Committing.{IsAfter, block_from}
 use Rattle.vm_file.specs.Contents.{Block}
 use Rattle.vm_file.specs.Directories.{AreMaps, are_entries, is_directory, is_entry, may_be_map_block, may_be_map_group, may_be_map_item}
-use Rattle.vm_file.specs.Heaps.{is_block_size}
 use Rattle.vm_file.specs.State.{FileState, HasBlock, bytes_of_block}
 use Rattle.vm_file.proofs.HeapTests.{and-true, both}
 use Rattle.vm_file.proofs.ReadLaws.{leb-le}

@@ -7,13 +7,12 @@ use Rattle.std.proofs.lemmas.Bool.{eq-eqb, ne_eqb}
 use borrow.Author.Tests.{ltb-true}
 use Rattle.lmem_raw.specs.Bytes.{part}
 use Rattle.geos_model.specs.Block.{handle_word}
-use Rattle.geos_model.specs.Heap.{IsHeap}
+use Rattle.geos_model.specs.Heap.{IsHeap, is_block_size}
 use Rattle.vm_file.specs.declared.directory.Entry.{Entry}
 use Rattle.vm_file.specs.declared.directory.Directory.{Directory}
 use Rattle.vm_file.specs.Committing.{block_from, contents_from, contents_read, HasLength, IsThere, MayCommit}
 use Rattle.vm_file.specs.Contents.{Block, Contents, entry_of, listed, is_filled, is_contents, blocks_in}
 use Rattle.vm_file.specs.Directories.{is_directory, is_entry, are_entries, directory_length, may_be_map_block, may_be_map_group, may_be_map_item}
-use Rattle.vm_file.specs.Heaps.{is_block_size}
 use Rattle.vm_file.specs.Reading.{base_of, area_of}
 use Rattle.vm_file.specs.State.{FileState, IsSound, HasBlock, pair_of, bytes_of_block, place_in}
 use Rattle.vm_file.proofs.BlockLaws.{block_there, current_there, current_heap, saved_there}

@@ -3,11 +3,7 @@ use Rattle.std.specs.Prelude.{ℕ, zero, suc, ◌+◌, ◌-◌, ◌%◌, Bool, t
 use Rattle.geos_model.specs.Bytes.{word}
 use Rattle.geos_model.specs.Block.{entries, entry, table_end, first_free, total_free}
 use Rattle.geos_model.specs.Chunks.{cost}
-use Rattle.geos_model.specs.Heap.{Piece, Used, Free, free_bytes}
-
--- a legal size of a block
-abbrev pub is_block_size : ℕ → Bool
-is_block_size size = nat_le 64 size && nat_le size 65520 && (size % 16 == 0)
+use Rattle.geos_model.specs.Heap.{Piece, Used, Free, free_bytes, is_block_size}
 
 -- the header's fixed words, the block's size, and a table that fits
 abbrev pub is_header : List ℕ → Bool

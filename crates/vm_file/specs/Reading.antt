@@ -5,7 +5,8 @@ use Rattle.lmem_raw.specs.Bytes.{part}
 use Rattle.geos_model.specs.Bytes.{word}
 use Rattle.geos_model.specs.Block.{handle_word}
 use Rattle.vm_file.specs.declared.directory.Entry.{Entry}
-use Rattle.vm_file.specs.Heaps.{is_heap, is_block_size}
+use Rattle.geos_model.specs.Heap.{is_block_size}
+use Rattle.vm_file.specs.Heaps.{is_heap}
 use Rattle.vm_file.specs.Directories.{most_blocks, may_be_map_block, may_be_map_group, may_be_map_item, entries_length}
 use Rattle.vm_file.specs.Contents.{Block, Contents, Pair, entry_of, contents_length}
 

@@ -1,17 +1,10 @@
 //! The entries of directories: which are legal, and what they take in an area.
 ghost use Rattle.std.specs.Prelude.{◌≡◌, ◌<◌, ◌≤◌, ◌^◌, length};
 ghost use Rattle.vm_file.specs.Directories.{are_entries, directory_length, entries_length, has_block, has_group, is_directory};
-ghost use Rattle.vm_file.specs.Heaps.{is_block_size};
 ghost use Rattle.vm_file.specs.State.{place_in};
 
 use crate::directory::{Directory, Entry, GROUP_UID, MOST_BLOCKS};
-
-/// Whether it is a legal size of a block.
-pub(crate) fn is_block_size(size: u16) -> bool
-    ensures { result ≡ is_block_size size }
-{
-    size >= 64 && size <= 65520 && size % 16 == 0
-}
+use geos_model::is_block_size;
 
 /// Whether a block that is no group has this handle.
 pub(crate) fn has_block(entries: &[Entry], h: u16) -> bool
@@ -33,7 +26,7 @@ fn are_entries(entries: &[Entry]) -> bool
 {
     let mut last = 0;
     for e in entries {
-        if !(last < e.h && e.h <= 1024 && is_block_size(e.len)) {
+        if !(last < e.h && e.h <= 1024 && is_block_size(e.len as usize)) {
             return false;
         }
         last = e.h;

@@ -4,7 +4,8 @@ ghost use Rattle.std.specs.List.{position_or_len};
 ghost use Rattle.vm_file.specs.Reading.{area_size_at, count_at, head_at, header_at, is_area, maps_at, word_at, zeros_at};
 
 use crate::directory::{Entry, MOST_BLOCKS};
-use crate::entries::{has_block, has_group, is_block_size};
+use crate::entries::{has_block, has_group};
+use geos_model::is_block_size;
 
 /// The offset of the first byte of a field that is cut or breaks its rule.
 pub(crate) type Fault = u64;
@@ -34,7 +35,7 @@ pub(crate) fn head_at(bytes: &[u8], last: u16, at: u64) -> Result<Entry, Fault>
     }
     let uid = word_at(bytes, at, 2)?;
     let len = word_at(bytes, at, 4)?;
-    if !is_block_size(len) {
+    if !is_block_size(len as usize) {
         return Err(at + 4);
     }
     Ok(Entry { h, uid, len })

@@ -12,7 +12,8 @@ use crate::directory::Directory;
 use crate::entries::directory_length;
 use crate::error::OpenError;
 use crate::fields::header_at;
-use crate::reader::{MOST_BYTES, fill, read_directory};
+use crate::reader::{fill, read_directory};
+use geos_model::MOST_BLOCK_BYTES;
 use std::alloc::Global;
 
 /// The file that a device holds: its area size, whether the second area is selected, and the
@@ -83,7 +84,7 @@ fn read_pair<D: Device>(
     ensures reads { ReadsOnly D.image D.honest D.may_leave D.may_have_left device.old device.new }
     ensures cause { Causes (D.failed device.old) (D.failed device.new) result }
 {
-    let mut buffer = match Vec::from_elem(alloc, 0u8, MOST_BYTES) {
+    let mut buffer = match Vec::from_elem(alloc, 0u8, MOST_BLOCK_BYTES) {
         Ok(buffer) => buffer,
         Err(_) => return Err(OpenError::Memory),
     };

@@ -1,7 +1,7 @@
 //! A directory read from a device.
 ghost use Rattle.std.specs.Prelude.{◌≡◌, ◌+◌, ◌-◌, ◌<◌, ◌≤◌, ◌^◌, ℕ, true, min, length, map, take, IfOk, OnOk, OnErr, IsTrue, ◌↔◌};
 ghost use Rattle.geos_model.specs.Block.{handle_word};
-ghost use Rattle.geos_model.specs.Heap.{IsHeap};
+ghost use Rattle.geos_model.specs.Heap.{IsHeap, most_block_bytes};
 ghost use Rattle.lmem_raw.specs.Bytes.{part};
 ghost use Rattle.vm_file.specs.Contents.{entry_of, listed};
 ghost use Rattle.vm_file.specs.Directories.{AreMaps, are_entries, directory_length, entries_length, is_directory, is_entry};
@@ -16,9 +16,6 @@ use crate::error::OpenError;
 use crate::fields::{count_at, head_at, maps_at};
 use arrayvec::ArrayVec;
 use lmem_block::check;
-
-/// The greatest size of a block.
-pub(crate) const MOST_BYTES: usize = 65520;
 
 /// Reads the bytes from `at` on, as many as there are before `end` and `into` has room for,
 /// and answers how many.
@@ -98,7 +95,7 @@ fn read_entry<D: Device>(
 ) -> Result<Entry, OpenError>
     requires range { (at ≤ end) × (end < 2 ^ 31) }
     requires within { end ≤ length (D.image device.old) }
-    requires room { length buffer.old ≡ MOST_BYTES }
+    requires room { length buffer.old ≡ most_block_bytes }
     ensures exact { D.honest device.old → Tells entry_of result (block_at last at (part (D.image device.old) at (end - at))) }
     ensures legal { IfOk result (λ e. (is_entry last e ≡ true) × (at + (6 + e.len) ≤ end)) }
     ensures reads { ReadsOnly D.image D.honest D.may_leave D.may_have_left device.old device.new }
@@ -139,7 +136,7 @@ fn read_entries<D: Device>(
 ) -> Result<ArrayVec<Entry, MOST_BLOCKS>, OpenError>
     requires range { (at ≤ end) × (end < 2 ^ 31) }
     requires within { end ≤ length (D.image device.old) }
-    requires room { length buffer.old ≡ MOST_BYTES }
+    requires room { length buffer.old ≡ most_block_bytes }
     requires few { count ≤ MOST_BLOCKS }
     ensures exact { D.honest device.old → Tells (map entry_of) (items_of result) (blocks_at count 0 at (part (D.image device.old) at (end - at))) }
     ensures legal { IfOk result (λ es. (are_entries 0 es.items ≡ true) × (at + entries_length es.items ≤ end)) }
@@ -216,7 +213,7 @@ pub(crate) fn read_directory<D: Device>(
 ) -> Result<Directory, OpenError>
     requires range { (at ≤ end) × (end < 2 ^ 30) }
     requires within { end ≤ length (D.image device.old) }
-    requires room { length buffer.old ≡ MOST_BYTES }
+    requires room { length buffer.old ≡ most_block_bytes }
     ensures exact { D.honest device.old → Tells listed result (contents_at at (part (D.image device.old) at (end - at))) }
     ensures legal { IfOk result (λ d. (is_directory d ≡ true) × (at + directory_length d ≤ end)) }
     ensures reads { ReadsOnly D.image D.honest D.may_leave D.may_have_left device.old device.new }
