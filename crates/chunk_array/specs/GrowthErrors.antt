@@ -4,6 +4,8 @@ use Rattle.geos_model.specs.declared.refusal.Refusal.{Refusal}
 use Rattle.geos_model.specs.declared.refusal.Refusal.TheVariants as refusals
 use Rattle.geos_model.specs.Refusals.{first_refusal}
 use Rattle.lmem_heap.specs.Refusals.{IsRoomError}
+use Rattle.chunk_array.specs.declared.error.AppendError.{AppendError}
+use Rattle.chunk_array.specs.declared.error.AppendError.TheVariants as append
 use Rattle.chunk_array.specs.declared.error.GrowthError.{GrowthError}
 use Rattle.chunk_array.specs.declared.error.GrowthError.TheVariants.{BadChunk, BadArray, BadElement, Room}
 
@@ -14,3 +16,9 @@ IsGrowthError BadChunk tests needed size = first_refusal tests ≡ Some refusals
 IsGrowthError BadArray tests needed size = first_refusal tests ≡ Some refusals.BadArray
 IsGrowthError BadElement tests needed size = first_refusal tests ≡ Some refusals.BadElement
 IsGrowthError (Room room) tests needed size = (first_refusal tests ≡ None) × IsRoomError room needed size
+
+-- why no element was appended, as calls say it that name an element
+abbrev pub as_growth_error : AppendError → GrowthError
+as_growth_error append.BadChunk = BadChunk
+as_growth_error append.BadArray = BadArray
+as_growth_error (append.Room room) = Room room

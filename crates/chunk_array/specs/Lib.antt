@@ -5,7 +5,6 @@ pub mod Elements
 pub mod ArrayErrors
 pub mod ElementErrors
 pub mod Insertions
-pub mod AppendErrors
 pub mod GrowthErrors
 pub mod Removals
 pub mod Refits

@@ -9,8 +9,7 @@ ghost use Rattle.geos_model.specs.Refusals.{first_refusal};
 ghost use Rattle.lmem_heap.specs.Refusals.{IsRoomError};
 ghost use Rattle.chunk_array.specs.Changes.{ChangesArray};
 ghost use Rattle.chunk_array.specs.Found.{IsFound};
-ghost use Rattle.chunk_array.specs.AppendErrors.{IsAppendError};
-ghost use Rattle.chunk_array.specs.GrowthErrors.{IsGrowthError};
+ghost use Rattle.chunk_array.specs.GrowthErrors.{as_growth_error, IsGrowthError};
 
 use crate::change::put_element;
 use crate::error::{AppendError, ArrayError, GrowthError};
@@ -32,7 +31,8 @@ pub fn append(block: &mut [u8], c: u16, n: u16) -> Result<(), AppendError>
     ensures ok { let e = append_element c n (chunks block.old) in OnOk result ((first_refusal e.refusals ≡ None) × (chunks block.new ≡ e.chunks)) }
     ensures array { OnOk result (ChangesArray (chunks block.old) (chunks block.new) c (λ a. with_element a (length a.elements) n)) }
     ensures fits { OnOk result (need (append_element c n (chunks block.old)).chunks ≤ length block.old) }
-    ensures refused { let e = append_element c n (chunks block.old) in IfErr result (λ why. IsAppendError why e.refusals (need e.chunks) (length block.old)) }
+    ensures refused { let e = append_element c n (chunks block.old) in
+        IfErr result (λ why. IsGrowthError (as_growth_error why) e.refusals (need e.chunks) (length block.old)) }
     ensures err { OnErr result (block.new ≡ block.old) }
 {
     let found = match find(block, c) {

@@ -29,8 +29,7 @@ use Rattle.chunk_array.specs.declared.error.GrowthError.{GrowthError}
 use Rattle.chunk_array.specs.declared.error.GrowthError.TheVariants as growth
 use Rattle.chunk_array.specs.declared.error.ArrayError.{ArrayError}
 use Rattle.chunk_array.specs.declared.error.ElementError.{ElementError}
-use Rattle.chunk_array.specs.AppendErrors.{IsAppendError}
-use Rattle.chunk_array.specs.GrowthErrors.{IsGrowthError}
+use Rattle.chunk_array.specs.GrowthErrors.{as_growth_error, IsGrowthError}
 use Rattle.chunk_array.specs.ArrayErrors.{IsArrayError}
 use Rattle.chunk_array.specs.ElementErrors.{IsElementError}
 use Rattle.heap_calls.specs.declared.obstacle.Obstacle.{Obstacle}
@@ -100,7 +99,7 @@ module _ (edit : List (Option (List ℕ)) → Edit (Unit {0})) (old : Store) (na
   abbrev e : Edit (Unit {0})
   e = edit (block.chunks was)
 
-  pub lent-append : (r : Result (Unit {0}) AppendError) → OnOk r ((first_refusal e.refusals ≡ None) × (block.chunks ws ≡ e.chunks)) → IfErr r (λ why. IsAppendError why e.refusals (need e.chunks) (length was))
+  pub lent-append : (r : Result (Unit {0}) AppendError) → OnOk r ((first_refusal e.refusals ≡ None) × (block.chunks ws ≡ e.chunks)) → IfErr r (λ why. IsGrowthError (as_growth_error why) e.refusals (need e.chunks) (length was))
       → OnErr r (ws ≡ was) → Tries edit old (with_bytes old (slot_of name) ws) name (of_append r)
   lent-append (Ok done) ok refused same = lent-tried edit old name there ws was value long heap handle tt refl ok.0 ok.1
   lent-append (Err append.BadChunk) ok refused same = lent-hindered edit old name there ws was value (Refused refusal.BadChunk) refused same
