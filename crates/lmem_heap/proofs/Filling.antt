@@ -4,7 +4,7 @@ use Rattle.std.proofs.lemmas.Bool.{cases_eq, cases_lt}
 use Rattle.lmem_raw.specs.Bytes.{part}
 use Rattle.geos_model.specs.Bytes.{word, with_word, IsShifted}
 use Rattle.geos_model.specs.Chunks.{cost}
-use Rattle.geos_model.specs.Block.{entry, entries, table_end, total_free, chunk_at, chunks}
+use Rattle.geos_model.specs.Block.{entry, entries, table_end, first_free, total_free, chunk_at, chunks}
 use Rattle.geos_model.specs.Heap.{Piece, Used, Tiles, HasChunk, IsOffset, AreUsed, IsHeap, free_bytes}
 use Rattle.geos_model.proofs.Words.{word-same, word-other, length-with_word, byte-other, word-bytes}
 use Rattle.geos_model.proofs.Costs.{cost-four, cost-least, cost-fours}
@@ -105,6 +105,39 @@ left-hole b c i heap h t is =
       bytes = far (table_end b) (length b) (omega arith);
     }
 
+-- an entry has got a chunk at an offset; what stands before it and from another offset on is as it
+-- was, but for the entry
+pub record HasPut (b c : List ℕ) (i at to : ℕ) (bytes : List ℕ) : Type 0 where
+  pub head : SameHead b c 12
+  pub count : entries c ≡ entries b
+  pub each : (j : ℕ) → j < entries b → j ≢ i → entry c j ≡ entry b j
+  pub front : (lo hi : ℕ) → table_end b ≤ lo → hi ≤ at → IsShifted b c 0 0 lo hi
+  pub rear : (lo hi : ℕ) → to ≤ lo → IsShifted b c 0 0 lo hi
+  pub first : first_free c ≡ first_free b
+  pub total : total_free c ≡ total_free b
+  pub chunk : chunk_at c (entry c i) ≡ Some bytes
+
+pub has-put : (b c : List ℕ) (i at to n : ℕ) (bytes : List ℕ) → i < entries b → table_end b ≤ at → at ≤ 65520 → ((k : ℕ) → k < at → Apart k (16 + 2 * i) → get_or c k 0 ≡ get_or b k 0) → KeepsBack b c to →
+    entry c i ≡ at + 2 → word c at ≡ n + 2 → part c (at + 2) n ≡ bytes → HasPut b c i at to bytes
+has-put b c i at to n bytes h low most keep back here says content =
+    let head : SameHead b c 12 = (λ q l. keep q (omega arith) (inl (omega arith))) in
+    let told : IsOffset (entry c i) = ((λ z. absurd (omega (arith, z, here))), (λ z. absurd (omega (arith, z, here)))) in
+    let begin : entry c i - 2 ≡ at = omega (arith, here) in
+    let size : word c (entry c i - 2) - 2 ≡ n = ap (λ x. word c x - 2) begin ∙ omega (arith, says) in
+    record {
+      head = head;
+      count = head-word b c 12 10 head (omega arith);
+      each = (λ j l ne. elim (cases_lt j i) [
+        | inl a ↦ word-bytes b c (16 + 2 * j) (16 + 2 * j) (keep (16 + 2 * j) (omega arith) (inl (omega arith))) (keep (16 + 2 * j + 1) (omega arith) (inl (omega arith)))
+        | inr a ↦ word-bytes b c (16 + 2 * j) (16 + 2 * j) (keep (16 + 2 * j) (omega arith) (inr (omega arith))) (keep (16 + 2 * j + 1) (omega arith) (inr (omega arith)))
+      ]);
+      front = (λ lo hi g l j q e u v. let same : j ≡ q = omega arith in ap (λ x. get_or c x 0) same ∙ keep q (omega arith) (inr (omega arith)));
+      rear = (λ lo hi g j q e u v. let same : j ≡ q = omega arith in ap (λ x. get_or c x 0) same ∙ back q (omega arith));
+      first = word-bytes b c 12 12 (keep 12 (omega arith) (inl (omega arith))) (keep 13 (omega arith) (inl (omega arith)));
+      total = word-bytes b c 14 14 (keep 14 (omega arith) (inl (omega arith))) (keep 15 (omega arith) (inl (omega arith)));
+      chunk = chunk-told c (entry c i) told ∙ ap (λ x. Some (part c (entry c i) x)) size ∙ ap (λ x. Some (part c x n)) here ∙ ap (λ x. Some x) content;
+    }
+
 -- what the front of a hole is as a chunk
 pub record Filled (b c : List ℕ) (link at end i n : ℕ) (bytes : List ℕ) (o : IsOpen b link at end) : Type 0 where
   pub is : IsOpen c link (at + cost n) end
@@ -131,41 +164,32 @@ filled b c link at end i n bytes o some fits h none long keep back here says con
     let four = cost-fours n in
     let at_fours = o.fours in
     let le = tiles-le b o.upto (word b link) o.ahead at o.next o.tiles_ahead in
-    let head : SameHead b c 12 = (λ q l. keep q (omega arith) (inl (omega arith))) in
-    let m : entries c ≡ entries b = head-word b c 12 10 head (omega arith) in
-    let each : (j : ℕ) → j < entries b → j ≢ i → entry c j ≡ entry b j = (λ j l ne. elim (cases_lt j i) [
-      | inl a ↦ word-bytes b c (16 + 2 * j) (16 + 2 * j) (keep (16 + 2 * j) (omega arith) (inl (omega arith))) (keep (16 + 2 * j + 1) (omega arith) (inl (omega arith)))
-      | inr a ↦ word-bytes b c (16 + 2 * j) (16 + 2 * j) (keep (16 + 2 * j) (omega arith) (inr (omega arith))) (keep (16 + 2 * j + 1) (omega arith) (inr (omega arith)))
-    ]) in
+    let w = has-put b c i at (at + cost n) n bytes h low (omega arith) keep back here says content in
+    let m = w.count in
+    let rear = w.rear end (length b) fits in
     let apart : (j : ℕ) → table_end b + 2 ≤ entry b j → j ≢ i = (λ j a q. let z : entry b j ≡ 0 = ap (λ x. entry b x) q ∙ none in absurd (omega (arith, a, z))) in
-    let far : (lo hi : ℕ) → table_end b ≤ lo → hi ≤ at → IsShifted b c 0 0 lo hi = (λ lo hi g l j q e u v. let same : j ≡ q = omega arith in ap (λ x. get_or c x 0) same ∙ keep q (omega arith) (inr (omega arith))) in
-    let rear : IsShifted b c 0 0 end (length b) = (λ j q e u v. let same : j ≡ q = omega arith in ap (λ x. get_or c x 0) same ∙ back q (omega arith)) in
     let link_same : word c link ≡ word b link = elim out [
       | inl e ↦ word-bytes b c link link (keep link (omega arith) (inl (omega (arith, e)))) (keep (link + 1) (omega arith) (inl (omega (arith, e))))
       | inr f ↦ word-bytes b c link link (keep link (omega arith) (inr (omega (arith, f)))) (keep (link + 1) (omega arith) (inr (omega (arith, f))))
     ] in
     let r : Relinks b c link at o.upto = record {
       long = long;
-      head = head;
-      each = (λ j l a z. each j l (apart j a));
-      low = far (table_end b) (link - 2) (omega arith) (omega arith);
+      head = w.head;
+      each = (λ j l a z. w.each j l (apart j a));
+      low = w.front (table_end b) (link - 2) (omega arith) (omega arith);
       says = (λ f. word-bytes b c (link - 2) (link - 2) (keep (link - 2) (omega arith) (inr (omega arith))) (keep (link - 2 + 1) (omega arith) (inr (omega arith))));
-      first = (λ f. word-bytes b c 12 12 (keep 12 (omega arith) (inl (omega arith))) (keep 13 (omega arith) (inl (omega arith))));
+      first = (λ f. w.first);
       apart = (λ f e. elim o.linked [ inl k1 ↦ (let z = k1.is in absurd (omega (arith, z, f))) | inr k1 ↦ k1.apart (sym link_same ∙ e) ]);
-      mid = far o.upto at start (omega arith);
+      mid = w.front o.upto at start (omega arith);
     } in
-    let ahead : Tiles c o.upto (word b link) o.ahead at o.next = tiles-kept b c o.upto (word b link) o.ahead at o.next o.tiles_ahead r.mid (omega (arith, m)) (λ j l a z. each j l (apart j (omega arith))) in
-    let behind : Tiles c end o.next o.behind (length b) 0 = tiles-kept b c end o.next o.behind (length b) 0 o.tiles_behind rear (omega (arith, m)) (λ j l a z. each j l (apart j (omega arith))) in
+    let ahead : Tiles c o.upto (word b link) o.ahead at o.next = tiles-kept b c o.upto (word b link) o.ahead at o.next o.tiles_ahead r.mid (omega (arith, m)) (λ j l a z. w.each j l (apart j (omega arith))) in
+    let behind : Tiles c end o.next o.behind (length b) 0 = tiles-kept b c end o.next o.behind (length b) 0 o.tiles_behind rear (omega (arith, m)) (λ j l a z. w.each j l (apart j (omega arith))) in
     let K : ℕ → Type 0 = λ x. Tiles c o.upto x o.ahead at o.next in
     let V : ℕ → Type 0 = λ x. Tiles c end o.next o.behind x 0 in
     let mine : Tiles c at o.next (Used i n ∷ []) (at + cost n) o.next = (some, omega (arith, m), here, says, (refl, refl)) in
-    let told_c : IsOffset (entry c i) = ((λ z. absurd (omega (arith, z, here))), (λ z. absurd (omega (arith, z, here)))) in
-    let chunk : chunk_at c (entry c i) ≡ Some bytes = (let back_2 : entry c i - 2 ≡ at = omega (arith, here) in
-    let size : word c (entry c i - 2) - 2 ≡ n = ap (λ x. word c x - 2) back_2 ∙ omega (arith, says) in
-    chunk-told c (entry c i) told_c ∙ ap (λ x. Some (part c (entry c i) x)) size ∙ ap (λ x. Some (part c x n)) here ∙ ap (λ x. Some x) content) in
     record {
       is = record {
-        header = same-header b c o.header long head;
+        header = same-header b c o.header long w.head;
         before = o.before;
         upto = o.upto;
         ahead = o.ahead ++ (Used i n ∷ []);
@@ -178,15 +202,15 @@ filled b c link at end i n bytes o some fits h none long keep back here says con
         fours = omega (arith, four, at_fours);
         all = (λ j l u. elim (cases_eq j i) [
           | inl q ↦ inr (inl (has-right j o.ahead (Used i n ∷ []) (inl q)))
-          | inr ne ↦ (let lb : j < entries b = omega (arith, m) in let d = each j lb ne in elim (o.all j lb ((λ z. u.0 (d ∙ z)), (λ z. u.1 (d ∙ z)))) [
+          | inr ne ↦ (let lb : j < entries b = omega (arith, m) in let d = w.each j lb ne in elim (o.all j lb ((λ z. u.0 (d ∙ z)), (λ z. u.1 (d ∙ z)))) [
             | inl x ↦ inl x
             | inr x ↦ inr (elim x [ inl y ↦ inl (has-left j o.ahead (Used i n ∷ []) y) | inr y ↦ inr y ])
           ])
         ]);
-        total = (let t = o.total in let g = free_bytes-append o.ahead (Used i n ∷ []) in let w : total_free c ≡ total_free b = word-bytes b c 14 14 (keep 14 (omega arith) (inl (omega arith))) (keep 15 (omega arith) (inl (omega arith))) in omega (arith, t, g, w));
+        total = (let t = o.total in let g = free_bytes-append o.ahead (Used i n ∷ []) in omega (arith, t, g, w.total));
       };
       used = (λ u. used-both o.ahead (Used i n ∷ []) u tt);
-      chunks = chunks-set b c i (Some bytes) m h chunk (λ j l ne. kept-chunk b c link at end end j o long r.low r.mid rear (λ x. lies b end o.next o.behind (length b) 0 j o.tiles_behind x) l (each j l ne));
-      handle = head-word b c 12 0 head (omega arith);
+      chunks = chunks-set b c i (Some bytes) m h w.chunk (λ j l ne. kept-chunk b c link at end end j o long r.low r.mid rear (λ x. lies b end o.next o.behind (length b) 0 j o.tiles_behind x) l (w.each j l ne));
+      handle = head-word b c 12 0 w.head (omega arith);
       same_link = link_same;
     }

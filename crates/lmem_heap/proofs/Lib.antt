@@ -4,6 +4,7 @@ pub mod Sliding
 pub mod Unwritten
 pub mod Batches
 pub mod Opening
+pub mod Contents
 pub mod PackedHeaps
 pub mod Edits
 pub mod Additions

@@ -1,19 +1,20 @@
 -- From the moves and writes of the code to the steps that they make.
-use Rattle.std.proofs.Common.{◌≡◌, ℕ, ◌+◌, ◌-◌, ◌*◌, ◌<◌, ◌≤◌, ◌⊎◌, List, length, get_or, replicate, drop, refl, ap, sym, ◌∙◌, subst, inl, inr, arith, length-take, length-drop}
+use Rattle.std.proofs.Common.{◌≡◌, ℕ, ◌+◌, ◌-◌, ◌*◌, ◌<◌, ◌≤◌, ◌⊎◌, List, length, get_or, replicate, drop, refl, ap, sym, ◌∙◌, subst, inl, inr, arith}
 use Rattle.std.proofs.lemmas.Bool.{cases_lt}
-use Rattle.std.proofs.lemmas.List.{same_lists, get_or-take, get_or-drop, get_or_default, get_or_past, length-replicate}
+use Rattle.std.proofs.lemmas.List.{get_or-take, get_or-drop, length-replicate}
 use Rattle.lmem_raw.specs.Bytes.{part, with_part}
 use Rattle.lmem_raw.proofs.Parts.{part-same, length-with_part}
 use Rattle.geos_model.specs.Bytes.{word, with_word}
-use Rattle.geos_model.specs.Chunks.{cost, resized}
+use Rattle.geos_model.specs.Chunks.{cost}
 use Rattle.geos_model.specs.Block.{entry, entries, table_end, total_free}
-use Rattle.geos_model.proofs.Words.{word-same, word-other, word-part_other, length-with_word, byte-other, word-bytes, part-shifted, get_or-with_part_before, get_or-with_part_behind, get_or-with_part_within}
+use Rattle.geos_model.proofs.Words.{word-same, word-other, word-part_other, length-with_word, byte-other, word-bytes, part-shifted, get_or-with_part_before}
 use Rattle.geos_model.proofs.Costs.{cost-least}
-use Rattle.geos_model.proofs.Resizes.{length-resized, get_or-resized, zero-at}
+use Rattle.geos_model.proofs.Resizes.{length-part}
 use Rattle.lmem_heap.specs.Moves.{MovesRun}
 use Rattle.lmem_heap.specs.Packed.{IsPacked, EndsFree, SetsTail, EditsChunk, HasResized, PutsChunk, GrowsTable, chunks_end, chunk_end, chunk_length}
 use Rattle.lmem_heap.specs.Extents.{IsExtent}
 use Rattle.lmem_heap.specs.declared.chunks.Extent.{Extent}
+use Rattle.lmem_heap.proofs.Contents.{length-zeros, beside-zeros, within-zeros, kept-bytes}
 use Rattle.lmem_heap.proofs.Movers.{moved-low}
 use Rattle.lmem_heap.proofs.PackedHeaps.{bounds}
 
@@ -44,10 +45,6 @@ edit-made b d d1 c i to h low ahead wide high m long same t =
 pub resized_at-is : (d d1 d2 : List ℕ) (begin len n : ℕ) → d1 ≡ with_word d begin (n + 2) → d2 ≡ with_part d1 (begin + 2 + len) (replicate (n - len) 0) → d2 ≡ with_part (with_word d begin (n + 2)) (begin + 2 + len) (replicate (n - len) 0)
 resized_at-is d d1 d2 begin len n e1 e2 = e2 ∙ ap (λ x. with_part x (begin + 2 + len) (replicate (n - len) 0)) e1
 
-zeros-byte : (d : List ℕ) (from len n k : ℕ) → (k < from) ⊎ (from + (n - len) ≤ k) → get_or (with_part d from (replicate (n - len) 0)) k 0 ≡ get_or d k 0
-zeros-byte d from len n k (inl h) = get_or-with_part_before d from (replicate (n - len) 0) k h
-zeros-byte d from len n k (inr h) = let z = length-replicate {A = ℕ} (n - len) 0 in get_or-with_part_behind d from (replicate (n - len) 0) k (omega (arith, z))
-
 pub resize-made : (b d d2 c : List ℕ) (i begin n : ℕ) → i < entries b → table_end b ≤ begin → entry b i ≡ begin + 2 → 0 < n → 0 < chunk_length b i → begin + cost (chunk_length b i) ≡ chunk_end b i → chunk_end b i ≤ chunks_end b →
     chunks_end b ≤ length b → begin + cost n + (chunks_end b - chunk_end b i) ≤ length b → length b ≤ 65520 →
     MovesRun b d (chunk_end b i) (chunks_end b) (begin + cost n) → d2 ≡ with_part (with_word d begin (n + 2)) (begin + 2 + chunk_length b i) (replicate (n - chunk_length b i) 0) →
@@ -64,11 +61,9 @@ resize-made b d d2 c i begin n h low is some some_old whole high fits fits' most
     let back : e - 2 ≡ begin = omega arith in
     let d1 = with_word d begin (n + 2) in
     let n1 = length-with_word d begin (n + 2) in
-    let zs : List ℕ = replicate (n - len) 0 in
-    let nz = length-replicate {A = ℕ} (n - len) 0 in
-    let long : length d2 ≡ length d = ap length made ∙ length-with_part d1 (begin + 2 + len) zs ∙ n1 in
+    let long : length d2 ≡ length d = length-zeros d1 d2 (begin + 2 + len) (n - len) made ∙ n1 in
     let byte : (k : ℕ) → (k < begin) ⊎ (begin + 2 ≤ k) → (k < begin + 2 + len) ⊎ (begin + 2 + len + (n - len) ≤ k) → get_or d2 k 0 ≡ get_or d k 0 = (λ k out far.
-    ap (λ x. get_or x k 0) made ∙ zeros-byte d1 (begin + 2 + len) len n k far ∙ byte-other d begin (n + 2) k out) in
+    beside-zeros d1 d2 (begin + 2 + len) (n - len) k made far ∙ byte-other d begin (n + 2) k out) in
     let entry_byte : (k : ℕ) → k < begin → get_or d2 k 0 ≡ get_or d k 0 = (λ k l. byte k (inl l) (inl (omega arith))) in (
       edit-made b d d2 c i to h (omega arith) (omega arith) (omega arith) high m long
           (λ k out far. elim far [
@@ -79,20 +74,13 @@ resize-made b d d2 c i begin n h low is some some_old whole high fits fits' most
         place = word-bytes d c (16 + 2 * i) (16 + 2 * i) (t.same (16 + 2 * i) (omega arith) (inr (omega arith)) ∙ entry_byte (16 + 2 * i) (omega arith)) (t.same (16 + 2 * i + 1) (omega arith) (inr (omega arith)) ∙ entry_byte (16 + 2 * i + 1) (omega arith))
             ∙ m.entries i h ∙ moved-low end at to e (omega arith);
         size = ap (word c) back ∙ word-bytes d2 c begin begin (t.same begin (omega arith) (inr (omega arith))) (t.same (begin + 1) (omega arith) (inr (omega arith)))
-            ∙ ap (λ x. word x begin) made ∙ word-part_other d1 (begin + 2 + len) zs begin (inl (omega arith)) ∙ word-same d begin (n + 2) (omega arith) (omega (arith, long_d));
-        bytes = (let lc = t.long in let np : length (part b e len) ≡ len = omega (arith, length-take len (drop e b), length-drop e b) in
-            let nc : length (part c e n) ≡ n = omega (arith, length-take n (drop e c), length-drop e c, lc, long, long_d) in
-            let nr = length-resized (part b e len) n in
-            same_lists (part c e n) (resized (part b e len) n) (nc ∙ sym nr) (λ q x l.
-            let small : q < n = omega arith in
-            let left : get_or (part c e n) q 0 ≡ get_or d2 (e + q) 0 = get_or-take n (drop e c) q 0 small ∙ get_or-drop e c q 0 ∙ t.same (e + q) (omega arith) (inr (omega arith)) in
-            let right : get_or (resized (part b e len) n) q 0 ≡ get_or (part b e len) q 0 = get_or-resized (part b e len) n q small in
-            get_or_default (part c e n) q x 0 l ∙ left ∙ (elim (cases_lt q len) [
-              | inl old ↦ byte (e + q) (inr (omega arith)) (inl (omega arith)) ∙ m.before (e + q) (omega arith) (omega arith) (omega arith) ∙ sym (right ∙ get_or-take len (drop e b) q 0 old ∙ get_or-drop e b q 0)
-              | inr new ↦ ap (λ x. get_or x (e + q) 0) made ∙ get_or-with_part_within d1 (begin + 2 + len) zs (e + q) (q - len) (omega arith) (omega (arith, nz)) (omega (arith, n1, long_d)) ∙ zero-at (n - len) (q - len)
-                  ∙ sym (right ∙ get_or_past (part b e len) q 0 (omega (arith, np)))
-            ])
-            ∙ sym (get_or_default (resized (part b e len) n) q x 0 (omega (arith, nr)))));
+            ∙ ap (λ x. word x begin) made ∙ word-part_other d1 (begin + 2 + len) _ begin (inl (omega arith)) ∙ word-same d begin (n + 2) (omega arith) (omega (arith, long_d));
+        bytes = (let lc = t.long in
+            let np = length-part b e len (omega arith) in
+            kept-bytes (part b e len) c e len n (omega (arith, lc, long, long_d)) (inr (omega (arith, np)))
+            (λ q old small. t.same (e + q) (omega arith) (inr (omega arith)) ∙ byte (e + q) (inr (omega arith)) (inl (omega arith)) ∙ m.before (e + q) (omega arith) (omega arith) (omega arith)
+            ∙ sym (get_or-take len (drop e b) q 0 old ∙ get_or-drop e b q 0))
+            (λ q new small. t.same (e + q) (omega arith) (inr (omega arith)) ∙ within-zeros d1 d2 (begin + 2 + len) (n - len) (e + q) made (omega (arith, n1, long_d)) (omega arith) (omega arith)));
       },
     )
 

@@ -1,24 +1,25 @@
 -- A chunk that moves into a hole, and the hole that it leaves.
-use Rattle.std.proofs.Common.{◌≡◌, ◌≢◌, ℕ, ◌+◌, ◌-◌, ◌*◌, ◌%◌, ◌<◌, ◌≤◌, ◌⊎◌, List, [], ◌∷◌, ◌++◌, Some, length, get_or, set, replicate, drop, refl, ap, sym, ◌∙◌, subst, inl, inr, arith, length-take, length-drop}
-use Rattle.std.proofs.lemmas.Bool.{cases_eq, cases_lt}
-use Rattle.std.proofs.lemmas.List.{same_lists, get_or-take, get_or-drop, get_or_default, get_or_past, length-replicate}
+use Rattle.std.proofs.Common.{◌≡◌, ◌≢◌, ℕ, ◌+◌, ◌-◌, ◌*◌, ◌%◌, ◌<◌, ◌≤◌, ◌⊎◌, List, [], ◌∷◌, ◌++◌, Some, length, get_or, set, replicate, drop, refl, ap, sym, ◌∙◌, subst, inl, inr, arith}
+use Rattle.std.proofs.lemmas.Bool.{cases_eq}
+use Rattle.std.proofs.lemmas.List.{get_or-take, get_or-drop}
 use Rattle.lmem_raw.specs.Bytes.{part, with_part}
 use Rattle.lmem_raw.proofs.Parts.{length-with_part}
-use Rattle.geos_model.specs.Bytes.{word, with_word, IsShifted}
+use Rattle.geos_model.specs.Bytes.{word, with_word}
 use Rattle.geos_model.specs.Chunks.{cost, resized}
-use Rattle.geos_model.specs.Block.{entry, entries, table_end, first_free, total_free, chunk_at, chunks}
+use Rattle.geos_model.specs.Block.{entry, entries, table_end, first_free, chunks}
 use Rattle.geos_model.specs.Heap.{Piece, Used, Tiles, HasChunk, IsOffset, free_bytes}
 use Rattle.geos_model.proofs.Words.{word-bytes, get_or-with_part_before, get_or-with_part_behind, get_or-with_part_within}
 use Rattle.geos_model.proofs.Costs.{cost-four, cost-least}
 use Rattle.geos_model.proofs.Pieces.{lies, tiles-le, tiles-join, has-left, has-right, has-split, free_bytes-append}
 use Rattle.geos_model.proofs.Moves.{tiles-kept}
-use Rattle.geos_model.proofs.Resizes.{length-resized, get_or-resized, zero-at}
+use Rattle.geos_model.proofs.Resizes.{length-part}
 use Rattle.geos_model.proofs.Tables.{chunks-set}
-use Rattle.geos_model.proofs.Headers.{SameHead, head-word, same-header}
-use Rattle.geos_model.proofs.Entries.{chunk-told}
+use Rattle.geos_model.proofs.Headers.{head-word, same-header}
 use Rattle.geos_model.proofs.Found.{Found, find}
 use Rattle.lmem_heap.specs.Holes.{IsOpen}
 use Rattle.lmem_heap.specs.Packed.{chunk_end, chunk_length}
+use Rattle.lmem_heap.proofs.Contents.{length-zeros, beside-zeros, within-zeros, kept-bytes}
+use Rattle.lmem_heap.proofs.Filling.{has-put}
 use Rattle.lmem_heap.proofs.FreeLists.{link-tiles, link-place, open-place, tiles-fours}
 use Rattle.lmem_heap.proofs.Relinking.{Apart, KeepsBack, other, clear, put, long, kept-chunk}
 
@@ -87,25 +88,15 @@ redirects b c link at end i n bytes o h t some whole long keep back here says co
     let k = link-place b link o.upto o.before o.linked in
     let within = k.within in
     let start = k.start in
-    let head : SameHead b c 12 = (λ q l. keep q (omega arith) (inl (omega arith))) in
-    let m : entries c ≡ entries b = head-word b c 12 10 head (omega arith) in
-    let each : (j : ℕ) → j < entries b → j ≢ i → entry c j ≡ entry b j = (λ j l ne. elim (cases_lt j i) [
-      | inl a ↦ word-bytes b c (16 + 2 * j) (16 + 2 * j) (keep (16 + 2 * j) (omega arith) (inl (omega arith))) (keep (16 + 2 * j + 1) (omega arith) (inl (omega arith)))
-      | inr a ↦ word-bytes b c (16 + 2 * j) (16 + 2 * j) (keep (16 + 2 * j) (omega arith) (inr (omega arith))) (keep (16 + 2 * j + 1) (omega arith) (inr (omega arith)))
-    ]) in
+    let w = has-put b c i at end n bytes h low (omega arith) keep back here says content in
+    let m = w.count in
     let apart : (j : ℕ) → (entry b j ≡ e → ⊥) → j ≢ i = (λ j no same. no (ap (λ x. entry b x) same)) in
-    let far : (lo hi : ℕ) → table_end b ≤ lo → hi ≤ at → IsShifted b c 0 0 lo hi = (λ lo hi g l j q e' u v. let same : j ≡ q = omega arith in ap (λ x. get_or c x 0) same ∙ keep q (omega arith) (inr (omega arith))) in
-    let rear : (lo hi : ℕ) → end ≤ lo → IsShifted b c 0 0 lo hi = (λ lo hi g j q e' u v. let same : j ≡ q = omega arith in ap (λ x. get_or c x 0) same ∙ back q (omega arith)) in
     let start_is : table_end b ≡ table_end c = ap (λ x. 16 + 2 * x) (sym m) in
-    let first : first_free b ≡ word c 12 = sym (word-bytes b c 12 12 (keep 12 (omega arith) (inl (omega arith))) (keep 13 (omega arith) (inl (omega arith)))) in
-    let total : total_free c ≡ total_free b = word-bytes b c 14 14 (keep 14 (omega arith) (inl (omega arith))) (keep 15 (omega arith) (inl (omega arith))) in
-    let told_c : IsOffset (entry c i) = ((λ z. absurd (omega (arith, z, here))), (λ z. absurd (omega (arith, z, here)))) in
-    let chunk : chunk_at c (entry c i) ≡ Some bytes = (let back_2 : entry c i - 2 ≡ at = omega (arith, here) in
-    let size : word c (entry c i - 2) - 2 ≡ n = ap (λ x. word c x - 2) back_2 ∙ omega (arith, says) in
-    chunk-told c (entry c i) told_c ∙ ap (λ x. Some (part c (entry c i) x)) size ∙ ap (λ x. Some (part c x n)) here ∙ ap (λ x. Some x) content) in
-    let spelled = chunks-set b c i (Some bytes) m h chunk (λ j l ne. kept-chunk b c link at end end j o long (far (table_end b) (link - 2) (omega arith) (omega arith)) (far o.upto at start (omega arith)) (rear end (length b) (omega arith))
-    (λ x. lies b end o.next o.behind (length b) 0 j o.tiles_behind x) l (each j l ne)) in
-    let kept : (j : ℕ) → j < entries c → IsOffset (entry c j) → j ≢ i → HasChunk j (o.before ++ o.ahead) ⊎ HasChunk j o.behind = (λ j l u ne. let lb : j < entries b = omega (arith, m) in let d = each j lb ne in
+    let first = sym w.first in
+    let total = w.total in
+    let spelled = chunks-set b c i (Some bytes) m h w.chunk (λ j l ne. kept-chunk b c link at end end j o long (w.front (table_end b) (link - 2) (omega arith) (omega arith)) (w.front o.upto at start (omega arith)) (w.rear end (length b) (omega arith))
+    (λ x. lies b end o.next o.behind (length b) 0 j o.tiles_behind x) l (w.each j l ne)) in
+    let kept : (j : ℕ) → j < entries c → IsOffset (entry c j) → j ≢ i → HasChunk j (o.before ++ o.ahead) ⊎ HasChunk j o.behind = (λ j l u ne. let lb : j < entries b = omega (arith, m) in let d = w.each j lb ne in
     elim (o.all j lb ((λ z. u.0 (d ∙ z)), (λ z. u.1 (d ∙ z)))) [ inl x ↦ inl (has-left j o.before o.ahead x) | inr x ↦ elim x [ inl y ↦ inl (has-right j o.before o.ahead y) | inr y ↦ inr y ] ]) in
     let start_fours : table_end b % 4 ≡ 0 = (let pairs = o.header.pairs in omega (arith, pairs)) in
     let mine_room : at + cost n ≡ end = whole in
@@ -113,15 +104,15 @@ redirects b c link at end i n bytes o h t some whole long keep back here says co
     let app = free_bytes-append o.before o.ahead in
     let P = o.before ++ o.ahead in
     let whole_front = front b link at end o in
-    let handle = head-word b c 12 0 head (omega arith) in
+    let handle = head-word b c 12 0 w.head (omega arith) in
     elim (side b link at end i o h t) [
       | Before r ↦ (let low_e = r.low in let some_e = r.some in let size_e = r.size in let wide = cost-four r.n some_e in
           let n_is : r.n ≡ chunk_length b i = omega (arith, size_e) in
           let end_is : e - 2 + cost r.n ≡ chunk_end b i = ap (λ x. e - 2 + cost x) n_is in
           let le = tiles-le b (e - 2 + cost r.n) r.g r.post at o.next r.behind in
-          let pre : Tiles c (table_end b) (first_free b) r.pre (e - 2) r.g = tiles-kept b c (table_end b) (first_free b) r.pre (e - 2) r.g r.before (far (table_end b) (e - 2) (omega arith) (omega arith)) (omega (arith, m)) (λ j l a z. each j l (apart j (λ q. absurd (omega arith)))) in
-          let post : Tiles c (e - 2 + cost r.n) r.g r.post at o.next = tiles-kept b c (e - 2 + cost r.n) r.g r.post at o.next r.behind (far (e - 2 + cost r.n) at (omega arith) (omega arith)) (omega (arith, m)) (λ j l a z. each j l (apart j (λ q. absurd (omega arith)))) in
-          let behind : Tiles c end o.next o.behind (length b) 0 = tiles-kept b c end o.next o.behind (length b) 0 o.tiles_behind (rear end (length b) (omega arith)) (omega (arith, m)) (λ j l a z. each j l (apart j (λ q. absurd (omega arith)))) in
+          let pre : Tiles c (table_end b) (first_free b) r.pre (e - 2) r.g = tiles-kept b c (table_end b) (first_free b) r.pre (e - 2) r.g r.before (w.front (table_end b) (e - 2) (omega arith) (omega arith)) (omega (arith, m)) (λ j l a z. w.each j l (apart j (λ q. absurd (omega arith)))) in
+          let post : Tiles c (e - 2 + cost r.n) r.g r.post at o.next = tiles-kept b c (e - 2 + cost r.n) r.g r.post at o.next r.behind (w.front (e - 2 + cost r.n) at (omega arith) (omega arith)) (omega (arith, m)) (λ j l a z. w.each j l (apart j (λ q. absurd (omega arith)))) in
+          let behind : Tiles c end o.next o.behind (length b) 0 = tiles-kept b c end o.next o.behind (length b) 0 o.tiles_behind (w.rear end (length b) (omega arith)) (omega (arith, m)) (λ j l a z. w.each j l (apart j (λ q. absurd (omega arith)))) in
           let E : ℕ → Type 0 = λ x. Tiles c x o.next o.behind (length b) 0 in
           let mine : Tiles c at o.next (Used i n ∷ o.behind) (length b) 0 = (some, omega (arith, m), here, says, subst E (sym whole) behind) in
           let rest = tiles-join c (e - 2 + cost r.n) r.g r.post (Used i n ∷ o.behind) at o.next (length b) 0 post mine in
@@ -130,7 +121,7 @@ redirects b c link at end i n bytes o h t some whole long keep back here says co
           let L : ℕ → Type 0 = λ x. Tiles c (chunk_end b i) r.g (r.post ++ (Used i n ∷ o.behind)) x 0 in
           record {
             is = record {
-              header = same-header b c o.header long head;
+              header = same-header b c o.header long w.head;
               before = [];
               upto = table_end b;
               ahead = r.pre;
@@ -160,9 +151,9 @@ redirects b c link at end i n bytes o h t some whole long keep back here says co
           let n_is : r.n ≡ chunk_length b i = omega (arith, size_e) in
           let end_is : e - 2 + cost r.n ≡ chunk_end b i = ap (λ x. e - 2 + cost x) n_is in
           let le = tiles-le b (e - 2 + cost r.n) r.g r.post (length b) 0 r.behind in
-          let pre : Tiles c end o.next r.pre (e - 2) r.g = tiles-kept b c end o.next r.pre (e - 2) r.g r.before (rear end (e - 2) (omega arith)) (omega (arith, m)) (λ j l a z. each j l (apart j (λ q. absurd (omega arith)))) in
-          let post : Tiles c (e - 2 + cost r.n) r.g r.post (length b) 0 = tiles-kept b c (e - 2 + cost r.n) r.g r.post (length b) 0 r.behind (rear (e - 2 + cost r.n) (length b) (omega arith)) (omega (arith, m)) (λ j l a z. each j l (apart j (λ q. absurd (omega arith)))) in
-          let pieces : Tiles c (table_end b) (first_free b) P at o.next = tiles-kept b c (table_end b) (first_free b) P at o.next whole_front (far (table_end b) at (omega arith) (omega arith)) (omega (arith, m)) (λ j l a z. each j l (apart j (λ q. absurd (omega arith)))) in
+          let pre : Tiles c end o.next r.pre (e - 2) r.g = tiles-kept b c end o.next r.pre (e - 2) r.g r.before (w.rear end (e - 2) (omega arith)) (omega (arith, m)) (λ j l a z. w.each j l (apart j (λ q. absurd (omega arith)))) in
+          let post : Tiles c (e - 2 + cost r.n) r.g r.post (length b) 0 = tiles-kept b c (e - 2 + cost r.n) r.g r.post (length b) 0 r.behind (w.rear (e - 2 + cost r.n) (length b) (omega arith)) (omega (arith, m)) (λ j l a z. w.each j l (apart j (λ q. absurd (omega arith)))) in
+          let pieces : Tiles c (table_end b) (first_free b) P at o.next = tiles-kept b c (table_end b) (first_free b) P at o.next whole_front (w.front (table_end b) at (omega arith) (omega arith)) (omega (arith, m)) (λ j l a z. w.each j l (apart j (λ q. absurd (omega arith)))) in
           let E : ℕ → Type 0 = λ x. Tiles c x o.next r.pre (e - 2) r.g in
           let mine : Tiles c at o.next (Used i n ∷ r.pre) (e - 2) r.g = (some, omega (arith, m), here, says, subst E (sym whole) pre) in
           let ahead = tiles-join c (table_end b) (first_free b) P (Used i n ∷ r.pre) at o.next (e - 2) r.g pieces mine in
@@ -171,7 +162,7 @@ redirects b c link at end i n bytes o h t some whole long keep back here says co
           let L : ℕ → Type 0 = λ x. Tiles c (chunk_end b i) r.g r.post x 0 in
           record {
             is = record {
-              header = same-header b c o.header long head;
+              header = same-header b c o.header long w.head;
               before = [];
               upto = table_end b;
               ahead = P ++ (Used i n ∷ r.pre);
@@ -218,18 +209,13 @@ moved-in-hole b d1 d2 d3 c link at end i keep n o h t some whole keep_n keep_len
     let high_e = a.high in
     let some_e = a.some in
     let wide_e = cost-least len some_e in
-    let zs : List ℕ = replicate (n - keep) 0 in
-    let nz = length-replicate {A = ℕ} (n - keep) 0 in
     let moved = part d2 e keep in
     let n1 = long b d1 (16 + 2 * i) (at + 2) e1 in
     let n2 = long d1 d2 at (n + 2) e2 in
     let n3 : length d3 ≡ length d2 = ap length e3 ∙ length-with_part d2 (at + 2) moved in
-    let n4 : length c ≡ length d3 = ap length e4 ∙ length-with_part d3 (at + 2 + keep) zs in
-    let nm : length moved ≡ keep = omega (arith, length-take keep (drop e d2), length-drop e d2, n1, n2) in
-    let byte4 : (k : ℕ) → (k < at + 2 + keep) ⊎ (at + 2 + n ≤ k) → get_or c k 0 ≡ get_or d3 k 0 = (λ k out. ap (λ x. get_or x k 0) e4 ∙ elim out [
-      | inl l ↦ get_or-with_part_before d3 (at + 2 + keep) zs k l
-      | inr g ↦ get_or-with_part_behind d3 (at + 2 + keep) zs k (omega (arith, nz))
-    ]) in
+    let n4 = length-zeros d3 c (at + 2 + keep) (n - keep) e4 in
+    let nm : length moved ≡ keep = length-part d2 e keep (omega (arith, n1, n2)) in
+    let byte4 : (k : ℕ) → (k < at + 2 + keep) ⊎ (at + 2 + n ≤ k) → get_or c k 0 ≡ get_or d3 k 0 = (λ k out. beside-zeros d3 c (at + 2 + keep) (n - keep) k e4 (elim out [ inl l ↦ inl l | inr g ↦ inr (omega arith) ])) in
     let byte3 : (k : ℕ) → (k < at + 2) ⊎ (at + 2 + keep ≤ k) → get_or d3 k 0 ≡ get_or d2 k 0 = (λ k out. ap (λ x. get_or x k 0) e3 ∙ elim out [
       | inl l ↦ get_or-with_part_before d2 (at + 2) moved k l
       | inr g ↦ get_or-with_part_behind d2 (at + 2) moved k (omega (arith, nm))
@@ -241,20 +227,10 @@ moved-in-hole b d1 d2 d3 c link at end i keep n o h t some whole keep_n keep_len
     let here : entry c i ≡ at + 2 = words (16 + 2 * i) (omega arith) ∙ clear d1 d2 at (n + 2) (16 + 2 * i) e2 (inl (omega arith)) ∙ put b d1 (16 + 2 * i) (at + 2) e1 (omega arith) (omega arith) in
     let says : word c at ≡ n + 2 = words at (omega arith) ∙ put d1 d2 at (n + 2) e2 (omega arith) (omega (arith, n1)) in
     let old = part b e len in
-    let no : length old ≡ len = omega (arith, length-take len (drop e b), length-drop e b) in
-    let nc : length (part c (at + 2) n) ≡ n = omega (arith, length-take n (drop (at + 2) c), length-drop (at + 2) c, n1, n2, n3, n4) in
-    let nr = length-resized old n in
+    let no = length-part b e len (omega arith) in
     let from : (q : ℕ) → q < keep → Apart (e + q) at = (λ q l. elim a.out [ inl z ↦ inl (omega (arith, z)) | inr z ↦ inr (omega (arith, z)) ]) in
-    let content : part c (at + 2) n ≡ resized old n = same_lists (part c (at + 2) n) (resized old n) (nc ∙ sym nr) (λ q x l.
-    let small : q < n = omega arith in
-    let left : get_or (part c (at + 2) n) q 0 ≡ get_or c (at + 2 + q) 0 = get_or-take n (drop (at + 2) c) q 0 small ∙ get_or-drop (at + 2) c q 0 in
-    let right : get_or (resized old n) q 0 ≡ get_or old q 0 = get_or-resized old n q small in
-    get_or_default (part c (at + 2) n) q x 0 l ∙ left ∙ (elim (cases_lt q keep) [
-      | inl stays ↦ byte4 (at + 2 + q) (inl (omega arith)) ∙ ap (λ x. get_or x (at + 2 + q) 0) e3 ∙ get_or-with_part_within d2 (at + 2) moved (at + 2 + q) q refl (omega (arith, nm)) (omega (arith, n1, n2))
-          ∙ get_or-take keep (drop e d2) q 0 stays ∙ get_or-drop e d2 q 0 ∙ byte2 (e + q) (from q stays) (inr (omega arith))
-          ∙ sym (right ∙ get_or-take len (drop e b) q 0 (omega arith) ∙ get_or-drop e b q 0)
-      | inr new ↦ ap (λ x. get_or x (at + 2 + q) 0) e4 ∙ get_or-with_part_within d3 (at + 2 + keep) zs (at + 2 + q) (q - keep) (omega arith) (omega (arith, nz)) (omega (arith, n1, n2, n3)) ∙ zero-at (n - keep) (q - keep)
-          ∙ sym (right ∙ get_or_past old q 0 (elim exact [ inl z ↦ absurd (omega (arith, z)) | inr z ↦ omega (arith, no, z) ]))
-    ])
-    ∙ sym (get_or_default (resized old n) q x 0 (omega (arith, nr)))) in
+    let content : part c (at + 2) n ≡ resized old n = kept-bytes old c (at + 2) keep n (omega (arith, n1, n2, n3, n4)) (elim exact [ inl z ↦ inl z | inr z ↦ inr (omega (arith, no, z)) ])
+    (λ q stays small. byte4 (at + 2 + q) (inl (omega arith)) ∙ ap (λ x. get_or x (at + 2 + q) 0) e3 ∙ get_or-with_part_within d2 (at + 2) moved (at + 2 + q) q refl (omega (arith, nm)) (omega (arith, n1, n2))
+    ∙ get_or-take keep (drop e d2) q 0 stays ∙ get_or-drop e d2 q 0 ∙ byte2 (e + q) (from q stays) (inr (omega arith)) ∙ sym (get_or-take len (drop e b) q 0 (omega arith) ∙ get_or-drop e b q 0))
+    (λ q new small. within-zeros d3 c (at + 2 + keep) (n - keep) (at + 2 + q) e4 (omega (arith, n1, n2, n3)) (omega arith) (omega arith)) in
     redirects b c link at end i n (resized old n) o h t some whole (n4 ∙ n3 ∙ n2 ∙ n1) keeps back here says content

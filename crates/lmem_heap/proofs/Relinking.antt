@@ -34,10 +34,6 @@ put b d at v is small fits = ap (λ x. word x at) is ∙ word-same b at v small 
 pub long : (b d : List ℕ) (at v : ℕ) → d ≡ with_word b at v → length d ≡ length b
 long b d at v is = ap length is ∙ length-with_word b at v
 
--- an offset, by its bounds
-pub offset-in : (e low high : ℕ) → 2 ≤ low → low ≤ e → e < high → high ≤ 65520 → IsOffset e
-offset-in e low high l g h most = ((λ z. absurd (omega (arith, z))), (λ z. absurd (omega (arith, z))))
-
 -- what stands before a hole is as it was, but for the link
 pub record Relinks (b c : List ℕ) (link at upto : ℕ) : Type 0 where
   pub long : length c ≡ length b

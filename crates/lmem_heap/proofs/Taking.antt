@@ -1,18 +1,18 @@
 -- From the writes of the code to what they do to a hole.
-use Rattle.std.proofs.Common.{◌≡◌, ◌≢◌, ℕ, ◌+◌, ◌-◌, ◌*◌, ◌%◌, ◌<◌, ◌≤◌, ◌⊎◌, List, length, get_or, replicate, drop, ap, sym, ◌∙◌, inl, inr, arith, length-take, length-drop}
+use Rattle.std.proofs.Common.{◌≡◌, ◌≢◌, ℕ, ◌+◌, ◌-◌, ◌*◌, ◌%◌, ◌<◌, ◌≤◌, ◌⊎◌, List, length, get_or, replicate, drop, ap, sym, ◌∙◌, subst, inl, inr, arith}
 use Rattle.std.proofs.lemmas.Bool.{cases_lt}
-use Rattle.std.proofs.lemmas.List.{same_lists, get_or-take, get_or-drop, get_or_default, get_or_past, length-replicate}
+use Rattle.std.proofs.lemmas.List.{get_or-take, get_or-drop}
 use Rattle.lmem_raw.specs.Bytes.{part, with_part}
-use Rattle.lmem_raw.proofs.Parts.{length-with_part}
 use Rattle.geos_model.specs.Bytes.{word, with_word}
 use Rattle.geos_model.specs.Chunks.{cost, resized}
 use Rattle.geos_model.specs.Block.{entry, entries, table_end, total_free}
 use Rattle.geos_model.specs.Heap.{free_bytes}
-use Rattle.geos_model.proofs.Words.{word-part_other, get_or-with_part_before, get_or-with_part_behind, get_or-with_part_within}
+use Rattle.geos_model.proofs.Words.{word-part_other}
 use Rattle.geos_model.proofs.Pieces.{tiles-le}
 use Rattle.geos_model.proofs.Costs.{cost-least}
-use Rattle.geos_model.proofs.Resizes.{length-resized, get_or-resized, zero-at}
+use Rattle.geos_model.proofs.Resizes.{length-part}
 use Rattle.lmem_heap.specs.Holes.{IsOpen, IsBeside, Widens, GivesBack}
+use Rattle.lmem_heap.proofs.Contents.{length-zeros, beside-zeros, within-zeros, kept-bytes}
 use Rattle.lmem_heap.proofs.FreeLists.{OpenPlace, open-place}
 use Rattle.lmem_heap.proofs.Relinking.{Apart, KeepsFront, KeepsBack, other, clear, put, long, free-behind}
 use Rattle.lmem_heap.proofs.Giving.{took-whole, took-front, linked-in, merged-before}
@@ -23,9 +23,9 @@ link-apart : (b : List ℕ) (link at end : ℕ) → OpenPlace b link at end → 
 link-apart b link at end p = let table = p.table in elim p.link_out [ inl e ↦ inl (omega (arith, e)) | inr f ↦ inr (omega (arith, f, table)) ]
 
 -- all of the free chunk behind a hole
-pub whole-taken : (b d c : List ℕ) (link at end next total : ℕ) → IsBeside b link at end → word b link ≡ end → next ≡ word b (end + 2) → next < 65536 → total + word b end ≡ total_free b → d ≡ with_word b link next → c ≡ with_word d 14 total →
-    Widens b c link at end (end + word b end) × (word c link ≢ end + word b end)
-whole-taken b d c link at end next total s is next_is small sum e1 e2 =
+pub whole-taken : (b d c : List ℕ) (link at end size next total : ℕ) → IsBeside b link at end → word b link ≡ end → size ≡ word b end → next ≡ word b (end + 2) → next < 65536 → total + size ≡ total_free b → d ≡ with_word b link next → c ≡ with_word d 14 total →
+    Widens b c link at end (end + size) × (word c link ≢ end + size)
+whole-taken b d c link at end size next total s is size_is next_is small sum e1 e2 =
     let o = s.is in
     let p = open-place b link at end o in
     let link_high = p.link_high in
@@ -38,9 +38,10 @@ whole-taken b d c link at end next total s is next_is small sum e1 e2 =
     let n1 = long b d link next e1 in
     let n2 = long d c 14 total e2 in
     let byte : (k : ℕ) → Apart k link → Apart k 14 → get_or c k 0 ≡ get_or b k 0 = (λ k u v. other d c 14 total k e2 v ∙ other b d link next k e1 u) in
-    took-whole b c link at end s is (n2 ∙ n1) (λ k l u v. byte k u v) (λ k l. byte k (inr (omega arith)) (inr (omega arith)))
+    let R : ℕ → Type 0 = λ x. Widens b c link at end (end + x) × (word c link ≢ end + x) in
+    subst R (sym size_is) (took-whole b c link at end s is (n2 ∙ n1) (λ k l u v. byte k u v) (λ k l. byte k (inr (omega arith)) (inr (omega arith)))
     (clear d c 14 total link e2 (link-apart b link at end p) ∙ put b d link next e1 small (omega arith) ∙ next_is)
-    (let w = put d c 14 total e2 (omega (arith, sum, room)) (omega (arith, n1)) in omega (arith, w, sum))
+    (let w = put d c 14 total e2 (omega (arith, sum, room)) (omega (arith, n1)) in omega (arith, w, sum, size_is)))
 
 -- a free chunk that is written, with the link to it
 record Written (b c : List ℕ) (link to left next total : ℕ) : Type 0 where
@@ -162,35 +163,21 @@ hole-refilled b d1 d2 c link at end i keep n o some fits kept h none n1 same1 he
     let low = p.low in
     let table = p.table in
     let wide = cost-least n some in
-    let zs : List ℕ = replicate (n - keep) 0 in
-    let nz = length-replicate {A = ℕ} (n - keep) 0 in
     let n2 = long d1 d2 at (n + 2) e2 in
-    let n3 : length c ≡ length d2 = ap length e3 ∙ length-with_part d2 (at + 2 + keep) zs in
-    let byte3 : (k : ℕ) → (k < at + 2 + keep) ⊎ (at + 2 + keep + (n - keep) ≤ k) → get_or c k 0 ≡ get_or d2 k 0 = (λ k out. ap (λ x. get_or x k 0) e3 ∙ elim out [
-      | inl l ↦ get_or-with_part_before d2 (at + 2 + keep) zs k l
-      | inr g ↦ get_or-with_part_behind d2 (at + 2 + keep) zs k (omega (arith, nz))
-    ]) in
+    let n3 = length-zeros d2 c (at + 2 + keep) (n - keep) e3 in
+    let byte3 : (k : ℕ) → (k < at + 2 + keep) ⊎ (at + 2 + keep + (n - keep) ≤ k) → get_or c k 0 ≡ get_or d2 k 0 = (λ k out. beside-zeros d2 c (at + 2 + keep) (n - keep) k e3 out) in
     let past : (k : ℕ) → at + 2 + n ≤ k → (k < at + 2 + keep) ⊎ (at + 2 + keep + (n - keep) ≤ k) = (λ k g. elim (cases_lt k (at + 2 + keep)) [ inl l ↦ inl l | inr r ↦ inr (omega arith) ]) in
     let back : KeepsBack b c (at + cost n) = (λ k l. byte3 k (past k (omega arith)) ∙ other d1 d2 at (n + 2) k e2 (inr (omega arith)) ∙ same1 k (inr (omega arith))) in
     let front : (k : ℕ) → k < at → Apart k (16 + 2 * i) → get_or c k 0 ≡ get_or b k 0 = (λ k l u. byte3 k (inl (omega arith)) ∙ other d1 d2 at (n + 2) k e2 (inl l) ∙ same1 k u) in
-    let word3 : (j : ℕ) → j + 2 ≤ at + 2 → word c j ≡ word d2 j = (λ j l. ap (λ x. word x j) e3 ∙ word-part_other d2 (at + 2 + keep) zs j (inl (omega arith))) in
+    let word3 : (j : ℕ) → j + 2 ≤ at + 2 → word c j ≡ word d2 j = (λ j l. ap (λ x. word x j) e3 ∙ word-part_other d2 (at + 2 + keep) _ j (inl (omega arith))) in
     let here : entry c i ≡ at + 2 = word3 (16 + 2 * i) (omega arith) ∙ clear d1 d2 at (n + 2) (16 + 2 * i) e2 (inl (omega arith)) ∙ here1 in
     let says : word c at ≡ n + 2 = word3 at (omega arith) ∙ put d1 d2 at (n + 2) e2 (omega arith) (omega (arith, n1)) in
     let old = part b (at + 2) keep in
-    let no : length old ≡ keep = omega (arith, length-take keep (drop (at + 2) b), length-drop (at + 2) b) in
-    let nc : length (part c (at + 2) n) ≡ n = omega (arith, length-take n (drop (at + 2) c), length-drop (at + 2) c, n1, n2, n3) in
-    let nr = length-resized old n in
-    let content : part c (at + 2) n ≡ resized old n = same_lists (part c (at + 2) n) (resized old n) (nc ∙ sym nr) (λ q x l.
-    let small : q < n = omega arith in
-    let left : get_or (part c (at + 2) n) q 0 ≡ get_or c (at + 2 + q) 0 = get_or-take n (drop (at + 2) c) q 0 small ∙ get_or-drop (at + 2) c q 0 in
-    let right : get_or (resized old n) q 0 ≡ get_or old q 0 = get_or-resized old n q small in
-    get_or_default (part c (at + 2) n) q x 0 l ∙ left ∙ (elim (cases_lt q keep) [
-      | inl stays ↦ byte3 (at + 2 + q) (inl (omega arith)) ∙ other d1 d2 at (n + 2) (at + 2 + q) e2 (inr (omega arith)) ∙ same1 (at + 2 + q) (inr (omega arith))
-          ∙ sym (right ∙ get_or-take keep (drop (at + 2) b) q 0 stays ∙ get_or-drop (at + 2) b q 0)
-      | inr new ↦ ap (λ x. get_or x (at + 2 + q) 0) e3 ∙ get_or-with_part_within d2 (at + 2 + keep) zs (at + 2 + q) (q - keep) (omega arith) (omega (arith, nz)) (omega (arith, n1, n2)) ∙ zero-at (n - keep) (q - keep)
-          ∙ sym (right ∙ get_or_past old q 0 (omega (arith, no)))
-    ])
-    ∙ sym (get_or_default (resized old n) q x 0 (omega (arith, nr)))) in
+    let no = length-part b (at + 2) keep kept in
+    let content : part c (at + 2) n ≡ resized old n = kept-bytes old c (at + 2) keep n (omega (arith, n1, n2, n3)) (inr (omega (arith, no)))
+    (λ q stays small. byte3 (at + 2 + q) (inl (omega arith)) ∙ other d1 d2 at (n + 2) (at + 2 + q) e2 (inr (omega arith)) ∙ same1 (at + 2 + q) (inr (omega arith))
+    ∙ sym (get_or-take keep (drop (at + 2) b) q 0 stays ∙ get_or-drop (at + 2) b q 0))
+    (λ q new small. within-zeros d2 c (at + 2 + keep) (n - keep) (at + 2 + q) e3 (omega (arith, n1, n2)) (omega arith) (omega arith)) in
     filled b c link at end i n (resized old n) o some fits h none (n3 ∙ n2 ∙ n1) front back here says content
 
 -- the same, with the entry written

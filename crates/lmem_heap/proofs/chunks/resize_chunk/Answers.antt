@@ -1,14 +1,15 @@
-use Rattle.std.proofs.Common.{◌≡◌, ℕ, List, [], Option, Some, None, length, unwrap_or, set, get_or, replicate, refl, ap, sym, ◌∙◌, arith}
+use Rattle.std.proofs.Common.{◌≡◌, ℕ, ◌<◌, List, [], Option, Some, None, length, unwrap_or, set, get_or, replicate, refl, ap, sym, ◌∙◌, arith}
 use Rattle.geos_model.specs.Chunks.{cost_of, resized}
-use Rattle.geos_model.specs.Block.{chunks, entry, handle_word}
+use Rattle.geos_model.specs.Block.{chunks, entries, entry, handle_word}
 use Rattle.geos_model.specs.Heap.{IsOffset}
+use Rattle.lmem_heap.specs.Holes.{GivesBack}
 use Rattle.geos_model.proofs.Entries.{chunks-at, chunk-nothing}
 use Rattle.geos_model.proofs.Resizes.{resized-none, resized-nothing}
 use Rattle.geos_model.proofs.Lowest.{total-set, set-twice}
 use Rattle.lmem_heap.proofs.PackedHeaps.{packed-room}
 use Rattle.lmem_heap.proofs.Edits.{chunk-cost}
 use Rattle.lmem_heap.proofs.Refits.{freed, offset-same}
-use Rattle.lmem_heap.proofs.chunks.resize_chunk.Goals.{then-n-eq0-via-then-n-eq0, then-n-eq0-via-else-n-eq0+then-entry}
+use Rattle.lmem_heap.proofs.chunks.resize_chunk.Goals.{then-n-eq0-via-then-n-eq0, then-n-eq0-via-else-n-eq0+then-entry, After-pack, After-resize_beside}
 use Rattle.lmem_heap.proofs.chunks.resize_chunk.Goals as goal
 
 -- a chunk of n zeros in place of one whose bytes all go
@@ -41,75 +42,47 @@ returns-then-n-eq0-clause-chunks c =
     ] in
     c.new_chunk.ensures.chunks ∙ ap (λ xs. set xs i (Some (replicate n 0))) c.release_chunk.ensures.chunks ∙ set-twice cs i None (Some (replicate n 0)) ∙ ap (λ x. set cs i (Some x)) zeros
 
+-- the packed block has the same chunks
+packed-same : (c : After-pack) → chunks c.pack.new.block ≡ chunks c.args.block.now
+packed-same c = c.pack.ensures.chunks ∙ ap chunks c.if-move_away.ensures ∙ c.if-resize_beside.ensures.chunks
+
+-- and the entry is an offset there
+packed-offset : (c : After-pack) → (c.args.i < entries c.pack.new.block) × IsOffset (entry c.pack.new.block c.args.i)
+packed-offset c = offset-same _ _ _ c.requires.heap (packed-same c) c.requires.known (c.requires.used, λ e. c.if-entry.false (c.entry.ensures ∙ e))
+
 pub resize_in_place-requires-clause-known : goal.resize_in_place-requires-clause-known
-resize_in_place-requires-clause-known c =
-    let b = c.args.block.now in
-    let i = c.args.i in
-    let d = c.pack.new.block in
-    let g = c.if-resize_beside.ensures in
-    let same : chunks d ≡ chunks b = c.pack.ensures.chunks ∙ ap chunks c.if-move_away.ensures ∙ g.chunks in
-    let t : IsOffset (entry b i) = (c.requires.used, λ e. c.if-entry.false (c.entry.ensures ∙ e)) in
-    let o = offset-same b d i c.requires.heap same c.requires.known t in
-    o.0
+resize_in_place-requires-clause-known c = (packed-offset (goal.at.resize_in_place-requires-clause-known c).After-pack).0
 
 pub resize_in_place-requires-clause-offset : goal.resize_in_place-requires-clause-offset
-resize_in_place-requires-clause-offset c =
-    let b = c.args.block.now in
-    let i = c.args.i in
-    let d = c.pack.new.block in
-    let g = c.if-resize_beside.ensures in
-    let same : chunks d ≡ chunks b = c.pack.ensures.chunks ∙ ap chunks c.if-move_away.ensures ∙ g.chunks in
-    let t : IsOffset (entry b i) = (c.requires.used, λ e. c.if-entry.false (c.entry.ensures ∙ e)) in
-    let o = offset-same b d i c.requires.heap same c.requires.known t in
-    o.1
+resize_in_place-requires-clause-offset c = (packed-offset (goal.at.resize_in_place-requires-clause-offset c).After-pack).1
 
 pub resize_in_place-requires-clause-room : goal.resize_in_place-requires-clause-room
 resize_in_place-requires-clause-room c =
-    let b = c.args.block.now in
-    let i = c.args.i in
     let d = c.pack.new.block in
-    let g = c.if-resize_beside.ensures in
-    let same : chunks d ≡ chunks b = c.pack.ensures.chunks ∙ ap chunks c.if-move_away.ensures ∙ g.chunks in
-    let t : IsOffset (entry b i) = (c.requires.used, λ e. c.if-entry.false (c.entry.ensures ∙ e)) in
-    let o = offset-same b d i c.requires.heap same c.requires.known t in
-    let room = chunk-cost d i c.pack.ensures.packed o.0 o.1 in
-    let e = ap (λ xs. cost_of (get_or xs i None)) same in
-    let total = packed-room b d c.requires.heap c.pack.ensures.packed same (c.pack.auto.block ∙ ap length c.if-move_away.ensures ∙ c.resize_beside.auto.block) in
+    let same = packed-same (goal.at.resize_in_place-requires-clause-room c).After-pack in
+    let o = packed-offset (goal.at.resize_in_place-requires-clause-room c).After-pack in
+    let room = chunk-cost d c.args.i c.pack.ensures.packed o.0 o.1 in
+    let e = ap (λ xs. cost_of (get_or xs c.args.i None)) same in
+    let total = packed-room c.args.block.now d c.requires.heap c.pack.ensures.packed same (c.pack.auto.block ∙ ap length c.if-move_away.ensures ∙ c.resize_beside.auto.block) in
     omega (arith, room, e, total, c.requires.room)
 
 pub returns-clause-chunks : goal.returns-clause-chunks
 returns-clause-chunks c =
-    let b = c.args.block.now in
-    let i = c.args.i in
-    let d = c.pack.new.block in
-    let g = c.if-resize_beside.ensures in
-    let same : chunks d ≡ chunks b = c.pack.ensures.chunks ∙ ap chunks c.if-move_away.ensures ∙ g.chunks in
-    let t : IsOffset (entry b i) = (c.requires.used, λ e. c.if-entry.false (c.entry.ensures ∙ e)) in
-    let o = offset-same b d i c.requires.heap same c.requires.known t in
-    c.resize_in_place.ensures.chunks ∙ ap (λ xs. set xs i (Some (resized (unwrap_or (get_or xs i None) []) c.args.n))) same
+    let same = packed-same (goal.at.returns-clause-chunks c).After-pack in
+    c.resize_in_place.ensures.chunks ∙ ap (λ xs. set xs c.args.i (Some (resized (unwrap_or (get_or xs c.args.i None) []) c.args.n))) same
 
 pub returns-clause-handle : goal.returns-clause-handle
 returns-clause-handle c = c.resize_in_place.ensures.handle ∙ c.pack.ensures.handle ∙ ap handle_word c.if-move_away.ensures ∙ c.if-resize_beside.ensures.handle
 
+-- nor does the try beside it change the entry
+beside-offset : (c : After-resize_beside) → GivesBack c.args.block.now c.resize_beside.new.block → (c.args.i < entries c.resize_beside.new.block) × IsOffset (entry c.resize_beside.new.block c.args.i)
+beside-offset c g = offset-same _ _ _ c.requires.heap g.chunks c.requires.known (c.requires.used, λ e. c.if-entry.false (c.entry.ensures ∙ e))
+
 pub move_away-requires-clause-known : goal.move_away-requires-clause-known
-move_away-requires-clause-known c =
-    let b = c.args.block.now in
-    let i = c.args.i in
-    let d = c.resize_beside.new.block in
-    let g = c.if-resize_beside.ensures in
-    let t : IsOffset (entry b i) = (c.requires.used, λ e. c.if-entry.false (c.entry.ensures ∙ e)) in
-    let o = offset-same b d i c.requires.heap g.chunks c.requires.known t in
-    o.0
+move_away-requires-clause-known c = (beside-offset (goal.at.move_away-requires-clause-known c).After-resize_beside c.if-resize_beside.ensures).0
 
 pub move_away-requires-clause-offset : goal.move_away-requires-clause-offset
-move_away-requires-clause-offset c =
-    let b = c.args.block.now in
-    let i = c.args.i in
-    let d = c.resize_beside.new.block in
-    let g = c.if-resize_beside.ensures in
-    let t : IsOffset (entry b i) = (c.requires.used, λ e. c.if-entry.false (c.entry.ensures ∙ e)) in
-    let o = offset-same b d i c.requires.heap g.chunks c.requires.known t in
-    o.1
+move_away-requires-clause-offset c = (beside-offset (goal.at.move_away-requires-clause-offset c).After-resize_beside c.if-resize_beside.ensures).1
 
 pub returns-then-move_away-clause-chunks : goal.returns-then-move_away-clause-chunks
 returns-then-move_away-clause-chunks c =

@@ -35,33 +35,22 @@ set_tail-requires-clause-fours c =
     let r = c.requires.room in
     omega (arith, f, g, len, r, k.wide, k.high, bs.room, bs.fours, c.chunks_end-at.ensures, c.cost.ensures, c.clear.auto.block, c.put16.auto.block, c.move_run.auto.block)
 
-pub returns-clause-heap : goal.returns-clause-heap
-returns-clause-heap c =
+pub returns : goal.returns
+returns c =
     let b = c.args.block.now in
-    let M : ℕ → Type 0 = λ x. MovesRun b c.move_run.new.block c.of-chunk.result.end c.chunks_end-at.result (c.of-chunk.result.begin + x) in
-    let W : ℕ → Type 0 = λ x. c.clear.new.block ≡ with_part c.put16.new.block (c.of-chunk.result.begin + 2 + c.of-chunk.result.len) (replicate x 0) in
-    let T : ℕ → Type 0 = λ x. SetsTail c.clear.new.block c.set_tail.new.block (c.of-chunk.result.begin + x + (c.chunks_end-at.result - c.of-chunk.result.end)) in
-    let r = resized-in-place b c.move_run.new.block c.put16.new.block c.clear.new.block c.set_tail.new.block c.args.i c.chunks_end-at.result c.args.n c.of-chunk.result c.requires.packed c.requires.known c.of-chunk.ensures c.chunks_end-at.ensures c.requires.some c.requires.room
+    let i = c.args.i in
+    let x = c.of-chunk.result in
+    let end = c.chunks_end-at.result in
+    let d = c.set_tail.new.block in
+    let known = c.requires.known in
+    let offset = c.requires.offset in
+    let M : ℕ → Type 0 = λ size. MovesRun b c.move_run.new.block x.end end (x.begin + size) in
+    let W : ℕ → Type 0 = λ m. c.clear.new.block ≡ with_part c.put16.new.block (x.begin + 2 + x.len) (replicate m 0) in
+    let T : ℕ → Type 0 = λ size. SetsTail c.clear.new.block d (x.begin + size + (end - x.end)) in
+    let r = resized-in-place b c.move_run.new.block c.put16.new.block c.clear.new.block d i end c.args.n x c.requires.packed known c.of-chunk.ensures c.chunks_end-at.ensures c.requires.some c.requires.room
     (subst M c.cost.ensures c.move_run.ensures) c.put16.ensures (subst W c.saturating_sub-more.ensures c.clear.ensures) (subst T c.cost.ensures c.set_tail.ensures) in
-    packed-heap c.set_tail.new.block (resized-packed b c.set_tail.new.block c.args.i c.args.n c.requires.packed c.requires.known c.requires.offset c.requires.some c.requires.room r.0 r.1)
-
-pub returns-clause-chunks : goal.returns-clause-chunks
-returns-clause-chunks c =
-    let b = c.args.block.now in
-    let M : ℕ → Type 0 = λ x. MovesRun b c.move_run.new.block c.of-chunk.result.end c.chunks_end-at.result (c.of-chunk.result.begin + x) in
-    let W : ℕ → Type 0 = λ x. c.clear.new.block ≡ with_part c.put16.new.block (c.of-chunk.result.begin + 2 + c.of-chunk.result.len) (replicate x 0) in
-    let T : ℕ → Type 0 = λ x. SetsTail c.clear.new.block c.set_tail.new.block (c.of-chunk.result.begin + x + (c.chunks_end-at.result - c.of-chunk.result.end)) in
-    let r = resized-in-place b c.move_run.new.block c.put16.new.block c.clear.new.block c.set_tail.new.block c.args.i c.chunks_end-at.result c.args.n c.of-chunk.result c.requires.packed c.requires.known c.of-chunk.ensures c.chunks_end-at.ensures c.requires.some c.requires.room
-    (subst M c.cost.ensures c.move_run.ensures) c.put16.ensures (subst W c.saturating_sub-more.ensures c.clear.ensures) (subst T c.cost.ensures c.set_tail.ensures) in
-    resized-chunks b c.set_tail.new.block c.args.i c.args.n c.requires.packed c.requires.known c.requires.offset c.requires.some c.requires.room r.0 r.1
-    ∙ ap (λ x. set (chunks b) c.args.i (Some (resized (unwrap_or x []) c.args.n))) (sym (chunk-bytes b c.args.i c.requires.known c.requires.offset))
-
-pub returns-clause-handle : goal.returns-clause-handle
-returns-clause-handle c =
-    let b = c.args.block.now in
-    let M : ℕ → Type 0 = λ x. MovesRun b c.move_run.new.block c.of-chunk.result.end c.chunks_end-at.result (c.of-chunk.result.begin + x) in
-    let W : ℕ → Type 0 = λ x. c.clear.new.block ≡ with_part c.put16.new.block (c.of-chunk.result.begin + 2 + c.of-chunk.result.len) (replicate x 0) in
-    let T : ℕ → Type 0 = λ x. SetsTail c.clear.new.block c.set_tail.new.block (c.of-chunk.result.begin + x + (c.chunks_end-at.result - c.of-chunk.result.end)) in
-    let r = resized-in-place b c.move_run.new.block c.put16.new.block c.clear.new.block c.set_tail.new.block c.args.i c.chunks_end-at.result c.args.n c.of-chunk.result c.requires.packed c.requires.known c.of-chunk.ensures c.chunks_end-at.ensures c.requires.some c.requires.room
-    (subst M c.cost.ensures c.move_run.ensures) c.put16.ensures (subst W c.saturating_sub-more.ensures c.clear.ensures) (subst T c.cost.ensures c.set_tail.ensures) in
-    head-word b c.set_tail.new.block 12 0 r.0.head (omega arith)
+    record {
+      heap = packed-heap d (resized-packed b d i c.args.n c.requires.packed known offset c.requires.some c.requires.room r.0 r.1);
+      chunks = resized-chunks b d i c.args.n c.requires.packed known offset c.requires.some c.requires.room r.0 r.1 ∙ ap (λ y. set (chunks b) i (Some (resized (unwrap_or y []) c.args.n))) (sym (chunk-bytes b i known offset));
+      handle = head-word b d 12 0 r.0.head (omega arith);
+    }

@@ -8,7 +8,8 @@ use Rattle.lmem_heap.specs.Moves.{MapsEntries}
 use Rattle.lmem_heap.specs.Slides.{entry_slid}
 use Rattle.lmem_heap.specs.Gaps.{IsFirstGap, SlidesGaps}
 use Rattle.lmem_heap.proofs.Unwritten.{but-head}
-use Rattle.lmem_heap.proofs.Batches.{slides-none, slides-one-more, slides-done}
+use Rattle.lmem_heap.proofs.Batches.{SlidOneMore, slides-none, slides-one-more, slides-done}
+use Rattle.lmem_heap.proofs.compact.slide_gaps.Goals.{After-push}
 use Rattle.lmem_heap.proofs.compact.slide_gaps.Goals as goal
 
 -- what the loop knows of the next gap
@@ -26,31 +27,22 @@ loop-next-init c =
     let n : length c.new-slides.result.items ≡ 0 = ap length c.new-slides.ensures in
     record { so_far = subst P (sym c.new-slides.ensures) (slides-none b c.requires.heap (λ k. omega (arith, c.type_inv.block k))); next = (c.requires.first, omega (arith, n)) }
 
-pub short_gap-next-requires : goal.short_gap-next-requires
-short_gap-next-requires c =
+-- the run behind the gap has moved, and is listed
+one-more : (c : After-push) → SlidOneMore c.args.block.now c.slide-slide.new.block c.push.new.self.items
+one-more c =
     let i = c.loop-next.invariant in
-    let block = c.loop-next.block in
-    let items = c.loop-next.slides.items in
-    let now = subst (Next block (length items)) c.in-Some.is i.next in
-    let s = slides-one-more c.args.block.now block c.slide-slide.new.block items c.push.new.self.items c.in-Some.gap c.slide-slide.result i.so_far now.0 (omega arith) c.slide-slide.ensures.bytes c.slide-slide.ensures.run c.push.ensures.items in
-    (s.so_far.heap, s.so_far.slid.but)
+    let gap = subst (Next c.loop-next.block (length c.loop-next.slides.items)) c.in-Some.is i.next in
+    slides-one-more _ _ _ _ _ c.in-Some.gap _ i.so_far gap.0 (omega arith) c.slide-slide.ensures.bytes c.slide-slide.ensures.run c.push.ensures.items
+
+pub short_gap-next-requires : goal.short_gap-next-requires
+short_gap-next-requires c = let s = (one-more (goal.at.short_gap-next-requires c).After-push).so_far in (s.heap, s.slid.but)
 
 pub loop-next-preserved-then-is_full : goal.loop-next-preserved-then-is_full
-loop-next-preserved-then-is_full c =
-    let i = c.loop-next.invariant in
-    let block = c.loop-next.block in
-    let items = c.loop-next.slides.items in
-    let now = subst (Next block (length items)) c.in-Some.is i.next in
-    let s = slides-one-more c.args.block.now block c.slide-slide.new.block items c.push.new.self.items c.in-Some.gap c.slide-slide.result i.so_far now.0 (omega arith) c.slide-slide.ensures.bytes c.slide-slide.ensures.run c.push.ensures.items in
-    record { so_far = s.so_far; next = s.some }
+loop-next-preserved-then-is_full c = let s = one-more (goal.at.loop-next-preserved-then-is_full c).After-push in record { so_far = s.so_far; next = s.some }
 
 pub loop-next-preserved : goal.loop-next-preserved
 loop-next-preserved c =
-    let i = c.loop-next.invariant in
-    let block = c.loop-next.block in
-    let items = c.loop-next.slides.items in
-    let now = subst (Next block (length items)) c.in-Some.is i.next in
-    let s = slides-one-more c.args.block.now block c.slide-slide.new.block items c.push.new.self.items c.in-Some.gap c.slide-slide.result i.so_far now.0 (omega arith) c.slide-slide.ensures.bytes c.slide-slide.ensures.run c.push.ensures.items in
+    let s = one-more (goal.at.loop-next-preserved c).After-push in
     let few : length c.push.new.self.items < 128 = grind (arith, nat_tests) in
     record { so_far = s.so_far; next = next_short c.slide-slide.new.block (length c.push.new.self.items) c.short_gap-next.result c.short_gap-next.ensures s.some few }
 

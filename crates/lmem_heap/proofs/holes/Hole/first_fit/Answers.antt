@@ -9,69 +9,40 @@ loop-next-init c = record { is = heap-open c.args.block.now c.requires; next = c
 
 pub get16-requires : goal.get16-requires
 get16-requires c =
-    let b = c.args.block.now in
     let i = c.loop-next.invariant in
-    let w = i.next in
-    let n = heap-next b c.loop-next.link i.is (λ z. c.loop-next-test.true (w ∙ z)) in
-    let inside = n.inside in
-    let above = n.above in
-    let most = i.is.header.most in
-    omega (arith, inside, w)
+    let n = heap-next _ _ i.is (λ z. c.loop-next-test.true (i.next ∙ z)) in
+    omega (arith, n.inside, i.next)
 
 pub returns-then-get16-size : goal.returns-then-get16-size
 returns-then-get16-size c =
     let b = c.args.block.now in
     let i = c.loop-next.invariant in
-    let w = i.next in
-    let n = heap-next b c.loop-next.link i.is (λ z. c.loop-next-test.true (w ∙ z)) in
-    let inside = n.inside in
-    let above = n.above in
-    let most = i.is.header.most in
     let P : ℕ → Type 0 = λ x. FitsBehind b c.loop-next.link x x c.args.size in
-    let size : c.args.size ≤ word b (word b c.loop-next.link) = (let r = ap (word b) w in omega (arith, c.get16.ensures, r, c.if-get16-size.true)) in
-    subst P (sym w) (open-fits b c.loop-next.link i.is (λ z. c.loop-next-test.true (w ∙ z)) c.args.size size)
+    let size : c.args.size ≤ word b (word b c.loop-next.link) = omega (arith, c.get16.ensures, ap (word b) i.next, c.if-get16-size.true) in
+    subst P (sym i.next) (open-fits b c.loop-next.link i.is (λ z. c.loop-next-test.true (i.next ∙ z)) c.args.size size)
 
 pub overflow_add-link : goal.overflow_add-link
 overflow_add-link c =
-    let b = c.args.block.now in
     let i = c.loop-next.invariant in
-    let w = i.next in
-    let n = heap-next b c.loop-next.link i.is (λ z. c.loop-next-test.true (w ∙ z)) in
-    let inside = n.inside in
-    let above = n.above in
-    let most = i.is.header.most in
-    omega (arith, inside, w, most)
+    let n = heap-next _ _ i.is (λ z. c.loop-next-test.true (i.next ∙ z)) in
+    omega (arith, n.inside, i.next, i.is.header.most)
 
 pub get16-next-requires-in-loop-next : goal.get16-next-requires-in-loop-next
 get16-next-requires-in-loop-next c =
-    let b = c.args.block.now in
     let i = c.loop-next.invariant in
-    let w = i.next in
-    let n = heap-next b c.loop-next.link i.is (λ z. c.loop-next-test.true (w ∙ z)) in
-    let inside = n.inside in
-    let above = n.above in
-    let most = i.is.header.most in
-    omega (arith, inside, w)
+    let n = heap-next _ _ i.is (λ z. c.loop-next-test.true (i.next ∙ z)) in
+    omega (arith, n.inside, i.next)
 
 pub loop-next-smaller : goal.loop-next-smaller
 loop-next-smaller c =
-    let b = c.args.block.now in
     let i = c.loop-next.invariant in
-    let w = i.next in
-    let n = heap-next b c.loop-next.link i.is (λ z. c.loop-next-test.true (w ∙ z)) in
-    let inside = n.inside in
-    let above = n.above in
-    let most = i.is.header.most in
-    omega (arith, inside, above, w)
+    let n = heap-next _ _ i.is (λ z. c.loop-next-test.true (i.next ∙ z)) in
+    omega (arith, n.inside, n.above, i.next)
 
 pub loop-next-preserved : goal.loop-next-preserved
 loop-next-preserved c =
     let b = c.args.block.now in
     let i = c.loop-next.invariant in
-    let w = i.next in
-    let n = heap-next b c.loop-next.link i.is (λ z. c.loop-next-test.true (w ∙ z)) in
-    let inside = n.inside in
-    let above = n.above in
-    let most = i.is.header.most in
+    let n = heap-next _ _ i.is (λ z. c.loop-next-test.true (i.next ∙ z)) in
     let P : ℕ → Type 0 = λ x. IsOpen b (x + 2) (length b) (length b) in
-    record { is = subst P (sym w) n.is; next = c.get16-next-in-loop-next.ensures }
+    record { is = subst P (sym i.next) n.is; next = c.get16-next-in-loop-next.ensures }

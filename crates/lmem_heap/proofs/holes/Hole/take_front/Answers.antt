@@ -4,244 +4,38 @@ use Rattle.lmem_heap.proofs.Taking.{free-fits, front-taken}
 use Rattle.lmem_heap.proofs.holes.Hole.take_front.Goals as goal
 
 pub get16-requires : goal.get16-requires
-get16-requires c =
-    let b = c.args.block.now in
-    let h = c.args.self in
-    let s = c.requires.hole in
-    let p = open-place b h.link h.at h.end s.is in
-    let link_high = p.link_high in
-    let link_low = p.link_low in
-    let high = p.high in
-    let most = p.most in
-    let low = p.low in
-    let room = p.room in
-    let table = p.table in
-    let order = s.is.order in
-    let at_fours = s.is.fours in
-    let f = free-fits b h.link h.at h.end s c.requires.behind in
-    let four = f.four in
-    let fours = f.fours in
-    let inside = f.inside in
-    let sum = f.sum in
-    omega (arith, four, fours, inside, sum, link_high, link_low, high, most, order, low, c.requires.some, c.requires.fours, c.requires.room)
+get16-requires c = let f = free-fits _ _ _ _ c.requires.hole c.requires.behind in omega (arith, f.four, f.inside)
 
 pub overflow_add-self : goal.overflow_add-self
-overflow_add-self c =
-    let b = c.args.block.now in
-    let h = c.args.self in
-    let s = c.requires.hole in
-    let p = open-place b h.link h.at h.end s.is in
-    let link_high = p.link_high in
-    let link_low = p.link_low in
-    let high = p.high in
-    let most = p.most in
-    let low = p.low in
-    let room = p.room in
-    let table = p.table in
-    let order = s.is.order in
-    let at_fours = s.is.fours in
-    let f = free-fits b h.link h.at h.end s c.requires.behind in
-    let four = f.four in
-    let fours = f.fours in
-    let inside = f.inside in
-    let sum = f.sum in
-    omega (arith, four, fours, inside, sum, link_high, link_low, high, most, order, low, c.requires.some, c.requires.fours, c.requires.room)
+overflow_add-self c = let f = free-fits _ _ _ _ c.requires.hole c.requires.behind in omega (arith, f.four, f.inside, c.requires.hole.is.header.most)
 
 pub get16-next-requires : goal.get16-next-requires
-get16-next-requires c =
-    let b = c.args.block.now in
-    let h = c.args.self in
-    let s = c.requires.hole in
-    let p = open-place b h.link h.at h.end s.is in
-    let link_high = p.link_high in
-    let link_low = p.link_low in
-    let high = p.high in
-    let most = p.most in
-    let low = p.low in
-    let room = p.room in
-    let table = p.table in
-    let order = s.is.order in
-    let at_fours = s.is.fours in
-    let f = free-fits b h.link h.at h.end s c.requires.behind in
-    let four = f.four in
-    let fours = f.fours in
-    let inside = f.inside in
-    let sum = f.sum in
-    omega (arith, four, fours, inside, sum, link_high, link_low, high, most, order, low, c.requires.some, c.requires.fours, c.requires.room)
+get16-next-requires c = let f = free-fits _ _ _ _ c.requires.hole c.requires.behind in omega (arith, f.four, f.inside)
 
 pub overflow_add-end : goal.overflow_add-end
-overflow_add-end c =
-    let b = c.args.block.now in
-    let h = c.args.self in
-    let s = c.requires.hole in
-    let p = open-place b h.link h.at h.end s.is in
-    let link_high = p.link_high in
-    let link_low = p.link_low in
-    let high = p.high in
-    let most = p.most in
-    let low = p.low in
-    let room = p.room in
-    let table = p.table in
-    let order = s.is.order in
-    let at_fours = s.is.fours in
-    let f = free-fits b h.link h.at h.end s c.requires.behind in
-    let four = f.four in
-    let fours = f.fours in
-    let inside = f.inside in
-    let sum = f.sum in
-    omega (arith, four, fours, inside, sum, link_high, link_low, high, most, order, low, c.requires.some, c.requires.fours, c.requires.room)
+overflow_add-end c = let f = free-fits _ _ _ _ c.requires.hole c.requires.behind in omega (arith, f.inside, c.requires.hole.is.header.most, c.requires.room)
 
 pub put16-requires : goal.put16-requires
-put16-requires c =
-    let b = c.args.block.now in
-    let h = c.args.self in
-    let s = c.requires.hole in
-    let p = open-place b h.link h.at h.end s.is in
-    let link_high = p.link_high in
-    let link_low = p.link_low in
-    let high = p.high in
-    let most = p.most in
-    let low = p.low in
-    let room = p.room in
-    let table = p.table in
-    let order = s.is.order in
-    let at_fours = s.is.fours in
-    let f = free-fits b h.link h.at h.end s c.requires.behind in
-    let four = f.four in
-    let fours = f.fours in
-    let inside = f.inside in
-    let sum = f.sum in
-    omega (arith, four, fours, inside, sum, link_high, link_low, high, most, order, low, c.requires.some, c.requires.fours, c.requires.room)
+put16-requires c = let f = free-fits _ _ _ _ c.requires.hole c.requires.behind in omega (arith, f.fours, f.inside, c.requires.fours, c.requires.room)
 
 pub overflow_add-end-2 : goal.overflow_add-end-2
-overflow_add-end-2 c =
-    let b = c.args.block.now in
-    let h = c.args.self in
-    let s = c.requires.hole in
-    let p = open-place b h.link h.at h.end s.is in
-    let link_high = p.link_high in
-    let link_low = p.link_low in
-    let high = p.high in
-    let most = p.most in
-    let low = p.low in
-    let room = p.room in
-    let table = p.table in
-    let order = s.is.order in
-    let at_fours = s.is.fours in
-    let f = free-fits b h.link h.at h.end s c.requires.behind in
-    let four = f.four in
-    let fours = f.fours in
-    let inside = f.inside in
-    let sum = f.sum in
-    omega (arith, four, fours, inside, sum, link_high, link_low, high, most, order, low, c.requires.some, c.requires.fours, c.requires.room)
+overflow_add-end-2 c = let f = free-fits _ _ _ _ c.requires.hole c.requires.behind in omega (arith, f.inside, c.requires.hole.is.header.most, c.requires.room)
 
 pub put16-requires-2 : goal.put16-requires-2
-put16-requires-2 c =
-    let b = c.args.block.now in
-    let h = c.args.self in
-    let s = c.requires.hole in
-    let p = open-place b h.link h.at h.end s.is in
-    let link_high = p.link_high in
-    let link_low = p.link_low in
-    let high = p.high in
-    let most = p.most in
-    let low = p.low in
-    let room = p.room in
-    let table = p.table in
-    let order = s.is.order in
-    let at_fours = s.is.fours in
-    let f = free-fits b h.link h.at h.end s c.requires.behind in
-    let four = f.four in
-    let fours = f.fours in
-    let inside = f.inside in
-    let sum = f.sum in
-    omega (arith, four, fours, inside, sum, link_high, link_low, high, most, order, low, c.requires.some, c.requires.fours, c.requires.room, c.put16.auto.block)
+put16-requires-2 c = let f = free-fits _ _ _ _ c.requires.hole c.requires.behind in omega (arith, f.fours, f.inside, c.requires.fours, c.requires.room, c.put16.auto.block)
 
 pub overflow_cast-end : goal.overflow_cast-end
-overflow_cast-end c =
-    let b = c.args.block.now in
-    let h = c.args.self in
-    let s = c.requires.hole in
-    let p = open-place b h.link h.at h.end s.is in
-    let link_high = p.link_high in
-    let link_low = p.link_low in
-    let high = p.high in
-    let most = p.most in
-    let low = p.low in
-    let room = p.room in
-    let table = p.table in
-    let order = s.is.order in
-    let at_fours = s.is.fours in
-    let f = free-fits b h.link h.at h.end s c.requires.behind in
-    let four = f.four in
-    let fours = f.fours in
-    let inside = f.inside in
-    let sum = f.sum in
-    omega (arith, four, fours, inside, sum, link_high, link_low, high, most, order, low, c.requires.some, c.requires.fours, c.requires.room)
+overflow_cast-end c = let f = free-fits _ _ _ _ c.requires.hole c.requires.behind in omega (arith, f.inside, c.requires.hole.is.header.most, c.requires.room)
 
 pub put16-requires-3 : goal.put16-requires-3
-put16-requires-3 c =
-    let b = c.args.block.now in
-    let h = c.args.self in
-    let s = c.requires.hole in
-    let p = open-place b h.link h.at h.end s.is in
-    let link_high = p.link_high in
-    let link_low = p.link_low in
-    let high = p.high in
-    let most = p.most in
-    let low = p.low in
-    let room = p.room in
-    let table = p.table in
-    let order = s.is.order in
-    let at_fours = s.is.fours in
-    let f = free-fits b h.link h.at h.end s c.requires.behind in
-    let four = f.four in
-    let fours = f.fours in
-    let inside = f.inside in
-    let sum = f.sum in
-    omega (arith, four, fours, inside, sum, link_high, link_low, high, most, order, low, c.requires.some, c.requires.fours, c.requires.room, c.put16.auto.block, c.put16-2.auto.block)
+put16-requires-3 c = let p = open-place _ _ _ _ c.requires.hole.is in omega (arith, p.link_high, p.high, c.requires.hole.is.order, c.put16.auto.block, c.put16-2.auto.block)
 
 pub overflow_sub-total : goal.overflow_sub-total
-overflow_sub-total c =
-    let b = c.args.block.now in
-    let h = c.args.self in
-    let s = c.requires.hole in
-    let p = open-place b h.link h.at h.end s.is in
-    let link_high = p.link_high in
-    let link_low = p.link_low in
-    let high = p.high in
-    let most = p.most in
-    let low = p.low in
-    let room = p.room in
-    let table = p.table in
-    let order = s.is.order in
-    let at_fours = s.is.fours in
-    let f = free-fits b h.link h.at h.end s c.requires.behind in
-    let four = f.four in
-    let fours = f.fours in
-    let inside = f.inside in
-    let sum = f.sum in
-    omega (arith, four, fours, inside, sum, link_high, link_low, high, most, order, low, c.requires.some, c.requires.fours, c.requires.room, c.get16-total.ensures)
+overflow_sub-total c = let f = free-fits _ _ _ _ c.requires.hole c.requires.behind in omega (arith, f.sum, c.requires.room, c.get16-total.ensures)
 
 pub returns-clause-wider : goal.returns-clause-wider
 returns-clause-wider c =
-    let b = c.args.block.now in
     let h = c.args.self in
-    let s = c.requires.hole in
-    let p = open-place b h.link h.at h.end s.is in
-    let link_high = p.link_high in
-    let link_low = p.link_low in
-    let high = p.high in
-    let most = p.most in
-    let low = p.low in
-    let room = p.room in
-    let table = p.table in
-    let order = s.is.order in
-    let at_fours = s.is.fours in
-    let f = free-fits b h.link h.at h.end s c.requires.behind in
-    let four = f.four in
-    let fours = f.fours in
-    let inside = f.inside in
-    let sum = f.sum in
-    front-taken b c.put16.new.block c.put16-2.new.block c.put16-3.new.block c.put16-4.new.block h.link h.at h.end c.args.size _ c.get16-next.result _ s c.requires.behind c.requires.some c.requires.fours c.requires.room
-    (omega (arith, c.get16.ensures, c.requires.room)) c.get16-next.ensures (omega arith) (omega (arith, sum, c.requires.room, c.get16-total.ensures)) c.put16.ensures c.put16-2.ensures c.put16-3.ensures c.put16-4.ensures
+    let f = free-fits _ _ _ _ c.requires.hole c.requires.behind in
+    front-taken c.args.block.now c.put16.new.block c.put16-2.new.block c.put16-3.new.block c.put16-4.new.block h.link h.at h.end c.args.size _ c.get16-next.result _ c.requires.hole c.requires.behind c.requires.some c.requires.fours c.requires.room
+    (omega (arith, c.get16.ensures, c.requires.room)) c.get16-next.ensures (omega arith) (omega (arith, f.sum, c.requires.room, c.get16-total.ensures)) c.put16.ensures c.put16-2.ensures c.put16-3.ensures c.put16-4.ensures

@@ -3,35 +3,7 @@ use Rattle.lmem_heap.proofs.FreeLists.{open-place}
 use Rattle.lmem_heap.proofs.holes.Hole.touches_before.Goals as goal
 
 pub get16-requires : goal.get16-requires
-get16-requires c =
-    let b = c.args.block.now in
-    let h = c.args.self in
-    let s = c.requires in
-    let p = open-place b h.link h.at h.end s.is in
-    let link_high = p.link_high in
-    let link_low = p.link_low in
-    let high = p.high in
-    let most = p.most in
-    let low = p.low in
-    let room = p.room in
-    let table = p.table in
-    let order = s.is.order in
-    let at_fours = s.is.fours in
-    omega (arith, link_high, link_low, high, order)
+get16-requires c = let p = open-place _ _ _ _ c.requires.is in omega (arith, p.link_low, p.link_high, p.high, c.requires.is.order)
 
 pub overflow_add-result : goal.overflow_add-result
-overflow_add-result c =
-    let b = c.args.block.now in
-    let h = c.args.self in
-    let s = c.requires in
-    let p = open-place b h.link h.at h.end s.is in
-    let link_high = p.link_high in
-    let link_low = p.link_low in
-    let high = p.high in
-    let most = p.most in
-    let low = p.low in
-    let room = p.room in
-    let table = p.table in
-    let order = s.is.order in
-    let at_fours = s.is.fours in
-    omega (arith, link_high, link_low, high, order, most)
+overflow_add-result c = let p = open-place _ _ _ _ c.requires.is in omega (arith, p.link_high, p.high, p.most, c.requires.is.order)
