@@ -12,7 +12,7 @@ use Rattle.block_handles.specs.Layout.{Apart, IsLaidOut}
 use Rattle.block_handles.specs.Offsets.{CoversRange, ReadsAs, WritesCovered, Copies}
 use Rattle.block_handles.specs.Names.{IsHandle, first_slot, slot_of}
 use Rattle.block_handles.proofs.Layouts.{there_of_size, there_small, laid-same, laid-gone, with_locks-shape}
-use Rattle.block_handles.proofs.Writes.{after_write-shape, with_bytes-shape}
+use Rattle.block_handles.proofs.Writes.{with_bytes-shape}
 use Rattle.block_handles.specs.Store.{Block, Store, block_at, bytes_in, bytes_of, locks_in, IsBlock, IsThere, size_of, place_of, end_of, slot_count}
 
 written_bytes : (bs : List (Option Block)) (i : ℕ) (ws : List ℕ) → IsBlock (slice_index_or bs i None) → length ws ≡ length (bytes_in (slice_index_or bs i None)) → bytes_in (slice_index_or (blocks_with_bytes bs i ws) i None) ≡ ws
@@ -171,9 +171,6 @@ module _ (store : Store) (i : ℕ) where
 module _ (store : Store) (laid : IsLaidOut store) where
   pub laid-with_bytes : (i : ℕ) (ws : List ℕ) → IsLaidOut (with_bytes store i ws)
   laid-with_bytes i ws = laid-same store (with_bytes store i ws) (with_bytes-shape store i ws) laid
-
-  pub laid-after_write : (at : ℕ) (ws : List ℕ) → IsLaidOut (after_write store at ws)
-  laid-after_write at ws = laid-same store (after_write store at ws) (after_write-shape at ws store) laid
 
   module _ (i : ℕ) (there : IsThere store i) where
     pub laid-with_locks : (n : ℕ) → IsLaidOut (with_locks store i n)

@@ -3,8 +3,8 @@ use Rattle.std.proofs.Common.{◌≡◌, ◌≢◌, ℕ, ◌+◌, ◌-◌, ◌�
 use Rattle.std.proofs.lemmas.Bool.{cases_eq, cases_lt}
 use Rattle.block_handles.specs.Store.{Store, bytes_in, size_of, locks_of, place_of, end_of, slot_count}
 use Rattle.block_handles.specs.Change.{with_place}
-use Rattle.block_handles.specs.Layout.{Apart, IsFree, IsFreeBut, IsLaidOut}
-use Rattle.block_handles.specs.Packing.{IsEdge, CanPack, Moves}
+use Rattle.block_handles.specs.Layout.{Apart, IsLaidOut}
+use Rattle.block_handles.specs.Packing.{IsEdge}
 use Rattle.block_handles.specs.Search.{IsFirst, IsLast, BeginsNone}
 use Rattle.block_handles.specs.Stretch.{total, only_in, sum_in}
 use Rattle.block_handles.proofs.Layouts.{Differs, with_place-differs, there_of_size, there_small}
@@ -34,20 +34,6 @@ pub record IsPackingDown (old now : Store) (from until at scan : ℕ) : Type 0 w
   pub sum : at + sum_in now scan until (size_of now) ≡ from + sum_in old from until (size_of old)
   pub moved : (j : ℕ) → (place_of now j ≡ place_of old j) ⊎ ((from ≤ place_of old j) × (end_of old j ≤ until) × (locks_of old j ≡ 0) × (from ≤ place_of now j) × (end_of now j ≤ at))
 
-pub down-init : (S : Store) (from until : ℕ) → IsLaidOut S → (from ≤ until) × (until ≤ S.len) → CanPack S from until → IsPackingDown S S from until from from
-down-init S from until laid range packs = record {
-  start = omega arith;
-  free = omega arith;
-  more = range.0;
-  inside = range.1;
-  blocks = refl;
-  len = refl;
-  laid = laid;
-  range = packs;
-  sum = refl;
-  moved = λ j. inl refl;
-}
-
 module _ (old S : Store) (from until at scan x : ℕ) (w : IsPackingDown old S from until at scan) (first : IsFirst S scan until x) where
   edge : IsEdge S scan
   edge j = by (w.range j)
@@ -64,18 +50,6 @@ module _ (old S : Store) (from until at scan x : ℕ) (w : IsPackingDown old S f
       by (inl q) = absurd (omega (arith, q, w.free, first.high, first.there))
       by (inr (inl q)) = absurd (omega (arith, q, first.low))
       by (inr (inr q)) = (q.1, q.2)
-
-  pub down-room : at + size_of S x ≤ S.len
-  down-room = omega (arith, w.free, first.high, own.0, w.inside)
-
-  pub down-free : IsFreeBut S x at (at + size_of S x)
-  down-free j ne = by (passed S w.laid scan until x first edge j ne) (w.range j)
-    where
-      by : (end_of S j ≤ scan) ⊎ (end_of S x ≤ place_of S j) → (end_of S j ≤ at) ⊎ ((until ≤ place_of S j) ⊎ ((scan ≤ place_of S j) × (end_of S j ≤ until) × (locks_of old j ≡ 0))) → (end_of S j ≤ at) ⊎ (at + size_of S x ≤ place_of S j)
-      by p (inl q) = inl q
-      by p (inr (inl q)) = inr (omega (arith, q, w.free, first.high, own.0))
-      by (inr p) (inr (inr q)) = inr (omega (arith, p, w.free, first.high))
-      by (inl p) (inr (inr q)) = let z : size_of S j ≡ 0 = omega (arith, p, q.0) in inl (omega (arith, z, w.laid.none j z))
 
   abbrev S' : Store
   S' = with_place S x at
@@ -147,17 +121,6 @@ module _ (old S : Store) (from until at scan x : ℕ) (w : IsPackingDown old S f
   down-step new e laid = subst (λ s. IsPackingDown old s from until (at + size_of S x) (end_of S x)) (sym e) (down-with (subst IsLaidOut e laid))
 
 module _ (old S : Store) (from until at scan : ℕ) (w : IsPackingDown old S from until at scan) (none : BeginsNone S scan until) where
-  pub down-moves : Moves old S from until from at
-  down-moves = record { blocks = w.blocks; len = w.len; laid = w.laid; moved = w.moved }
-
-  pub down-left : IsFree S at until
-  down-left j = by (w.range j)
-    where
-      by : (end_of S j ≤ at) ⊎ ((until ≤ place_of S j) ⊎ ((scan ≤ place_of S j) × (end_of S j ≤ until) × (locks_of old j ≡ 0))) → (end_of S j ≤ at) ⊎ (until ≤ place_of S j)
-      by (inl q) = inl q
-      by (inr (inl q)) = inr q
-      by (inr (inr q)) = let z : size_of S j ≡ 0 = none_in S w.laid scan until none j q.0 q.1 in inl (omega (arith, z, w.laid.none j z))
-
   pub down-sum : at ≡ from + sum_in old from until (size_of old)
   down-sum = omega (arith, w.sum, sum_zero S scan until (size_of S) (none_in S w.laid scan until none))
 
@@ -173,25 +136,6 @@ pub record IsPackingUp (old now : Store) (from until at scan : ℕ) : Type 0 whe
   pub range : (j : ℕ) → (at ≤ place_of now j) ⊎ ((end_of now j ≤ from) ⊎ ((from ≤ place_of now j) × (end_of now j ≤ scan) × (locks_of old j ≡ 0)))
   pub sum : at + sum_in old from until (size_of old) ≡ until + sum_in now from scan (size_of now)
   pub moved : (j : ℕ) → (place_of now j ≡ place_of old j) ⊎ ((from ≤ place_of old j) × (end_of old j ≤ until) × (locks_of old j ≡ 0) × (at ≤ place_of now j) × (end_of now j ≤ until))
-
-pub up-init : (S : Store) (from until : ℕ) → IsLaidOut S → (from ≤ until) × (until ≤ S.len) → CanPack S from until → IsPackingUp S S from until until until
-up-init S from until laid range packs = record {
-  start = range.0;
-  free = omega arith;
-  more = omega arith;
-  inside = range.1;
-  blocks = refl;
-  len = refl;
-  laid = laid;
-  range = λ j. by j (packs j);
-  sum = refl;
-  moved = λ j. inl refl;
-}
-  where
-    by : (j : ℕ) → (end_of S j ≤ from) ⊎ ((until ≤ place_of S j) ⊎ ((from ≤ place_of S j) × (end_of S j ≤ until) × (locks_of S j ≡ 0))) → (until ≤ place_of S j) ⊎ ((end_of S j ≤ from) ⊎ ((from ≤ place_of S j) × (end_of S j ≤ until) × (locks_of S j ≡ 0)))
-    by j (inl q) = inr (inl q)
-    by j (inr (inl q)) = inl q
-    by j (inr (inr q)) = inr (inr q)
 
 module _ (old S : Store) (from until at scan x : ℕ) (w : IsPackingUp old S from until at scan) (last : IsLast S from scan x) where
   -- every other block begins behind, or ends before it
@@ -228,18 +172,6 @@ module _ (old S : Store) (from until at scan x : ℕ) (w : IsPackingUp old S fro
 
   to-is : to + size_of S x ≡ at
   to-is = omega (arith, up-enough)
-
-  pub up-room : to + size_of S x ≤ S.len
-  up-room = omega (arith, to-is, w.more, w.inside)
-
-  pub up-free : IsFreeBut S x to (to + size_of S x)
-  up-free j ne = by (passed-up j ne) (w.range j)
-    where
-      by : (scan ≤ place_of S j) ⊎ (end_of S j ≤ place_of S x) → (at ≤ place_of S j) ⊎ ((end_of S j ≤ from) ⊎ ((from ≤ place_of S j) × (end_of S j ≤ scan) × (locks_of old j ≡ 0))) → (end_of S j ≤ to) ⊎ (to + size_of S x ≤ place_of S j)
-      by p (inl q) = inr (omega (arith, q, to-is))
-      by p (inr (inl q)) = inl (omega (arith, q, to-is, own-up.0, w.free, last.high))
-      by (inr p) (inr (inr q)) = inl (omega (arith, p, to-is, own-up.0, w.free))
-      by (inl p) (inr (inr q)) = absurd (nowhere j p q.1)
 
   abbrev U : Store
   U = with_place S x to
@@ -308,16 +240,5 @@ module _ (old S : Store) (from until at scan x : ℕ) (w : IsPackingUp old S fro
   up-step new e laid = subst (λ s. IsPackingUp old s from until to (place_of S x)) (sym e) (up-with (subst IsLaidOut e laid))
 
 module _ (old S : Store) (from until at scan : ℕ) (w : IsPackingUp old S from until at scan) (none : BeginsNone S from scan) where
-  pub up-moves : Moves old S from until at until
-  up-moves = record { blocks = w.blocks; len = w.len; laid = w.laid; moved = w.moved }
-
-  pub up-left : IsFree S from at
-  up-left j = by (w.range j)
-    where
-      by : (at ≤ place_of S j) ⊎ ((end_of S j ≤ from) ⊎ ((from ≤ place_of S j) × (end_of S j ≤ scan) × (locks_of old j ≡ 0))) → (end_of S j ≤ from) ⊎ (at ≤ place_of S j)
-      by (inl q) = inr q
-      by (inr (inl q)) = inl q
-      by (inr (inr q)) = let z : size_of S j ≡ 0 = none_in S w.laid from scan none j q.0 q.1 in inl (omega (arith, z, w.laid.none j z))
-
   pub up-sum : at + sum_in old from until (size_of old) ≡ until
   up-sum = omega (arith, w.sum, sum_zero S from scan (size_of S) (none_in S w.laid from scan none))

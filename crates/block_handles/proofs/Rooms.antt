@@ -1,14 +1,13 @@
 -- That packing a stretch makes the room that was counted.
-use Rattle.std.proofs.Common.{◌≡◌, ◌≢◌, ℕ, ◌+◌, ◌*◌, ◌≤◌, ◌<◌, ◌⊎◌, length, slice_index_or, Option, Some, None, refl, ap, sym, ◌∙◌, arith, inl, inr}
-use Rattle.std.proofs.Math.Nat.{mul-le-mul_left}
+use Rattle.std.proofs.Common.{◌≡◌, ◌≢◌, ℕ, ◌+◌, ◌≤◌, ◌<◌, ◌⊎◌, length, slice_index_or, Option, Some, None, refl, ap, sym, ◌∙◌, arith, inl, inr}
 use Rattle.std.proofs.lemmas.Bool.{cases_eq, cases_lt}
 use Rattle.block_handles.specs.declared.room.Gap.{Gap}
 use Rattle.block_handles.specs.Store.{Block, Store, block_at, bytes_in, locks_in, IsBlock, IsThere, size_of, locks_of, place_of, end_of, slot_count}
 use Rattle.block_handles.specs.Change.{LockedStay}
 use Rattle.block_handles.specs.Gap.{MakesRoom}
 use Rattle.block_handles.specs.Layout.{Apart, IsFree, IsFreeBut, IsLaidOut}
-use Rattle.block_handles.specs.Packing.{CanPack, Moves, IsRoomy, IsRoomiest}
-use Rattle.block_handles.specs.Stretch.{total, only_in, sum_in, unlocked_size, IsFull, IsCrowded, other_locked}
+use Rattle.block_handles.specs.Packing.{CanPack, Moves, IsRoomy}
+use Rattle.block_handles.specs.Stretch.{total, only_in, sum_in, unlocked_size}
 use Rattle.block_handles.proofs.Packs.{size_along}
 use Rattle.block_handles.proofs.Passing.{only_same}
 use Rattle.block_handles.proofs.Sums.{total-same, total-both, in_range, off_range, no_weight, unlocked-but, unlocked-other, unlocked-none}
@@ -40,21 +39,6 @@ moves-off old new from until low high j m some off = by (m.moved j) off
     by (inl q) o = q
     by (inr q) (inl o) = absurd (omega (arith, q.0, o, some))
     by (inr q) (inr o) = absurd (omega (arith, q.1, o, some))
-
-module _ (S : Store) (laid : IsLaidOut S) (slot size from until room : ℕ) (r : IsRoomiest S slot from until room) where
-  -- where no stretch has more room than is too little
-  pub too-short : room < size → IsFull S slot size
-  too-short less a b s = omega (arith, r.most a b s, less)
-
-  pub too-crowded : room < size → IsCrowded S slot size
-  too-crowded less =
-      let k : ℕ = other_locked S slot + 1 in
-      let more : k * (room + 1) ≤ k * size = mul-le-mul_left k (omega arith) in
-      omega (arith, r.crowd, more)
-
-  -- what a range with the most room is
-  pub roomy-of : IsRoomy S slot from until room
-  roomy-of = record { ordered = r.ordered; inside = r.inside; packs = r.packs; fits = r.fits }
 
 module _ (S : Store) (laid : IsLaidOut S) (slot size from until room : ℕ) (r : IsRoomy S slot from until room) where
   module _ (enough : size ≤ room) where

@@ -53,9 +53,6 @@ module _ (S : Store) (but j : ℕ) where
   pub unlocked-other : j ≢ but → locks_of S j ≡ 0 → unlocked_size S but j ≡ size_of S j
   unlocked-other ne z = grind (arith, nat_tests)
 
-  pub unlocked-locked : 0 < locks_of S j → unlocked_size S but j ≡ 0
-  unlocked-locked z = grind (arith, nat_tests)
-
   pub one-but : j ≡ but → locked_one S but j ≡ 0
   one-but e = grind (arith, nat_tests)
 

@@ -7,7 +7,7 @@ use Rattle.block_handles.specs.declared.arena.Entry.{Entry}
 use Rattle.block_handles.specs.Store.{Block, Store, bytes_in, bytes_of, IsBlock, place_of, end_of}
 use Rattle.block_handles.specs.Change.{with_block, blocks_with_bytes, with_bytes, block_after_write, blocks_after_write, after_write}
 use Rattle.block_handles.specs.Layout.{IsLaidOut}
-use Rattle.block_handles.specs.Offsets.{Covers, CoversRange, ReadsAs}
+use Rattle.block_handles.specs.Offsets.{Covers, ReadsAs}
 use Rattle.block_handles.specs.View.{block_in, store_in, place_in, Lies, IsSound, IsIndexed}
 use Rattle.block_handles.proofs.Views.{store-set, block_there, bytes_there, place_there, lies_there, length-part, same_lies, OffEntry, off_slot, off_same, off_less, at_slot, place_slot}
 use Rattle.block_handles.proofs.Layouts.{SameShape, laid-same, indexed-same}
@@ -197,13 +197,6 @@ part-part bs p s k n h =
     let split : s ≡ k + (s - k) = omega arith in
     ap (λ m. take n (drop k (take m (drop p bs)))) split ∙ ap (λ l. take n l) (drop-take k (s - k) (drop p bs)) ∙ take-take n (s - k) (drop k (drop p bs)) (omega arith) ∙ ap (λ l. take n l) (drop-drop k p bs)
 
-part_of_entry : (region : List ℕ) (o : Option Entry) → Lies region o → (at n : ℕ) → place_in o ≤ at → at + n ≤ place_in o + length (bytes_in (block_in region o)) → part region at n ≡ part (bytes_in (block_in region o)) (at - place_in o) n
-part_of_entry region None l at zero low high = refl
-part_of_entry region None l at (suc n) low high = absurd (omega arith)
-part_of_entry region (Some e) l at n low high =
-    let same : e.place + (at - e.place) ≡ at = omega arith in
-    sym (part-part region e.place e.size (at - e.place) n (omega (arith, high, length-part region e.place e.size l)) ∙ ap (λ k. part region k n) same)
-
 byte_of_entry : (region : List ℕ) (o : Option Entry) → Lies region o → (at : ℕ) → place_in o ≤ at → at < place_in o + length (bytes_in (block_in region o)) → slice_index region at ≡ slice_index (bytes_in (block_in region o)) (at - place_in o)
 byte_of_entry region None l at low high = absurd (omega arith)
 byte_of_entry region (Some e) l at low high =
@@ -211,13 +204,6 @@ byte_of_entry region (Some e) l at low high =
     sym (get_or-take e.size (drop e.place region) (at - e.place) 0 (omega (arith, high, length-part region e.place e.size l)) ∙ get_or-drop e.place region (at - e.place) 0 ∙ ap (λ k. slice_index region k) same)
 
 module _ (region : List ℕ) (table : List (Option Entry)) (lies : (j : ℕ) → Lies region (slice_index_or table j None)) (j : ℕ) where
-  covered-part : (at n : ℕ) → CoversRange (store_in region table) j at n → part region at n ≡ part (bytes_of (store_in region table) j) (at - place_of (store_in region table) j) n
-  covered-part at n h =
-      let o : Option Entry = slice_index_or table j None in
-      let q : (place_in o ≤ at) × (at + n ≤ place_in o + length (bytes_in (block_in region o))) =
-      (subst (λ p. (p ≤ at) × (at + n ≤ p + length (bytes_in (block_in region (slice_index_or table j None))))) (place_slot region table j) (subst (λ b. (place_of (store_in region table) j ≤ at) × (at + n ≤ place_of (store_in region table) j + length (bytes_in b))) (at_slot region table j) h)) in
-      part_of_entry region o (lies j) at n q.0 q.1 ∙ (λ k. part (bytes_in (sym (at_slot region table j) k)) (at - sym (place_slot region table j) k) n)
-
   covered-byte : (at : ℕ) → Covers (store_in region table) j at → slice_index region at ≡ slice_index (bytes_of (store_in region table) j) (at - place_of (store_in region table) j)
   covered-byte at h =
       let o : Option Entry = slice_index_or table j None in
@@ -232,9 +218,6 @@ module _ (region : List ℕ) (table : List (Option Entry)) (index : List (Option
 
   pub bytes_seen : (i : ℕ) (e : Entry) → slice_index_or table i None ≡ Some e → (ws : List ℕ) → Step (with_part region e.place (take e.size ws)) table index (with_bytes seen i ws)
   bytes_seen i e is ws = subst (λ s. Step (with_part region e.place (take e.size ws)) table index (with_bytes s i ws)) view (bytes-step region table index sound i e is ws)
-
-  pub part_seen : (j at n : ℕ) → CoversRange seen j at n → part region at n ≡ part (bytes_of seen j) (at - place_of seen j) n
-  part_seen j at n = subst (λ s. CoversRange s j at n → part region at n ≡ part (bytes_of s j) (at - place_of s j) n) view (covered-part region table sound.lies j at n)
 
   pub byte_seen : (j at : ℕ) → Covers seen j at → slice_index region at ≡ slice_index (bytes_of seen j) (at - place_of seen j)
   byte_seen j at = subst (λ s. Covers s j at → slice_index region at ≡ slice_index (bytes_of s j) (at - place_of s j)) view (covered-byte region table sound.lies j at)
