@@ -3,31 +3,36 @@ use Rattle.std.proofs.Common.{◌≡◌, ◌⊎◌, ◌≤◌, ℕ, Bool, true, 
 use Rattle.std.specs.Prelude.{MatchBool}
 use Rattle.lmem_raw.specs.Bytes.{with_part}
 use Rattle.vm_file.specs.declared.commit.How.{How}
-use Rattle.vm_file.specs.declared.commit.How.TheVariants.{Update, Save, Revert}
 use Rattle.vm_file.specs.declared.directory.Directory.{Directory}
 use Rattle.vm_file.specs.declared.error.CommitError.TheVariants.{Disk}
-use Rattle.vm_file.specs.Committing.{FindsOneOf, FindsOr, IsContentsOf, KeepsAfter, MayHaveWritten, Spells, current_after, image_after, pair_after, saved_after}
-use Rattle.vm_file.specs.Contents.{Contents, Pair, pair_in, pair_spelling}
-use Rattle.vm_file.specs.Device.{AfterWrite, Touched}
-use Rattle.vm_file.specs.Kept.{FindsKept, SureOf, UnsureBetween, kept_of, or_empty, other_pair}
+use Rattle.vm_file.specs.Committing.{FindsOneOf, FindsOr, KeepsAfter, MayHaveWritten, Spells, current_after, image_after, saved_after}
+use Rattle.vm_file.specs.Contents.{Pair, pair_in}
+use Rattle.vm_file.specs.Device.{AfterWrite, Passes, Touched}
+use Rattle.vm_file.specs.Kept.{SureOf, UnsureBetween, kept_of, or_empty, other_pair}
+use Rattle.vm_file.specs.Outcomes.{ReadsOnly}
 use Rattle.vm_file.specs.Reading.{area_of, base_of, found, pair_at}
 use Rattle.vm_file.specs.Spelling.{selector_of}
 use Rattle.vm_file.specs.State.{FileState, Finds, IsOther, IsSound, pair_of}
 use Rattle.vm_file.proofs.CommitLaws.{pair_whole}
+use Rattle.vm_file.proofs.Moments.{weaker, at_any_moment}
 use Rattle.vm_file.proofs.StopLaws.{finds}
 use Rattle.vm_file.proofs.Touches.{touched_more, touched_not}
-
--- the bytes of the pair that a commit keeps
-pub spells_after : (how : How) (a : Contents) (p : Pair) (cur saved : Directory) (bytes : List ℕ) → IsContentsOf cur a → IsContentsOf saved p.saved → bytes ≡ pair_spelling (pair_after how a p) →
-    Spells (current_after how cur saved) (saved_after how cur saved) (pair_after how a p) bytes
-spells_after Update a p cur saved bytes one two is = record { spelled = is; cur_legal = one.legal; saved_legal = two.legal; cur_listed = one.lists; saved_listed = two.lists }
-spells_after Save a p cur saved bytes one two is = record { spelled = is; cur_legal = one.legal; saved_legal = one.legal; cur_listed = one.lists; saved_listed = one.lists }
-spells_after Revert a p cur saved bytes one two is = record { spelled = is; cur_legal = two.legal; saved_legal = two.legal; cur_listed = two.lists; saved_listed = two.lists }
 
 module _ {D : Type 0} (image : D → List ℕ) (honest : D → Type 0) (may_leave : D → List ℕ → Type 0) (f old : FileState D) (same : f ≡ old) (sound : IsSound image honest may_leave f) where
   -- what a stop before a call leaves
   pub finds_before : honest old.device → (c : List ℕ) → may_leave old.device c → Finds image old c
   finds_before = (let G : FileState D → Type 0 = λ g. honest g.device → (c : List ℕ) → may_leave g.device c → Finds image g c in subst G same (λ h c l. finds image may_leave f (sound.holds h) c l))
+
+  -- and one during and after calls that only read
+  module _ (left : D → D → List ℕ → Type 0) (new : D) (reads : ReadsOnly image honest may_leave left f.device new) where
+    pub finds_during : honest old.device → Passes left old.device new (Finds image old)
+    finds_during = subst (λ (g : FileState D). honest g.device → Passes left g.device new (Finds image g)) same (λ h. weaker left f.device new _ _ (finds image may_leave f (sound.holds h)) (reads.time h))
+
+    pub finds_after : honest old.device → (c : List ℕ) → may_leave new c → Finds image old c
+    finds_after = subst (λ (g : FileState D). honest g.device → (c : List ℕ) → may_leave new c → Finds image g c) same (λ h c l. finds image may_leave f (sound.holds h) c (reads.stop h c l))
+
+    pub finds_at_stop : ((c : List ℕ) → left old.device old.device c → may_leave old.device c) → honest old.device → (c : List ℕ) → left old.device new c → Finds image old c
+    finds_at_stop at_once h = at_any_moment left old.device new _ (finds_during h) (λ c l. finds_before h c (at_once c l))
 
 -- cut from its bytes, where the saved directory is the same
 pub cut_is : (how : How) (cur saved mid : Directory) (q : Pair) (bytes : List ℕ) → mid ≡ saved → Spells (current_after how cur saved) (saved_after how cur saved) q bytes →
@@ -118,13 +123,3 @@ module _ {D : Type 0} (image : D → List ℕ) where
       by : (b : Bool) → m.sure ≡ b → KeepsAfter Disk q (kept_of image f) (kept_of image m)
       by true e = inl (kept_sure m (pair_of image f) e is ∙ sym (kept_sure f (pair_of image f) sure refl))
       by false e = inr (pair_of image f, kept_sure f (pair_of image f) sure refl, kept_unsure m (pair_of image f) q e is (other e))
-
-  -- what `open` finds of a file is what it keeps
-  pub finds_kept : (f : FileState D) (c : List ℕ) → Finds image f c → FindsKept (kept_of image f) c
-  finds_kept f c = by f.sure
-    where
-      by : (b : Bool) → MatchBool b (found c ≡ Ok (pair_of image f)) ((found c ≡ Ok (pair_of image f)) ⊎ ((q : Pair) × IsOther image f q × (found c ≡ Ok q))) →
-          FindsKept (cond b (SureOf (pair_of image f)) (UnsureBetween (pair_of image f) (other_pair image f))) c
-      by true is = is
-      by false (inl is) = inl is
-      by false (inr o) = inr (o.2 ∙ ap (λ p. let r : Result Pair ℕ = Ok p in r) (ap or_empty (sym o.1)))

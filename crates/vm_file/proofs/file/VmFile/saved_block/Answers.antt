@@ -1,13 +1,12 @@
-use Rattle.std.proofs.Common.{◌≡◌, ◌∙◌, ℕ, List, length, ap, sym, subst, inl, inr, arith}
+use Rattle.std.proofs.Common.{◌≡◌, ◌∙◌, ℕ, List, length, ap, sym, subst, arith}
 use Rattle.std.specs.Prelude.{OnOk, OnErr}
 use Rattle.std.proofs.lemmas.Result.{on_ok_weaker}
 use Rattle.geos_model.specs.Block.{handle_word}
 use Rattle.geos_model.specs.Heap.{IsHeap}
-use Rattle.vm_file.specs.Device.{Passes, Rose}
-use Rattle.vm_file.specs.State.{FileState, Finds, HasBlock, bytes_of_block, pair_of, place_in}
+use Rattle.vm_file.specs.Device.{Rose}
+use Rattle.vm_file.specs.State.{FileState, HasBlock, bytes_of_block, pair_of, place_in}
 use Rattle.vm_file.proofs.BlockLaws.{saved_there, saved_heap}
-use Rattle.vm_file.proofs.Moments.{at_any_moment}
-use Rattle.vm_file.proofs.StopLaws.{finds}
+use Rattle.vm_file.proofs.Kept.{finds_during, finds_after, finds_at_stop}
 use Rattle.vm_file.proofs.StateLaws.{read_sound}
 use Rattle.vm_file.proofs.file.VmFile.saved_block.Goals as goal
 
@@ -33,20 +32,12 @@ returns-clause-cause g c =
     subst G c.self.view_is (λ h. let heap = saved_heap d.image d.honest d.may_leave _ c.self.invariant c.args.h n h has in c.read_block.ensures.cause h (subst P (sym there) heap.0) (ap handle_word there ∙ heap.1))
 
 pub returns-clause-any_moment : goal.returns-clause-any_moment
-returns-clause-any_moment g c =
-    let d = g.D.Device in
-    let G : FileState g.row.D.Denot → Type 0 = λ f. d.honest f.device → Passes d.may_have_left f.device c.read_block.new.device (Finds d.image f) in
-    subst G c.self.view_is (λ h s x l. elim (c.read_block.ensures.reads.time h s x l) [ inl past ↦ inl past | inr now ↦ inr (finds d.image d.may_leave _ (c.self.invariant.holds h) x now) ])
+returns-clause-any_moment g c = let d = g.D.Device in finds_during d.image d.honest d.may_leave _ _ c.self.view_is c.self.invariant d.may_have_left _ c.read_block.ensures.reads
 
 pub returns-clause-stop : goal.returns-clause-stop
-returns-clause-stop g c =
-    let d = g.D.Device in
-    let G : FileState g.row.D.Denot → Type 0 = λ f. d.honest f.device → (x : List ℕ) → d.may_leave c.read_block.new.device x → Finds d.image f x in
-    subst G c.self.view_is (λ h x l. finds d.image d.may_leave _ (c.self.invariant.holds h) x (c.read_block.ensures.reads.stop h x l))
+returns-clause-stop g c = let d = g.D.Device in finds_after d.image d.honest d.may_leave _ _ c.self.view_is c.self.invariant d.may_have_left _ c.read_block.ensures.reads
 
 pub returns-clause-stopped : goal.returns-clause-stopped
 returns-clause-stopped g c =
     let d = g.D.Device in
-    let G : FileState g.row.D.Denot → Type 0 = λ f. d.honest f.device → (x : List ℕ) → d.may_leave f.device x → Finds d.image f x in
-    let found_old = subst G c.self.view_is (λ h x l. finds d.image d.may_leave _ (c.self.invariant.holds h) x l) in
-    λ h. at_any_moment d.may_have_left c.args.self.now.device c.read_block.new.device _ (returns-clause-any_moment g c h) (λ x l. found_old h x (g.met.D.Device.at_once c.args.self.now.device x l))
+    finds_at_stop d.image d.honest d.may_leave _ _ c.self.view_is c.self.invariant d.may_have_left _ c.read_block.ensures.reads (g.met.D.Device.at_once c.args.self.now.device)
