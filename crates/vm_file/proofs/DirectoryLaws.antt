@@ -118,9 +118,3 @@ after_current Unsure old new is = ap (λ f. f.current) is
 after_current TooBig old new is = ap (λ f. f.current) is
 after_current Memory old new is = ap (λ f. f.current) is
 after_current Disk old new is = ap (λ f. f.current) is
-
-pub after_saved : {D : Type 0} (e : CommitError) (old new : FileState D) → IsAfter e old new → new.saved ≡ old.saved
-after_saved Unsure old new is = ap (λ f. f.saved) is
-after_saved TooBig old new is = ap (λ f. f.saved) is
-after_saved Memory old new is = ap (λ f. f.saved) is
-after_saved Disk old new is = ap (λ f. f.saved) is

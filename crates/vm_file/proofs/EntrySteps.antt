@@ -1,14 +1,13 @@
 -- Blocks read one after the other, and a directory.
 use Rattle.std.proofs.Common.{◌≡◌, ℕ, suc, ◌+◌, ◌-◌, ◌<◌, ◌≤◌, List, [], ◌∷◌, ◌++◌, length, drop, map, Result, Ok, Err, refl, ap, sym, ◌∙◌, subst, arith}
 use Rattle.std.specs.Prelude.{IsOkAnd}
-use Rattle.std.proofs.lemmas.List.{append-nil}
 use Rattle.vm_file.specs.declared.directory.Entry.{Entry}
 use Rattle.vm_file.specs.declared.directory.Directory.{Directory}
 use Rattle.vm_file.specs.declared.error.OpenError.{OpenError}
 use Rattle.vm_file.specs.declared.error.OpenError.TheVariants.{BadFile, Disk, Memory}
 use Rattle.vm_file.specs.Directories.{entries_length}
 use Rattle.vm_file.specs.Contents.{Block, Contents, entry_of, listed}
-use Rattle.vm_file.specs.Outcomes.{Tells, Causes}
+use Rattle.vm_file.specs.Outcomes.{Tells}
 use Rattle.vm_file.specs.Reading.{◌>>=◌, block_at, blocks_at, count_at, maps_at, contents_at}
 use Rattle.vm_file.proofs.Lengths.{stretch, drop-stretch}
 use Rattle.vm_file.proofs.SpellLaws.{goes}
@@ -18,13 +17,6 @@ use Rattle.vm_file.proofs.ReadSteps.{with_front, blocks_more, blocks_stop, stops
 abbrev pub Told : List ℕ → ℕ → ℕ → ℕ → ℕ → ℕ → ℕ → List Entry → Type 0
 Told image at end count counter last from items =
     (front : List Block) × (map entry_of front ≡ items) × (blocks_at count 0 at (stretch image at end) ≡ with_front front (blocks_at (count - counter) last from (stretch image from end)))
-
-pub told_first : (image : List ℕ) (at end count : ℕ) → Told image at end count 0 0 at []
-told_first image at end count = ([], refl, (let e : count - 0 ≡ count = omega arith in sym (ap (λ n. with_front [] (blocks_at n 0 at (stretch image at end))) e ∙ by (blocks_at count 0 at (stretch image at end)))))
-  where
-    by : (r : Result (List Block) ℕ) → with_front [] r ≡ r
-    by (Ok bs) = refl
-    by (Err at) = refl
 
 map-push : (xs : List Block) (b : Block) → map entry_of (xs ++ b ∷ []) ≡ map entry_of xs ++ entry_of b ∷ []
 map-push [] b = refl
@@ -49,14 +41,6 @@ told_more image at end count counter last from items e more fits told read = by 
               ∙ ap (λ x. with_front (front ++ b ∷ []) (blocks_at (count - (counter + 1)) e.h (from + (6 + x)) (drop (6 + x) s))) len
               ∙ ap (λ x. with_front (front ++ b ∷ []) (blocks_at (count - (counter + 1)) e.h (from + (6 + e.len)) x)) (drop-stretch image from end (6 + e.len) fits),
         )
-
-pub told_end : (image : List ℕ) (at end count counter last from : ℕ) (items : List Entry) → count ≤ counter → Told image at end count counter last from items →
-    IsOkAnd (blocks_at count 0 at (stretch image at end)) (λ bs. map entry_of bs ≡ items)
-told_end image at end count counter last from items all told =
-    let none : count - counter ≡ 0 = omega arith in
-    let P : Result (List Block) ℕ → Type 0 = λ r. IsOkAnd r (λ bs. map entry_of bs ≡ items) in
-    let is : blocks_at count 0 at (stretch image at end) ≡ Ok (told.0 ++ []) = told.2 ∙ ap (λ n. with_front told.0 (blocks_at n last from (stretch image from end))) none in
-    subst P (sym is) (ap (map entry_of) (append-nil told.0) ∙ told.1)
 
 pub told_stop : (image : List ℕ) (at end count counter last from : ℕ) (items : List Entry) (error : OpenError) → counter < count → Told image at end count counter last from items →
     Tells entry_of (let r : Result Entry OpenError = Err error in r) (block_at last from (stretch image from end)) →
@@ -122,6 +106,3 @@ contents_read at n xs items m is read maps =
         let Q : Result Contents ℕ → Type 0 = λ r. IsOkAnd r (λ c. listed c ≡ (let d : Directory = record { entries = record { items = items }; map_block = m.0; map_item = m.1 } in d)) in
         let found = ap (λ es. maps_at es (at + 2 + entries_length es) (drop (2 + entries_length es) xs)) h ∙ maps in
         subst Q (sym (goes _ m _ _ found refl)) (ap (λ es. let d : Directory = record { entries = record { items = es }; map_block = m.0; map_item = m.1 } in d) h)
-
-pub causes_from : {X : Type 0} (a b c : ℕ) (r : Result X OpenError) → b ≡ a → Causes b c r → Causes a c r
-causes_from a b c r e h = let P : ℕ → Type 0 = λ n. Causes n c r in subst P e h

@@ -43,13 +43,6 @@ drop-stretch xs at end k h =
 pub take-stretch : (xs : List ℕ) (at end n : ℕ) → at + n ≤ end → take n (stretch xs at end) ≡ part xs at n
 take-stretch xs at end n h = take-take n (end - at) (drop at xs) (omega arith)
 
--- taking no more than there is
-pub take-min : (xs : List ℕ) (m n : ℕ) → take (min m n) (take n xs) ≡ take m (take n xs)
-take-min xs m n = elim (cases_lt m n) [
-  | inl l ↦ (let e : min m n ≡ m = omega arith in ap (λ k. take k (take n xs)) e)
-  | inr g ↦ (let e : min m n ≡ n = omega arith in ap (λ k. take k (take n xs)) e ∙ take_all n (take n xs) (omega (arith, length-take n xs)) ∙ sym (take_all m (take n xs) (omega (arith, length-take n xs))))
-]
-
 -- the bytes from 12 to 511, as many as there are
 pub clipped : (xs : List ℕ) (a b : ℕ) → a ≡ min (length xs) 12 → b ≡ min (length xs) 512 → take (b - a) (drop a xs) ≡ part xs 12 500
 clipped xs a b ea eb = elim (cases_lt (length xs) 12) [

@@ -1,7 +1,7 @@
 -- How a run of device calls goes on, and what a stop at some moment of it leaves.
-use Rattle.std.proofs.Common.{inl, inr, ⊎_elim, ℕ, List, length, refl, ap, sym, ◌∙◌, subst}
-use Rattle.vm_file.specs.Device.{Passes, Touched}
-use Rattle.vm_file.specs.Outcomes.{ReadsOnly, WritesOnly}
+use Rattle.std.proofs.Common.{inl, inr, ⊎_elim, ℕ, List, refl, ◌∙◌}
+use Rattle.vm_file.specs.Device.{Passes}
+use Rattle.vm_file.specs.Outcomes.{ReadsOnly}
 
 module _ {D : Type 0} (left : D → D → List ℕ → Type 0) where
   pub weaker : (old new : D) (P Q : List ℕ → Type 0) → ((c : List ℕ) → P c → Q c) → Passes left old new P → Passes left old new Q
@@ -13,18 +13,6 @@ module _ {D : Type 0} (left : D → D → List ℕ → Type 0) where
   -- what a stop at any moment of the whole run leaves
   pub at_any_moment : (old new : D) (P : List ℕ → Type 0) → Passes left old new P → ((c : List ℕ) → left old old c → P c) → (c : List ℕ) → left old new c → P c
   at_any_moment old new P passes here c between = ⊎_elim (here c) (λ now. now) (passes old c between)
-
-  -- a write, and then a read or a sync
-  pub writes_then : {image : D → List ℕ} {honest : D → Type 0} {may_leave : D → List ℕ → Type 0} (at n : ℕ) (old mid new : D) → WritesOnly image honest may_leave left at n old mid → ReadsOnly image honest may_leave left mid new →
-      WritesOnly image honest may_leave left at n old new
-  writes_then {image} at n old mid new one two = record {
-    long = ap length two.same ∙ one.long;
-    stays = (λ h. two.stays (one.stays h));
-    was = (λ h. one.was (two.was h));
-    torn = (λ h. subst (Touched at n (image old)) (sym two.same) (one.torn h));
-    stop = (λ h c l. one.stop h c (two.stop (one.stays h) c l));
-    time = (λ h. goes_on old mid new _ (one.time h) (weaker mid new _ _ (one.stop h) (two.time (one.stays h))));
-  }
 
 -- a call that makes none of the device, and calls that read one after the other
 pub reads_none : {D : Type 0} (image : D → List ℕ) (honest : D → Type 0) (may_leave : D → List ℕ → Type 0) (left : D → D → List ℕ → Type 0) (a : D) → ReadsOnly image honest may_leave left a a

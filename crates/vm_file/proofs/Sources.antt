@@ -1,6 +1,6 @@
 -- The blocks of a directory, as a source and the file have them.
 use Rattle.std.proofs.Common.{◌≡◌, ℕ, zero, suc, ◌+◌, ◌<◌, Bool, true, ◌&&◌, cond, List, [], ◌∷◌, length, drop, map, get_or, Option, Some, None, refl, ap, sym, ◌∙◌, subst, arith, length-take, length-drop}
-use Rattle.std.specs.Prelude.{All, IfSome, IsSomeAnd, MatchOption, unwrap_or}
+use Rattle.std.specs.Prelude.{All, IsSomeAnd, MatchOption, unwrap_or}
 use Rattle.std.specs.List.{find, list_all}
 use Rattle.std.proofs.Math.Dec.{eqb, ltb, leb}
 use Rattle.std.proofs.lemmas.Bool.{eq-eqb, ne_eqb}
@@ -10,7 +10,7 @@ use Rattle.geos_model.specs.Block.{handle_word}
 use Rattle.geos_model.specs.Heap.{IsHeap, is_block_size}
 use Rattle.vm_file.specs.declared.directory.Entry.{Entry}
 use Rattle.vm_file.specs.declared.directory.Directory.{Directory}
-use Rattle.vm_file.specs.Committing.{block_from, contents_from, contents_read, HasLength, IsThere, MayCommit}
+use Rattle.vm_file.specs.Committing.{block_from, contents_from, contents_read, IsThere, MayCommit}
 use Rattle.vm_file.specs.Contents.{Block, Contents, entry_of, listed, is_filled, is_contents, blocks_in}
 use Rattle.vm_file.specs.Directories.{is_directory, is_entry, are_entries, directory_length, may_be_map_block, may_be_map_group, may_be_map_item}
 use Rattle.vm_file.specs.Reading.{base_of, area_of}
@@ -70,17 +70,6 @@ own_from (e ∷ es) last xs h =
     let x = get_or es k d in let higher = above e.h es k d s.1 l in
     ap (λ t. let y : Block = record { h = x.h; uid = x.uid; bytes = cond t b.bytes (bytes_of_block rest x.h) } in y) (ne_eqb e.h x.h (λ q. omega (arith, higher, q)))) in
     ap (λ y. y ∷ map (block_from nothing (b ∷ rest)) es) here ∙ ap (λ ys. b ∷ ys) (behind ∙ own_from es e.h (drop (6 + e.len) xs) s.1)
-
--- what is resident has the length of its entry
-pub there_lengths : (resident : ℕ → Option (List ℕ)) (kept : Directory) (es : List Entry) → All (IsThere resident kept) es → All (HasLength resident) es
-there_lengths resident kept es there = λ k d l. by (get_or es k d) (resident (get_or es k d).h) (there k d l)
-  where
-    by : (e : Entry) (o : Option (List ℕ)) → MatchOption o (HasBlock kept e.h e.len) (λ bytes. IsHeap bytes × (handle_word bytes ≡ e.h) × (length bytes ≡ e.len)) → IfSome o (λ bytes. length bytes ≡ e.len)
-    by e (Some bytes) h = h.2
-    by e None h = tt
-
-pub nothing_lengths : (es : List Entry) → All (HasLength nothing) es
-nothing_lengths es = λ k d l. tt
 
 module _ {D : Type 0} (image : D → List ℕ) (honest : D → Type 0) (may_leave : D → List ℕ → Type 0) (f : FileState D) (sound : IsSound image honest may_leave f) where
   -- a block that is not resident is read from where the current directory has it

@@ -10,7 +10,7 @@ use Rattle.vm_file.specs.declared.directory.Entry.{Entry}
 use Rattle.geos_model.specs.Heap.{is_block_size}
 use Rattle.vm_file.specs.Heaps.{is_heap}
 use Rattle.vm_file.specs.Directories.{is_entry, are_entries, entries_length, may_be_map_block, may_be_map_group, may_be_map_item}
-use Rattle.vm_file.specs.Contents.{Block, Contents, Pair, entry_of, is_filled, is_contents, contents_length, pair_length, block_spelling, contents_spelling, pair_spelling}
+use Rattle.vm_file.specs.Contents.{Block, Contents, Pair, entry_of, is_filled, is_contents, contents_length, block_spelling, contents_spelling, pair_spelling}
 use Rattle.vm_file.specs.Reading.{◌>>=◌, wanted, word_at, head_at, bytes_at, block_at, blocks_at, maps_at, contents_at, pair_at}
 use Rattle.vm_file.proofs.HeapTests.{both, and-true, le-leb, lt-ltb}
 use Rattle.vm_file.proofs.ReadLaws.{leb-le}
@@ -147,10 +147,6 @@ length-contents c =
       length-append (word_bytes (length c.blocks)) blocks,
       length-blocks c.blocks,
     )
-
--- a pair is as long as is said
-pub length-pair : (p : Pair) → length (pair_spelling p) ≡ pair_length p
-length-pair p = omega (arith, length-append (contents_spelling p.cur) (contents_spelling p.saved), length-contents p.cur, length-contents p.saved)
 
 -- a pair is read again
 pub pair_again : (p : Pair) (at : ℕ) (rest : List ℕ) → is_contents p.cur ≡ true → is_contents p.saved ≡ true → pair_at at (pair_spelling p ++ rest) ≡ Ok p
