@@ -17,7 +17,7 @@ use Rattle.vm_blocks.specs.declared.entries.Held.{Held}
 use Rattle.geos_model.specs.Names.{vm}
 use Rattle.vm_blocks.specs.View.{VmState, bytes_read, held_at, vm_slot}
 use Rattle.vm_blocks.specs.Tied.{IsTied, IsAbsent, TiedAt}
-use Rattle.vm_blocks.specs.Room.{MakesRoom, Thins, Goes, StaysOrGoes, is_idle}
+use Rattle.vm_blocks.specs.Room.{MakesRoom, Goes, StaysOrGoes, is_idle}
 use Rattle.vm_blocks.specs.Bring.{Fills, Drops, Keeps}
 use Rattle.vm_blocks.proofs.Slots.{slot-one, slot-is, freed, no-block, some-block}
 use Rattle.vm_blocks.proofs.Thinning.{gone-tied}
@@ -58,14 +58,10 @@ module _ {D : Type 0} (image : D → List ℕ) (honest : D → Type 0) (v : VmSt
           let i : is_idle v s k ≡ true = subst (λ j. is_idle v s j ≡ true) (sym one) g.idle in
           subst (TiedAt image honest v.file k (held_at v k)) (sym g.gone) (gone-tied image honest v k (held_at v k) (block_at s (vm_slot k)) i (tied.each k p))
 
-  -- a device that was read
-  pub tied-device : (s : Store) (f : FileState D) → f ≡ record v.file { device = f.device } → pair_of image f ≡ pair_of image v.file → (honest f.device → honest v.file.device)
-      → IsTied image honest v s → IsTied image honest (record v { file = f }) s
-  tied-device s f same pair was tied = record { laid = tied.laid; long = tied.long; each = λ h p. on h (held_at v h) (block_at s (vm_slot h)) (tied.each h p); maps = record { block = tied.maps.block; group = tied.maps.group; no_item = tied.maps.no_item } }
+  -- another file that keeps the same current pair and lists it
+  pub tied-file : (s : Store) (f : FileState D) → f.current ≡ v.file.current → (honest f.device → honest v.file.device) → (honest v.file.device → pair_of image f ≡ pair_of image v.file) → IsTied image honest v s → IsTied image honest (record v { file = f }) s
+  tied-file s f listed was pair tied = record { laid = tied.laid; long = tied.long; each = λ h p. on h (held_at v h) (block_at s (vm_slot h)) (tied.each h p); maps = record { block = tied.maps.block; group = tied.maps.group; no_item = tied.maps.no_item } }
     where
-      listed : f.current ≡ v.file.current
-      listed = ap (λ (g : FileState D). g.current) same
-
       on : (h : ℕ) (e : Option Held) (b : Option Block) → TiedAt image honest v.file h e b → TiedAt image honest f h e b
       on h None None t = t
       on h None (Some b) t = t
@@ -75,7 +71,7 @@ module _ {D : Type 0} (image : D → List ℕ) (honest : D → Type 0) (v : VmSt
         heap = t.heap;
         handle = t.handle;
         kept = λ m. subst (λ d. HasBlock d h e.len) (sym listed) (t.kept m);
-        clean = λ m. record { long = (t.clean m).long; same = λ good. (t.clean m).same (was good) ∙ ap (λ q. bytes_of_block q.cur.blocks h) (sym pair) };
+        clean = λ m. record { long = (t.clean m).long; same = λ good. (t.clean m).same (was good) ∙ sym (ap (λ q. bytes_of_block q.cur.blocks h) (pair (was good))) };
       }
 
 -- room that was made keeps the others
@@ -109,14 +105,6 @@ keeps-more {D} v a b c h first same place laid len = record { each = λ slot ne.
         → ((block_at c slot ≡ block_at a slot) × (0 < locks_of a slot → place_of c slot ≡ place_of a slot)) ⊎ Goes v a c h slot
     on slot ne (inl u) = inl (same slot ne ∙ u.0, λ some. place slot ne ∙ u.1 some)
     on slot ne (inr g) = inr (record { h = g.h; handle = g.handle; slot_is = g.slot_is; other = g.other; idle = g.idle; gone = same slot ne ∙ g.gone })
-
--- others that went, the one that was not there still not being there
-pub thins-keeps : {D : Type 0} (v : VmState D) (old new : Store) (h : ℕ) → Thins v old new h → Keeps v old new h
-thins-keeps {D} v old new h thins = record { each = λ slot ne. on slot (thins.each slot); laid = thins.laid; len = thins.len }
-  where
-    on : (slot : ℕ) → StaysOrGoes v old new h slot → ((block_at new slot ≡ block_at old slot) × (0 < locks_of old slot → place_of new slot ≡ place_of old slot)) ⊎ Goes v old new h slot
-    on slot (inl u) = inl (u.0, λ some. u.1)
-    on slot (inr g) = inr g
 
 -- a block with other bytes, as many
 filled-list : (bs : List (Option Block)) (i : ℕ) (ws : List ℕ) (b : Block) → get_or bs i None ≡ Some b → length ws ≡ length b.bytes
@@ -200,7 +188,7 @@ module _ {D : Type 0} (image : D → List ℕ) (honest : D → Type 0) (v : VmSt
 
         module _ (f : FileState D) (same : f ≡ record v.file { device = f.device }) (pair : pair_of image f ≡ pair_of image v.file) (was : honest f.device → honest v.file.device) where
           pub read-tied : IsTied image honest (record v { file = f }) t
-          read-tied = tied-device image honest v t f same pair was filled-tied
+          read-tied = tied-file image honest v t f (ap (λ (g : FileState D). g.current) same) was (λ good. pair) filled-tied
 
     -- it was made, and is gone again
     module _ (drops : Drops m t h) where
@@ -208,4 +196,4 @@ module _ {D : Type 0} (image : D → List ℕ) (honest : D → Type 0) (v : VmSt
       dropped-keeps = keeps-more v s m t h (made-keeps v s m h e.len q made) drops.others drops.places (drops.laid made.makes.laid) drops.len
 
       pub dropped-tied : (f : FileState D) → f ≡ record v.file { device = f.device } → pair_of image f ≡ pair_of image v.file → (honest f.device → honest v.file.device) → IsTied image honest (record v { file = f }) t
-      dropped-tied f same pair was = tied-device image honest v t f same pair was (tied-keeps image honest v s t h q tied dropped-keeps (own-none t drops.gone))
+      dropped-tied f same pair was = tied-file image honest v t f (ap (λ (g : FileState D). g.current) same) was (λ good. pair) (tied-keeps image honest v s t h q tied dropped-keeps (own-none t drops.gone))

@@ -67,28 +67,6 @@ committed-tied image honest Save v w s t tied long legal lists current was pair 
     subst (IsTied image honest w) (sym store) (updated-tied image honest v w s tied long legal lists current was (λ good. ap (λ (p : file.Pair). p.cur) (pair good)))
 committed-tied image honest Revert v w s t tied long legal lists current was pair store = opened-tied image honest w t long legal lists (store.laid tied.laid) store.none
 
--- a file that a refused commit left
-pub refused-tied : {D : Type 0} (image : D → List ℕ) (honest : D → Type 0) (v : VmState D) (s : Store) (f : FileState D) → f.current ≡ v.file.current → (honest f.device → honest v.file.device)
-    → (honest v.file.device → pair_of image f ≡ pair_of image v.file) → IsTied image honest v s → IsTied image honest (record v { file = f }) s
-refused-tied {D} image honest v s f listed was pair tied = record {
-  laid = tied.laid;
-  long = tied.long;
-  each = λ h p. on h (held_at v h) (block_at s (vm_slot h)) (tied.each h p);
-  maps = record { block = tied.maps.block; group = tied.maps.group; no_item = tied.maps.no_item };
-}
-  where
-    on : (h : ℕ) (e : Option Held) (b : Option Block) → TiedAt image honest v.file h e b → TiedAt image honest f h e b
-    on h None None t = t
-    on h None (Some b) t = t
-    on h (Some e) None t = record { size = t.size; clean = t.clean; kept = subst (λ d. HasBlock d h e.len) (sym listed) t.kept }
-    on h (Some e) (Some b) t = record {
-      size = t.size;
-      heap = t.heap;
-      handle = t.handle;
-      kept = λ m. subst (λ d. HasBlock d h e.len) (sym listed) (t.kept m);
-      clean = λ m. record { long = (t.clean m).long; same = λ good. (t.clean m).same (was good) ∙ sym (ap (λ q. bytes_of_block q.cur.blocks h) (pair (was good))) };
-    }
-
 -- the same commit, seen of equal files
 pub recommits : {D : Type 0} {image : D → List ℕ} {honest : D → Type 0} {failed : D → ℕ} {may_leave : D → List ℕ → Type 0} {left : D → D → List ℕ → Type 0} {how : How} {resident : ℕ → Option (List ℕ)} {r : Result (Unit {0}) CommitError}
     (cur cur' : Directory) (f f' g g' : FileState D) → cur ≡ cur' → f ≡ f' → g ≡ g' → CommitsFile image honest failed may_leave left how resident cur f g r → CommitsFile image honest failed may_leave left how resident cur' f' g' r

@@ -12,10 +12,11 @@ use Rattle.vm_blocks.specs.DoesRow.{DoesRow}
 use Rattle.vm_blocks.specs.ListedCalls.{keeper_of}
 use Rattle.vm_blocks.specs.Refused.{of_commit}
 use Rattle.vm_blocks.specs.Listed.{IsListOf, directory_of, resident_of}
+use Rattle.vm_blocks.proofs.Brings.{tied-file}
 use Rattle.vm_blocks.proofs.Listing.{may-commit}
 use Rattle.vm_blocks.proofs.CommitDoes.{commit-does}
 use Rattle.vm_blocks.proofs.Directory.{listed-legal}
-use Rattle.vm_blocks.proofs.Updating.{committed-tied, recommits, refused-tied}
+use Rattle.vm_blocks.proofs.Updating.{committed-tied, recommits}
 use Rattle.vm_blocks.proofs.Whole.{whole-pair}
 use Rattle.vm_blocks.proofs.blocks.VmBlocks.commit.Goals as goal
 
@@ -32,7 +33,7 @@ returns-in-Err-clause-tied g c =
     let file : c.self.inside.file ≡ now.file = ap (λ (w : VmState g.row.D.Denot). w.file) c.self.view_is in
     let r = recommits c.listed-cur.result (directory_of now s) c.self.inside.file now.file k k c.listed-cur.ensures file refl c.in-Err.ensures.commits in
     subst (λ (w : VmState g.row.D.Denot). IsTied d.image d.honest (record w { file = k }) s) (sym c.self.view_is)
-    (refused-tied d.image d.honest now s k (after_current c.in-Err.error now.file k r.refused) r.was r.pair c.requires.tied)
+    (tied-file d.image d.honest now s k (after_current c.in-Err.error now.file k r.refused) r.was r.pair c.requires.tied)
 
 pub returns-clause-file : goal.returns-clause-file
 returns-clause-file g c =
@@ -53,7 +54,7 @@ returns-in-Err-clause-row g c =
     let file : c.self.inside.file ≡ now.file = ap (λ (w : VmState g.row.D.Denot). w.file) c.self.view_is in
     let r = recommits c.listed-cur.result (directory_of now s) c.self.inside.file now.file k k c.listed-cur.ensures file refl c.in-Err.ensures.commits in
     let after : VmState g.row.D.Denot = record now { file = k } in
-    let tied : IsTied d.image d.honest after s = refused-tied d.image d.honest now s k (after_current e now.file k r.refused) r.was r.pair c.requires.tied in
+    let tied : IsTied d.image d.honest after s = tied-file d.image d.honest now s k (after_current e now.file k r.refused) r.was r.pair c.requires.tied in
     let cur_legal = listed-legal now s d.image d.honest c.requires.tied in
     let may : MayCommit (resident_of s) now.file.current (directory_of now s) = may-commit d.image d.honest now s c.requires.tied cur_legal in
     let lists : Lists d.image now.file = subst (Lists d.image) file c.keep.ensures.lists in
