@@ -6,7 +6,6 @@ use Rattle.geos_table.specs.Handles.{at_handle}
 use Rattle.geos_table.specs.Memory.{Memory, listed_at}
 use Rattle.geos_table.specs.VmCalls.{pair_to_keep, written_directory}
 use Rattle.geos_table.specs.VmFile as model_file
-use Rattle.geos_table.specs.VmFile.{VmFile, Kept, Sure, Unsure}
 use Rattle.geos_table.proofs.HandleLists.{entry-each}
 use Rattle.geos_table.proofs.LegalDirectories.{loaded-legal}
 use Rattle.std.proofs.lemmas.List.{length-map}
@@ -28,7 +27,6 @@ use Rattle.vm_blocks.specs.Matches.{IsListedAs, IsStoredAs, IsPairOf, entry_at}
 use Rattle.vm_blocks.specs.FileOf.{IsCurrentOf, IsMemoryOf}
 use Rattle.vm_blocks.proofs.Matching.{pair-on}
 use Rattle.geos_table.specs.VmCalls.{committed}
-use Rattle.geos_table.specs.VmFile.{is_unsure, pair_length, doubted}
 use Rattle.vm_blocks.specs.ListedCalls.{keeper_of}
 use Rattle.vm_blocks.proofs.Files.{slots-same}
 use Rattle.vm_blocks.proofs.Slots.{slot-is}
@@ -78,9 +76,6 @@ module _ {D : Type 0} (image : D → List ℕ) (honest : D → Type 0) (v w : Vm
         let next = pair-on (honest v.file.device) well d.was (current_after how (directory_of v s) v.file.saved) (saved_after how (directory_of v s) v.file.saved) (kept_after image (resident_of s) how (directory_of v s) v.file) (pair_of image w.file) p d.pair old in
         subst (λ x. IsPairOf well x w.file.saved (pair_of image w.file) p) (sym d.current)
         (subst (λ x. IsPairOf well (current_after how (directory_of v s) v.file.saved) x (pair_of image w.file) p) (sym d.saved) next)
-
-    now-held : (h : ℕ) → IsHandle h → held_at w h ≡ option_map as_held (entry_at w.file.current h)
-    now-held h p = d.lists.each h p
 
   -- the current directory goes on: what is in memory stays there
   goes-on : (how : How) (d : IsDone image honest how v w s t) → t ≡ s → w.file.current ≡ directory_of v s

@@ -10,7 +10,6 @@ use Rattle.block_handles.specs.Names.{IsHandle}
 use Rattle.block_handles.specs.Store.{Block, Store, block_at, bytes_in, bytes_of, IsBlock, IsThere, locks_in, locks_of, place_of}
 use Rattle.block_handles.proofs.Laws.{laid-with_locks, with_locks-same, with_locks-other}
 use Rattle.block_handles.proofs.Layouts.{there_small}
-use Rattle.vm_file.specs.State.{FileState}
 use Rattle.vm_blocks.specs.declared.entries.Held.{Held}
 use Rattle.vm_blocks.specs.View.{VmState, held_at, vm_slot, with_held}
 use Rattle.vm_blocks.specs.Tied.{IsTied, IsResident, TiedAt}
@@ -83,15 +82,6 @@ module _ {D : Type 0} (image : D → List ℕ) (honest : D → Type 0) (v : VmSt
       | inr other ↦ subst (λ o. TiedAt image honest v.file k o (block_at s (vm_slot k))) (sym (held-other v.entries h k (Some (marked e)) other)) (tied.each k p)
     ];
   }
-
--- what is in memory is listed
-listed-in : {D : Type 0} (image : D → List ℕ) (honest : D → Type 0) (f : FileState D) (h : ℕ) (o : Option Held) (b : Option Block) → IsBlock b → TiedAt image honest f h o b → o ≢ None
-listed-in image honest f h None None x t = absurd x
-listed-in image honest f h None (Some b) x t = absurd t
-listed-in image honest f h (Some e) b x t = λ e. absurd cc
-
-pub there-listed : {D : Type 0} (image : D → List ℕ) (honest : D → Type 0) (v : VmState D) (s : Store) (h : ℕ) → IsHandle h → IsTied image honest v s → IsThere s (vm_slot h) → held_at v h ≢ None
-there-listed image honest v s h q tied there = listed-in image honest v.file h (held_at v h) (block_at s (vm_slot h)) there (tied.each h q)
 
 -- a block that was brought and is locked then is locked once more
 pub locks-more : (old mid new : Store) (h : ℕ) → IsLaidOut mid → Brought old mid h → new ≡ with_locks mid (vm_slot h) (locks_of mid (vm_slot h) + 1) → LockedMore old new h

@@ -1,12 +1,12 @@
 -- A block that is freed does its row.
-use Rattle.std.proofs.Common.{◌≡◌, ℕ, zero, suc, inl, ◌<◌, List, [], Option, Some, None, Bool, true, false, refl, sym, ap, ◌∙◌, subst, arith}
-use Rattle.std.specs.Prelude.{◌==◌, ◌↔◌, Result, Ok, Err, OnOk, OnErr, nat_lt, if◌then◌else◌}
+use Rattle.std.proofs.Common.{◌≡◌, ℕ, zero, suc, inl, ◌<◌, List, [], Some, None, Bool, true, false, refl, sym, ap, ◌∙◌, subst, arith}
+use Rattle.std.specs.Prelude.{◌==◌, Ok, Err, nat_lt, if◌then◌else◌}
 use Rattle.geos_model.specs.Names.{vm}
 use Rattle.geos_model.specs.declared.refusal.Refusal.TheVariants as refusal
 use Rattle.geos_table.specs.Directories.{VmBlock}
 use Rattle.geos_table.specs.Legal.{IsLegalListed}
 use Rattle.geos_table.specs.Memory as memory
-use Rattle.geos_table.specs.Memory.{Memory, listed_at}
+use Rattle.geos_table.specs.Memory.{Memory}
 use Rattle.geos_table.specs.VmCalls.{without_listed}
 use Rattle.geos_table.proofs.LegalDirectories.{removed-legal}
 use Rattle.geos_table.proofs.Laws.{entry-other}
@@ -22,8 +22,6 @@ use Rattle.vm_blocks.specs.Matches.{IsListedAs}
 use Rattle.vm_blocks.specs.FileOf.{IsMemoryOf}
 use Rattle.vm_blocks.specs.DoesRow.{DoesRow}
 use Rattle.vm_blocks.specs.ListedCalls.{free_listed}
-use Rattle.vm_blocks.specs.Refused.{of_free}
-use Rattle.vm_blocks.specs.declared.error.FreeError.{FreeError}
 use Rattle.vm_blocks.specs.declared.error.FreeError.TheVariants as error
 use Rattle.vm_blocks.proofs.BringRows.{chosen, listed-told, unlisted-told}
 use Rattle.vm_blocks.proofs.Changed.{memory-entry}
@@ -92,24 +90,3 @@ locked-test n some = grind (arith, some)
 pub free-test : (n : ℕ) → (0 < n → ⊥) → nat_lt 0 n ≡ false
 free-test zero none = refl
 free-test (suc n) none = absurd (none (omega arith))
-
-module _ {D : Type 0} (image : D → List ℕ) (honest : D → Type 0) (failed : D → ℕ) (v w : VmState D) (s t : Store) (h : ℕ) (tied : IsTied image honest v s) where
-  pub free-does : (r : Result (Unit {0}) FreeError) → ((e : Held) → held_at v h ≡ Some e → IsHandle h) → ((r ≡ Err error.BadHandle) ↔ (held_at v h ≡ None)) → ((r ≡ Err error.Locked) ↔ (0 < locks_of s (vm_slot h)))
-      → OnOk r (w ≡ without_held v h) → OnOk r (Drops s t h) → OnErr r ((w ≡ v) × (t ≡ s)) → DoesRow image honest failed (free_listed h) (of_free r) v s w t
-  free-does (Ok done) handle bad locked state drops same = on (held_at v h) refl
-    where
-      on : (o : Option Held) → held_at v h ≡ o → DoesRow image honest failed (free_listed h) (Ok tt) v s w t
-      on None none = absurd (let x = bad.1 none in cc)
-      on (Some e) listed =
-          free-done image honest failed v s h tied (handle e listed) e listed t (drops-keeps v s t h tied.laid drops) w (free-test (locks_of s (vm_slot h)) (λ some. let x = locked.1 some in cc)) state
-  free-does (Err error.BadHandle) handle bad locked state drops same =
-      subst (λ x. DoesRow image honest failed (free_listed h) (Err refusal.BadHandle) v s x t) (sym same.0)
-      (subst (λ u. DoesRow image honest failed (free_listed h) (Err refusal.BadHandle) v s v u) (sym same.1) (free-unknown image honest failed v s h tied (bad.0 refl)))
-  free-does (Err error.Locked) handle bad locked state drops same = on (held_at v h) refl
-    where
-      on : (o : Option Held) → held_at v h ≡ o → DoesRow image honest failed (free_listed h) (Err refusal.Locked) v s w t
-      on None none = absurd (let x = bad.1 none in cc)
-      on (Some e) listed =
-          subst (λ x. DoesRow image honest failed (free_listed h) (Err refusal.Locked) v s x t) (sym same.0)
-          (subst (λ u. DoesRow image honest failed (free_listed h) (Err refusal.Locked) v s v u) (sym same.1)
-          (free-locked image honest failed v s h tied (handle e listed) e listed (locked-test (locks_of s (vm_slot h)) (locked.0 refl))))

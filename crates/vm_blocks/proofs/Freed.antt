@@ -1,5 +1,5 @@
 -- Blocks of the file that are freed, all of them or one.
-use Rattle.std.proofs.Common.{◌≡◌, ◌≢◌, ◌∙◌, ℕ, ◌+◌, ◌≤◌, ◌<◌, length, length-set, set, None, refl, sym, ap, subst, arith, inl, inr}
+use Rattle.std.proofs.Common.{◌≡◌, ◌≢◌, ◌∙◌, ℕ, ◌+◌, ◌<◌, length, length-set, set, None, refl, sym, ap, subst, arith, inl, inr}
 use Rattle.std.specs.Prelude.{◌↔◌, Result, Ok, Err, OnOk, OnErr}
 use Rattle.std.proofs.lemmas.Bool.{cases_eq, cases_lt}
 use Rattle.std.proofs.lemmas.List.{get_or-set_other, get_or_past}
@@ -14,7 +14,7 @@ use Rattle.block_handles.specs.Store.{Store, block_at, IsThere, locks_in, locks_
 use Rattle.block_handles.proofs.Laws.{laid-without, with_block-same, with_block-other}
 use Rattle.vm_blocks.specs.View.{vm_slot}
 use Rattle.vm_blocks.specs.Bring.{Drops}
-use Rattle.vm_blocks.specs.Listed.{DropsAll, NoneLocked}
+use Rattle.vm_blocks.specs.Listed.{NoneLocked}
 use Rattle.vm_blocks.proofs.Slots.{slot-one, no-block}
 
 -- a block that is there is gone without it
@@ -57,15 +57,6 @@ pub record DropsTo (old new : Store) (n : ℕ) : Type 0 where
   pub laid : IsLaidOut old → IsLaidOut new
   pub len : new.len ≡ old.len
 
-pub drops-none : (s : Store) (n : ℕ) → n ≤ 1 → DropsTo s s n
-drops-none s n low = record {
-  none = λ h p less. absurd (let some = p.0 in omega (arith, low, some, less));
-  others = λ slot free. refl;
-  places = λ slot free. refl;
-  laid = λ laid. laid;
-  len = refl;
-}
-
 pub drops-more : (a b c : Store) (n : ℕ) → IsHandle n → DropsTo a b n → Drops b c n → DropsTo a c (n + 1)
 drops-more a b c n q first later = record {
   none = λ h p less. elim (cases_eq h n) [
@@ -81,12 +72,3 @@ drops-more a b c n q first later = record {
 -- a block that is not yet gone is locked as often as it was
 pub still-free : (old now : Store) (n : ℕ) → IsHandle n → NoneLocked old → DropsTo old now n → locks_of now (vm_slot n) ≡ 0
 still-free old now n q free drops = ap locks_in (drops.others (vm_slot n) (λ h p less e. let same = slot-one n h q p e in omega (arith, same, less))) ∙ free n q
-
-pub drops-all : (old new : Store) (n : ℕ) → 1025 ≤ n → DropsTo old new n → DropsAll old new
-drops-all old new n all drops = record {
-  none = λ h p. drops.none h p (let most = p.1 in omega (arith, most, all));
-  others = λ slot free. drops.others slot (λ h p less. free h p);
-  places = λ slot free. drops.places slot (λ h p less. free h p);
-  laid = drops.laid;
-  len = drops.len;
-}

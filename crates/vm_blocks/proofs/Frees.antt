@@ -1,11 +1,9 @@
 -- Blocks of the file that are freed.
-use Rattle.std.proofs.Common.{◌≡◌, ◌≢◌, ◌∙◌, ℕ, ◌<◌, cond, List, Option, Some, None, refl, sym, ap, subst, arith, inl, inr}
+use Rattle.std.proofs.Common.{◌≡◌, ◌≢◌, ◌∙◌, ℕ, cond, List, None, sym, ap, subst, inl, inr}
 use Rattle.std.specs.Prelude.{IsSomeAnd}
 use Rattle.std.proofs.lemmas.Bool.{cases_eq, eq-eqb, ne_eqb}
 use Rattle.block_handles.specs.Names.{IsHandle}
-use Rattle.block_handles.specs.Store.{Block, Store, block_at, IsBlock, IsThere, locks_in, locks_of}
-use Rattle.block_handles.proofs.Laws.{handle_of_there}
-use Rattle.geos_model.specs.Names.{vm}
+use Rattle.block_handles.specs.Store.{Store, block_at}
 use Rattle.vm_blocks.specs.declared.entries.Held.{Held}
 use Rattle.vm_blocks.specs.View.{VmState, held_at, vm_slot, with_held}
 use Rattle.vm_blocks.specs.Tied.{AreMapped, IsTied, TiedAt}
@@ -13,7 +11,6 @@ use Rattle.vm_blocks.specs.Bring.{Drops}
 use Rattle.vm_blocks.specs.Blocks.{without_held}
 use Rattle.vm_blocks.proofs.Slots.{slot-one}
 use Rattle.vm_blocks.proofs.Table.{held-other, held-same, length-with}
-use Rattle.vm_blocks.proofs.Counts.{there-listed}
 
 -- a freed block is mapped no more, and what is still mapped is listed
 module _ {D : Type 0} (v : VmState D) (h : ℕ) where
@@ -68,13 +65,3 @@ freed-tied image honest v s t h q tied drops = record {
         (subst (TiedAt image honest v.file k (held_at v k)) (sym (drops.others (vm_slot k) (λ e. other (slot-one k h p q e)))) (tied.each k p))
   ];
 }
-
-some-locks : (o : Option Block) → 0 < locks_in o → IsBlock o
-some-locks None some = absurd (omega (arith, some))
-some-locks (Some b) some = tt
-
--- what is locked is listed
-pub locked-listed : {D : Type 0} (image : D → List ℕ) (honest : D → Type 0) (v : VmState D) (s : Store) (h : ℕ) → IsTied image honest v s → 0 < locks_of s (vm_slot h) → held_at v h ≢ None
-locked-listed image honest v s h tied some =
-    let there : IsThere s (vm_slot h) = some-locks (block_at s (vm_slot h)) some in
-    there-listed image honest v s h (handle_of_there s s (vm h) refl tied.laid there) tied there

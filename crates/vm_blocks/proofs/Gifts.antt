@@ -38,10 +38,6 @@ same_chunk None (Some b) = false
 same_chunk (Some a) None = false
 same_chunk (Some a) (Some b) = bytes_eq a b
 
-bytes_in_chunk : Option (List ℕ) → List ℕ
-bytes_in_chunk None = []
-bytes_in_chunk (Some a) = a
-
 chunk-decides : (a b : Option (List ℕ)) → Decides (same_chunk a b) (a ≡ b)
 chunk-decides None None = (λ t. refl, λ e. refl)
 chunk-decides None (Some b) = (λ t. absurd cc, λ e. absurd cc)
@@ -164,9 +160,6 @@ module _ {D : Type 0} (image : D → List ℕ) (honest : D → Type 0) (v : VmSt
   -- the chunks of a block that came
   module _ (e : Held) (listed : held_at v h ≡ Some e) (absent : block_at s (vm_slot h) ≡ None) (clean : e.marked ≡ false) (bytes : List ℕ)
       (there : block_at t (vm_slot h) ≡ Some (let b : Block = record { locks = 0; bytes = bytes } in b)) (long : length bytes ≡ e.len) (legal : IsLegalHeap (heap_in bytes)) (same : honest v.file.device → bytes ≡ bytes_read image v.file h) where
-    abbrev own_block : Block
-    own_block = record { locks = 0; bytes = bytes }
-
     -- what is listed in the model was away
     on : (o : Option VmBlock) → at_handle None f.cur.blocks h ≡ o → IsListedAs (honest v.file.device) (bytes_read image v.file h) (Some e) None o → GivesFile
     on None at away = absurd away

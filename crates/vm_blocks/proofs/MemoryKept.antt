@@ -1,5 +1,5 @@
 -- The model's memory goes on where others change the region.
-use Rattle.std.proofs.Common.{◌≡◌, ◌≢◌, ℕ, ◌+◌, ◌-◌, ◌<◌, ◌≤◌, List, Option, Some, None, true, false, refl, sym, ap, ◌∙◌, subst, arith}
+use Rattle.std.proofs.Common.{◌≡◌, ◌≢◌, ℕ, ◌+◌, ◌-◌, List, Option, Some, None, true, false, refl, sym, ap, ◌∙◌, subst, arith}
 use Rattle.std.specs.Prelude.{IfSome, option_map}
 use Rattle.geos_model.specs.Names.{vm}
 use Rattle.geos_model.specs.declared.name.Owner.{Owner}
@@ -7,12 +7,11 @@ use Rattle.geos_model.specs.declared.name.Owner.TheVariants.{Mem, Vm}
 use Rattle.geos_table.specs.Blocks.{Block as ModelBlock}
 use Rattle.geos_table.specs.Directories.{VmBlock, relisted}
 use Rattle.geos_table.specs.Handles.{at_handle, with_entry_at}
-use Rattle.geos_table.specs.Legal.{AreBytes, IsLegalListed}
+use Rattle.geos_table.specs.Legal.{IsLegalListed}
 use Rattle.geos_table.specs.Memory.{Memory, listed_at, with_block}
 use Rattle.geos_table.specs.Tight.{is_tight}
 use Rattle.geos_table.specs.VmFile.{VmFile}
 use Rattle.geos_table.proofs.LegalDirectories.{entry-legal}
-use Rattle.block_handles.specs.Layout.{IsLaidOut}
 use Rattle.block_handles.specs.Names.{IsHandle, slot_of}
 use Rattle.block_handles.specs.Store.{Block, Store, block_at}
 use Rattle.block_handles.specs.Stretch.{IsCrowded}
@@ -20,27 +19,18 @@ use Rattle.block_handles.proofs.Laws.{slot_of-handle}
 use Rattle.vm_blocks.specs.declared.entries.Held.{Held}
 use Rattle.vm_blocks.specs.View.{VmState, bytes_read, held_at, vm_slot}
 use Rattle.vm_blocks.specs.FileOf.{IsFileOf, IsMemoryOf}
-use Rattle.vm_blocks.specs.Keeping.{IsMarkedHeap}
 use Rattle.vm_blocks.specs.Matches.{IsListedAs}
 use Rattle.vm_blocks.specs.MemoryKeeping.{BlocksMayGo, IsSpelled, MarkedMayChange, OthersMayChange, RoomMayWant}
 use Rattle.vm_blocks.specs.Room.{NoneIdle, own_handle_of}
 use Rattle.vm_blocks.specs.Spelled.{spelled}
-use Rattle.vm_blocks.specs.Tied.{IsTied, TiedAt}
+use Rattle.vm_blocks.specs.Tied.{TiedAt}
 use Rattle.vm_blocks.proofs.Changed.{memory-thins}
-use Rattle.vm_blocks.proofs.Files.{IsListedIn, current-entry, file-cur, file-same, slots-same}
+use Rattle.vm_blocks.proofs.Files.{IsListedIn, current-entry, file-cur, file-same}
 use Rattle.vm_blocks.proofs.HeapsRead.{spelled-legal}
-use Rattle.vm_blocks.proofs.Slots.{slot-is, slot-one}
 use Rattle.vm_blocks.proofs.Thinning.{tied-thins}
 use Rattle.vm_blocks.proofs.Tightness.{tight-mem, tight-vm}
 
--- memory over the same blocks of global memory, and another file
-pub spelled-still : (s t : Store) (m : Memory) (file : VmFile) → IsLaidOut s → IsLaidOut t → ((slot : ℕ) → slot < 1024 → block_at t slot ≡ block_at s slot) → t.len ≡ s.len → IsSpelled s m.file m → IsSpelled t file (record m { file = file })
-spelled-still s t m file laid now same len is = record { blocks = is.blocks ∙ sym (slots-same s t laid now same); file = refl; region = is.region ∙ sym len }
-
 module _ {D : Type 0} (image : D → List ℕ) (honest : D → Type 0) (v : VmState D) where
-  pub memory-spelled : (s : Store) (m : Memory) → IsMemoryOf image honest v s m → IsSpelled s m.file m
-  memory-spelled s m is = record { blocks = is.blocks; file = refl; region = is.region }
-
   -- memory over a store, with a file that is the model's there
   memory-of : (t : Store) (n : Memory) (file : VmFile) → IsFileOf image honest v t file → IsSpelled t file n → IsMemoryOf image honest v t n
   memory-of t n file is over = record { blocks = over.blocks; file = subst (IsFileOf image honest v t) (sym over.file) is; region = over.region }
@@ -86,11 +76,3 @@ module _ {D : Type 0} (image : D → List ℕ) (honest : D → Type 0) (v : VmSt
       let uid : option_map (λ (l : VmBlock). l.uid) x ≡ option_map (λ (l : VmBlock). l.uid) (listed_at m h) = ap (option_map (λ (l : VmBlock). l.uid)) x_is ∙ sym (ap (option_map (λ (l : VmBlock). l.uid)) listed) in
       let legal = entry-legal IsLegalListed (λ (l : VmBlock). l.uid) cur is.file.legal.cur h x legal_x uid in
       memory-of t n (with_block m (vm h) (Some block)).file (file-cur image honest v v s t m.file (record cur { blocks = with_entry_at cur.blocks h x }) refl now legal is.file) over
-
-  -- a marked block changes, and no other does
-  pub memory-changed-alone : (s t : Store) (m : Memory) (h : ℕ) → IsTied image honest v s → IsMemoryOf image honest v s m → IsLaidOut t → ((slot : ℕ) → slot ≢ vm_slot h → block_at t slot ≡ block_at s slot) → t.len ≡ s.len
-      → (own : IsMarkedHeap v t h) → own.block.locks ≤ 65535 → AreBytes own.block.bytes → IsMemoryOf image honest v t (with_block m (vm h) (Some (spelled own.block.locks own.block.bytes)))
-  memory-changed-alone s t m h tied is laid same len own few are =
-      let n = with_block m (vm h) (Some (spelled own.block.locks own.block.bytes)) in
-      marked-may-change s t m n h tied is (λ k q ne. same (vm_slot k) (λ e. ne (slot-one k h q own.handle e))) own few are
-      (spelled-still s t m n.file tied.laid laid (λ slot l. same slot (λ e. omega (arith, slot-is h own.handle, own.handle.0, l, e))) len (memory-spelled s m is))

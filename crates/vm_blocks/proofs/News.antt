@@ -1,7 +1,5 @@
 -- New blocks of the file.
-use Rattle.std.proofs.Common.{◌≡◌, ◌≢◌, ◌∙◌, ℕ, ◌<◌, List, length, replicate, Option, Some, None, true, refl, sym, ap, subst, arith, inl, inr}
-use Rattle.std.specs.Prelude.{IsSomeAnd}
-use Rattle.std.proofs.lemmas.Bool.{cases_eq}
+use Rattle.std.proofs.Common.{◌≡◌, ◌∙◌, ℕ, ◌<◌, List, length, replicate, Option, Some, None, true, refl, sym, ap, subst, arith, inl, inr}
 use Rattle.std.proofs.lemmas.List.{length-replicate}
 use Rattle.geos_model.specs.Names.{vm}
 use Rattle.block_handles.specs.Change.{with_locks}
@@ -12,13 +10,12 @@ use Rattle.block_handles.proofs.Laws.{laid-with_bytes, others-same, with_locks-s
 use Rattle.block_handles.proofs.Layouts.{there_small}
 use Rattle.vm_file.specs.State.{FileState}
 use Rattle.vm_blocks.specs.declared.entries.Held.{Held}
-use Rattle.vm_blocks.specs.View.{VmState, held_at, vm_slot, with_held}
-use Rattle.vm_blocks.specs.Tied.{AreMapped, IsTied, TiedAt}
+use Rattle.vm_blocks.specs.View.{VmState, held_at, vm_slot}
+use Rattle.vm_blocks.specs.Tied.{IsTied, TiedAt}
 use Rattle.vm_blocks.specs.Room.{MakesRoom, is_idle}
 use Rattle.vm_blocks.specs.Bring.{Keeps, KeptOrGoes}
 use Rattle.vm_blocks.specs.Blocks.{Adds, Begins, IsNew, new_held}
 use Rattle.vm_blocks.proofs.Slots.{slot-one}
-use Rattle.vm_blocks.proofs.Table.{held-other, held-same, length-with}
 use Rattle.vm_blocks.proofs.Thinning.{gone-tied}
 use Rattle.vm_blocks.proofs.Brings.{filled-at, keeps-more, made-block, made-keeps}
 use Rattle.vm_blocks.proofs.Counts.{keeps-locked}
@@ -36,9 +33,6 @@ none-there image honest v s h q tied free = none-in image honest v.file h (held_
 module _ {D : Type 0} (v : VmState D) (s m t : Store) (h : ℕ) (q : IsHandle h) (made : MakesRoom v s m (vm h) 64) where
   pub new-size : size_of m (vm_slot h) ≡ 64
   new-size = ap (λ o. length (bytes_in o)) (made-block v s m h 64 q made) ∙ length-replicate {A = ℕ} 64 0
-
-  pub new-there : IsThere m (vm_slot h)
-  new-there = subst IsBlock (sym (made-block v s m h 64 q made)) tt
 
   module _ (begins : Begins m t h) where
     pub begun-new : IsNew t h 0
@@ -60,20 +54,6 @@ module _ {D : Type 0} (v : VmState D) (s m t : Store) (h : ℕ) (q : IsHandle h)
         (ap (λ (u : Store). u.len) begins.fills.is)
 
 -- what is mapped is another block than one that was not listed
-module _ {D : Type 0} (v : VmState D) (h : ℕ) (x : Option Held) (free : held_at v h ≡ None) where
-  one-other : (P : Held → Type 0) (k : ℕ) → IsSomeAnd (held_at v k) P → IsSomeAnd (held_at (with_held v h x) k) P
-  one-other P k some = elim (cases_eq k h) [
-    | inl same ↦ absurd (subst (λ o. IsSomeAnd o P) free (subst (λ j. IsSomeAnd (held_at v j) P) same some))
-    | inr ne ↦ subst (λ o. IsSomeAnd o P) (sym (held-other v.entries h k x ne)) some
-  ]
-
-  pub maps-more : AreMapped v → AreMapped (with_held v h x)
-  maps-more maps = record {
-    block = λ some. one-other (λ e. e.uid ≢ 65280) v.map_block (maps.block some);
-    group = λ some. one-other (λ e. e.uid ≡ 65280) v.map_item.0 (maps.group some);
-    no_item = maps.no_item;
-  }
-
 -- a new block is listed
 module _ {D : Type 0} (image : D → List ℕ) (honest : D → Type 0) (v : VmState D) (s t : Store) (h uid : ℕ) (q : IsHandle h) (tied : IsTied image honest v s) (free : held_at v h ≡ None) (keeps : Keeps v s t h) (new : IsNew t h 0) where
   kept-tied : (k : ℕ) → IsHandle k → KeptOrGoes v s t h (vm_slot k) → TiedAt image honest v.file k (held_at v k) (block_at t (vm_slot k))
@@ -85,19 +65,6 @@ module _ {D : Type 0} (image : D → List ℕ) (honest : D → Type 0) (v : VmSt
 
   own-tied : TiedAt image honest v.file h (Some (new_held uid)) (Some new.block)
   own-tied = record { size = (omega arith, omega arith, refl); heap = new.heap; handle = new.handle; kept = λ m. absurd cc; clean = λ m. absurd cc }
-
-  pub added-tied : IsTied image honest (with_held v h (Some (new_held uid))) t
-  added-tied = record {
-    laid = keeps.laid;
-    long = length-with v.entries h (Some (new_held uid)) ∙ tied.long;
-    maps = maps-more v h (Some (new_held uid)) free tied.maps;
-    each = λ k p. elim (cases_eq k h) [
-      | inl same ↦ subst (λ j. TiedAt image honest v.file j (held_at (with_held v h (Some (new_held uid))) j) (block_at t (vm_slot j))) (sym same)
-          (subst (TiedAt image honest v.file h (held_at (with_held v h (Some (new_held uid))) h)) (sym new.at)
-          (subst (λ o. TiedAt image honest v.file h o (Some new.block)) (sym (held-same v.entries h (Some (new_held uid)) q tied.long)) own-tied))
-      | inr other ↦ subst (λ o. TiedAt image honest v.file k o (block_at t (vm_slot k))) (sym (held-other v.entries h k (Some (new_held uid)) other)) (kept-tied k p (keeps.each (vm_slot k) (λ e. other (slot-one k h p q e))))
-    ];
-  }
 
 -- a new block is there, and not locked
 pub there-new : (t : Store) (h n : ℕ) → IsNew t h n → IsThere t (vm_slot h)

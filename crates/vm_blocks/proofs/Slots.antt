@@ -1,13 +1,11 @@
 -- Slots of the file's blocks.
-use Rattle.std.proofs.Common.{◌≡◌, ℕ, zero, suc, ◌+◌, ◌-◌, ◌≤◌, ◌<◌, List, [], ◌∷◌, length, set, get_or, Option, Some, None, Bool, true, false, refl, ap, arith, inl, inr}
-use Rattle.std.specs.Prelude.{◌⊎◌, ◌&&◌, ◌==◌, ◌↔◌, not, Result, Ok, Err, OnOk}
+use Rattle.std.proofs.Common.{◌≡◌, ℕ, zero, suc, ◌+◌, ◌-◌, ◌<◌, List, [], ◌∷◌, set, get_or, Option, Some, None, Bool, true, false, refl, arith}
+use Rattle.std.specs.Prelude.{◌&&◌, ◌==◌, ◌↔◌, not, Result, Ok, Err, OnOk}
 use Rattle.block_handles.specs.declared.error.HandleError.{HandleError}
 use Rattle.block_handles.specs.declared.error.HandleError.TheVariants.{BadHandle, Locked}
 use Rattle.block_handles.specs.Change.{without}
 use Rattle.std.proofs.lemmas.Bool.Decides.{nat_tests}
-use Rattle.std.proofs.lemmas.List.{get_or_past}
 use Rattle.geos_model.specs.declared.name.Owner.TheVariants.{Vm}
-use Rattle.geos_table.specs.Handles.{at_handle}
 use Rattle.block_handles.specs.Names.{IsHandle}
 use Rattle.block_handles.specs.Store.{Block, Store, IsBlock, IsThere, locks_of}
 use Rattle.block_handles.proofs.Laws.{slot_of-handle}
@@ -65,16 +63,6 @@ count-gone (Some b ∷ bs) (suc i) there = more (count_there (set bs i None)) (c
   where
     more : (m n : ℕ) → m < n → suc m < suc n
     more m n less = omega (arith, less)
-
--- what a list by handles has
-pub held-none : (es : List (Option Held)) (h : ℕ) → length es ≡ 1024 → (h ≡ 0) ⊎ (1024 < h) → at_handle None es h ≡ None
-held-none es zero long h = refl
-held-none es (suc h) long (inl e) = absurd (omega (arith, e))
-held-none es (suc h) long (inr past) = get_or_past es h None (omega (arith, past, long))
-
-pub held-some : (es : List (Option Held)) (h : ℕ) → 1 ≤ h → at_handle None es h ≡ get_or es (h - 1) None
-held-some es zero some = absurd (omega (arith, some))
-held-some es (suc h) some = let e : h ≡ suc h - 1 = omega arith in ap (λ i. get_or es i None) e
 
 -- a block that is there and not locked is freed
 pub freed : (old new : Store) (slot : ℕ) (r : Result (Unit {0}) HandleError) → OnOk r (new ≡ without old slot) → ((r ≡ Err BadHandle) ↔ (IsThere old slot → ⊥)) → ((r ≡ Err Locked) ↔ (0 < locks_of old slot))

@@ -1,5 +1,5 @@
 -- The table of what is listed, by handles.
-use Rattle.std.proofs.Common.{◌≡◌, ◌≢◌, ◌∙◌, ℕ, zero, suc, ◌-◌, ◌≤◌, List, length, length-set, set, Option, Some, None, refl, sym, ap, subst, arith}
+use Rattle.std.proofs.Common.{◌≡◌, ◌≢◌, ◌∙◌, ℕ, zero, suc, ◌-◌, List, length, length-set, Option, Some, None, refl, sym, ap, subst, arith}
 use Rattle.std.specs.Prelude.{IsSomeAnd, option_map}
 use Rattle.std.proofs.lemmas.List.{get_or-set_same, get_or-set_other}
 use Rattle.geos_table.specs.Handles.{at_handle, with_entry_at}
@@ -9,10 +9,6 @@ use Rattle.vm_blocks.specs.View.{VmState, held_at}
 use Rattle.vm_blocks.specs.Tied.{AreMapped}
 
 module _ {X : Type 0} where
-  pub with-entry : (es : List X) (h : ℕ) (x : X) → 1 ≤ h → set es (h - 1) x ≡ with_entry_at es h x
-  with-entry es zero x some = absurd (omega (arith, some))
-  with-entry es (suc h) x some = let e : suc h - 1 ≡ h = omega arith in ap (λ i. set es i x) e
-
   pub length-with : (es : List X) (h : ℕ) (x : X) → length (with_entry_at es h x) ≡ length es
   length-with es zero x = refl
   length-with es (suc h) x = length-set es h x
