@@ -1,5 +1,5 @@
 //! Commits of the blocks of a file.
-ghost use Rattle.std.specs.Prelude.{◌≡◌, ℕ, List, length, true, OnOk, OnErr};
+ghost use Rattle.std.specs.Prelude.{◌≡◌, ℕ, List, length, true};
 ghost use Rattle.geos_table.specs.VmCalls.{commit, vrevert, vsave, vupdate};
 ghost use Rattle.vm_file.specs.Committing.{MayCommit};
 ghost use Rattle.vm_file.specs.Directories.{is_directory};
@@ -161,11 +161,7 @@ impl<D: Device + Drop> VmBlocks<D> {
         requires tied { IsTied D.image D.honest self.old blocks.old }
         requires free { NoneLocked blocks.old }
         ensures tied { IsTied D.image D.honest self.new blocks.new }
-        ensures file { CommitsFile D.image D.honest D.failed D.may_leave D.may_have_left how (resident_of blocks.old) (directory_of self.old blocks.old)
-            self.old.file self.new.file result }
-        ensures lists { OnOk result (IsListOf self.new self.new.file.current) }
-        ensures store { OnOk result (StoreAfter how blocks.old blocks.new) }
-        ensures refused { OnErr result ((self.new ≡ record self.old { file = self.new.file }) × (blocks.new ≡ blocks.old)) }
+        ensures commits { CommitsBlocks D.image D.honest D.failed D.may_leave D.may_have_left how self.old self.new blocks.old blocks.new result }
         // Its row of the table of calls, in each memory that the model may have before it.
         ensures row { DoesRow D.image D.honest D.failed (commit (keeper_of how)) (of_commit result) self.old blocks.old self.new blocks.new }
     {

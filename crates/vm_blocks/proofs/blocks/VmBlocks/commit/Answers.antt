@@ -35,18 +35,21 @@ returns-in-Err-clause-tied g c =
     subst (λ (w : VmState g.row.D.Denot). IsTied d.image d.honest (record w { file = k }) s) (sym c.self.view_is)
     (tied-file d.image d.honest now s k (after_current c.in-Err.error now.file k r.refused) r.was r.pair c.requires.tied)
 
-pub returns-clause-file : goal.returns-clause-file
-returns-clause-file g c =
-    let d = g.D.Device in let now = c.args.self.now in let s = c.args.blocks.now in
+pub returns-clause-commits : goal.returns-clause-commits
+returns-clause-commits g c =
+    let now = c.args.self.now in let w = c.relist.new.self in
     let file : c.self.inside.file ≡ now.file = ap (λ (w : VmState g.row.D.Denot). w.file) c.self.view_is in
-    recommits c.listed-cur.result (directory_of now s) c.self.inside.file now.file c.keep.new.file c.relist.new.self.file c.listed-cur.ensures file (sym c.relist.ensures.file) c.in-Ok.ensures.commits
+    record {
+      file = recommits c.listed-cur.result (directory_of now c.args.blocks.now) c.self.inside.file now.file c.keep.new.file w.file c.listed-cur.ensures file (sym c.relist.ensures.file) c.in-Ok.ensures.commits;
+      lists = subst (λ (f : FileState g.row.D.Denot). IsListOf w f.current) (sym c.relist.ensures.file) c.relist.ensures.lists;
+      store = c.leave.ensures;
+      refused = tt;
+    }
 
 pub returns-clause-tied : goal.returns-clause-tied
 returns-clause-tied g c =
-    let d = g.D.Device in let now = c.args.self.now in let s = c.args.blocks.now in let w = c.relist.new.self in
-    let r = returns-clause-file g c in
-    let lists : IsListOf w w.file.current = subst (λ (f : FileState g.row.D.Denot). IsListOf w f.current) (sym c.relist.ensures.file) c.relist.ensures.lists in
-    committed-tied d.image d.honest c.args.how now w s c.leave.new.blocks c.requires.tied c.relist.ensures.long c.relist.ensures.legal lists (ap (λ (f : FileState g.row.D.Denot). f.current) r.done) r.was r.pair c.leave.ensures
+    let d = g.D.Device in let r = returns-clause-commits g c in
+    committed-tied d.image d.honest c.args.how c.args.self.now c.relist.new.self c.args.blocks.now c.leave.new.blocks c.requires.tied c.relist.ensures.long c.relist.ensures.legal r.lists (ap (λ (f : FileState g.row.D.Denot). f.current) r.file.done) r.file.was r.file.pair r.store
 
 pub returns-in-Err-clause-row : goal.returns-in-Err-clause-row
 returns-in-Err-clause-row g c =
@@ -67,11 +70,10 @@ pub returns-clause-row : goal.returns-clause-row
 returns-clause-row g c =
     let d = g.D.Device in let now = c.args.self.now in let s = c.args.blocks.now in let w = c.relist.new.self in let t = c.leave.new.blocks in let how = c.args.how in
     let file : c.self.inside.file ≡ now.file = ap (λ (w : VmState g.row.D.Denot). w.file) c.self.view_is in
-    let r = returns-clause-file g c in
+    let r = returns-clause-commits g c in
     let cur_legal = listed-legal now s d.image d.honest c.requires.tied in
     let may : MayCommit (resident_of s) now.file.current (directory_of now s) = may-commit d.image d.honest now s c.requires.tied cur_legal in
     let lists : Lists d.image now.file = subst (Lists d.image) file c.keep.ensures.lists in
     let old_legal : is_directory now.file.saved ≡ true = subst (λ (f : FileState g.row.D.Denot). is_directory f.saved ≡ true) file c.keep.ensures.legal in
-    let listed : IsListOf w w.file.current = subst (λ (f : FileState g.row.D.Denot). IsListOf w f.current) (sym c.relist.ensures.file) c.relist.ensures.lists in
     commit-does d.image d.honest d.failed d.may_leave d.may_have_left now w s t how c.requires.tied (returns-clause-tied g c) c.requires.free cur_legal old_legal
-    (λ good. whole-pair d.image now.file lists (resident_of s) (directory_of now s) may how) (Ok tt) r listed c.leave.ensures tt
+    (λ good. whole-pair d.image now.file lists (resident_of s) (directory_of now s) may how) (Ok tt) r.file r.lists r.store tt
