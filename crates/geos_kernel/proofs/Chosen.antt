@@ -1,9 +1,9 @@
 -- What may come from outside over some calls, and over others beside them.
-use Rattle.std.proofs.Common.{◌≡◌, ℕ, ◌∙◌, arith, inl, inr}
+use Rattle.std.proofs.Common.{◌≡◌, ℕ, arith, inl, inr}
 use Rattle.std.specs.Prelude.{◌⊎◌}
 use Rattle.geos_table.specs.Effects.{Choice}
-use Rattle.geos_kernel.specs.Kernel.{HasRisen, IsChosen, LeavesVm, NeverFell}
-use Rattle.geos_kernel.specs.View.{KernelOn, KernelState, failed_in}
+use Rattle.geos_kernel.specs.Kernel.{HasRisen, IsChosen, NeverFell}
+use Rattle.geos_kernel.specs.View.{KernelState, failed_in}
 
 -- Counts of failures, which stay or rise
 
@@ -37,7 +37,3 @@ module _ (honest : Type 0) (old mid new : KernelState) where
   -- the count of failures stays or rises over both of two stretches
   pub lasts-on : NeverFell honest old mid → NeverFell honest mid new → NeverFell honest old new
   lasts-on first later g = stays-or-rises (failed_in old) (failed_in mid) (failed_in new) (first g) (later g)
-
--- two stretches that ask the device nothing do not ask it together
-pub leaves-on : {D : Type 0} (old mid new : KernelOn D) → LeavesVm old mid → LeavesVm mid new → LeavesVm old new
-leaves-on old mid new first later = record { device = later.device ∙ first.device; vm = later.vm ∙ first.vm }

@@ -1,6 +1,6 @@
 -- The call that makes a block.
 use Rattle.std.proofs.Common.{◌≡◌, ◌≢◌, ℕ, ◌<◌, List, Option, Some, None, true, refl, sym, ap, arith, subst}
-use Rattle.std.specs.Prelude.{Result, Ok, Err}
+use Rattle.std.specs.Prelude.{Ok, Err}
 use Rattle.geos_model.specs.declared.name.Owner.TheVariants.{Mem}
 use Rattle.geos_model.specs.declared.refusal.Refusal.TheVariants.{NoHandle, NoRoom}
 use Rattle.geos_model.specs.Names.{mem}
@@ -34,9 +34,6 @@ use Rattle.geos_kernel.proofs.Lowest.{lowest-some, lowest-none}
 use Rattle.geos_kernel.proofs.Rowed.{does-cramped, does-willing, row-calls}
 use Rattle.geos_kernel.proofs.Rows.{mnew-ok, mnew-full, mnew-tight}
 use Rattle.geos_kernel.proofs.Stays.{kernel-set, kernel-thins, stands-same, thins-stands}
-
-pub no_err : {A E : Type 0} {x : A} {e : E} → ◌≡◌ {A = Result A E} (Ok x) (Err e) → ⊥
-no_err same = absurd cc
 
 module _ {D : Type 0} (image : D → List ℕ) (honest : D → Type 0) (failed : D → ℕ) (v : VmState D) (s : Store) (k : IsKernel image honest v s) where
   abbrev sees : Store → KernelState
@@ -130,7 +127,3 @@ module _ {D : Type 0} (image : D → List ℕ) (honest : D → Type 0) (failed :
         let after = made-memory (memory_of (sees s) f.0) before in
         let mid = kernel-thins image honest v s makes.mid 0 k makes.thins thin (f.0, now.file) in
         kernel-set image honest v makes.mid t mid made-tied (f.0, after.file) makes.made.len (mem h) own low.handle makes.made.blocks makes.made.heap makes.made.handle (omega arith)
-
-    -- the block is locked once
-    pub made-locked : store.locks_of t slot ≡ 1
-    made-locked = ap store.locks_in at-own

@@ -1,20 +1,18 @@
 -- What holds of a kernel on its device holds of what its calls see; and a call that does its row
 -- answers as its row says.
-use Rattle.std.proofs.Common.{◌≡◌, ℕ, List, Option, Some, None, refl, ap, ◌∙◌, arith, subst, inl, inr}
+use Rattle.std.proofs.Common.{◌≡◌, ℕ, List, None, refl, ap, ◌∙◌, arith, subst, inl, inr}
 use Rattle.std.specs.Prelude.{Result}
 use Rattle.geos_model.specs.declared.refusal.Refusal.{Refusal}
 use Rattle.geos_table.specs.Effects.{Call}
 use Rattle.geos_table.specs.Handles.{at_handle}
 use Rattle.geos_table.specs.Memory.{Memory}
 use Rattle.geos_table.specs.VmFile.{VmFile, Kept, Sure, Unsure}
-use Rattle.block_handles.specs.Store.{Block, Store, block_at}
+use Rattle.block_handles.specs.Store.{Store, block_at}
 use Rattle.vm_file.specs.Device.{Rose}
 use Rattle.vm_file.specs.State.{pair_of}
-use Rattle.vm_blocks.specs.declared.entries.Held.{Held}
 use Rattle.vm_blocks.specs.DoesRow.{DoesRow}
 use Rattle.vm_blocks.specs.FileOf as vm
 use Rattle.vm_blocks.specs.FileOf.{IsKeptOf, IsMemoryOf}
-use Rattle.vm_blocks.specs.Tied.{IsTied, TiedAt}
 use Rattle.vm_blocks.specs.View.{VmState, bytes_read, held_at, vm_slot}
 use Rattle.vm_blocks.proofs.Matching.{directory-on, listed-on, pair-on}
 use Rattle.geos_kernel.specs.View.{KernelOn, KernelState, core_of, image_seen, kernel_of, memory_of, IsFileOf}
@@ -60,26 +58,6 @@ module _ {D : Type 0} (image : D → List ℕ) (honest : D → Type 0) (failed :
   -- the model's memory, where the model knows such a file
   pub memory-known : (f : VmFile) → IsFileOf good core f → IsMemoryOf image honest v s (memory_of core f)
   memory-known f is = record { blocks = refl; file = file-known f is; region = refl }
-
-  tied-at : (h : ℕ) (e : Option Held) (b : Option Block) → TiedAt image honest v.file h e b → TiedAt image_seen (λ d. good) core.vm.file h e b
-  tied-at h None None t = t
-  tied-at h None (Some b) t = t
-  tied-at h (Some e) None t = record { size = t.size; clean = t.clean; kept = t.kept }
-  tied-at h (Some e) (Some b) t = record {
-    size = t.size;
-    heap = t.heap;
-    handle = t.handle;
-    kept = t.kept;
-    clean = λ m. (let c = t.clean m in record { long = c.long; same = c.same });
-  }
-
-  pub tied-seen : IsTied image honest v s → IsTied image_seen (λ d. good) core.vm s
-  tied-seen tied = record {
-    laid = tied.laid;
-    long = tied.long;
-    each = λ h p. tied-at h (held_at v h) (block_at s (vm_slot h)) (tied.each h p);
-    maps = record { block = tied.maps.block; group = tied.maps.group; no_item = tied.maps.no_item };
-  }
 
 -- Where no more is said to be honest than was
 
