@@ -14,6 +14,7 @@ pub mod StopLaws
 pub mod Listing
 pub mod BlockLaws
 pub mod DirectoryLaws
+pub mod PlaceLaws
 pub mod OneSpelling
 pub mod NewFiles
 pub mod Filling

@@ -11,5 +11,6 @@ pub mod Laws
 pub mod Outcomes
 pub mod Opening
 pub mod State
+pub mod Places
 pub mod Kept
 pub mod Committing

@@ -1,11 +1,13 @@
 //! What a commit is given, and what it keeps.
-ghost use Rattle.std.specs.Prelude.{◌≡◌, ◌<◌, ◌^◌, ◌↔◌, ℕ, List, Option, All, IsTrue};
+ghost use Rattle.std.specs.Prelude.{◌≡◌, ◌<◌, ◌^◌, ◌↔◌, ℕ, List, Option, All, IsTrue, true};
 ghost use Rattle.vm_file.specs.Committing.{IsThere, Shows, current_after, length_after, saved_after};
+ghost use Rattle.vm_file.specs.Directories.{is_directory};
 ghost use Rattle.vm_file.specs.Reading.{is_second};
 ghost use Rattle.vm_file.specs.Spelling.{selector_of};
 
 use crate::directory::{Directory, Entry};
 use crate::entries::directory_length;
+use crate::places::PlacedDirectory;
 use crate::reader::is_heap_of;
 
 /// Which pair of directories a commit keeps.
@@ -54,7 +56,9 @@ pub(crate) fn length_after(how: How, cur: &Directory, saved: &Directory) -> u32
 }
 
 /// Turns a current and a saved directory into those that a commit keeps.
-pub(crate) fn keep(current: &mut Directory, saved: &mut Directory, how: How, cur: &Directory)
+pub(crate) fn keep(current: &mut PlacedDirectory, saved: &mut Directory, how: How, cur: &Directory)
+    requires given { is_directory cur.now ≡ true }
+    requires kept { is_directory saved.old ≡ true }
     ensures current { current.new ≡ current_after how cur.now saved.old }
     ensures saved { saved.new ≡ saved_after how cur.now saved.old }
 {

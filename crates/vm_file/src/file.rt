@@ -12,6 +12,7 @@ use crate::directory::Directory;
 use crate::entries::{directory_length, place_in};
 use crate::error::{CommitError, CreateError, OpenError};
 use crate::opened::{Opened, base_of, read_file};
+use crate::places::PlacedDirectory;
 use crate::reader::read_block;
 use crate::spell::{Placed, put_again, spell_directory};
 use std::alloc::Global;
@@ -25,7 +26,7 @@ pub struct VmFile<D: Device + Drop> {
     area: u32,
     second: bool,
     sure: bool,
-    current: Directory,
+    current: PlacedDirectory,
     saved: Directory,
 }
 
@@ -86,7 +87,7 @@ impl<D: Device + Drop> VmFile<D> {
                 area,
                 second: false,
                 sure: true,
-                current: Directory::new(),
+                current: PlacedDirectory::new(),
                 saved: Directory::new(),
             }),
             Err(Disk) => Err((device, CreateError::Disk)),
@@ -126,7 +127,7 @@ impl<D: Device + Drop> VmFile<D> {
                 area,
                 second,
                 sure: true,
-                current,
+                current: PlacedDirectory::of(current),
                 saved,
             }),
             Err(error) => Err((device, error)),
@@ -158,7 +159,7 @@ impl<D: Device + Drop> VmFile<D> {
         ensures lists { listed (pair_of D.image self.now).cur ≡ result.now }
         ensures legal { is_directory result.now ≡ true }
     {
-        &self.current
+        self.current.directory()
     }
 
     /// The saved directory of the pair that it keeps.
@@ -190,7 +191,7 @@ impl<D: Device + Drop> VmFile<D> {
         ensures stop { D.honest self.old.device → (c : List ℕ) → D.may_leave self.new.device c → Finds D.image self.old c }
     {
         let base = base_of(self.area, self.second);
-        let at = base + 2 + u64::from(place_in(&self.current.entries, h));
+        let at = base + 2 + u64::from(self.current.place(h));
         read_block(&mut self.device, at, h, into)
     }
 
@@ -213,7 +214,7 @@ impl<D: Device + Drop> VmFile<D> {
         ensures stop { D.honest self.old.device → (c : List ℕ) → D.may_leave self.new.device c → Finds D.image self.old c }
     {
         let base = base_of(self.area, self.second);
-        let first = u64::from(directory_length(&self.current));
+        let first = u64::from(directory_length(self.current.directory()));
         let at = base + first + 2 + u64::from(place_in(&self.saved.entries, h));
         read_block(&mut self.device, at, h, into)
     }
@@ -224,7 +225,7 @@ impl<D: Device + Drop> VmFile<D> {
     pub fn may_commit<S: Source>(&self, cur: &Directory, source: &S) -> bool
         ensures { IsTrue result ↔ MayCommit (S.resident_bytes source.now) self.now.current cur.now }
     {
-        cur.is_legal() && are_there(source, &self.current, &cur.entries)
+        cur.is_legal() && are_there(source, self.current.directory(), &cur.entries)
     }
 
     /// Keeps one of the pairs that `How` names. `source` has blocks that are in memory: a block
@@ -336,7 +337,7 @@ impl<D: Device + Drop> VmFile<D> {
     {
         let from = base_of(self.area, self.second) + 2;
         let kept = Placed {
-            directory: &self.current,
+            directory: self.current.directory(),
             from,
         };
         spell_directory(&mut self.device, &kept, cur, source, into)
@@ -357,7 +358,7 @@ impl<D: Device + Drop> VmFile<D> {
         ensures no_block { self.old.saved.entries.items ≡ [] → OnErr result ⊥ }
         ensures reads { ReadsOnly D.image D.honest D.may_leave D.may_have_left self.old.device self.new.device }
     {
-        let first = u64::from(directory_length(&self.current));
+        let first = u64::from(directory_length(self.current.directory()));
         let from = base_of(self.area, self.second) + first + 2;
         let kept = Placed {
             directory: &self.saved,

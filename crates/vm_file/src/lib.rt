@@ -19,6 +19,7 @@ mod file;
 mod law;
 mod memory;
 mod opened;
+mod places;
 mod reader;
 mod spell;
 

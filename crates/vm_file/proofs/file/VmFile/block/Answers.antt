@@ -4,21 +4,28 @@ use Rattle.std.proofs.lemmas.Result.{on_ok_weaker}
 use Rattle.geos_model.specs.Block.{handle_word}
 use Rattle.geos_model.specs.Heap.{IsHeap}
 use Rattle.vm_file.specs.Device.{Rose}
-use Rattle.vm_file.specs.State.{FileState, HasBlock, bytes_of_block, pair_of, place_in}
+use Rattle.vm_file.specs.State.{FileState, HasBlock, bytes_of_block, pair_of}
 use Rattle.vm_file.proofs.BlockLaws.{current_there, current_heap}
 use Rattle.vm_file.proofs.Kept.{finds_during, finds_after, finds_at_stop}
+use Rattle.vm_file.proofs.PlaceLaws.{has_handle}
 use Rattle.vm_file.proofs.StateLaws.{read_sound}
 use Rattle.vm_file.proofs.file.VmFile.block.Goals as goal
 
 pub invariant_of-self : goal.invariant_of-self
 invariant_of-self g c = (let d = g.D.Device in read_sound d.image d.honest d.may_leave d.may_have_left _ c.read_block.new.device c.self.invariant c.read_block.ensures.reads)
 
+pub place-requires : goal.place-requires
+place-requires g c =
+    let n = length c.args.into.now in
+    let H : FileState g.row.D.Denot → Type 0 = λ f. HasBlock f.current c.args.h n in
+    has_handle c.self.inside.current c.args.h n c.self.invariant.current (subst H (sym c.self.view_is) c.requires)
+
 pub returns-clause-bytes : goal.returns-clause-bytes
 returns-clause-bytes g c =
     let d = g.D.Device in let n = length c.args.into.now in
     let H : FileState g.row.D.Denot → Type 0 = λ f. HasBlock f.current c.args.h n in
     let G : FileState g.row.D.Denot → Type 0 = λ f. d.honest f.device → OnOk c.read_block.result (c.read_block.new.into ≡ bytes_of_block (pair_of d.image f).cur.blocks c.args.h) in
-    let there = current_there d.image d.honest d.may_leave _ c.self.invariant c.args.h n _ (subst H (sym c.self.view_is) c.requires) (omega (arith, c.base_of-base.ensures.exact, c.from.ensures, c.place_in.ensures.exact, ap (λ es. place_in es c.args.h) c.deref.ensures.0)) in
+    let there = current_there d.image d.honest d.may_leave _ c.self.invariant c.args.h n _ (subst H (sym c.self.view_is) c.requires) (omega (arith, c.base_of-base.ensures.exact, c.from.ensures, c.place.ensures)) in
     subst G c.self.view_is (λ h. on_ok_weaker c.read_block.result (λ e. e ∙ there) (c.read_block.ensures.bytes h))
 
 pub returns-clause-cause : goal.returns-clause-cause
@@ -27,7 +34,7 @@ returns-clause-cause g c =
     let H : FileState g.row.D.Denot → Type 0 = λ f. HasBlock f.current c.args.h n in
     let G : FileState g.row.D.Denot → Type 0 = λ f. d.honest f.device → OnErr c.read_block.result (Rose (d.failed f.device) (d.failed c.read_block.new.device)) in
     let has = subst H (sym c.self.view_is) c.requires in
-    let there = current_there d.image d.honest d.may_leave _ c.self.invariant c.args.h n _ has (omega (arith, c.base_of-base.ensures.exact, c.from.ensures, c.place_in.ensures.exact, ap (λ es. place_in es c.args.h) c.deref.ensures.0)) in
+    let there = current_there d.image d.honest d.may_leave _ c.self.invariant c.args.h n _ has (omega (arith, c.base_of-base.ensures.exact, c.from.ensures, c.place.ensures)) in
     let P : List ℕ → Type 0 = λ x. IsHeap x in
     subst G c.self.view_is (λ h. let heap = current_heap d.image d.honest d.may_leave _ c.self.invariant c.args.h n h has in c.read_block.ensures.cause h (subst P (sym there) heap.0) (ap handle_word there ∙ heap.1))
 

@@ -1,4 +1,4 @@
-use Rattle.std.proofs.Common.{◌≡◌, subst}
+use Rattle.std.proofs.Common.{◌≡◌, ◌∙◌, subst, sym}
 use Rattle.vm_file.specs.Contents.{listed}
 use Rattle.vm_file.specs.State.{FileState, pair_of}
 use Rattle.vm_file.proofs.Listing.{pair_listed}
@@ -8,4 +8,4 @@ pub returns-clause-lists : goal.returns-clause-lists
 returns-clause-lists g c =
     let d = g.D.Device in
     let G : FileState g.row.D.Denot → Type 0 = λ f. listed (pair_of d.image f).cur ≡ c.self.inside.current in
-    subst G c.self.view_is (pair_listed d.image d.honest d.may_leave _ c.self.invariant).0
+    subst G c.self.view_is (pair_listed d.image d.honest d.may_leave _ c.self.invariant).0 ∙ sym c.directory.ensures

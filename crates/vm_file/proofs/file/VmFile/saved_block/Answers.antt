@@ -4,6 +4,7 @@ use Rattle.std.proofs.lemmas.Result.{on_ok_weaker}
 use Rattle.geos_model.specs.Block.{handle_word}
 use Rattle.geos_model.specs.Heap.{IsHeap}
 use Rattle.vm_file.specs.Device.{Rose}
+use Rattle.vm_file.specs.Directories.{directory_length}
 use Rattle.vm_file.specs.State.{FileState, HasBlock, bytes_of_block, pair_of, place_in}
 use Rattle.vm_file.proofs.BlockLaws.{saved_there, saved_heap}
 use Rattle.vm_file.proofs.Kept.{finds_during, finds_after, finds_at_stop}
@@ -18,7 +19,7 @@ returns-clause-bytes g c =
     let d = g.D.Device in let n = length c.args.into.now in
     let H : FileState g.row.D.Denot → Type 0 = λ f. HasBlock f.saved c.args.h n in
     let G : FileState g.row.D.Denot → Type 0 = λ f. d.honest f.device → OnOk c.read_block.result (c.read_block.new.into ≡ bytes_of_block (pair_of d.image f).saved.blocks c.args.h) in
-    let there = saved_there d.image d.honest d.may_leave _ c.self.invariant c.args.h n _ (subst H (sym c.self.view_is) c.requires) (omega (arith, c.base_of-base.ensures.exact, c.from.ensures, c.place_in.ensures.exact, ap (λ es. place_in es c.args.h) c.deref.ensures.0, c.from-first.ensures, c.directory_length.ensures.exact)) in
+    let there = saved_there d.image d.honest d.may_leave _ c.self.invariant c.args.h n _ (subst H (sym c.self.view_is) c.requires) (omega (arith, c.base_of-base.ensures.exact, c.from.ensures, c.place_in.ensures.exact, ap (λ es. place_in es c.args.h) c.deref.ensures.0, c.from-first.ensures, c.directory_length.ensures.exact, ap directory_length c.directory.ensures)) in
     subst G c.self.view_is (λ h. on_ok_weaker c.read_block.result (λ e. e ∙ there) (c.read_block.ensures.bytes h))
 
 pub returns-clause-cause : goal.returns-clause-cause
@@ -27,7 +28,7 @@ returns-clause-cause g c =
     let H : FileState g.row.D.Denot → Type 0 = λ f. HasBlock f.saved c.args.h n in
     let G : FileState g.row.D.Denot → Type 0 = λ f. d.honest f.device → OnErr c.read_block.result (Rose (d.failed f.device) (d.failed c.read_block.new.device)) in
     let has = subst H (sym c.self.view_is) c.requires in
-    let there = saved_there d.image d.honest d.may_leave _ c.self.invariant c.args.h n _ has (omega (arith, c.base_of-base.ensures.exact, c.from.ensures, c.place_in.ensures.exact, ap (λ es. place_in es c.args.h) c.deref.ensures.0, c.from-first.ensures, c.directory_length.ensures.exact)) in
+    let there = saved_there d.image d.honest d.may_leave _ c.self.invariant c.args.h n _ has (omega (arith, c.base_of-base.ensures.exact, c.from.ensures, c.place_in.ensures.exact, ap (λ es. place_in es c.args.h) c.deref.ensures.0, c.from-first.ensures, c.directory_length.ensures.exact, ap directory_length c.directory.ensures)) in
     let P : List ℕ → Type 0 = λ x. IsHeap x in
     subst G c.self.view_is (λ h. let heap = saved_heap d.image d.honest d.may_leave _ c.self.invariant c.args.h n h has in c.read_block.ensures.cause h (subst P (sym there) heap.0) (ap handle_word there ∙ heap.1))
 

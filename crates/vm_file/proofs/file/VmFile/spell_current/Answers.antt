@@ -1,8 +1,9 @@
-use Rattle.std.proofs.Common.{◌≡◌, ◌+◌, ◌++◌, true, ap, sym, subst}
+use Rattle.std.proofs.Common.{◌≡◌, ◌∙◌, ◌+◌, ◌++◌, true, ap, sym, subst}
 use Rattle.std.specs.Prelude.{OnOk, OnErr}
 use Rattle.std.specs.List.{list_all}
 use Rattle.std.specs.Vec.{vec_items}
-use Rattle.vm_file.specs.Committing.{IsContentsOf, MayCommit, contents_from}
+use Rattle.vm_file.specs.declared.directory.Directory.{Directory}
+use Rattle.vm_file.specs.Committing.{IsContentsOf, MayCommit, contents_from, contents_read}
 use Rattle.vm_file.specs.Contents.{Contents, contents_spelling, is_filled}
 use Rattle.vm_file.specs.Device.{Rose}
 use Rattle.vm_file.specs.State.{FileState, pair_of}
@@ -19,7 +20,9 @@ returns-clause-items g c =
     let M : FileState g.row.D.Denot → Type 0 = λ f. MayCommit resident f.current cur in
     let P : Contents → Type 0 = λ x. OnOk c.spell_directory.result (vec_items c.spell_directory.new.into ≡ vec_items c.args.into.now ++ contents_spelling x) in
     let G : FileState g.row.D.Denot → Type 0 = λ f. d.honest f.device → P (contents_from resident (pair_of d.image f).cur.blocks cur) in
-    let same = current_contents d.image d.honest d.may_leave _ c.self.invariant resident cur (subst M (sym c.self.view_is) c.requires.may) (c.base_of-from.result + 2) (ap (λ k. k + 2) c.base_of-from.ensures.exact) in
+    let at = c.base_of-from.result + 2 in
+    let same = ap (λ (kept : Directory). contents_read resident (d.image c.self.inside.device) at kept.entries.items cur) c.directory.ensures
+    ∙ current_contents d.image d.honest d.may_leave _ c.self.invariant resident cur (subst M (sym c.self.view_is) c.requires.may) at (ap (λ k. k + 2) c.base_of-from.ensures.exact) in
     subst G c.self.view_is (λ h. subst P same (c.spell_directory.ensures.items h))
 
 pub returns-clause-cause : goal.returns-clause-cause
@@ -29,7 +32,9 @@ returns-clause-cause g c =
     let F : Contents → Type 0 = λ x. list_all is_filled x.blocks ≡ true in
     let G : FileState g.row.D.Denot → Type 0 = λ f. d.honest f.device → OnErr c.spell_directory.result (Rose (d.failed f.device) (d.failed c.spell_directory.new.device)) in
     let may = subst M (sym c.self.view_is) c.requires.may in
-    let same = current_contents d.image d.honest d.may_leave _ c.self.invariant resident cur may (c.base_of-from.result + 2) (ap (λ k. k + 2) c.base_of-from.ensures.exact) in
+    let at = c.base_of-from.result + 2 in
+    let same = ap (λ (kept : Directory). contents_read resident (d.image c.self.inside.device) at kept.entries.items cur) c.directory.ensures
+    ∙ current_contents d.image d.honest d.may_leave _ c.self.invariant resident cur may at (ap (λ k. k + 2) c.base_of-from.ensures.exact) in
     subst G c.self.view_is (λ h. c.spell_directory.ensures.cause h (subst F (sym same) (from_filled d.image d.honest d.may_leave _ c.self.invariant resident cur may h)))
 
 pub returns-clause-legal : goal.returns-clause-legal

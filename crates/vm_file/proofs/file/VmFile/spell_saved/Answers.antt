@@ -1,11 +1,11 @@
-use Rattle.std.proofs.Common.{◌≡◌, ◌+◌, ◌++◌, true, sym, subst, arith}
+use Rattle.std.proofs.Common.{◌≡◌, ◌+◌, ◌++◌, true, ap, sym, subst, arith}
 use Rattle.std.specs.Prelude.{OnOk, OnErr}
 use Rattle.std.specs.List.{list_all}
 use Rattle.std.specs.Vec.{vec_items}
 use Rattle.vm_file.specs.Committing.{IsContentsOf}
 use Rattle.vm_file.specs.Contents.{Contents, contents_spelling, is_filled, listed}
 use Rattle.vm_file.specs.Device.{Rose}
-use Rattle.vm_file.specs.Directories.{is_directory}
+use Rattle.vm_file.specs.Directories.{directory_length, is_directory}
 use Rattle.vm_file.specs.Reading.{area_of, base_of}
 use Rattle.vm_file.specs.State.{FileState, pair_of}
 use Rattle.vm_file.proofs.HeapTests.{both}
@@ -23,7 +23,7 @@ returns-clause-items g c =
     let d = g.D.Device in
     let P : Contents → Type 0 = λ x. OnOk c.spell_directory.result (vec_items c.spell_directory.new.into ≡ vec_items c.args.into.now ++ contents_spelling x) in
     let G : FileState g.row.D.Denot → Type 0 = λ f. d.honest f.device → P (pair_of d.image f).saved in
-    let same = saved_contents d.image d.honest d.may_leave _ c.self.invariant (c.base_of.result + c.from-first.result + 2) (omega (arith, c.base_of.ensures.exact, c.from-first.ensures, c.directory_length.ensures.exact)) in
+    let same = saved_contents d.image d.honest d.may_leave _ c.self.invariant (c.base_of.result + c.from-first.result + 2) (omega (arith, c.base_of.ensures.exact, c.from-first.ensures, c.directory_length.ensures.exact, ap directory_length c.directory.ensures)) in
     subst G c.self.view_is (λ h. subst P same (c.spell_directory.ensures.items h))
 
 pub returns-clause-cause : goal.returns-clause-cause
@@ -31,7 +31,7 @@ returns-clause-cause g c =
     let d = g.D.Device in
     let F : Contents → Type 0 = λ x. list_all is_filled x.blocks ≡ true in
     let G : FileState g.row.D.Denot → Type 0 = λ f. d.honest f.device → OnErr c.spell_directory.result (Rose (d.failed f.device) (d.failed c.spell_directory.new.device)) in
-    let same = saved_contents d.image d.honest d.may_leave _ c.self.invariant (c.base_of.result + c.from-first.result + 2) (omega (arith, c.base_of.ensures.exact, c.from-first.ensures, c.directory_length.ensures.exact)) in
+    let same = saved_contents d.image d.honest d.may_leave _ c.self.invariant (c.base_of.result + c.from-first.result + 2) (omega (arith, c.base_of.ensures.exact, c.from-first.ensures, c.directory_length.ensures.exact, ap directory_length c.directory.ensures)) in
     let i = c.self.inside in
     let f : FileState g.row.D.Denot = record { device = i.device; area = i.area; second = i.second; sure = i.sure; current = i.current; saved = i.saved } in
     let p = pair_of d.image f in
