@@ -20,10 +20,7 @@ use vm_file::{Device, GROUP_UID};
 pub fn is_group<D: Device + Drop>(vm: &VmBlocks<D>, g: u16) -> bool
     ensures { IsTrue result ↔ IsGroup vm.now g }
 {
-    match vm.uid(g) {
-        Some(uid) => uid == GROUP_UID,
-        None => false,
-    }
+    vm.has_group(g)
 }
 
 /// Why a group was not made, as the kernel says it.

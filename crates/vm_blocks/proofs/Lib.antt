@@ -38,3 +38,4 @@ pub mod Words
 pub mod Found
 pub mod Begun
 pub mod Walk
+pub mod GroupMarks

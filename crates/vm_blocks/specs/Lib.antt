@@ -4,6 +4,7 @@ pub mod Room
 pub mod Bring
 pub mod Blocks
 pub mod Listed
+pub mod Groups
 pub mod Spelled
 pub mod Matches
 pub mod FileOf

@@ -1,10 +1,11 @@
 //! VM blocks: what a value is, and what it tells.
-ghost use Rattle.std.specs.Prelude.{ℕ, List, ◌≡◌, ◌≢◌, IsTrue, ◌↔◌, IfOk, IfErr, IfSome, IfNone, OnOk, true, is_some, option_map, length};
+ghost use Rattle.std.specs.Prelude.{ℕ, List, ◌≡◌, ◌≢◌, IsTrue, ◌↔◌, IfOk, IfErr, IfSome, IfNone, IsSomeAnd, OnOk, true, is_some, option_map, length};
 ghost use Rattle.block_handles.specs.Layout.{IsLaidOut};
 ghost use Rattle.block_handles.specs.Names.{IsHandle};
 ghost use Rattle.block_handles.specs.Store.{Store};
 ghost use Rattle.geos_table.specs.Memory.{Memory, is_marked};
 ghost use Rattle.geos_table.specs.VmCalls.{vuid};
+ghost use Rattle.vm_file.specs.Directories.{group_uid};
 ghost use Rattle.vm_file.specs.State.{Finds};
 ghost use Rattle.vm_blocks.specs.Blocks.{uid_of, is_marked_in};
 ghost use Rattle.vm_blocks.specs.DoesRow.{DoesRow};
@@ -16,7 +17,7 @@ ghost use Rattle.vm_blocks.specs.Refused.{of_uid};
 ghost use Rattle.vm_blocks.specs.Tied.{IsTied, NoneResident};
 ghost use Rattle.vm_blocks.specs.View.{held_at, with_held};
 
-use crate::entries::{Held, are_words, empty_table, list};
+use crate::entries::{Held, Table, are_words, list};
 use geos_model::Name;
 use std::alloc::{AllocError, Global};
 use std::marker::Model;
@@ -27,7 +28,7 @@ use vm_file::{Device, VmFile};
 #[derive(Drop)]
 pub struct VmBlocks<D: Device + Drop> {
     pub(crate) file: VmFile<D>,
-    pub(crate) entries: Vec<Option<Held>>,
+    pub(crate) entries: Table,
     pub(crate) map_block: u16,
     pub(crate) map_item: (u16, u16),
 }
@@ -38,9 +39,9 @@ impl<D: Device + Drop> Model for VmBlocks<D> {
 
     ghost Value = { VmState D };
 
-    ghost view = { λ v. record { file = v.file; entries = v.entries.items; map_block = v.map_block; map_item = v.map_item } };
+    ghost view = { λ v. record { file = v.file; entries = v.entries; map_block = v.map_block; map_item = v.map_item } };
 
-    ghost invariant = { λ v. length v.entries.items ≡ 1024 };
+    ghost invariant = { λ v. length v.entries ≡ 1024 };
 }
 
 impl<D: Device + Drop> VmBlocks<D> {
@@ -53,7 +54,7 @@ impl<D: Device + Drop> VmBlocks<D> {
         ensures memory { IfOk result (λ v. (s : Store) → NoneResident s → IsMemoryOf D.image D.honest v s (opened_memory D.image file s)) }
         ensures back { IfErr result (λ e. e.0 ≡ file) }
     {
-        match empty_table(alloc) {
+        match Table::new(alloc) {
             Ok(mut entries) => {
                 file.device_gives_bytes();
                 are_words(file.saved());
@@ -107,7 +108,18 @@ impl<D: Device + Drop> VmBlocks<D> {
         if h == 0 || h > Name::HANDLES {
             return None;
         }
-        entries[h as usize - 1]
+        entries.at(h as usize - 1)
+    }
+
+    /// Whether a group has this handle.
+    pub fn has_group(&self, h: u16) -> bool
+        ensures { IsTrue result ↔ IsSomeAnd (held_at self.now h) (λ held. held.uid ≡ group_uid) }
+    {
+        let entries = &self.entries;
+        if h == 0 || h > Name::HANDLES {
+            return false;
+        }
+        entries.has_group(h as usize - 1)
     }
 
     /// Whether a block has this handle.
@@ -145,6 +157,6 @@ impl<D: Device + Drop> VmBlocks<D> {
         requires { IsHandle h }
         ensures { self.new ≡ with_held self.old h held }
     {
-        self.entries[h as usize - 1] = held;
+        self.entries.put(h as usize - 1, held);
     }
 }

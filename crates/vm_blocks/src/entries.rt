@@ -1,13 +1,18 @@
 //! What is listed of the blocks of a file.
-ghost use Rattle.std.specs.Prelude.{◌≡◌, ◌<◌, ℕ, true, length, IfOk, None};
+ghost use Rattle.std.specs.Prelude.{◌≡◌, ◌<◌, ℕ, true, length, slice_index_or, slice_set, IfOk, None};
 ghost use Rattle.geos_table.specs.Handles.{at_handle};
 ghost use Rattle.block_handles.specs.Names.{IsHandle};
 ghost use Rattle.vm_file.specs.Directories.{is_directory};
+ghost use Rattle.vm_blocks.specs.Groups.{is_group};
 ghost use Rattle.vm_blocks.specs.Listed.{held_in};
 ghost use Rattle.vm_blocks.specs.Opened.{AreWords};
 
 use std::alloc::{AllocError, Global};
-use vm_file::Directory;
+use std::marker::Model;
+use vm_file::{Directory, GROUP_UID};
+
+/// How many handles there are.
+const HANDLES: usize = 1024;
 
 /// A block of the current directory.
 #[derive(Clone, Copy, Debug, PartialEq, Eq)]
@@ -20,32 +25,95 @@ pub struct Held {
     pub marked: bool,
 }
 
-/// A table in which nothing is listed.
-pub(crate) fn empty_table(alloc: Global) -> Result<Vec<Option<Held>>, AllocError>
-    ensures { IfOk result (λ table. length table.items ≡ 1024) }
+/// What is listed of each handle, that of handle 1 first.
+#[derive(Drop)]
+pub(crate) struct Table {
+    entries: Vec<Option<Held>>,
+    /// Which of them are groups, in the value itself: a lock asks this first.
+    groups: [bool; HANDLES],
+}
+
+impl Model for Table {
+    ghost use Rattle.std.specs.Prelude.{List, Option};
+    ghost use Rattle.vm_blocks.specs.declared.entries.Held.{Held};
+
+    ghost Value = { List (Option Held) };
+
+    ghost use Rattle.vm_blocks.specs.Groups.{AreGroups};
+
+    ghost view = { λ t. t.entries.items };
+
+    ghost invariant = { λ t. AreGroups t.entries.items t.groups };
+}
+
+/// Whether it is a group that is listed.
+fn is_group(held: Option<Held>) -> bool
+    ensures { result ≡ is_group held }
 {
-    Vec::from_elem(alloc, None, 1024)
+    match held {
+        Some(held) => held.uid == GROUP_UID,
+        None => false,
+    }
+}
+
+impl Table {
+    /// A table in which nothing is listed.
+    pub(crate) fn new(alloc: Global) -> Result<Table, AllocError>
+        ensures { IfOk result (λ table. length table ≡ 1024) }
+    {
+        let entries = Vec::from_elem(alloc, None, HANDLES)?;
+        Ok(Table {
+            entries,
+            groups: [false; HANDLES],
+        })
+    }
+
+    /// What is listed at an index.
+    pub(crate) fn at(&self, i: usize) -> Option<Held>
+        requires { i < 1024 }
+        ensures { result ≡ slice_index_or self.now i None }
+    {
+        self.entries[i]
+    }
+
+    /// Whether it is a group that is listed at an index.
+    pub(crate) fn has_group(&self, i: usize) -> bool
+        requires { i < 1024 }
+        ensures { result ≡ is_group (slice_index_or self.now i None) }
+    {
+        self.groups[i]
+    }
+
+    /// Lists this, or nothing, at an index.
+    pub(crate) fn put(&mut self, i: usize, held: Option<Held>)
+        requires { i < 1024 }
+        ensures { self.new ≡ slice_set self.old i held }
+    {
+        self.entries[i] = held;
+        self.groups[i] = is_group(held);
+    }
 }
 
 /// Lists the blocks of a directory by handles, none of them marked: one walk over its entries,
 /// whose handles ascend.
-pub(crate) fn list(table: &mut Vec<Option<Held>>, directory: &Directory)
-    requires long { length table.old.items ≡ 1024 }
+pub(crate) fn list(table: &mut Table, directory: &Directory)
+    requires long { length table.old ≡ 1024 }
     requires legal { is_directory directory.now ≡ true }
-    ensures long { length table.new.items ≡ 1024 }
-    ensures each { (h : ℕ) → IsHandle h → at_handle None table.new.items h ≡ held_in directory.now h }
+    ensures long { length table.new ≡ 1024 }
+    ensures each { (h : ℕ) → IsHandle h → at_handle None table.new h ≡ held_in directory.now h }
 {
     let entries = directory.entries.as_slice();
     let mut next = 0;
     for i in 0..1024 {
-        table[i] = None;
+        table.put(i, None);
         if next < entries.len() && entries[next].h as usize == i + 1 {
             let entry = entries[next];
-            table[i] = Some(Held {
+            let held = Held {
                 uid: entry.uid,
                 len: entry.len,
                 marked: false,
-            });
+            };
+            table.put(i, Some(held));
             next += 1;
         }
     }
