@@ -23,7 +23,7 @@ use Rattle.geos_cli.specs.declared.script.Command.{Command}
 use Rattle.geos_cli.specs.declared.script.Command.TheVariants as command
 use Rattle.geos_input.specs.Counted.{AppendsPart}
 use Rattle.geos_cli.specs.Script.{printed, committed, commands_of, Does, Prints, PrintsPart, Leads, RanCommand, StoppedCommand, RanCommands, StoppedCommands, Loads, RanScript, StoppedScript}
-use Rattle.geos_input.specs.Reading.{most_bytes}
+use Rattle.geos_text.specs.Words.{most_bytes}
 use Rattle.geos_cli.proofs.Prints.{prints-more, does-wider, prints-wider}
 
 -- One command

@@ -12,7 +12,8 @@ use Rattle.geos_kernel.specs.Kernel.{IsChosen}
 use Rattle.geos_image.specs.Parts.{Parts}
 use Rattle.geos_input.specs.Hex.{hex_fault, image_bytes, script_lines, IsBadHex}
 use Rattle.geos_cli.specs.Script.{commands_of, Runs, Stops, Loads, RunsScript, RanScript, StoppedScript}
-use Rattle.geos_input.specs.Reading.{most_bytes, Reads}
+use Rattle.geos_text.specs.Words.{most_bytes}
+use Rattle.geos_input.specs.Reading.{Reads}
 use Rattle.geos_cli.proofs.Prints.{prints-wider, part-wider}
 use Rattle.geos_input.specs.declared.fault.ScriptFault.{ScriptFault}
 use Rattle.geos_input.specs.declared.fault.ScriptFault.TheVariants.{TooLong, BadHex, BadImage, Rejected, BadScript, Read, Write, Memory}

@@ -8,7 +8,8 @@ use Rattle.geos_table.specs.Effects.{Choice}
 use Rattle.geos_input.specs.declared.fault.ScriptFault.{ScriptFault}
 use Rattle.geos_input.specs.declared.fault.ScriptFault.TheVariants.{TooLong, BadHex, Read, Memory}
 use Rattle.geos_input.specs.Hex.{hex_fault, image_bytes, script_lines}
-use Rattle.geos_input.specs.Reading.{most_bytes, Reads}
+use Rattle.geos_text.specs.Words.{most_bytes}
+use Rattle.geos_input.specs.Reading.{Reads}
 use Rattle.geos_cli.specs.Script.{Runs, Stops, EndsBy}
 
 -- what may come from outside in a session: room, memory or the device may be refused, but nothing is

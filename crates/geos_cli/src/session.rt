@@ -5,7 +5,8 @@ ghost use Rattle.std.specs.Io.KnownBytes.{Keeps};
 ghost use Rattle.geos_input.specs.declared.fault.ScriptFault.TheVariants.{Read, Write};
 ghost use Rattle.vm_file.specs.Device.{Rose};
 ghost use Rattle.geos_input.specs.Fault.{KeptUnless};
-ghost use Rattle.geos_input.specs.Reading.{most_bytes, Reads, EndsReading};
+ghost use Rattle.geos_text.specs.Words.{most_bytes};
+ghost use Rattle.geos_input.specs.Reading.{Reads, EndsReading};
 ghost use Rattle.geos_cli.specs.Session.{RanBytes, StoppedBytes, EndsBytes, RanSession, StoppedSession, EndsSession};
 
 use crate::script::run_script;

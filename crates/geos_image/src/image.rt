@@ -59,9 +59,9 @@ fn is_image(routines: &[Routine], points: &[Point]) -> bool
     ensures { result ≡ is_image (record { routines = routines.now; points = points.now }) }
 {
     !routines.is_empty()
-        && routines.len() <= MOST_ROUTINES
+        && routines.len() <= usize::from(MOST_ROUTINES)
         && are_routines(routines)
-        && points.len() <= MOST_INSTRS
+        && points.len() <= usize::from(MOST_INSTRS)
         && total_count(routines) as usize == points.len()
         && are_points(routines.len() as u32, points)
 }

@@ -12,10 +12,10 @@ use crate::routine::Routine;
 use crate::row::{Pointer, Row};
 
 /// The most routines that an image has.
-pub(crate) const MOST_ROUTINES: usize = 32;
+pub const MOST_ROUTINES: u16 = 32;
 
 /// The most instructions that an image has.
-pub(crate) const MOST_INSTRS: usize = 4096;
+pub const MOST_INSTRS: u16 = 4096;
 
 #[tactic(auto, unfolding(crate::specs::Legal::is_name_byte))]
 fn is_name_byte(byte: u8) -> bool

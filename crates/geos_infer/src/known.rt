@@ -2,8 +2,7 @@
 
 ghost use Rattle.std.specs.Prelude.{◌≡◌, ◌<◌, ℕ, None, length, slice_set, IfOk};
 
-use crate::table::MOST_INSTRS;
-use geos_image::Row;
+use geos_image::{MOST_INSTRS, Row};
 use std::alloc::{AllocError, Global};
 use std::marker::Model;
 

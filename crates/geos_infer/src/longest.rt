@@ -6,8 +6,8 @@ use crate::arcs::Arc;
 use crate::asked::return_steps;
 use crate::body::Body;
 use crate::paid::back_edges;
-use crate::table::MOST_INSTRS;
 use crate::ways::{Ways, cost};
+use geos_image::MOST_INSTRS;
 
 /// What came of going over edges.
 #[derive(Clone, Copy)]

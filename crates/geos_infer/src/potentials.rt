@@ -2,8 +2,7 @@
 
 ghost use Rattle.std.specs.Prelude.{◌≡◌, ◌<◌, length, slice_index, slice_index_or, slice_set, [], IfOk};
 
-use crate::table::MOST_INSTRS;
-use geos_image::Potential;
+use geos_image::{MOST_INSTRS, Potential};
 use std::alloc::{AllocError, Global};
 use std::marker::Model;
 

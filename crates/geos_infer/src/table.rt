@@ -2,11 +2,9 @@
 
 ghost use Rattle.std.specs.Prelude.{◌≡◌, ◌<◌, length};
 
+use geos_image::MOST_INSTRS;
 use std::alloc::{AllocError, Global};
 use std::marker::Model;
-
-/// How many instructions an image may have.
-pub(crate) const MOST_INSTRS: usize = 4096;
 
 /// An item for each pc that there may be in an image.
 #[derive(Drop)]

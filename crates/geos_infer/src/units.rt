@@ -7,9 +7,8 @@ use crate::asked::coefficients_join;
 use crate::body::Body;
 use crate::longest::find_longest;
 use crate::paid::back_edges;
-use crate::table::MOST_INSTRS;
 use crate::ways::{Ways, cost, unit_of};
-use geos_image::Opcode;
+use geos_image::{MOST_INSTRS, Opcode};
 
 /// What a way round costs, what the units of counters pay of that, how many it takes of each counter, and which it sets.
 #[derive(Clone, Copy)]

@@ -1,12 +1,9 @@
 -- What is read of a stream.
 use Rattle.std.specs.Prelude.{◌<◌, ℕ, List, length, Option}
 use Rattle.std.specs.Io.KnownBytes.{Consumes, IsAtEnd}
+use Rattle.geos_text.specs.Words.{most_bytes}
 use Rattle.geos_input.specs.declared.fault.ScriptFault.{ScriptFault}
 use Rattle.geos_input.specs.declared.fault.ScriptFault.TheVariants.{TooLong, Read, Memory}
-
--- the most bytes of a script or a session
-abbrev pub most_bytes : ℕ
-most_bytes = 1048576
 
 -- a reader gave the bytes, and has no more, where that is known
 abbrev pub Reads : Option (List ℕ) → Option (List ℕ) → List ℕ → Type 0

@@ -16,4 +16,5 @@ mod read;
 pub use crate::counted::Counted;
 pub use crate::fault::ScriptFault;
 pub use crate::hex::image_and_script;
-pub use crate::read::{MOST_BYTES, read_all};
+pub use crate::read::read_all;
+pub use geos_text::MOST_BYTES;

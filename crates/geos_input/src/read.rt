@@ -4,15 +4,14 @@ ghost use Rattle.std.specs.Prelude.{◌≡◌, ◌≤◌, ◌+◌, length, IfOk,
 ghost use Rattle.vm_file.specs.Device.{Rose};
 ghost use Rattle.geos_input.specs.declared.fault.ScriptFault.TheVariants.{Read};
 ghost use Rattle.geos_input.specs.Fault.{KeptUnless};
-ghost use Rattle.geos_input.specs.Reading.{most_bytes, Reads, EndsReading};
+ghost use Rattle.geos_text.specs.Words.{most_bytes};
+ghost use Rattle.geos_input.specs.Reading.{Reads, EndsReading};
 
 use crate::counted::Counted;
 use crate::fault::ScriptFault;
+use geos_text::MOST_BYTES;
 use std::alloc::Global;
 use std::io::Read;
-
-/// The most bytes of a script or a session.
-pub const MOST_BYTES: usize = 1_048_576;
 
 /// How many bytes are asked for at a time.
 const CHUNK: usize = 4096;

@@ -4,7 +4,7 @@ use Rattle.std.specs.Str.Lines.{lines}
 use Rattle.geos_image.specs.declared.instr.Instr.{Instr}
 use Rattle.geos_image.specs.declared.row.Row.{Row}
 use Rattle.geos_image.specs.declared.routine.Routine.{Routine}
-use Rattle.geos_text.specs.Words.{is_empty}
+use Rattle.geos_text.specs.Words.{is_empty, most_bytes}
 use Rattle.geos_source.specs.declared.fault.Why.{Why}
 use Rattle.geos_source.specs.declared.fault.Why.TheVariants.{TooMany, OutOfPlace}
 use Rattle.geos_source.specs.declared.fault.BadLine.{BadLine}
@@ -206,7 +206,7 @@ draft_of names lines = close (take_lines names 1 lines blank)
 
 -- a text that is too long is faulty at its first line
 abbrev pub too_long : List ℕ → Option BadLine
-too_long text = if nat_lt 1048576 (length text) then Some (record { line = 1; why = TooMany }) else None
+too_long text = if nat_lt most_bytes (length text) then Some (record { line = 1; why = TooMany }) else None
 
 -- a text without routine is faulty at its first line
 abbrev pub without_routine : Part → Option BadLine

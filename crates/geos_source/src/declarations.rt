@@ -10,14 +10,9 @@ ghost use Rattle.geos_source.specs.Views.{declared_of};
 use crate::fault::{BadLine, Why, at_line, first};
 use crate::names::{Name, Table, label_of, name_of};
 use crate::operands::Names;
+use geos_image::{MOST_INSTRS, MOST_ROUTINES};
 use geos_text::{first_line, first_word, without_comment};
 use std::alloc::{AllocError, Global};
-
-/// The most routines of an image.
-pub(crate) const MOST_ROUTINES: u16 = 32;
-
-/// The most instructions of an image.
-pub(crate) const MOST_INSTRS: u16 = 4096;
 
 /// What the lines so far declare.
 #[derive(Drop)]

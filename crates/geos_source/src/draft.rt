@@ -7,14 +7,13 @@ ghost use Rattle.geos_source.specs.Readings.{names_of};
 ghost use Rattle.geos_source.specs.Texts.{blank, close, begin, no_room, is_full, take_instr, take_statement, take_line, draft_of};
 ghost use Rattle.geos_source.specs.Views.{draft_in};
 
-use crate::declarations::{MOST_INSTRS, MOST_ROUTINES};
 use crate::fault::Why;
 use crate::headers::header;
 use crate::items::row_of;
 use crate::lines::behind_labels;
 use crate::operands::{Names, instruction};
 use crate::progress::{Progress, TextRoutine};
-use geos_image::{Instr, Routine};
+use geos_image::{Instr, MOST_INSTRS, MOST_ROUTINES, Routine};
 use geos_text::{first_line, first_word, without_comment};
 use std::alloc::{AllocError, Global};
 

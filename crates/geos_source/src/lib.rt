@@ -15,7 +15,8 @@ mod progress;
 mod skeletons;
 
 pub use fault::{BadLine, Why};
+pub use geos_text::MOST_BYTES;
 pub use instr_lines::lines_of_instrs;
-pub use parser::{MOST_BYTES, ParseError, Parsed, parse};
+pub use parser::{ParseError, Parsed, parse};
 pub use progress::TextRoutine;
 pub use skeletons::skeleton;

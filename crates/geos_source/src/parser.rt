@@ -13,11 +13,9 @@ use crate::draft::draft_of;
 use crate::fault::{BadLine, Why, first};
 use crate::progress::{Progress, TextRoutine};
 use geos_image::Instr;
+use geos_text::MOST_BYTES;
 use std::alloc::{AllocError, Global};
 use thiserror::Error;
-
-/// The most bytes of a text.
-pub const MOST_BYTES: usize = 1_048_576;
 
 /// The code of a text.
 #[derive(Drop)]

@@ -2,6 +2,10 @@
 use Rattle.std.specs.Prelude.{ℕ, Bool, true, false, not, ◌||◌, ◌==◌, List, [], ◌∷◌, filter}
 use Rattle.std.specs.List.{slice_split, before_first}
 
+-- the most bytes of a text, a script or a session
+abbrev pub most_bytes : ℕ
+most_bytes = 1048576
+
 -- a space or a tab
 abbrev pub is_blank : ℕ → Bool
 is_blank byte = byte == 32 || byte == 9

@@ -9,7 +9,7 @@ mod numbers;
 mod registers;
 mod words;
 
-pub use lines::first_line;
+pub use lines::{MOST_BYTES, first_line};
 pub use numbers::{NumberError, number, number_up_to};
 pub use registers::register;
 pub use words::{first_word, is_blank, without_comment};

@@ -4,6 +4,9 @@ ghost use Rattle.std.specs.Prelude.{◌≡◌, ◌<◌, ◌≤◌, length, ◌�
 ghost use Rattle.std.specs.List.{position_or_len};
 ghost use Rattle.std.specs.Str.Lines.{lines, strip_carriage_return};
 
+/// The most bytes of a text, a script or a session.
+pub const MOST_BYTES: usize = 1_048_576;
+
 /// Where the byte first stands in the text, or else the text's length.
 pub(crate) fn place_of(byte: u8, text: &[u8]) -> usize
     ensures place { result ≡ position_or_len (λ b. b == byte) text.now }

@@ -24,7 +24,7 @@ pub(crate) fn header_at(bytes: &[u8]) -> Result<u16, Fault>
         return Err(4);
     }
     let routines = word_at(bytes, 6)?;
-    if routines > 0 && routines as usize <= MOST_ROUTINES {
+    if routines > 0 && routines <= MOST_ROUTINES {
         Ok(routines)
     } else {
         Err(6)
@@ -67,7 +67,7 @@ fn count_at(earlier: &[Routine], bytes: &[u8], at: usize) -> Result<u16, Fault>
     ensures legal { IfOk result (λ n. (0 < n) × (total_count earlier.now + n ≤ MOST_INSTRS)) }
 {
     let count = word_at(bytes, at)?;
-    if count > 0 && total_count(earlier) as usize + usize::from(count) <= MOST_INSTRS {
+    if count > 0 && total_count(earlier) + u32::from(count) <= u32::from(MOST_INSTRS) {
         Ok(count)
     } else {
         Err(at)

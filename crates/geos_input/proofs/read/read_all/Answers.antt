@@ -3,7 +3,7 @@ use Rattle.std.specs.Io.KnownBytes.{Consumes}
 use Rattle.std.proofs.lemmas.Grind.{common_steps}
 use Rattle.std.proofs.KnownBytes.{Consumes-trans}
 use Rattle.std.proofs.lemmas.List.{take-append-le}
-use Rattle.geos_input.specs.Reading.{most_bytes}
+use Rattle.geos_text.specs.Words.{most_bytes}
 use Rattle.geos_input.proofs.read.read_all.Goals as goal
 
 pub returns-then-len-gt-MOST_BYTES-clause-fault : goal.returns-then-len-gt-MOST_BYTES-clause-fault
