@@ -9,6 +9,7 @@ use crate::body::Body;
 use crate::common::agree;
 use crate::edges::{edge_end, has_edge};
 use crate::known::Known;
+use crate::table::Table;
 use geos_image::Row;
 use geos_verify::after;
 use std::alloc::{AllocError, Global};
@@ -136,8 +137,14 @@ enum Went {
     Apart(Apart),
 }
 
-/// A row comes to a place: it is known there now, unless one was; slots may differ.
-fn come(body: &Body, known: &mut Known, pc: u16, brought: &Brought) -> Went
+/// A row comes to a place: it is known there now, and waits to go on, unless one was; slots may differ.
+fn come(
+    body: &Body,
+    known: &mut Known,
+    waits: &mut Table<bool>,
+    pc: u16,
+    brought: &Brought,
+) -> Went
     requires by { ComesBy body.now.image.now body.now.r brought.now.to pc brought.now.row }
     requires inside { brought.now.to < 4096 }
     requires come { AllCome body.now.image.now body.now.r known.old }
@@ -146,6 +153,7 @@ fn come(body: &Body, known: &mut Known, pc: u16, brought: &Brought) -> Went
 {
     let Some(old) = known.at(brought.to) else {
         known.set(brought.to, Some(brought.row));
+        waits.set(brought.to, true);
         return Went::On(true);
     };
     if agree(&old, &brought.row) {
@@ -165,31 +173,53 @@ fn come(body: &Body, known: &mut Known, pc: u16, brought: &Brought) -> Went
 }
 
 /// What is known at a pc goes along an edge.
-fn go(body: &Body, known: &mut Known, pc: u16, branch: bool) -> Went
+fn go(
+    body: &Body,
+    known: &mut Known,
+    waits: &mut Table<bool>,
+    pc: u16,
+    branch: bool,
+) -> Went
     requires here { pc < body.now.end }
     requires come { AllCome body.now.image.now body.now.r known.old }
     ensures come { AllCome body.now.image.now body.now.r known.new }
     ensures apart { IsWent body.now.image.now body.now.r result }
 {
     match bring(body, known, pc, branch) {
-        Some(brought) => come(body, known, pc, &brought),
+        Some(brought) => come(body, known, waits, pc, &brought),
         None => Went::On(false),
     }
 }
 
-/// What is known goes along all edges, once.
-fn go_all(body: &Body, known: &mut Known) -> Went
+/// What is known at a pc goes along its edges, if it waits.
+fn go_on(body: &Body, known: &mut Known, waits: &mut Table<bool>, pc: u16) -> Went
+    requires here { pc < body.now.end }
+    requires come { AllCome body.now.image.now body.now.r known.old }
+    ensures come { AllCome body.now.image.now body.now.r known.new }
+    ensures apart { IsWent body.now.image.now body.now.r result }
+{
+    if !waits.at(pc) {
+        return Went::On(false);
+    }
+    waits.set(pc, false);
+    match go(body, known, waits, pc, false) {
+        Went::On(next) => match go(body, known, waits, pc, true) {
+            Went::On(target) => Went::On(next || target),
+            Went::Apart(apart) => Went::Apart(apart),
+        },
+        Went::Apart(apart) => Went::Apart(apart),
+    }
+}
+
+/// All that waits goes on, once.
+fn go_all(body: &Body, known: &mut Known, waits: &mut Table<bool>) -> Went
     requires { AllCome body.now.image.now body.now.r known.old }
     ensures come { AllCome body.now.image.now body.now.r known.new }
     ensures apart { IsWent body.now.image.now body.now.r result }
 {
     let mut further = false;
     for pc in body.start..body.end {
-        match go(body, known, pc, false) {
-            Went::On(new) => further |= new,
-            Went::Apart(apart) => return Went::Apart(apart),
-        }
-        match go(body, known, pc, true) {
+        match go_on(body, known, waits, pc) {
             Went::On(new) => further |= new,
             Went::Apart(apart) => return Went::Apart(apart),
         }
@@ -213,8 +243,12 @@ pub(crate) fn find_apart(alloc: Global, body: &Body) -> Result<Option<Apart>, Al
     ensures { IfOk result (AreApartIf body.now.image.now body.now.r) }
 {
     let mut known = entry_known(alloc, body)?;
+    let mut waits = Table::new(alloc, false)?;
+    if body.start < 4096 {
+        waits.set(body.start, true);
+    }
     for _ in body.start..body.end {
-        match go_all(body, &mut known) {
+        match go_all(body, &mut known, &mut waits) {
             Went::Apart(apart) => return Ok(Some(apart)),
             Went::On(further) => {
                 if !further {
