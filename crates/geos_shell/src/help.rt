@@ -60,7 +60,8 @@ If there is a file OUT, it is replaced; after a fault it is as it was. The first
   6  more than 32 routines or 4,096 instructions, or the text is too long (at line 1)
   7  the line may not stand here, or nothing follows: no instruction behind a routine's line or a label
 `no rows: line N` is no fault of a line. In the routine that begins there slots hold one thing on one way
-to an instruction and another on another way, or a loop is not counted by LOOP.";
+to an instruction and another on another way; or no number of steps is enough: a loop is not counted by
+LOOP, its counter is set or touched within it, or the steps pass 4,294,967,295. `geos explain` says which.";
 
 /// What is said of an image or a text.
 pub(crate) const EXPLAINED: &str = "\
