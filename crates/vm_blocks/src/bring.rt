@@ -96,6 +96,9 @@ impl<D: Device + Drop> VmBlocks<D> {
         ensures same { self.new ≡ with_device self.old self.new.file.device }
         ensures bad_handle { (result ≡ Err BringError.BadHandle) ↔ (held_at self.old h ≡ None) }
         ensures known { IsThere blocks.old (vm_slot h) → result ≡ Ok tt }
+        // A block that is in memory, or is not listed, asks the device nothing, and no other goes for it.
+        ensures there { IsThere blocks.old (vm_slot h) → self.new ≡ self.old }
+        ensures unlisted { held_at self.old h ≡ None → (self.new ≡ self.old) × (blocks.new ≡ blocks.old) }
         ensures ok { OnOk result (Brought blocks.old blocks.new h) }
         ensures err { OnErr result (NotBrought blocks.old blocks.new h) }
         ensures keeps { Keeps self.old blocks.old blocks.new h }

@@ -1,7 +1,7 @@
 //! Locks of blocks of the file, and marks.
-ghost use Rattle.std.specs.Prelude.{true, ◌≡◌, ◌<◌, ◌↔◌, ℕ, None, Ok, Err, IfSome, OnOk, OnErr, option_map};
+ghost use Rattle.std.specs.Prelude.{true, ◌≡◌, ◌<◌, ◌↔◌, ℕ, None, Ok, Err, IfSome, MatchResult, OnOk, OnErr, option_map};
 ghost use Rattle.geos_model.specs.Names.{vm};
-ghost use Rattle.block_handles.specs.Change.{with_lock_less};
+ghost use Rattle.block_handles.specs.Change.{with_lock_less, with_lock_more};
 ghost use Rattle.block_handles.specs.Names.{IsHandle};
 ghost use Rattle.block_handles.specs.Store.{IsThere, locks_of};
 ghost use Rattle.geos_table.specs.VmCalls.{vdirty, vunlock};
@@ -37,6 +37,12 @@ impl<D: Device + Drop> VmBlocks<D> {
         ensures same { self.new ≡ with_device self.old self.new.file.device }
         ensures bad_handle { (result ≡ Err LockError.BadHandle) ↔ (held_at self.old h ≡ None) }
         ensures locked { (result ≡ Err LockError.Locked) ↔ (locks_of blocks.old (vm_slot h) ≡ 65535) }
+        // A block that is in memory, or is not listed, asks the device nothing, and no other goes for it; one that the device
+        // refuses was not in memory, and is not there.
+        ensures there { IsThere blocks.old (vm_slot h) → (self.new ≡ self.old)
+            × MatchResult result (λ _. blocks.new ≡ with_lock_more blocks.old (vm_slot h)) (λ why. (why ≡ LockError.Locked) × (blocks.new ≡ blocks.old)) }
+        ensures unlisted { held_at self.old h ≡ None → (self.new ≡ self.old) × (blocks.new ≡ blocks.old) }
+        ensures disk { result ≡ Err LockError.Disk → IsThere blocks.new (vm_slot h) → ⊥ }
         ensures ok { OnOk result (LockedMore blocks.old blocks.new h) }
         ensures err { OnErr result (NotBrought blocks.old blocks.new h) }
         ensures keeps { Keeps self.old blocks.old blocks.new h }
@@ -66,6 +72,8 @@ impl<D: Device + Drop> VmBlocks<D> {
         ensures same { self.new ≡ with_device self.old self.new.file.device }
         ensures bad_handle { (result ≡ Err LockError.BadHandle) ↔ (held_at self.old h ≡ None) }
         ensures locked { result ≡ Err LockError.Locked → ⊥ }
+        ensures unlisted { held_at self.old h ≡ None → (self.new ≡ self.old) × (blocks.new ≡ blocks.old) }
+        ensures disk { result ≡ Err LockError.Disk → IsThere blocks.new (vm_slot h) → ⊥ }
         ensures ok { OnOk result (LockedMore blocks.old blocks.new h) }
         ensures err { OnErr result (NotBrought blocks.old blocks.new h) }
         ensures keeps { Keeps self.old blocks.old blocks.new h }
