@@ -140,6 +140,11 @@ module _ {D A : Type 0} (v : VmState D) (edit : List (Option (List ℕ)) → Edi
       comes-once new (Refused why) t = none-some why (sym made.passes ∙ subst (λ cs. first_refusal (edit cs).refusals ≡ Some why) same t.0)
       comes-once new (Room again) t = asks-once f made.mid grown name still made.less made.small made.made again t.0.1
 
+-- room that was refused for another reason than that there is none left all as it was
+pub lacking-stays : {D A : Type 0} (v : VmState D) (old new : Store) (name : Name) (r : RoomError) (why : Refusal) → MakesRoom v r (Err why) old new name → (◌≡◌ {A = Result A Refusal} (Err why) (Err refusal.NoRoom) → ⊥) → new ≡ old
+lacking-stays v old new name room.TooBig why m other = m.1
+lacking-stays v old new name (room.NeedMore k) why m other = absurd (other (ap Err m.no_room.0.0))
+
 -- An edit that was tried once, of a block that may grow or not
 module _ {D A : Type 0} (v : VmState D) (grows : Bool) (edit : List (Option (List ℕ)) → Edit A) (old new : Store) (name : Name) (laid : IsLaidOut old) where
   pub carries-done : (answer : A) → Tries edit old new name (Ok answer) → Carries grows v edit old new name (Ok answer)

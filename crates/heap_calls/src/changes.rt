@@ -1,6 +1,6 @@
 //! Changes of the chunks of a block of the region, which may have to grow for them.
 
-ghost use Rattle.std.specs.Prelude.{Ok, Err, OnOk};
+ghost use Rattle.std.specs.Prelude.{◌≡◌, Ok, Err, OnErr, OnOk};
 ghost use Rattle.geos_model.specs.Edits.{contract};
 ghost use Rattle.geos_model.specs.Heap.{IsCompact};
 ghost use Rattle.block_handles.specs.Names.{slot_of};
@@ -42,6 +42,8 @@ pub fn change<D: Device + Drop>(
     requires tied { IsTied D.image D.honest vm.now blocks.old }
     requires heap { HoldsHeap blocks.old name }
     ensures carries { Carries (may_grow change) vm.now (change_edit change) blocks.old blocks.new name result }
+    // Only a lack of room is refused after others were discarded.
+    ensures refused { (result ≡ Err Refusal.NoRoom → ⊥) → OnErr result (blocks.new ≡ blocks.old) }
     // Other blocks are as they were, or were discarded; and table, region and file stay tied.
     ensures keeps { KeepsOthers vm.now blocks.old blocks.new name }
     ensures tied { IsMarkedIfVm vm.now name → IsTied D.image D.honest vm.now blocks.new }
@@ -73,6 +75,7 @@ fn grow_and_change<D: Device + Drop>(
     requires heap { HoldsHeap blocks.old name }
     requires tried { Tries (change_edit change) blocks.old blocks.old name (Err (Room room)) }
     ensures comes { Comes vm.now (change_edit change) blocks.old blocks.new name result }
+    ensures refused { (result ≡ Err Refusal.NoRoom → ⊥) → OnErr result (blocks.new ≡ blocks.old) }
     ensures bytes { OnOk result (AreBytes (bytes_of blocks.new (slot_of name))) }
 {
     match make_room(vm, blocks, name, room) {

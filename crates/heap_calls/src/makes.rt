@@ -1,6 +1,6 @@
 //! New chunks in a block of the region, which may have to grow for them.
 
-ghost use Rattle.std.specs.Prelude.{Err, OnOk};
+ghost use Rattle.std.specs.Prelude.{◌≡◌, Err, OnErr, OnOk};
 ghost use Rattle.block_handles.specs.Names.{slot_of};
 ghost use Rattle.block_handles.specs.Store.{bytes_of};
 ghost use Rattle.geos_table.specs.ChunkCalls.{make_edit, make_row};
@@ -33,6 +33,8 @@ pub fn make<D: Device + Drop>(
     requires tied { IsTied D.image D.honest vm.now blocks.old }
     requires heap { HoldsHeap blocks.old name }
     ensures comes { Comes vm.now (make_edit make) blocks.old blocks.new name result }
+    // Only a lack of room is refused after others were discarded.
+    ensures refused { (result ≡ Err Refusal.NoRoom → ⊥) → OnErr result (blocks.new ≡ blocks.old) }
     // Other blocks are as they were, or were discarded; and table, region and file stay tied.
     ensures keeps { KeepsOthers vm.now blocks.old blocks.new name }
     ensures tied { IsMarkedIfVm vm.now name → IsTied D.image D.honest vm.now blocks.new }
@@ -63,6 +65,7 @@ fn grow_and_make<D: Device + Drop>(
     requires heap { HoldsHeap blocks.old name }
     requires tried { Tries (make_edit make) blocks.old blocks.old name (Err (Room room)) }
     ensures comes { Comes vm.now (make_edit make) blocks.old blocks.new name result }
+    ensures refused { (result ≡ Err Refusal.NoRoom → ⊥) → OnErr result (blocks.new ≡ blocks.old) }
     ensures bytes { OnOk result (AreBytes (bytes_of blocks.new (slot_of name))) }
 {
     match make_room(vm, blocks, name, room) {

@@ -1,6 +1,6 @@
 use Rattle.block_handles.specs.Names.{slot_of}
 use Rattle.geos_table.specs.ChunkCalls.{change_edit}
-use Rattle.heap_calls.proofs.Coming.{comes-lacking, comes-held, comes-again, comes-once}
+use Rattle.heap_calls.proofs.Coming.{comes-lacking, comes-held, comes-again, comes-once, lacking-stays}
 use Rattle.heap_calls.proofs.Values.{values-of}
 use Rattle.heap_calls.proofs.changes.grow_and_change.Goals as goal
 
@@ -19,6 +19,9 @@ pub returns-in-Err-clause-comes : goal.returns-in-Err-clause-comes
 returns-in-Err-clause-comes g c =
     let old = c.args.blocks.now in let q = c.requires in
     comes-lacking c.args.vm.now (change_edit c.args.change) old c.args.name q.tied.laid c.args.room c.make_room.new.blocks q.tried c.in-Err.refusal c.in-Err.ensures
+
+pub returns-in-Err-clause-refused : goal.returns-in-Err-clause-refused
+returns-in-Err-clause-refused g c = lacking-stays c.args.vm.now c.args.blocks.now c.make_room.new.blocks c.args.name c.args.room c.in-Err.refusal c.in-Err.ensures
 
 pub returns-clause-comes : goal.returns-clause-comes
 returns-clause-comes g c =
