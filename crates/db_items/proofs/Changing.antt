@@ -69,6 +69,10 @@ not_brought-locks s t g not = elim (no-block (block_at s (vm_slot g))) [
     gone None absent = refl
     gone (Some b) absent = absurd (absent tt)
 
+-- it is not there, where it is not refused of one that is
+pub not_brought-absent : (s t : Store) (g : ℕ) → NotBrought s t g → (IsThere s (vm_slot g) → ⊥) → IsThere t (vm_slot g) → ⊥
+not_brought-absent s t g not away there = subst IsBlock (not.absent away) there
+
 -- What room is wanted
 
 module _ {A : Type 0} (edit : List (Option (List ℕ)) → Edit A) where
@@ -116,6 +120,9 @@ module _ {D : Type 0} (image : D → List ℕ) (honest : D → Type 0) (may_leav
         keeps = b.keeps;
         locks = not_brought-locks s t g b.err;
         refused = λ there. ap (λ u. block_at u (vm_slot g)) (b.err.stays there);
+        stays = λ other there. b.err.stays there;
+        there = λ there. (ap (λ (x : VmState D). x.file) (b.there there).0, λ e. (b.there there).1 (refused-so why refusal.Disk e));
+        absent = λ e. not_brought-absent s t g b.err (λ there. (b.there there).1 (refused-so why refusal.Disk e));
         no_room = λ e. room (b.no_room (refused-so why refusal.NoRoom e)) (group-or v g) e;
         device = reads-as w (refused-so why refusal.Disk) (refused-so why refusal.Disk) b.device;
       }
@@ -149,6 +156,9 @@ module _ {D : Type 0} (image : D → List ℕ) (honest : D → Type 0) (may_leav
         others : (k : ℕ) → k ≢ g → held_at w k ≡ held_at v k
         others k ne = ap (λ (x : VmState D). held_at x k) b.same
 
+        same-file : IsThere s (vm_slot g) → w.file ≡ v.file
+        same-file there = ap (λ (x : VmState D). x.file) (b.there there).0
+
         -- its chunks have changed, and it is marked
         pub item-changed : (x : VmState D) (a : A) → IsTied image honest x u → x ≡ with_held w g (option_map marked (held_at w g)) → ((n : Memory) → IsMemoryOf image honest w u n → IsMemoryOf image honest x u (with_mark n g true))
             → DoesRowAlone image honest call (Ok a) w t w u → ChangesItem image honest may_leave left failed (on_group g call) edit g (Ok a) v x s u
@@ -165,14 +175,18 @@ module _ {D : Type 0} (image : D → List ℕ) (honest : D → Type 0) (may_leav
               keeps = keeps-then v w s t u g others b.keeps (vm-keeps w t u g keeps.others);
               locks = keeps.locks ∙ b.ok.locks;
               refused = tt;
+              stays = λ other. tt;
+              there = λ there. (file ∙ same-file there, λ e. absurd cc);
+              absent = λ e. absurd cc;
               no_room = λ e. absurd cc;
               device = reads-on w x file (λ e. absurd cc) (λ e. absurd cc) b.device;
             }
 
         -- they have not
-        pub item-refused : (grows : Bool) (why : Refusal) → AsksInside edit → Carries grows w edit t u (vm g) (Err why) → DoesRowAlone image honest call (Err why) w t w u
+        pub item-refused : (grows : Bool) (why : Refusal) → AsksInside edit → Carries grows w edit t u (vm g) (Err why) → ((◌≡◌ {A = Result A Refusal} (Err why) (Err refusal.NoRoom) → ⊥) → u ≡ t)
+            → DoesRowAlone image honest call (Err why) w t w u
             → ChangesItem image honest may_leave left failed (on_group g call) edit g (Err why) v w s u
-        item-refused grows why asks carries row = record {
+        item-refused grows why asks carries stays row = record {
           tied = tied grows carries;
           row = on_group-err image honest failed v w s t g b.tied (still-group b.same group) call on (b.row group) u why row;
           listed = b.same;
@@ -180,10 +194,16 @@ module _ {D : Type 0} (image : D → List ℕ) (honest : D → Type 0) (may_leav
           keeps = keeps-then v w s t u g others b.keeps (vm-keeps w t u g keeps.others);
           locks = keeps.locks ∙ b.ok.locks;
           refused = λ there. own grows carries ∙ ap (λ x. block_at x (vm_slot g)) (b.ok.stays there);
+          stays = λ other there. stays other ∙ b.ok.stays there;
+          there = λ there. (same-file there, no_disk);
+          absent = λ e. absurd (no_disk e);
           no_room = λ e. room grows carries e;
-          device = reads-on w w refl (λ e. absurd cc) (λ e. let is : why ≡ refusal.Disk = cc in carries-no_disk edit w t u (vm g) grows why asks carries is) b.device;
+          device = reads-on w w refl (λ e. absurd cc) no_disk b.device;
         }
           where
+            no_disk : ◌≡◌ {A = Result A Refusal} (Err why) (Err refusal.Disk) → ⊥
+            no_disk e = let is : why ≡ refusal.Disk = cc in carries-no_disk edit w t u (vm g) grows why asks carries is
+
             tied : (x : Bool) → Carries x w edit t u (vm g) (Err why) → IsTied image honest w u
             tied true c = subst (IsTied image honest w) (sym c.grows.1) (tied-thins image honest w t c.mid g b.tied c.thins)
             tied false c = subst (IsTied image honest w) (sym c.1) b.tied

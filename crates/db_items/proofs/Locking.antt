@@ -23,7 +23,7 @@ use Rattle.heap_calls.specs.Edits.{Finds}
 use Rattle.db_items.specs.Groups.{BringsGroup, IsGroup, ReadsDevice}
 use Rattle.db_items.specs.Items.{LocksItem}
 use Rattle.db_items.proofs.Asking.{refer-inside}
-use Rattle.db_items.proofs.Changing.{group-or, not_brought-locks, reads-as, reads-on, refused-so}
+use Rattle.db_items.proofs.Changing.{group-or, not_brought-absent, not_brought-locks, reads-as, reads-on, refused-so}
 use Rattle.db_items.proofs.LockedItems.{lock_found-row, lock_full-row, lock_no_group-row, lock_not_brought-row, lock_refused-row}
 
 -- an item is too short only where some bytes are wanted
@@ -54,6 +54,8 @@ module _ {D : Type 0} (image : D → List ℕ) (honest : D → Type 0) (may_leav
     ok = tt;
     locks = refl;
     refused = λ there. refl;
+    there = λ there. (refl, tt, λ e. absurd cc);
+    absent = λ e. absurd cc;
     short = λ e. absurd cc;
     finds = tt;
     within = tt;
@@ -76,6 +78,8 @@ module _ {D : Type 0} (image : D → List ℕ) (honest : D → Type 0) (may_leav
       ok = tt;
       locks = not_brought-locks s t g b.err;
       refused = b.err.stays;
+      there = λ there. let was = b.there there in (was.0, tt, λ e. was.1 (refused-so why refusal.Disk e));
+      absent = λ e. not_brought-absent s t g b.err (λ there. (b.there there).1 (refused-so why refusal.Disk e));
       short = λ e. absurd (b.not_short (refused-so why refusal.Short e));
       finds = tt;
       within = tt;
@@ -111,12 +115,17 @@ module _ {D : Type 0} (image : D → List ℕ) (honest : D → Type 0) (may_leav
         ok = tt;
         locks = b.ok.locks;
         refused = b.ok.stays;
+        there = λ there. ((b.there there).0, tt, no_disk);
+        absent = λ e. absurd (no_disk e);
         short = λ e. (let is : why ≡ refusal.Short = cc in short-wanted i n (chunks (bytes_of t (vm_slot g))) (finds ∙ ap Some is));
         finds = tt;
         within = tt;
         no_room = λ e. absurd (let is : why ≡ refusal.NoRoom = cc in refer-inside i n (chunks (bytes_of t (vm_slot g))) refusal.NoRoom refl (finds ∙ ap Some is));
-        device = reads-on image honest may_leave left failed v w w refl (λ e. absurd cc) (λ e. let is : why ≡ refusal.Disk = cc in refer-inside i n (chunks (bytes_of t (vm_slot g))) refusal.Disk refl (finds ∙ ap Some is)) b.device;
+        device = reads-on image honest may_leave left failed v w w refl (λ e. absurd cc) no_disk b.device;
       }
+        where
+          no_disk : ◌≡◌ {A = Result (ℕ × ℕ) Refusal} (Err why) (Err refusal.Disk) → ⊥
+          no_disk e = let is : why ≡ refusal.Disk = cc in refer-inside i n (chunks (bytes_of t (vm_slot g))) refusal.Disk refl (finds ∙ ap Some is)
 
       -- and has it
       pub lock-found : (u : Store) (place : ℕ × ℕ) → u ≡ with_locks t (vm_slot g) (locks_of t (vm_slot g) + 1) → Finds (refer i n) (bytes_of t (vm_slot g)) (Ok place) → (place.0 + place.1 ≤ length (bytes_of t (vm_slot g))) × (n ≤ place.1) → Locks (Ok place) w u
@@ -134,6 +143,8 @@ module _ {D : Type 0} (image : D → List ℕ) (honest : D → Type 0) (may_leav
             ok = locks-more s t u g b.tied.laid b.ok is_u;
             locks = tt;
             refused = tt;
+            there = λ there. ((b.there there).0, is_u ∙ ap (λ x. with_locks x (vm_slot g) (locks_of x (vm_slot g) + 1)) (b.ok.stays there), λ e. absurd cc);
+            absent = λ e. absurd cc;
             short = λ e. absurd cc;
             finds = subst (λ xs. Finds (refer i n) xs (Ok place)) (sym bytes) finds;
             within = subst (λ xs. (place.0 + place.1 ≤ length xs) × (n ≤ place.1)) (sym bytes) within;

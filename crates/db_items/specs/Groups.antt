@@ -31,7 +31,7 @@ pub record ReadsDevice {D : Type 0} (image : D → List ℕ) (honest : D → Typ
 abbrev pub RefusesNoGroup : {D A : Type 0} → ℕ → Result A Refusal → VmState D → VmState D → Store → Store → Type 0
 RefusesNoGroup g result v w s t = (IsGroup v g → ⊥) → (result ≡ Err BadHandle) × (w ≡ v) × (t ≡ s)
 
--- a group is brought into memory, or refused; a handle of no group is
+-- a group is brought into memory, or refused; a handle of no group is. One that is there asks the device nothing
 pub record BringsGroup {D : Type 0} (image : D → List ℕ) (honest : D → Type 0) (may_leave : D → List ℕ → Type 0) (left : D → D → List ℕ → Type 0) (failed : D → ℕ)
     (g : ℕ) (result : Result (Unit {0}) Refusal) (v w : VmState D) (s t : Store) : Type 0 where
   pub tied : IsTied image honest w t
@@ -39,6 +39,7 @@ pub record BringsGroup {D : Type 0} (image : D → List ℕ) (honest : D → Typ
   pub no_group : RefusesNoGroup g result v w s t
   pub known : OnOk result (IsGroup v g)
   pub not_short : result ≡ Err Short → ⊥
+  pub there : IsThere s (vm_slot g) → (w ≡ v) × (result ≡ Err Disk → ⊥)
   pub row : IsGroup v g → DoesRow image honest failed (bring g) result v s w t
   pub ok : OnOk result (Brought s t g)
   pub err : OnErr result (NotBrought s t g)

@@ -9,6 +9,7 @@ use Rattle.geos_model.specs.declared.refusal.Refusal.TheVariants.{Disk, NoRoom, 
 use Rattle.geos_table.specs.Calls.{in_block}
 use Rattle.geos_table.specs.Effects.{Call, Reference}
 use Rattle.geos_table.specs.ItemCalls.{ilock}
+use Rattle.block_handles.specs.Change.{with_lock_more}
 use Rattle.block_handles.specs.Store.{Block, Store, IsThere, block_at, bytes_of, locks_of}
 use Rattle.block_handles.specs.Stretch.{HasNoRoom}
 use Rattle.vm_blocks.specs.declared.entries.Held.{Held}
@@ -41,7 +42,8 @@ listed_after (Err why) v g = v
 
 -- a call changes the chunks of a group, which it brings into memory first and marks behind it; every
 -- other block is as it was, or was discarded. A refusal leaves the marks, the counts and a group that
--- was in memory as they were
+-- was in memory as they were. A group that was there asks the device nothing, and no block goes unless
+-- room is wanted; one that the device refuses is not there
 pub record ChangesItem {D A : Type 0} (image : D → List ℕ) (honest : D → Type 0) (may_leave : D → List ℕ → Type 0) (left : D → D → List ℕ → Type 0) (failed : D → ℕ)
     (call : Call A) (edit : List (Option (List ℕ)) → Edit A) (g : ℕ) (result : Result A Refusal) (v w : VmState D) (s t : Store) : Type 0 where
   pub tied : IsTied image honest w t
@@ -51,6 +53,9 @@ pub record ChangesItem {D A : Type 0} (image : D → List ℕ) (honest : D → T
   pub keeps : Keeps v s t g
   pub locks : locks_of t (vm_slot g) ≡ locks_of s (vm_slot g)
   pub refused : OnErr result (IsThere s (vm_slot g) → block_at t (vm_slot g) ≡ block_at s (vm_slot g))
+  pub stays : (result ≡ Err NoRoom → ⊥) → OnErr result (IsThere s (vm_slot g) → t ≡ s)
+  pub there : IsThere s (vm_slot g) → (w.file ≡ v.file) × (result ≡ Err Disk → ⊥)
+  pub absent : result ≡ Err Disk → IsThere t (vm_slot g) → ⊥
   pub no_room : result ≡ Err NoRoom → LacksItemRoom v t g edit
   pub device : ReadsDevice image honest may_leave left failed (result ≡ Err Disk) v w
 
@@ -60,7 +65,8 @@ refers_to g i (Ok place) = Ok (in_block (vm g) (record { chunk = i; start = 0; l
 refers_to g i (Err why) = Err why
 
 -- a group is locked once more, and an item of it, of n bytes at least, found in its bytes; where
--- that is refused it is locked as often as it was
+-- that is refused it is locked as often as it was. A group that was there asks the device nothing, and
+-- nothing else changes; one that the device refuses is not there
 pub record LocksItem {D : Type 0} (image : D → List ℕ) (honest : D → Type 0) (may_leave : D → List ℕ → Type 0) (left : D → D → List ℕ → Type 0) (failed : D → ℕ)
     (g i n : ℕ) (result : Result (ℕ × ℕ) Refusal) (v w : VmState D) (s t : Store) : Type 0 where
   pub tied : IsTied image honest w t
@@ -71,6 +77,8 @@ pub record LocksItem {D : Type 0} (image : D → List ℕ) (honest : D → Type 
   pub ok : OnOk result (LockedMore s t g)
   pub locks : OnErr result (locks_of t (vm_slot g) ≡ locks_of s (vm_slot g))
   pub refused : OnErr result (IsThere s (vm_slot g) → t ≡ s)
+  pub there : IsThere s (vm_slot g) → (w ≡ v) × OnOk result (t ≡ with_lock_more s (vm_slot g)) × (result ≡ Err Disk → ⊥)
+  pub absent : result ≡ Err Disk → IsThere t (vm_slot g) → ⊥
   pub short : result ≡ Err Short → 0 < n
   pub finds : OnOk result (Finds (refer i n) (bytes_of t (vm_slot g)) result)
   pub within : IfOk result (λ place. (place.0 + place.1 ≤ length (bytes_of t (vm_slot g))) × (n ≤ place.1))

@@ -32,7 +32,7 @@ returns-in-Err-change_chunks g c =
     let keeps = subst (KeepsOthers w t u) c.vm.ensures e.ensures.keeps in
     let row = carries-alone d.image d.honest d.failed w (change_edit x) t u (vm h) b.tied (holds-heap d.image d.honest w t h b.tied b.ok.there) (may_grow x) (Err e.refusal) carries tt in
     item-refused d.image d.honest d.may_leave d.may_have_left d.failed c.args.vm.now h w c.args.blocks.now t (change_row (vm h) x) (changes-on_chunks (may_grow x) (change_edit x) (vm h)) (change_edit x) b u keeps (may_grow x) e.refusal
-    (change-inside x) carries row
+    (change-inside x) carries e.ensures.refused row
 
 pub vdirty_changed-requires : goal.vdirty_changed-requires
 vdirty_changed-requires g c =

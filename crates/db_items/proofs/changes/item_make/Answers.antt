@@ -32,7 +32,7 @@ returns-in-Err-make_chunk g c =
     let keeps = subst (KeepsOthers w t u) c.vm.ensures e.ensures.keeps in
     let row = comes-alone d.image d.honest d.failed w (make_edit x) t u (vm h) b.tied (holds-heap d.image d.honest w t h b.tied b.ok.there) (Err e.refusal) comes tt in
     item-refused d.image d.honest d.may_leave d.may_have_left d.failed c.args.vm.now h w c.args.blocks.now t (make_row (vm h) x) (enlarges-on_chunks (make_edit x) (vm h)) (make_edit x) b u keeps true e.refusal
-    (make-inside x) comes row
+    (make-inside x) comes e.ensures.refused row
 
 pub vdirty_changed-requires : goal.vdirty_changed-requires
 vdirty_changed-requires g c =

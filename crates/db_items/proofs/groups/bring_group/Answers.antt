@@ -37,6 +37,7 @@ returns-in-Err g c =
       no_group = λ none. absurd (none group);
       known = tt;
       not_short = λ r. not-short why r;
+      there = λ there. (e.there there, λ fails. let known = e.known there in absurd cc);
       row = λ known. e.row;
       ok = tt;
       err = e.err;
@@ -56,6 +57,7 @@ returns-in-Ok g c =
       no_group = λ none. absurd (none group);
       known = group;
       not_short = λ r. absurd cc;
+      there = λ there. (e.there there, λ r. absurd cc);
       row = λ known. e.row;
       ok = e.ok;
       err = tt;
