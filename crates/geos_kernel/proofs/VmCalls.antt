@@ -29,7 +29,7 @@ use Rattle.vm_blocks.specs.Tied.{IsTied, TiedAt}
 use Rattle.vm_blocks.specs.View.{VmState, held_at, vm_slot}
 use Rattle.db_items.specs.Groups.{IsGroup, RefusesNoGroup}
 use Rattle.geos_kernel.specs.Kernel.{Calls, HasRisen, IsKernel}
-use Rattle.geos_kernel.specs.View.{KernelOn, core_of, kernel_of}
+use Rattle.geos_kernel.specs.View.{KernelOn, core_of, kernel_of, seen, vm_over}
 use Rattle.geos_kernel.proofs.Listed.{Spares, SparesMem, StaysLocked, calls-beside, commit-spares, drops-spares, keeps-spares, kernel-beside, more-locked, not-locked, same-spares, thins-spares}
 use Rattle.geos_kernel.proofs.Seen.{risen, row-known}
 
@@ -151,6 +151,12 @@ module _ {D : Type 0} (v w : VmState D) where
   pub committed-spares : (how : How) (s t : Store) → NoneLocked s → (r : Result (Unit {0}) CommitError) → OnOk r (StoreAfter how s t) → OnErr r ((w ≡ record v { file = w.file }) × (t ≡ s)) → Spares s t
   committed-spares how s t none (Ok done) store refused = commit-spares how s t none store
   committed-spares how s t none (Err why) store refused = same-spares s t refused.1
+
+  -- a refusal leaves the table, and all blocks, as they were
+  pub committed-refused : (image : D → List ℕ) (failed : D → ℕ) (s t : Store) (r : Result (Unit {0}) CommitError) → OnErr r ((w ≡ record v { file = w.file }) × (t ≡ s))
+      → OnErr r (((core_of image failed w t).vm ≡ record (core_of image failed v s).vm { file = (core_of image failed w t).vm.file }) × (t ≡ s))
+  committed-refused image failed s t (Ok done) refused = tt
+  committed-refused image failed s t (Err why) refused = (ap (vm_over (seen image failed w.file.device)) refused.0, refused.1)
 
   pub committed-lasts : (failed : D → ℕ) (r : Result (Unit {0}) CommitError) → OnOk r (failed w.file.device ≡ failed v.file.device) → IfErr r (λ e. IsAfter e v.file w.file) → (r ≡ Err commit.Disk → Rose (failed v.file.device) (failed w.file.device))
       → (failed w.file.device ≡ failed v.file.device) ⊎ HasRisen (failed v.file.device) (failed w.file.device)

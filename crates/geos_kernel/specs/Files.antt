@@ -1,5 +1,5 @@
 -- What the kernel's calls make of the VM file on its device.
-use Rattle.std.specs.Prelude.{◌≡◌, ℕ, List, Result}
+use Rattle.std.specs.Prelude.{◌≡◌, ℕ, List, OnErr, OnOk, Result}
 use Rattle.geos_model.specs.declared.refusal.Refusal.{Refusal}
 use Rattle.vm_file.specs.declared.commit.How.{How}
 use Rattle.vm_file.specs.declared.error.CommitError.{CommitError}
@@ -7,7 +7,7 @@ use Rattle.vm_file.specs.Device.{Rose}
 use Rattle.vm_file.specs.Outcomes.{ReadsOnly}
 use Rattle.vm_file.specs.State.{FileState}
 use Rattle.vm_blocks.specs.Commit.{CommitsFile}
-use Rattle.vm_blocks.specs.Listed.{directory_of, resident_of}
+use Rattle.vm_blocks.specs.Listed.{StoreAfter, directory_of, resident_of}
 use Rattle.vm_blocks.specs.Refused.{of_commit}
 use Rattle.geos_kernel.specs.View.{KernelOn, file_over}
 
@@ -29,8 +29,10 @@ pub record ReadsFile {D : Type 0} (image : D → List ℕ) (honest : D → Type 
   pub counted : (fails → ⊥) → failed new.device ≡ failed old.device
 
 -- a commit of the current directory, with the blocks as they are in memory or else as the file has
--- them: what it keeps, what each refusal leaves, and what a stop at any moment does
+-- them: what it keeps, what each refusal leaves, in memory too, and what a stop at any moment does
 pub record Commits {D : Type 0} (image : D → List ℕ) (honest : D → Type 0) (failed : D → ℕ) (may_leave : D → List ℕ → Type 0) (left : D → D → List ℕ → Type 0) (how : How) (old new : KernelOn D) (result : Result (Unit {0}) Refusal) : Type 0 where
   pub answer : Result (Unit {0}) CommitError
   pub same : result ≡ of_commit answer
   pub file : CommitsFile image honest failed may_leave left how (resident_of old.core.blocks) (directory_of old.core.vm old.core.blocks) (vm_file_of old) (vm_file_of new) answer
+  pub store : OnOk answer (StoreAfter how old.core.blocks new.core.blocks)
+  pub refused : OnErr answer ((new.core.vm ≡ record old.core.vm { file = new.core.vm.file }) × (new.core.blocks ≡ old.core.blocks))

@@ -7,7 +7,7 @@ use Rattle.geos_kernel.specs.Files.{Commits}
 use Rattle.geos_kernel.specs.View.{kernel_of}
 use Rattle.geos_kernel.proofs.Listed.{calls-beside}
 use Rattle.geos_kernel.proofs.Seen.{calls-seen}
-use Rattle.geos_kernel.proofs.VmCalls.{committed-lasts, committed-spares, spared-kernel}
+use Rattle.geos_kernel.proofs.VmCalls.{committed-lasts, committed-refused, committed-spares, spared-kernel}
 use Rattle.geos_kernel.proofs.kernel.Kernel.commit.Goals as goal
 
 pub invariant_of-self : goal.invariant_of-self
@@ -31,4 +31,5 @@ pub returns-clause-commits : goal.returns-clause-commits
 returns-clause-commits g c =
     let d = g.D.Device in let v = c.self.inside.vm in let s = c.self.inside.blocks in
     let w = c.commit-done.new.self in let t = c.commit-done.new.blocks in let r = c.commit-done.result in
-    subst (λ k. Commits d.image d.honest d.failed d.may_leave d.may_have_left c.args.how k (kernel_of d.image d.failed w t) c.of_commit.result) c.self.view_is (record { answer = r; same = c.of_commit.ensures; file = c.commit-done.ensures.commits.file })
+    subst (λ k. Commits d.image d.honest d.failed d.may_leave d.may_have_left c.args.how k (kernel_of d.image d.failed w t) c.of_commit.result) c.self.view_is
+    (record { answer = r; same = c.of_commit.ensures; file = c.commit-done.ensures.commits.file; store = c.commit-done.ensures.commits.store; refused = committed-refused v w d.image d.failed s t r c.commit-done.ensures.commits.refused })
