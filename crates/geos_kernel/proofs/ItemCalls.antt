@@ -127,7 +127,7 @@ leads-standing good call span s t (Err refusal, answers, stands) = absurd stands
 
 -- What becomes of the file
 
-same-why : (why : Refusal) → ◌≡◌ {A = Result Span Refusal} (Err why) (Err refusal.Disk) → ◌≡◌ {A = Result (ℕ × ℕ) Refusal} (Err why) (Err refusal.Disk)
+pub same-why : (why : Refusal) → ◌≡◌ {A = Result Span Refusal} (Err why) (Err refusal.Disk) → ◌≡◌ {A = Result (ℕ × ℕ) Refusal} (Err why) (Err refusal.Disk)
 same-why why e = let same : why ≡ refusal.Disk = cc in ap Err same
 
 why-same : (why : Refusal) → ◌≡◌ {A = Result (ℕ × ℕ) Refusal} (Err why) (Err refusal.Disk) → ◌≡◌ {A = Result Span Refusal} (Err why) (Err refusal.Disk)

@@ -20,5 +20,6 @@ pub mod Listed
 pub mod ListedRows
 pub mod VmCalls
 pub mod ItemCalls
+pub mod There
 pub mod Chosen
 pub mod Turns

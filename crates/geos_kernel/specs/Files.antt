@@ -1,6 +1,8 @@
 -- What the kernel's calls make of the VM file on its device.
-use Rattle.std.specs.Prelude.{◌≡◌, ℕ, List, OnErr, OnOk, Result}
+use Rattle.std.specs.Prelude.{◌≡◌, ℕ, List, OnErr, OnOk, Result, Err}
 use Rattle.geos_model.specs.declared.refusal.Refusal.{Refusal}
+use Rattle.geos_model.specs.declared.refusal.Refusal.TheVariants.{Disk}
+use Rattle.block_handles.specs.Store.{IsThere}
 use Rattle.vm_file.specs.declared.commit.How.{How}
 use Rattle.vm_file.specs.declared.error.CommitError.{CommitError}
 use Rattle.vm_file.specs.Device.{Rose}
@@ -9,6 +11,8 @@ use Rattle.vm_file.specs.State.{FileState}
 use Rattle.vm_blocks.specs.Commit.{CommitsFile}
 use Rattle.vm_blocks.specs.Listed.{StoreAfter, directory_of, resident_of}
 use Rattle.vm_blocks.specs.Refused.{of_commit}
+use Rattle.vm_blocks.specs.View.{vm_slot}
+use Rattle.geos_kernel.specs.Kernel.{StaysIfRefused}
 use Rattle.geos_kernel.specs.View.{KernelOn, file_over}
 
 -- the VM file of a kernel on its device
@@ -27,6 +31,13 @@ pub record ReadsFile {D : Type 0} (image : D → List ℕ) (honest : D → Type 
   pub file : vm_file_of new ≡ file_over new.device old.core.vm.file
   pub cause : honest old.device → fails → Rose (failed old.device) (failed new.device)
   pub counted : (fails → ⊥) → failed new.device ≡ failed old.device
+
+-- a call on a block of the file, where that is in memory: it asks the device nothing, and a refusal for
+-- another reason than room leaves all blocks as they were. A block that the device refuses is not there
+pub record InMemory {D A : Type 0} (h : ℕ) (result : Result A Refusal) (old new : KernelOn D) : Type 0 where
+  pub there : IsThere old.core.blocks (vm_slot h) → AsksNothing old new × (result ≡ Err Disk → ⊥)
+  pub refused : IsThere old.core.blocks (vm_slot h) → StaysIfRefused result old.core.blocks new.core.blocks
+  pub absent : result ≡ Err Disk → IsThere new.core.blocks (vm_slot h) → ⊥
 
 -- a commit of the current directory, with the blocks as they are in memory or else as the file has
 -- them: what it keeps, what each refusal leaves, in memory too, and what a stop at any moment does

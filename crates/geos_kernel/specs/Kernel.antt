@@ -1,5 +1,5 @@
 -- What holds of a kernel, and what its calls promise.
-use Rattle.std.specs.Prelude.{List, [], ◌∷◌, length, set, true, Some, ◌≡◌, ◌⊎◌, ℕ, ◌-◌, ◌^◌, ◌<◌, ◌≤◌, Option, None, IsSomeAnd, Result, Ok, Err}
+use Rattle.std.specs.Prelude.{List, [], ◌∷◌, length, set, true, Some, ◌≡◌, ◌⊎◌, ℕ, ◌-◌, ◌^◌, ◌<◌, ◌≤◌, Option, None, IsSomeAnd, OnErr, Result, Ok, Err}
 use Rattle.block_handles.specs.Names.{slot_of}
 use Rattle.block_handles.specs.Store.{Store, IsThere, block_at, bytes_of, locks_of, region_len}
 use Rattle.block_handles.specs.Change.{LockedStay}
@@ -14,6 +14,7 @@ use Rattle.geos_model.specs.Chunks.{need}
 use Rattle.geos_model.specs.Edits.{Edit}
 use Rattle.geos_model.specs.Heap.{IsHeap}
 use Rattle.geos_model.specs.declared.refusal.Refusal.{Refusal}
+use Rattle.geos_model.specs.declared.refusal.Refusal.TheVariants.{NoRoom}
 use Rattle.geos_table.specs.VmFile.{VmFile}
 use Rattle.geos_table.specs.Calls.{store}
 use Rattle.geos_table.specs.Effects.{Choice, Call, Reference, outcome, effect_of}
@@ -120,6 +121,10 @@ ListedHasNoRoom s h = IsSomeAnd (held_at s.vm h) (λ held. HasNoRoomIn s (vm h) 
 pub record ItemHasNoRoom {A : Type 0} (s : KernelState) (g : ℕ) (edit : List (Option (List ℕ)) → Edit A) : Type 0 where
   pub none : NoneIdle s.vm s.blocks g
   pub no_room : HasNoRoom s.blocks (vm_slot g) (room_wanted edit (held_at s.vm g) (block_at s.blocks (vm_slot g)))
+
+-- a call that is refused, but not for want of room, leaves all blocks as they were
+abbrev pub StaysIfRefused : {A : Type 0} → Result A Refusal → Store → Store → Type 0
+StaysIfRefused result old new = (result ≡ Err NoRoom → ⊥) → OnErr result (new ≡ old)
 
 -- bytes were written at an offset of whatever a span stands for, as the row says
 abbrev pub Stores : Type 0 → Span → ℕ → List ℕ → KernelState → KernelState → Type 0

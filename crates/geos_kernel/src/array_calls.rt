@@ -12,7 +12,7 @@ impl<D: Device + Drop> Kernel<D> {
     ghost use Rattle.geos_model.specs.declared.refusal.Refusal.TheVariants.{NoRoom};
     ghost use Rattle.geos_table.specs.ArrayCalls as table;
     ghost use Rattle.geos_model.specs.ArrayEdits.{create_array, append_element, insert_element, resize_element};
-    ghost use Rattle.geos_kernel.specs.Kernel.{Calls, GivesSpan, HasNoRoomFor, LeavesVm};
+    ghost use Rattle.geos_kernel.specs.Kernel.{Calls, GivesSpan, HasNoRoomFor, LeavesVm, StaysIfRefused};
     ghost use Rattle.geos_kernel.specs.Spans.{IsStanding, IsWritable};
     ghost use Rattle.geos_kernel.specs.View.{chunks_at, IsLocked, MayChange};
 
@@ -25,6 +25,7 @@ impl<D: Device + Drop> Kernel<D> {
         requires marked { MayChange self.old.core name }
         ensures calls { Calls (D.honest self.old.device) (table.canew name element_size) result self.old.core self.new.core }
         ensures no_room { result ≡ Err NoRoom → HasNoRoomFor self.new.core name (create_array element_size (chunks_at self.old.core.blocks name)).chunks }
+        ensures refused { StaysIfRefused result self.old.core.blocks self.new.core.blocks }
         ensures vm { LeavesVm self.old self.new }
     {
         self.make(name, Make::Canew { element_size })
@@ -39,6 +40,7 @@ impl<D: Device + Drop> Kernel<D> {
         requires marked { MayChange self.old.core name }
         ensures calls { Calls (D.honest self.old.device) (table.caadd name c n) result self.old.core self.new.core }
         ensures no_room { result ≡ Err NoRoom → HasNoRoomFor self.new.core name (append_element c n (chunks_at self.old.core.blocks name)).chunks }
+        ensures refused { StaysIfRefused result self.old.core.blocks self.new.core.blocks }
         ensures vm { LeavesVm self.old self.new }
     {
         self.change(name, Change::Caadd { c, n })
@@ -52,6 +54,7 @@ impl<D: Device + Drop> Kernel<D> {
         requires marked { MayChange self.old.core name }
         ensures calls { Calls (D.honest self.old.device) (table.cains name c i n) result self.old.core self.new.core }
         ensures no_room { result ≡ Err NoRoom → HasNoRoomFor self.new.core name (insert_element c i n (chunks_at self.old.core.blocks name)).chunks }
+        ensures refused { StaysIfRefused result self.old.core.blocks self.new.core.blocks }
         ensures vm { LeavesVm self.old self.new }
     {
         self.change(name, Change::Cains { c, i, n })
@@ -63,6 +66,7 @@ impl<D: Device + Drop> Kernel<D> {
         requires locked { IsLocked self.old.core name }
         requires marked { MayChange self.old.core name }
         ensures calls { Calls (D.honest self.old.device) (table.cadel name c i) result self.old.core self.new.core }
+        ensures refused { StaysIfRefused result self.old.core.blocks self.new.core.blocks }
         ensures vm { LeavesVm self.old self.new }
     {
         self.change(name, Change::Cadel { c, i })
@@ -96,6 +100,7 @@ impl<D: Device + Drop> Kernel<D> {
         requires locked { IsLocked self.old.core name }
         requires marked { MayChange self.old.core name }
         ensures calls { Calls (D.honest self.old.device) (table.cazero name c) result self.old.core self.new.core }
+        ensures refused { StaysIfRefused result self.old.core.blocks self.new.core.blocks }
         ensures vm { LeavesVm self.old self.new }
     {
         self.change(name, Change::Cazero { c })
@@ -110,6 +115,7 @@ impl<D: Device + Drop> Kernel<D> {
         requires marked { MayChange self.old.core name }
         ensures calls { Calls (D.honest self.old.device) (table.caresize name c i n) result self.old.core self.new.core }
         ensures no_room { result ≡ Err NoRoom → HasNoRoomFor self.new.core name (resize_element c i n (chunks_at self.old.core.blocks name)).chunks }
+        ensures refused { StaysIfRefused result self.old.core.blocks self.new.core.blocks }
         ensures vm { LeavesVm self.old self.new }
     {
         self.change(name, Change::Caresize { c, i, n })

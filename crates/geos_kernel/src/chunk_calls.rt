@@ -12,7 +12,7 @@ impl<D: Device + Drop> Kernel<D> {
     ghost use Rattle.geos_model.specs.declared.refusal.Refusal.TheVariants.{NoRoom};
     ghost use Rattle.geos_model.specs.Chunks.{with_new, with_resized, with_inserted};
     ghost use Rattle.geos_table.specs.Calls as table;
-    ghost use Rattle.geos_kernel.specs.Kernel.{Calls, GivesSpan, HasNoRoomFor, LeavesVm};
+    ghost use Rattle.geos_kernel.specs.Kernel.{Calls, GivesSpan, HasNoRoomFor, LeavesVm, StaysIfRefused};
     ghost use Rattle.geos_kernel.specs.Spans.{IsStanding, IsWritable};
     ghost use Rattle.geos_kernel.specs.View.{chunks_at, IsLocked, MayChange};
 
@@ -25,6 +25,7 @@ impl<D: Device + Drop> Kernel<D> {
         requires marked { MayChange self.old.core name }
         ensures calls { Calls (D.honest self.old.device) (table.lalloc name n) result self.old.core self.new.core }
         ensures no_room { result ≡ Err NoRoom → HasNoRoomFor self.new.core name (with_new (chunks_at self.old.core.blocks name) n) }
+        ensures refused { StaysIfRefused result self.old.core.blocks self.new.core.blocks }
         ensures vm { LeavesVm self.old self.new }
     {
         self.make(name, Make::Lalloc { n })
@@ -36,6 +37,7 @@ impl<D: Device + Drop> Kernel<D> {
         requires locked { IsLocked self.old.core name }
         requires marked { MayChange self.old.core name }
         ensures calls { Calls (D.honest self.old.device) (table.lfree name c) result self.old.core self.new.core }
+        ensures refused { StaysIfRefused result self.old.core.blocks self.new.core.blocks }
         ensures vm { LeavesVm self.old self.new }
     {
         self.change(name, Change::Lfree { c })
@@ -49,6 +51,7 @@ impl<D: Device + Drop> Kernel<D> {
         requires marked { MayChange self.old.core name }
         ensures calls { Calls (D.honest self.old.device) (table.lrealloc name c n) result self.old.core self.new.core }
         ensures no_room { result ≡ Err NoRoom → HasNoRoomFor self.new.core name (with_resized (chunks_at self.old.core.blocks name) c n) }
+        ensures refused { StaysIfRefused result self.old.core.blocks self.new.core.blocks }
         ensures vm { LeavesVm self.old self.new }
     {
         self.change(name, Change::Lrealloc { c, n })
@@ -62,6 +65,7 @@ impl<D: Device + Drop> Kernel<D> {
         requires marked { MayChange self.old.core name }
         ensures calls { Calls (D.honest self.old.device) (table.lins name c at n) result self.old.core self.new.core }
         ensures no_room { result ≡ Err NoRoom → HasNoRoomFor self.new.core name (with_inserted (chunks_at self.old.core.blocks name) c at n) }
+        ensures refused { StaysIfRefused result self.old.core.blocks self.new.core.blocks }
         ensures vm { LeavesVm self.old self.new }
     {
         self.change(name, Change::Lins { c, at, n })
@@ -74,6 +78,7 @@ impl<D: Device + Drop> Kernel<D> {
         requires locked { IsLocked self.old.core name }
         requires marked { MayChange self.old.core name }
         ensures calls { Calls (D.honest self.old.device) (table.ldel name c at n) result self.old.core self.new.core }
+        ensures refused { StaysIfRefused result self.old.core.blocks self.new.core.blocks }
         ensures vm { LeavesVm self.old self.new }
     {
         self.change(name, Change::Ldel { c, at, n })

@@ -1,6 +1,6 @@
 //! The kernel's calls on groups of the VM file, and on items.
 
-ghost use Rattle.std.specs.Prelude.{◌≡◌, ◌≤◌, Ok, Err, IfOk};
+ghost use Rattle.std.specs.Prelude.{◌≡◌, ◌≤◌, Ok, Err, IfOk, OnOk};
 
 use crate::kernel::Kernel;
 use crate::span::Span;
@@ -13,11 +13,15 @@ use vm_file::Device;
 
 impl<D: Device + Drop> Kernel<D> {
     ghost use Rattle.geos_model.specs.declared.name.Owner.TheVariants as owner;
+    ghost use Rattle.block_handles.specs.Change.{with_lock_more};
+    ghost use Rattle.block_handles.specs.Store.{IsThere};
+    ghost use Rattle.db_items.specs.Groups.{IsGroup};
+    ghost use Rattle.vm_blocks.specs.View.{vm_slot};
     ghost use Rattle.geos_model.specs.Edits.{alloc, delete_bytes, free, insert_bytes, realloc};
     ghost use Rattle.geos_model.specs.Names.{vm};
     ghost use Rattle.geos_table.specs.ChunkCalls.{change_edit, change_row, make_edit, make_row};
     ghost use Rattle.geos_table.specs.ItemCalls as table;
-    ghost use Rattle.geos_kernel.specs.Files.{AsksNothing, ReadsFile};
+    ghost use Rattle.geos_kernel.specs.Files.{AsksNothing, InMemory, ReadsFile};
     ghost use Rattle.geos_kernel.specs.Kernel.{Calls, ItemHasNoRoom, LeadsToSpan, LeavesVm, ListedHasNoRoom, NewListedHasNoRoom};
     ghost use Rattle.geos_kernel.specs.Spans.{IsStanding, IsWritable};
     ghost use Rattle.geos_kernel.specs.View.{IsLocked, IsMarked};
@@ -49,6 +53,8 @@ impl<D: Device + Drop> Kernel<D> {
     pub fn item_change(&mut self, g: u16, change: Change) -> Result<(), Refusal>
         ensures calls { Calls (D.honest self.old.device) (table.on_group g (change_row (vm g) change)) result self.old.core self.new.core }
         ensures no_room { result ≡ Err Refusal.NoRoom → ItemHasNoRoom self.new.core g (change_edit change) }
+        ensures in_memory { InMemory g result self.old self.new }
+        ensures no_group { (IsGroup self.old.core.vm g → ⊥) → self.new ≡ self.old }
         ensures device { ReadsFile D.image D.honest D.failed D.may_leave D.may_have_left (result ≡ Err Refusal.Disk) self.old self.new }
     {
         item_change(&mut self.vm, &mut self.blocks, g, change)
@@ -59,6 +65,8 @@ impl<D: Device + Drop> Kernel<D> {
     pub fn item_make(&mut self, g: u16, make: Make) -> Result<u16, Refusal>
         ensures calls { Calls (D.honest self.old.device) (table.on_group g (make_row (vm g) make)) result self.old.core self.new.core }
         ensures no_room { result ≡ Err Refusal.NoRoom → ItemHasNoRoom self.new.core g (make_edit make) }
+        ensures in_memory { InMemory g result self.old self.new }
+        ensures no_group { (IsGroup self.old.core.vm g → ⊥) → self.new ≡ self.old }
         ensures device { ReadsFile D.image D.honest D.failed D.may_leave D.may_have_left (result ≡ Err Refusal.Disk) self.old self.new }
     {
         item_make(&mut self.vm, &mut self.blocks, g, make)
@@ -69,6 +77,8 @@ impl<D: Device + Drop> Kernel<D> {
     pub fn inew(&mut self, g: u16, n: u16) -> Result<u16, Refusal>
         ensures calls { Calls (D.honest self.old.device) (table.inew g n) result self.old.core self.new.core }
         ensures no_room { result ≡ Err Refusal.NoRoom → ItemHasNoRoom self.new.core g (alloc n) }
+        ensures in_memory { InMemory g result self.old self.new }
+        ensures no_group { (IsGroup self.old.core.vm g → ⊥) → self.new ≡ self.old }
         ensures device { ReadsFile D.image D.honest D.failed D.may_leave D.may_have_left (result ≡ Err Refusal.Disk) self.old self.new }
     {
         self.item_make(g, Make::Lalloc { n })
@@ -79,6 +89,8 @@ impl<D: Device + Drop> Kernel<D> {
     pub fn ifree(&mut self, g: u16, i: u16) -> Result<(), Refusal>
         ensures calls { Calls (D.honest self.old.device) (table.ifree g i) result self.old.core self.new.core }
         ensures no_room { result ≡ Err Refusal.NoRoom → ItemHasNoRoom self.new.core g (free i) }
+        ensures in_memory { InMemory g result self.old self.new }
+        ensures no_group { (IsGroup self.old.core.vm g → ⊥) → self.new ≡ self.old }
         ensures device { ReadsFile D.image D.honest D.failed D.may_leave D.may_have_left (result ≡ Err Refusal.Disk) self.old self.new }
     {
         self.item_change(g, Change::Lfree { c: i })
@@ -90,6 +102,8 @@ impl<D: Device + Drop> Kernel<D> {
     pub fn irealloc(&mut self, g: u16, i: u16, n: u16) -> Result<(), Refusal>
         ensures calls { Calls (D.honest self.old.device) (table.irealloc g i n) result self.old.core self.new.core }
         ensures no_room { result ≡ Err Refusal.NoRoom → ItemHasNoRoom self.new.core g (realloc i n) }
+        ensures in_memory { InMemory g result self.old self.new }
+        ensures no_group { (IsGroup self.old.core.vm g → ⊥) → self.new ≡ self.old }
         ensures device { ReadsFile D.image D.honest D.failed D.may_leave D.may_have_left (result ≡ Err Refusal.Disk) self.old self.new }
     {
         self.item_change(g, Change::Lrealloc { c: i, n })
@@ -100,6 +114,8 @@ impl<D: Device + Drop> Kernel<D> {
     pub fn iins(&mut self, g: u16, i: u16, at: u16, n: u16) -> Result<(), Refusal>
         ensures calls { Calls (D.honest self.old.device) (table.iins g i at n) result self.old.core self.new.core }
         ensures no_room { result ≡ Err Refusal.NoRoom → ItemHasNoRoom self.new.core g (insert_bytes i at n) }
+        ensures in_memory { InMemory g result self.old self.new }
+        ensures no_group { (IsGroup self.old.core.vm g → ⊥) → self.new ≡ self.old }
         ensures device { ReadsFile D.image D.honest D.failed D.may_leave D.may_have_left (result ≡ Err Refusal.Disk) self.old self.new }
     {
         self.item_change(g, Change::Lins { c: i, at, n })
@@ -110,6 +126,8 @@ impl<D: Device + Drop> Kernel<D> {
     pub fn idel(&mut self, g: u16, i: u16, at: u16, n: u16) -> Result<(), Refusal>
         ensures calls { Calls (D.honest self.old.device) (table.idel g i at n) result self.old.core self.new.core }
         ensures no_room { result ≡ Err Refusal.NoRoom → ItemHasNoRoom self.new.core g (delete_bytes i at n) }
+        ensures in_memory { InMemory g result self.old self.new }
+        ensures no_group { (IsGroup self.old.core.vm g → ⊥) → self.new ≡ self.old }
         ensures device { ReadsFile D.image D.honest D.failed D.may_leave D.may_have_left (result ≡ Err Refusal.Disk) self.old self.new }
     {
         self.item_change(g, Change::Ldel { c: i, at, n })
@@ -126,6 +144,9 @@ impl<D: Device + Drop> Kernel<D> {
         ensures stands { IfOk result (λ span. IsStanding self.new.core span × (n ≤ span.len)) }
         ensures writable { IfOk result (λ span. IsMarked self.new.core g → IsWritable self.new.core span) }
         ensures no_room { result ≡ Err Refusal.NoRoom → ListedHasNoRoom self.new.core g }
+        ensures locks { IsThere self.old.core.blocks (vm_slot g) → OnOk result (self.new.core.blocks ≡ with_lock_more self.old.core.blocks (vm_slot g)) }
+        ensures in_memory { InMemory g result self.old self.new }
+        ensures no_group { (IsGroup self.old.core.vm g → ⊥) → self.new ≡ self.old }
         ensures device { ReadsFile D.image D.honest D.failed D.may_leave D.may_have_left (result ≡ Err Refusal.Disk) self.old self.new }
     {
         match item_lock_part(&mut self.vm, &mut self.blocks, g, i, n) {

@@ -63,7 +63,7 @@ impl<D: Device + Drop> Kernel<D> {
     ghost use Rattle.vm_blocks.specs.Opened.{opened_file};
     ghost use Rattle.vm_blocks.specs.View.{held_at};
     ghost use Rattle.vm_file.specs.Outcomes.{IsHeapUnder};
-    ghost use Rattle.geos_kernel.specs.Kernel.{Calls, GivesSpan, HasNoRoomFor, LeavesVm, NewHasNoRoom};
+    ghost use Rattle.geos_kernel.specs.Kernel.{Calls, GivesSpan, HasNoRoomFor, LeavesVm, NewHasNoRoom, StaysIfRefused};
     ghost use Rattle.geos_kernel.specs.Spans.{IsStanding, IsWritable};
     ghost use Rattle.geos_kernel.specs.View.{chunks_at, file_over, IsFileOf, IsLocked, MayChange, memory_of};
 
@@ -201,6 +201,7 @@ impl<D: Device + Drop> Kernel<D> {
         requires marked { MayChange self.old.core name }
         ensures calls { Calls (D.honest self.old.device) (change_row name change) result self.old.core self.new.core }
         ensures no_room { result ≡ Err Refusal.NoRoom → HasNoRoomFor self.new.core name (change_edit change (chunks_at self.old.core.blocks name)).chunks }
+        ensures refused { StaysIfRefused result self.old.core.blocks self.new.core.blocks }
         ensures vm { LeavesVm self.old self.new }
     {
         heap_calls::change(&self.vm, &mut self.blocks, name, change)
@@ -214,6 +215,7 @@ impl<D: Device + Drop> Kernel<D> {
         requires marked { MayChange self.old.core name }
         ensures calls { Calls (D.honest self.old.device) (make_row name make) result self.old.core self.new.core }
         ensures no_room { result ≡ Err Refusal.NoRoom → HasNoRoomFor self.new.core name (make_edit make (chunks_at self.old.core.blocks name)).chunks }
+        ensures refused { StaysIfRefused result self.old.core.blocks self.new.core.blocks }
         ensures vm { LeavesVm self.old self.new }
     {
         heap_calls::make(&self.vm, &mut self.blocks, name, make)

@@ -1,6 +1,6 @@
 //! The kernel's calls on blocks of the VM file, on what is mapped, and on the file.
 
-ghost use Rattle.std.specs.Prelude.{◌≡◌, ℕ, List, Ok, Err, IfOk};
+ghost use Rattle.std.specs.Prelude.{◌≡◌, ℕ, List, Ok, Err, IfOk, OnErr, OnOk};
 
 use crate::kernel::Kernel;
 use crate::refused::{of_commit, of_free, of_lock, of_new, of_uid};
@@ -13,11 +13,14 @@ impl<D: Device + Drop> Kernel<D> {
     ghost use Rattle.geos_model.specs.Names.{vm};
     ghost use Rattle.geos_table.specs.VmCalls as table;
     ghost use Rattle.geos_table.specs.VmFile.{VmFile};
+    ghost use Rattle.block_handles.specs.Change.{with_lock_more};
+    ghost use Rattle.block_handles.specs.Store.{IsThere};
+    ghost use Rattle.vm_blocks.specs.View.{vm_slot};
     ghost use Rattle.vm_blocks.specs.Found.{OpensAsKept};
     ghost use Rattle.vm_blocks.specs.Listed.{NoneLocked};
     ghost use Rattle.vm_blocks.specs.ListedCalls.{keeper_of};
     ghost use Rattle.vm_file.specs.State.{Finds};
-    ghost use Rattle.geos_kernel.specs.Files.{AsksNothing, Commits, ReadsFile, vm_file_of};
+    ghost use Rattle.geos_kernel.specs.Files.{AsksNothing, Commits, InMemory, ReadsFile, vm_file_of};
     ghost use Rattle.geos_kernel.specs.Kernel.{Calls, LeavesVm, ListedHasNoRoom, NewListedHasNoRoom};
     ghost use Rattle.geos_kernel.specs.View.{IsFileOf, IsLocked, IsMarked};
 
@@ -59,6 +62,10 @@ impl<D: Device + Drop> Kernel<D> {
     pub fn vlock(&mut self, h: u16) -> Result<(), Refusal>
         ensures calls { Calls (D.honest self.old.device) (table.vlock h) result self.old.core self.new.core }
         ensures no_room { result ≡ Err Refusal.NoRoom → ListedHasNoRoom self.new.core h }
+        // A block that is in memory is locked without the device; a refusal but for room or the device changes nothing.
+        ensures in_memory { InMemory h result self.old self.new }
+        ensures locks { IsThere self.old.core.blocks (vm_slot h) → OnOk result (self.new.core.blocks ≡ with_lock_more self.old.core.blocks (vm_slot h)) }
+        ensures refused { (result ≡ Err Refusal.NoRoom → ⊥) → (result ≡ Err Refusal.Disk → ⊥) → OnErr result (self.new ≡ self.old) }
         ensures device { ReadsFile D.image D.honest D.failed D.may_leave D.may_have_left (result ≡ Err Refusal.Disk) self.old self.new }
     {
         if is_group(&self.vm, h) {

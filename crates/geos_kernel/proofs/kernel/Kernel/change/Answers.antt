@@ -7,7 +7,7 @@ use Rattle.geos_table.specs.Given.{given_memory}
 use Rattle.heap_calls.specs.Others.{IsMarkedIfVm}
 use Rattle.heap_calls.proofs.Asking.{change-asks}
 use Rattle.geos_kernel.specs.View.{IsLocked, MayChange, chunks_at, core_of}
-use Rattle.geos_kernel.specs.Kernel.{Calls, HasNoRoomFor}
+use Rattle.geos_kernel.specs.Kernel.{Calls, HasNoRoomFor, StaysIfRefused}
 use Rattle.geos_kernel.proofs.Chunks.{locked-heap, others-calls, others-kernel, carries-no_room}
 use Rattle.geos_kernel.proofs.Seen.{blocks-alone}
 use Rattle.geos_kernel.proofs.kernel.Kernel.change.Goals as goal
@@ -47,3 +47,6 @@ returns-clause-no_room g c = λ refused.
 
 pub returns-clause-vm : goal.returns-clause-vm
 returns-clause-vm g c = blocks-alone g.D.Device.image g.D.Device.failed c.self.inside.vm c.self.inside.blocks c.change.new.blocks c.args.self.now c.self.view_is
+
+pub returns-clause-refused : goal.returns-clause-refused
+returns-clause-refused g c = subst (λ k. StaysIfRefused c.change.result k.core.blocks c.change.new.blocks) c.self.view_is c.change.ensures.refused

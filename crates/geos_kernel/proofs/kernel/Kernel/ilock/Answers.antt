@@ -10,6 +10,7 @@ use Rattle.geos_kernel.specs.Kernel.{LeadsToSpan}
 use Rattle.geos_kernel.specs.View.{core_of}
 use Rattle.geos_kernel.proofs.ItemCalls.{ilock-failed, ilock-gives, ilock-reads, ilock-refuses, ilock-stands, leads-standing}
 use Rattle.geos_kernel.proofs.Listed.{keeps-mem}
+use Rattle.geos_kernel.proofs.There.{ilock-found, ilock-more, ilock-not_found, no_group-same}
 use Rattle.geos_kernel.proofs.VmCalls.{spared-kernel}
 use Rattle.geos_kernel.proofs.kernel.Kernel.ilock.Goals.{in-Ok, in-Err}
 use Rattle.geos_kernel.proofs.kernel.Kernel.ilock.Goals as goal
@@ -72,3 +73,30 @@ returns-clause-device g c = elim c.match-item_lock_part.branch [
       rw w.result-is (ilock-failed d.image d.honest d.may_leave d.may_have_left d.failed v x s t c.args.self.now c.self.view_is h i n w.in-Err.refusal w.in-Err.ensures)
       )
 ]
+
+pub returns-clause-in_memory : goal.returns-clause-in_memory
+returns-clause-in_memory g c = elim c.match-item_lock_part.branch [
+  | in-Ok w ↦ (
+      let d = g.D.Device in let v = c.self.inside.vm in let s = c.self.inside.blocks in let x = c.item_lock_part.new.vm in let t = c.item_lock_part.new.blocks in let h = c.args.g in let i = c.args.i in let n = c.args.n in
+      let span : Span = record { at = w.place.result + w.in-Ok.at; len = w.in-Ok.len } in
+      rw w.result-is (ilock-found d.image d.failed v x s t c.args.self.now c.self.view_is d.honest d.may_leave d.may_have_left h i n (w.in-Ok.at, w.in-Ok.len) span w.in-Ok.ensures)
+      )
+  | in-Err w ↦ (
+      let d = g.D.Device in let v = c.self.inside.vm in let s = c.self.inside.blocks in let x = c.item_lock_part.new.vm in let t = c.item_lock_part.new.blocks in let h = c.args.g in let i = c.args.i in let n = c.args.n in
+      rw w.result-is (ilock-not_found d.image d.failed v x s t c.args.self.now c.self.view_is d.honest d.may_leave d.may_have_left h i n w.in-Err.refusal w.in-Err.ensures)
+      )
+]
+
+pub returns-clause-locks : goal.returns-clause-locks
+returns-clause-locks g c = elim c.match-item_lock_part.branch [
+  | in-Ok w ↦ (
+      let d = g.D.Device in let v = c.self.inside.vm in let s = c.self.inside.blocks in let x = c.item_lock_part.new.vm in let t = c.item_lock_part.new.blocks in let h = c.args.g in let i = c.args.i in let n = c.args.n in
+      rw w.result-is (ilock-more d.image d.failed v x s t c.args.self.now c.self.view_is d.honest d.may_leave d.may_have_left h i n (w.in-Ok.at, w.in-Ok.len) w.in-Ok.ensures)
+      )
+  | in-Err w ↦ rw w.result-is (λ was. tt)
+]
+
+pub returns-clause-no_group : goal.returns-clause-no_group
+returns-clause-no_group g c =
+    let d = g.D.Device in let done = c.item_lock_part in
+    no_group-same d.image d.failed c.self.inside.vm done.new.vm c.self.inside.blocks done.new.blocks c.args.self.now c.self.view_is c.args.g done.result done.ensures.no_group

@@ -5,6 +5,7 @@ use Rattle.geos_table.specs.ItemCalls.{on_group}
 use Rattle.geos_kernel.proofs.ItemCalls.{item-calls}
 use Rattle.geos_kernel.proofs.Listed.{keeps-mem}
 use Rattle.geos_kernel.proofs.Seen.{calls-seen}
+use Rattle.geos_kernel.proofs.There.{in-memory, no_group-same}
 use Rattle.geos_kernel.proofs.VmCalls.{spared-kernel}
 use Rattle.geos_kernel.proofs.kernel.Kernel.item_change.Goals as goal
 
@@ -20,3 +21,13 @@ returns-clause-calls g c =
     let w = c.item_change.new.vm in let t = c.item_change.new.blocks in let r = c.item_change.result in
     let call = on_group c.args.g (change_row (vm c.args.g) c.args.change) in
     calls-seen d.image d.honest d.failed v s c.args.self.now c.self.view_is (item-calls d.image d.honest d.may_leave d.may_have_left d.failed v w s t c.args.g c.self.invariant call (change_edit c.args.change) r c.item_change.ensures (λ choice f. refl))
+
+pub returns-clause-in_memory : goal.returns-clause-in_memory
+returns-clause-in_memory g c =
+    let d = g.D.Device in let e = c.item_change.ensures in
+    in-memory d.image d.failed c.self.inside.vm c.item_change.new.vm c.self.inside.blocks c.item_change.new.blocks c.args.self.now c.self.view_is c.args.g c.item_change.result e.there e.stays e.absent
+
+pub returns-clause-no_group : goal.returns-clause-no_group
+returns-clause-no_group g c =
+    let d = g.D.Device in
+    no_group-same d.image d.failed c.self.inside.vm c.item_change.new.vm c.self.inside.blocks c.item_change.new.blocks c.args.self.now c.self.view_is c.args.g c.item_change.result c.item_change.ensures.no_group

@@ -1,10 +1,15 @@
-use Rattle.std.proofs.Common.{◌≡◌, false, true, refl}
+use Rattle.std.proofs.Common.{◌≡◌, false, true, refl, subst}
+use Rattle.std.specs.Prelude.{OnOk}
 use Rattle.geos_table.specs.VmCalls.{lock_listed}
+use Rattle.block_handles.specs.Change.{with_lock_more}
+use Rattle.block_handles.specs.Store.{IsThere}
+use Rattle.vm_blocks.specs.View.{vm_slot}
 use Rattle.vm_blocks.specs.Refused.{of_lock}
 use Rattle.db_items.specs.Groups.{IsGroup}
 use Rattle.geos_kernel.proofs.Listed.{calls-beside}
 use Rattle.geos_kernel.proofs.ListedRows.{lock-group-row, lock-row}
 use Rattle.geos_kernel.proofs.Seen.{calls-seen}
+use Rattle.geos_kernel.proofs.There.{lock-in_memory, lock-more, lock-refused}
 use Rattle.geos_kernel.proofs.VmCalls.{lock-lasts, lock-spares, spared-kernel, told-calls}
 use Rattle.geos_kernel.proofs.kernel.Kernel.vlock.Goals as goal
 
@@ -29,3 +34,22 @@ returns-clause-calls g c =
     let row = lock-row d.image d.honest d.failed v s c.self.invariant.tied h none w t (of_lock r) e.row in
     let lasts = lock-lasts (d.honest v.file.device) (d.failed v.file.device) (d.failed w.file.device) r e.cause e.counted in
     rw c.of_lock.ensures (calls-seen d.image d.honest d.failed v s c.args.self.now c.self.view_is (calls-beside d.image d.honest d.failed v w s t row e.reads.stays lasts (lock-spares v s t h r e.keeps e.ok e.err)))
+
+pub returns-clause-in_memory : goal.returns-clause-in_memory
+returns-clause-in_memory g c =
+    let d = g.D.Device in let v = c.self.inside.vm in let s = c.self.inside.blocks in
+    let done = c.vlock-locked in let w = done.new.self in let t = done.new.blocks in let h = c.args.h in let e = done.ensures in
+    rw c.of_lock.ensures (lock-in_memory d.image d.failed v w s t c.args.self.now c.self.view_is h (t ≡ with_lock_more s (vm_slot h)) done.result e.there e.disk)
+
+pub returns-clause-locks : goal.returns-clause-locks
+returns-clause-locks g c =
+    let d = g.D.Device in let v = c.self.inside.vm in let s = c.self.inside.blocks in
+    let done = c.vlock-locked in let w = done.new.self in let t = done.new.blocks in let r = done.result in let h = c.args.h in
+    let more = lock-more d.image d.failed v w s t c.args.self.now c.self.view_is h (t ≡ with_lock_more s (vm_slot h)) r done.ensures.there in
+    rw c.of_lock.ensures (subst (λ k. IsThere k.core.blocks (vm_slot h) → OnOk (of_lock r) (t ≡ with_lock_more k.core.blocks (vm_slot h))) c.self.view_is more)
+
+pub returns-clause-refused : goal.returns-clause-refused
+returns-clause-refused g c =
+    let d = g.D.Device in let v = c.self.inside.vm in let s = c.self.inside.blocks in
+    let done = c.vlock-locked in let w = done.new.self in let t = done.new.blocks in let h = c.args.h in let e = done.ensures in
+    rw c.of_lock.ensures (lock-refused d.image d.failed v w s t c.args.self.now c.self.view_is h (t ≡ with_lock_more s (vm_slot h)) done.result e.there (λ bad. e.unlisted (e.bad_handle.0 bad)) e.locked.0)

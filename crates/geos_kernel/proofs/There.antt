@@ -1,0 +1,93 @@
+-- Calls on a block of the file that is in memory, by what was done below; and those that change nothing.
+use Rattle.std.proofs.Common.{◌≡◌, ◌∙◌, ℕ, ◌<◌, List, refl, ap, arith, subst}
+use Rattle.std.specs.Prelude.{MatchResult, OnErr, OnOk, Result, Ok, Err}
+use Rattle.geos_model.specs.declared.refusal.Refusal.{Refusal}
+use Rattle.geos_model.specs.declared.refusal.Refusal.TheVariants as refusal
+use Rattle.block_handles.specs.Change.{with_lock_more}
+use Rattle.block_handles.specs.Store.{Store, IsThere, locks_of}
+use Rattle.block_handles.proofs.Layouts.{there_of_locks}
+use Rattle.vm_file.specs.State.{FileState}
+use Rattle.vm_blocks.specs.declared.error.LockError.{LockError}
+use Rattle.vm_blocks.specs.declared.error.LockError.TheVariants as lock
+use Rattle.vm_blocks.specs.Refused.{of_lock}
+use Rattle.vm_blocks.specs.View.{VmState, vm_slot}
+use Rattle.db_items.specs.Groups.{IsGroup, RefusesNoGroup}
+use Rattle.db_items.specs.Items.{LocksItem}
+use Rattle.geos_kernel.specs.declared.span.Span.{Span}
+use Rattle.geos_kernel.specs.Files.{InMemory}
+use Rattle.geos_kernel.specs.View.{KernelOn, file_over, kernel_of, seen}
+use Rattle.geos_kernel.proofs.ItemCalls.{same-why}
+
+on-there : {A : Type 0} (r : Result A Refusal) (P Q : Type 0) → OnErr r (P → Q) → P → OnErr r Q
+on-there (Ok answer) P Q stays there = tt
+on-there (Err why) P Q stays there = stays there
+
+module _ {D : Type 0} (image : D → List ℕ) (failed : D → ℕ) (v w : VmState D) (s t : Store) (k : KernelOn D) (is : kernel_of image failed v s ≡ k) where
+  pub in-memory : {A : Type 0} (h : ℕ) (r : Result A Refusal) → (IsThere s (vm_slot h) → (w.file ≡ v.file) × (r ≡ Err refusal.Disk → ⊥)) → ((r ≡ Err refusal.NoRoom → ⊥) → OnErr r (IsThere s (vm_slot h) → t ≡ s))
+      → (r ≡ Err refusal.Disk → IsThere t (vm_slot h) → ⊥) → InMemory h r k (kernel_of image failed w t)
+  in-memory h r there stays absent = subst (λ x. InMemory h r x (kernel_of image failed w t)) is (record {
+    there = λ was. (let file = (there was).0 in (record { device = ap (λ (f : FileState D). f.device) file; file = ap (λ (f : FileState D). file_over (seen image failed f.device) f) file }, (there was).1));
+    refused = λ was other. on-there r (IsThere s (vm_slot h)) (t ≡ s) (stays other) was;
+    absent = absent;
+  })
+
+  pub nothing-changed : w ≡ v → t ≡ s → kernel_of image failed w t ≡ k
+  nothing-changed vm blocks = ap (λ x. kernel_of image failed x t) vm ∙ ap (kernel_of image failed v) blocks ∙ is
+
+  -- A lock
+
+  module _ (h : ℕ) (more : Type 0) where
+    abbrev IfThere : Result (Unit {0}) LockError → Type 0
+    IfThere r = IsThere s (vm_slot h) → (w ≡ v) × MatchResult r (λ _. more) (λ why. (why ≡ lock.Locked) × (t ≡ s))
+
+    no-disk : (r : Result (Unit {0}) LockError) → MatchResult r (λ _. more) (λ why. (why ≡ lock.Locked) × (t ≡ s)) → of_lock r ≡ Err refusal.Disk → ⊥
+    no-disk (Ok done) m e = absurd cc
+    no-disk (Err lock.BadHandle) m e = absurd cc
+    no-disk (Err lock.Locked) m e = absurd cc
+    no-disk (Err lock.NoRoom) m e = absurd cc
+    no-disk (Err lock.Disk) m e = absurd (let other = m.0 in cc)
+
+    disk-so : (r : Result (Unit {0}) LockError) → of_lock r ≡ Err refusal.Disk → r ≡ Err lock.Disk
+    disk-so (Ok done) e = absurd cc
+    disk-so (Err lock.BadHandle) e = absurd cc
+    disk-so (Err lock.Locked) e = absurd cc
+    disk-so (Err lock.NoRoom) e = absurd cc
+    disk-so (Err lock.Disk) e = refl
+
+    lock-stays : (r : Result (Unit {0}) LockError) → IfThere r → OnErr (of_lock r) (IsThere s (vm_slot h) → t ≡ s)
+    lock-stays (Ok done) there = tt
+    lock-stays (Err why) there = λ was. (there was).1.1
+
+    pub lock-in_memory : (r : Result (Unit {0}) LockError) → IfThere r → (r ≡ Err lock.Disk → IsThere t (vm_slot h) → ⊥) → InMemory h (of_lock r) k (kernel_of image failed w t)
+    lock-in_memory r there absent = in-memory h (of_lock r) (λ was. (ap (λ (x : VmState D). x.file) (there was).0, no-disk r (there was).1)) (λ other. lock-stays r there) (λ e. absent (disk-so r e))
+
+    pub lock-more : (r : Result (Unit {0}) LockError) → IfThere r → IsThere s (vm_slot h) → OnOk (of_lock r) more
+    lock-more (Ok done) there was = (there was).1
+    lock-more (Err why) there was = tt
+
+    -- a refusal but for room or the device
+    pub lock-refused : (r : Result (Unit {0}) LockError) → IfThere r → (r ≡ Err lock.BadHandle → (w ≡ v) × (t ≡ s)) → (r ≡ Err lock.Locked → locks_of s (vm_slot h) ≡ 65535)
+        → (of_lock r ≡ Err refusal.NoRoom → ⊥) → (of_lock r ≡ Err refusal.Disk → ⊥) → OnErr (of_lock r) (kernel_of image failed w t ≡ k)
+    lock-refused (Ok done) there bad full room disk = tt
+    lock-refused (Err lock.BadHandle) there bad full room disk = nothing-changed (bad refl).0 (bad refl).1
+    lock-refused (Err lock.Locked) there bad full room disk =
+        let some : 0 < locks_of s (vm_slot h) = omega (arith, full refl) in
+        let was = there (there_of_locks s (vm_slot h) some) in
+        nothing-changed was.0 was.1.1
+    lock-refused (Err lock.NoRoom) there bad full room disk = absurd (room refl)
+    lock-refused (Err lock.Disk) there bad full room disk = absurd (disk refl)
+
+  -- A group
+
+  pub no_group-same : {A : Type 0} (g : ℕ) (r : Result A Refusal) → RefusesNoGroup g r v w s t → (IsGroup k.core.vm g → ⊥) → kernel_of image failed w t ≡ k
+  no_group-same g r no_group none = let refused = no_group (λ group. none (subst (λ (x : KernelOn D). IsGroup x.core.vm g) is group)) in nothing-changed refused.1 refused.2
+
+  module _ (honest : D → Type 0) (may_leave : D → List ℕ → Type 0) (left : D → D → List ℕ → Type 0) (g i n : ℕ) where
+    pub ilock-found : (place : ℕ × ℕ) (span : Span) → LocksItem image honest may_leave left failed g i n (Ok place) v w s t → InMemory g (Ok span) k (kernel_of image failed w t)
+    ilock-found place span locks = in-memory g (Ok span) (λ was. (ap (λ (x : VmState D). x.file) (locks.there was).0, λ e. absurd cc)) (λ other. tt) (λ e. absurd cc)
+
+    pub ilock-not_found : (why : Refusal) → LocksItem image honest may_leave left failed g i n (Err why) v w s t → InMemory {A = Span} g (Err why) k (kernel_of image failed w t)
+    ilock-not_found why locks = in-memory g (Err why) (λ was. (ap (λ (x : VmState D). x.file) (locks.there was).0, λ e. (locks.there was).2 (same-why why e))) (λ other was. locks.refused was) (λ e. locks.absent (same-why why e))
+
+    pub ilock-more : (place : ℕ × ℕ) → LocksItem image honest may_leave left failed g i n (Ok place) v w s t → IsThere k.core.blocks (vm_slot g) → t ≡ with_lock_more k.core.blocks (vm_slot g)
+    ilock-more place locks = subst (λ (x : KernelOn D). IsThere x.core.blocks (vm_slot g) → t ≡ with_lock_more x.core.blocks (vm_slot g)) is (λ was. (locks.there was).1)
