@@ -94,7 +94,7 @@ pub record Beside (found : Parts) (routine : Routine) (start pc : ℕ) (i : Inst
       → (fits (row_branching i i.opcode row) next.row ≡ true) × ((n : ℕ) × (next.potential ≡ potential_of n) × (n + 1 + call_steps found i ≤ steps))
   pub return : returns i.opcode ≡ true → 1 ≤ steps
 
-at-point-true : (image : Parts) (pc : ℕ) (test : Point → Bool) (o : Option Point) → slice_get image.points pc ≡ o → ((point : Point) → slice_get image.points pc ≡ Some point → test point ≡ true) → at_point image pc test ≡ true
+pub at-point-true : (image : Parts) (pc : ℕ) (test : Point → Bool) (o : Option Point) → slice_get image.points pc ≡ o → ((point : Point) → slice_get image.points pc ≡ Some point → test point ≡ true) → at_point image pc test ≡ true
 at-point-true image pc test None e h = rw (e, at_point) refl
 at-point-true image pc test (Some point) e h = rw (e, at_point) (h point e)
 

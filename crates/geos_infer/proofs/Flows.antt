@@ -305,40 +305,6 @@ spreads-on image limit pc branch edge row known next arrival lt here h pc_is bra
     by_arrival Weaker goes came = goes ∙ came
     by_arrival Apart goes came = goes ∙ ap (put known edge.to) came
 
--- What stays
-
-stays-put : (known next : List (Option Row)) (to start : ℕ) (o : Option Row) → put known to o ≡ Some next → start ≤ to → StaysBefore start known next
-stays-put known next to start None e le = absurd (none-some next e)
-stays-put known next to start (Some row) e le = λ k lt.
-    let ne : k ≢ to = (λ same. absurd (omega arith)) in
-    ap (λ (x : List (Option Row)). known_at x k) (sym (some-is (set known to (Some row)) next e)) ∙ get_or-set_other known to k (Some row) None ne
-
-stays-spread : (image : Parts) (limit pc start : ℕ) (i : Instr) (branch : Bool) (o : Option Row) (known next : List (Option Row)) → spread image limit pc i branch o known ≡ Some next → start ≤ pc → StaysBefore start known next
-stays-spread image limit pc start i branch None known next e le = λ k lt. ap (λ (x : List (Option Row)). known_at x k) (sym (some-is known next e))
-stays-spread image limit pc start i branch (Some row) known next e le = by_test (leads_ahead limit pc i branch) refl
-  where
-    by_test : (b : Bool) → leads_ahead limit pc i branch ≡ b → StaysBefore start known next
-    by_test true h =
-        let a = and_parts (has_edge i branch && nat_lt pc (edge_end pc i branch)) (nat_lt (edge_end pc i branch) limit) h in
-        let b = and_parts (has_edge i branch) (nat_lt pc (edge_end pc i branch)) a.0 in
-        let later = ltb-true pc (edge_end pc i branch) b.1 in
-        let goes : spread image limit pc i branch (Some row) known ≡ put known (edge_end pc i branch) (join_known (known_at known (edge_end pc i branch)) (edge_row image i branch (clean row))) = rw h refl in
-        stays-put known next (edge_end pc i branch) start (join_known (known_at known (edge_end pc i branch)) (edge_row image i branch (clean row))) (sym goes ∙ e) (omega arith)
-    by_test false h =
-        let unchanged : spread image limit pc i branch (Some row) known ≡ Some known = rw h refl in
-        λ k lt. ap (λ (x : List (Option Row)). known_at x k) (sym (some-is known next (sym unchanged ∙ e)))
-
--- what is known before a pc stays where what is known there goes along an edge ahead
-pub spreads-stay : (image : Parts) (limit pc start : ℕ) (branch : Bool) (known next : List (Option Row)) (done : Bool) → pc < length image.points → Spreads image limit pc branch known next done → done ≡ true → start ≤ pc → StaysBefore start known next
-spreads-stay image limit pc start branch known next done lt spreads is le =
-    let found = item_at image.points pc lt in
-    let at : Spreads image limit pc branch known next true = subst (λ (b : Bool). Spreads image limit pc branch known next b) is spreads in
-    let here = if_some (λ point. spread image limit pc point.instr branch (known_at known pc) known ≡ Some next) (slice_get image.points pc) found.0 found.1 at in
-    stays-spread image limit pc start found.0.instr branch (known_at known pc) known next here le
-
-pub stays-trans : (start : ℕ) (a b c : List (Option Row)) → StaysBefore start a b → StaysBefore start b c → StaysBefore start a c
-stays-trans start a b c ab bc = λ k lt. bc k lt ∙ ab k lt
-
 -- Routine after routine
 
 known-stays : (known next : List (Option Row)) (start pc : ℕ) (row : Row) → StaysBefore start known next → pc < start → KnownAt known pc row → KnownAt next pc row
@@ -357,10 +323,11 @@ flowing-stays image q want known next start done holds stay begins ends len F = 
 }
 
 -- one more routine
-pub have_flowed-more : (image : Parts) → is_image image ≡ true → (known next : List (Option Row)) (r : ℕ) → r < length image.routines → HaveFlowed image known r → FlowsAnew image r known next true → HaveFlowed image next (r + 1)
-have_flowed-more image legal known next r lt before anew = λ want all q q_lt.
+pub have_flowed-more : (image : Parts) → is_image image ≡ true → (known next : List (Option Row)) (r : ℕ) → r < length image.routines → HaveFlowed image known r → StaysBefore (start_of image.routines r) known next → FlowsAnew image r next true
+    → HaveFlowed image next (r + 1)
+have_flowed-more image legal known next r lt before stay anew = λ want all q q_lt.
     let this = all r (omega arith) in
-    let here = anew want this.0 this.1 in
+    let here = (anew want this.0 this.1).1 in
     elim (cases_lt q r) [
       | inl less ↦
           let routine = item_at image.routines q (omega arith) in
@@ -368,14 +335,13 @@ have_flowed-more image legal known next r lt before anew = λ want all q q_lt.
           let end = start_of-next image.routines q routine.0 routine.1 in
           let later = start_of-le image.routines (q + 1) r (omega arith) in
           let one : start_of image.routines (q + 1) ≡ start_of image.routines (suc q) = ap (start_of image.routines) (add-one q) in
-          flowing-stays image q want known next (start_of image.routines r) (2 * start_of image.routines (q + 1)) (all q q_lt).1 here.2 (let count = some.1 in omega arith) (omega arith) here.1.len
+          flowing-stays image q want known next (start_of image.routines r) (2 * start_of image.routines (q + 1)) (all q q_lt).1 stay (let count = some.1 in omega arith) (omega arith) here.len
           (before want (λ k k_lt. all k (omega arith)) q less)
       | inr le ↦
           let same : r ≡ q = omega arith in
-          subst (λ (n : ℕ). Flowing image n want next (2 * start_of image.routines (n + 1))) same here.1
+          subst (λ (n : ℕ). Flowing image n want next (2 * start_of image.routines (n + 1))) same here
     ]
 
 -- what is found in a routine, where its body is of it
-pub flows-anew : (image here : Parts) (number r : ℕ) (known next : List (Option Row)) (done : Bool) → here ≡ image → number ≡ r → FlowsAnew here number known next done → FlowsAnew image r known next done
-flows-anew image here number r known next done same_image same_number flows =
-    subst (λ (x : Parts). FlowsAnew x r known next done) same_image (subst (λ (n : ℕ). FlowsAnew here n known next done) same_number flows)
+pub flows-anew : (image here : Parts) (number r : ℕ) (known : List (Option Row)) (done : Bool) → here ≡ image → number ≡ r → FlowsAnew here number known done → FlowsAnew image r known done
+flows-anew image here number r known done same_image same_number flows = subst (λ (x : Parts). FlowsAnew x r known done) same_image (subst (λ (n : ℕ). FlowsAnew here n known done) same_number flows)

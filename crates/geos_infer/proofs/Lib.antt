@@ -15,6 +15,8 @@ pub mod Asks
 pub mod Wanted
 pub mod Accepting
 pub mod Finding
+pub mod Reaching
+pub mod Fitting
 pub mod Copies
 pub mod Came
 pub mod Noting

@@ -7,7 +7,7 @@ use Rattle.geos_image.specs.declared.row.Row.{Row}
 use Rattle.geos_image.specs.declared.routine.Routine.{Routine}
 use Rattle.geos_image.specs.Parts.{Parts, start_of}
 use Rattle.geos_infer.specs.Code.{IsPcOf, instrs_of}
-use Rattle.geos_infer.specs.Flow.{known_at, edge_number, Seeded, Flowing, StaysBefore}
+use Rattle.geos_infer.specs.Flow.{known_at, edge_number, Seeded, Flowing}
 use Rattle.geos_infer.specs.Solutions.{RowsHoldIn}
 use Rattle.geos_verify.specs.Rows.{fits}
 use Rattle.geos_infer.proofs.Fits.{fits-refl}
@@ -15,15 +15,14 @@ use Rattle.geos_infer.proofs.Fits.{fits-refl}
 some-routine : (x y : Routine) → Some x ≡ Some y → x ≡ y
 some-routine x y e = cc
 
--- an entry row is known at a start, and nothing behind it before a pc; what is known before it stays
+-- an entry row is known at a start, and nothing behind it before a pc
 pub record SeededTo (start : ℕ) (entry : Row) (initial known : List (Option Row)) (pc : ℕ) : Type 0 where
   pub len : length known ≡ length initial
   pub first : start < pc → known_at known start ≡ Some entry
   pub only : (k : ℕ) → start < k → k < pc → known_at known k ≡ None
-  pub stays : StaysBefore start initial known
 
 pub seeded-none : (start : ℕ) (entry : Row) (known : List (Option Row)) → SeededTo start entry known known start
-seeded-none start entry known = record { len = refl; first = λ lt. absurd (omega arith); only = λ k low high. absurd (omega arith); stays = λ k lt. refl }
+seeded-none start entry known = record { len = refl; first = λ lt. absurd (omega arith); only = λ k low high. absurd (omega arith) }
 
 -- what one more place is set to
 pub seeded-first : (start : ℕ) (entry : Row) (initial known : List (Option Row)) (pc more : ℕ) → more ≡ pc + 1 → pc ≡ start → pc < length known → SeededTo start entry initial known pc → SeededTo start entry initial (set known pc (Some entry)) more
@@ -31,7 +30,6 @@ seeded-first start entry initial known pc more one at within S = record {
   len = length-set known pc (Some entry) ∙ S.len;
   first = λ lt. ap (known_at (set known pc (Some entry))) (sym at) ∙ get_or-set_same known pc (Some entry) None within;
   only = λ k low high. absurd (omega arith);
-  stays = λ k lt. (let ne : k ≢ pc = (λ same. absurd (omega arith)) in get_or-set_other known pc k (Some entry) None ne ∙ S.stays k lt);
 }
 
 pub seeded-next : (start : ℕ) (entry : Row) (initial known : List (Option Row)) (pc more : ℕ) → more ≡ pc + 1 → start ≤ pc → pc ≢ start → pc < length known → SeededTo start entry initial known pc → SeededTo start entry initial (set known pc None) more
@@ -42,7 +40,6 @@ seeded-next start entry initial known pc more one low other within S = record {
     | inl same ↦ ap (known_at (set known pc None)) same ∙ get_or-set_same known pc None None within
     | inr ne ↦ get_or-set_other known pc k None None ne ∙ S.only k low (omega arith)
   ];
-  stays = λ k lt. (let ne : k ≢ pc = (λ same. absurd (omega arith)) in get_or-set_other known pc k None None ne ∙ S.stays k lt);
 }
 
 pub seeded-all : (image : Parts) (r start end pc : ℕ) (routine : Routine) (initial known : List (Option Row)) → slice_get image.routines r ≡ Some routine → start ≡ start_of image.routines r → end ≡ start_of image.routines (r + 1) → start < end → end ≤ pc

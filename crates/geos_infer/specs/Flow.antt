@@ -50,6 +50,11 @@ spread image limit pc i branch (Some row) known =
     then put known (edge_end pc i branch) (join_known (known_at known (edge_end pc i branch)) (edge_row image i branch (clean row)))
     else Some known
 
+-- something is known that the row fits
+abbrev pub fits_known : Option Row → Row → Bool
+fits_known None row = false
+fits_known (Some known) row = fits row known
+
 -- something is known at the place that the row fits
 pub record KnownAt (known : List (Option Row)) (pc : ℕ) (row : Row) : Type 0 where
   pub known_row : Row
@@ -107,10 +112,10 @@ abbrev pub FlowsOn : Parts → ℕ → List (Option Row) → List (Option Row) �
 FlowsOn image r known next done = (want : List Row) → ForwardIn image r → RowsHoldIn image r want → Flowing image r want known (2 * start_of image.routines r)
     → (done ≡ true) × Flowing image r want next (2 * start_of image.routines (r + 1))
 
--- rows have flowed along all edges of routine r next, and what was known before it stays; of code without loops
-abbrev pub FlowsAnew : Parts → ℕ → List (Option Row) → List (Option Row) → Bool → Type 0
-FlowsAnew image r known next done = (want : List Row) → ForwardIn image r → RowsHoldIn image r want
-    → (done ≡ true) × Flowing image r want next (2 * start_of image.routines (r + 1)) × StaysBefore (start_of image.routines r) known next
+-- rows have flowed along all edges of routine r; of code without loops
+abbrev pub FlowsAnew : Parts → ℕ → List (Option Row) → Bool → Type 0
+FlowsAnew image r known done = (want : List Row) → ForwardIn image r → RowsHoldIn image r want
+    → (done ≡ true) × Flowing image r want known (2 * start_of image.routines (r + 1))
 
 -- rows have flowed along all edges of so many routines; of code without loops
 abbrev pub HaveFlowed : Parts → List (Option Row) → ℕ → Type 0

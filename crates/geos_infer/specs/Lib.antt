@@ -4,6 +4,7 @@ pub mod Edges
 pub mod Numbers
 pub mod Solutions
 pub mod Flow
+pub mod Reached
 pub mod Count
 pub mod Points
 pub mod Theorem

@@ -4,7 +4,7 @@ ghost use Rattle.std.specs.Prelude.{◌≡◌, ◌<◌, true};
 ghost use Rattle.geos_image.specs.Legal.{is_row};
 ghost use Rattle.geos_verify.specs.Rows.{after};
 ghost use Rattle.geos_infer.specs.Edges.{IsInside};
-ghost use Rattle.geos_infer.specs.Flow.{row_of, join_known, has_joined, Arrives, Spreads, FlowsOn, StaysBefore};
+ghost use Rattle.geos_infer.specs.Flow.{row_of, join_known, has_joined, Arrives, Spreads, FlowsOn};
 ghost use Rattle.geos_infer.specs.Joins.{clean};
 
 use crate::body::Body;
@@ -110,8 +110,7 @@ fn spread_ahead(body: &Body, pc: u16, branch: bool, known: &mut Known) -> bool
 /// From what is known at first, rows flow along the edges of a routine that lead ahead; `false`
 /// where two have no join.
 pub(crate) fn flow(body: &Body, known: &mut Known) -> bool
-    ensures on { FlowsOn body.now.image.now body.now.r known.old known.new result }
-    ensures stays { result ≡ true → StaysBefore body.now.start known.old known.new }
+    ensures { FlowsOn body.now.image.now body.now.r known.old known.new result }
 {
     for pc in body.start..body.end {
         if !spread_ahead(body, pc, false, known) {

@@ -4,6 +4,7 @@ ghost use Rattle.std.specs.Prelude.{◌≡◌, ℕ, length, IfOk, IfErr};
 ghost use Rattle.geos_infer.specs.declared.error.InferError.TheVariants.{NoRows};
 ghost use Rattle.geos_infer.specs.Code.{SameCode};
 ghost use Rattle.geos_infer.specs.Points.{PointsOf, RoutinesOf};
+ghost use Rattle.geos_infer.specs.Reached.{AllHoldWhereReached, RowsThatHoldPass};
 ghost use Rattle.geos_infer.specs.Theorem.{FindsWhatThereIs, NoneIsAccepted, NothingHoldsIn, NamesRoutine};
 
 use crate::count::count;
@@ -50,6 +51,9 @@ fn routines_of(alloc: Global, image: &Image) -> Result<Vec<Routine>, AllocError>
 /// and its instructions), and with rows and potentials that are found for it; those of the
 /// skeleton are not looked at.
 ///
+/// The rows hold wherever control reaches, in loops too: the verifier refuses there neither a row nor
+/// an edge for it (`rows_that_hold_pass`).
+///
 /// Where there is no LOOP, no edge leads back, and each instruction but a routine's first has an
 /// edge into it, the verifier accepts the image that is answered if it accepts any with that code.
 /// The image may be one that it refuses: then `geos_verify::check` says where. `NoRows` names the
@@ -58,6 +62,7 @@ fn routines_of(alloc: Global, image: &Image) -> Result<Vec<Routine>, AllocError>
 /// each instruction but the first, no rows and numbers of steps hold in it, whatever the others are.
 pub fn infer(alloc: Global, skeleton: &Image) -> Result<Image, InferError>
     ensures code { IfOk result (λ image. SameCode skeleton.now image) }
+    ensures rows { IfOk result AllHoldWhereReached }
     ensures found { IfOk result (λ image. FindsWhatThereIs skeleton.now image) }
     ensures none { IfErr result (λ error. (r : ℕ) → error ≡ NoRows r → NoneIsAccepted skeleton.now) }
     ensures stuck { IfErr result (λ error. (r : ℕ) → error ≡ NoRows r → NothingHoldsIn skeleton.now r) }
@@ -77,3 +82,10 @@ pub fn infer(alloc: Global, skeleton: &Image) -> Result<Image, InferError>
         None => unreachable!(),
     }
 }
+
+/// A law: where the rows of an image hold, the verifier's rules on rows pass wherever control reaches. No
+/// pointer leads into an empty slot, a routine's entry row fits its first row, and the row after an edge
+/// fits the row there, where no edge leaves the routine.
+pub fn rows_that_hold_pass()
+    ensures { RowsThatHoldPass }
+{}

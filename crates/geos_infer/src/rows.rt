@@ -1,11 +1,13 @@
 //! What is known at each instruction.
 
-ghost use Rattle.std.specs.Prelude.{◌≡◌, ◌<◌, ◌≤◌, length, IfOk};
-ghost use Rattle.geos_infer.specs.Flow.{FlowsAnew, HaveFlowed};
+ghost use Rattle.std.specs.Prelude.{◌≡◌, ◌<◌, ◌≤◌, ℕ, true, length, IfOk};
+ghost use Rattle.geos_infer.specs.Flow.{FlowsAnew, HaveFlowed, StaysBefore};
+ghost use Rattle.geos_infer.specs.Reached.{AllFit, FitWhereReached, Keeps};
 ghost use Rattle.geos_infer.specs.Solutions.{NoRowsHoldIn};
 
 use crate::body::{Body, body_of};
 use crate::descent::descend;
+use crate::fitted::all_fit;
 use crate::flow::flow;
 use crate::known::Known;
 use crate::rounds::{Turn, settle};
@@ -15,9 +17,13 @@ use crate::unreached::fill;
 use geos_image::Image;
 use std::alloc::{AllocError, Global};
 
-/// Tables that are only written.
+/// What is written anew for each routine.
 #[derive(Drop)]
 struct Tables {
+    /// What is known where control reaches.
+    found: Known,
+    /// The rows of the other places.
+    others: Known,
     from: Known,
     lone: Table<bool>,
     turns: Table<Turn>,
@@ -26,6 +32,8 @@ struct Tables {
 impl Tables {
     fn new(alloc: Global) -> Result<Tables, AllocError> {
         Ok(Tables {
+            found: Known::new(alloc)?,
+            others: Known::new(alloc)?,
             from: Known::new(alloc)?,
             lone: Table::new(alloc, false)?,
             turns: Table::new(alloc, Turn::NONE)?,
@@ -33,27 +41,57 @@ impl Tables {
     }
 }
 
+/// Finds what is known in a routine wherever control reaches; `false` where two rows have no join.
+fn search(body: &Body, from: &mut Known, turns: &mut Table<Turn>, found: &mut Known) -> bool
+    ensures flows { FlowsAnew body.now.image.now body.now.r found.new result }
+    ensures fit { result ≡ true → AllFit body.now.image.now body.now.r found.new }
+{
+    seed_entry(body, found);
+    if !flow(body, found) {
+        return false;
+    }
+    if !settle(body, turns, found) {
+        return false;
+    }
+    if !descend(body, from, found) {
+        return false;
+    }
+    // Rows that flowed till nothing new came fit along all edges, and still do when they have come
+    // down. Where edges lead back that is not proved of the search: so each edge is looked at.
+    all_fit(body, found)
+}
+
+/// Makes known what was found at the instructions of a routine, and the rows of the other places.
+fn keep(body: &Body, found: &Known, others: &Known, known: &mut Known)
+    ensures { Keeps body.now.start body.now.end found.now known.old known.new }
+{
+    // For what its law says.
+    known.lengths();
+    for pc in body.start..body.end {
+        known.set(pc, found.at(pc).or(others.at(pc)));
+    }
+}
+
 /// Finds what is known at each instruction of a routine; `false` where two rows have no join.
 fn find_rows_in(body: &Body, tables: &mut Tables, known: &mut Known) -> bool
-    ensures { FlowsAnew body.now.image.now body.now.r known.old known.new result }
+    ensures flows { FlowsAnew body.now.image.now body.now.r known.new result }
+    ensures fit { result ≡ true → FitWhereReached body.now.image.now body.now.r known.new }
+    ensures stays { StaysBefore body.now.start known.old known.new }
 {
-    seed_entry(body, known);
-    if !flow(body, known) {
-        return false;
-    }
-    if !settle(body, &mut tables.turns, known) {
-        return false;
-    }
-    if !descend(body, &mut tables.from, known) {
+    if !search(body, &mut tables.from, &mut tables.turns, &mut tables.found) {
         return false;
     }
     fill(
         body,
+        &tables.found,
         &mut tables.from,
         &mut tables.lone,
         &mut tables.turns,
-        known,
+        &mut tables.others,
     );
+    // For what its law says.
+    known.lengths();
+    keep(body, &tables.found, &tables.others, known);
     true
 }
 
@@ -63,6 +101,7 @@ fn find_all_rows(image: &Image, tables: &mut Tables, known: &mut Known) -> u16
     ensures few { result ≤ length image.now.routines }
     ensures found { result ≡ length image.now.routines → HaveFlowed image.now known.new result }
     ensures none { result < length image.now.routines → NoRowsHoldIn image.now result }
+    ensures fit { (r : ℕ) → r < result → FitWhereReached image.now r known.new }
 {
     for r in 0..image.count() {
         if !find_rows_in(&body_of(image, r), tables, known) {
@@ -78,6 +117,7 @@ pub(crate) fn find_rows(alloc: Global, image: &Image) -> Result<(Known, u16), Al
     ensures few { IfOk result (λ both. both.1 ≤ length image.now.routines) }
     ensures found { IfOk result (λ both. both.1 ≡ length image.now.routines → HaveFlowed image.now both.0 both.1) }
     ensures none { IfOk result (λ both. both.1 < length image.now.routines → NoRowsHoldIn image.now both.1) }
+    ensures fit { IfOk result (λ both. (r : ℕ) → r < both.1 → FitWhereReached image.now r both.0) }
 {
     let mut known = Known::new(alloc)?;
     let mut tables = Tables::new(alloc)?;

@@ -1,15 +1,14 @@
 //! What is known in a routine before rows flow.
 
 ghost use Rattle.geos_image.specs.Fields.{FieldsFit, CalleeFits};
-ghost use Rattle.geos_infer.specs.Flow.{Seeded, StaysBefore};
+ghost use Rattle.geos_infer.specs.Flow.{Seeded};
 
 use crate::body::Body;
 use crate::known::Known;
 
 /// The entry row of a routine where it begins, and nothing at its other instructions.
 pub(crate) fn seed_entry(body: &Body, known: &mut Known)
-    ensures seeded { Seeded body.now.image.now body.now.r known.new }
-    ensures stays { StaysBefore body.now.start known.old known.new }
+    ensures { Seeded body.now.image.now body.now.r known.new }
 {
     // For what its law says.
     known.lengths();

@@ -1,8 +1,7 @@
 //! Rows at places that nothing reaches: the rules are tried there too.
 
-ghost use Rattle.std.specs.Prelude.{◌≡◌, ◌<◌, true};
+ghost use Rattle.std.specs.Prelude.{◌<◌};
 ghost use Rattle.geos_image.specs.Fields.{FieldsFit, CalleeFits};
-ghost use Rattle.geos_infer.specs.Flow.{AllKnown};
 
 use crate::body::Body;
 use crate::common::clean;
@@ -16,9 +15,7 @@ use geos_opcodes::{Kind, SlotUse};
 use geos_verify::uses_at;
 
 /// Whether something is known at each instruction of a routine.
-fn all_known(body: &Body, known: &Known) -> bool
-    ensures { AllKnown body.now.image.now body.now.r known.now → result ≡ true }
-{
+fn all_known(body: &Body, known: &Known) -> bool {
     for pc in body.start..body.end {
         let Some(_row) = known.at(pc) else {
             return false;
@@ -135,18 +132,18 @@ fn pass_lone(
     pc: u16,
     lone: &Table<bool>,
     turns: &mut Table<Turn>,
-    known: &mut Known,
+    others: &mut Known,
 ) -> bool
     requires { pc < body.now.end }
 {
-    let Some(row) = known.at(pc) else {
+    let Some(row) = others.at(pc) else {
         return false;
     };
     let mut changed = false;
     for branch in [false, true] {
         if let Some(edge) = edge_in(body, pc, branch) {
             if lone.at(edge.to) {
-                if let Arrival::Weaker = pass(body, edge, &row, turns, known) {
+                if let Arrival::Weaker = pass(body, edge, &row, turns, others) {
                     changed = true;
                 }
             }
@@ -162,7 +159,7 @@ fn round(
     from: &Known,
     lone: &Table<bool>,
     turns: &mut Table<Turn>,
-    known: &mut Known,
+    others: &mut Known,
 ) -> bool {
     let mut changed = false;
     for pc in body.start..body.end {
@@ -176,25 +173,24 @@ fn round(
                 },
             );
             let exit = body.image.routine(body.r).exit;
-            let row = known.at(pc).or(from.at(pc)).unwrap_or(exit);
-            known.set(pc, Some(clean(&row)));
-            changed |= pass_lone(body, pc, lone, turns, known);
+            let row = others.at(pc).or(from.at(pc)).unwrap_or(exit);
+            others.set(pc, Some(clean(&row)));
+            changed |= pass_lone(body, pc, lone, turns, others);
         }
     }
     changed
 }
 
-/// Finds rows at the instructions of a routine where nothing is known; what is known elsewhere
-/// stays. Where two rows that come to a place have no join the first stays.
+/// Finds rows at the instructions of a routine where nothing is known. Where two rows that come to a
+/// place have no join the first stays.
 pub(crate) fn fill(
     body: &Body,
+    known: &Known,
     from: &mut Known,
     lone: &mut Table<bool>,
     turns: &mut Table<Turn>,
-    known: &mut Known,
-)
-    ensures { AllKnown body.now.image.now body.now.r known.old → known.new ≡ known.old }
-{
+    others: &mut Known,
+) {
     if all_known(body, known) {
         return;
     }
@@ -202,11 +198,12 @@ pub(crate) fn fill(
         let waits = known.at(pc).is_none();
         lone.set(pc, waits);
         turns.set(pc, Turn { waits, times: 0 });
+        others.set(pc, None);
     }
     guess(body, known, from);
     // Each round but the last weakens a row, as in `rounds`.
     for _ in 0..u32::MAX {
-        if !round(body, from, lone, turns, known) {
+        if !round(body, from, lone, turns, others) {
             return;
         }
     }

@@ -1,10 +1,12 @@
-use Rattle.std.proofs.Common.{ℕ, sym, subst}
+use Rattle.std.proofs.Common.{ℕ, sym, subst, arith}
 use Rattle.std.proofs.lemmas.Bool.{false≢true}
 use Rattle.geos_image.specs.Parts.{Parts}
 use Rattle.geos_infer.specs.Flow.{HaveFlowed}
 use Rattle.geos_infer.specs.Count.{AreCounted}
-use Rattle.geos_infer.specs.Theorem.{FindsWhatThereIs}
+use Rattle.geos_infer.specs.Reached.{AllHoldWhereReached}
+use Rattle.geos_infer.specs.Theorem.{FindsWhatThereIs, with_points}
 use Rattle.geos_infer.proofs.Finding.{found-legal, found-code, found-checked, none-accepted, stuck-in, made-legal, made-is, made-code}
+use Rattle.geos_infer.proofs.Reaching.{fit-holds}
 use Rattle.geos_infer.proofs.inference.infer.Goals as goal
 
 pub returns-in-Err-clause-none : goal.returns-in-Err-clause-none
@@ -40,3 +42,13 @@ returns-clause-found c =
     let counted = subst (λ (n : ℕ). AreCounted image 0 n c.in-Ok.potentials) all c.in-Ok.ensures.counted in
     let found = found-checked image c.len-legal.ensures.legal c.in_ok-known.known c.in-Ok.potentials points flowed counted c.in_ok-points.ensures in
     subst (λ (x : Parts). FindsWhatThereIs image x) (sym is) found
+
+pub returns-clause-rows : goal.returns-clause-rows
+returns-clause-rows c =
+    let image = c.args.skeleton.now in
+    let known = c.in_ok-known.known in
+    let points = c.in_ok-points.points.items in
+    let is = made-is image c.in-Some.image c.in_ok-routines.routines.items points c.in_ok-routines.ensures c.in-Some.ensures.value in
+    let codes = found-code image known c.in-Ok.potentials points c.in_ok-points.ensures in
+    let hold : AllHoldWhereReached (with_points image points) = (λ r lt. fit-holds image known c.in-Ok.potentials points c.in_ok-points.ensures codes r (c.in_ok-known.ensures.fit r (let all = c.in-Ok.ensures.all in omega arith))) in
+    subst AllHoldWhereReached (sym is) hold

@@ -17,11 +17,8 @@ loop-pc-preserved c =
       | else-pc-body w ↦ rw (w.known-is, w.set-else-pc-body.ensures) (seeded-next start entry c.args.known.now c.loop-pc.known c.loop-pc.pc (c.loop-pc.pc + 1) refl c.loop-pc.auto.pc w.if-pc-body.false within c.loop-pc.invariant)
     ]
 
-pub returns-clause-seeded : goal.returns-clause-seeded
-returns-clause-seeded c =
+pub returns : goal.returns
+returns c =
     let body = c.args.body.now in
     let image = body.image.now in
     seeded-all image body.r body.start body.end c.loop-pc.pc c.routine.result.now c.args.known.now c.loop-pc.known c.routine.ensures body.begins body.ends body.some (omega arith) (omega (arith, code-length image, body.short)) c.loop-pc.invariant
-
-pub returns-clause-stays : goal.returns-clause-stays
-returns-clause-stays c = c.loop-pc.invariant.stays

@@ -1,0 +1,116 @@
+-- What fits along each edge of a routine, as it is looked at.
+use Rattle.std.proofs.Common.{◌≡◌, ℕ, ◌+◌, ◌*◌, ◌<◌, Bool, true, false, List, length, Option, Some, None, slice_get, refl, sym, ap, ◌∙◌, subst, arith, inl, inr}
+use Rattle.std.specs.Prelude.{◌↔◌, if◌then◌else◌, IfSome}
+use Rattle.std.proofs.lemmas.Bool.{cases_lt}
+use Rattle.std.proofs.lemmas.Option.{none-some}
+use Rattle.geos_image.specs.declared.instr.Instr.{Instr}
+use Rattle.geos_image.specs.declared.row.Row.{Row}
+use Rattle.geos_image.specs.declared.point.Point.{Point}
+use Rattle.geos_image.specs.Parts.{Parts, start_of}
+use Rattle.geos_verify.specs.Rows.{falls_through, branches, at_point, HasEdge, after}
+use Rattle.geos_verify.proofs.Places.{item_at, if_some}
+use Rattle.geos_infer.specs.Joins.{clean}
+use Rattle.geos_infer.specs.Code.{Edge, IsPcOf, instrs_of, has_edge, edge_end, edge_row}
+use Rattle.geos_infer.specs.Flow.{known_at, KnownAt, fits_known, edge_number, Flowing}
+use Rattle.geos_infer.specs.Reached.{EdgeFits}
+use Rattle.geos_infer.proofs.Ends.{code-at}
+
+-- What is known where a row comes
+
+pub known-from : (known : List (Option Row)) (pc : ℕ) (row : Row) → fits_known (known_at known pc) row ≡ true → KnownAt known pc row
+known-from known pc row h = by_known (known_at known pc) refl h
+  where
+    by_known : (o : Option Row) → known_at known pc ≡ o → fits_known o row ≡ true → KnownAt known pc row
+    by_known None e h = absurd cc
+    by_known (Some old) e h = record { known_row = old; read = e; fits = h }
+
+pub known-to : (known : List (Option Row)) (pc : ℕ) (row : Row) → KnownAt known pc row → fits_known (known_at known pc) row ≡ true
+known-to known pc row K = ap (λ o. fits_known o row) K.read ∙ K.fits
+
+-- One edge
+
+some-instr : (x y : Instr) → Some x ≡ Some y → x ≡ y
+some-instr x y e = cc
+
+some-row : (x y : Row) → Some x ≡ Some y → x ≡ y
+some-row x y e = cc
+
+-- the row at the end of an edge
+after-edge : (image : Parts) (pc : ℕ) (branch : Bool) (point : Point) (row : Row) → slice_get image.points pc ≡ Some point → after image pc row branch ≡ edge_row image point.instr branch row
+after-edge image pc true point row e = rw (e, after) refl
+after-edge image pc false point row e = rw (e, after) refl
+
+module _ (image : Parts) (r : ℕ) (known : List (Option Row)) (pc : ℕ) (branch : Bool) where
+  -- nothing is known there
+  pub unknown-fits : known_at known pc ≡ None → EdgeFits image r known pc branch
+  unknown-fits none to i row edge inside e = absurd (none-some row (sym none ∙ e))
+
+  module _ (i : Instr) (lt : pc < length image.points) (there : IfSome (slice_get image.points pc) (λ point. i ≡ point.instr)) where
+    point-there : (point : Point) × (slice_get image.points pc ≡ Some point) × (i ≡ point.instr)
+    point-there = let found = item_at image.points pc lt in (found.0, found.1, if_some (λ point. i ≡ point.instr) (slice_get image.points pc) found.0 found.1 there)
+
+    read-there : slice_get (instrs_of image) pc ≡ Some i
+    read-there = let found = point-there in code-at image pc found.0 found.1 ∙ ap (λ (x : Instr). Some x) (sym found.2)
+
+    edge-is : (to : ℕ) (j : Instr) → Edge (instrs_of image) pc branch to j → (j ≡ i) × (has_edge i branch ≡ true) × (edge_end pc i branch ≡ to)
+    edge-is to j edge =
+        let same = some-instr j i (sym edge.read ∙ read-there) in
+        (same, ap (λ x. has_edge x branch) (sym same) ∙ edge.has, ap (λ x. edge_end pc x branch) (sym same) ∙ edge.leads)
+
+    -- the instruction there has it
+    pub has-there : has_edge i branch ≡ true → HasEdge image pc branch
+    has-there has = let found = point-there in rw (found.1, at_point) (by_branch branch found.0.instr (ap (λ x. has_edge x branch) (sym found.2) ∙ has))
+      where
+        by_branch : (b : Bool) (j : Instr) → has_edge j b ≡ true → (if b then branches j.opcode else falls_through j.opcode) ≡ true
+        by_branch true j h = h
+        by_branch false j h = h
+
+    -- there is no such edge in the routine
+    pub outside-fits : (has_edge i branch ≡ true → IsPcOf image r (edge_end pc i branch) → ⊥) → EdgeFits image r known pc branch
+    outside-fits never to j row edge inside e =
+        let is = edge-is to j edge in
+        absurd (never is.1 (subst (IsPcOf image r) (sym is.2) inside))
+
+    -- there is one
+    pub inside-fits : (row next : Row) (fit : Bool) → known_at known pc ≡ Some row → has_edge i branch ≡ true → IsPcOf image r (edge_end pc i branch) → next ≡ after image pc (clean row) branch
+        → fit ≡ fits_known (known_at known (edge_end pc i branch)) next → (fit ≡ true) ↔ EdgeFits image r known pc branch
+    inside-fits row next fit here has inside next_is fit_is =
+        let to = edge_end pc i branch in
+        let found = point-there in
+        let behind : next ≡ edge_row image i branch (clean row) = next_is ∙ after-edge image pc branch found.0 (clean row) found.1 ∙ ap (λ x. edge_row image x branch (clean row)) (sym found.2) in (
+          λ e t j other edge within f.
+              let is = edge-is t j edge in
+              let same_row = some-row row other (sym here ∙ f) in
+              let K = known-from known to next (sym fit_is ∙ e) in
+              let rows : next ≡ edge_row image j branch (clean other) = behind ∙ ap (λ x. edge_row image x branch (clean row)) (sym is.0) ∙ ap (λ (x : Row). edge_row image j branch (clean x)) same_row in
+              subst (λ (n : ℕ). KnownAt known n (edge_row image j branch (clean other))) is.2 (subst (KnownAt known to) rows K),
+          λ fits_all.
+              let edge : Edge (instrs_of image) pc branch to i = record { read = read-there; has = has; leads = refl } in
+              fit_is ∙ known-to known to next (subst (KnownAt known to) (sym behind) (fits_all to i row edge inside here)),
+        )
+
+-- All edges
+
+-- edges of the instructions of routine r before a pc have been looked at
+abbrev pub FitBefore : Parts → ℕ → List (Option Row) → ℕ → Type 0
+FitBefore image r known limit = (pc : ℕ) (branch : Bool) → IsPcOf image r pc → pc < limit → EdgeFits image r known pc branch
+
+pub fits-more : (image : Parts) (r : ℕ) (known : List (Option Row)) (pc more : ℕ) → more ≡ pc + 1 → FitBefore image r known pc → EdgeFits image r known pc false → EdgeFits image r known pc true → FitBefore image r known more
+fits-more image r known pc more one before along aside k branch within lt = elim (cases_lt k pc) [
+  | inl earlier ↦ before k branch within earlier
+  | inr late ↦
+      let same : pc ≡ k = omega arith in
+      subst (λ (n : ℕ). EdgeFits image r known n branch) same (by_branch branch)
+]
+  where
+    by_branch : (b : Bool) → EdgeFits image r known pc b
+    by_branch true = aside
+    by_branch false = along
+
+number-last : (k n : ℕ) (b : Bool) → k < n → edge_number k b < 2 * n
+number-last k n true h = omega arith
+number-last k n false h = omega arith
+
+-- where rows have flowed along all edges, they fit
+pub flowed-fits : (image : Parts) (r : ℕ) (want : List Row) (known : List (Option Row)) → Flowing image r want known (2 * start_of image.routines (r + 1)) → (pc : ℕ) (branch : Bool) → IsPcOf image r pc → EdgeFits image r known pc branch
+flowed-fits image r want known F pc branch within to i row edge inside e = F.edges pc to branch i row within (number-last pc (start_of image.routines (r + 1)) branch within.below) edge e

@@ -1,0 +1,10 @@
+use Rattle.std.proofs.Common.{None, rules, arith}
+use Rattle.std.proofs.lemmas.Grind.{common_steps}
+use Rattle.geos_verify.specs.Rows.{pointer_fits}
+use Rattle.geos_verify.proofs.Four.{all2_four}
+use Rattle.geos_infer.proofs.fitted.pointers_fit.Goals as goal
+
+pub returns : goal.returns
+returns c =
+    let by_index = all2_four pointer_fits c.args.r.now c.args.s.now None None (search rules) (search rules) in
+    grind (arith, common_steps, by_index)
