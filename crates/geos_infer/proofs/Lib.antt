@@ -20,3 +20,6 @@ pub mod Fitting
 pub mod Copies
 pub mod Came
 pub mod Noting
+pub mod Changes
+pub mod Onward
+pub mod Refused

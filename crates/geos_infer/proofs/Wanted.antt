@@ -73,7 +73,7 @@ setting-steps k n p q h =
     let le = leb-true (q.constant + 1 + slice_index q.coefficients k * n) p.constant a.0 in
     omega arith
 
-pays-steps : (p q : Potential) → pays p q ≡ true → q.constant + 1 + 0 ≤ p.constant
+pub pays-steps : (p q : Potential) → pays p q ≡ true → q.constant + 1 + 0 ≤ p.constant
 pays-steps p q h =
     let le = leb-true (q.constant + 1) p.constant ((and_parts (nat_le (q.constant + 1) p.constant) (all2 nat_le q.coefficients p.coefficients) h).0) in
     omega arith
@@ -83,7 +83,7 @@ calling-steps budget touched p q h =
     let a = and_parts (nat_le (q.constant + 1 + budget) p.constant && all2 nat_le q.coefficients p.coefficients) _ h in
     leb-true (q.constant + 1 + budget) p.constant ((and_parts (nat_le (q.constant + 1 + budget) p.constant) (all2 nat_le q.coefficients p.coefficients) a.0).0)
 
-along-steps : (image : Parts) (i : Instr) (opcode : Opcode) (row : Row) (p q : Potential) → pays_along image i opcode row p q ≡ true → q.constant + 1 + called image i opcode ≤ p.constant
+pub along-steps : (image : Parts) (i : Instr) (opcode : Opcode) (row : Row) (p q : Potential) → pays_along image i opcode row p q ≡ true → q.constant + 1 + called image i opcode ≤ p.constant
 along-steps image i Setk row p q h = setting-steps i.a i.imm p q h
 along-steps image i Setkw row p q h = setting-steps i.a (bound row i.b) p q h
 along-steps image i Loop row p q h = setting-steps i.a 0 p q h

@@ -8,7 +8,7 @@ use Rattle.geos_image.specs.Parts.{Parts}
 use Rattle.geos_verify.specs.Touched.{calls, noted, touches}
 use Rattle.geos_infer.specs.Code.{IsPcOf}
 use Rattle.geos_infer.specs.Why.{LeadsTo, AreApart}
-use Rattle.geos_infer.specs.Ahead as ahead
+use Rattle.geos_infer.specs.Taken as taken
 use Rattle.geos_infer.specs.declared.cause.BackWay.{BackWay}
 use Rattle.geos_infer.specs.declared.cause.Within.{Within}
 use Rattle.geos_infer.specs.declared.cause.Cause.{Cause}
@@ -94,7 +94,7 @@ Holds image r (SlotsDiffer apart) = AreApart image r apart
 Holds image r (NoLoop back) = GoesRound image r back.from back.to
 Holds image r (SetWithin within) = SetsWithin image r within
 Holds image r (TouchedWithin within) = TouchesWithin image r within
-Holds image r StepsPass = ahead.StepsPass image r
+Holds image r StepsPass = taken.StepsPass image r
 Holds image r (NoSteps back) = LeadsBack image r back
 Holds image r Unknown = Unit {0}
 

@@ -9,5 +9,6 @@ pub mod Count
 pub mod Points
 pub mod Theorem
 pub mod Why
-pub mod Ahead
+pub mod Taken
+pub mod Reach
 pub mod Causes

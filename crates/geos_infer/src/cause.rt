@@ -4,13 +4,13 @@ ghost use Rattle.std.specs.Prelude.{◌≡◌, ◌<◌, ◌≤◌, ℕ, true, fa
 ghost use Rattle.geos_infer.specs.Causes.{LeadsBack, GoesRound, PassesAt, loops_on, sets_counter, calls_touching, NotesTouched, LoopsBack, SetsWithin, TouchesWithin, Holds};
 ghost use Rattle.geos_image.specs.declared.point.Point.{Point};
 
-use crate::ahead::steps_pass;
 use crate::apart::{Apart, find_apart};
 use crate::body::{Body, body_of};
 use crate::cycles::has_unpaid_cycle;
 use crate::edges::{edge_end, has_edge, is_loop};
 use crate::spent::{find_touched, touches};
 use crate::table::Table;
+use crate::turns::steps_pass;
 use crate::unpaid::find_round;
 use geos_image::{Image, Instr, Opcode};
 use geos_verify::Touched;
@@ -47,7 +47,7 @@ pub enum Cause {
     SetWithin(Within),
     /// A routine that is called within the loop of a counter touches it.
     TouchedWithin(Within),
-    /// A way that only leads ahead takes more steps than a potential can say.
+    /// On some way more steps are taken than a potential can say.
     StepsPass,
     /// None of these was found; a way leads back.
     NoSteps(BackWay),
@@ -243,22 +243,22 @@ fn find_touched_within(body: &Body, touched: &Touched) -> Option<Within>
 }
 
 /// Why no numbers of steps are found.
-fn cause_of_steps(body: &Body, touched: &Touched, steps: &mut Table<u64>) -> Cause
+fn cause_of_steps(alloc: Global, body: &Body, touched: &Touched) -> Result<Cause, AllocError>
     requires { NotesTouched body.now.image.now touched.now }
-    ensures { Holds body.now.image.now body.now.r result }
+    ensures { IfOk result (Holds body.now.image.now body.now.r) }
 {
     if let Some(within) = find_set_within(body) {
-        return Cause::SetWithin(within);
+        return Ok(Cause::SetWithin(within));
     }
     if let Some(within) = find_touched_within(body, touched) {
-        return Cause::TouchedWithin(within);
+        return Ok(Cause::TouchedWithin(within));
     }
-    if steps_pass(body, steps) {
-        return Cause::StepsPass;
+    if steps_pass(alloc, body, touched)? {
+        return Ok(Cause::StepsPass);
     }
     match find_back(body) {
-        Some(back) => Cause::NoSteps(back),
-        None => Cause::Unknown,
+        Some(back) => Ok(Cause::NoSteps(back)),
+        None => Ok(Cause::Unknown),
     }
 }
 
@@ -276,6 +276,5 @@ pub fn find_cause(alloc: Global, image: &Image, r: u16) -> Result<Cause, AllocEr
     if let Some(back) = unpaid_back(alloc, &body)? {
         return Ok(Cause::NoLoop(back));
     }
-    let mut steps = Table::new(alloc, 0)?;
-    Ok(cause_of_steps(&body, &find_touched(image), &mut steps))
+    cause_of_steps(alloc, &body, &find_touched(image))
 }

@@ -3,7 +3,6 @@
 //! docs/VERIFIER.md says what rows and potentials are.
 #![tactic(auto)]
 
-mod ahead;
 mod apart;
 mod arcs;
 mod asked;
@@ -12,6 +11,7 @@ mod cause;
 mod common;
 mod costly;
 mod count;
+mod counters;
 mod cycles;
 mod descent;
 mod edges;
@@ -23,11 +23,13 @@ mod known;
 mod longest;
 mod paid;
 mod potentials;
+mod reach;
 mod rounds;
 mod rows;
 mod seeds;
 mod spent;
 mod table;
+mod turns;
 mod units;
 mod unpaid;
 mod unreached;
@@ -39,3 +41,4 @@ pub use cause::{BackWay, Cause, Within, find_cause};
 pub use common::{clean, join};
 pub use error::InferError;
 pub use inference::{infer, rows_that_hold_pass};
+pub use turns::none_is_accepted_past;

@@ -1,0 +1,48 @@
+use Rattle.std.proofs.Common.{◌≡◌, ◌<◌, ℕ, Bool, Option, Some, None, length, slice_get, sym, ap, ◌∙◌, subst, arith}
+use Rattle.std.specs.Prelude.{IfSome}
+use Rattle.geos_opcodes.specs.declared.opcode.Opcode.{Opcode}
+use Rattle.geos_opcodes.specs.declared.opcode.Opcode.TheVariants.{Loop}
+use Rattle.geos_image.specs.declared.instr.Instr.{Instr}
+use Rattle.geos_image.specs.Fields.{FieldsFit}
+use Rattle.geos_image.specs.Parts.{Parts}
+use Rattle.geos_verify.proofs.Places.{item_at, if_some}
+use Rattle.geos_infer.specs.declared.counters.Counter.TheVariants.{Kept}
+use Rattle.geos_infer.specs.declared.reach.Reach.{Reach}
+use Rattle.geos_infer.specs.Causes.{is_loop}
+use Rattle.geos_infer.specs.Code.{IsPcOf}
+use Rattle.geos_infer.specs.Reach.{begin_at, counter_at, IsReached, IsTurn}
+use Rattle.geos_infer.proofs.Asks.{loop-only}
+use Rattle.geos_infer.proofs.Bodies.{in-body}
+use Rattle.geos_infer.proofs.turns.find_turn.Goals as goal
+
+if-kept : (image : Parts) (r pc a : ℕ) (turn : Reach) (found : Option Reach) → IfSome found (λ kept. kept ≡ turn) → IfSome found (λ kept. counter_at turn.counters a ≡ Kept)
+    → (counter_at turn.counters a ≡ Kept → IsTurn image r pc turn) → IfSome found (IsTurn image r pc)
+if-kept image r pc a turn None same kept made = tt
+if-kept image r pc a turn (Some x) same kept made = subst (IsTurn image r pc) (sym same) (made kept)
+
+turn-at : (image : Parts) (r pc : ℕ) (i : Instr) (turn : Reach) → IsPcOf image r pc → pc < length image.points → IfSome (slice_get image.points pc) (λ point. i ≡ point.instr) → FieldsFit i.opcode i → i.opcode ≡ Loop
+    → IsReached image r (begin_at i.target) pc turn → counter_at turn.counters i.a ≡ Kept → IsTurn image r pc turn
+turn-at image r pc i turn within lt there fields loops reached kept =
+    let found = item_at image.points pc lt in
+    let same : i ≡ found.0.instr = if_some (λ point. i ≡ point.instr) (slice_get image.points pc) found.0 found.1 there in
+    let few : i.a < 4 = (subst (λ (o : Opcode). FieldsFit o i) loops fields).0 in
+    record {
+      within = within;
+      point = found.0;
+      there = found.1;
+      loops = ap (λ (x : Instr). x.opcode) (sym same) ∙ loops;
+      few = subst (λ (x : Instr). x.a < 4) same few;
+      way = subst (λ (x : Instr). IsReached image r (begin_at x.target) pc turn) same reached;
+      kept = subst (λ (x : Instr). counter_at turn.counters x.a ≡ Kept) same kept;
+    }
+
+pub returns-in-Some : goal.returns-in-Some
+returns-in-Some c =
+    let body = c.args.body.now in
+    let i = c.instr-i.result.now in
+    let pc = c.args.pc in
+    let turn = c.in-Some.turn in
+    let loops = loop-only i.opcode (sym c.is_loop.ensures ∙ c.if-not-is_loop.false) in
+    let reached = c.go_all.ensures (begin_at i.target) c.begin_at.ensures pc turn c.if-pc-i.false (omega arith) (sym c.in-Some.ensures) in
+    if-kept body.image.now body.r pc i.a turn c.if_kept.result c.if_kept.ensures.same c.if_kept.ensures.kept
+    (turn-at body.image.now body.r pc i turn (in-body body pc c.requires.above c.requires.below) (omega (arith, c.requires.below, body.room)) c.instr-i.ensures.there c.instr-i.ensures.fields loops reached)

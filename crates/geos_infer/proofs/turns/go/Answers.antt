@@ -1,0 +1,15 @@
+use Rattle.std.proofs.Common.{sym, subst, inl, inr}
+use Rattle.geos_infer.specs.Reach.{AreReached}
+use Rattle.geos_infer.proofs.Onward.{reached-set}
+use Rattle.geos_infer.proofs.turns.go.Goals as goal
+
+pub returns-then-next-high : goal.returns-then-next-high
+returns-then-next-high c = λ low above below begin all.
+    let image = c.args.body.now.image.now in
+    let r = c.args.body.now.r in
+    let next = c.in-Some-arrival.next in
+    let comes = c.in-Some-arrival.ensures.goes begin (all c.args.pc c.in-Some.reach above below (sym c.in-Some.ensures)) in
+    elim c.note.ensures [
+      | inl same ↦ subst (AreReached image r begin low c.args.high) (sym same) all
+      | inr is ↦ subst (AreReached image r begin low c.args.high) (sym is) (reached-set image r begin low c.args.high c.args.reached.now next.to next.reach all comes)
+    ]

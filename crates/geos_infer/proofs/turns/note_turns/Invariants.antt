@@ -1,0 +1,5 @@
+use Rattle.geos_infer.specs.Reach.{AreTurns}
+use Rattle.geos_infer.proofs.turns.note_turns.Given as goal
+
+abbrev pub invariant-loop-pc : goal.invariant-loop-pc
+invariant-loop-pc l = AreTurns l.body.image.now l.body.r l.turns
