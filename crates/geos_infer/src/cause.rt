@@ -242,19 +242,19 @@ fn find_touched_within(body: &Body, touched: &Touched) -> Option<Within>
     None
 }
 
-/// Why no numbers of steps are found.
+/// Why no numbers of steps are found. That the steps pass the limit comes first: then none are enough, whatever else there is.
 fn cause_of_steps(alloc: Global, body: &Body, touched: &Touched) -> Result<Cause, AllocError>
     requires { NotesTouched body.now.image.now touched.now }
     ensures { IfOk result (Holds body.now.image.now body.now.r) }
 {
+    if steps_pass(alloc, body, touched)? {
+        return Ok(Cause::StepsPass);
+    }
     if let Some(within) = find_set_within(body) {
         return Ok(Cause::SetWithin(within));
     }
     if let Some(within) = find_touched_within(body, touched) {
         return Ok(Cause::TouchedWithin(within));
-    }
-    if steps_pass(alloc, body, touched)? {
-        return Ok(Cause::StepsPass);
     }
     match find_back(body) {
         Some(back) => Ok(Cause::NoSteps(back)),
