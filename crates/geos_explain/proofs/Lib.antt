@@ -1,4 +1,5 @@
 mod Fits
 mod Places
+mod Reached
 mod Sentences
 mod Told

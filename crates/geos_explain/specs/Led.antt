@@ -1,7 +1,9 @@
 -- Which instructions control reaches: a mark for each pc of an image, of which there are at most 4,096.
-use Rattle.std.specs.Prelude.{ℕ, zero, suc, ◌+◌, replicate, Bool, true, false, ◌&&◌, not, nat_lt, if◌then◌else◌, List, Some, None, length, slice_get, slice_set, slice_index_or}
+use Rattle.std.specs.Prelude.{◌≡◌, ◌<◌, ◌↔◌, ℕ, zero, suc, ◌+◌, replicate, Bool, true, false, ◌&&◌, not, nat_lt, if◌then◌else◌, List, [], ◌∷◌, Some, None, length, slice_get, slice_set, slice_index_or}
 use Rattle.geos_image.specs.declared.instr.Instr.{Instr}
+use Rattle.geos_image.specs.declared.point.Point.{Point}
 use Rattle.geos_image.specs.Parts.{Parts, start_of}
+use Rattle.geos_image.specs.Legal.{is_image}
 use Rattle.geos_verify.specs.Rows.{falls_through, branches}
 
 -- no pc is marked
@@ -55,3 +57,38 @@ reached image = reached_within image (length image.points)
 -- control reaches a pc from the first instruction of a routine
 unfoldable pub is_reached : Parts → ℕ → Bool
 is_reached image pc = is_marked (reached image) pc
+
+-- What control reaches, as a relation
+
+-- the instruction has the edge: to its target, or to the next instruction
+abbrev pub has_edge : Instr → Bool → Bool
+has_edge i true = branches i.opcode
+has_edge i false = falls_through i.opcode
+
+-- the pc that the edge leads to
+abbrev pub edge_end : ℕ → Instr → Bool → ℕ
+edge_end pc i true = i.target
+edge_end pc i false = pc + 1
+
+-- an edge of the instruction at a pc leads to another
+pub record LeadsTo (image : Parts) (from : ℕ) (branch : Bool) (to : ℕ) : Type 0 where
+  pub point : Point
+  pub there : slice_get image.points from ≡ Some point
+  pub has : has_edge point.instr branch ≡ true
+  pub leads : edge_end from point.instr branch ≡ to
+
+-- edges, the last first, lead from one pc to another
+abbrev pub Lead : Parts → ℕ → List (ℕ × Bool) → ℕ → Type 0
+Lead image start [] pc = pc ≡ start
+Lead image start (edge ∷ edges) pc = Lead image start edges edge.0 × LeadsTo image edge.0 edge.1 pc
+
+-- edges lead to the pc from the first instruction of a routine
+pub record IsReached (image : Parts) (pc : ℕ) : Type 0 where
+  pub r : ℕ
+  pub within : r < length image.routines
+  pub edges : List (ℕ × Bool)
+  pub lead : Lead image (start_of image.routines r) edges pc
+
+-- of the instructions of an image that the format allows, those that control reaches are marked, and no other
+abbrev pub MarksWhatIsReached : Type 0
+MarksWhatIsReached = (image : Parts) (pc : ℕ) → is_image image ≡ true → pc < length image.points → (is_reached image pc ≡ true) ↔ IsReached image pc

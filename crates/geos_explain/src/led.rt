@@ -1,7 +1,7 @@
 //! Which instructions control reaches.
 
 ghost use Rattle.std.specs.Prelude.{◌≡◌, length};
-ghost use Rattle.geos_explain.specs.Led.{no_marks, marked, is_marked, next_marked, target_marked, marked_from, marked_at, marked_round, starts_marked, reached_within, reached, is_reached};
+ghost use Rattle.geos_explain.specs.Led.{no_marks, marked, is_marked, next_marked, target_marked, marked_from, marked_at, marked_round, starts_marked, reached_within, reached, is_reached, MarksWhatIsReached};
 
 use crate::points::point_at;
 use geos_image::{Image, Instr};
@@ -125,3 +125,9 @@ pub(crate) fn is_reached(image: &Image, marks: &Marks, pc: u16) -> bool
 {
     is_marked(marks, usize::from(pc))
 }
+
+/// A law: of the instructions of an image those are marked to which edges lead from the first instruction of
+/// a routine, and no other.
+pub fn marks_what_is_reached()
+    ensures { MarksWhatIsReached }
+{}

@@ -25,5 +25,6 @@ mod written;
 
 pub use explanation::explain;
 pub use lacks::rows_that_fit_lack_nothing;
+pub use led::marks_what_is_reached;
 pub use numbers::{put_numbered, put_pc};
 pub use texts::explain_text;
