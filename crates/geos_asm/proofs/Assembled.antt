@@ -9,16 +9,17 @@ use Rattle.geos_source.specs.Texts.{Code, code_of}
 use Rattle.geos_source.specs.Skeletons.{routine_of, skeleton}
 use Rattle.geos_source.proofs.SkeletonLaws.{skeleton-code}
 use Rattle.geos_infer.specs.Code.{SameCode}
+use Rattle.geos_infer.specs.Reached.{AllHoldWhereReached}
 use Rattle.geos_infer.specs.Theorem.{FindsWhatThereIs, NoneIsAccepted, NothingHoldsIn}
 use Rattle.geos_infer.specs.Causes.{Holds}
 use Rattle.geos_infer.specs.declared.cause.Cause.{Cause}
 use Rattle.geos_asm.specs.Assembling.{IsAssembled, HasNoRows, IsCauseOf}
 
 -- an image with the skeleton's code has the code of the text
-pub assembled : (text : List ℕ) (code : Code) (blank image : Parts) → code_of text ≡ Ok code → blank ≡ skeleton code → SameCode blank image → FindsWhatThereIs blank image → IsAssembled text image
-assembled text code blank image read is same found =
+pub assembled : (text : List ℕ) (code : Code) (blank image : Parts) → code_of text ≡ Ok code → blank ≡ skeleton code → SameCode blank image → AllHoldWhereReached image → FindsWhatThereIs blank image → IsAssembled text image
+assembled text code blank image read is same rows found =
     let same_code = subst (λ (b : Parts). SameCode b image) is same in
-    record { code = code; read = read; has = record { routines = same_code.routines; instrs = same_code.instrs ∙ skeleton-code code }; found = subst (λ (b : Parts). FindsWhatThereIs b image) is found }
+    record { code = code; read = read; has = record { routines = same_code.routines; instrs = same_code.instrs ∙ skeleton-code code }; rows = rows; found = subst (λ (b : Parts). FindsWhatThereIs b image) is found }
 
 -- a routine of the code begins at its line
 pub no_rows : (text : List ℕ) (code : Code) (blank : Parts) (r at : ℕ) (routine : TextRoutine) → code_of text ≡ Ok code → blank ≡ skeleton code → r < length blank.routines → at ≡ r → routine ≡ get_or code.routines at routine → NoneIsAccepted blank → NothingHoldsIn blank r → HasNoRows text routine.line
