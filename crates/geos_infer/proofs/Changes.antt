@@ -1,6 +1,6 @@
 -- What is known of counters, and what they are, behind an edge.
-use Rattle.std.proofs.Common.{◌≡◌, ◌≤◌, ◌<◌, ℕ, zero, suc, ◌-◌, Bool, true, false, List, [], ◌∷◌, length, Option, Some, None, get_or, set, refl, sym, ap, ◌∙◌, subst, arith, inl, inr, ◌⊎◌}
-use Rattle.std.specs.Prelude.{◌==◌, if◌then◌else◌, option_map, slice_index}
+use Rattle.std.proofs.Common.{◌≡◌, ◌<◌, ℕ, zero, suc, ◌-◌, Bool, true, false, List, [], ◌∷◌, length, Some, None, get_or, set, refl, sym, ap, ◌∙◌, subst, arith, inl, inr, ◌⊎◌}
+use Rattle.std.specs.Prelude.{◌==◌, if◌then◌else◌, option_map}
 use Rattle.std.proofs.lemmas.Bool.{cases_eq, cases_lt, eqb-true, eqb-false}
 use Rattle.std.proofs.lemmas.List.{length-set, get_or-set_same, get_or-set_other, set_past, get_or_past, set-get_or}
 use Rattle.std.proofs.lemmas.Option.{same_Some, none-some}
@@ -13,7 +13,7 @@ use Rattle.geos_verify.specs.Lists.{zip2}
 use Rattle.geos_infer.specs.declared.counters.Counter.{Counter}
 use Rattle.geos_infer.specs.declared.counters.Counter.TheVariants.{Kept, Is, Unknown}
 use Rattle.geos_infer.specs.Numbers.{zeros}
-use Rattle.geos_infer.specs.Reach.{counter_at, all_are, IsSo, AreSo, number_in, unless_changed, loop_after, counters_after}
+use Rattle.geos_infer.specs.Reach.{counter_at, all_are, IsSo, AreSo, unless_changed, loop_after, counters_after}
 use Rattle.geos_infer.specs.Taken.{Counts}
 
 -- Where ways begin

@@ -2,7 +2,7 @@
 use Rattle.std.proofs.Common.{◌≡◌, ◌≢◌, ◌≤◌, ◌<◌, ℕ, zero, suc, ◌+◌, ◌-◌, ◌*◌, Bool, true, false, List, [], ◌∷◌, length, Option, Some, None, slice_get, get_or, set, refl, sym, ap, ◌∙◌, subst, arith, inl, inr}
 use Rattle.std.specs.Prelude.{IfSome}
 use Rattle.std.proofs.lemmas.Bool.{cases_eq, cases_lt}
-use Rattle.std.proofs.lemmas.List.{length-set, get_or-set_same, get_or-set_other, set_past, set-get_or}
+use Rattle.std.proofs.lemmas.List.{length-set, get_or-set_same, get_or-set_other, set_past}
 use Rattle.std.proofs.lemmas.Option.{same_Some, none-some}
 use Rattle.std.proofs.Math.Nat.{mul-le-mul_right}
 use Rattle.geos_opcodes.specs.declared.opcode.Opcode.{Opcode}
@@ -12,7 +12,6 @@ use Rattle.geos_image.specs.declared.point.Point.{Point}
 use Rattle.geos_image.specs.Fields.{FieldsFit}
 use Rattle.geos_image.specs.Parts.{Parts}
 use Rattle.geos_verify.specs.Lists.{zip2}
-use Rattle.geos_verify.specs.Rows.{branches}
 use Rattle.geos_verify.proofs.Places.{if_some}
 use Rattle.geos_infer.specs.declared.counters.Counter.{Counter}
 use Rattle.geos_infer.specs.declared.counters.Counter.TheVariants.{Kept, Is, Unknown}
@@ -23,7 +22,7 @@ use Rattle.geos_infer.specs.Numbers.{zeros}
 use Rattle.geos_infer.specs.Solutions.{call_steps, most_steps}
 use Rattle.geos_infer.specs.Taken.{Place, Counts, Goes, Takes, StepsPass, taken_at}
 use Rattle.geos_infer.specs.Why.{LeadsTo}
-use Rattle.geos_infer.proofs.Changes.{so-set, so-behind, kept-so, zeros-so, CountsTo, counts-to}
+use Rattle.geos_infer.proofs.Changes.{so-set, so-behind, kept-so, zeros-so, counts-to}
 
 abbrev place : ℕ → List ℕ → Place
 place pc counters = record { pc = pc; counters = counters }

@@ -1,5 +1,5 @@
 -- No image is accepted where more steps are taken on some way than a potential can say.
-use Rattle.std.proofs.Common.{◌≡◌, ◌≤◌, ◌<◌, ℕ, zero, suc, ◌+◌, ◌-◌, ◌*◌, Bool, true, false, List, [], ◌∷◌, length, map, take, drop, Option, Some, None, slice_get, get_or, set, refl, sym, ap, ◌∙◌, subst, arith, inl, inr, ◌⊎◌}
+use Rattle.std.proofs.Common.{◌≡◌, ◌≤◌, ◌<◌, ℕ, zero, suc, ◌+◌, ◌*◌, Bool, true, false, List, [], ◌∷◌, length, map, take, drop, Option, Some, None, slice_get, get_or, set, refl, sym, ap, ◌∙◌, subst, arith, inl, inr, ◌⊎◌}
 use Rattle.std.specs.Prelude.{◌&&◌, ◌||◌, ◌==◌, if◌then◌else◌}
 use Rattle.std.specs.List.{list_any}
 use Rattle.std.proofs.lemmas.Bool.{cases_lt, false≢true}
@@ -25,8 +25,8 @@ use Rattle.geos_semantics.proofs.Leads.{leads-along, leads-branching, may_return
 use Rattle.geos_semantics.proofs.Paid.{pays-value, pays_setting-value, pays_taking-value, pays_calling-value, spent-at}
 use Rattle.geos_infer.specs.Code.{IsPcOf, SameCode, instr_of, instrs_of}
 use Rattle.geos_infer.specs.Numbers.{zeros}
-use Rattle.geos_infer.specs.Solutions.{call_steps, most_steps}
-use Rattle.geos_infer.specs.Taken.{Place, KeepsUntouched, Counts, Goes, Takes, StepsPass, NoneIsAcceptedPast, taken_at}
+use Rattle.geos_infer.specs.Solutions.{call_steps}
+use Rattle.geos_infer.specs.Taken.{Place, Counts, Takes, NoneIsAcceptedPast, taken_at}
 use Rattle.geos_infer.specs.Theorem.{HasAccepted}
 use Rattle.geos_infer.specs.Why.{LeadsTo}
 use Rattle.geos_infer.proofs.Asks.{zero-at, called}

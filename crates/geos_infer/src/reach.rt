@@ -2,7 +2,7 @@
 
 ghost use Rattle.std.specs.Prelude.{◌≡◌, ◌<◌, ◌≤◌, ◌⊎◌, ℕ, Some, None, slice_index_or, slice_set, IfOk};
 
-use crate::counters::Counter;
+use crate::counters::{Counter, number_in};
 use crate::table::MOST_INSTRS;
 use std::alloc::{AllocError, Global};
 use std::marker::Model;
@@ -24,10 +24,17 @@ pub(crate) struct Arrival {
     pub(crate) reach: Reach,
 }
 
+/// The steps of all the turns that a counter may still take.
+fn steps_of_turns(counter: Counter, turn: u64) -> u64 {
+    u64::from(number_in(counter)).saturating_mul(turn)
+}
+
 /// What is known of a way to each place that there may be in an image.
 #[derive(Drop)]
 pub(crate) struct Reached {
     items: Vec<Option<Reach>>,
+    /// How many steps the longest turn takes that a unit of each counter may pay for, to tell which of two ways to keep.
+    turns: [u64; 4],
 }
 
 impl Model for Reached {
@@ -50,7 +57,10 @@ impl Reached {
         for _ in 0..MOST_INSTRS {
             items.push(None)?;
         }
-        Ok(Reached { items })
+        Ok(Reached {
+            items,
+            turns: [0; 4],
+        })
     }
 
     /// What is known of a way to a pc.
@@ -79,16 +89,37 @@ impl Reached {
         }
     }
 
-    /// Sets what is known of a way to a place, unless one that takes as many steps is known.
+    /// A loop on a counter has a turn of so many steps.
+    pub(crate) fn note_turn(&mut self, counter: u8, steps: u64)
+        ensures { self.new ≡ self.old }
+    {
+        if counter < 4 && self.turns[usize::from(counter)] < steps {
+            self.turns[usize::from(counter)] = steps;
+        }
+    }
+
+    /// The steps of a way, with those of the turns that its counters may still take.
+    fn worth(&self, reach: &Reach) -> u64 {
+        let [k0, k1, k2, k3] = reach.counters;
+        let [t0, t1, t2, t3] = self.turns;
+        reach
+            .steps
+            .saturating_add(steps_of_turns(k0, t0))
+            .saturating_add(steps_of_turns(k1, t1))
+            .saturating_add(steps_of_turns(k2, t2))
+            .saturating_add(steps_of_turns(k3, t3))
+    }
+
+    /// Sets what is known of a way to a place, unless one that is worth as much is known.
     pub(crate) fn note(&mut self, arrival: &Arrival)
         requires { arrival.now.to < 4096 }
         ensures { (self.new ≡ self.old) ⊎ (self.new ≡ slice_set self.old arrival.now.to (Some arrival.now.reach)) }
     {
-        let shorter = match self.at(arrival.to) {
-            Some(old) => old.steps < arrival.reach.steps,
+        let better = match self.at(arrival.to) {
+            Some(old) => self.worth(&old) < self.worth(&arrival.reach),
             None => true,
         };
-        if shorter {
+        if better {
             self.set(arrival.to, Some(arrival.reach));
         }
     }

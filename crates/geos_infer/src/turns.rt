@@ -235,6 +235,7 @@ fn note_turns(body: &Body, touched: &Touched, turns: &mut Reached, reached: &mut
     for pc in body.start..body.end {
         if let Some(turn) = find_turn(body, touched, turns, reached, pc) {
             turns.set(pc, Some(turn));
+            reached.note_turn(body.image.instr(pc).a, turn.steps.saturating_add(1));
         }
     }
 }

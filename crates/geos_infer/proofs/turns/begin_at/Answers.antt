@@ -1,4 +1,4 @@
-use Rattle.std.proofs.Common.{Some, sym, subst, refl}
+use Rattle.std.proofs.Common.{sym, subst, refl}
 use Rattle.geos_infer.specs.Reach.{begin_at, AreReached}
 use Rattle.geos_infer.proofs.Onward.{begins-at}
 use Rattle.geos_infer.proofs.turns.begin_at.Goals as goal
