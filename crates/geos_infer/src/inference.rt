@@ -51,15 +51,15 @@ fn routines_of(alloc: Global, image: &Image) -> Result<Vec<Routine>, AllocError>
 /// and its instructions), and with rows and potentials that are found for it; those of the
 /// skeleton are not looked at.
 ///
-/// The rows hold wherever control reaches, in loops too: the verifier refuses there neither a row nor
-/// an edge for it (`rows_that_hold_pass`).
+/// The rows hold wherever control reaches, in loops too, so that the verifier's rules on rows pass
+/// there (`rows_that_hold_pass`).
 ///
 /// Where there is no LOOP, no edge leads back, and each instruction but a routine's first has an
 /// edge into it, the verifier accepts the image that is answered if it accepts any with that code.
-/// The image may be one that it refuses: then `geos_verify::check` says where. `NoRows` names the
-/// first routine where slots differ in more than marks where ways of control meet, or for which no
-/// potential was found: if that has no LOOP, no edge that leads back, and an edge of its own into
-/// each instruction but the first, no rows and numbers of steps hold in it, whatever the others are.
+/// The image may be one that it refuses: then `geos_verify::check` says where. `NoRows` names a
+/// routine for which no rows or no potentials were found; that it is the first such one is not
+/// proved. If it has no LOOP, no edge that leads back, and an edge of its own into each instruction
+/// but the first, no rows and numbers of steps hold in it, whatever the others are.
 pub fn infer(alloc: Global, skeleton: &Image) -> Result<Image, InferError>
     ensures code { IfOk result (λ image. SameCode skeleton.now image) }
     ensures rows { IfOk result AllHoldWhereReached }
