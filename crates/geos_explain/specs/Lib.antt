@@ -7,6 +7,7 @@ pub mod Lacks
 pub mod Uses
 pub mod Held
 pub mod Ways
+pub mod Trace
 pub mod Stale
 pub mod Steps
 pub mod Unset

@@ -20,11 +20,12 @@ use Rattle.geos_explain.specs.declared.ways.Edge.{Edge}
 use Rattle.geos_explain.specs.declared.ways.Followed.{Followed}
 use Rattle.geos_explain.specs.declared.ways.Way.{Way}
 use Rattle.geos_explain.specs.declared.ways.Way.TheVariants.{Entry, Along}
-use Rattle.geos_explain.specs.declared.ways.End.{End}
-use Rattle.geos_explain.specs.declared.ways.End.TheVariants.{Lost, Unset, Unreached, Merged}
-use Rattle.geos_explain.specs.declared.ways.Meeting.{Meeting}
-use Rattle.geos_explain.specs.declared.ways.Trace.{Trace}
-use Rattle.geos_explain.specs.Ways.{hint_of, with_hint, forgets, sets, traced}
+use Rattle.geos_explain.specs.declared.trace.End.{End}
+use Rattle.geos_explain.specs.declared.trace.End.TheVariants.{Unset, Unreached, Merged}
+use Rattle.geos_explain.specs.declared.trace.Meeting.{Meeting}
+use Rattle.geos_explain.specs.declared.trace.Trace.{Trace}
+use Rattle.geos_explain.specs.Ways.{with_hint, forgets, sets}
+use Rattle.geos_explain.specs.Trace.{hint_of, traced}
 
 -- a pointer, where the row knows nothing of it
 abbrev pub if_stale : Row → ℕ → Option ℕ
@@ -127,17 +128,20 @@ merged_words place p to =
     codes "; each way to" ++ pc_text place.lines to ++ codes " knows p" ++ decimal p
     ++ codes ", and it is not known there, as where it leads into two slots: fetch it again"
 
--- where the way back ends
-abbrev pub end_words : Place → ℕ → Trace → Option End → List ℕ
-end_words place p t None = codes ": fetch it again"
-end_words place p t (Some (Lost edge)) = lost_by place (record { p = p; hint = hint_of t.meeting }) edge
-end_words place p t (Some Unset) = unset_words place p
-end_words place p t (Some Unreached) = unreached_words place t.at
-end_words place p t (Some Merged) = merged_words place p t.at
+-- why a pointer is not known, where no instruction lost it
+abbrev pub end_words : Place → ℕ → Option End → List ℕ
+end_words place p None = codes ": fetch it again"
+end_words place p (Some Unset) = unset_words place p
+end_words place p (Some (Unreached to)) = unreached_words place to
+end_words place p (Some (Merged to)) = merged_words place p to
+
+-- by what a pointer was lost, or else why it is not known
+abbrev pub loss_words : Place → ℕ → Trace → List ℕ
+loss_words place p t = elim t.lost [ None ↦ end_words place p t.end | Some edge ↦ lost_by place (record { p = p; hint = hint_of t.meeting }) edge ]
 
 -- where a pointer was lost, and by what
 unfoldable pub trace_words : Place → ℕ → Trace → List ℕ
-trace_words place p t = meeting_item place p t.meeting ++ end_words place p t t.end
+trace_words place p t = meeting_item place p t.meeting ++ loss_words place p t
 
 -- the same, if there is a pointer
 abbrev pub trace_item : Place → Option ℕ → List ℕ

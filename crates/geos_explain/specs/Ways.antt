@@ -1,4 +1,4 @@
--- Which ways lead to a pc, which of them bring a pointer, and where going back a pointer was lost.
+-- Which ways lead to a pc, which of them bring a pointer, and which instructions lose one.
 use Rattle.std.specs.Prelude.{ℕ, zero, suc, ◌+◌, Bool, true, false, ◌&&◌, ◌||◌, not, nat_lt, ◌==◌, if◌then◌else◌, Option, Some, None, slice_get, slice_set, length}
 use Rattle.geos_opcodes.specs.declared.opcode.Opcode.{Opcode}
 use Rattle.geos_opcodes.specs.declared.opcode.Opcode.TheVariants.{Call}
@@ -16,10 +16,6 @@ use Rattle.geos_explain.specs.declared.ways.Way.{Way}
 use Rattle.geos_explain.specs.declared.ways.Way.TheVariants.{Entry, Along}
 use Rattle.geos_explain.specs.declared.ways.Sought.{Sought}
 use Rattle.geos_explain.specs.declared.ways.Followed.{Followed}
-use Rattle.geos_explain.specs.declared.ways.End.{End}
-use Rattle.geos_explain.specs.declared.ways.End.TheVariants.{Lost, Unset, Unreached, Merged}
-use Rattle.geos_explain.specs.declared.ways.Meeting.{Meeting}
-use Rattle.geos_explain.specs.declared.ways.Trace.{Trace}
 use Rattle.geos_explain.specs.Places.{Place}
 
 -- a pointer is known, or is not, as is asked
@@ -94,23 +90,6 @@ abbrev pub brought : Place → ℕ → Way → Option Pointer
 brought place p Entry = pointer_at place.routine.entry p
 brought place p (Along edge) = behind place.image p edge
 
--- ways to a pc meet: one brings the pointer, and another does not
-abbrev pub meets : Place → ℕ → ℕ → Way → Option Meeting
-meets place p to lost = elim (bringing place p to) [
-  | None ↦ None
-  | Some known ↦ Some (record { to = to; known = known; lost = lost; pointer = brought place p known })
-]
-
--- the meeting so far, or else this one
-abbrev pub or_meeting : Option Meeting → Option Meeting → Option Meeting
-or_meeting None other = other
-or_meeting (Some meeting) other = Some meeting
-
--- what is known of the pointer on the way that brings it
-abbrev pub hint_of : Option Meeting → Option Pointer
-hint_of None = None
-hint_of (Some meeting) = meeting.pointer
-
 -- a row; where it knows nothing of the pointer, with what is known of it on another way
 abbrev pub with_hint : Row → Followed → Row
 with_hint row followed =
@@ -142,40 +121,3 @@ loses image followed edge point =
     forgets point.instr.opcode
     || (edge.branch && sets point.instr (uses_of point.instr.opcode).pointer followed.p)
     || makes_stale image followed.p edge point.instr (with_hint point.row followed)
-
--- the same, if there is an instruction
-unfoldable pub loses_at : Parts → Followed → Edge → Bool
-loses_at image followed edge = elim (slice_get image.points edge.from) [ None ↦ false | Some point ↦ loses image followed edge point ]
-
--- going back along an edge: the pointer was lost there, or the way goes on back
-abbrev pub back_by : Parts → ℕ → Option Meeting → Edge → Trace
-back_by image p meeting edge =
-    if loses_at image (record { p = p; hint = hint_of meeting }) edge
-    then record { at = edge.from; meeting = meeting; end = Some (Lost edge) }
-    else record { at = edge.from; meeting = meeting; end = None }
-
--- going back along a way to a pc
-abbrev pub back_along : Parts → ℕ → ℕ → Option Meeting → Way → Trace
-back_along image p to meeting Entry = record { at = to; meeting = meeting; end = Some Unset }
-back_along image p to meeting (Along edge) = back_by image p meeting edge
-
--- no way to a pc lacks the pointer: each brings it, or there is none
-abbrev pub without_way : Option Way → End
-without_way None = Unreached
-without_way (Some way) = Merged
-
--- one step back from a pc, along the first way that does not bring the pointer
-unfoldable pub back_from : Place → ℕ → ℕ → Option Meeting → Trace
-back_from place p to met = elim (losing place p to) [
-  | None ↦ record { at = to; meeting = met; end = Some (without_way (bringing place p to)) }
-  | Some way ↦ back_along place.image p to (or_meeting met (meets place p to way)) way
-]
-
--- one more step back, unless the end was found
-abbrev pub step_back : Place → ℕ → Trace → Trace
-step_back place p trace = elim trace.end [ None ↦ back_from place p trace.at trace.meeting | Some end ↦ trace ]
-
--- so many steps back from a pc
-unfoldable pub traced : Place → ℕ → ℕ → Trace
-traced place p zero = record { at = place.pc; meeting = None; end = None }
-traced place p (suc n) = step_back place p (traced place p n)

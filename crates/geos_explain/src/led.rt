@@ -12,14 +12,14 @@ pub(crate) type Marks = [bool; 4096];
 
 /// No pc is marked.
 #[tactic(auto, unfolding(crate::specs::Led::no_marks))]
-fn no_marks() -> Marks
+pub(crate) fn no_marks() -> Marks
     ensures { result ≡ no_marks }
 {
     [false; 4096]
 }
 
 /// One more mark, if there is such a pc.
-fn mark(marks: &mut Marks, pc: usize)
+pub(crate) fn mark(marks: &mut Marks, pc: usize)
     ensures { marks.new ≡ marked marks.old pc }
 {
     if pc < 4096 {
@@ -28,7 +28,7 @@ fn mark(marks: &mut Marks, pc: usize)
 }
 
 /// Whether the pc is marked.
-fn is_marked(marks: &Marks, pc: usize) -> bool
+pub(crate) fn is_marked(marks: &Marks, pc: usize) -> bool
     ensures { result ≡ is_marked marks.now pc }
 {
     pc < 4096 && marks[pc]

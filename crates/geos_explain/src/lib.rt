@@ -17,6 +17,7 @@ mod points;
 mod stale;
 mod steps;
 mod texts;
+mod trace;
 mod unset;
 mod uses;
 mod ways;

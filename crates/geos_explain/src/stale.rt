@@ -3,16 +3,15 @@
 ghost use Rattle.std.specs.Prelude.{◌≡◌, ◌++◌, OnOk};
 ghost use Rattle.geos_explain.specs.Places.{IsPlace, place_of};
 ghost use Rattle.geos_explain.specs.Parts.{part_text};
-ghost use Rattle.geos_explain.specs.Stale.{if_stale, stale_used, pointer_item, way_text, meeting_place, meeting_words, meeting_item, named, name_at, call_loss, refused_loss, moved_words, use_loss, how_lost, lost_point, lost_by, in_wish, unset_words, unreached_words, merged_words, end_words, trace_words, trace_item, stale_words};
+ghost use Rattle.geos_explain.specs.Stale.{if_stale, stale_used, pointer_item, way_text, meeting_place, meeting_words, meeting_item, named, name_at, call_loss, refused_loss, moved_words, use_loss, how_lost, lost_point, lost_by, in_wish, unset_words, unreached_words, merged_words, end_words, loss_words, trace_words, trace_item, stale_words};
 
 use crate::numbers::put_numbered;
 use crate::parts::{Part, put_parts};
 use crate::place::Place;
 use crate::points::point_at;
+use crate::trace::{End, Meeting, Trace, hint_of, traced};
 use crate::uses::slot_behind;
-use crate::ways::{
-    Edge, End, Followed, Meeting, Trace, Way, forgets, hint_of, is_stale, sets, traced, with_hint,
-};
+use crate::ways::{Edge, Followed, Way, forgets, is_stale, sets, with_hint};
 use geos_image::{Image, Instr, Point, Routine, Row};
 use geos_opcodes::{PointerUse, SlotUse};
 use geos_verify::{pointer_at, uses_at};
@@ -338,19 +337,28 @@ fn put_merged(out: &mut Vec<u8>, place: &Place, p: u8, to: u16) -> Result<(), Al
     )
 }
 
-/// Where the way back ends.
-fn put_end(out: &mut Vec<u8>, place: &Place, p: u8, t: &Trace) -> Result<(), AllocError>
-    ensures { OnOk result (out.new.items ≡ out.old.items ++ end_words (place_of place.now) p t.now t.now.end) }
+/// Why the pointer is not known, where no instruction lost it.
+fn put_end(out: &mut Vec<u8>, place: &Place, p: u8, end: Option<End>) -> Result<(), AllocError>
+    ensures { OnOk result (out.new.items ≡ out.old.items ++ end_words (place_of place.now) p end) }
 {
-    match t.end {
+    match end {
         None => out.extend_from_slice(b": fetch it again"),
-        Some(End::Lost(edge)) => {
+        Some(End::Unset) => put_unset(out, place, p),
+        Some(End::Unreached(to)) => put_unreached(out, place, to),
+        Some(End::Merged(to)) => put_merged(out, place, p, to),
+    }
+}
+
+/// By what the pointer was lost, or else why it is not known.
+fn put_loss(out: &mut Vec<u8>, place: &Place, p: u8, t: &Trace) -> Result<(), AllocError>
+    ensures { OnOk result (out.new.items ≡ out.old.items ++ loss_words (place_of place.now) p t.now) }
+{
+    match t.lost {
+        None => put_end(out, place, p, t.end),
+        Some(edge) => {
             let hint = hint_of(t.meeting);
             put_lost_by(out, place, Followed { p, hint }, edge)
         }
-        Some(End::Unset) => put_unset(out, place, p),
-        Some(End::Unreached) => put_unreached(out, place, t.at),
-        Some(End::Merged) => put_merged(out, place, p, t.at),
     }
 }
 
@@ -360,7 +368,7 @@ fn put_trace(out: &mut Vec<u8>, place: &Place, p: u8, t: &Trace) -> Result<(), A
     ensures { OnOk result (out.new.items ≡ out.old.items ++ trace_words (place_of place.now) p t.now) }
 {
     put_meeting_item(out, place, p, t.meeting)?;
-    put_end(out, place, p, t)
+    put_loss(out, place, p, t)
 }
 
 /// The same, if there is a pointer.

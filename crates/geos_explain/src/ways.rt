@@ -1,9 +1,9 @@
-//! Which ways lead to an instruction, which of them bring a pointer, and where going back it was lost.
+//! Which ways lead to an instruction, which of them bring a pointer, and which instructions lose it.
 
 ghost use Rattle.std.specs.Prelude.{◌≡◌, ◌<◌, Some, length, slice_get, IfSome};
 ghost use Rattle.geos_verify.specs.Rows.{is_stale};
 ghost use Rattle.geos_explain.specs.Places.{IsPlace, place_of};
-ghost use Rattle.geos_explain.specs.Ways.{is_as, leads_along, leads_branching, way_of, way_at, or_way, first_way, entry_way, way_to, behind, brought, meets, or_meeting, hint_of, with_hint, goes_stale, makes_stale, behind_point, sets, forgets, has_edge, loses, loses_at, back_by, back_along, without_way, back_from, step_back, traced};
+ghost use Rattle.geos_explain.specs.Ways.{is_as, leads_along, leads_branching, way_of, way_at, or_way, first_way, entry_way, way_to, behind, brought, with_hint, goes_stale, makes_stale, behind_point, sets, forgets, has_edge, loses};
 
 use crate::place::Place;
 use crate::points::point_at;
@@ -44,41 +44,6 @@ pub(crate) struct Followed {
     pub p: u8,
     /// What is known of it on a way that brings it.
     pub hint: Option<Pointer>,
-}
-
-/// Ways meet, of which one brings a pointer and another does not.
-#[derive(Clone, Copy)]
-pub(crate) struct Meeting {
-    /// Where they lead.
-    pub to: u16,
-    /// The first that brings it.
-    pub known: Way,
-    /// The first that does not.
-    pub lost: Way,
-    /// What is known of it on the first.
-    pub pointer: Option<Pointer>,
-}
-
-/// Where a way back ends.
-#[derive(Clone, Copy)]
-pub(crate) enum End {
-    /// At an instruction that loses the pointer on this edge.
-    Lost(Edge),
-    /// At the beginning of the routine, whose entry row does not know it.
-    Unset,
-    /// Where no way leads.
-    Unreached,
-    /// Where each way brings it, and the row still does not know it.
-    Merged,
-}
-
-/// How far a pointer that is not known was followed back.
-#[derive(Clone, Copy)]
-pub(crate) struct Trace {
-    pub at: u16,
-    /// The first place on the way back where one way brings the pointer and another does not.
-    pub meeting: Option<Meeting>,
-    pub end: Option<End>,
 }
 
 /// Whether nothing is known of the pointer.
@@ -192,7 +157,7 @@ fn entry_way(place: &Place, sought: Sought) -> Option<Way>
 
 /// The first way that is sought.
 #[tactic(auto, unfolding(crate::specs::Ways::way_to))]
-fn way_to(place: &Place, sought: Sought) -> Option<Way>
+pub(crate) fn way_to(place: &Place, sought: Sought) -> Option<Way>
     requires { IsPlace (place_of place.now) }
     ensures { result ≡ way_to (place_of place.now) sought }
 {
@@ -224,48 +189,12 @@ fn behind(image: &Image, p: u8, edge: Edge) -> Option<Pointer>
 }
 
 /// What a way brings of the pointer.
-fn brought(place: &Place, p: u8, way: Way) -> Option<Pointer>
+pub(crate) fn brought(place: &Place, p: u8, way: Way) -> Option<Pointer>
     ensures { result ≡ brought (place_of place.now) p way }
 {
     match way {
         Way::Entry => pointer_at(&place.routine.entry, p),
         Way::Along(edge) => behind(place.image, p, edge),
-    }
-}
-
-/// Ways to a pc meet: one brings the pointer, and another does not.
-fn meets(place: &Place, p: u8, to: u16, lost: Way) -> Option<Meeting>
-    requires { IsPlace (place_of place.now) }
-    ensures { result ≡ meets (place_of place.now) p to lost }
-{
-    match way_to(place, Sought { p, to, known: true }) {
-        Some(known) => Some(Meeting {
-            to,
-            known,
-            lost,
-            pointer: brought(place, p, known),
-        }),
-        None => None,
-    }
-}
-
-/// The meeting so far, or else this one.
-fn or_meeting(meeting: Option<Meeting>, other: Option<Meeting>) -> Option<Meeting>
-    ensures { result ≡ or_meeting meeting other }
-{
-    match meeting {
-        Some(meeting) => Some(meeting),
-        None => other,
-    }
-}
-
-/// What is known of the pointer on the way that brings it.
-pub(crate) fn hint_of(meeting: Option<Meeting>) -> Option<Pointer>
-    ensures { result ≡ hint_of meeting }
-{
-    match meeting {
-        Some(meeting) => meeting.pointer,
-        None => None,
     }
 }
 
@@ -308,7 +237,7 @@ pub(crate) fn forgets(opcode: Opcode) -> bool
 }
 
 /// Whether the instruction has the edge.
-fn has_edge(i: &Instr, branch: bool) -> bool
+pub(crate) fn has_edge(i: &Instr, branch: bool) -> bool
     ensures { result ≡ has_edge i.now branch }
 {
     if branch {
@@ -329,7 +258,7 @@ fn makes_stale(image: &Image, p: u8, edge: Edge, i: &Instr, row: &Row) -> bool
 
 /// Whether the instruction loses the pointer on this edge: it is a call, or was to set it and was refused, or makes it
 /// stale.
-fn loses(image: &Image, followed: Followed, edge: Edge, point: &Point) -> bool
+pub(crate) fn loses(image: &Image, followed: Followed, edge: Edge, point: &Point) -> bool
     requires { slice_get image.now.points edge.from ≡ Some point.now }
     ensures { result ≡ loses image.now followed edge point.now }
 {
@@ -337,110 +266,4 @@ fn loses(image: &Image, followed: Followed, edge: Edge, point: &Point) -> bool
     forgets(i.opcode)
         || (edge.branch && sets(i, i.opcode.uses().pointer, followed.p))
         || makes_stale(image, followed.p, edge, i, &with_hint(&point.row, followed))
-}
-
-/// The same, if there is an instruction.
-#[tactic(auto, unfolding(crate::specs::Ways::loses_at))]
-fn loses_at(image: &Image, followed: Followed, edge: Edge) -> bool
-    ensures { result ≡ loses_at image.now followed edge }
-{
-    match point_at(image, edge.from) {
-        Some(point) => loses(image, followed, edge, point),
-        None => false,
-    }
-}
-
-/// Going back along an edge: the pointer was lost there, or the way goes on back.
-fn back_by(image: &Image, p: u8, meeting: Option<Meeting>, edge: Edge) -> Trace
-    ensures { result ≡ back_by image.now p meeting edge }
-{
-    let hint = hint_of(meeting);
-    let end = if loses_at(image, Followed { p, hint }, edge) {
-        Some(End::Lost(edge))
-    } else {
-        None
-    };
-    Trace {
-        at: edge.from,
-        meeting,
-        end,
-    }
-}
-
-/// Going back along a way to a pc.
-fn back_along(image: &Image, p: u8, to: u16, meeting: Option<Meeting>, way: Way) -> Trace
-    ensures { result ≡ back_along image.now p to meeting way }
-{
-    match way {
-        Way::Entry => Trace {
-            at: to,
-            meeting,
-            end: Some(End::Unset),
-        },
-        Way::Along(edge) => back_by(image, p, meeting, edge),
-    }
-}
-
-/// No way to a pc lacks the pointer: each brings it, or there is none.
-fn without_way(known: Option<Way>) -> End
-    ensures { result ≡ without_way known }
-{
-    match known {
-        Some(_) => End::Merged,
-        None => End::Unreached,
-    }
-}
-
-/// One step back from a pc, along the first way that does not bring the pointer.
-#[tactic(auto, unfolding(crate::specs::Ways::back_from))]
-fn back_from(place: &Place, p: u8, to: u16, met: Option<Meeting>) -> Trace
-    requires { IsPlace (place_of place.now) }
-    ensures { result ≡ back_from (place_of place.now) p to met }
-{
-    match way_to(
-        place,
-        Sought {
-            p,
-            to,
-            known: false,
-        },
-    ) {
-        Some(way) => {
-            let met = or_meeting(met, meets(place, p, to, way));
-            back_along(place.image, p, to, met, way)
-        }
-        None => Trace {
-            at: to,
-            meeting: met,
-            end: Some(without_way(way_to(place, Sought { p, to, known: true }))),
-        },
-    }
-}
-
-/// One more step back, unless the end was found.
-fn step_back(place: &Place, p: u8, trace: Trace) -> Trace
-    requires { IsPlace (place_of place.now) }
-    ensures { result ≡ step_back (place_of place.now) p trace }
-{
-    match trace.end {
-        None => back_from(place, p, trace.at, trace.meeting),
-        Some(_) => trace,
-    }
-}
-
-/// As many steps back from the place as there are instructions.
-#[tactic(auto, unfolding(crate::specs::Ways::traced))]
-pub(crate) fn traced(place: &Place, p: u8) -> Trace
-    requires { IsPlace (place_of place.now) }
-    ensures { result ≡ traced (place_of place.now) p (length place.now.image.now.points) }
-{
-    let mut trace = Trace {
-        at: place.pc,
-        meeting: None,
-        end: None,
-    };
-    for n in 0..place.image.len() {
-        trace = step_back(place, p, trace);
-    }
-    trace
 }
