@@ -41,13 +41,14 @@ note_head place = elim (slice_get place.lines place.pc) [
   | Some line ↦ codes " ;"
 ]
 
--- that nothing leads to a place, where control does not reach it
-unfoldable pub unled_text : Place → List ℕ
-unled_text place = if place.reached then [] else codes " nothing leads here,"
+-- what the row of a place knows beyond the open row; where control does not reach it, that nothing leads there, since the row
+-- may then say all that can be said
+unfoldable pub known_here : Place → List ℕ
+known_here place = if place.reached then known_text place.row else codes " nothing leads here,"
 
--- whether nothing leads to a place, what its row knows beyond the open row, and its potential
+-- what is known at a place, and its potential
 unfoldable pub note : Place → List ℕ
-note place = note_head place ++ unled_text place ++ known_text place.row ++ potential_text place.potential
+note place = note_head place ++ known_here place ++ potential_text place.potential
 
 -- the potential is above the budget
 unfoldable pub budget_words : Routine → Potential → List ℕ

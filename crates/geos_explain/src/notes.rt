@@ -3,7 +3,7 @@
 ghost use Rattle.std.specs.Prelude.{◌≡◌, ◌++◌, OnOk};
 ghost use Rattle.geos_listing.specs.Rows.{row_items};
 ghost use Rattle.geos_explain.specs.Places.{IsPlace, place_of};
-ghost use Rattle.geos_explain.specs.Notes.{known_text, coefficient_text, coefficients_text, is_one, potential_text, where_text, note_head, unled_text, note, budget_words};
+ghost use Rattle.geos_explain.specs.Notes.{known_text, coefficient_text, coefficients_text, is_one, potential_text, where_text, note_head, known_here, note, budget_words};
 
 use crate::numbers::{put_numbered, steps_word, verb};
 use crate::parts::{Part, put_parts};
@@ -99,27 +99,27 @@ fn put_note_head(out: &mut Vec<u8>, place: &Place) -> Result<(), AllocError>
     }
 }
 
-/// That nothing leads to the place, where control does not reach it.
-#[tactic(auto, unfolding(crate::specs::Notes::unled_text))]
-fn put_unled(out: &mut Vec<u8>, place: &Place) -> Result<(), AllocError>
-    ensures { OnOk result (out.new.items ≡ out.old.items ++ unled_text (place_of place.now)) }
+/// What the row of the place knows beyond the open row; where control does not reach it, that nothing leads there, since the
+/// row may then say all that can be said.
+#[tactic(auto, unfolding(crate::specs::Notes::known_here))]
+fn put_known_here(alloc: Global, out: &mut Vec<u8>, place: &Place) -> Result<(), AllocError>
+    ensures { OnOk result (out.new.items ≡ out.old.items ++ known_here (place_of place.now)) }
 {
     if place.reached {
-        Ok(())
+        put_known(alloc, out, place.row)
     } else {
         out.extend_from_slice(b" nothing leads here,")
     }
 }
 
-/// What the row knows beyond the open row, and the potential.
+/// What is known at the place, and its potential.
 #[tactic(auto, unfolding(crate::specs::Notes::note))]
 pub(crate) fn put_note(alloc: Global, out: &mut Vec<u8>, place: &Place) -> Result<(), AllocError>
     requires { IsPlace (place_of place.now) }
     ensures { OnOk result (out.new.items ≡ out.old.items ++ note (place_of place.now)) }
 {
     put_note_head(out, place)?;
-    put_unled(out, place)?;
-    put_known(alloc, out, place.row)?;
+    put_known_here(alloc, out, place)?;
     put_potential(out, place.potential)
 }
 
