@@ -7,10 +7,10 @@ use Rattle.std.proofs.lemmas.Bool.{and_parts, and_from, true≢false, eqb-true, 
 use Rattle.std.proofs.lemmas.Fmt.{length-decimal-le}
 use Rattle.std.proofs.lemmas.List.{length-take, length-drop, take-append-drop}
 use Rattle.std.proofs.lemmas.List.Sums.{prefix_len-le-length}
-use Rattle.geos_image.specs.Legal.{is_name_byte as is_image_byte, is_name as is_image_name, text_end}
+use Rattle.geos_image.specs.Legal.{is_name_byte, is_name as is_image_name, text_end}
 use Rattle.geos_listing.specs.Instrs.{label_of as label_text}
 use Rattle.geos_text.proofs.LineLaws.{position_or_else}
-use Rattle.geos_source.specs.Names.{is_name_byte, is_name, name_of}
+use Rattle.geos_source.specs.Names.{is_name, name_of}
 use Rattle.geos_asm.proofs.Spaced.{is_inner, is_word}
 use Rattle.geos_asm.proofs.NumbersAgain.{TellsInner, all_inner, some_word, decimal-digits, decimal-inner}
 
@@ -31,6 +31,7 @@ name_of-is word h = ap (λ b. cond b (Some (padded word)) None) h
 
 -- bytes of names stand in words
 name-inner : (word : List ℕ) → list_all is_name_byte word ≡ true → list_all is_inner word ≡ true
+unfolding is_name_byte
 name-inner word h =
     let tells : TellsInner is_name_byte = record { tab = refl; feed = refl; return = refl; space = refl; comment = refl } in
     all_inner is_name_byte tells word h
@@ -66,12 +67,11 @@ record NameParts (name text : List ℕ) : Type 0 where
   whole : padded text ≡ name
 
 name_parts : (name : List ℕ) → is_image_name name ≡ true → length name ≡ 16 → NameParts name (take (unwrap_or (text_end name) 16) name)
-unfolding is_image_byte
 name_parts name legal long =
     let len = unwrap_or (text_end name) 16 in
     let within = text_end-within name long in
     let a = is_ascii_alphabetic (slice_index name 0) in
-    let b = list_all is_image_byte (take len name) in
+    let b = list_all is_name_byte (take len name) in
     let c = list_all (λ b. b == 0) (drop len name) in
     let p = and_parts (a && b) c legal in
     let q = and_parts a b p.0 in
@@ -109,6 +109,7 @@ abbrev pub label_name : ℕ → List ℕ
 label_name pc = padded (label_text pc)
 
 digit-name : (b : ℕ) → is_ascii_digit b ≡ true → is_name_byte b ≡ true
+unfolding is_name_byte
 digit-name b h = rw h refl
 
 digits-name : (text : List ℕ) → list_all is_ascii_digit text ≡ true → list_all is_name_byte text ≡ true
@@ -118,6 +119,7 @@ digits-name (b ∷ text) h =
     and_from (is_name_byte b) (list_all is_name_byte text) (digit-name b p.0) (digits-name text p.1)
 
 label-is_name : (pc : ℕ) → pc < 4096 → is_name (label_text pc) ≡ true
+unfolding is_name_byte
 label-is_name pc lt =
     let short : length (decimal pc) ≤ 4 = length-decimal-le 4 pc (omega arith) (omega (arith, lt)) (omega (arith, lt)) in
     is_name-from (label_text pc) (omega (arith, short)) refl (digits-name (decimal pc) (decimal-digits pc (omega (arith, lt))))

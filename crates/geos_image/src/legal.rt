@@ -32,7 +32,8 @@ pub(crate) fn text_end(name: &[u8]) -> Option<usize>
     name.iter().position(|byte| *byte == 0)
 }
 
-fn are_name_bytes(text: &[u8]) -> bool
+/// Whether the bytes are letters, digits and underscores.
+pub fn are_name_bytes(text: &[u8]) -> bool
     ensures { result ≡ list_all is_name_byte text.now }
 {
     text.iter().all(|byte| is_name_byte(*byte))

@@ -19,7 +19,7 @@ pub use error::ReadError;
 pub use geos_opcodes::{Opcode, Operand, Operands};
 pub use image::Image;
 pub use instr::{Instr, value_at};
-pub use legal::{MOST_INSTRS, MOST_ROUTINES};
+pub use legal::{MOST_INSTRS, MOST_ROUTINES, are_name_bytes};
 pub use point::Point;
 pub use potential::Potential;
 pub use reader::read;

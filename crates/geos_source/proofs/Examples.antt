@@ -3,6 +3,7 @@ use Rattle.std.proofs.Common.{◌≡◌, ℕ, List, [], ◌∷◌, ◌++◌, Opt
 use Rattle.std.specs.Prelude.{codes}
 use Rattle.geos_image.specs.declared.row.SlotState.TheVariants.{Empty, Vm}
 use Rattle.geos_opcodes.specs.declared.opcode.Opcode.TheVariants.{Ldi, Add, Ret, Out}
+use Rattle.geos_image.specs.Legal.{is_name_byte}
 use Rattle.geos_image.specs.Open.{open_row}
 use Rattle.geos_source.specs.declared.fault.Why.{Why}
 use Rattle.geos_source.specs.declared.fault.Why.TheVariants.{UnknownWord, WrongOperands, OutOfRange, Undefined, UsedTwice, OutOfPlace}
@@ -33,7 +34,7 @@ pub record Faults : Type 0 where
   pub empty : fault_of [] ≡ bad 1 OutOfPlace
 
 faults_computed : Faults
-unfolding with_line label_of name_of take_line header instruction constant register
+unfolding with_line label_of name_of is_name_byte take_line header instruction constant register
 faults_computed = record { none = refl; unknown = refl; register = refl; range = refl; undefined = refl; twice = refl; empty_routine = refl; empty = refl }
 
 -- names have 1 to 16 letters, digits and underscores; a `:` behind a name makes a label
@@ -47,7 +48,7 @@ pub record Names : Type 0 where
   pub label : label_of (codes "abcdefghijklmnop:") ≡ Some (codes "abcdefghijklmnop")
 
 names_computed : Names
-unfolding label_of name_of
+unfolding label_of name_of is_name_byte
 names_computed = record { sixteen = refl; seventeen = refl; padded = refl; digit = refl; none = refl; colon = refl; label = refl }
 
 -- wrong operands: too few or too many, whatever they are, or of another form; then numbers past
@@ -71,7 +72,7 @@ pub record Operands : Type 0 where
   pub zeros : behind_routine (codes "LDI w0 00000000000000000000000000000000000065535") ≡ None
 
 operands_computed : Operands
-unfolding with_line label_of name_of take_line header instruction constant register
+unfolding with_line label_of name_of is_name_byte take_line header instruction constant register
 operands_computed = record { few = refl; many = refl; zero = refl; minus = refl; hexadecimal = refl; form = refl; lower = refl; shift = refl; both = refl; callee = refl; sets = refl; few_first = refl; many_first = refl; many_names = refl; huge = refl; zeros = refl }
 
 -- lines out of place: rows behind an instruction or twice, labels that no instruction follows,
@@ -89,7 +90,7 @@ pub record Places : Type 0 where
   pub comments : fault_of (codes "; a\n\n ; b") ≡ bad 1 OutOfPlace
 
 places_computed : Places
-unfolding with_line label_of name_of take_line header instruction constant register row_of item
+unfolding with_line label_of name_of is_name_byte take_line header instruction constant register row_of item
 places_computed = record { second_in = refl; rows = refl; late_in = refl; outer_in = refl; label_in = refl; label_routine = refl; label_end = refl; outer = refl; outer_lower = refl; comments = refl }
 
 -- items of rows, in either order of a pair
@@ -104,7 +105,7 @@ pub record Items : Type 0 where
   pub least : behind_routine (codes "in w0<=65536 s1#s1\nRET") ≡ bad 2 WrongOperands
 
 items_computed : Items
-unfolding with_line label_of name_of take_line header instruction constant register row_of item
+unfolding with_line label_of name_of is_name_byte take_line header instruction constant register row_of item
 items_computed = record { bound = refl; slot = refl; pointer = refl; pair = refl; same = refl; form = refl; large = refl; least = refl }
 
 -- lines: their ends, their comments, words with a colon, labels of the whole text
@@ -125,7 +126,7 @@ pub record Said : Type 0 where
   pub last_return : behind_routine (codes "RET\r") ≡ bad 2 UnknownWord
 
 said_computed : Said
-unfolding with_line label_of name_of take_line header instruction constant register
+unfolding with_line label_of name_of is_name_byte take_line header instruction constant register
 said_computed = record { ends = refl; comment = refl; other = refl; digit = refl; joined = refl; labels = refl; ahead = refl; callee = refl; faulty = refl; defined = refl; colon = refl; small = refl; return = refl; last_return = refl }
 
 -- lines that begin routines
@@ -142,7 +143,7 @@ pub record Headers : Type 0 where
   pub zero : fault_of (codes "routine a budget 0\nRET") ≡ None
 
 headers_computed : Headers
-unfolding with_line label_of name_of take_line header instruction constant register
+unfolding with_line label_of name_of is_name_byte take_line header instruction constant register
 headers_computed = record { name = refl; few = refl; order = refl; most = refl; large = refl; twice = refl; named = refl; gives_name = refl; begins = refl; zero = refl }
 
 -- names that are used twice, by labels of the whole text or by routines: these are two sets of
@@ -160,7 +161,7 @@ pub record Twice : Type 0 where
   pub case : behind_routine (codes "x: RET\nX: RET\nxx: RET") ≡ None
 
 twice_computed : Twice
-unfolding with_line label_of name_of take_line header instruction constant register row_of
+unfolding with_line label_of name_of is_name_byte take_line header instruction constant register row_of
 twice_computed = record { line = refl; apart = refl; elsewhere = refl; first = refl; routine = refl; lower = refl; higher = refl; faulty = refl; sets = refl; case = refl }
 
 -- a routine of five instructions, with a row at its entry
@@ -183,5 +184,5 @@ add_computed : code_of (codes "routine add public budget 5\nin w0<=9 w0<=3\nLDI 
           ∷ record { opcode = Out; a = 0; b = 0; c = 0; d = 0; imm = 0; target = 4 }
           ∷ record { opcode = Ret; a = 0; b = 0; c = 0; d = 0; imm = 0; target = 0 } ∷ [];
     })
-unfolding with_line label_of name_of take_line header instruction constant register row_of item
+unfolding with_line label_of name_of is_name_byte take_line header instruction constant register row_of item
 add_computed = refl

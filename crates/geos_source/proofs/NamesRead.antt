@@ -5,11 +5,12 @@ use Rattle.std.specs.Char.{is_ascii_alphabetic}
 use Rattle.std.proofs.lemmas.Bool.{and_parts, and_from, cond_both, ne_eqb, ltb-false, leb-true}
 use Rattle.std.proofs.lemmas.List.{length-append, length-replicate}
 use Rattle.std.proofs.Math.Seq.{take-append_seam, drop-append_seam}
-use Rattle.geos_image.specs.Legal.{is_name_byte as is_image_byte, is_name as is_image_name, text_end}
-use Rattle.geos_source.specs.Names.{is_name_byte, is_name, name_of}
+use Rattle.geos_image.specs.Legal.{is_name_byte, is_name as is_image_name, text_end}
+use Rattle.geos_source.specs.Names.{is_name, name_of}
 use Rattle.geos_source.proofs.ReadLaws.{some_if}
 
 not_zero : (b : ℕ) → is_name_byte b ≡ true → not (b == 0) ≡ true
+unfolding is_name_byte
 not_zero zero h = absurd cc
 not_zero (suc b) h = rw (ne_eqb (suc b) 0 (λ same. omega arith)) refl
 
@@ -42,19 +43,18 @@ first_stays (b ∷ word) zeros h = h
 
 -- a padded name whose text has this length
 abbrev is_name_to : List ℕ → ℕ → Bool
-is_name_to name len = is_ascii_alphabetic (slice_index name 0) && list_all is_image_byte (take len name) && list_all (λ b. b == 0) (drop len name)
+is_name_to name len = is_ascii_alphabetic (slice_index name 0) && list_all is_name_byte (take len name) && list_all (λ b. b == 0) (drop len name)
 
 padded : (word : List ℕ) (k : ℕ) → is_ascii_alphabetic (slice_index word 0) ≡ true → list_all is_name_byte word ≡ true → length word + k ≡ 16
     → is_image_name (word ++ replicate k 0) ≡ true
-unfolding is_image_byte
 padded word k first bytes e =
     let name = word ++ replicate k 0 in
     let len = length word in
-    let front : list_all is_image_byte (take len name) ≡ true = ap (list_all is_image_byte) (take-append_seam word (replicate k 0)) ∙ bytes in
+    let front : list_all is_name_byte (take len name) ≡ true = ap (list_all is_name_byte) (take-append_seam word (replicate k 0)) ∙ bytes in
     let back : list_all (λ b. b == 0) (drop len name) ≡ true =
     ap (list_all (λ (b : ℕ). b == 0)) (drop-append_seam word (replicate k 0)) ∙ all_zeros k in
     let letter = is_ascii_alphabetic (slice_index name 0) in
-    let bytes-test = list_all is_image_byte (take len name) in
+    let bytes-test = list_all is_name_byte (take len name) in
     let zeros-test = list_all (λ (b : ℕ). b == 0) (drop len name) in
     ap (is_name_to name) (text_ends word k bytes e)
     ∙ and_from (letter && bytes-test) zeros-test (and_from letter bytes-test (first_stays word (replicate k 0) first) front) back

@@ -1,13 +1,10 @@
 -- Names, labels, and what they stand for.
-use Rattle.std.specs.Prelude.{ℕ, ◌-◌, Bool, ◌&&◌, ◌||◌, ◌==◌, nat_le, cond, if◌then◌else◌, List, ◌++◌, length, take, replicate, slice_index, bytes_eq, Option, Some, None, Result, Ok, Err}
+use Rattle.std.specs.Prelude.{ℕ, ◌-◌, Bool, ◌&&◌, ◌==◌, nat_le, cond, if◌then◌else◌, List, ◌++◌, length, take, replicate, slice_index, bytes_eq, Option, Some, None, Result, Ok, Err}
 use Rattle.std.specs.List.{list_all}
-use Rattle.std.specs.Char.{is_ascii_alphabetic, is_ascii_alphanumeric}
+use Rattle.std.specs.Char.{is_ascii_alphabetic}
+use Rattle.geos_image.specs.Legal.{is_name_byte}
 use Rattle.geos_source.specs.declared.fault.Why.{Why}
 use Rattle.geos_source.specs.declared.fault.Why.TheVariants.{WrongOperands, Undefined}
-
--- letters, digits and the underscore
-abbrev pub is_name_byte : ℕ → Bool
-is_name_byte b = is_ascii_alphanumeric b || b == 95
 
 -- 1 to 16 letters, digits and underscores, the first a letter
 abbrev pub is_name : List ℕ → Bool

@@ -1,28 +1,16 @@
 //! Names, labels, and what they stand for.
 
 ghost use Rattle.std.specs.Prelude.{◌≡◌, IfOk};
-ghost use Rattle.std.specs.List.{list_all};
-ghost use Rattle.geos_source.specs.Names.{is_name_byte, is_name, name_of, label_of, resolved, with_name, none_defined};
+ghost use Rattle.geos_source.specs.Names.{is_name, name_of, label_of, resolved, with_name, none_defined};
 
 use crate::fault::Why;
+use geos_image::are_name_bytes;
 use std::alloc::{AllocError, Global};
 use std::collections::BTreeMap;
 
 /// A name as an image has it: 1 to 16 letters, digits and underscores, the first a letter; then
 /// zeros.
 pub(crate) type Name = [u8; 16];
-
-fn is_name_byte(byte: u8) -> bool
-    ensures { result ≡ is_name_byte byte }
-{
-    byte.is_ascii_alphanumeric() || byte == b'_'
-}
-
-fn are_name_bytes(word: &[u8]) -> bool
-    ensures { result ≡ list_all is_name_byte word.now }
-{
-    word.iter().all(|byte| is_name_byte(*byte))
-}
 
 fn is_name(word: &[u8]) -> bool
     ensures { result ≡ is_name word.now }
