@@ -64,7 +64,7 @@ block-stays : (s t : Store) (slot : ℕ) → (block_at t slot ≡ block_at s slo
 block-stays s t slot same some = (ap bytes_in same.0, subst (λ o. 0 < locks_in o) (sym same.0) some, same.1)
 
 -- a slot of global memory is none of a block of the file
-apart : (h k : ℕ) → IsHandle h → slot_of (mem h) ≢ vm_slot k
+pub apart : (h k : ℕ) → IsHandle h → slot_of (mem h) ≢ vm_slot k
 apart h k p e = elim (handle-or {X = ℕ} 0 k) [
   | inl q ↦ (let low = slot_of-mem h p in let high = slot-is k q in let some = q.0 in let most = p.1 in omega (arith, low, high, some, most, e))
   | inr past ↦ (let low = slot_of-mem h p in let high = slot_of-past Vm k past in let most = p.1 in omega (arith, low, high, most, e))

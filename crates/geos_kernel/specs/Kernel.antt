@@ -1,6 +1,6 @@
 -- What holds of a kernel, and what its calls promise.
-use Rattle.std.specs.Prelude.{List, [], ◌∷◌, length, set, true, Some, ◌≡◌, ◌⊎◌, ℕ, ◌-◌, ◌^◌, ◌<◌, ◌≤◌, Option, None, IsSomeAnd, OnErr, Result, Ok, Err}
-use Rattle.block_handles.specs.Names.{slot_of}
+use Rattle.std.specs.Prelude.{List, [], ◌∷◌, length, set, true, Some, ◌≡◌, ◌≢◌, ◌⊎◌, ℕ, ◌-◌, ◌^◌, ◌<◌, ◌≤◌, Option, None, IsSomeAnd, OnErr, Result, Ok, Err}
+use Rattle.block_handles.specs.Names.{IsHandle, slot_of}
 use Rattle.block_handles.specs.Store.{Store, IsThere, block_at, bytes_of, locks_of, region_len}
 use Rattle.block_handles.specs.Change.{LockedStay}
 use Rattle.block_handles.specs.Layout.{IsLaidOut}
@@ -125,6 +125,10 @@ pub record ItemHasNoRoom {A : Type 0} (s : KernelState) (g : ℕ) (edit : List (
 -- a call that is refused, but not for want of room, leaves all blocks as they were
 abbrev pub StaysIfRefused : {A : Type 0} → Result A Refusal → Store → Store → Type 0
 StaysIfRefused result old new = (result ≡ Err NoRoom → ⊥) → OnErr result (new ≡ old)
+
+-- each block of the file but that of a handle that was in memory is there still; 0 is for no handle
+abbrev pub Remain : Store → Store → ℕ → Type 0
+Remain old new but = (h : ℕ) → IsHandle h → h ≢ but → IsThere old (vm_slot h) → IsThere new (vm_slot h)
 
 -- bytes were written at an offset of whatever a span stands for, as the row says
 abbrev pub Stores : Type 0 → Span → ℕ → List ℕ → KernelState → KernelState → Type 0

@@ -14,7 +14,7 @@ impl<D: Device + Drop> Kernel<D> {
     ghost use Rattle.geos_table.specs.Calls as table;
     ghost use Rattle.geos_table.specs.VmFile.{VmFile};
     ghost use Rattle.geos_table.specs.Effects.{Reference, Nothing};
-    ghost use Rattle.geos_kernel.specs.Kernel.{Calls, LeavesVm, Stores};
+    ghost use Rattle.geos_kernel.specs.Kernel.{Calls, LeavesVm, Remain, Stores};
     ghost use Rattle.geos_kernel.specs.Spans.{Stands, IsStanding, IsWritable, SpansStay};
     ghost use Rattle.geos_kernel.specs.View.{IsFileOf};
 
@@ -46,6 +46,7 @@ impl<D: Device + Drop> Kernel<D> {
         ensures row { Stores (D.honest self.old.device) span i (byte ∷ []) self.old.core self.new.core }
         ensures spans { (f : VmFile) → IsFileOf (D.honest self.old.device) self.old.core f → SpansStay self.old.core self.new.core f Nothing }
         ensures vm { LeavesVm self.old self.new }
+        ensures remain { Remain self.old.core.blocks self.new.core.blocks 0 }
     {
         self.blocks.write8(span.at + u32::from(i), byte);
     }
@@ -58,6 +59,7 @@ impl<D: Device + Drop> Kernel<D> {
         ensures row { Stores (D.honest self.old.device) span i (word_bytes word) self.old.core self.new.core }
         ensures spans { (f : VmFile) → IsFileOf (D.honest self.old.device) self.old.core f → SpansStay self.old.core self.new.core f Nothing }
         ensures vm { LeavesVm self.old self.new }
+        ensures remain { Remain self.old.core.blocks self.new.core.blocks 0 }
     {
         self.blocks.write16(span.at + u32::from(i), word);
     }
@@ -72,6 +74,7 @@ impl<D: Device + Drop> Kernel<D> {
             Calls (D.honest self.old.device) (table.copy target source n) (Ok tt) self.old.core self.new.core }
         ensures spans { (f : VmFile) → IsFileOf (D.honest self.old.device) self.old.core f → SpansStay self.old.core self.new.core f Nothing }
         ensures vm { LeavesVm self.old self.new }
+        ensures remain { Remain self.old.core.blocks self.new.core.blocks 0 }
     {
         let blocks = &mut self.blocks;
         if n == 0 {

@@ -12,7 +12,7 @@ impl<D: Device + Drop> Kernel<D> {
     ghost use Rattle.geos_model.specs.declared.refusal.Refusal.TheVariants.{NoRoom};
     ghost use Rattle.geos_table.specs.ArrayCalls as table;
     ghost use Rattle.geos_model.specs.ArrayEdits.{create_array, append_element, insert_element, resize_element};
-    ghost use Rattle.geos_kernel.specs.Kernel.{Calls, GivesSpan, HasNoRoomFor, LeavesVm, StaysIfRefused};
+    ghost use Rattle.geos_kernel.specs.Kernel.{Calls, GivesSpan, HasNoRoomFor, LeavesVm, Remain, StaysIfRefused};
     ghost use Rattle.geos_kernel.specs.Spans.{IsStanding, IsWritable};
     ghost use Rattle.geos_kernel.specs.View.{chunks_at, IsLocked, MayChange};
 
@@ -68,6 +68,7 @@ impl<D: Device + Drop> Kernel<D> {
         ensures calls { Calls (D.honest self.old.device) (table.cadel name c i) result self.old.core self.new.core }
         ensures refused { StaysIfRefused result self.old.core.blocks self.new.core.blocks }
         ensures vm { LeavesVm self.old self.new }
+        ensures remain { Remain self.old.core.blocks self.new.core.blocks 0 }
     {
         self.change(name, Change::Cadel { c, i })
     }
@@ -102,6 +103,7 @@ impl<D: Device + Drop> Kernel<D> {
         ensures calls { Calls (D.honest self.old.device) (table.cazero name c) result self.old.core self.new.core }
         ensures refused { StaysIfRefused result self.old.core.blocks self.new.core.blocks }
         ensures vm { LeavesVm self.old self.new }
+        ensures remain { Remain self.old.core.blocks self.new.core.blocks 0 }
     {
         self.change(name, Change::Cazero { c })
     }

@@ -12,7 +12,7 @@ impl<D: Device + Drop> Kernel<D> {
     ghost use Rattle.geos_model.specs.declared.refusal.Refusal.TheVariants.{NoRoom};
     ghost use Rattle.geos_model.specs.Chunks.{with_new, with_resized, with_inserted};
     ghost use Rattle.geos_table.specs.Calls as table;
-    ghost use Rattle.geos_kernel.specs.Kernel.{Calls, GivesSpan, HasNoRoomFor, LeavesVm, StaysIfRefused};
+    ghost use Rattle.geos_kernel.specs.Kernel.{Calls, GivesSpan, HasNoRoomFor, LeavesVm, Remain, StaysIfRefused};
     ghost use Rattle.geos_kernel.specs.Spans.{IsStanding, IsWritable};
     ghost use Rattle.geos_kernel.specs.View.{chunks_at, IsLocked, MayChange};
 
@@ -39,6 +39,7 @@ impl<D: Device + Drop> Kernel<D> {
         ensures calls { Calls (D.honest self.old.device) (table.lfree name c) result self.old.core self.new.core }
         ensures refused { StaysIfRefused result self.old.core.blocks self.new.core.blocks }
         ensures vm { LeavesVm self.old self.new }
+        ensures remain { Remain self.old.core.blocks self.new.core.blocks 0 }
     {
         self.change(name, Change::Lfree { c })
     }
@@ -80,6 +81,7 @@ impl<D: Device + Drop> Kernel<D> {
         ensures calls { Calls (D.honest self.old.device) (table.ldel name c at n) result self.old.core self.new.core }
         ensures refused { StaysIfRefused result self.old.core.blocks self.new.core.blocks }
         ensures vm { LeavesVm self.old self.new }
+        ensures remain { Remain self.old.core.blocks self.new.core.blocks 0 }
     {
         self.change(name, Change::Ldel { c, at, n })
     }

@@ -22,7 +22,7 @@ impl<D: Device + Drop> Kernel<D> {
     ghost use Rattle.geos_table.specs.ChunkCalls.{change_edit, change_row, make_edit, make_row};
     ghost use Rattle.geos_table.specs.ItemCalls as table;
     ghost use Rattle.geos_kernel.specs.Files.{AsksNothing, InMemory, ReadsFile};
-    ghost use Rattle.geos_kernel.specs.Kernel.{Calls, ItemHasNoRoom, LeadsToSpan, LeavesVm, ListedHasNoRoom, NewListedHasNoRoom};
+    ghost use Rattle.geos_kernel.specs.Kernel.{Calls, ItemHasNoRoom, LeadsToSpan, LeavesVm, ListedHasNoRoom, NewListedHasNoRoom, Remain};
     ghost use Rattle.geos_kernel.specs.Spans.{IsStanding, IsWritable};
     ghost use Rattle.geos_kernel.specs.View.{IsLocked, IsMarked};
 
@@ -42,6 +42,7 @@ impl<D: Device + Drop> Kernel<D> {
     pub fn gfree(&mut self, g: u16) -> Result<(), Refusal>
         ensures calls { Calls (D.honest self.old.device) (table.gfree g) result self.old.core self.new.core }
         ensures device { AsksNothing self.old self.new }
+        ensures remain { Remain self.old.core.blocks self.new.core.blocks g }
     {
         group_free(&mut self.vm, &mut self.blocks, g)
     }
@@ -165,6 +166,7 @@ impl<D: Device + Drop> Kernel<D> {
         ensures calls { Calls (D.honest self.old.device) (table.idirty name.h) (Ok tt) self.old.core self.new.core }
         ensures marked { IsMarked self.new.core name.h }
         ensures device { AsksNothing self.old self.new }
+        ensures remain { Remain self.old.core.blocks self.new.core.blocks 0 }
     {
         self.vdirty(name);
     }
@@ -175,6 +177,7 @@ impl<D: Device + Drop> Kernel<D> {
         requires locked { IsLocked self.old.core name }
         ensures calls { Calls (D.honest self.old.device) (table.iunlock name.h) (Ok tt) self.old.core self.new.core }
         ensures vm { LeavesVm self.old self.new }
+        ensures remain { Remain self.old.core.blocks self.new.core.blocks 0 }
     {
         self.vunlock(name);
     }
@@ -191,6 +194,7 @@ impl<D: Device + Drop> Kernel<D> {
     pub fn isetmap(&mut self, g: u16, i: u16) -> Result<(), Refusal>
         ensures calls { Calls (D.honest self.old.device) (table.isetmap g i) result self.old.core self.new.core }
         ensures device { AsksNothing self.old self.new }
+        ensures remain { Remain self.old.core.blocks self.new.core.blocks 0 }
     {
         set_map_item(&mut self.vm, g, i)
     }

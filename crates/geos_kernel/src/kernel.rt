@@ -1,6 +1,6 @@
 //! The kernel: blocks of global memory, each with a heap of chunks, beside those of a VM file.
 
-ghost use Rattle.std.specs.Prelude.{All, true, ◌≡◌, ◌<◌, ◌≤◌, ◌↔◌, IfOk, IfErr, IsTrue, OnOk, OnErr, Ok, Err};
+ghost use Rattle.std.specs.Prelude.{All, true, false, ◌≡◌, ◌<◌, ◌≤◌, ◌↔◌, IfOk, IfErr, IsTrue, OnOk, OnErr, Ok, Err};
 ghost use Rattle.block_handles.specs.Names.{IsHandle, slot_of};
 ghost use Rattle.block_handles.specs.Store.{IsThere};
 ghost use Rattle.vm_blocks.specs.Listed.{NoneLocked};
@@ -52,7 +52,7 @@ impl<D: Device + Drop> Kernel<D> {
     ghost use Rattle.block_handles.specs.Store.{bytes_of};
     ghost use Rattle.block_handles.specs.Store as store;
     ghost use Rattle.geos_table.specs.Calls as table;
-    ghost use Rattle.geos_table.specs.ChunkCalls.{change_edit, change_row, make_edit, make_row, ask_row, refer_row, least};
+    ghost use Rattle.geos_table.specs.ChunkCalls.{change_edit, change_row, make_edit, make_row, ask_row, refer_row, least, may_grow};
     ghost use Rattle.geos_model.specs.Heap.{IsCompact};
     ghost use Rattle.geos_table.specs.Legal.{IsMemory};
     ghost use Rattle.geos_table.specs.Memory as model;
@@ -63,7 +63,7 @@ impl<D: Device + Drop> Kernel<D> {
     ghost use Rattle.vm_blocks.specs.Opened.{opened_file};
     ghost use Rattle.vm_blocks.specs.View.{held_at};
     ghost use Rattle.vm_file.specs.Outcomes.{IsHeapUnder};
-    ghost use Rattle.geos_kernel.specs.Kernel.{Calls, GivesSpan, HasNoRoomFor, LeavesVm, NewHasNoRoom, StaysIfRefused};
+    ghost use Rattle.geos_kernel.specs.Kernel.{Calls, GivesSpan, HasNoRoomFor, LeavesVm, NewHasNoRoom, Remain, StaysIfRefused};
     ghost use Rattle.geos_kernel.specs.Spans.{IsStanding, IsWritable};
     ghost use Rattle.geos_kernel.specs.View.{chunks_at, file_over, IsFileOf, IsLocked, MayChange, memory_of};
 
@@ -168,6 +168,7 @@ impl<D: Device + Drop> Kernel<D> {
     pub fn mlock(&mut self, h: u16) -> Result<(), Refusal>
         ensures calls { Calls (D.honest self.old.device) (table.mlock h) result self.old.core self.new.core }
         ensures vm { LeavesVm self.old self.new }
+        ensures remain { Remain self.old.core.blocks self.new.core.blocks 0 }
     {
         let locked = self.blocks.lock(Name::mem(h));
         of_handle(locked)
@@ -178,6 +179,7 @@ impl<D: Device + Drop> Kernel<D> {
         requires { IsLocked self.old.core name }
         ensures calls { Calls (D.honest self.old.device) (table.unlock name) (Ok tt) self.old.core self.new.core }
         ensures vm { LeavesVm self.old self.new }
+        ensures remain { Remain self.old.core.blocks self.new.core.blocks 0 }
     {
         self.blocks.unlock(name);
     }
@@ -186,6 +188,7 @@ impl<D: Device + Drop> Kernel<D> {
     pub fn mfree(&mut self, h: u16) -> Result<(), Refusal>
         ensures calls { Calls (D.honest self.old.device) (table.mfree h) result self.old.core self.new.core }
         ensures vm { LeavesVm self.old self.new }
+        ensures remain { Remain self.old.core.blocks self.new.core.blocks 0 }
     {
         let freed = self.blocks.free(Name::mem(h));
         of_handle(freed)
@@ -203,6 +206,7 @@ impl<D: Device + Drop> Kernel<D> {
         ensures no_room { result ≡ Err Refusal.NoRoom → HasNoRoomFor self.new.core name (change_edit change (chunks_at self.old.core.blocks name)).chunks }
         ensures refused { StaysIfRefused result self.old.core.blocks self.new.core.blocks }
         ensures vm { LeavesVm self.old self.new }
+        ensures remain { may_grow change ≡ false → Remain self.old.core.blocks self.new.core.blocks 0 }
     {
         heap_calls::change(&self.vm, &mut self.blocks, name, change)
     }
@@ -258,6 +262,7 @@ impl<D: Device + Drop> Kernel<D> {
         ensures calls { Calls (D.honest self.old.device) (table.lcontract name) (Ok tt) self.old.core self.new.core }
         ensures compact { IsCompact (bytes_of self.new.core.blocks (slot_of name)) }
         ensures vm { LeavesVm self.old self.new }
+        ensures remain { Remain self.old.core.blocks self.new.core.blocks 0 }
     {
         heap_calls::contract(&mut self.blocks, name);
         // what lies in the region are bytes, as the block is to spell

@@ -21,7 +21,7 @@ impl<D: Device + Drop> Kernel<D> {
     ghost use Rattle.vm_blocks.specs.ListedCalls.{keeper_of};
     ghost use Rattle.vm_file.specs.State.{Finds};
     ghost use Rattle.geos_kernel.specs.Files.{AsksNothing, Commits, InMemory, ReadsFile, vm_file_of};
-    ghost use Rattle.geos_kernel.specs.Kernel.{Calls, LeavesVm, ListedHasNoRoom, NewListedHasNoRoom};
+    ghost use Rattle.geos_kernel.specs.Kernel.{Calls, LeavesVm, ListedHasNoRoom, NewListedHasNoRoom, Remain};
     ghost use Rattle.geos_kernel.specs.View.{IsFileOf, IsLocked, IsMarked};
 
     /// Whether the VM file is sure of the pair that it keeps: where it is not, it takes no commit.
@@ -82,6 +82,7 @@ impl<D: Device + Drop> Kernel<D> {
         ensures calls { Calls (D.honest self.old.device) (table.vdirty name.h) (Ok tt) self.old.core self.new.core }
         ensures marked { IsMarked self.new.core name.h }
         ensures device { AsksNothing self.old self.new }
+        ensures remain { Remain self.old.core.blocks self.new.core.blocks 0 }
     {
         self.vm.vdirty(&self.blocks, name.h);
     }
@@ -92,6 +93,7 @@ impl<D: Device + Drop> Kernel<D> {
         requires locked { IsLocked self.old.core name }
         ensures calls { Calls (D.honest self.old.device) (table.vunlock name.h) (Ok tt) self.old.core self.new.core }
         ensures vm { LeavesVm self.old self.new }
+        ensures remain { Remain self.old.core.blocks self.new.core.blocks 0 }
     {
         self.munlock(name);
     }
@@ -101,6 +103,7 @@ impl<D: Device + Drop> Kernel<D> {
     pub fn vfree(&mut self, h: u16) -> Result<(), Refusal>
         ensures calls { Calls (D.honest self.old.device) (table.vfree h) result self.old.core self.new.core }
         ensures device { AsksNothing self.old self.new }
+        ensures remain { Remain self.old.core.blocks self.new.core.blocks h }
     {
         if is_group(&self.vm, h) {
             return Err(Refusal::Reserved);
@@ -141,6 +144,7 @@ impl<D: Device + Drop> Kernel<D> {
     pub fn vsetmap(&mut self, h: u16) -> Result<(), Refusal>
         ensures calls { Calls (D.honest self.old.device) (table.vsetmap h) result self.old.core self.new.core }
         ensures device { AsksNothing self.old self.new }
+        ensures remain { Remain self.old.core.blocks self.new.core.blocks 0 }
     {
         if h != 0 && !self.vm.has(h) {
             return Err(Refusal::BadHandle);

@@ -7,9 +7,11 @@ use Rattle.geos_table.specs.Given.{given_memory}
 use Rattle.heap_calls.specs.Others.{IsMarkedIfVm}
 use Rattle.heap_calls.proofs.Asking.{change-asks}
 use Rattle.geos_kernel.specs.View.{IsLocked, MayChange, chunks_at, core_of}
-use Rattle.geos_kernel.specs.Kernel.{Calls, HasNoRoomFor, StaysIfRefused}
+use Rattle.geos_kernel.specs.Kernel.{Calls, HasNoRoomFor, StaysIfRefused, Remain}
 use Rattle.geos_kernel.proofs.Chunks.{locked-heap, others-calls, others-kernel, carries-no_room}
 use Rattle.geos_kernel.proofs.Seen.{blocks-alone}
+use Rattle.geos_kernel.proofs.Remaining.{changes-remain}
+use Rattle.heap_calls.specs.Edits.{Carries}
 use Rattle.geos_kernel.proofs.kernel.Kernel.change.Goals as goal
 
 pub change-requires : goal.change-requires
@@ -50,3 +52,10 @@ returns-clause-vm g c = blocks-alone g.D.Device.image g.D.Device.failed c.self.i
 
 pub returns-clause-refused : goal.returns-clause-refused
 returns-clause-refused g c = subst (λ k. StaysIfRefused c.change.result k.core.blocks c.change.new.blocks) c.self.view_is c.change.ensures.refused
+
+pub returns-clause-remain : goal.returns-clause-remain
+returns-clause-remain g c = λ stays.
+    let locked : 0 < locks_of c.self.inside.blocks (slot_of c.args.name) = subst (λ k. IsLocked k.core c.args.name) (sym c.self.view_is) c.requires.locked in
+    let holds = locked-heap g.D.Device.image g.D.Device.honest c.self.inside.vm c.self.inside.blocks c.args.name c.self.invariant locked in
+    let carries = subst (λ grows. Carries grows c.self.inside.vm (change_edit c.args.change) c.self.inside.blocks c.change.new.blocks c.args.name c.change.result) stays c.change.ensures.carries in
+    subst (λ k. Remain k.core.blocks c.change.new.blocks 0) c.self.view_is (changes-remain c.self.inside.blocks c.change.new.blocks (change_edit c.args.change) c.args.name c.change.result holds.there carries)

@@ -3,12 +3,13 @@ use Rattle.block_handles.specs.Offsets.{CopiesCovered}
 use Rattle.geos_table.specs.Effects.{Reference}
 use Rattle.geos_table.specs.Calls as table
 use Rattle.geos_table.proofs.Laws.{willing}
-use Rattle.geos_kernel.specs.Kernel.{Calls}
+use Rattle.geos_kernel.specs.Kernel.{Calls, Remain}
 use Rattle.geos_kernel.specs.Spans.{IsWritable, Stands}
 use Rattle.geos_kernel.specs.View.{core_of}
 use Rattle.heap_calls.proofs.Values.{values-of}
 use Rattle.geos_kernel.proofs.AccessReads.{IsGood, good-of, good-region, same-length}
 use Rattle.geos_kernel.proofs.AccessCopies.{nothing-copied, copied-kernel, copied-calls}
+use Rattle.geos_kernel.proofs.Remaining.{written-remain}
 use Rattle.geos_kernel.proofs.kernel.Kernel.copy.Goals as goal
 
 pub returns-then-n-eq0-clause-row : goal.returns-then-n-eq0-clause-row
@@ -64,3 +65,6 @@ returns-clause-spans g c =
     let from = c.requires.from.0 in
     let calls = returns-clause-row g c to.0 from.0 to.1 from.1 in
     λ f tied. calls.spans f tied willing
+
+pub returns-clause-remain : goal.returns-clause-remain
+returns-clause-remain g c = subst (λ k. Remain k.core.blocks c.copy.new.self 0) c.self.view_is (written-remain c.self.inside.blocks c.copy.new.self c.args.to.at c.copy.ensures.copied.bytes c.self.invariant.laid c.copy.ensures.copied.wrote)

@@ -1,6 +1,9 @@
 use Rattle.geos_table.specs.ItemCalls.{gfree}
 use Rattle.geos_kernel.proofs.Seen.{calls-seen}
 use Rattle.geos_kernel.proofs.VmCalls.{freed-file, freed-spares, group-free, quiet-calls, spared-kernel}
+use Rattle.geos_kernel.specs.Kernel.{Remain}
+use Rattle.std.proofs.Common.{subst}
+use Rattle.geos_kernel.proofs.Remaining.{dropped-remain}
 use Rattle.geos_kernel.proofs.kernel.Kernel.gfree.Goals as goal
 
 pub invariant_of-self : goal.invariant_of-self
@@ -18,3 +21,6 @@ returns-clause-calls g c =
     let e = c.group_free.ensures in
     let spares = freed-spares v w s t h r c.self.invariant.laid e.drops e.err (group-free r v w s t h e.no_group e.locked) in
     calls-seen d.image d.honest d.failed v s c.args.self.now c.self.view_is (quiet-calls d.image d.honest d.failed v w s t (freed-file v w s t h r e.state e.err) e.row spares)
+
+pub returns-clause-remain : goal.returns-clause-remain
+returns-clause-remain g c = subst (λ k. Remain k.core.blocks c.group_free.new.blocks c.args.g) c.self.view_is (dropped-remain c.self.inside.blocks c.group_free.new.blocks _ c.args.g c.group_free.result c.group_free.ensures.drops c.group_free.ensures.err)

@@ -1,9 +1,11 @@
-use Rattle.std.proofs.Common.{refl}
+use Rattle.std.proofs.Common.{refl, subst}
 use Rattle.geos_table.specs.ItemCalls.{isetmap}
 use Rattle.geos_kernel.proofs.ItemCalls.{mapped-file}
 use Rattle.geos_kernel.proofs.Listed.{same-spares}
 use Rattle.geos_kernel.proofs.Seen.{calls-seen}
 use Rattle.geos_kernel.proofs.VmCalls.{quiet-calls, spared-kernel}
+use Rattle.geos_kernel.specs.Kernel.{Remain}
+use Rattle.geos_kernel.proofs.Remaining.{same-remain}
 use Rattle.geos_kernel.proofs.kernel.Kernel.isetmap.Goals as goal
 
 pub invariant_of-self : goal.invariant_of-self
@@ -19,3 +21,6 @@ returns-clause-calls g c =
     let e = c.set_map_item.ensures in
     let file = mapped-file v w (c.args.g, c.args.i) r e.ok e.err in
     calls-seen d.image d.honest d.failed v s c.args.self.now c.self.view_is (quiet-calls d.image d.honest d.failed v w s s file (e.row s c.self.invariant.tied) (same-spares s s refl))
+
+pub returns-clause-remain : goal.returns-clause-remain
+returns-clause-remain g c = subst (λ k. Remain k.core.blocks c.self.inside.blocks 0) c.self.view_is (same-remain c.self.inside.blocks c.self.inside.blocks 0 refl)

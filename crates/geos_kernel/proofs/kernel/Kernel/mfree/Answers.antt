@@ -2,6 +2,8 @@ use Rattle.std.proofs.Common.{subst}
 use Rattle.block_handles.specs.Names.{slot_of}
 use Rattle.geos_kernel.proofs.Locks.{free-done, FreesSlot}
 use Rattle.geos_kernel.proofs.Seen.{blocks-alone, calls-seen}
+use Rattle.geos_kernel.specs.Kernel.{Remain}
+use Rattle.geos_kernel.proofs.Remaining.{freed-remain}
 use Rattle.geos_kernel.proofs.kernel.Kernel.mfree.Goals as goal
 
 pub invariant_of-self : goal.invariant_of-self
@@ -20,3 +22,9 @@ returns-clause-calls g c =
 
 pub returns-clause-vm : goal.returns-clause-vm
 returns-clause-vm g c = blocks-alone g.D.Device.image g.D.Device.failed c.self.inside.vm c.self.inside.blocks c.free-freed.new.self c.args.self.now c.self.view_is
+
+pub returns-clause-remain : goal.returns-clause-remain
+returns-clause-remain g c =
+    let e = c.free-freed.ensures in
+    let facts = subst (λ name. FreesSlot c.self.inside.blocks c.free-freed.new.self (slot_of name) c.free-freed.result) c.mem.ensures (e.there, e.ok, e.bad_handle, e.locked, e.err) in
+    subst (λ k. Remain k.core.blocks c.free-freed.new.self 0) c.self.view_is (freed-remain c.self.inside.blocks c.free-freed.new.self c.args.h c.free-freed.result c.self.invariant.laid facts.0 facts.1 facts.4)

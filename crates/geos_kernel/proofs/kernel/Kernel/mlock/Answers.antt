@@ -2,6 +2,8 @@ use Rattle.std.proofs.Common.{subst}
 use Rattle.block_handles.specs.Names.{slot_of}
 use Rattle.geos_kernel.proofs.Locks.{lock-done, LocksSlot}
 use Rattle.geos_kernel.proofs.Seen.{blocks-alone, calls-seen}
+use Rattle.geos_kernel.specs.Kernel.{Remain}
+use Rattle.geos_kernel.proofs.Remaining.{lock-remain}
 use Rattle.geos_kernel.proofs.kernel.Kernel.mlock.Goals as goal
 
 pub invariant_of-self : goal.invariant_of-self
@@ -20,3 +22,6 @@ returns-clause-calls g c =
 
 pub returns-clause-vm : goal.returns-clause-vm
 returns-clause-vm g c = blocks-alone g.D.Device.image g.D.Device.failed c.self.inside.vm c.self.inside.blocks c.lock-locked.new.self c.args.self.now c.self.view_is
+
+pub returns-clause-remain : goal.returns-clause-remain
+returns-clause-remain g c = subst (λ k. Remain k.core.blocks c.lock-locked.new.self 0) c.self.view_is (lock-remain c.self.inside.blocks c.lock-locked.new.self (slot_of c.mem.result) c.lock-locked.result c.self.invariant.laid c.lock-locked.ensures.there c.lock-locked.ensures.ok c.lock-locked.ensures.err)

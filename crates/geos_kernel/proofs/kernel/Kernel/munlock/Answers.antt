@@ -1,9 +1,12 @@
-use Rattle.std.proofs.Common.{◌<◌, subst, sym}
+use Rattle.std.proofs.Common.{◌<◌, subst, sym, ◌-◌}
 use Rattle.block_handles.specs.Names.{slot_of}
 use Rattle.block_handles.specs.Store.{locks_of}
 use Rattle.geos_kernel.specs.View.{IsLocked}
 use Rattle.geos_kernel.proofs.Locks.{unlock-calls, unlock-kernel}
 use Rattle.geos_kernel.proofs.Seen.{blocks-alone, calls-seen}
+use Rattle.geos_kernel.specs.Kernel.{Remain}
+use Rattle.block_handles.proofs.Layouts.{there_of_locks}
+use Rattle.geos_kernel.proofs.Remaining.{locks-remain}
 use Rattle.geos_kernel.proofs.kernel.Kernel.munlock.Goals as goal
 
 pub unlock-requires : goal.unlock-requires
@@ -24,3 +27,8 @@ returns-clause-calls g c =
 
 pub returns-clause-vm : goal.returns-clause-vm
 returns-clause-vm g c = blocks-alone g.D.Device.image g.D.Device.failed c.self.inside.vm c.self.inside.blocks c.unlock.new.self c.args.self.now c.self.view_is
+
+pub returns-clause-remain : goal.returns-clause-remain
+returns-clause-remain g c =
+    let count : 0 < locks_of c.self.inside.blocks (slot_of c.args.name) = subst (λ s. IsLocked s.core c.args.name) (sym c.self.view_is) c.requires in
+    subst (λ k. Remain k.core.blocks c.unlock.new.self 0) c.self.view_is (locks-remain c.self.inside.blocks c.unlock.new.self (slot_of c.args.name) (locks_of c.self.inside.blocks (slot_of c.args.name) - 1) c.self.invariant.laid (there_of_locks c.self.inside.blocks (slot_of c.args.name) count) c.unlock.ensures)

@@ -5,11 +5,12 @@ use Rattle.geos_table.specs.Effects.{Reference}
 use Rattle.geos_table.specs.Calls as table
 use Rattle.geos_table.specs.Legal.{AreBytes}
 use Rattle.geos_table.proofs.Laws.{willing}
-use Rattle.geos_kernel.specs.Kernel.{Calls}
+use Rattle.geos_kernel.specs.Kernel.{Calls, Remain}
 use Rattle.geos_kernel.specs.Spans.{IsWritable, Stands}
 use Rattle.geos_kernel.specs.View.{core_of}
 use Rattle.geos_kernel.proofs.AccessReads.{IsGood, good-of, good-region, same-length}
 use Rattle.geos_kernel.proofs.AccessWrites.{stored-kernel, stored-calls}
+use Rattle.geos_kernel.proofs.Remaining.{written-remain}
 use Rattle.geos_kernel.proofs.kernel.Kernel.store16.Goals as goal
 
 pub overflow_add-span : goal.overflow_add-span
@@ -47,3 +48,6 @@ returns-clause-spans g c =
     let standing = c.requires.stands in
     let calls = returns-clause-row g c standing.0 standing.1 in
     λ f tied. calls.spans f tied willing
+
+pub returns-clause-remain : goal.returns-clause-remain
+returns-clause-remain g c = subst (λ k. Remain k.core.blocks c.write16.new.self 0) c.self.view_is (written-remain c.self.inside.blocks c.write16.new.self (c.args.span.at + c.from.result) (word_bytes c.args.word) c.self.invariant.laid c.write16.ensures.written)

@@ -1,9 +1,11 @@
-use Rattle.std.proofs.Common.{Ok, ap, refl}
+use Rattle.std.proofs.Common.{Ok, ap, refl, subst}
 use Rattle.geos_table.specs.VmCalls.{vdirty}
 use Rattle.vm_blocks.specs.View.{VmState}
 use Rattle.geos_kernel.proofs.Listed.{same-spares}
 use Rattle.geos_kernel.proofs.Seen.{calls-seen}
 use Rattle.geos_kernel.proofs.VmCalls.{quiet-calls, spared-kernel}
+use Rattle.geos_kernel.specs.Kernel.{Remain}
+use Rattle.geos_kernel.proofs.Remaining.{same-remain}
 use Rattle.geos_kernel.proofs.kernel.Kernel.vdirty.Goals as goal
 
 pub invariant_of-self : goal.invariant_of-self
@@ -18,3 +20,6 @@ returns-clause-calls g c =
     let w = c.vdirty.new.self in
     let e = c.vdirty.ensures in
     calls-seen d.image d.honest d.failed v s c.args.self.now c.self.view_is (quiet-calls d.image d.honest d.failed v w s s (ap (λ (x : VmState g.row.D.Denot). x.file) e.marks) e.row (same-spares s s refl))
+
+pub returns-clause-remain : goal.returns-clause-remain
+returns-clause-remain g c = subst (λ k. Remain k.core.blocks c.self.inside.blocks 0) c.self.view_is (same-remain c.self.inside.blocks c.self.inside.blocks 0 refl)

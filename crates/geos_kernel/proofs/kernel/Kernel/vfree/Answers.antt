@@ -1,4 +1,4 @@
-use Rattle.std.proofs.Common.{◌≡◌, false, true, ◌<◌, refl}
+use Rattle.std.proofs.Common.{◌≡◌, false, true, ◌<◌, refl, subst}
 use Rattle.geos_table.specs.VmCalls.{free_listed}
 use Rattle.block_handles.specs.Store.{locks_of}
 use Rattle.vm_blocks.specs.declared.error.FreeError.TheVariants.{Locked}
@@ -8,6 +8,8 @@ use Rattle.db_items.specs.Groups.{IsGroup}
 use Rattle.geos_kernel.proofs.ListedRows.{free-group-row, free-row}
 use Rattle.geos_kernel.proofs.Seen.{calls-seen}
 use Rattle.geos_kernel.proofs.VmCalls.{freed-file, freed-spares, not-locked-ok, quiet-calls, spared-kernel, told-calls}
+use Rattle.geos_kernel.specs.Kernel.{Remain}
+use Rattle.geos_kernel.proofs.Remaining.{dropped-remain}
 use Rattle.geos_kernel.proofs.kernel.Kernel.vfree.Goals as goal
 
 pub returns-then-is_group-clause-calls : goal.returns-then-is_group-clause-calls
@@ -32,3 +34,6 @@ returns-clause-calls g c =
     let none : IsGroup v h → ⊥ = λ group. (let is : false ≡ true = c.if-is_group.ensures.1 group in absurd cc) in
     let row = free-row d.image d.honest d.failed v s c.self.invariant.tied h none w t (of_free r) e.row in
     rw c.of_free.ensures (calls-seen d.image d.honest d.failed v s c.args.self.now c.self.view_is (quiet-calls d.image d.honest d.failed v w s t (freed-file v w s t h r e.state e.err) row (freed-spares v w s t h r c.self.invariant.laid e.drops e.err free)))
+
+pub returns-clause-remain : goal.returns-clause-remain
+returns-clause-remain g c = subst (λ k. Remain k.core.blocks c.vfree-freed.new.blocks c.args.h) c.self.view_is (dropped-remain c.self.inside.blocks c.vfree-freed.new.blocks _ c.args.h c.vfree-freed.result c.vfree-freed.ensures.drops c.vfree-freed.ensures.err)

@@ -1,10 +1,12 @@
-use Rattle.std.proofs.Common.{Ok, ap, refl, sym}
+use Rattle.std.proofs.Common.{Ok, ap, refl, sym, subst}
 use Rattle.geos_table.specs.VmCalls.{vsetmap}
 use Rattle.vm_blocks.specs.View.{VmState, held_at}
 use Rattle.geos_kernel.proofs.Listed.{same-spares}
 use Rattle.geos_kernel.proofs.ListedRows.{not-some, vsetmap-group-row, vsetmap-unlisted-row}
 use Rattle.geos_kernel.proofs.Seen.{calls-seen}
 use Rattle.geos_kernel.proofs.VmCalls.{quiet-calls, spared-kernel, told-calls}
+use Rattle.geos_kernel.specs.Kernel.{Remain}
+use Rattle.geos_kernel.proofs.Remaining.{same-remain}
 use Rattle.geos_kernel.proofs.kernel.Kernel.vsetmap.Goals as goal
 
 pub returns-then-not-has-clause-calls : goal.returns-then-not-has-clause-calls
@@ -33,3 +35,6 @@ returns-clause-calls g c =
     let w = c.set_map.new.self in let h = c.args.h in
     let e = c.set_map.ensures in
     calls-seen d.image d.honest d.failed v s c.args.self.now c.self.view_is (quiet-calls d.image d.honest d.failed v w s s (ap (λ (x : VmState g.row.D.Denot). x.file) e.state) (e.row s c.self.invariant.tied) (same-spares s s refl))
+
+pub returns-clause-remain : goal.returns-clause-remain
+returns-clause-remain g c = subst (λ k. Remain k.core.blocks c.self.inside.blocks 0) c.self.view_is (same-remain c.self.inside.blocks c.self.inside.blocks 0 refl)
