@@ -1,5 +1,5 @@
 -- Which pointers may be stale where they are used, and where and by what they became so.
-use Rattle.std.specs.Prelude.{ℕ, ◌==◌, Bool, ◌&&◌, if◌then◌else◌, List, [], ◌++◌, Option, Some, None, length, slice_get, codes, decimal}
+use Rattle.std.specs.Prelude.{ℕ, ◌==◌, Bool, false, ◌&&◌, if◌then◌else◌, List, [], ◌++◌, Option, Some, None, length, slice_get, codes, decimal}
 use Rattle.std.specs.Option.{option_map_or}
 use Rattle.geos_image.specs.declared.instr.Instr.{Instr}
 use Rattle.geos_image.specs.declared.row.Row.{Row}
@@ -41,20 +41,32 @@ abbrev pub pointer_item : Option ℕ → List ℕ
 pointer_item None = []
 pointer_item (Some p) = codes " p" ++ decimal p
 
--- where a way comes from
-abbrev pub way_text : List ℕ → Way → List ℕ
-way_text lines Entry = codes " the in line"
-way_text lines (Along edge) = pc_text lines edge.from
+-- a way comes from the instruction at a pc
+abbrev pub is_from : Way → ℕ → Bool
+is_from Entry from = false
+is_from (Along edge) from = edge.from == from
+
+-- where a way comes from; where another comes from the same instruction, which of the two is that of its refusal
+unfoldable pub way_text : List ℕ → Way → Way → List ℕ
+way_text lines Entry other = codes " the in line"
+way_text lines (Along edge) other =
+    if edge.branch && is_from other edge.from then codes " where" ++ pc_text lines edge.from ++ codes " is refused" else pc_text lines edge.from
 
 -- where ways meet, unless it is here
 abbrev pub meeting_place : Place → ℕ → List ℕ
 meeting_place place to = if to == place.pc then codes ";" else codes "; at" ++ pc_text place.lines to
 
--- of ways that meet one brings a pointer, and another does not
+-- of ways that meet one brings a pointer
+unfoldable pub known_from : Place → ℕ → Meeting → List ℕ
+known_from place p m = codes " p" ++ decimal p ++ codes " is known from" ++ way_text place.lines m.known m.lost
+
+-- and another does not
+unfoldable pub not_from : Place → Meeting → List ℕ
+not_from place m = codes ", and not from" ++ way_text place.lines m.lost m.known
+
+-- where ways meet, of which one brings a pointer, and another does not
 unfoldable pub meeting_words : Place → ℕ → Meeting → List ℕ
-meeting_words place p m =
-    meeting_place place m.to
-    ++ (codes " p" ++ decimal p ++ codes " is known from" ++ way_text place.lines m.known ++ codes ", and not from" ++ way_text place.lines m.lost)
+meeting_words place p m = meeting_place place m.to ++ known_from place p m ++ not_from place m
 
 -- the same, if ways meet
 abbrev pub meeting_item : Place → ℕ → Option Meeting → List ℕ

@@ -2,10 +2,10 @@
 
 ghost use Rattle.std.specs.Prelude.{◌≡◌, ◌++◌, OnOk};
 ghost use Rattle.geos_explain.specs.Places.{IsPlace, place_of};
-ghost use Rattle.geos_explain.specs.Parts.{part_text};
-ghost use Rattle.geos_explain.specs.Stale.{if_stale, stale_used, pointer_item, way_text, meeting_place, meeting_words, meeting_item, named, name_at, call_loss, refused_loss, moved_words, use_loss, how_lost, lost_point, lost_by, in_wish, unset_words, unreached_words, merged_words, end_words, loss_words, trace_words, trace_item, stale_words};
+ghost use Rattle.geos_explain.specs.declared.ways.Way.TheVariants.{Along};
+ghost use Rattle.geos_explain.specs.Stale.{if_stale, stale_used, pointer_item, is_from, way_text, meeting_place, known_from, not_from, meeting_words, meeting_item, named, name_at, call_loss, refused_loss, moved_words, use_loss, how_lost, lost_point, lost_by, in_wish, unset_words, unreached_words, merged_words, end_words, loss_words, trace_words, trace_item, stale_words};
 
-use crate::numbers::put_numbered;
+use crate::numbers::{put_numbered, put_pc};
 use crate::parts::{Part, put_parts};
 use crate::place::Place;
 use crate::points::point_at;
@@ -48,13 +48,44 @@ fn put_pointer(out: &mut Vec<u8>, pointer: Option<u8>) -> Result<(), AllocError>
     }
 }
 
-/// Where a way comes from.
-fn from_way<'a>(lines: &'a [usize], way: Way) -> Part<'a>
-    ensures { part_text result ≡ way_text lines.now way }
+/// Whether a way comes from the instruction at a pc.
+fn is_from(way: Way, from: u16) -> bool
+    ensures { result ≡ is_from way from }
 {
     match way {
-        Way::Entry => Part::Text(" the in line"),
-        Way::Along(edge) => Part::Pc(lines, edge.from),
+        Way::Entry => false,
+        Way::Along(edge) => edge.from == from,
+    }
+}
+
+/// Where a way comes from along an edge; where another comes from the same instruction, which of the two is that of its
+/// refusal.
+#[tactic(auto, unfolding(crate::specs::Stale::way_text))]
+fn put_edge(out: &mut Vec<u8>, lines: &[usize], edge: Edge, other: Way) -> Result<(), AllocError>
+    ensures { OnOk result (out.new.items ≡ out.old.items ++ way_text lines.now (Along edge) other) }
+{
+    if edge.branch && is_from(other, edge.from) {
+        put_parts(
+            out,
+            &[
+                Part::Text(" where"),
+                Part::Pc(lines, edge.from),
+                Part::Text(" is refused"),
+            ],
+        )
+    } else {
+        put_pc(out, lines, edge.from)
+    }
+}
+
+/// Where a way comes from, beside another.
+#[tactic(auto, unfolding(crate::specs::Stale::way_text))]
+fn put_way(out: &mut Vec<u8>, lines: &[usize], way: Way, other: Way) -> Result<(), AllocError>
+    ensures { OnOk result (out.new.items ≡ out.old.items ++ way_text lines.now way other) }
+{
+    match way {
+        Way::Entry => out.extend_from_slice(b" the in line"),
+        Way::Along(edge) => put_edge(out, lines, edge, other),
     }
 }
 
@@ -68,23 +99,39 @@ fn put_meeting_place(out: &mut Vec<u8>, place: &Place, to: u16) -> Result<(), Al
     put_parts(out, &[Part::Text("; at"), Part::Pc(place.lines, to)])
 }
 
-/// Of ways that meet one brings the pointer, and another does not.
-#[tactic(auto, unfolding(crate::specs::Stale::meeting_words))]
-fn put_meeting(out: &mut Vec<u8>, place: &Place, p: u8, m: &Meeting) -> Result<(), AllocError>
-    ensures { OnOk result (out.new.items ≡ out.old.items ++ meeting_words (place_of place.now) p m.now) }
+/// Of ways that meet one brings the pointer.
+#[tactic(auto, unfolding(crate::specs::Stale::known_from))]
+fn put_known_from(out: &mut Vec<u8>, place: &Place, p: u8, m: &Meeting) -> Result<(), AllocError>
+    ensures { OnOk result (out.new.items ≡ out.old.items ++ known_from (place_of place.now) p m.now) }
 {
-    put_meeting_place(out, place, m.to)?;
     put_parts(
         out,
         &[
             Part::Text(" p"),
             Part::Register(p),
             Part::Text(" is known from"),
-            from_way(place.lines, m.known),
-            Part::Text(", and not from"),
-            from_way(place.lines, m.lost),
         ],
-    )
+    )?;
+    put_way(out, place.lines, m.known, m.lost)
+}
+
+/// And another does not.
+#[tactic(auto, unfolding(crate::specs::Stale::not_from))]
+fn put_not_from(out: &mut Vec<u8>, place: &Place, m: &Meeting) -> Result<(), AllocError>
+    ensures { OnOk result (out.new.items ≡ out.old.items ++ not_from (place_of place.now) m.now) }
+{
+    put_parts(out, &[Part::Text(", and not from")])?;
+    put_way(out, place.lines, m.lost, m.known)
+}
+
+/// Where ways meet, of which one brings the pointer, and another does not.
+#[tactic(auto, unfolding(crate::specs::Stale::meeting_words))]
+fn put_meeting(out: &mut Vec<u8>, place: &Place, p: u8, m: &Meeting) -> Result<(), AllocError>
+    ensures { OnOk result (out.new.items ≡ out.old.items ++ meeting_words (place_of place.now) p m.now) }
+{
+    put_meeting_place(out, place, m.to)?;
+    put_known_from(out, place, p, m)?;
+    put_not_from(out, place, m)
 }
 
 /// The same, if ways meet.
