@@ -1,10 +1,8 @@
 //! The program `geos`: runs a session on its standard input, or a command on a text or an image in a file.
 #![tactic(auto)]
 
-mod commands;
-mod fault;
-mod files;
 mod requests;
+mod running;
 
 use geos_cli::ScriptFault;
 use geos_shell::requested;

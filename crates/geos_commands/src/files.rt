@@ -1,20 +1,17 @@
-//! VM files of the system: they are made, opened, run on and shown.
+//! VM files of the system: they are made, opened and shown.
 
 ghost use Rattle.std.specs.Prelude.{◌≡◌, ◌≤◌, IfOk, true};
-ghost use Rattle.geos_shell.specs.Limits.{IsArea, IsRegion, IsWidth};
+ghost use Rattle.geos_shell.specs.Limits.{IsArea, IsWidth};
 
-use crate::requests::RequestFault;
-use geos_cli::{Counted, ScriptFault, run_script};
+use crate::request_fault::RequestFault;
 use geos_dump::{Detail, DumpError, dump, map, read_areas};
-use geos_kernel::Kernel;
 use geos_shell::{FileLock, Sharing, StreamFault};
-use std::io::{BufWriter, Write};
-use std::{fs, io};
+use std::fs;
 use vm_file::{Disk, FileDevice, VmFile};
 
 /// Makes a VM file with areas of so many bytes. What is at the path already stays as it is, and
 /// nothing is left there where no file is made.
-pub(crate) fn make<'a>(rt: &HostRuntime, path: &'a str, area: u32) -> Result<(), RequestFault<'a>>
+pub fn make_file<'a>(rt: &HostRuntime, path: &'a str, area: u32) -> Result<(), RequestFault<'a>>
     requires { IsArea area }
 {
     let len = 1_024 + 2 * u64::from(area);
@@ -32,14 +29,16 @@ pub(crate) fn make<'a>(rt: &HostRuntime, path: &'a str, area: u32) -> Result<(),
 
 /// A device on the file with a path, and the lock on it.
 #[derive(Drop)]
-struct Locked {
-    device: FileDevice,
-    lock: FileLock,
+pub struct Locked {
+    /// The device.
+    pub device: FileDevice,
+    /// The lock.
+    pub lock: FileLock,
 }
 
 /// Waits for the file's lock and opens it: to work on it alone, or to read it as others may
 /// meanwhile.
-fn lock_and_open<'a>(
+pub fn lock_and_open<'a>(
     rt: &HostRuntime,
     path: &'a str,
     sharing: Sharing,
@@ -56,7 +55,10 @@ fn lock_and_open<'a>(
 }
 
 /// Opens the VM file that a device holds.
-fn opened<'a>(rt: &HostRuntime, device: FileDevice) -> Result<VmFile<FileDevice>, RequestFault<'a>>
+pub fn opened<'a>(
+    rt: &HostRuntime,
+    device: FileDevice,
+) -> Result<VmFile<FileDevice>, RequestFault<'a>>
     ensures { IfOk result (λ file. file.sure ≡ true) }
 {
     match VmFile::open(rt.alloc(), device) {
@@ -65,40 +67,8 @@ fn opened<'a>(rt: &HostRuntime, device: FileDevice) -> Result<VmFile<FileDevice>
     }
 }
 
-/// Runs a script on a VM file, with so many bytes for blocks in memory. The words are gone through
-/// from left to right: the image is read, the file opened, the script read; then it runs.
-pub(crate) fn run<'a>(
-    rt: &HostRuntime,
-    image: &'a str,
-    file: &'a str,
-    script: &'a str,
-    region: u32,
-) -> Result<(), RequestFault<'a>>
-    requires { IsRegion region }
-{
-    let image = geos_shell::read(rt, image)?;
-    let Locked {
-        device,
-        lock: _lock,
-    } = lock_and_open(rt, file, Sharing::Alone)?;
-    let file = opened(rt, device)?;
-    let script = geos_shell::read(rt, script)?;
-    let Ok(mut kernel) = Kernel::new(rt.alloc(), region, file) else {
-        return Err(RequestFault::Session(ScriptFault::Memory));
-    };
-    let Ok(writer) = BufWriter::new(rt.alloc(), io::writer(rt)) else {
-        return Err(RequestFault::Session(ScriptFault::Memory));
-    };
-    let mut out = Counted::new(writer);
-    run_script(rt.alloc(), &image, &script, &mut kernel, &mut out)?;
-    match out.flush() {
-        Ok(()) => Ok(()),
-        Err(_) => Err(RequestFault::Session(ScriptFault::Write)),
-    }
-}
-
 /// Prints what a VM file keeps.
-pub(crate) fn print_file<'a>(
+pub fn print_file<'a>(
     rt: &HostRuntime,
     path: &'a str,
     detail: Detail,
@@ -113,11 +83,7 @@ pub(crate) fn print_file<'a>(
 }
 
 /// Draws a VM file in so many columns.
-pub(crate) fn draw_file<'a>(
-    rt: &HostRuntime,
-    path: &'a str,
-    width: u32,
-) -> Result<(), RequestFault<'a>>
+pub fn draw_file<'a>(rt: &HostRuntime, path: &'a str, width: u32) -> Result<(), RequestFault<'a>>
     requires { IsWidth width }
 {
     let Locked {

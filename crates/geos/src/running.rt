@@ -1,0 +1,51 @@
+//! What runs routines: a session, and a script on a VM file of the system.
+
+ghost use Rattle.geos_shell.specs.Limits.{IsRegion};
+
+use geos_cli::{Counted, ScriptFault, run_script, run_session};
+use geos_commands::{Locked, RequestFault, lock_and_open, opened};
+use geos_kernel::Kernel;
+use geos_shell::{Sharing, read};
+use std::io;
+use std::io::{BufWriter, Write};
+
+/// Runs a session on the standard streams.
+pub(crate) fn session(rt: &HostRuntime) -> Result<(), ScriptFault> {
+    let mut input = Counted::new(rt.stdin());
+    let Ok(writer) = BufWriter::new(rt.alloc(), io::writer(rt)) else {
+        return Err(ScriptFault::Memory);
+    };
+    run_session(rt.alloc(), &mut input, &mut Counted::new(writer))
+}
+
+/// Runs a script on a VM file, with so many bytes for blocks in memory. The words are gone through
+/// from left to right: the image is read, the file opened, the script read; then it runs.
+pub(crate) fn run<'a>(
+    rt: &HostRuntime,
+    image: &'a str,
+    file: &'a str,
+    script: &'a str,
+    region: u32,
+) -> Result<(), RequestFault<'a>>
+    requires { IsRegion region }
+{
+    let image = read(rt, image)?;
+    let Locked {
+        device,
+        lock: _lock,
+    } = lock_and_open(rt, file, Sharing::Alone)?;
+    let file = opened(rt, device)?;
+    let script = read(rt, script)?;
+    let Ok(mut kernel) = Kernel::new(rt.alloc(), region, file) else {
+        return Err(RequestFault::Session(ScriptFault::Memory));
+    };
+    let Ok(writer) = BufWriter::new(rt.alloc(), io::writer(rt)) else {
+        return Err(RequestFault::Session(ScriptFault::Memory));
+    };
+    let mut out = Counted::new(writer);
+    run_script(rt.alloc(), &image, &script, &mut kernel, &mut out)?;
+    match out.flush() {
+        Ok(()) => Ok(()),
+        Err(_) => Err(RequestFault::Session(ScriptFault::Write)),
+    }
+}

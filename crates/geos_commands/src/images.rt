@@ -1,0 +1,69 @@
+//! The commands on texts and images that a path names.
+
+use crate::commands::{
+    Explained, assemble_bytes, begins_as_image, cause_bytes, check_bytes, explain_bytes,
+    explain_text_bytes, list_bytes,
+};
+use crate::request_fault::RequestFault;
+use geos_asm::AssembleError;
+use geos_shell::{print, read, write};
+
+/// Makes the image of a text.
+pub fn assemble<'a>(
+    rt: &HostRuntime,
+    text: &'a str,
+    image: &'a str,
+) -> Result<(), RequestFault<'a>> {
+    let bytes = read(rt, text)?;
+    let bytes = assemble_bytes(rt.alloc(), &bytes)?;
+    Ok(write(rt, image, &bytes)?)
+}
+
+/// Prints the listing of an image.
+pub fn list<'a>(rt: &HostRuntime, path: &'a str) -> Result<(), RequestFault<'a>> {
+    let bytes = read(rt, path)?;
+    let text = list_bytes(rt.alloc(), &bytes)?;
+    Ok(print(rt, &text)?)
+}
+
+/// Prints `accepted` where the image may run.
+pub fn check<'a>(rt: &HostRuntime, path: &'a str) -> Result<(), RequestFault<'a>> {
+    let bytes = read(rt, path)?;
+    check_bytes(rt.alloc(), &bytes)?;
+    Ok(print(rt, b"accepted\n")?)
+}
+
+/// What there is to say of a text. Where no rows are found for it, it prints why.
+fn explained_text<'a>(rt: &HostRuntime, text: &[u8]) -> Result<Explained, RequestFault<'a>> {
+    match explain_text_bytes(rt.alloc(), text) {
+        Ok(explained) => Ok(explained),
+        Err(fault) => {
+            if let AssembleError::NoRows(line) = &fault {
+                let line = *line;
+                print(rt, &cause_bytes(rt.alloc(), text, line)?)?;
+            }
+            Err(RequestFault::Assemble(fault))
+        }
+    }
+}
+
+/// What there is to say of an image, or of a text.
+fn explained<'a>(rt: &HostRuntime, bytes: &[u8]) -> Result<Explained, RequestFault<'a>> {
+    if begins_as_image(bytes) {
+        Ok(explain_bytes(rt.alloc(), bytes)?)
+    } else {
+        explained_text(rt, bytes)
+    }
+}
+
+/// Prints the listing of the image, or the lines of the text, with what is known at each instruction; then says where
+/// the image is refused, if it is.
+pub fn explain<'a>(rt: &HostRuntime, path: &'a str) -> Result<(), RequestFault<'a>> {
+    let bytes = read(rt, path)?;
+    let explained = explained(rt, &bytes)?;
+    print(rt, &explained.text)?;
+    match explained.reject {
+        Some(reject) => Err(RequestFault::Reject(reject)),
+        None => Ok(()),
+    }
+}

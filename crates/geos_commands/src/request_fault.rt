@@ -1,0 +1,43 @@
+//! Why a request was not carried out.
+
+use crate::fault::CheckFault;
+use geos_asm::AssembleError;
+use geos_dump::DumpError;
+use geos_image::ReadError;
+use geos_input::ScriptFault;
+use geos_shell::StreamFault;
+use geos_verify::Reject;
+use thiserror::Error;
+use vm_file::{CreateError, OpenError};
+
+/// Why a request was not carried out.
+#[derive(Debug, Drop, Error)]
+pub enum RequestFault<'a> {
+    /// What a path names was not read or written.
+    #[error(transparent)]
+    Stream(#[from] StreamFault<'a>),
+    /// A session, or a script, has a fault.
+    #[error(transparent)]
+    Session(#[from] ScriptFault),
+    /// A text is not assembled.
+    #[error(transparent)]
+    Assemble(#[from] AssembleError),
+    /// The bytes are no image.
+    #[error(transparent)]
+    Read(#[from] ReadError),
+    /// The image may not run.
+    #[error(transparent)]
+    Check(#[from] CheckFault),
+    /// The verifier refuses the image.
+    #[error(transparent)]
+    Reject(#[from] Reject),
+    /// The VM file was not made.
+    #[error(transparent)]
+    Create(#[from] CreateError),
+    /// The VM file was not opened.
+    #[error(transparent)]
+    Open(#[from] OpenError),
+    /// The VM file was not shown.
+    #[error(transparent)]
+    Dump(#[from] DumpError),
+}
