@@ -3,7 +3,7 @@
 ghost use Rattle.geos_shell.specs.Limits.{KeepsLimits};
 
 use crate::running::{run, session};
-use geos_commands::{
+use geos_requests::{
     RequestFault, assemble, check, draw_file, explain, list, make_file, print_file,
 };
 use geos_dump::Detail;

@@ -3,7 +3,7 @@
 ghost use Rattle.std.specs.Prelude.{◌≡◌, IfOk, IfErr};
 ghost use Rattle.geos_asm.specs.Assembling.{IsWhyNoImage};
 ghost use Rattle.geos_image.specs.Reading.{image_at, Fails};
-ghost use Rattle.geos_commands.specs.Commands.{IsAssembledAs, IsListed, IsAccepted, IsDue, IsExplained, IsExplainedText, IsCauseTold, begins_as_image};
+ghost use Rattle.geos_requests.specs.Commands.{IsAssembledAs, IsListed, IsAccepted, IsDue, IsExplained, IsExplainedText, IsCauseTold, begins_as_image};
 
 use crate::fault::CheckFault;
 use geos_asm::{AssembleError, assemble, list, why_no_rows};

@@ -20,7 +20,7 @@ pub enum CheckFault {
 
 impl From<ReadError> for CheckFault {
     ghost use Rattle.std.specs.Prelude.{◌≡◌};
-    ghost use Rattle.geos_commands.specs.Commands.{of_read};
+    ghost use Rattle.geos_requests.specs.Commands.{of_read};
 
     ghost from_gives = { λ error fault. fault ≡ of_read error };
 
