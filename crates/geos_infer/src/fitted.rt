@@ -82,7 +82,8 @@ fn edge_fits(body: &Body, pc: u16, branch: bool, known: &Known) -> bool
 /// edge fits what is known where that leads.
 pub(crate) fn all_fit(body: &Body, known: &Known) -> bool
     ensures fit { result ≡ true → AllFit body.now.image.now body.now.r known.now }
-    ensures flowing { (want : List Row) → Flowing body.now.image.now body.now.r want known.now (2 * start_of body.now.image.now.routines (body.now.r + 1)) → result ≡ true }
+    ensures flowing { (want : List Row) → Flowing body.now.image.now body.now.r want known.now (2 * start_of body.now.image.now.routines (body.now.r + 1))
+        → result ≡ true }
 {
     let entry = body.image.routine(body.r).entry;
     if !fits_known(&known.at(body.start), &entry) {
