@@ -3,10 +3,10 @@
 ghost use Rattle.geos_shell.specs.Limits.{KeepsLimits};
 
 use crate::running::{run, session};
+use geos_dump::Detail;
 use geos_requests::{
     RequestFault, assemble, check, draw_file, explain, list, make_file, print_file,
 };
-use geos_dump::Detail;
 use geos_shell::Request;
 
 /// Does what is asked for.

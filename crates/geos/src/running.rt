@@ -3,8 +3,8 @@
 ghost use Rattle.geos_shell.specs.Limits.{IsRegion};
 
 use geos_cli::{Counted, ScriptFault, run_script, run_session};
-use geos_requests::{Locked, RequestFault, lock_and_open, opened};
 use geos_kernel::Kernel;
+use geos_requests::{Locked, RequestFault, lock_and_open, opened};
 use geos_shell::{Sharing, read};
 use std::io;
 use std::io::{BufWriter, Write};

@@ -138,13 +138,7 @@ enum Went {
 }
 
 /// A row comes to a place: it is known there now, and waits to go on, unless one was; slots may differ.
-fn come(
-    body: &Body,
-    known: &mut Known,
-    waits: &mut Table<bool>,
-    pc: u16,
-    brought: &Brought,
-) -> Went
+fn come(body: &Body, known: &mut Known, waits: &mut Table<bool>, pc: u16, brought: &Brought) -> Went
     requires by { ComesBy body.now.image.now body.now.r brought.now.to pc brought.now.row }
     requires inside { brought.now.to < 4096 }
     requires come { AllCome body.now.image.now body.now.r known.old }
@@ -173,13 +167,7 @@ fn come(
 }
 
 /// What is known at a pc goes along an edge.
-fn go(
-    body: &Body,
-    known: &mut Known,
-    waits: &mut Table<bool>,
-    pc: u16,
-    branch: bool,
-) -> Went
+fn go(body: &Body, known: &mut Known, waits: &mut Table<bool>, pc: u16, branch: bool) -> Went
     requires here { pc < body.now.end }
     requires come { AllCome body.now.image.now body.now.r known.old }
     ensures come { AllCome body.now.image.now body.now.r known.new }
