@@ -3,7 +3,7 @@
 ghost use Rattle.std.specs.Prelude.{◌≡◌, ◌<◌, ◌≤◌, ◌⊎◌, ℕ, Some, None, slice_index_or, slice_set, IfOk};
 
 use crate::counters::{Counter, number_in};
-use crate::table::MOST_INSTRS;
+use geos_image::MOST_INSTRS;
 use std::alloc::{AllocError, Global};
 use std::marker::Model;
 
