@@ -12,7 +12,7 @@ filled-more old new n x is more = more ∙ ap (λ xs. xs ++ (x ∷ [])) is ∙ r
 get_or-filled : {X : Type 0} (n k : ℕ) (x : X) → get_or (replicate n x) k x ≡ x
 get_or-filled n k x = elim (cases_lt k n) [
   | inl within ↦ get_or-replicate n k x x within
-  | inr past ↦ get_or_past (replicate n x) k x (let l = length-replicate n x in omega (arith, l))
+  | inr past ↦ get_or_past (replicate n x) k x (omega (arith, length-replicate n x))
 ]
 
 pub filled : {X : Type 0} (items : List X) (k n : ℕ) (x : X) → items ≡ replicate k x → k ≤ n → n ≤ k → (length items ≡ n) × ((i : ℕ) → get_or items i x ≡ x)

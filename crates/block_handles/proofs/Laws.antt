@@ -57,10 +57,10 @@ pub same-name : (a b : Name) → IsHandle a.h → IsHandle b.h → slot_of a ≡
 same-name a b ha hb e = λ k. record { owner = (same a.owner b.owner a.h b.h ha hb e).0 k; h = (same a.owner b.owner a.h b.h ha hb e).1 k }
   where
     same : (o p : Owner) (h k : ℕ) → IsHandle h → IsHandle k → slot_of (record { owner = o; h = h }) ≡ slot_of (record { owner = p; h = k }) → (o ≡ p) × (h ≡ k)
-    same Mem Mem h k x y z = let x0 = x.0 in let x1 = x.1 in let y0 = y.0 in let y1 = y.1 in (refl, grind (arith, nat_tests))
-    same Vm Vm h k x y z = let x0 = x.0 in let x1 = x.1 in let y0 = y.0 in let y1 = y.1 in (refl, grind (arith, nat_tests))
-    same Mem Vm h k x y z = let x0 = x.0 in let x1 = x.1 in let y0 = y.0 in let y1 = y.1 in absurd (grind (arith, nat_tests))
-    same Vm Mem h k x y z = let x0 = x.0 in let x1 = x.1 in let y0 = y.0 in let y1 = y.1 in absurd (grind (arith, nat_tests))
+    same Mem Mem h k x y z = (refl, grind (arith, nat_tests))
+    same Vm Vm h k x y z = (refl, grind (arith, nat_tests))
+    same Mem Vm h k x y z = absurd (grind (arith, nat_tests))
+    same Vm Mem h k x y z = absurd (grind (arith, nat_tests))
 
 -- past the end nothing is written
 past_end : (bs : List ℕ) (at : ℕ) (ws : List ℕ) → length bs ≤ at → with_part bs at ws ≡ bs
@@ -137,7 +137,7 @@ copy-covered old new from to n laid c slot covers = writes-covered old new to (p
 
 -- the slot of a handle
 pub slot_of-handle : (owner : Owner) (h : ℕ) → IsHandle h → slot_of (record { owner = owner; h = h }) ≡ first_slot owner + (h - 1)
-slot_of-handle owner h q = let low = q.0 in let high = q.1 in grind (arith, nat_tests)
+slot_of-handle owner h q = grind (arith, nat_tests)
 
 -- each handle has a slot
 pub slot_of-small : (name : Name) → IsHandle name.h → slot_of name < 2048

@@ -35,7 +35,7 @@ module _ (b : List ℕ) (c : ℕ) (found : Found) (f : IsFound b c found) (i at 
   long = length-room bytes f.shape.array found.shape i n h.shaped.reads h.shaped.count h.shaped.size known
 
   within : at ≤ length bytes
-  within = let l = element-bounds bytes f.shape.array i h.shaped.reads in omega (arith, is, l.1)
+  within = omega (arith, is, (element-bounds bytes f.shape.array i h.shaped.reads).1)
 
   -- needs what the bytes with room need
   pub grown-need : need (with_inserted (chunks b) c at room) ≡ need (with_array (chunks b) c (with_element (array_of (chunks b) c) i n))
@@ -46,7 +46,7 @@ module _ (b : List ℕ) (c : ℕ) (found : Found) (f : IsFound b c found) (i at 
 
   -- and at least the room
   pub grown-big : 65535 < room → 65520 < need (with_array (chunks b) c (with_element (array_of (chunks b) c) i n))
-  grown-big big = let e = ap need grown in let l = need-least (chunks b) c bytes (spelled (with_element f.shape.array i n)) h.there in let m = long in omega (arith, e, l, m, big)
+  grown-big big = let e = ap need grown in omega (arith, e, need-least (chunks b) c bytes (spelled (with_element f.shape.array i n)) h.there, long, big)
 
   -- the bytes with room, after they are made
   pub roomy : (d : List ℕ) → IsHeap d → chunks d ≡ with_inserted (chunks b) c at room

@@ -35,4 +35,4 @@ header-spells bytes k long small are =
     })
 
 pub length-empty : (k : ℕ) → length (spelled (empty k)) ≡ 8
-length-empty k = let e = length-spelled (empty k) in let f = first-empty k in omega (arith, e, f)
+length-empty k = omega (arith, length-spelled (empty k), first-empty k)

@@ -39,19 +39,11 @@ words-more bytes i n h =
     let more : n - i ≡ suc (n - (i + 1)) = omega arith in let next : 8 + 2 * i + 2 ≡ 8 + 2 * (i + 1) = omega arith in
     ap (words_from bytes (8 + 2 * i)) more ∙ ap (λ at. word bytes (8 + 2 * i) ∷ words_from bytes at (n - (i + 1))) next
 
-pub fall-seen : (bytes : List ℕ) (i n last : ℕ) → i < n → word bytes (8 + 2 * i) < last → never_fall last (words_from bytes (8 + 2 * i) (n - i)) (length bytes) ≡ false
-fall-seen bytes i n last h low =
-    ap (λ xs. never_fall last xs (length bytes)) (words-more bytes i n h)
-    ∙ and_left (nat_le last (word bytes (8 + 2 * i))) (never_fall (word bytes (8 + 2 * i)) (words_from bytes (8 + 2 * (i + 1)) (n - (i + 1))) (length bytes)) (lt-leb last (word bytes (8 + 2 * i)) low)
-
 pub rise-seen : (bytes : List ℕ) (i n last next : ℕ) → i < n → next ≡ word bytes (8 + 2 * i) → last ≤ next
     → never_fall last (words_from bytes (8 + 2 * i) (n - i)) (length bytes) ≡ never_fall next (words_from bytes (8 + 2 * (i + 1)) (n - (i + 1))) (length bytes)
 rise-seen bytes i n last next h is high =
     let rest = words_from bytes (8 + 2 * (i + 1)) (n - (i + 1)) in
     ap (λ xs. never_fall last xs (length bytes)) (words-more bytes i n h) ∙ ap (λ x. nat_le last x && never_fall x rest (length bytes)) (sym is) ∙ ap (λ t. t && never_fall next rest (length bytes)) (le-leb last next high)
-
-pub all-seen : (bytes : List ℕ) (i n last : ℕ) → n ≤ i → never_fall last (words_from bytes (8 + 2 * i) (n - i)) (length bytes) ≡ nat_le last (length bytes)
-all-seen bytes i n last h = let none : n - i ≡ 0 = omega arith in ap (λ m. never_fall last (words_from bytes (8 + 2 * i) m) (length bytes)) none
 
 -- offsets that rise from the first one on are seen
 pub risen-up : (bytes : List ℕ) (n first : ℕ) → 0 < n → first ≡ 8 + 2 * n → word bytes 8 ≡ first → (m i last : ℕ) → i ≡ m + 1 → i ≤ n → ((j : ℕ) → j < m → word bytes (8 + 2 * j) ≤ word bytes (8 + 2 * (j + 1))) → last ≡ word bytes (8 + 2 * m)

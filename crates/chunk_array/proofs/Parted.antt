@@ -29,16 +29,16 @@ pub record Parts (bytes : List ℕ) (a : Array) (shape : Shape) (place : Element
 
 pub parts : (bytes : List ℕ) (a : Array) (shape : Shape) (place : ElementPlace) → HasPart bytes a shape place → Parts bytes a shape place
 parts bytes a shape place h =
-    let i = place.index in let r = reads bytes a h.small h.is in let count = h.count in let known = h.known in let index : i < length a.elements = omega (arith, count, known) in
-    let begins = h.begins in let ends = h.ends in let e = element-ends a i index in let long : place.len ≡ length (element a i) = omega (arith, begins, ends, e) in
+    let i = place.index in let r = reads bytes a h.small h.is in let index : i < length a.elements = omega (arith, h.count, h.known) in
+    let e = element-ends a i index in let long : place.len ≡ length (element a i) = omega (arith, h.begins, h.ends, e) in
     let lo = element-bounds bytes a i r in let hi = element-bounds bytes a (i + 1) r in
-    let within : place.begin + place.len ≤ length bytes = omega (arith, ends, hi.1) in let least : 8 ≤ place.begin = omega (arith, begins, lo.0) in
+    let within : place.begin + place.len ≤ length bytes = omega (arith, h.ends, hi.1) in let least : 8 ≤ place.begin = omega (arith, h.begins, lo.0) in
     let fits : room_of shape.element_size place.len ≤ place.begin + place.len = (elim (cases_eq shape.element_size 0) [
-      | inl none ↦ (let q = room-varying shape.element_size place.len none in omega (arith, q, least))
-      | inr some ↦ (let q = room-fixed shape.element_size place.len some in let size = h.size in
-          let ne : a.element_size ≢ 0 = (λ z. some (sym size ∙ z)) in
+      | inl none ↦ omega (arith, room-varying shape.element_size place.len none, least)
+      | inr some ↦ (let q = room-fixed shape.element_size place.len some in
+          let ne : a.element_size ≢ 0 = (λ z. some (sym h.size ∙ z)) in
           let e1 = r.equal ne i (omega arith) in let e2 = r.equal ne (i + 1) (omega arith) in let m : (i + 1) * a.element_size ≡ i * a.element_size + a.element_size = omega arith in
-          omega (arith, q, begins, ends, e1, e2, m, size))
+          omega (arith, q, h.begins, h.ends, e1, e2, m, h.size))
     ]) in
     record { reads = r; index = index; long = long; least = least; within = within; fits = fits }
 
@@ -51,48 +51,46 @@ pub record Closable (bytes : List ℕ) (count : ℕ) (place : ElementPlace) : Ty
 
 pub closable : (bytes : List ℕ) (a : Array) (shape : Shape) (place : ElementPlace) → HasPart bytes a shape place → shape.element_size ≡ 0 → Closable bytes shape.count place
 closable bytes a shape place h none =
-    let i = place.index in let p = parts bytes a shape place h in let none_a : a.element_size ≡ 0 = h.size ∙ none in let first = first-varying a none_a in let le = first-le a i in
-    let begins = h.begins in let ends = h.ends in let count = h.count in let few = h.few in let known = h.known in
-    let at : (j : ℕ) → j < shape.count → offset bytes j ≡ element_at a j = (λ j l. p.reads.spells.offsets none_a j (omega (arith, count))) in
+    let p = parts bytes a shape place h in let none_a : a.element_size ≡ 0 = h.size ∙ none in let first = first-varying a none_a in let le = first-le a place.index in
+    let at : (j : ℕ) → j < shape.count → offset bytes j ≡ element_at a j = (λ j l. p.reads.spells.offsets none_a j (omega (arith, h.count))) in
     record {
-      table = omega (arith, first, le, begins, count);
-      small = omega (arith, few);
-      before = (λ j l. let o = at j (omega (arith, known)) in let b = element-bounds bytes a j p.reads in (omega (arith, o, b.0), omega (arith, o, b.1, few)));
-      behind = (λ j g l. let o = at j l in let b = element-bounds bytes a j p.reads in let m = element-order a (i + 1) j (omega arith) in
-          (omega (arith, o, m, ends, first, le, begins), omega (arith, o, b.1, few)));
+      table = omega (arith, first, le, h.begins, h.count);
+      small = omega (arith, h.few);
+      before = (λ j l. let o = at j (omega (arith, h.known)) in let b = element-bounds bytes a j p.reads in (omega (arith, o, b.0), omega (arith, o, b.1, h.few)));
+      behind = (λ j g l. let o = at j l in let b = element-bounds bytes a j p.reads in let m = element-order a (place.index + 1) j (omega arith) in
+          (omega (arith, o, m, h.ends, first, le, h.begins), omega (arith, o, b.1, h.few)));
     }
 
 -- the bytes that are left are bytes
 without-small : (bytes : List ℕ) (at n : ℕ) → ((k : ℕ) → get_or bytes k 0 < 256) → at ≤ length bytes → (k : ℕ) → get_or (without_part bytes at n) k 0 < 256
 without-small bytes at n small fits k = elim (cases_lt k at) [
-  | inl h ↦ (let e = get_or_append_left (take at bytes) (drop (at + n) bytes) 0 k (omega (arith, length-take at bytes)) ∙ get_or-take at bytes k 0 h in let s = small k in omega (arith, e, s))
-  | inr h ↦ (let e = get_or-append_right (take at bytes) (drop (at + n) bytes) at k 0 (omega (arith, length-take at bytes)) h ∙ get_or-drop (at + n) bytes (k - at) 0 in let s = small (at + n + (k - at)) in omega (arith, e, s))
+  | inl h ↦ (let e = get_or_append_left (take at bytes) (drop (at + n) bytes) 0 k (omega (arith, length-take at bytes)) ∙ get_or-take at bytes k 0 h in omega (arith, e, small k))
+  | inr h ↦ (let e = get_or-append_right (take at bytes) (drop (at + n) bytes) at k 0 (omega (arith, length-take at bytes)) h ∙ get_or-drop (at + n) bytes (k - at) 0 in omega (arith, e, small (at + n + (k - at))))
 ]
 
 -- and spell the array without the element
 pub spells-varying : (bytes new done : List ℕ) (a : Array) (shape : Shape) (place : ElementPlace) (w : ℕ) → HasPart bytes a shape place → shape.element_size ≡ 0
     → ClosesTable bytes new shape.count place.index place.begin place.len → w ≡ shape.count - 1 → done ≡ with_word new 0 w → ((k : ℕ) → get_or done k 0 < 256) → SpellsWithout done a shape place
 spells-varying bytes new done a shape place w h none o counts made small =
-    let i = place.index in let n = place.len in let p = parts bytes a shape place h in let count = h.count in let known = h.known in let few = few-elements bytes a p.reads in let most = h.few in
-    let T : ℕ → Type 0 = λ x. ClosesTable bytes new shape.count i x n in
+    let n = place.len in let p = parts bytes a shape place h in let few = few-elements bytes a p.reads in
     record {
       rest = (λ room is.
           let q : room ≡ n + 2 = is ∙ room-varying shape.element_size n none in
-          let long = o.long in let l = ap length made ∙ length-with_word new 0 w in let within = p.within in let end = place.begin + n in
-          let same : without_part done (end - room) room ≡ without_part done (element_at a (i + 1) - (n + 2)) (n + 2) = ap (λ x. without_part done (end - x) x) q ∙ ap (λ x. without_part done (x - (n + 2)) (n + 2)) h.ends in
-          removed-varying bytes new done (without_part done (end - room) room) a i n shape.count w p.reads (h.size ∙ none) p.index p.long (sym count) (subst T h.begins o) made (omega (arith, counts, known))
-          (omega (arith, counts, few, most, count)) (without-small done (end - room) room small (omega (arith, l, long, within))) same);
+          let l = ap length made ∙ length-with_word new 0 w in let end = place.begin + n in
+          let same : without_part done (end - room) room ≡ without_part done (element_at a (place.index + 1) - (n + 2)) (n + 2) = ap (λ x. without_part done (end - x) x) q ∙ ap (λ x. without_part done (x - (n + 2)) (n + 2)) h.ends in
+          removed-varying bytes new done (without_part done (end - room) room) a place.index n shape.count w p.reads (h.size ∙ none) p.index p.long (sym h.count) (subst (λ (x : ℕ). ClosesTable bytes new shape.count place.index x n) h.begins o) made (omega (arith, counts, h.known))
+          (omega (arith, counts, few, h.few, h.count)) (without-small done (end - room) room small (omega (arith, l, o.long, p.within))) same);
     }
 
 pub spells-fixed : (bytes done : List ℕ) (a : Array) (shape : Shape) (place : ElementPlace) (w : ℕ) → HasPart bytes a shape place → shape.element_size ≢ 0
     → w ≡ shape.count - 1 → done ≡ with_word bytes 0 w → ((k : ℕ) → get_or done k 0 < 256) → SpellsWithout done a shape place
 spells-fixed bytes done a shape place w h some counts made small =
-    let i = place.index in let p = parts bytes a shape place h in let count = h.count in let known = h.known in let few = few-elements bytes a p.reads in let most = h.few in let size = h.size in
+    let p = parts bytes a shape place h in let few = few-elements bytes a p.reads in
     record {
       rest = (λ room is.
-          let q : room ≡ a.element_size = is ∙ room-fixed shape.element_size place.len some ∙ sym size in
-          let l = ap length made ∙ length-with_word bytes 0 w in let within = p.within in let end = place.begin + place.len in
-          let same : without_part done (end - room) room ≡ without_part done (element_at a (i + 1) - a.element_size) a.element_size = ap (λ x. without_part done (end - x) x) q ∙ ap (λ x. without_part done (x - a.element_size) a.element_size) h.ends in
-          removed-fixed bytes done (without_part done (end - room) room) a i w p.reads (λ e. some (sym size ∙ e)) p.index made (omega (arith, counts, known, count))
-          (omega (arith, counts, few, most, count)) (without-small done (end - room) room small (omega (arith, l, within))) same);
+          let q : room ≡ a.element_size = is ∙ room-fixed shape.element_size place.len some ∙ sym h.size in
+          let l = ap length made ∙ length-with_word bytes 0 w in let end = place.begin + place.len in
+          let same : without_part done (end - room) room ≡ without_part done (element_at a (place.index + 1) - a.element_size) a.element_size = ap (λ x. without_part done (end - x) x) q ∙ ap (λ x. without_part done (x - a.element_size) a.element_size) h.ends in
+          removed-fixed bytes done (without_part done (end - room) room) a place.index w p.reads (λ e. some (sym h.size ∙ e)) p.index made (omega (arith, counts, h.known, h.count))
+          (omega (arith, counts, few, h.few, h.count)) (without-small done (end - room) room small (omega (arith, l, p.within))) same);
     }

@@ -21,7 +21,7 @@ use Rattle.chunk_array.proofs.Sized.{read-sized, empty-sized, with-sized, withou
 pub spelled-once : (bytes : List ℕ) (a : Array) → AreBytes bytes → arr bytes ≡ Some a → spelled a ≡ bytes
 spelled-once bytes a small is = spelled-array bytes a (λ k. elim (cases_lt k (length bytes)) [
   | inl l ↦ small k 0 l
-  | inr g ↦ (let e = get_or_past bytes k 0 g in omega (arith, e))
+  | inr g ↦ omega (arith, get_or_past bytes k 0 g)
 ]) is
 
 -- a chunk that spells an array
@@ -40,8 +40,7 @@ passed cs c more h = elim (some-or-none (chunk_of cs c)) [
   | inr none ↦ absurd (let e : Some BadChunk ≡ None = sym (ap (λ x. first_refusal ((is_none x, BadChunk) ∷ (is_none (arr (bytes_of cs c)), BadArray) ∷ more)) none) ∙ h in cc)
   | inl (bytes, there) ↦ elim (some-or-none (arr bytes)) [
     | inl (a, is) ↦ record { bytes = bytes; there = there; is = is ∙ ap Some (sym (array-of cs c bytes a there is)) }
-    | inr none ↦ absurd (
-        let e : first_refusal ((is_none (chunk_of cs c), BadChunk) ∷ (is_none (arr (bytes_of cs c)), BadArray) ∷ more) ≡ Some BadArray =
+    | inr none ↦ absurd (let e : first_refusal ((is_none (chunk_of cs c), BadChunk) ∷ (is_none (arr (bytes_of cs c)), BadArray) ∷ more) ≡ Some BadArray =
         ap (λ x. first_refusal ((is_none x, BadChunk) ∷ (is_none (arr (bytes_of cs c)), BadArray) ∷ more)) there ∙ ap (λ x. first_refusal ((is_none x, BadArray) ∷ more)) (ap arr (known-bytes cs c bytes there) ∙ none) in
         let f : Some BadArray ≡ None = sym e ∙ h in cc)
   ]

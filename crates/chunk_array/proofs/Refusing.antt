@@ -9,4 +9,4 @@ use Rattle.lmem_heap.specs.Refusals.{IsDeleteError}
 -- bytes of a chunk that is there can be deleted
 pub can-delete : (e : DeleteError) (cs : List (Option (List ℕ))) (c at n : ℕ) (bytes : List ℕ) → chunk_of cs c ≡ Some bytes → at + n ≤ length bytes → IsDeleteError e cs c at n → ⊥
 can-delete BadChunk cs c at n bytes there fits none = let e : Some bytes ≡ None = sym there ∙ none in cc
-can-delete Range cs c at n bytes there fits far = let e = known-bytes cs c bytes there in let l : length (bytes_of cs c) ≡ length bytes = ap length e in let past = far.1 in omega (arith, l, past, fits)
+can-delete Range cs c at n bytes there fits far = let e = known-bytes cs c bytes there in let l : length (bytes_of cs c) ≡ length bytes = ap length e in omega (arith, l, far.1, fits)

@@ -32,13 +32,13 @@ module _ (b : List ℕ) (c : ℕ) (found : Found) (f : IsFound b c found) (i n :
   h = holds b c found f
 
   index : i < length f.shape.array.elements
-  index = let count = h.shaped.count in omega (arith, count, known)
+  index = omega (arith, h.shaped.count, known)
 
   size : place.len ≡ length (element f.shape.array i)
-  size = let e = element-ends f.shape.array i index in omega (arith, begins, ends, e)
+  size = omega (arith, begins, ends, element-ends f.shape.array i index)
 
   within : place.begin + place.len ≤ length bytes
-  within = let e = element-bounds bytes f.shape.array (i + 1) h.shaped.reads in omega (arith, ends, e.1)
+  within = omega (arith, ends, (element-bounds bytes f.shape.array (i + 1) h.shaped.reads).1)
 
   -- no test refuses
   pub passes : first_refusal (resize_element c i n (chunks b)).refusals ≡ None
@@ -51,9 +51,9 @@ module _ (b : List ℕ) (c : ℕ) (found : Found) (f : IsFound b c found) (i n :
   -- needs what those bytes need
   pub changed-need : need (with_bytes (chunks b) c (changed (bytes_of (chunks b) c))) ≡ need (resize_element c i n (chunks b)).chunks
   changed-need =
-      let l = length-resized_part bytes place.begin place.len n within in let m = length-refit bytes f.shape.array i n h.shaped.reads (h.shaped.size ∙ none) index in let s = size in
+      let m = length-refit bytes f.shape.array i n h.shaped.reads (h.shaped.size ∙ none) index in
       ap (λ x. need (with_bytes (chunks b) c (changed x))) (known-bytes (chunks b) c bytes h.there)
-      ∙ need-length (chunks b) c bytes (changed bytes) (spelled (with_refit f.shape.array i n)) h.there (omega (arith, l, m, s)) ∙ sym (ap need same)
+      ∙ need-length (chunks b) c bytes (changed bytes) (spelled (with_refit f.shape.array i n)) h.there (omega (arith, length-resized_part bytes place.begin place.len n within, m, size)) ∙ sym (ap need same)
 
   -- those bytes, once they are made
   pub refits : (d : List ℕ) → IsHeap d → chunks d ≡ with_bytes (chunks b) c (changed (bytes_of (chunks b) c))

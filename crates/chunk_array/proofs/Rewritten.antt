@@ -1,5 +1,5 @@
 -- A chunk's bytes that are written over.
-use Rattle.std.proofs.Common.{◌≡◌, ℕ, ◌+◌, ◌<◌, ◌≤◌, List, ◌++◌, Option, Some, None, length, take, drop, get_or, ap, sym, ◌∙◌, subst, arith, length-take, length-drop}
+use Rattle.std.proofs.Common.{◌≡◌, ℕ, ◌+◌, ◌-◌, ◌<◌, ◌≤◌, List, ◌++◌, Option, Some, None, length, take, drop, get_or, ap, sym, ◌∙◌, subst, arith, length-take, length-drop}
 use Rattle.std.proofs.lemmas.List.{get_or-take, get_or-drop, get_or_past}
 use Rattle.std.proofs.lemmas.Bool.{cases_lt}
 use Rattle.std.proofs.Common.{inl, inr}
@@ -12,6 +12,7 @@ use Rattle.geos_model.proofs.Places.{chunk-place}
 use Rattle.geos_model.specs.Heap.{IsHeap}
 use Rattle.geos_model.specs.Writes.{ChangesChunk}
 use Rattle.geos_model.proofs.Parts.{put_over}
+use Rattle.geos_model.proofs.Resizes.{length-part}
 use Rattle.geos_model.proofs.Writes.{writes-stay}
 
 -- a heap with other bytes as the chunk of a handle
@@ -20,25 +21,28 @@ pub record Rewrites (b d : List ℕ) (c : ℕ) (xs : List ℕ) : Type 0 where
   pub handle : handle_word d ≡ handle_word b
   pub chunks : chunks d ≡ with_bytes (chunks b) c xs
 
-length-bytes : (b : List ℕ) (at len : ℕ) → at + len ≤ length b → length (part b at len) ≡ len
-length-bytes b at len h = omega (arith, length-take len (drop at b), length-drop at b)
+-- the bytes of a chunk are those that a range of the block has
+pub range-bytes : (b : List ℕ) (at len : ℕ) (bytes : List ℕ) → Some bytes ≡ Some (part b at len) → bytes ≡ part b at (at + len - at)
+range-bytes b at len bytes is =
+    let same : bytes ≡ part b at len = cc in
+    let long : len ≡ at + len - at = omega arith in
+    same ∙ ap (part b at) long
 
--- the whole place of a chunk is written over
-pub rewritten : (b : List ℕ) (c at len k : ℕ) (xs : List ℕ) → IsHeap b → IsPlaced b c at len → at + len ≤ length b → length xs ≡ len → k ≡ len → Rewrites b (take at b ++ (xs ++ drop k (drop at b))) c xs
-rewritten b c at len k xs heap placed within long is =
-    let w = put_over b at k len xs within is long in
+-- the whole place of a chunk is written over, as a range of the block
+pub rewritten : (b : List ℕ) (c at len : ℕ) (xs : List ℕ) → IsHeap b → IsPlaced b c at len → at + len ≤ length b → length xs ≡ length (part b at (at + len - at)) → Rewrites b (take at b ++ (xs ++ drop (at + len - at) (drop at b))) c xs
+rewritten b c at len xs heap placed within same_length =
     let p : Place = record { at = at; len = len } in
-    let D : ℕ → Type 0 = λ m. ChangesChunk b (with_part b m xs) c p 0 xs in
+    let is : at + len - at ≡ len = omega arith in
     let start : at + 0 ≡ at = omega arith in
-    let d = subst D start (writes-stay b c p 0 xs heap placed (omega arith)) in
-    let whole : with_part (bytes_at b p) 0 xs ≡ xs = with_whole (bytes_at b p) xs (long ∙ sym (length-bytes b at len within)) in
-    let P : List ℕ → Type 0 = λ x. Rewrites b x c xs in
-    subst P (sym w) (record { heap = d.heap; handle = d.handle; chunks = d.chunks ∙ ap (λ x. with_bytes (chunks b) c x) whole })
+    let long : length xs ≡ len = same_length ∙ ap (λ n. length (part b at n)) is ∙ length-part b at len within in
+    let d = subst (λ (m : ℕ). ChangesChunk b (with_part b m xs) c p 0 xs) start (writes-stay b c p 0 xs heap placed (omega arith)) in
+    let whole : with_part (bytes_at b p) 0 xs ≡ xs = with_whole (bytes_at b p) xs (long ∙ sym (length-part b at len within)) in
+    subst (λ (x : List ℕ). Rewrites b x c xs) (sym (put_over b at (at + len - at) len xs within is long)) (record { heap = d.heap; handle = d.handle; chunks = d.chunks ∙ ap (with_bytes (chunks b) c) whole })
 
 -- bytes of a block are bytes
 pub part-small : (b : List ℕ) (at len : ℕ) → ((k : ℕ) → get_or b k 0 < 256) → (k : ℕ) → get_or (part b at len) k 0 < 256
 part-small b at len small k = elim (cases_lt k len) [
-  | inl h ↦ (let e = get_or-take len (drop at b) k 0 h ∙ get_or-drop at b k 0 in let s = small (at + k) in omega (arith, e, s))
+  | inl h ↦ (let e = get_or-take len (drop at b) k 0 h ∙ get_or-drop at b k 0 in omega (arith, e, small (at + k)))
   | inr h ↦ (let e = get_or_past (part b at len) k 0 (omega (arith, length-take len (drop at b))) in omega (arith, e))
 ]
 
@@ -48,4 +52,4 @@ chunk-small b c bytes heap h = placed (place_of b c) (sym (chunk-place b c) ∙ 
   where
     placed : (p : Option Place) → option_map (bytes_at b) p ≡ Some bytes → length bytes ≤ 65520
     placed None e = absurd (cc)
-    placed (Some p) e = let same : part b p.at p.len ≡ bytes = cc in let l = ap length same in let most = heap.0.most in omega (arith, l, most, length-take p.len (drop p.at b), length-drop p.at b)
+    placed (Some p) e = let same : part b p.at p.len ≡ bytes = cc in let l = ap length same in omega (arith, l, heap.0.most, length-take p.len (drop p.at b), length-drop p.at b)

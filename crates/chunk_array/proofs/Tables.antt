@@ -1,11 +1,10 @@
 -- Tables of offsets that are shifted and opened.
 use Rattle.std.proofs.Common.{◌≡◌, ℕ, ◌+◌, ◌-◌, ◌*◌, ◌<◌, ◌≤◌, ◌⊎◌, List, length, drop, get_or, refl, ap, sym, ◌∙◌, inl, inr, arith, length-take, length-drop}
 use Rattle.std.proofs.lemmas.Bool.{cases_eq}
-use Rattle.std.proofs.lemmas.List.{get_or-take, get_or-drop}
 use Rattle.lmem_raw.specs.Bytes.{part, with_part}
 use Rattle.lmem_raw.proofs.Parts.{length-with_part}
 use Rattle.geos_model.specs.Bytes.{with_word, IsShifted}
-use Rattle.geos_model.proofs.Words.{word-same, word-other, word-bytes, word-shifted, word-part_other, byte-other, length-with_word, get_or-with_part_before, get_or-with_part_behind, get_or-with_part_within}
+use Rattle.geos_model.proofs.Words.{word-same, word-other, word-bytes, word-shifted, word-part_other, byte-other, length-with_word, part-moved, get_or-with_part_before, get_or-with_part_behind}
 use Rattle.chunk_array.specs.Tables.{offset, ShiftsOffsets, OpensTable, ClosesTable}
 
 -- nothing is shifted yet
@@ -23,9 +22,8 @@ shifts-before b d from to less more j s h = word-bytes b d (8 + 2 * j) (8 + 2 * 
 -- one offset more
 pub shifts-more : (b d e : List ℕ) (from j less more w : ℕ) → ShiftsOffsets b d from j less more → from ≤ j → 8 + 2 * (j + 1) ≤ length b → e ≡ with_word d (8 + 2 * j) w → w < 65536 → w + less ≡ offset b j + more → ShiftsOffsets b e from (j + 1) less more
 shifts-more b d e from j less more w s order fits made small is =
-    let long = s.long in
     record {
-      long = ap length made ∙ length-with_word d (8 + 2 * j) w ∙ long;
+      long = ap length made ∙ length-with_word d (8 + 2 * j) w ∙ s.long;
       moved = (λ k l h. elim (cases_eq k j) [
         | inl same ↦ (let now : offset e j ≡ w = ap (λ x. offset x j) made ∙ word-same d (8 + 2 * j) w small (omega arith) in
             ap (λ q. offset e q + less) same ∙ ap (λ x. x + less) now ∙ is ∙ ap (λ q. offset b q + more) (sym same))
@@ -38,24 +36,20 @@ shifts-more b d e from j less more w s order fits made small is =
       ]));
     }
 
--- bytes that moved up
-moved-up : (b : List ℕ) (from to n : ℕ) → from + n ≤ length b → to + n ≤ length b → (j k : ℕ) → j ≡ to + k → k < n → get_or (with_part b to (part b from n)) j 0 ≡ get_or b (from + k) 0
-moved-up b from to n fits room j k e h =
-    let long : length (part b from n) ≡ n = omega (arith, length-take n (drop from b), length-drop from b) in
-    get_or-with_part_within b to (part b from n) j k e (omega arith) (omega arith) ∙ get_or-take n (drop from b) k 0 h ∙ get_or-drop from b k 0
-
 -- the offsets before an index stay where bytes from there on move up by 2, and those behind
 -- it move with them
 pub low-stays : (b b1 : List ℕ) (i m j : ℕ) → b1 ≡ with_part b (8 + 2 * i + 2) (part b (8 + 2 * i) m) → j < i → offset b1 j ≡ offset b j
 low-stays b b1 i m j made h = ap (λ x. offset x j) made ∙ word-part_other b (8 + 2 * i + 2) (part b (8 + 2 * i) m) (8 + 2 * j) (inl (omega arith))
 
+up : (b b1 : List ℕ) (i at : ℕ) → 8 + 2 * i ≤ at → at + 2 ≤ length b → b1 ≡ with_part b (8 + 2 * i + 2) (part b (8 + 2 * i) (at - (8 + 2 * i))) → IsShifted b b1 0 2 (8 + 2 * i) at
+up b b1 i at order room made j k e g r = part-moved b b1 (8 + 2 * i) (8 + 2 * i + 2) (at - (8 + 2 * i)) (omega arith) (omega arith) made j k (omega arith) g (omega arith)
+
 pub high-moves : (b b1 b2 b3 : List ℕ) (i at w j : ℕ) → 8 + 2 * (j + 1) ≤ at → at + 2 ≤ length b → b1 ≡ with_part b (8 + 2 * i + 2) (part b (8 + 2 * i) (at - (8 + 2 * i)))
     → ShiftsOffsets b1 b2 0 i 0 2 → b3 ≡ with_word b2 (8 + 2 * i) w → i ≤ j → offset b3 (j + 1) ≡ offset b j
 high-moves b b1 b2 b3 i at w j within room made1 s2 made3 h =
-    let here = 8 + 2 * i in let m = at - here in
-    let up1 : IsShifted b b1 0 2 here at = (λ j k e g r. ap (λ x. get_or x j 0) made1 ∙ moved-up b here (here + 2) m (omega arith) (omega arith) j (k - here) (omega arith) (omega arith) ∙ ap (λ q. get_or b q 0) (let q : here + (k - here) ≡ k = omega arith in q)) in
+    let here = 8 + 2 * i in
     ap (λ x. offset x (j + 1)) made3 ∙ word-other b2 here w (8 + 2 * (j + 1)) (inr (omega arith)) ∙ shifts-ahead b1 b2 0 i 0 2 (j + 1) s2 (omega arith)
-    ∙ word-shifted b b1 0 2 here at (8 + 2 * (j + 1)) (8 + 2 * j) up1 (omega arith) (omega arith) (omega arith)
+    ∙ word-shifted b b1 0 2 here at (8 + 2 * (j + 1)) (8 + 2 * j) (up b b1 i at (omega arith) room made1) (omega arith) (omega arith) (omega arith)
 
 -- the table is opened in four steps
 pub opens : (b b1 b2 b3 b4 : List ℕ) (count i at n : ℕ) → i ≤ count → 8 + 2 * count ≤ at → at + (n + 2) ≤ length b → at + 2 < 65536 →
@@ -64,33 +58,27 @@ opens b b1 b2 b3 b4 count i at n order table room small made1 s2 made3 s4 =
     let here = 8 + 2 * i in let m = at - here in let ws = part b here m in
     let lw : length ws ≡ m = omega (arith, length-take m (drop here b), length-drop here b) in
     let l1 : length b1 ≡ length b = ap length made1 ∙ length-with_part b (here + 2) ws in
-    let l2 = s2.long in let l3 : length b3 ≡ length b2 = ap length made3 ∙ length-with_word b2 here (at + 2) in let l4 = s4.long in
-    let up1 : IsShifted b b1 0 2 here at = (λ j k e g r. ap (λ x. get_or x j 0) made1 ∙ moved-up b here (here + 2) m (omega arith) (omega arith) j (k - here) (omega arith) (omega arith) ∙ ap (λ q. get_or b q 0) (let q : here + (k - here) ≡ k = omega arith in q)) in
+    let l3 : length b3 ≡ length b2 = ap length made3 ∙ length-with_word b2 here (at + 2) in
     let low1 : (k : ℕ) → k < here + 2 → get_or b1 k 0 ≡ get_or b k 0 = (λ k h. ap (λ x. get_or x k 0) made1 ∙ get_or-with_part_before b (here + 2) ws k h) in
     let high1 : (k : ℕ) → at + 2 ≤ k → get_or b1 k 0 ≡ get_or b k 0 = (λ k h. ap (λ x. get_or x k 0) made1 ∙ get_or-with_part_behind b (here + 2) ws k (omega arith)) in
     let other3 : (k : ℕ) → (k < here) ⊎ (here + 2 ≤ k) → get_or b3 k 0 ≡ get_or b2 k 0 = (λ k h. ap (λ x. get_or x k 0) made3 ∙ byte-other b2 here (at + 2) k h) in
     let behind : (k : ℕ) → 8 + 2 * (count + 1) ≤ k → get_or b4 k 0 ≡ get_or b1 k 0 = (λ k h. s4.rest k (inr h) ∙ other3 k (inr (omega arith)) ∙ s2.rest k (inr (omega arith))) in
     record {
-      long = l4 ∙ l3 ∙ l2 ∙ l1;
+      long = s4.long ∙ l3 ∙ s2.long ∙ l1;
       head = (λ k h. s4.rest k (inl (omega arith)) ∙ other3 k (inl (omega arith)) ∙ s2.rest k (inl (omega arith)) ∙ low1 k (omega arith));
       before = (λ j h.
           let e4 = shifts-before b3 b4 (i + 1) (count + 1) 0 (n + 2) j s4 (omega arith) in
           let e3 : offset b3 j ≡ offset b2 j = ap (λ x. offset x j) made3 ∙ word-other b2 here (at + 2) (8 + 2 * j) (inl (omega arith)) in
           let e2 = s2.moved j (omega arith) h in
-          let e1 = low-stays b b1 i m j made1 h in
-          omega (arith, e4, e3, e2, e1));
+          omega (arith, e4, e3, e2, low-stays b b1 i m j made1 h));
       here = shifts-before b3 b4 (i + 1) (count + 1) 0 (n + 2) i s4 (omega arith) ∙ ap (λ x. offset x i) made3 ∙ word-same b2 here (at + 2) small (omega arith);
       behind = (λ j l h.
           let e4 = s4.moved (j + 1) (omega arith) (omega arith) in
           let e1 = high-moves b b1 b2 b3 i at (at + 2) j (omega arith) (omega arith) made1 s2 made3 l in
           omega (arith, e4, e1));
-      middle = (λ j k e g r. behind j (omega arith) ∙ up1 j k e (omega arith) r);
+      middle = (λ j k e g r. behind j (omega arith) ∙ up b b1 i at (omega arith) (omega arith) made1 j k e (omega arith) r);
       rest = (λ j k e g r. let same : j ≡ k = omega arith in behind j (omega arith) ∙ high1 j (omega arith) ∙ ap (λ q. get_or b q 0) same);
     }
-
--- bytes that moved down
-moved-down : (b : List ℕ) (from to n : ℕ) → from + n ≤ length b → to + n ≤ length b → (j k : ℕ) → j ≡ to + k → k < n → get_or (with_part b to (part b from n)) j 0 ≡ get_or b (from + k) 0
-moved-down b from to n fits room j k e h = moved-up b from to n fits room j k e h
 
 -- the offsets before an index stay where bytes behind it move down by 2, and those behind it
 -- move with them
@@ -98,9 +86,7 @@ pub low-kept : (b b1 : List ℕ) (i m j : ℕ) → b1 ≡ with_part b (8 + 2 * i
 low-kept b b1 i m j made h = ap (λ x. offset x j) made ∙ word-part_other b (8 + 2 * i) (part b (8 + 2 * i + 2) m) (8 + 2 * j) (inl (omega arith))
 
 down : (b b1 : List ℕ) (i at : ℕ) → 8 + 2 * i + 2 ≤ at → at ≤ length b → b1 ≡ with_part b (8 + 2 * i) (part b (8 + 2 * i + 2) (at - (8 + 2 * i + 2))) → IsShifted b b1 2 0 (8 + 2 * i + 2) at
-down b b1 i at order room made j k e g r =
-    let here = 8 + 2 * i in let m = at - (here + 2) in
-    ap (λ x. get_or x j 0) made ∙ moved-down b (here + 2) here m (omega arith) (omega arith) j (k - (here + 2)) (omega arith) (omega arith) ∙ ap (λ q. get_or b q 0) (let q : here + 2 + (k - (here + 2)) ≡ k = omega arith in q)
+down b b1 i at order room made j k e g r = part-moved b b1 (8 + 2 * i + 2) (8 + 2 * i) (at - (8 + 2 * i + 2)) (omega arith) (omega arith) made j k (omega arith) g (omega arith)
 
 pub high-lowers : (b b1 b2 : List ℕ) (i at j : ℕ) → 8 + 2 * (j + 2) ≤ at → at ≤ length b → b1 ≡ with_part b (8 + 2 * i) (part b (8 + 2 * i + 2) (at - (8 + 2 * i + 2)))
     → ShiftsOffsets b1 b2 0 i 2 0 → i ≤ j → offset b2 j ≡ offset b (j + 1)
@@ -115,16 +101,15 @@ closes b b1 b2 b3 count i at n last order last_is table room made1 s2 s3 =
     let here = 8 + 2 * i in let m = at - (here + 2) in let ws = part b (here + 2) m in
     let lw : length ws ≡ m = omega (arith, length-take m (drop (here + 2) b), length-drop (here + 2) b) in
     let l1 : length b1 ≡ length b = ap length made1 ∙ length-with_part b here ws in
-    let l2 = s2.long in let l3 = s3.long in
     let low1 : (k : ℕ) → k < here → get_or b1 k 0 ≡ get_or b k 0 = (λ k h. ap (λ x. get_or x k 0) made1 ∙ get_or-with_part_before b here ws k h) in
     let high1 : (k : ℕ) → at - 2 ≤ k → get_or b1 k 0 ≡ get_or b k 0 = (λ k h. ap (λ x. get_or x k 0) made1 ∙ get_or-with_part_behind b here ws k (omega arith)) in
     let behind : (k : ℕ) → 8 + 2 * last ≤ k → get_or b3 k 0 ≡ get_or b1 k 0 = (λ k h. s3.rest k (inr h) ∙ s2.rest k (inr (omega arith))) in
     record {
-      long = l3 ∙ l2 ∙ l1;
+      long = s3.long ∙ s2.long ∙ l1;
       head = (λ k h. s3.rest k (inl (omega arith)) ∙ s2.rest k (inl (omega arith)) ∙ low1 k (omega arith));
       before = (λ j h.
-          let e3 = shifts-before b2 b3 i last (n + 2) 0 j s3 h in let e2 = s2.moved j (omega arith) h in let e1 = low-kept b b1 i m j made1 h in
-          omega (arith, e3, e2, e1));
+          let e3 = shifts-before b2 b3 i last (n + 2) 0 j s3 h in let e2 = s2.moved j (omega arith) h in
+          omega (arith, e3, e2, low-kept b b1 i m j made1 h));
       behind = (λ j l h.
           let e3 = s3.moved j l (omega arith) in let e1 = high-lowers b b1 b2 i at j (omega arith) room made1 s2 l in
           omega (arith, e3, e1));

@@ -23,21 +23,21 @@ join-le xs i =
 pub join-more : (xs : List (List ℕ)) (i : ℕ) → i < length xs → length (join (take (i + 1) xs)) ≡ length (join (take i xs)) + length (get_or xs i [])
 join-more xs i h =
     ap (λ ys. length (join ys)) (take_more xs i [] h) ∙ ap length (join-append (take i xs) (get_or xs i [] ∷ []))
-    ∙ length-append (join (take i xs)) (get_or xs i [] ++ []) ∙ (let e = length-append (get_or xs i []) [] in omega (arith, e))
+    ∙ length-append (join (take i xs)) (get_or xs i [] ++ []) ∙ (omega (arith, length-append (get_or xs i []) []))
 
 first-least : (a : Array) → 8 ≤ first_at a
-first-least a = let e = length-head a in omega (arith, e)
+first-least a = omega (arith, length-head a)
 
 -- elements lie behind the header, and in the bytes
 pub element-bounds : (bytes : List ℕ) (a : Array) (i : ℕ) → Reads bytes a → (8 ≤ element_at a i) × (element_at a i ≤ length bytes)
 element-bounds bytes a i r =
-    let e = element-at a i in let l = join-le a.elements i in let f = first-least a in let s = r.spells in
-    let whole = ap length s.rest in let fits = s.fits in
-    (omega (arith, e, f), omega (arith, e, l, whole, fits, length-drop (first_at a) bytes))
+    let e = element-at a i in let l = join-le a.elements i in let f = first-least a in
+    let whole = ap length r.spells.rest in
+    (omega (arith, e, f), omega (arith, e, l, whole, r.spells.fits, length-drop (first_at a) bytes))
 
 -- an element ends where the next one begins
 pub element-ends : (a : Array) (i : ℕ) → i < length a.elements → element_at a (i + 1) ≡ element_at a i + length (element a i)
-element-ends a i h = let e = join-more a.elements i h in let x = element-at a i in let y = element-at a (i + 1) in omega (arith, e, x, y)
+element-ends a i h = omega (arith, join-more a.elements i h, element-at a i, element-at a (i + 1))
 
 -- the bytes from an element on are those of it and of the ones behind it
 pub drop-elements : (bytes : List ℕ) (a : Array) (i : ℕ) → Reads bytes a → drop (element_at a i) bytes ≡ join (drop i a.elements)
@@ -54,10 +54,9 @@ part-element bytes a i r h =
 -- what an array takes
 pub length-spelled : (a : Array) → length (spelled a) ≡ first_at a + length (join a.elements)
 unfolding spelled
-length-spelled a = let n = length-head a in let w = length-word_bytes (head_words a) in let e = length-append (flat_map word_bytes (head_words a)) (join a.elements) in omega (arith, n, w, e)
+length-spelled a = omega (arith, length-head a, length-word_bytes (head_words a), length-append (flat_map word_bytes (head_words a)) (join a.elements))
 
 -- elements stand in their order
 pub element-order : (a : Array) (i j : ℕ) → i ≤ j → element_at a i ≤ element_at a j
 element-order a i j h =
-    let x = element-at a i in let y = element-at a j in let l = join-le (take j a.elements) i in
-    let same = ap (λ xs. length (join xs)) (take-take i j a.elements h) in omega (arith, x, y, l, same)
+    let same = ap (λ xs. length (join xs)) (take-take i j a.elements h) in omega (arith, element-at a i, element-at a j, join-le (take j a.elements) i, same)

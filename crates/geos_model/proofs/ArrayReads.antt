@@ -44,8 +44,8 @@ fills bytes at [] h = record {
     first j e = ap (λ k. at + length (join (take k (parts_at bytes at [])))) e ∙ omega arith ∙ ap (λ k. get_or (at ∷ []) k 0) (sym e)
 fills bytes at (next ∷ rest) h =
     let both = and_parts (nat_le at next) (never_fall next rest (length bytes)) h in
-    let low = leb-true at next both.0 in let f = fills bytes next rest both.1 in let fits = f.within in
-    let long = length-part bytes at next low fits in
+    let low = leb-true at next both.0 in let f = fills bytes next rest both.1 in
+    let long = length-part bytes at next low f.within in
     let behind : drop (next - at) (drop at bytes) ≡ drop next bytes = drop-drop (next - at) at bytes ∙ ap (λ m. drop m bytes) (let e : at + (next - at) ≡ next = omega arith in e) in
     record {
       within = omega arith;
@@ -114,7 +114,7 @@ varying-elements bytes zero h =
 varying-elements bytes (suc n) h =
     let both = and_parts (word bytes 8 == 8 + 2 * suc n) (never_fall (word bytes 8) (words_from bytes 10 n) (length bytes)) h in
     let first : word bytes 8 ≡ 8 + 2 * suc n = eqb-true (word bytes 8) (8 + 2 * suc n) both.0 in
-    let f = fills bytes (word bytes 8) (words_from bytes 10 n) both.1 in let within = f.within in
+    let f = fills bytes (word bytes 8) (words_from bytes 10 n) both.1 in
     let long = length-words_from bytes 10 n in (
       f.count ∙ ap suc long,
       omega arith,
@@ -125,18 +125,17 @@ varying-elements bytes (suc n) h =
 reads-varying : (bytes : List ℕ) → ((k : ℕ) → get_or bytes k 0 < 256) → word bytes 4 ≡ 0 → word bytes 6 ≡ 8 → size_word bytes ≡ 0 → are_varying bytes ≡ true → Reads bytes (record { element_size = size_word bytes; elements = parts_from bytes (offset_words bytes) })
 reads-varying bytes small third fourth none h =
     let n = count_word bytes in let xs = parts_from bytes (offset_words bytes) in let v = varying-elements bytes n h in
-    let count = v.0 in
     let a : Array = record { element_size = size_word bytes; elements = xs } in
-    let f : first_at a ≡ 8 + 2 * n = first-varying a none ∙ ap (λ m. 8 + 2 * m) count in
+    let f : first_at a ≡ 8 + 2 * n = first-varying a none ∙ ap (λ m. 8 + 2 * m) v.0 in
     let all : length (join (take (length xs) xs)) ≡ length (drop (8 + 2 * n) bytes) = ap (λ ys. length (join ys)) (take_all (length xs) xs (omega arith)) ∙ ap length v.2 in
     record {
       spells = record {
         small = small;
-        count = sym count;
+        count = sym v.0;
         size = refl;
         zero = third;
         eight = fourth;
-        offsets = (λ e j l. sym (element-at a j ∙ ap (λ m. m + length (join (take j xs))) f ∙ v.3 j (omega (arith, count))));
+        offsets = (λ e j l. sym (element-at a j ∙ ap (λ m. m + length (join (take j xs))) f ∙ v.3 j (omega (arith, v.0))));
         fits = omega (arith, f, v.1);
         rest = ap (λ m. drop m bytes) f ∙ sym v.2;
       };
@@ -148,14 +147,14 @@ reads-equal : (bytes : List ℕ) → ((k : ℕ) → get_or bytes k 0 < 256) → 
 reads-equal bytes small least third fourth some h =
     let n = count_word bytes in let k = size_word bytes in let xs = equal_parts k n (drop 8 bytes) in
     let long : length bytes ≡ 8 + n * k = eqb-true (length bytes) (8 + n * k) h in
-    let d = divides k n (drop 8 bytes) (omega (arith, length-drop 8 bytes)) in let count = d.count in
+    let d = divides k n (drop 8 bytes) (omega (arith, length-drop 8 bytes)) in
     let a : Array = record { element_size = k; elements = xs } in
     let f : first_at a ≡ 8 = first-fixed a some in
-    let at : (i : ℕ) → i ≤ length xs → element_at a i ≡ 8 + i * k = (λ i l. element-at a i ∙ (let b = d.begin i (omega (arith, count)) in omega (arith, f, b))) in
+    let at : (i : ℕ) → i ≤ length xs → element_at a i ≡ 8 + i * k = (λ i l. element-at a i ∙ (let b = d.begin i (omega (arith, d.count)) in omega (arith, f, b))) in
     record {
       spells = record {
         small = small;
-        count = sym count;
+        count = sym d.count;
         size = refl;
         zero = third;
         eight = fourth;
@@ -164,7 +163,7 @@ reads-equal bytes small least third fourth some h =
         rest = ap (λ m. drop m bytes) f ∙ sym d.whole;
       };
       equal = (λ ne. at);
-      end = at (length xs) (omega arith) ∙ ap (λ m. 8 + m * k) count ∙ sym long;
+      end = at (length xs) (omega arith) ∙ ap (λ m. 8 + m * k) d.count ∙ sym long;
     }
 
 pub reads : (bytes : List ℕ) (a : Array) → ((k : ℕ) → get_or bytes k 0 < 256) → arr bytes ≡ Some a → Reads bytes a

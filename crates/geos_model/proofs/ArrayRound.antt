@@ -61,7 +61,7 @@ spelled-rest a = drop_at (flat_map word_bytes (head_words a)) (join a.elements) 
 
 spelled-long : (a : Array) → length (spelled a) ≡ first_at a + length (join a.elements)
 unfolding spelled
-spelled-long a = let n = length-head a in let w = length-word_bytes (head_words a) in let e = length-append (flat_map word_bytes (head_words a)) (join a.elements) in omega (arith, n, w, e)
+spelled-long a = omega (arith, length-head a, length-word_bytes (head_words a), length-append (flat_map word_bytes (head_words a)) (join a.elements))
 
 pub array-spelled : (a : Array) → (a.element_size ≢ 0 → All (λ x. length x ≡ a.element_size) a.elements) → arr (spelled a) ≡ Some a
 array-spelled a equal =

@@ -41,7 +41,7 @@ length-offsets at (x ∷ xs) = ap suc (length-offsets (at + length x) xs)
 pub get_or-offsets : (at : ℕ) (xs : List (List ℕ)) (j : ℕ) → j < length xs → get_or (offsets at xs) j 0 ≡ at + length (join (take j xs))
 get_or-offsets at [] j h = absurd (omega arith)
 get_or-offsets at (x ∷ xs) zero h = omega arith
-get_or-offsets at (x ∷ xs) (suc j) h = get_or-offsets (at + length x) xs j (omega arith) ∙ (let e = length-append x (join (take j xs)) in omega (arith, e))
+get_or-offsets at (x ∷ xs) (suc j) h = get_or-offsets (at + length x) xs j (omega arith) ∙ (omega (arith, length-append x (join (take j xs))))
 
 pub length-head : (a : Array) → 2 * length (head_words a) ≡ first_at a
 length-head a = elim (cases_eq a.element_size 0) [
@@ -76,7 +76,7 @@ offset-at a i h = elim (cases_eq a.element_size 0) [
 pub spells : (bytes : List ℕ) (a : Array) → Spells bytes a → bytes ≡ spelled a
 unfolding spelled
 spells bytes a s =
-    let n = length-head a in let fits = s.fits in
+    let n = length-head a in
     let head : take (2 * length (head_words a)) bytes ≡ flat_map word_bytes (head_words a) =
     take-words bytes (head_words a) s.small (omega (arith, n)) (λ j h. elim (head-cases a j h) [
       | Count e ↦ ap (λ k. word bytes (2 * k)) e ∙ s.count ∙ ap (λ k. get_or (head_words a) k 0) (sym e)

@@ -1,7 +1,7 @@
 -- Which refusals of the calls on arrays come.
 use Rattle.std.proofs.Common.{◌≡◌, ◌≢◌, ℕ, ◌<◌, ◌≤◌, Bool, false, List, [], ◌∷◌, ◌++◌, Option, Some, None, length, unwrap_or, ap, sym, ◌∙◌, arith}
 use Rattle.std.specs.Prelude.{is_none, nat_lt, not}
-use Rattle.std.proofs.lemmas.Bool.{eq-eqb, ne_eqb, le-leb, lt-leb, lt-ltb, le-ltb}
+use Rattle.std.proofs.lemmas.Bool.{eq-eqb, ne_eqb, lt-leb, le-ltb}
 use Rattle.geos_model.specs.declared.refusal.Refusal.{Refusal}
 use Rattle.geos_model.specs.declared.refusal.Refusal.TheVariants.{BadChunk, BadArray, BadElement}
 use Rattle.geos_model.specs.Refusals.{first_refusal}
@@ -26,17 +26,11 @@ module _ (cs : List (Option (List ℕ))) (c : ℕ) (bytes : List ℕ) (a : Array
 
   -- an index below the count is that of an element, and no other
   pub element-passes : (i : ℕ) → i < length a.elements → first_refusal (no_element cs c i) ≡ None
-  element-passes i h = array-passes (is_past cs c i ∷ []) ∙ ap (λ t. first_refusal ((t, BadElement) ∷ [])) (lt-leb (count_of cs c) i (let e = count-of in omega (arith, e, h)))
-
-  pub element-refused : (i : ℕ) → length a.elements ≤ i → first_refusal (no_element cs c i) ≡ Some BadElement
-  element-refused i h = array-passes (is_past cs c i ∷ []) ∙ ap (λ t. first_refusal ((t, BadElement) ∷ [])) (le-leb (count_of cs c) i (let e = count-of in omega (arith, e, h)))
+  element-passes i h = array-passes (is_past cs c i ∷ []) ∙ ap (λ t. first_refusal ((t, BadElement) ∷ [])) (lt-leb (count_of cs c) i (omega (arith, count-of, h)))
 
   -- where an element is put in, the count is an index too
   pub insert-passes : (i : ℕ) → i ≤ length a.elements → first_refusal (no_array cs c ++ ((nat_lt (count_of cs c) i, BadElement) ∷ [])) ≡ None
-  insert-passes i h = array-passes ((nat_lt (count_of cs c) i, BadElement) ∷ []) ∙ ap (λ t. first_refusal ((t, BadElement) ∷ [])) (le-ltb (count_of cs c) i (let e = count-of in omega (arith, e, h)))
-
-  pub insert-refused : (i : ℕ) → length a.elements < i → first_refusal (no_array cs c ++ ((nat_lt (count_of cs c) i, BadElement) ∷ [])) ≡ Some BadElement
-  insert-refused i h = array-passes ((nat_lt (count_of cs c) i, BadElement) ∷ []) ∙ ap (λ t. first_refusal ((t, BadElement) ∷ [])) (lt-ltb (count_of cs c) i (let e = count-of in omega (arith, e, h)))
+  insert-passes i h = array-passes ((nat_lt (count_of cs c) i, BadElement) ∷ []) ∙ ap (λ t. first_refusal ((t, BadElement) ∷ [])) (le-ltb (count_of cs c) i (omega (arith, count-of, h)))
 
   -- an element gets another size where sizes vary
   pub fixed-refused : (more : List (Bool × Refusal)) → a.element_size ≢ 0 → first_refusal (no_array cs c ++ (is_fixed cs c ∷ more)) ≡ Some BadArray
@@ -50,7 +44,4 @@ module _ (cs : List (Option (List ℕ))) (c : ℕ) (bytes : List ℕ) (a : Array
       array-passes (is_fixed cs c ∷ more) ∙ ap (λ t. first_refusal ((not t, BadArray) ∷ more)) (eq-eqb (array_of cs c).element_size 0 (same ∙ e))
 
   pub resize-passes : (i : ℕ) → a.element_size ≡ 0 → i < length a.elements → first_refusal (no_array cs c ++ (is_fixed cs c ∷ is_past cs c i ∷ [])) ≡ None
-  resize-passes i e h = varying-passes (is_past cs c i ∷ []) e ∙ ap (λ t. first_refusal ((t, BadElement) ∷ [])) (lt-leb (count_of cs c) i (let n = count-of in omega (arith, n, h)))
-
-  pub resize-refused : (i : ℕ) → a.element_size ≡ 0 → length a.elements ≤ i → first_refusal (no_array cs c ++ (is_fixed cs c ∷ is_past cs c i ∷ [])) ≡ Some BadElement
-  resize-refused i e h = varying-passes (is_past cs c i ∷ []) e ∙ ap (λ t. first_refusal ((t, BadElement) ∷ [])) (le-leb (count_of cs c) i (let n = count-of in omega (arith, n, h)))
+  resize-passes i e h = varying-passes (is_past cs c i ∷ []) e ∙ ap (λ t. first_refusal ((t, BadElement) ∷ [])) (lt-leb (count_of cs c) i (omega (arith, count-of, h)))

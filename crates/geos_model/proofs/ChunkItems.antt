@@ -31,7 +31,7 @@ known-bytes cs c bytes h = ap (λ x. unwrap_or x []) h
 
 -- what is written under a handle is read there
 pub chunk-written : (cs : List (Option (List ℕ))) (c : ℕ) (old bytes : List ℕ) → chunk_of cs c ≡ Some old → chunk_of (with_bytes cs c bytes) c ≡ Some bytes
-chunk-written cs c old bytes h = let k = chunk-known cs c old h in let t = k.test in let within = k.within in rw t (get_or-set_same cs (entry_of c) (Some bytes) None within)
+chunk-written cs c old bytes h = let k = chunk-known cs c old h in rw k.test (get_or-set_same cs (entry_of c) (Some bytes) None k.within)
 
 -- and what is written there again stays alone
 pub written-twice : (cs : List (Option (List ℕ))) (c : ℕ) (x y : List ℕ) → with_bytes (with_bytes cs c x) c y ≡ with_bytes cs c y
@@ -68,6 +68,6 @@ need-new cs n bytes long =
 pub need-least : (cs : List (Option (List ℕ))) (c : ℕ) (old bytes : List ℕ) → chunk_of cs c ≡ Some old → length bytes ≤ need (with_bytes cs c bytes)
 need-least cs c old bytes h =
     let i = entry_of c in let within = (chunk-known cs c old h).within in let now = set cs i (Some bytes) in
-    let u = used-set now i None (let l = length-set cs i (Some bytes) in omega (arith, l, within)) in
+    let u = used-set now i None (omega (arith, length-set cs i (Some bytes), within)) in
     let e : cost_of (get_or now i None) ≡ cost (length bytes) = ap cost_of (get_or-set_same cs i (Some bytes) None within) in
-    let l = cost-over (length bytes) in omega (arith, u, e, l)
+    omega (arith, u, e, cost-over (length bytes))

@@ -8,7 +8,7 @@ cost_is zero h = absurd (omega arith)
 cost_is (suc n) h = refl
 
 pub cost-least : (n : ℕ) → 0 < n → n + 2 ≤ cost n
-cost-least n h = let e = cost_is n h in omega (arith, e)
+cost-least n h = omega (arith, cost_is n h)
 
 pub cost-most : (n : ℕ) → cost n ≤ n + 5
 unfolding cost
@@ -21,7 +21,7 @@ cost-fours zero = refl
 cost-fours (suc n) = omega arith
 
 pub cost-four : (n : ℕ) → 0 < n → 4 ≤ cost n
-cost-four n h = let e = cost_is n h in omega (arith, e)
+cost-four n h = omega (arith, cost_is n h)
 
 pub cost-over : (n : ℕ) → n ≤ cost n
 cost-over zero = omega arith

@@ -23,9 +23,8 @@ pub record WritesEntry (b d : List ℕ) (i : ℕ) (p : Place) (bytes : List ℕ)
 pub writes-entry : (b d : List ℕ) (i : ℕ) (p : Place) (at : ℕ) (ws : List ℕ) → IsHeap b → i < entries b → place_at b (entry b i) ≡ Some p → at + length ws ≤ p.len → d ≡ with_part b (p.at + at) ws → WritesEntry b d i p (with_part (bytes_at b p) at ws)
 writes-entry b d i p at ws heap h is room made =
     let c = handle_of i in let bytes = with_part (bytes_at b p) at ws in
-    let D : List ℕ → Type 0 = λ x. ChangesChunk b x c p at ws in
     let placed : place_of b c ≡ Some p = place-in b c i refl h ∙ is in
-    let k : ChangesChunk b d c p at ws = subst D (sym made) (writes-stay b c p at ws heap placed room) in
+    let k : ChangesChunk b d c p at ws = subst (λ (x : List ℕ). ChangesChunk b x c p at ws) (sym made) (writes-stay b c p at ws heap placed room) in
     let index : entry_of c ≡ i = omega arith in
     let spelled : chunks d ≡ set (chunks b) i (Some bytes) = k.chunks ∙ ap (λ x. set (chunks b) x (Some bytes)) index in
     let nb = count-chunks b in

@@ -1,5 +1,5 @@
 -- What an entry of the table says.
-use Rattle.std.proofs.Common.{◌≡◌, ◌≢◌, ℕ, ◌+◌, ◌-◌, ◌*◌, ◌/◌, ◌%◌, ◌<◌, ◌≤◌, Bool, true, false, if◌then◌else◌, ◌&&◌, nat_le, nat_lt, ◌==◌, List, [], Option, Some, None, length, get_or, refl, ap, sym, subst, ◌∙◌, arith}
+use Rattle.std.proofs.Common.{◌≡◌, ◌≢◌, ℕ, ◌+◌, ◌-◌, ◌*◌, ◌/◌, ◌%◌, ◌<◌, ◌≤◌, Bool, true, false, if◌then◌else◌, ◌&&◌, nat_le, nat_lt, ◌==◌, List, [], Option, Some, None, length, get_or, refl, ap, sym, ◌∙◌, arith}
 use Rattle.std.proofs.lemmas.List.{get_or_past}
 use Rattle.std.proofs.lemmas.List.FromFn.{get_or-map-range_with_len, length-map-range_with_len}
 use Rattle.std.proofs.lemmas.Bool.Decides.{nat_tests}
@@ -55,18 +55,6 @@ chunk-none b e h = rw h refl
 
 pub chunk-nothing : (b : List ℕ) (e : ℕ) → e ≡ 65535 → chunk_at b e ≡ Some []
 chunk-nothing b e h = rw h refl
-
--- what a call finds at the entry of a handle that tells of a chunk
-pub told_at : (b : List ℕ) (c e : ℕ) → IsHeap b → 16 ≤ c → c % 2 ≡ 0 → (c - 16) / 2 < entries b → e ≡ word b c → IsOffset e →
-    (18 ≤ e) × (4 ≤ word b (e - 2) + 1) × (e + (word b (e - 2) - 2) ≤ length b) × (chunk_of (chunks b) c ≡ Some (part b e (word b (e - 2) - 2)))
-told_at b c e heap low even h is t =
-    let place : 16 + 2 * ((c - 16) / 2) ≡ c = omega arith in
-    let k : entry b ((c - 16) / 2) ≡ e = ap (word b) place ∙ sym is in
-    let P : ℕ → Type 0 = λ x. LiesWithin b x (table_end b) (length b) in
-    let T : ℕ → Type 0 = λ x. IsOffset x in
-    let l : LiesWithin b e (table_end b) (length b) = subst P k (told b ((c - 16) / 2) heap h (subst T (sym k) t)) in
-    let wide = cost-least l.n l.some in
-    (omega (arith, l.from), omega (arith, l.says, l.some), omega (arith, l.says, l.upto, wide), chunk-in b c e low even h is ∙ chunk-told b e t)
 
 -- the place of an entry that is an offset
 pub place-told : (b : List ℕ) (e : ℕ) → IsOffset e → place_at b e ≡ Some (record { at = e; len = word b (e - 2) - 2 })

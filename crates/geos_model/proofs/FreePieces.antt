@@ -36,8 +36,8 @@ used-both (Free m ∷ ps) qs u v = absurd u
 -- pieces that begin at their end are none
 pub nothing-left : (b : List ℕ) (at f : ℕ) (ps : List Piece) (end next : ℕ) → end ≤ at → Tiles b at f ps end next → ps ≡ []
 nothing-left b at f [] end next h st = refl
-nothing-left b at f (Used i n ∷ ps) end next h st = let le = tiles-le b (at + cost n) f ps end next st.4 in let wide = cost-four n st.0 in absurd (omega (arith, le, wide))
-nothing-left b at f (Free m ∷ ps) end next h st = let le = tiles-le b (at + m) (word b (at + 2)) ps end next st.5 in absurd (omega (arith, le, st.0))
+nothing-left b at f (Used i n ∷ ps) end next h st = absurd (omega (arith, tiles-le b (at + cost n) f ps end next st.4, cost-four n st.0))
+nothing-left b at f (Free m ∷ ps) end next h st = absurd (omega (arith, tiles-le b (at + m) (word b (at + 2)) ps end next st.5, st.0))
 
 -- the first free piece, the chunks before it and what is behind
 pub record FirstFree (b : List ℕ) (at f : ℕ) (ps : List Piece) (end : ℕ) : Type 0 where
@@ -55,14 +55,13 @@ first-piece b at f (Used i n ∷ ps) end st ne =
     let r = first-piece b (at + cost n) f ps end st.4 ne in
     record { pre = Used i n ∷ r.pre; s = r.s; rest = r.rest; is = ap (λ xs. Used i n ∷ xs) r.is; used = r.used; before = (st.0, st.1, st.2, st.3, r.before); here = r.here }
 first-piece b at f (Free m ∷ ps) end st ne =
-    let P : ℕ → Type 0 = λ x. Tiles b x f (Free m ∷ ps) end 0 in
-    record { pre = []; s = m; rest = ps; is = refl; used = tt; before = (sym st.2, refl); here = subst P (sym st.2) st }
+    record { pre = []; s = m; rest = ps; is = refl; used = tt; before = (sym st.2, refl); here = subst (λ (x : ℕ). Tiles b x f (Free m ∷ ps) end 0) (sym st.2) st }
 
 -- and it is within
 pub first-within : (b : List ℕ) (at f : ℕ) (ps : List Piece) (end : ℕ) → Tiles b at f ps end 0 → f ≤ end
 first-within b at f [] end st = omega (arith, st.1)
 first-within b at f (Used i n ∷ ps) end st = first-within b (at + cost n) f ps end st.4
-first-within b at f (Free m ∷ ps) end st = let e = tiles-le b (at + m) (word b (at + 2)) ps end 0 st.5 in omega (arith, e, st.2)
+first-within b at f (Free m ∷ ps) end st = omega (arith, tiles-le b (at + m) (word b (at + 2)) ps end 0 st.5, st.2)
 
 -- with no free piece all are chunks
 pub none-free : (b : List ℕ) (at : ℕ) (ps : List Piece) (end : ℕ) → 0 < at → Tiles b at 0 ps end 0 → AreUsed ps
@@ -73,8 +72,7 @@ none-free b at (Free m ∷ ps) end low st = absurd (omega (arith, st.2))
 -- the first free chunk lies in the block
 pub first-room : (b : List ℕ) (f : ℕ) → IsHeap b → f ≡ first_free b → f ≢ 0 → (table_end b ≤ f) × (4 ≤ word b f) × (f + word b f ≤ length b)
 first-room b f heap is ne =
-    let W : ℕ → Type 0 = λ x. Tiles b (table_end b) x heap.1.0 (length b) 0 in
-    let r = first-piece b (table_end b) f heap.1.0 (length b) (subst W (sym is) heap.1.1.tiles) ne in
+    let r = first-piece b (table_end b) f heap.1.0 (length b) (subst (λ (x : ℕ). Tiles b (table_end b) x heap.1.0 (length b) 0) (sym is) heap.1.1.tiles) ne in
     let low = tiles-le b (table_end b) f r.pre f f r.before in
     let high = tiles-le b (f + r.s) (word b (f + 2)) r.rest (length b) 0 r.here.5 in
     let some : 4 ≤ r.s = omega (arith, r.here.0, r.here.1) in

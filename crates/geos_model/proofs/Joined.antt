@@ -27,7 +27,7 @@ drop-join xs i n e = ap (drop n) (join-split xs i) ∙ drop_at (join (take i xs)
 
 pub length-word_bytes : (ws : List ℕ) → length (flat_map word_bytes ws) ≡ 2 * length ws
 length-word_bytes [] = refl
-length-word_bytes (w ∷ ws) = let e = length-word_bytes ws in omega (arith, e)
+length-word_bytes (w ∷ ws) = omega (arith, length-word_bytes ws)
 
 pub word-behind : (x y : ℕ) (bs : List ℕ) (j k : ℕ) → j ≡ 2 + k → word (x ∷ y ∷ bs) j ≡ word bs k
 unfolding word
@@ -44,7 +44,7 @@ word-first x y bs = refl
 -- the words of words are they themselves
 pub word-word_bytes : (ws zs : List ℕ) (j : ℕ) → j < length ws → word (flat_map word_bytes ws ++ zs) (2 * j) ≡ get_or ws j 0
 word-word_bytes [] zs j h = absurd (omega arith)
-word-word_bytes (w ∷ ws) zs zero h = let e = word-first (w % 256) (w / 256) (flat_map word_bytes ws ++ zs) in omega (arith, e)
+word-word_bytes (w ∷ ws) zs zero h = omega (arith, word-first (w % 256) (w / 256) (flat_map word_bytes ws ++ zs))
 word-word_bytes (w ∷ ws) zs (suc j) h = word-behind (w % 256) (w / 256) (flat_map word_bytes ws ++ zs) (2 * suc j) (2 * j) (omega arith) ∙ word-word_bytes ws zs j (omega arith)
 
 -- bytes whose words are these

@@ -43,7 +43,7 @@ lowest-none (Some x ∷ cs) h = lowest-none cs (omega arith)
 pub lowest-within : (cs : List (Option (List ℕ))) → lowest_entry cs ≤ length cs
 lowest-within [] = omega arith
 lowest-within (None ∷ cs) = omega arith
-lowest-within (Some x ∷ cs) = let e = lowest-within cs in omega (arith, e)
+lowest-within (Some x ∷ cs) = omega (arith, lowest-within cs)
 
 if-full : (m n : ℕ) (x y : List (Option (List ℕ))) → m ≡ n → (if m == n then x else y) ≡ x
 if-full m n x y e = grind (arith, nat_tests)
@@ -60,11 +60,9 @@ entry-room cs e = if-room (lowest_entry cs) (length cs) _ _ e
 -- a chunk where none was
 used-new : (cs : List (Option (List ℕ))) (i n : ℕ) → i < length cs → get_or cs i None ≡ None → used_bytes (set cs i (Some (replicate n 0))) ≡ used_bytes cs + cost n
 used-new cs i n h none =
-    let s = sum_by-set cost_of cs i (Some (replicate n 0)) None h in
     let z : cost_of (get_or cs i None) ≡ 0 = ap cost_of none in
     let l : cost (length (replicate {A = ℕ} n 0)) ≡ cost n = ap cost (length-replicate {A = ℕ} n 0) in
-    let m = length-set cs i (Some (replicate n 0)) in
-    omega (arith, s, z, l, m)
+    omega (arith, sum_by-set cost_of cs i (Some (replicate n 0)) None h, z, l, length-set cs i (Some (replicate n 0)))
 
 pub used-full : (cs : List (Option (List ℕ))) (n : ℕ) → lowest_entry cs ≡ length cs → (used_bytes (with_entry cs) ≡ used_bytes cs + 4) × (used_bytes (with_new cs n) ≡ used_bytes cs + 4 + cost n)
 used-full cs n e =
@@ -84,7 +82,7 @@ used-room cs n ne =
     ap (λ x. used_bytes (set x (lowest_entry cs) (Some (replicate n 0)))) w ∙ used-new cs (lowest_entry cs) n h (lowest-none cs h)
 
 pub block-used : (b : List ℕ) → IsHeap b → used_bytes (chunks b) + total_free b ≡ length b
-block-used b heap = let a = all-bytes b heap in let n = count-chunks b in omega (arith, a, n)
+block-used b heap = omega (arith, all-bytes b heap, count-chunks b)
 
 pub used-with_new : (cs : List (Option (List ℕ))) (n : ℕ) → (used_bytes (with_new cs n) ≡ used_bytes (with_entry cs) + cost n) × (used_bytes (with_new cs n) ≤ used_bytes cs + 4 + cost n)
 used-with_new cs n = elim (cases_eq (lowest_entry cs) (length cs)) [
@@ -94,12 +92,12 @@ used-with_new cs n = elim (cases_eq (lowest_entry cs) (length cs)) [
 
 -- a chunk for another, or none
 pub used-set : (cs : List (Option (List ℕ))) (i : ℕ) (x : Option (List ℕ)) → i < length cs → used_bytes (set cs i x) + cost_of (get_or cs i None) ≡ used_bytes cs + cost_of x
-used-set cs i x h = let s = sum_by-set cost_of cs i x None h in let m = length-set cs i x in omega (arith, s, m)
+used-set cs i x h = omega (arith, sum_by-set cost_of cs i x None h, length-set cs i x)
 
 -- the free bytes of a block whose chunks differ in one entry
 pub total-set : (b d : List ℕ) (i : ℕ) (x : Option (List ℕ)) → IsHeap b → IsHeap d → length d ≡ length b → i < entries b → chunks d ≡ set (chunks b) i x → total_free d + cost_of x ≡ total_free b + cost_of (get_or (chunks b) i None)
 total-set b d i x heap heap' long h is =
-    let u = block-used b heap in let v = block-used d heap' in let s = used-set (chunks b) i x (let n = count-chunks b in omega (arith, n)) in let e = ap used_bytes is in omega (arith, u, v, s, e, long)
+    let u = block-used b heap in let v = block-used d heap' in let s = used-set (chunks b) i x (omega (arith, count-chunks b)) in let e = ap used_bytes is in omega (arith, u, v, s, e, long)
 
 -- an entry that is written twice
 pub set-twice : {A : Type 0} (xs : List A) (i : ℕ) (x y : A) → set (set xs i x) i y ≡ set xs i y
@@ -111,7 +109,7 @@ set-twice (z ∷ xs) (suc i) x y = ap (λ zs. z ∷ zs) (set-twice xs i x y)
 pub lowest-free : (b : List ℕ) → lowest_entry (chunks b) < entries b → entry b (lowest_entry (chunks b)) ≡ 0
 lowest-free b h = elim (cases_eq (entry b (lowest_entry (chunks b))) 0) [
   | inl e ↦ e
-  | inr ne ↦ absurd (let n = count-chunks b in chunk-some b (entry b (lowest_entry (chunks b))) ne (sym (chunks-at b (lowest_entry (chunks b)) h) ∙ lowest-none (chunks b) (omega (arith, n))))
+  | inr ne ↦ absurd (chunk-some b (entry b (lowest_entry (chunks b))) ne (sym (chunks-at b (lowest_entry (chunks b)) h) ∙ lowest-none (chunks b) (omega (arith, count-chunks b))))
 ]
 
 -- blocks with the same chunks have the same entries in use
@@ -140,11 +138,11 @@ pub in-use-same : (b d : List ℕ) (i : ℕ) → chunks d ≡ chunks b → i < e
 in-use-same b d i e h ne = in-use d i (entry_bytes (chunks b) i) (ap (λ xs. get_or xs i None) e ∙ in-use-bytes b i h ne)
 
 pub in-use-set : (b d : List ℕ) (i : ℕ) (bytes : List ℕ) → chunks d ≡ set (chunks b) i (Some bytes) → i < entries b → (i < entries d) × (entry d i ≢ 0)
-in-use-set b d i bytes e h = let n = count-chunks b in in-use d i bytes (ap (λ xs. get_or xs i None) e ∙ get_or-set_same (chunks b) i (Some bytes) None (omega (arith, n)))
+in-use-set b d i bytes e h = in-use d i bytes (ap (λ xs. get_or xs i None) e ∙ get_or-set_same (chunks b) i (Some bytes) None (omega (arith, count-chunks b)))
 
 -- what the table and chunks take where one chunk has another length
 pub used-length : (cs : List (Option (List ℕ))) (i : ℕ) (x y : List ℕ) → i < length cs → length x ≡ length y → used_bytes (set cs i (Some x)) ≡ used_bytes (set cs i (Some y))
-used-length cs i x y h e = let s = used-set cs i (Some x) h in let t = used-set cs i (Some y) h in let c = ap cost e in omega (arith, s, t, c)
+used-length cs i x y h e = let c = ap cost e in omega (arith, used-set cs i (Some x) h, used-set cs i (Some y) h, c)
 
 -- the chunk of a handle is that of its entry
 pub chunk-item : (b : List ℕ) (c i : ℕ) → c ≡ handle_of i → i < entries b → chunk_of (chunks b) c ≡ get_or (chunks b) i None

@@ -28,14 +28,13 @@ tiles-kept b c at f (Free m ∷ ps) end next s kept n same =
     let le = tiles-le b (at + m) (word b (at + 2)) ps end next s.5 in
     let four : 4 ≤ m = omega (arith, s.0, s.1) in
     let w = word-shifted b c 0 0 at end at at kept (omega arith) (omega arith) (omega arith) in
-    let v = word-shifted b c 0 0 at end (at + 2) (at + 2) kept (omega arith) (omega arith) (omega arith) in
-    let F : ℕ → Type 0 = λ g. Tiles c (at + m) g ps end next in (
+    let v = word-shifted b c 0 0 at end (at + 2) (at + 2) kept (omega arith) (omega arith) (omega arith) in (
       s.0,
       s.1,
       s.2,
       w ∙ s.3,
       (λ e. s.4 (sym v ∙ e)),
-      subst F (sym v) (tiles-kept b c (at + m) (word b (at + 2)) ps end next s.5 (shifted-within b c 0 0 at end (at + m) end kept (omega arith) (omega arith)) n (λ j l low high. same j l (omega arith) high)),
+      subst (λ (g : ℕ). Tiles c (at + m) g ps end next) (sym v) (tiles-kept b c (at + m) (word b (at + 2)) ps end next s.5 (shifted-within b c 0 0 at end (at + m) end kept (omega arith) (omega arith)) n (λ j l low high. same j l (omega arith) high)),
     )
 
 -- chunks whose bytes are shifted, and their entries with them
@@ -58,8 +57,12 @@ tiles-shifted b c down up at f (Used i m ∷ ps) end next at' f' end' used s e g
 pub chunk-shifted : (b c : List ℕ) (down up lo hi hi' e d : ℕ) → LiesWithin b e lo hi → IsShifted b c down up lo hi → d + down ≡ e + up → hi' + down ≡ hi + up → 2 ≤ d → hi ≤ length b → hi' ≤ length c → IsOffset e → IsOffset d → chunk_at c d ≡ chunk_at b e
 chunk-shifted b c down up lo hi hi' e d l shifted is end low fits_b fits_c told_e told_d =
     let wide = cost-least l.n l.some in
-    let from = l.from in let upto = l.upto in let says = l.says in
     let w : word c (d - 2) ≡ word b (e - 2) = word-shifted b c down up lo hi (d - 2) (e - 2) shifted (omega arith) (omega arith) (omega arith) in
-    let n : word b (e - 2) - 2 ≡ l.n = omega (arith, says) in
+    let n : word b (e - 2) - 2 ≡ l.n = omega (arith, l.says) in
     let p : part c d l.n ≡ part b e l.n = part-shifted b c down up lo hi d e l.n shifted is (omega arith) (omega arith) (omega arith) (omega arith) in
     chunk-told c d told_d ∙ ap (λ m. Some (part c d (m - 2))) w ∙ ap (λ m. Some (part c d m)) n ∙ ap (λ x. Some x) p ∙ ap (λ m. Some (part b e m)) (sym n) ∙ sym (chunk-told b e told_e)
+
+-- a chunk whose entry and bytes stay
+pub chunk-stays : (b c : List ℕ) (lo hi e d : ℕ) → LiesWithin b e lo hi → IsShifted b c 0 0 lo hi → d ≡ e → hi ≤ length b → hi ≤ length c → IsOffset e → chunk_at c d ≡ chunk_at b e
+chunk-stays b c lo hi e d l kept same fits_b fits_c t =
+    chunk-shifted b c 0 0 lo hi hi e d l kept (omega (arith, same)) (omega arith) (omega (arith, same, l.from)) fits_b fits_c t ((λ z. t.0 (sym same ∙ z)), (λ z. t.1 (sym same ∙ z)))

@@ -8,8 +8,8 @@ use Rattle.geos_model.specs.Heap.{Piece, Used, Free, Tiles, HasChunk, free_bytes
 -- the end is not before the start
 pub tiles-le : (b : List ℕ) (at f : ℕ) (ps : List Piece) (end next : ℕ) → Tiles b at f ps end next → at ≤ end
 tiles-le b at f [] end next s = omega arith
-tiles-le b at f (Used i n ∷ ps) end next s = let rest = tiles-le b (at + cost n) f ps end next s.4 in omega (arith, rest)
-tiles-le b at f (Free m ∷ ps) end next s = let rest = tiles-le b (at + m) (word b (at + 2)) ps end next s.5 in omega (arith, rest)
+tiles-le b at f (Used i n ∷ ps) end next s = omega (arith, tiles-le b (at + cost n) f ps end next s.4)
+tiles-le b at f (Free m ∷ ps) end next s = omega (arith, tiles-le b (at + m) (word b (at + 2)) ps end next s.5)
 
 -- a chunk whose first byte is at e lies between two places
 pub record LiesWithin (b : List ℕ) (e at end : ℕ) : Type 0 where
@@ -25,8 +25,7 @@ lies b at f (Used j n ∷ ps) end next i s (inl e) =
     let le = tiles-le b (at + cost n) f ps end next s.4 in
     let is : at + 2 ≡ entry b i = sym (ap (λ k. entry b k) e ∙ s.2) in
     let back : at + 2 - 2 ≡ at = omega arith in
-    let P : ℕ → Type 0 = λ x. LiesWithin b x at end in
-    subst P is (record { n = n; some = s.0; from = omega arith; says = ap (word b) back ∙ s.3; upto = omega (arith, le) })
+    subst (λ (x : ℕ). LiesWithin b x at end) is (record { n = n; some = s.0; from = omega arith; says = ap (word b) back ∙ s.3; upto = omega (arith, le) })
 lies b at f (Used j n ∷ ps) end next i s (inr h) =
     let l = lies b (at + cost n) f ps end next i s.4 h in
     record { n = l.n; some = l.some; from = omega (arith, l.from); says = l.says; upto = l.upto }
@@ -69,4 +68,4 @@ has-right i (Free m ∷ ps) qs h = has-right i ps qs h
 pub free_bytes-append : (ps qs : List Piece) → free_bytes (ps ++ qs) ≡ free_bytes ps + free_bytes qs
 free_bytes-append [] qs = omega arith
 free_bytes-append (Used i n ∷ ps) qs = free_bytes-append ps qs
-free_bytes-append (Free m ∷ ps) qs = let e = free_bytes-append ps qs in omega (arith, e)
+free_bytes-append (Free m ∷ ps) qs = omega (arith, free_bytes-append ps qs)

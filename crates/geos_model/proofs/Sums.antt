@@ -1,5 +1,5 @@
 -- The chunks and the free bytes make up the block.
-use Rattle.std.proofs.Common.{◌≡◌, ◌≢◌, ℕ, zero, suc, ◌+◌, ◌-◌, ◌<◌, ◌≤◌, ◌⊎◌, ◌==◌, if◌then◌else◌, List, [], ◌∷◌, length, map, sum_by, drop, refl, ap, sym, ◌∙◌, subst, inl, inr, arith, length-take, length-drop}
+use Rattle.std.proofs.Common.{◌≡◌, ◌≢◌, ℕ, zero, suc, ◌+◌, ◌-◌, ◌<◌, ◌≤◌, ◌⊎◌, ◌==◌, if◌then◌else◌, List, [], ◌∷◌, length, map, sum_by, drop, refl, ap, sym, ◌∙◌, inl, inr, arith, length-take, length-drop}
 use Rattle.std.specs.List.{range_with_len}
 use Rattle.std.proofs.lemmas.Bool.{cases_eq}
 use Rattle.std.proofs.lemmas.Bool.Decides.{nat_tests}
@@ -57,9 +57,6 @@ Gives g n [] = Unit {0}
 Gives g n (Used i m ∷ ps) = (i < n) × (g i ≡ cost m) × (HasChunk i ps → ⊥) × Gives g n ps
 Gives g n (Free s ∷ ps) = Gives g n ps
 
-has-here : (i j : ℕ) (ps : List Piece) → HasChunk i ps → (HasChunk j ps → ⊥) → i ≢ j
-has-here i j ps h n e = let P : ℕ → Type 0 = λ x. HasChunk x ps in n (subst P e h)
-
 gives-without : (g : ℕ → ℕ) (n j : ℕ) (ps : List Piece) → Gives g n ps → (HasChunk j ps → ⊥) → Gives (without j g) n ps
 gives-without g n j [] h out = tt
 gives-without g n j (Used i m ∷ ps) h out = (h.0, without-other j i g (λ e. out (inl (sym e))) ∙ h.1, h.2, gives-without g n j ps h.3 (λ x. out (inr x)))
@@ -81,13 +78,12 @@ picked g n (Used i m ∷ ps) h cover =
         | inr x ↦ elim x [ inl e ↦ absurd (ne e) | inr y ↦ inr y ]
       ]
     ]) in
-    let a = tot-without g n i h.0 in
-    omega (arith, a, rest, h.1)
+    omega (arith, tot-without g n i h.0, rest, h.1)
 
 span : (b : List ℕ) (at f : ℕ) (ps : List Piece) (end next : ℕ) → Tiles b at f ps end next → at + (used_in ps + free_bytes ps) ≡ end
 span b at f [] end next s = omega (arith, s.0)
-span b at f (Used i n ∷ ps) end next s = let a = span b (at + cost n) f ps end next s.4 in omega (arith, a)
-span b at f (Free m ∷ ps) end next s = let a = span b (at + m) (word b (at + 2)) ps end next s.5 in omega (arith, a)
+span b at f (Used i n ∷ ps) end next s = omega (arith, span b (at + cost n) f ps end next s.4)
+span b at f (Free m ∷ ps) end next s = omega (arith, span b (at + m) (word b (at + 2)) ps end next s.5)
 
 abbrev cost_at : List ℕ → ℕ → ℕ
 cost_at b i = cost_of (chunk_at b (entry b i))
@@ -107,7 +103,7 @@ gives-stands b at f (Used i n ∷ ps) end next s l most =
     let wide = cost-least n s.0 in let le = tiles-le b (at + cost n) f ps end next s.4 in (
       s.1,
       cost-told b i at n s.2 s.3 (omega arith) most s.0,
-      (λ h. let r = lies b (at + cost n) f ps end next i s.4 h in absurd (omega (arith, r.from, s.2, wide, s.0))),
+      (λ h. absurd (omega (arith, (lies b (at + cost n) f ps end next i s.4 h).from, s.2, wide, s.0))),
       gives-stands b (at + cost n) f ps end next s.4 l most,
     )
 
@@ -118,19 +114,16 @@ cost-zero = refl
 -- what chunks, table and free chunks take is the block
 pub all-bytes : (b : List ℕ) → IsHeap b → sum_by cost_of (chunks b) + (table_end b + word b 14) ≡ length b
 all-bytes b heap =
-    let ps = heap.1.0 in let fill = heap.1.1 in let most = heap.0.most in
-    let gives = gives-stands b (table_end b) (word b 12) ps (length b) 0 fill.tiles (omega arith) most in
-    let sums = picked (cost_at b) (entries b) ps gives (λ j l. elim (cases_eq (entry b j) 0) [
+    let gives = gives-stands b (table_end b) (word b 12) heap.1.0 (length b) 0 heap.1.1.tiles (omega arith) heap.0.most in
+    let sums = picked (cost_at b) (entries b) heap.1.0 gives (λ j l. elim (cases_eq (entry b j) 0) [
       | inl e ↦ inl (ap cost_of (chunk-none b (entry b j) e))
       | inr ne ↦ elim (cases_eq (entry b j) 65535) [
         | inl e ↦ inl (ap cost_of (chunk-nothing b (entry b j) e) ∙ cost-zero)
-        | inr nf ↦ inr (fill.all j l (ne, nf))
+        | inr nf ↦ inr (heap.1.1.all j l (ne, nf))
       ]
     ]) in
     let is = sum-tot cost_of (λ i. chunk_at b (entry b i)) (entries b) in
-    let whole = span b (table_end b) (word b 12) ps (length b) 0 fill.tiles in
-    let total = fill.total in
-    omega (arith, is, sums, whole, total)
+    omega (arith, is, sums, span b (table_end b) (word b 12) heap.1.0 (length b) 0 heap.1.1.tiles, heap.1.1.total)
 
 pub count-chunks : (b : List ℕ) → length (chunks b) ≡ entries b
 count-chunks b = length-map-range_with_len (λ i. chunk_at b (entry b i)) 0 (entries b)

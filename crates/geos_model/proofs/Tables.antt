@@ -1,11 +1,14 @@
 -- The chunks of two blocks, entry by entry.
-use Rattle.std.proofs.Common.{◌≡◌, ◌≢◌, ℕ, zero, suc, ◌+◌, ◌<◌, ◌≤◌, List, ◌∷◌, Option, None, map, get_or, set, refl, ap, sym, ◌∙◌, inl, inr, arith, get_or-set_same, get_or-set_other, length-set}
+use Rattle.std.proofs.Common.{◌≡◌, ◌≢◌, ℕ, zero, suc, ◌+◌, ◌<◌, ◌≤◌, List, ◌∷◌, length, Option, None, map, get_or, set, refl, ap, sym, ◌∙◌, inl, inr, arith, get_or-set_same, get_or-set_other, length-set}
 use Rattle.std.proofs.lemmas.Bool.{cases_eq}
 use Rattle.std.proofs.lemmas.List.{same_lists, get_or_default}
 use Rattle.std.specs.List.{range_with_len}
+use Rattle.geos_model.specs.Bytes.{IsShifted}
 use Rattle.geos_model.specs.Block.{entry, entries, chunk_at, chunks}
 use Rattle.geos_model.specs.Heap.{IsOffset}
 use Rattle.geos_model.proofs.Entries.{chunks-at, chunk-none, chunk-nothing}
+use Rattle.geos_model.proofs.Moves.{chunk-stays}
+use Rattle.geos_model.proofs.Pieces.{LiesWithin}
 use Rattle.geos_model.proofs.Sums.{count-chunks}
 
 -- equal item by item
@@ -40,3 +43,7 @@ chunk-cases b c e d none nothing told = elim (cases_eq e 0) [
     | inr nf ↦ told (nz, nf)
   ]
 ]
+
+-- that of an entry which stays, with the bytes where its chunk lies if it has any
+pub chunk-kept : (b c : List ℕ) (j lo hi : ℕ) → hi ≤ length b → hi ≤ length c → entry c j ≡ entry b j → (IsOffset (entry b j) → LiesWithin b (entry b j) lo hi) → IsShifted b c 0 0 lo hi → chunk_at c (entry c j) ≡ chunk_at b (entry b j)
+chunk-kept b c j lo hi fits_b fits_c same lies kept = chunk-cases b c (entry b j) (entry c j) (λ z. same ∙ z) (λ z. same ∙ z) (λ t. chunk-stays b c lo hi (entry b j) (entry c j) (lies t) kept same fits_b fits_c t)

@@ -1,5 +1,5 @@
 -- Words and parts after a write, by place.
-use Rattle.std.proofs.Common.{◌≡◌, ℕ, zero, suc, ◌+◌, ◌*◌, ◌/◌, ◌%◌, ◌<◌, ◌≤◌, ◌⊎◌, List, [], ◌∷◌, length, drop, get_or, set, refl, ap, sym, ◌∙◌, inl, inr, arith, length-take, length-drop, add-one}
+use Rattle.std.proofs.Common.{◌≡◌, ℕ, zero, suc, ◌+◌, ◌-◌, ◌*◌, ◌/◌, ◌%◌, ◌<◌, ◌≤◌, ◌⊎◌, List, [], ◌∷◌, length, drop, get_or, set, refl, ap, sym, ◌∙◌, inl, inr, arith, length-take, length-drop, add-one}
 use Rattle.std.proofs.lemmas.List.{same_lists, get_or-take, get_or-drop, get_or_default}
 use Rattle.geos_model.specs.Bytes.{word, word_bytes, with_word, with_words, AreWords, IsShifted}
 use Rattle.lmem_raw.proofs.Parts.{length-with_part}
@@ -123,3 +123,12 @@ kept-before b at ws lo hi h j k e g r = let same : j ≡ k = omega arith in ap (
 
 pub kept-behind : (b : List ℕ) (at : ℕ) (ws : List ℕ) (lo hi : ℕ) → at + length ws ≤ lo → IsShifted b (with_part b at ws) 0 0 lo hi
 kept-behind b at ws lo hi h j k e g r = let same : j ≡ k = omega arith in ap (λ x. get_or (with_part b at ws) x 0) same ∙ get_or-with_part_behind b at ws k (omega arith)
+
+-- bytes that moved are those from before
+pub part-moved : (b d : List ℕ) (from to n : ℕ) → from + n ≤ length b → to + n ≤ length b → d ≡ with_part b to (part b from n) → IsShifted b d from to from (from + n)
+part-moved b d from to n source target made j k e low high =
+    let ws = part b from n in
+    let long : length ws ≡ n = omega (arith, length-take n (drop from b), length-drop from b) in
+    let place : from + (k - from) ≡ k = omega arith in
+    ap (λ x. get_or x j 0) made ∙ get_or-with_part_within b to ws j (k - from) (omega arith) (omega arith) (omega arith)
+    ∙ get_or-take n (drop from b) (k - from) 0 (omega arith) ∙ get_or-drop from b (k - from) 0 ∙ ap (λ x. get_or b x 0) place

@@ -14,7 +14,7 @@ use Rattle.geos_model.proofs.Words.{word-part_other, get_or-with_part_before, ge
 use Rattle.geos_model.proofs.Costs.{cost-least}
 use Rattle.geos_model.proofs.Pieces.{lies, tiles-le, tiles-join, has-split}
 use Rattle.geos_model.proofs.Entries.{chunk-told, place-told, place-none, place-nothing}
-use Rattle.geos_model.proofs.Moves.{tiles-kept, chunk-shifted}
+use Rattle.geos_model.proofs.Moves.{tiles-kept, chunk-stays}
 use Rattle.geos_model.proofs.Tables.{chunks-set, chunk-cases}
 use Rattle.geos_model.proofs.Headers.{same-header}
 use Rattle.geos_model.proofs.Found.{find}
@@ -60,10 +60,10 @@ record Written (b c : List ℕ) (i : ℕ) (bytes : List ℕ) : Type 0 where
 written : (b : List ℕ) (i n k : ℕ) (ws : List ℕ) → IsHeap b → i < entries b → IsOffset (entry b i) → word b (entry b i - 2) ≡ n + 2 → k + length ws ≤ n →
     Written b (with_part b (entry b i + k) ws) i (with_part (part b (entry b i) n) k ws)
 written b i n k ws heap h t size room =
-    let fill = heap.1.1 in let e = entry b i in let c = with_part b (e + k) ws in let long = length-with_part b (e + k) ws in let fits = heap.0.fits in let most = heap.0.most in
-    let r = find b (table_end b) (word b 12) heap.1.0 (length b) 0 i fill.tiles (fill.all i h t) in
-    let same_n : r.n ≡ n = (let s = r.size in omega (arith, s, size)) in
-    let wide = cost-least r.n r.some in let low = r.low in
+    let e = entry b i in let c = with_part b (e + k) ws in let long = length-with_part b (e + k) ws in
+    let r = find b (table_end b) (word b 12) heap.1.0 (length b) 0 i heap.1.1.tiles (heap.1.1.all i h t) in
+    let same_n : r.n ≡ n = omega (arith, r.size, size) in
+    let wide = cost-least r.n r.some in
     let le = tiles-le b (e - 2 + cost r.n) r.g r.post (length b) 0 r.behind in
     let early : (j : ℕ) → j + 2 ≤ e + k → word c j ≡ word b j = (λ j l. word-part_other b (e + k) ws j (inl l)) in
     let m : entries c ≡ entries b = early 10 (omega arith) in
@@ -75,49 +75,39 @@ written b i n k ws heap h t size room =
     let all : Tiles c (table_end b) (word b 12) (r.pre ++ (Used i r.n ∷ r.post)) (length b) 0 =
     tiles-join c (table_end b) (word b 12) r.pre (Used i r.n ∷ r.post) (e - 2) r.g (length b) 0 pre (r.some, omega (arith, m), each i h ∙ omega arith, early (e - 2) (omega arith) ∙ r.size, post) in
     let w12 : word c 12 ≡ word b 12 = early 12 (omega arith) in
-    let A : ℕ → Type 0 = λ x. Tiles c (16 + 2 * x) (word b 12) (r.pre ++ (Used i r.n ∷ r.post)) (length b) 0 in
-    let B : ℕ → Type 0 = λ x. Tiles c (table_end c) x (r.pre ++ (Used i r.n ∷ r.post)) (length b) 0 in
-    let C : ℕ → Type 0 = λ x. Tiles c (table_end c) (word c 12) (r.pre ++ (Used i r.n ∷ r.post)) x 0 in
-    let told_c : IsOffset (entry c i) = (let T : ℕ → Type 0 = λ x. IsOffset x in subst T (sym (each i h)) t) in
+    let told_c : IsOffset (entry c i) = (subst (λ (x : ℕ). IsOffset x) (sym (each i h)) t) in
     let size_c : word c (entry c i - 2) - 2 ≡ n = ap (λ x. word c (x - 2) - 2) (each i h) ∙ ap (λ x. x - 2) (early (e - 2) (omega arith) ∙ size) ∙ omega arith in
     let here : chunk_at c (entry c i) ≡ Some (with_part (part b e n) k ws) =
     chunk-told c (entry c i) told_c ∙ ap (λ x. Some (part c (entry c i) x)) size_c ∙ ap (λ x. Some (part c x n)) (each i h) ∙ ap (λ x. Some x) (part-with_part b e n k ws (omega arith) room) in
     let H : ℕ → List Piece → Type 0 = λ j ps. HasChunk j ps in
-    let split : (j : ℕ) → j < entries b → IsOffset (entry b j) → HasChunk j (r.pre ++ (Used i r.n ∷ r.post)) = (λ j l u. let P : List Piece → Type 0 = λ ps. HasChunk j ps in subst P r.is (fill.all j l u)) in
+    let split : (j : ℕ) → j < entries b → IsOffset (entry b j) → HasChunk j (r.pre ++ (Used i r.n ∷ r.post)) = (λ j l u. subst (λ (ps : List Piece). HasChunk j ps) r.is (heap.1.1.all j l u)) in
     record {
       heap = (
         same-header b c heap.0 long (λ q l. get_or-with_part_before b (e + k) ws q (omega arith)),
         (
           r.pre ++ (Used i r.n ∷ r.post),
           record {
-            tiles = subst C (sym long) (subst B (sym w12) (subst A (sym m) all));
-            all = (λ j l u. let lb : j < entries b = omega (arith, m) in let T : ℕ → Type 0 = λ x. IsOffset x in split j lb (subst T (each j lb) u));
-            total = early 14 (omega arith) ∙ fill.total ∙ ap free_bytes r.is;
+            tiles = subst (λ (x : ℕ). Tiles c (table_end c) (word c 12) (r.pre ++ (Used i r.n ∷ r.post)) x 0) (sym long) (subst (λ (x : ℕ). Tiles c (table_end c) x (r.pre ++ (Used i r.n ∷ r.post)) (length b) 0) (sym w12) (subst (λ (x : ℕ). Tiles c (16 + 2 * x) (word b 12) (r.pre ++ (Used i r.n ∷ r.post)) (length b) 0) (sym m) all));
+            all = (λ j l u. let lb : j < entries b = omega (arith, m) in split j lb (subst (λ (x : ℕ). IsOffset x) (each j lb) u));
+            total = early 14 (omega arith) ∙ heap.1.1.total ∙ ap free_bytes r.is;
           },
         ),
       );
       chunks = chunks-set b c i (Some (with_part (part b e n) k ws)) m h here (λ j l ne.
           let d : entry c j ≡ entry b j = each j l in
           chunk-cases b c (entry b j) (entry c j) (λ z. d ∙ z) (λ z. d ∙ z) (λ u.
-          let told_j : IsOffset (entry c j) = (let T : ℕ → Type 0 = λ x. IsOffset x in subst T (sym d) u) in
           elim (has-split j r.pre (Used i r.n ∷ r.post) (split j l u)) [
-            | inl x ↦ (let y = lies b (table_end b) (word b 12) r.pre (e - 2) r.g j r.before x in let from = y.from in
-                chunk-shifted b c 0 0 (table_end b) (e - 2) (e - 2) (entry b j) (entry c j) y front (omega arith) (omega arith) (omega (arith, d)) (omega arith) (omega (arith, long)) u told_j)
-            | inr x ↦ elim x [
-              | inl z ↦ absurd (ne z)
-              | inr x2 ↦ (let y = lies b (e - 2 + cost r.n) r.g r.post (length b) 0 j r.behind x2 in let from = y.from in
-                  chunk-shifted b c 0 0 (e - 2 + cost r.n) (length b) (length b) (entry b j) (entry c j) y back (omega arith) (omega arith) (omega (arith, d)) (omega arith) (omega (arith, long)) u told_j)
-            ]
+            | inl x ↦ chunk-stays b c (table_end b) (e - 2) (entry b j) (entry c j) (lies b (table_end b) (word b 12) r.pre (e - 2) r.g j r.before x) front d (omega arith) (omega (arith, long)) u
+            | inr (inl z) ↦ absurd (ne z)
+            | inr (inr x) ↦ chunk-stays b c (e - 2 + cost r.n) (length b) (entry b j) (entry c j) (lies b (e - 2 + cost r.n) r.g r.post (length b) 0 j r.behind x) back d (omega arith) (omega (arith, long)) u
           ]));
       count = m;
       places = (λ j l. place-kept b c (entry b j) (entry c j) (each j l) (λ u. elim (has-split j r.pre (Used i r.n ∷ r.post) (split j l u)) [
-        | inl x ↦ (let y = lies b (table_end b) (word b 12) r.pre (e - 2) r.g j r.before x in let from = y.from in let upto = y.upto in let wide_j = cost-least y.n y.some in
+        | inl x ↦ (let y = lies b (table_end b) (word b 12) r.pre (e - 2) r.g j r.before x in let wide_j = cost-least y.n y.some in
             early (entry b j - 2) (omega arith))
-        | inr x ↦ elim x [
-          | inl z ↦ (let same : entry b j ≡ e = ap (λ q. entry b q) z in early (entry b j - 2) (omega arith))
-          | inr x2 ↦ (let y = lies b (e - 2 + cost r.n) r.g r.post (length b) 0 j r.behind x2 in let from = y.from in let upto = y.upto in let wide_j = cost-least y.n y.some in
-              word-shifted b c 0 0 (e - 2 + cost r.n) (length b) (entry b j - 2) (entry b j - 2) back (omega arith) (omega arith) (omega arith))
-        ]
+        | inr (inl z) ↦ (let same : entry b j ≡ e = ap (λ q. entry b q) z in early (entry b j - 2) (omega arith))
+        | inr (inr x2) ↦ (let y = lies b (e - 2 + cost r.n) r.g r.post (length b) 0 j r.behind x2 in let wide_j = cost-least y.n y.some in
+            word-shifted b c 0 0 (e - 2 + cost r.n) (length b) (entry b j - 2) (entry b j - 2) back (omega arith) (omega arith) (omega arith))
       ]));
       handle = early 0 (omega arith);
     }
@@ -125,13 +115,12 @@ written b i n k ws heap h t size room =
 -- where nothing is written
 unwritten : (b : List ℕ) (c : ℕ) (p : Place) (at : ℕ) → IsHeap b → place_of b c ≡ Some p → ChangesChunk b (with_part b (p.at + at) []) c p at []
 unwritten b c p at heap is =
-    let q = place-entry b c p is in let i = q.0 in
-    let index : entry_of c ≡ i = (let k = q.1.0.is in omega (arith, k)) in
-    let here : chunk_at b (entry b i) ≡ Some (with_part (bytes_at b p) at []) = ap (option_map (bytes_at b)) q.1.1 ∙ ap (λ x. Some x) (sym (with_nothing (bytes_at b p) at)) in
-    let P : List ℕ → Type 0 = λ x. ChangesChunk b x c p at [] in
-    subst P (sym (with_nothing b (p.at + at))) (record {
+    let q = place-entry b c p is in
+    let index : entry_of c ≡ q.0 = omega (arith, q.1.0.is) in
+    let here : chunk_at b (entry b q.0) ≡ Some (with_part (bytes_at b p) at []) = ap (option_map (bytes_at b)) q.1.1 ∙ ap (λ x. Some x) (sym (with_nothing (bytes_at b p) at)) in
+    subst (λ (x : List ℕ). ChangesChunk b x c p at []) (sym (with_nothing b (p.at + at))) (record {
       heap = heap;
-      chunks = chunks-set b b i (Some (with_part (bytes_at b p) at [])) refl q.1.0.known here (λ j l ne. refl) ∙ ap (λ x. set (chunks b) x (Some (with_part (bytes_at b p) at []))) (sym index);
+      chunks = chunks-set b b q.0 (Some (with_part (bytes_at b p) at [])) refl q.1.0.known here (λ j l ne. refl) ∙ ap (λ x. set (chunks b) x (Some (with_part (bytes_at b p) at []))) (sym index);
       places = (λ d. refl);
       handle = refl;
     })
@@ -139,8 +128,8 @@ unwritten b c p at heap is =
 pub writes-stay : WritesStayInTheirChunk
 writes-stay b c p at [] heap is room = unwritten b c p at heap is
 writes-stay b c p at (w ∷ ws) heap is room =
-    let q = place-entry b c p is in let i = q.0 in let e = entry b i in
-    let index : entry_of c ≡ i = (let k = q.1.0.is in omega (arith, k)) in
+    let q = place-entry b c p is in let e = entry b q.0 in
+    let index : entry_of c ≡ q.0 = omega (arith, q.1.0.is) in
     elim (cases_eq e 0) [
       | inl z ↦ absurd (let none = sym (place-none b e z) ∙ q.1.1 in cc)
       | inr nz ↦ elim (cases_eq e 65535) [
@@ -150,9 +139,8 @@ writes-stay b c p at (w ∷ ws) heap is room =
             let same : record { at = e; len = word b (e - 2) - 2 } ≡ p = cc in
             let len : word b (e - 2) - 2 ≡ p.len = ap (λ (x : Place). x.len) same in
             let n = word b (e - 2) - 2 in
-            let d = written b i n at (w ∷ ws) heap q.1.0.known (nz, nf) (omega (arith, len, room)) (omega (arith, len, room)) in
-            let P : Place → Type 0 = λ x. ChangesChunk b (with_part b (x.at + at) (w ∷ ws)) c x at (w ∷ ws) in
-            subst P same (record {
+            let d = written b q.0 n at (w ∷ ws) heap q.1.0.known (nz, nf) (omega (arith, len, room)) (omega (arith, len, room)) in
+            subst (λ (x : Place). ChangesChunk b (with_part b (x.at + at) (w ∷ ws)) c x at (w ∷ ws)) same (record {
               heap = d.heap;
               chunks = d.chunks ∙ ap (λ x. set (chunks b) x (Some (with_part (part b e n) at (w ∷ ws)))) (sym index);
               places = places-same b (with_part b (e + at) (w ∷ ws)) d.count d.places;

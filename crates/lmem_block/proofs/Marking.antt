@@ -13,7 +13,7 @@ pub aligned : (b : List ℕ) (at f : ℕ) (ps : List Piece) (end next i : ℕ) �
 aligned b at f [] end next i z s h = absurd h
 aligned b at f (Used j n ∷ ps) end next i z s (inl e) =
     let is : entry b i ≡ at + 2 = ap (λ k. entry b k) e ∙ s.2 in omega (arith, is)
-aligned b at f (Used j n ∷ ps) end next i z s (inr h) = let c = cost-fours n in aligned b (at + cost n) f ps end next i (omega (arith, c)) s.4 h
+aligned b at f (Used j n ∷ ps) end next i z s (inr h) = aligned b (at + cost n) f ps end next i (omega (arith, cost-fours n)) s.4 h
 aligned b at f (Free m ∷ ps) end next i z s h = aligned b (at + m) (word b (at + 2)) ps end next i (omega arith) s.5 h
 
 -- two entries do not tell of one chunk
@@ -22,14 +22,10 @@ one-entry b at f [] end next i j s h g e = absurd h
 one-entry b at f (Used k n ∷ ps) end next i j s (inl h) (inl g) e = h ∙ sym g
 one-entry b at f (Used k n ∷ ps) end next i j s (inl h) (inr g) e =
     let is : entry b i ≡ at + 2 = ap (λ x. entry b x) h ∙ s.2 in
-    let l = lies b (at + cost n) f ps end next j s.4 g in
-    let c = cost-four n s.0 in
-    absurd (omega (arith, is, l.from, c))
+    absurd (omega (arith, is, (lies b (at + cost n) f ps end next j s.4 g).from, cost-four n s.0))
 one-entry b at f (Used k n ∷ ps) end next i j s (inr h) (inl g) e =
     let is : entry b j ≡ at + 2 = ap (λ x. entry b x) g ∙ s.2 in
-    let l = lies b (at + cost n) f ps end next i s.4 h in
-    let c = cost-four n s.0 in
-    absurd (omega (arith, is, l.from, c))
+    absurd (omega (arith, is, (lies b (at + cost n) f ps end next i s.4 h).from, cost-four n s.0))
 one-entry b at f (Used k n ∷ ps) end next i j s (inr h) (inr g) e = one-entry b (at + cost n) f ps end next i j s.4 h g e
 one-entry b at f (Free m ∷ ps) end next i j s h g e = one-entry b (at + m) (word b (at + 2)) ps end next i j s.5 h g e
 
@@ -39,8 +35,7 @@ entry-place b i header full h t =
     let start : table_end b % 4 ≡ 0 = omega (arith, header.pairs) in
     let has = full.1.all i h t in
     let l = lies b (table_end b) (word b 12) full.0 (length b) 0 i full.1.tiles has in
-    let wide = cost-four l.n l.some in
-    (l.from, aligned b (table_end b) (word b 12) full.0 (length b) 0 i start full.1.tiles has, omega (arith, l.upto, wide))
+    (l.from, aligned b (table_end b) (word b 12) full.0 (length b) 0 i start full.1.tiles has, omega (arith, l.upto, cost-four l.n l.some))
 
 pub entry-once : (b : List ℕ) (i j : ℕ) → IsTiled b → i < entries b → j < entries b → IsOffset (entry b i) → IsOffset (entry b j) → entry b i ≡ entry b j → i ≡ j
 entry-once b i j full h g t u e = one-entry b (table_end b) (word b 12) full.0 (length b) 0 i j full.1.tiles (full.1.all i h t) (full.1.all j g u) e
@@ -63,13 +58,13 @@ below-more i j h = elim (cases_lt j i) [ inl l ↦ inl l | inr l ↦ inr (omega 
 
 pub marks-skip : (b : List ℕ) (i : ℕ) (starts : List Bool) → Marks b i starts → (IsOffset (entry b i) → ⊥) → Marks b (i + 1) starts
 marks-skip b i starts m silent =
-    let never : (j : ℕ) → j ≡ i → IsOffset (entry b j) → ⊥ = (λ j e t. let T : ℕ → Type 0 = λ x. IsOffset (entry b x) in silent (subst T e t)) in
+    let never : (j : ℕ) → j ≡ i → IsOffset (entry b j) → ⊥ = (λ j e t. silent (subst (λ (x : ℕ). IsOffset (entry b x)) e t)) in
     record {
       sound = (λ k h. let s = m.sound k h in (s.0, omega (arith, s.1), s.2, s.3));
       marked = (λ j h t. elim (below-more i j h) [ inl l ↦ m.marked j l t | inr e ↦ absurd (never j e t) ]);
       place = (λ j h t. elim (below-more i j h) [ inl l ↦ m.place j l t | inr e ↦ absurd (never j e t) ]);
       once = (λ j k h g t e. elim (below-more i j h) [
-        | inl l ↦ elim (below-more i k g) [ inl r ↦ m.once j k l r t e | inr d ↦ (let T : ℕ → Type 0 = λ x. IsOffset x in absurd (never k d (subst T e t))) ]
+        | inl l ↦ elim (below-more i k g) [ inl r ↦ m.once j k l r t e | inr d ↦ (absurd (never k d (subst (λ (x : ℕ). IsOffset x) e t))) ]
         | inr d ↦ absurd (never j d t)
       ]);
     }
@@ -115,15 +110,11 @@ not-full b i e starts header m h is t why full =
     let place = entry-place b i header full h (subst T is t) in
     elim why [
       | inl l ↦ absurd (omega (arith, place.0))
-      | inr some ↦ elim some [
-        | inl l ↦ absurd (omega (arith, place.2))
-        | inr more ↦ elim more [
-          | inl l ↦ l (ap (λ x. x % 4) is ∙ place.1)
-          | inr l ↦ (let s = m.sound (e / 4) l in
-              let f : e % 4 ≡ 2 = ap (λ x. x % 4) is ∙ place.1 in
-              let d : entry b s.0 ≡ entry b i = s.3 ∙ omega arith in
-              let q : s.0 ≡ i = entry-once b s.0 i full (omega (arith, s.1)) h s.2 (subst T is t) d in
-              absurd (omega (arith, s.1, q)))
-        ]
-      ]
+      | inr (inl l) ↦ absurd (omega (arith, place.2))
+      | inr (inr (inl l)) ↦ l (ap (λ x. x % 4) is ∙ place.1)
+      | inr (inr (inr l)) ↦ (let s = m.sound (e / 4) l in
+          let f : e % 4 ≡ 2 = ap (λ x. x % 4) is ∙ place.1 in
+          let d : entry b s.0 ≡ entry b i = s.3 ∙ omega arith in
+          let q : s.0 ≡ i = entry-once b s.0 i full (omega (arith, s.1)) h s.2 (subst T is t) d in
+          absurd (omega (arith, s.1, q)))
     ]

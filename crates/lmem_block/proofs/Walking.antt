@@ -61,7 +61,7 @@ used-forward b at free sum w starts m fours inside is h (ps, left) = by ps left.
         absurd (omega (arith, l.from, e.3))
     by (Used j n ∷ ps) s all total =
         let size : cost n ≡ (w + 3) / 4 * 4 = cost_is n s.0 ∙ ap (λ k. (k + 3) / 4 * 4) (sym s.3 ∙ sym is) in
-        let more : Tiles b (at + (w + 3) / 4 * 4) free ps (length b) 0 = (let P : ℕ → Type 0 = λ k. Tiles b (at + k) free ps (length b) 0 in subst P size s.4) in
+        let more : Tiles b (at + (w + 3) / 4 * 4) free ps (length b) 0 = (subst (λ (k : ℕ). Tiles b (at + k) free ps (length b) 0) size s.4) in
         let fits = tiles-le b (at + (w + 3) / 4 * 4) free ps (length b) 0 more in
         let wide = cost-four n s.0 in
         let rest : (i : ℕ) → i < entries b → IsOffset (entry b i) → at + 2 < entry b i → HasChunk i ps = (λ i l t low. elim (all i l t (omega arith)) [
@@ -79,11 +79,10 @@ pub used-back : (b : List ℕ) (at free sum w : ℕ) (starts : List Bool) → Ma
 used-back b at free sum w starts m fours is least h free_of (ps, left) =
     let e = marked-start b at (entries b) starts m fours h in
     let n : (w - 2) + 2 ≡ w = omega arith in
-    let size : (w + 3) / 4 * 4 ≡ cost (w - 2) = ap (λ k. (k + 3) / 4 * 4) (sym n) ∙ sym (cost_is (w - 2) (omega arith)) in
-    let P : ℕ → Type 0 = λ k. Tiles b (at + k) free ps (length b) 0 in (
+    let size : (w + 3) / 4 * 4 ≡ cost (w - 2) = ap (λ k. (k + 3) / 4 * 4) (sym n) ∙ sym (cost_is (w - 2) (omega arith)) in (
       Used e.0 (w - 2) ∷ ps,
       record {
-        tiles = (omega arith, e.1, e.3, sym is ∙ sym n, subst P size left.tiles);
+        tiles = (omega arith, e.1, e.3, sym is ∙ sym n, subst (λ (k : ℕ). Tiles b (at + k) free ps (length b) 0) size left.tiles);
         all = (λ i l t low. elim (covered b at ((w + 3) / 4 * 4) ps starts m fours (omega arith) free_of left.all i l t low) [
           | inl d ↦ inl (m.once i e.0 l e.1 t (d ∙ sym e.3))
           | inr g ↦ inr g
@@ -127,9 +126,7 @@ free-forward b at free sum w next starts m fours low inside is next_is h (ps, le
     by (Free k ∷ ps) s all total =
         let size : k ≡ w = sym s.3 ∙ sym is in
         let more : Tiles b (at + w) next ps (length b) 0 = (let P : ℕ → ℕ → Type 0 = λ x y. Tiles b (at + x) y ps (length b) 0 in
-        let Q : ℕ → Type 0 = λ x. P x next in
-        let R : ℕ → Type 0 = λ y. P k y in
-        subst Q size (subst R (sym next_is) s.5)) in
+        subst (λ (x : ℕ). P x next) size (subst (λ (y : ℕ). P k y) (sym next_is) s.5)) in
         let fits = tiles-le b (at + w) next ps (length b) 0 more in
         let rest : (i : ℕ) → i < entries b → IsOffset (entry b i) → at + 2 < entry b i → HasChunk i ps = (λ i l t lt. all i l t (omega arith)) in (
           s.2,
@@ -143,18 +140,17 @@ free-forward b at free sum w next starts m fours low inside is next_is h (ps, le
 
 pub free-back : (b : List ℕ) (at free sum w next : ℕ) (starts : List Bool) → Marks b (entries b) starts → at % 4 ≡ 0 → w ≡ word b at → next ≡ word b (at + 2) →
     get_or starts (at / 4) false ≡ false → free ≡ at → 0 < w → w % 4 ≡ 0 → next ≢ at + w → Clear starts at w → CanTile b (at + w) next (sum + w) → CanTile b at free sum
-free-back b at free sum w next starts m fours is next_is h first some four apart free_of (ps, left) =
-    let R : ℕ → Type 0 = λ y. Tiles b (at + w) y ps (length b) 0 in (
-      Free w ∷ ps,
-      record {
-        tiles = (some, four, first, sym is, (λ e. apart (next_is ∙ e)), subst R next_is left.tiles);
-        all = (λ i l t low. elim (covered b at w ps starts m fours four free_of left.all i l t low) [
-          | inl d ↦ absurd (unmarked-start b at (entries b) starts m fours h i l t d)
-          | inr g ↦ g
-        ]);
-        total = (let e = left.total in omega (arith, e));
-      },
-    )
+free-back b at free sum w next starts m fours is next_is h first some four apart free_of (ps, left) = (
+  Free w ∷ ps,
+  record {
+    tiles = (some, four, first, sym is, (λ e. apart (next_is ∙ e)), subst (λ (y : ℕ). Tiles b (at + w) y ps (length b) 0) next_is left.tiles);
+    all = (λ i l t low. elim (covered b at w ps starts m fours four free_of left.all i l t low) [
+      | inl d ↦ absurd (unmarked-start b at (entries b) starts m fours h i l t d)
+      | inr g ↦ g
+    ]);
+    total = omega (arith, left.total);
+  },
+)
 
 pub free-goes : (b : List ℕ) (at free sum w next : ℕ) (starts : List Bool) → Marks b (entries b) starts → at % 4 ≡ 0 → 16 ≤ at → at < length b → w ≡ word b at → next ≡ word b (at + 2) →
     get_or starts (at / 4) false ≡ false → free ≡ at → 0 < w → w % 4 ≡ 0 → next ≢ at + w → at + w ≤ length b → Goes b starts at free sum (at + w) 0 next (sum + w)
@@ -174,25 +170,25 @@ free-goes b at free sum w next starts m fours low inside is next_is h first some
 
 -- at the table's end, where no place is passed
 pub before : (b : List ℕ) (at : ℕ) (starts : List Bool) → Marks b (entries b) starts → at % 4 ≡ 0 → at ≡ table_end b → marks_from starts 0 ≡ marks_from starts (at / 4)
-before b at starts m fours is = marks-same starts 0 (at / 4) (omega arith) (λ k low high h. let s = m.sound k h in let p = m.place s.0 s.1 s.2 in absurd (omega (arith, s.3, p.0)))
+before b at starts m fours is = marks-same starts 0 (at / 4) (omega arith) (λ k low high h. let s = m.sound k h in absurd (omega (arith, s.3, (m.place s.0 s.1 s.2).0)))
 
 pub start : (b : List ℕ) (at free : ℕ) (starts : List Bool) → Marks b (entries b) starts → at ≡ table_end b → free ≡ word b 12 → IsTiled b ↔ CanTile b at free 0
 start b at free starts m is first =
     let P : ℕ → ℕ → List Piece → Type 0 = λ x y ps. Tiles b x y ps (length b) 0 in (
-      (λ full. let ps = full.0 in let t = full.1 in (
-        ps,
+      (λ full. (
+        full.0,
         record {
-          tiles = (let Q : ℕ → Type 0 = λ x. P x (word b 12) ps in let R : ℕ → Type 0 = λ y. P at y ps in subst R (sym first) (subst Q (sym is) t.tiles));
-          all = (λ i l o low. t.all i l o);
-          total = (let e : free_bytes ps ≡ word b 14 = sym t.total in omega (arith, e));
+          tiles = (subst (λ (y : ℕ). P at y full.0) (sym first) (subst (λ (x : ℕ). P x (word b 12) full.0) (sym is) full.1.tiles));
+          all = (λ i l o low. full.1.all i l o);
+          total = (let e : free_bytes full.0 ≡ word b 14 = sym full.1.total in omega (arith, e));
         },
       )),
-      (λ can. let ps = can.0 in let t = can.1 in (
-        ps,
+      (λ can. (
+        can.0,
         record {
-          tiles = (let Q : ℕ → Type 0 = λ x. P x (word b 12) ps in let R : ℕ → Type 0 = λ y. P at y ps in subst Q is (subst R first t.tiles));
-          all = (λ i l o. let p = m.place i l o in t.all i l o (omega (arith, p.0)));
-          total = (let e : word b 14 ≡ free_bytes ps = omega (arith, t.total) in e);
+          tiles = (subst (λ (x : ℕ). P x (word b 12) can.0) is (subst (λ (y : ℕ). P at y can.0) first can.1.tiles));
+          all = (λ i l o. can.1.all i l o (omega (arith, (m.place i l o).0)));
+          total = (let e : word b 14 ≡ free_bytes can.0 = omega (arith, can.1.total) in e);
         },
       )),
     )
@@ -204,20 +200,18 @@ end-forward b at free sum past (ps, left) = by ps left.tiles left.total
     by : (ps : List Piece) → Tiles b at free ps (length b) 0 → sum + free_bytes ps ≡ word b 14 → (free ≡ 0) × (sum ≡ word b 14)
     by [] s total = (s.1, omega (arith, total))
     by (Used j n ∷ ps) s total =
-        let le = tiles-le b (at + cost n) free ps (length b) 0 s.4 in
-        let wide = cost-four n s.0 in
-        absurd (omega (arith, le, wide))
-    by (Free k ∷ ps) s total = let le = tiles-le b (at + k) (word b (at + 2)) ps (length b) 0 s.5 in absurd (omega (arith, le, s.0))
+        absurd (omega (arith, tiles-le b (at + cost n) free ps (length b) 0 s.4, cost-four n s.0))
+    by (Free k ∷ ps) s total = absurd (omega (arith, tiles-le b (at + k) (word b (at + 2)) ps (length b) 0 s.5, s.0))
 
 pub end-back : (b : List ℕ) (at free sum : ℕ) (starts : List Bool) → Marks b (entries b) starts → at ≡ length b → free ≡ 0 → sum ≡ word b 14 → CanTile b at free sum
 end-back b at free sum starts m is none total = (
   [],
   record {
     tiles = (is, none);
-    all = (λ i l t low. let p = m.place i l t in absurd (omega (arith, p.2)));
+    all = (λ i l t low. absurd (omega (arith, (m.place i l t).2)));
     total = omega (arith, total);
   },
 )
 
 pub behind : (b : List ℕ) (at : ℕ) (starts : List Bool) → Marks b (entries b) starts → length b ≤ at → at % 4 ≡ 0 → marks_from starts (at / 4) ≡ 0
-behind b at starts m past fours = marks-none_from starts (at / 4) (λ k low h. let s = m.sound k h in let p = m.place s.0 s.1 s.2 in absurd (omega (arith, s.3, p.2)))
+behind b at starts m past fours = marks-none_from starts (at / 4) (λ k low h. let s = m.sound k h in absurd (omega (arith, s.3, (m.place s.0 s.1 s.2).2)))

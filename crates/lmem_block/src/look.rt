@@ -2,7 +2,7 @@
 ghost use Rattle.std.specs.Prelude.{◌≡◌, ◌≢◌, ℕ, ◌+◌, ◌*◌, ◌<◌, ◌≤◌, length, MatchResult, MatchOption, IfOk, IsSome, IsSomeAnd};
 ghost use Rattle.lmem_raw.specs.Bytes.{part};
 ghost use Rattle.geos_model.specs.Bytes.{word};
-ghost use Rattle.geos_model.specs.Chunks.{chunk_of, handle_of, used_bytes};
+ghost use Rattle.geos_model.specs.Chunks.{chunk_of, entry_bytes, handle_of, used_bytes};
 ghost use Rattle.geos_model.specs.Block.{chunks, entries, entry, table_end, place_of, place_at, IsPlaced};
 ghost use Rattle.geos_model.specs.Heap.{IsHeap};
 ghost use Rattle.lmem_block.specs.Found.{HasEntry, IsLast, IsNext};
@@ -38,6 +38,7 @@ pub fn place_of_entry(block: &[u8], i: usize) -> (usize, u16)
     requires used { entry block.now i ≢ 0 }
     ensures within { result.0 + result.1 ≤ length block.now }
     ensures place { place_at block.now (entry block.now i) ≡ Some (record { at = result.0; len = result.1 }) }
+    ensures len { length (entry_bytes (chunks block.now) i) ≡ result.1 }
 {
     let at = entry(block, i);
     if at == NO_BYTE {

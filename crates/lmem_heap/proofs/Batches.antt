@@ -23,13 +23,11 @@ first-inside b heap open_still = let r = first-room b (first_free b) heap refl (
 pub closes-one : (b c : List ℕ) (gap : Gap) → IsHeap b → IsFirstGap b gap → (IsCompact b → ⊥) → ClosesGap b c gap → ClosesGaps b c
 closes-one b c gap heap g open_still k =
     let p = g.has b (but-itself b heap) in
-    let first = g.first in
-    let inner = g.inner in
     record {
       heap = closed-heap b c gap heap.0 p k;
       chunks = closed-chunks b c gap heap.0 p k;
       handle = head-word b c 12 0 k.head (omega arith);
-      went = omega (arith, k.first, first, inner);
+      went = omega (arith, k.first, g.first, g.inner);
       within = first-inside b heap open_still;
     }
 
@@ -52,35 +50,27 @@ slides-none b heap small = record {
 pub slides-more : (old c d : List ℕ) (ss : List Slide) (gap : Gap) → SlidesGaps old c ss → IsFirstGap c gap → gap.after < 65536 → d ≡ slid c gap →
     SlidesGaps old d (ss ++ (slide_of gap ∷ []))
 slides-more old c d ss gap s g small is =
-    let b = s.heap in
-    let p = g.has b s.slid.but in
-    let first = g.first in
-    let size = g.size in
-    let inner = g.inner in
-    let header = s.slid.but.is.0 in
-    let reach : first_free c + word c (first_free c) ≡ gap.first + gap.size = ap (λ x. x + word c x) (sym first) ∙ ap (λ x. gap.first + x) (sym size) in
-    let under = s.below in
-    let on = slid-on c b d ss gap s.high s.slid p small s.order (omega (arith, under, reach)) is in
-    let k = on.closed in
-    let but = on.slid.but in
-    let count = head-word b on.next 12 10 k.head (omega arith) in
-    let low = tiles-le b (table_end b) gap.first p.pre gap.first gap.first p.before in
-    let new_first : first_free d ≡ gap.end - gap.size = but-head d on.next 12 but (omega arith) ∙ k.first in
-    let new_size : word d (gap.end - gap.size) ≡ gap.size + gap.more = but-behind d on.next (gap.end - gap.size) but (omega (arith, count, low, inner)) ∙ k.size in
+    let p = g.has s.heap s.slid.but in
+    let reach : first_free c + word c (first_free c) ≡ gap.first + gap.size = ap (λ x. x + word c x) (sym g.first) ∙ ap (λ x. gap.first + x) (sym g.size) in
+    let on = slid-on c s.heap d ss gap s.high s.slid p small s.order (omega (arith, s.below, reach)) is in
+    let count = head-word s.heap on.next 12 10 on.closed.head (omega arith) in
+    let low = tiles-le s.heap (table_end s.heap) gap.first p.pre gap.first gap.first p.before in
+    let new_first : first_free d ≡ gap.end - gap.size = but-head d on.next 12 on.slid.but (omega arith) ∙ on.closed.first in
+    let new_size : word d (gap.end - gap.size) ≡ gap.size + gap.more = but-behind d on.next (gap.end - gap.size) on.slid.but (omega (arith, count, low, g.inner)) ∙ on.closed.size in
     let new_reach : first_free d + word d (first_free d) ≡ gap.end - gap.size + (gap.size + gap.more) = ap (λ x. x + word d x) new_first ∙ ap (λ x. gap.end - gap.size + x) new_size in
     record {
       heap = on.next;
       slid = on.slid;
-      chunks = closed-chunks b on.next gap header p k ∙ s.chunks;
-      handle = head-word b on.next 12 0 k.head (omega arith) ∙ s.handle;
+      chunks = closed-chunks s.heap on.next gap s.slid.but.is.0 p on.closed ∙ s.chunks;
+      handle = head-word s.heap on.next 12 0 on.closed.head (omega arith) ∙ s.handle;
       high = gap.end;
-      order = order-more 0 ss s.high (slide_of gap) s.order (omega (arith, under, reach)) (omega (arith, inner)) (omega arith);
-      below = omega (arith, new_reach, inner);
+      order = order-more 0 ss s.high (slide_of gap) s.order (omega (arith, s.below, reach)) (omega (arith, g.inner)) (omega arith);
+      below = omega (arith, new_reach, g.inner);
       went = inr (
         omega (arith, length-append ss (slide_of gap ∷ [])),
         elim s.went [
-          | inl z ↦ (let same : first_free c ≡ first_free old = ap first_free z.1 in omega (arith, same, first, inner, new_first))
-          | inr z ↦ omega (arith, z.1, first, inner, new_first)
+          | inl z ↦ (let same : first_free c ≡ first_free old = ap first_free z.1 in omega (arith, same, g.first, g.inner, new_first))
+          | inr z ↦ omega (arith, z.1, g.first, g.inner, new_first)
         ],
       );
     }
@@ -93,8 +83,7 @@ pub record SlidOneMore (old d : List ℕ) (ss : List Slide) : Type 0 where
 pub slides-one-more : (old c d : List ℕ) (ss after : List Slide) (gap : Gap) (s : Slide) → SlidesGaps old c ss → IsFirstGap c gap → gap.after < 65536 → d ≡ slid c gap → s ≡ slide_of gap → after ≡ ss ++ (s ∷ []) → SlidOneMore old d after
 slides-one-more old c d ss after gap s so_far g small bytes run is =
     let added : after ≡ ss ++ (slide_of gap ∷ []) = is ∙ ap (λ x. ss ++ (x ∷ [])) run in
-    let P : List Slide → Type 0 = λ x. SlidesGaps old d x in
-    record { so_far = subst P (sym added) (slides-more old c d ss gap so_far g small bytes); some = (let n = ap length added in omega (arith, n, length-append ss (slide_of gap ∷ []))) }
+    record { so_far = subst (λ (x : List Slide). SlidesGaps old d x) (sym added) (slides-more old c d ss gap so_far g small bytes); some = (let n = ap length added in omega (arith, n, length-append ss (slide_of gap ∷ []))) }
 
 pub slides-done : (old c d : List ℕ) (ss : List Slide) → SlidesGaps old c ss → IsHeap old → (IsCompact old → ⊥) → 0 < length ss → MapsEntries c d (entry_slid ss) 0 (entries c) → ClosesGaps old d
 slides-done old c d ss s heap open_still some m =

@@ -6,7 +6,7 @@ use Rattle.geos_model.specs.Block.{entry, entries, table_end, chunks, first_free
 use Rattle.geos_model.specs.Heap.{Piece, Free, Tiles, IsOffset, IsHeader, IsTiledBy, IsHeap}
 use Rattle.geos_model.proofs.Costs.{cost-four}
 use Rattle.geos_model.proofs.Pieces.{lies, tiles-le, tiles-join, has-left, has-right, free_bytes-append}
-use Rattle.geos_model.proofs.Moves.{tiles-kept, tiles-shifted, chunk-shifted}
+use Rattle.geos_model.proofs.Moves.{tiles-kept, tiles-shifted, chunk-shifted, chunk-stays}
 use Rattle.geos_model.proofs.Tables.{chunks-same, chunk-cases}
 use Rattle.geos_model.proofs.Headers.{head-word, same-header}
 use Rattle.geos_model.proofs.FreePieces.{used-any, used-free}
@@ -40,29 +40,19 @@ closed-tiles b c gap header p k =
     let t = gap.more in
     let n : entries c ≡ entries b = head-word b c 12 10 k.head (omega arith) in
     let start : table_end c ≡ table_end b = ap (λ x. 16 + 2 * x) n in
-    let long = k.long in
-    let places = p.places in
-    let gap_size = p.size in
-    let size = k.size in
-    let most = header.most in
     let pre : Tiles c (table_end b) f p.pre f f = tiles-kept b c (table_end b) f p.pre f f p.before k.before (omega (arith, n)) (λ i l low high. entry-before b c gap i k l (omega arith)) in
     let pre' : Tiles c (table_end b) (end - s) p.pre f (end - s) = used-any c (table_end b) f (end - s) p.pre f f p.pre_used pre in
     let middle : Tiles c f (end - s) p.mid (end - s) (end - s) = tiles-shifted b c (f + s) f (f + s) 0 p.mid end 0 f (end - s) (end - s) p.mid_used p.middle (omega arith) (omega arith) k.moved (omega (arith, n))
     (λ i l low high. entry-moves b c gap i k l (omega arith) high) in
     let behind : Tiles c (end + t) gap.after p.post (length b) 0 = tiles-kept b c (end + t) gap.after p.post (length b) 0 p.behind k.behind (omega (arith, n)) (λ i l low high. entry-behind b c gap i k l (omega arith)) in
     let place : end + t ≡ end - s + (s + t) = omega arith in
-    let P : ℕ → Type 0 = λ x. Tiles c x gap.after p.post (length b) 0 in
-    let Q : ℕ → Type 0 = λ g. Tiles c (end - s + (s + t)) g p.post (length b) 0 in
     let tail : Tiles c (end - s) (end - s) (Free (s + t) ∷ p.post) (length b) 0 =
-    (omega arith, omega arith, refl, size, (λ e. p.apart (sym k.next ∙ e ∙ sym place)), subst Q (sym k.next) (subst P place behind)) in
+    (omega arith, omega arith, refl, k.size, (λ e. p.apart (sym k.next ∙ e ∙ sym place)), subst (λ (g : ℕ). Tiles c (end - s + (s + t)) g p.post (length b) 0) (sym k.next) (subst (λ (x : ℕ). Tiles c x gap.after p.post (length b) 0) place behind)) in
     let all : Tiles c (table_end b) (end - s) (p.pre ++ (p.mid ++ (Free (s + t) ∷ p.post))) (length b) 0 =
-    tiles-join c (table_end b) (end - s) p.pre (p.mid ++ (Free (s + t) ∷ p.post)) f (end - s) (length b) 0 pre' (tiles-join c f (end - s) p.mid (Free (s + t) ∷ p.post) (end - s) (end - s) (length b) 0 middle tail) in
-    let A : ℕ → Type 0 = λ x. Tiles c x (end - s) (p.pre ++ (p.mid ++ (Free (s + t) ∷ p.post))) (length b) 0 in
-    let B : ℕ → Type 0 = λ x. Tiles c (table_end c) x (p.pre ++ (p.mid ++ (Free (s + t) ∷ p.post))) (length b) 0 in
-    let C : ℕ → Type 0 = λ x. Tiles c (table_end c) (first_free c) (p.pre ++ (p.mid ++ (Free (s + t) ∷ p.post))) x 0 in (
+    tiles-join c (table_end b) (end - s) p.pre (p.mid ++ (Free (s + t) ∷ p.post)) f (end - s) (length b) 0 pre' (tiles-join c f (end - s) p.mid (Free (s + t) ∷ p.post) (end - s) (end - s) (length b) 0 middle tail) in (
       p.pre ++ (p.mid ++ (Free (s + t) ∷ p.post)),
       record {
-        tiles = subst C (sym long) (subst B (sym k.first) (subst A (sym start) all));
+        tiles = subst (λ (x : ℕ). Tiles c (table_end c) (first_free c) (p.pre ++ (p.mid ++ (Free (s + t) ∷ p.post))) x 0) (sym k.long) (subst (λ (x : ℕ). Tiles c (table_end c) x (p.pre ++ (p.mid ++ (Free (s + t) ∷ p.post))) (length b) 0) (sym k.first) (subst (λ (x : ℕ). Tiles c x (end - s) (p.pre ++ (p.mid ++ (Free (s + t) ∷ p.post))) (length b) 0) (sym start) all));
         all = (λ i h told. let l : i < entries b = omega arith in
             elim (p.all i l (offset-back b c gap i k (omega arith) l told)) [
               | inl x ↦ has-left i p.pre (p.mid ++ (Free (s + t) ∷ p.post)) x
@@ -71,10 +61,7 @@ closed-tiles b c gap header p k =
                 | inr x ↦ has-right i p.mid (Free (s + t) ∷ p.post) x
               ])
             ]);
-        total = (let e = free_bytes-append p.pre (p.mid ++ (Free (s + t) ∷ p.post)) in let d = free_bytes-append p.mid (Free (s + t) ∷ p.post) in
-            let u = used-free p.pre p.pre_used in
-            let v = used-free p.mid p.mid_used in
-            omega (arith, e, d, u, v, k.total, p.total));
+        total = omega (arith, free_bytes-append p.pre (p.mid ++ (Free (s + t) ∷ p.post)), free_bytes-append p.mid (Free (s + t) ∷ p.post), used-free p.pre p.pre_used, used-free p.mid p.mid_used, k.total, p.total);
       },
     )
 
@@ -84,34 +71,20 @@ closed-heap b c gap header p k = (same-header b c header k.long k.head, closed-t
 pub closed-chunks : (b c : List ℕ) (gap : Gap) → IsHeader b → HasGap b gap → ClosesGap b c gap → chunks c ≡ chunks b
 closed-chunks b c gap header p k =
     let f = gap.first in
-    let s = gap.size in
-    let end = gap.end in
-    let t = gap.more in
     let n : entries c ≡ entries b = head-word b c 12 10 k.head (omega arith) in
-    let long = k.long in
-    let places = p.places in
-    let gap_size = p.size in
-    let most = header.most in
     chunks-same b c n (λ i h. chunk-cases b c (entry b i) (entry c i) (λ e. entry-before b c gap i k h (omega (arith, e)) ∙ e) (λ e. entry-behind b c gap i k h (omega (arith, e)) ∙ e) (λ told.
     elim (p.all i h told) [
       | inl x ↦ (let l = lies b (table_end b) f p.pre f f i p.before x in
           let wide = cost-four l.n l.some in
-          let from = l.from in
-          let upto = l.upto in
           let d : entry c i ≡ entry b i = entry-before b c gap i k h (omega arith) in
-          chunk-shifted b c 0 0 (table_end b) f f (entry b i) (entry c i) l k.before (omega arith) (omega arith) (omega arith) (omega arith) (omega arith) told ((λ e. told.0 (sym d ∙ e)), (λ e. told.1 (sym d ∙ e))))
-      | inr y ↦ elim y [
-        | inl x ↦ (let l = lies b (f + s) 0 p.mid end 0 i p.middle x in
-            let wide = cost-four l.n l.some in
-            let from = l.from in
-            let upto = l.upto in
-            let d : entry c i + (f + s) ≡ entry b i + f = entry-moves b c gap i k h (omega arith) (omega arith) in
-            chunk-shifted b c (f + s) f (f + s) end (end - s) (entry b i) (entry c i) l k.moved d (omega arith) (omega arith) (omega arith) (omega arith) told ((λ e. absurd (omega (arith, e))), (λ e. absurd (omega (arith, e)))))
-        | inr x ↦ (let l = lies b (end + t) gap.after p.post (length b) 0 i p.behind x in
-            let from = l.from in
-            let d : entry c i ≡ entry b i = entry-behind b c gap i k h (omega arith) in
-            chunk-shifted b c 0 0 (end + t) (length b) (length b) (entry b i) (entry c i) l k.behind (omega arith) (omega arith) (omega arith) (omega arith) (omega arith) told ((λ e. told.0 (sym d ∙ e)), (λ e. told.1 (sym d ∙ e))))
-      ]
+          chunk-stays b c (table_end b) f (entry b i) (entry c i) l k.before d (omega arith) (omega arith) told)
+      | inr (inl x) ↦ (let l = lies b (f + gap.size) 0 p.mid gap.end 0 i p.middle x in
+          let wide = cost-four l.n l.some in
+          let d : entry c i + (f + gap.size) ≡ entry b i + f = entry-moves b c gap i k h (omega arith) (omega arith) in
+          chunk-shifted b c (f + gap.size) f (f + gap.size) gap.end (gap.end - gap.size) (entry b i) (entry c i) l k.moved d (omega arith) (omega arith) (omega arith) (omega arith) told ((λ e. absurd (omega (arith, e))), (λ e. absurd (omega (arith, e)))))
+      | inr (inr x) ↦ (let l = lies b (gap.end + gap.more) gap.after p.post (length b) 0 i p.behind x in
+          let d : entry c i ≡ entry b i = entry-behind b c gap i k h (omega arith) in
+          chunk-stays b c (gap.end + gap.more) (length b) (entry b i) (entry c i) l k.behind d (omega arith) (omega arith) told)
     ]))
 
 -- a byte that those words leave
@@ -131,34 +104,26 @@ words-byte d gap k where_is low =
 pub closes : (b d c : List ℕ) (gap : Gap) → IsHeader b → HasGap b gap → gap.after < 65536 → MovesRun b d (gap.first + gap.size) gap.end gap.first → c ≡ closing_words d gap → ClosesGap b c gap
 unfolding closing_words
 closes b d c gap header p small m is =
-    let f = gap.first in
-    let s = gap.size in
-    let end = gap.end in
-    let t = gap.more in
-    let at = end - s in
-    let places = p.places in
-    let most = header.most in
-    let size = p.size in
-    let four : 4 ≤ s = omega arith in
-    let low = tiles-le b (table_end b) f p.pre f f p.before in
-    let d1 = with_word d at (s + t) in
+    let at = gap.end - gap.size in
+    let four : 4 ≤ gap.size = omega arith in
+    let low = tiles-le b (table_end b) gap.first p.pre gap.first gap.first p.before in
+    let d1 = with_word d at (gap.size + gap.more) in
     let d2 = with_word d1 (at + 2) gap.after in
-    let n0 = m.long in
-    let n1 = length-with_word d at (s + t) in
+    let n1 = length-with_word d at (gap.size + gap.more) in
     let n2 = length-with_word d1 (at + 2) gap.after in
     let n3 = length-with_word d2 12 at in
     let byte : (k : ℕ) → (k < 12) ⊎ ((14 ≤ k) × (k < at)) ⊎ ((14 ≤ k) × (at + 4 ≤ k)) → get_or c k 0 ≡ get_or d k 0 = (λ k h. ap (λ x. get_or x k 0) is ∙ words-byte d gap k h (omega arith)) in
     let words : (j : ℕ) → word c j ≡ word (with_word d2 12 at) j = (λ j. ap (λ x. word x j) is) in
     record {
-      long = ap length is ∙ n3 ∙ n2 ∙ n1 ∙ n0;
+      long = ap length is ∙ n3 ∙ n2 ∙ n1 ∙ m.long;
       head = (λ k h. byte k (inl h) ∙ m.head k (omega arith));
       total = word-bytes b c 14 14 (byte 14 (inr (inl (omega arith, omega arith))) ∙ m.head 14 (omega arith)) (byte 15 (inr (inl (omega arith, omega arith))) ∙ m.head 15 (omega arith));
-      first = words 12 ∙ word-same d2 12 at (omega arith) (omega (arith, n0, n1, n2));
+      first = words 12 ∙ word-same d2 12 at (omega arith) (omega (arith, m.long, n1, n2));
       places = (λ i h. word-bytes d c (16 + 2 * i) (16 + 2 * i) (byte (16 + 2 * i) (inr (inl (omega arith, omega arith)))) (byte (16 + 2 * i + 1) (inr (inl (omega arith, omega arith)))) ∙ m.entries i h);
       before = (λ j k e g r. let same : j ≡ k = omega arith in ap (λ x. get_or c x 0) same ∙ byte k (inr (inl (omega arith, omega arith))) ∙ m.before k g (omega arith) r);
       moved = (λ j k e g r. byte j (inr (inl (omega arith, omega arith))) ∙ m.moved j k e g r);
-      size = words at ∙ word-other d2 12 at at (inr (omega arith)) ∙ word-other d1 (at + 2) gap.after at (inl (omega arith)) ∙ word-same d at (s + t) (omega arith) (omega (arith, n0));
-      next = words (at + 2) ∙ word-other d2 12 at (at + 2) (inr (omega arith)) ∙ word-same d1 (at + 2) gap.after small (omega (arith, n0, n1));
+      size = words at ∙ word-other d2 12 at at (inr (omega arith)) ∙ word-other d1 (at + 2) gap.after at (inl (omega arith)) ∙ word-same d at (gap.size + gap.more) (omega arith) (omega (arith, m.long));
+      next = words (at + 2) ∙ word-other d2 12 at (at + 2) (inr (omega arith)) ∙ word-same d1 (at + 2) gap.after small (omega (arith, m.long, n1));
       behind = (λ j k e g r. let same : j ≡ k = omega arith in ap (λ x. get_or c x 0) same ∙ byte k (inr (inr (omega arith, omega arith))) ∙ m.behind k (omega arith) (omega arith));
     }
 

@@ -16,7 +16,7 @@ length-zeros d c from m is = ap length is ∙ length-with_part d from (replicate
 -- a byte beside them
 pub beside-zeros : (d c : List ℕ) (from m k : ℕ) → c ≡ with_part d from (replicate m 0) → (k < from) ⊎ (from + m ≤ k) → get_or c k 0 ≡ get_or d k 0
 beside-zeros d c from m k is (inl h) = ap (λ x. get_or x k 0) is ∙ get_or-with_part_before d from (replicate m 0) k h
-beside-zeros d c from m k is (inr h) = let z = length-replicate {A = ℕ} m 0 in ap (λ x. get_or x k 0) is ∙ get_or-with_part_behind d from (replicate m 0) k (omega (arith, z, h))
+beside-zeros d c from m k is (inr h) = ap (λ x. get_or x k 0) is ∙ get_or-with_part_behind d from (replicate m 0) k (omega (arith, length-replicate {A = ℕ} m 0, h))
 
 -- one of them
 pub within-zeros : (d c : List ℕ) (from m k : ℕ) → c ≡ with_part d from (replicate m 0) → from + m ≤ length d → from ≤ k → k < from + m → get_or c k 0 ≡ 0

@@ -6,8 +6,8 @@ use Rattle.geos_model.specs.Block.{entry, entries, table_end, first_free, total_
 use Rattle.geos_model.specs.Heap.{Tiles, IsBlockSize, IsHeap}
 use Rattle.geos_model.proofs.Words.{word-same, word-other, length-with_word, byte-other, word-bytes}
 use Rattle.geos_model.proofs.Pieces.{lies}
-use Rattle.geos_model.proofs.Moves.{tiles-kept, chunk-shifted}
-use Rattle.geos_model.proofs.Tables.{chunks-same, chunk-cases}
+use Rattle.geos_model.proofs.Moves.{tiles-kept}
+use Rattle.geos_model.proofs.Tables.{chunks-same, chunk-kept}
 use Rattle.lmem_heap.specs.Holes.{IsOpen}
 
 -- the new size is in the header, and the rest of the heap is as it was
@@ -40,38 +40,26 @@ pub record Enlarged (b e c : List ℕ) (old : ℕ) : Type 0 where
 pub enlarges : (b c : List ℕ) (old : ℕ) → IsHeap (take old b) → old ≤ length b → IsBlockSize (length b) → c ≡ with_word b 8 (length b) → Enlarged b (take old b) c old
 enlarges b c old heap fits legal made =
     let e = take old b in
-    let h = heap.0 in
-    let fill = heap.1.1 in
     let long : length e ≡ old = omega (arith, fits, length-take old b) in
-    let least = h.least in
-    let sixteens = h.sixteens in
-    let fits_table = h.fits in
-    let some = h.some in
-    let most = legal.1 in
-    let legal_sixteens = legal.2 in
     let k = longer b c old fits legal.1 (omega arith) made in
-    let longs = k.long in
     let n : entries c ≡ entries e = k.words 10 (omega arith) (inr (omega arith)) in
     let each : (i : ℕ) → i < entries e → entry c i ≡ entry e i = (λ i l. k.words (16 + 2 * i) (omega arith) (inr (omega arith))) in
-    let T : ℕ → Type 0 = λ x. Tiles e (table_end e) (first_free e) heap.1.0 x 0 in
-    let tiles : Tiles e (table_end e) (first_free e) heap.1.0 old 0 = subst T long fill.tiles in
+    let tiles : Tiles e (table_end e) (first_free e) heap.1.0 old 0 = subst (λ (x : ℕ). Tiles e (table_end e) (first_free e) heap.1.0 x 0) long heap.1.1.tiles in
     let kept : IsShifted e c 0 0 (table_end e) old = (λ j q z g r. k.kept j q z (omega arith) r) in
     let start : table_end e ≡ table_end c = ap (λ x. 16 + 2 * x) (sym n) in
     let first : first_free e ≡ word c 12 = sym (k.words 12 (omega arith) (inr (omega arith))) in
     let total : total_free c ≡ total_free e = k.words 14 (omega arith) (inr (omega arith)) in
-    let S : ℕ → Type 0 = λ x. Tiles c x (first_free e) heap.1.0 old 0 in
-    let F : ℕ → Type 0 = λ x. Tiles c (table_end c) x heap.1.0 old 0 in
     record {
       is = record {
         header = record {
-          table = k.words 2 (omega arith) (inl (omega arith)) ∙ h.table;
-          flags = k.words 4 (omega arith) (inl (omega arith)) ∙ h.flags;
-          kind = k.words 6 (omega arith) (inl (omega arith)) ∙ h.kind;
-          size = k.size ∙ sym longs;
+          table = k.words 2 (omega arith) (inl (omega arith)) ∙ heap.0.table;
+          flags = k.words 4 (omega arith) (inl (omega arith)) ∙ heap.0.flags;
+          kind = k.words 6 (omega arith) (inl (omega arith)) ∙ heap.0.kind;
+          size = k.size ∙ sym k.long;
           least = omega (arith, legal.0);
           most = omega arith;
-          sixteens = ap (λ x. x % 16) longs ∙ legal_sixteens;
-          pairs = ap (λ x. x % 2) n ∙ h.pairs;
+          sixteens = ap (λ x. x % 16) k.long ∙ legal.2;
+          pairs = ap (λ x. x % 2) n ∙ heap.0.pairs;
           some = omega arith;
           fits = omega arith;
         };
@@ -81,18 +69,14 @@ enlarges b c old heap fits legal made =
         next = 0;
         behind = [];
         linked = inl (record { is = refl; none = refl; start = refl });
-        tiles_ahead = subst F first (subst S start (tiles-kept e c (table_end e) (first_free e) heap.1.0 old 0 tiles kept (omega (arith, n)) (λ i l a z. each i l)));
-        tiles_behind = (sym longs, refl);
+        tiles_ahead = subst (λ (x : ℕ). Tiles c (table_end c) x heap.1.0 old 0) first (subst (λ (x : ℕ). Tiles c x (first_free e) heap.1.0 old 0) start (tiles-kept e c (table_end e) (first_free e) heap.1.0 old 0 tiles kept (omega (arith, n)) (λ i l a z. each i l)));
+        tiles_behind = (sym k.long, refl);
         order = fits;
-        fours = omega (arith, sixteens, long);
-        all = (λ i l told. let lb : i < entries e = omega (arith, n) in let d = each i lb in inr (inl (fill.all i lb ((λ z. told.0 (d ∙ z)), (λ z. told.1 (d ∙ z))))));
-        total = (let t = fill.total in omega (arith, t, total));
+        fours = omega (arith, heap.0.sixteens, long);
+        all = (λ i l told. let lb : i < entries e = omega (arith, n) in let d = each i lb in inr (inl (heap.1.1.all i lb ((λ z. told.0 (d ∙ z)), (λ z. told.1 (d ∙ z))))));
+        total = omega (arith, heap.1.1.total, total);
       };
-      chunks = chunks-same e c n (λ i l. chunk-cases e c (entry e i) (entry c i) (λ z. each i l ∙ z) (λ z. each i l ∙ z) (λ told.
-          let d_is = each i l in
-          let r = lies e (table_end e) (first_free e) heap.1.0 old 0 i tiles (fill.all i l told) in
-          let from = r.from in
-          chunk-shifted e c 0 0 (table_end e) old old (entry e i) (entry c i) r kept (omega (arith, d_is)) (omega arith) (omega (arith, d_is)) (omega arith) (omega arith) told ((λ z. told.0 (sym d_is ∙ z)), (λ z. told.1 (sym d_is ∙ z)))));
+      chunks = chunks-same e c n (λ i l. chunk-kept e c i (table_end e) old (omega arith) (omega arith) (each i l) (λ t. lies e (table_end e) (first_free e) heap.1.0 old 0 i tiles (heap.1.1.all i l t)) kept);
       handle = ap (λ x. word x 0) made ∙ word-other b 8 (length b) 0 (inl (omega arith));
     }
 

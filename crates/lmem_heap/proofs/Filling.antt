@@ -9,8 +9,8 @@ use Rattle.geos_model.specs.Heap.{Piece, Used, Tiles, HasChunk, IsOffset, AreUse
 use Rattle.geos_model.proofs.Words.{word-same, word-other, length-with_word, byte-other, word-bytes}
 use Rattle.geos_model.proofs.Costs.{cost-four, cost-least, cost-fours}
 use Rattle.geos_model.proofs.Pieces.{lies, tiles-le, tiles-join, has-left, has-right, has-split, free_bytes-append}
-use Rattle.geos_model.proofs.Moves.{tiles-kept, chunk-shifted}
-use Rattle.geos_model.proofs.Tables.{chunks-set, chunk-cases}
+use Rattle.geos_model.proofs.Moves.{tiles-kept}
+use Rattle.geos_model.proofs.Tables.{chunks-set, chunk-kept}
 use Rattle.geos_model.proofs.Headers.{SameHead, head-word, same-header}
 use Rattle.geos_model.proofs.Entries.{told, chunk-told, chunk-none}
 use Rattle.geos_model.proofs.Found.{find}
@@ -43,17 +43,11 @@ pub record LeftHole (b c : List ℕ) (i : ℕ) : Type 0 where
 
 pub left-hole : (b c : List ℕ) (i : ℕ) → IsHeap b → i < entries b → IsOffset (entry b i) → c ≡ with_word b (16 + 2 * i) 0 → LeftHole b c i
 left-hole b c i heap h t is =
-    let fill = heap.1.1 in
     let e = entry b i in
-    let fits = heap.0.fits in
-    let most = heap.0.most in
-    let some_entries = heap.0.some in
-    let r = find b (table_end b) (word b 12) heap.1.0 (length b) 0 i fill.tiles (fill.all i h t) in
-    let some = r.some in
-    let low = r.low in
-    let m : r.n ≡ chunk_length b i = (let s = r.size in omega (arith, s)) in
+    let r = find b (table_end b) (word b 12) heap.1.0 (length b) 0 i heap.1.1.tiles (heap.1.1.all i h t) in
+    let m : r.n ≡ chunk_length b i = omega (arith, r.size) in
     let end : e - 2 + cost r.n ≡ chunk_end b i = ap (λ x. e - 2 + cost x) m in
-    let wide = cost-four r.n some in
+    let wide = cost-four r.n r.some in
     let le = tiles-le b (e - 2 + cost r.n) r.g r.post (length b) 0 r.behind in
     let long : length c ≡ length b = ap length is ∙ length-with_word b (16 + 2 * i) 0 in
     let head : SameHead b c 12 = (λ k l. ap (λ x. get_or x k 0) is ∙ byte-other b (16 + 2 * i) 0 k (inl (omega arith))) in
@@ -67,12 +61,9 @@ left-hole b c i heap h t is =
     let post : Tiles c (e - 2 + cost r.n) r.g r.post (length b) 0 = tiles-kept b c (e - 2 + cost r.n) r.g r.post (length b) 0 r.behind (far (e - 2 + cost r.n) (length b) (omega arith)) (omega (arith, n)) (λ j l a z. each j (apart j (λ q. absurd (omega arith)))) in
     let first : word b 12 ≡ word c 12 = sym (ap (λ x. word x 12) is ∙ word-other b (16 + 2 * i) 0 12 (inl (omega arith))) in
     let total : total_free c ≡ total_free b = ap (λ x. word x 14) is ∙ word-other b (16 + 2 * i) 0 14 (inl (omega arith)) in
-    let F : ℕ → Type 0 = λ x. Tiles c (table_end b) x r.pre (e - 2) r.g in
-    let E : ℕ → Type 0 = λ x. Tiles c x r.g r.post (length b) 0 in
-    let L : ℕ → Type 0 = λ x. Tiles c (chunk_end b i) r.g r.post x 0 in
-    let start_fours : table_end b % 4 ≡ 0 = (let pairs = heap.0.pairs in omega (arith, pairs)) in
-    let split : (j : ℕ) → j < entries b → IsOffset (entry b j) → j ≢ i → HasChunk j r.pre ⊎ HasChunk j r.post = (λ j l u ne. let H : List Piece → Type 0 = λ ps. HasChunk j ps in
-    elim (has-split j r.pre (Used i r.n ∷ r.post) (subst H r.is (fill.all j l u))) [ inl x ↦ inl x | inr x ↦ elim x [ inl z ↦ absurd (ne z) | inr y ↦ inr y ] ]) in
+    let start_fours : table_end b % 4 ≡ 0 = omega (arith, heap.0.pairs) in
+    let split : (j : ℕ) → j < entries b → IsOffset (entry b j) → j ≢ i → HasChunk j r.pre ⊎ HasChunk j r.post = (λ j l u ne.
+    elim (has-split j r.pre (Used i r.n ∷ r.post) (subst (λ (ps : List Piece). HasChunk j ps) r.is (heap.1.1.all j l u))) [ inl x ↦ inl x | inr x ↦ elim x [ inl z ↦ absurd (ne z) | inr y ↦ inr y ] ]) in
     record {
       is = record {
         header = same-header b c heap.0 long head;
@@ -82,23 +73,20 @@ left-hole b c i heap h t is =
         next = r.g;
         behind = r.post;
         linked = inl (record { is = refl; none = refl; start = omega (arith, n) });
-        tiles_ahead = subst F first pre;
-        tiles_behind = subst L (sym long) (subst E end post);
+        tiles_ahead = subst (λ (x : ℕ). Tiles c (table_end b) x r.pre (e - 2) r.g) first pre;
+        tiles_behind = subst (λ (x : ℕ). Tiles c (chunk_end b i) r.g r.post x 0) (sym long) (subst (λ (x : ℕ). Tiles c x r.g r.post (length b) 0) end post);
         order = omega (arith, end);
         fours = tiles-fours b (table_end b) (word b 12) r.pre (e - 2) r.g r.before start_fours;
         all = (λ j l u. let ne : j ≢ i = (λ q. u.0 (ap (λ x. entry c x) q ∙ here)) in let d = each j ne in
             inr (split j (omega (arith, n)) ((λ z. u.0 (d ∙ z)), (λ z. u.1 (d ∙ z))) ne));
-        total = (let g = ap free_bytes r.is ∙ free_bytes-append r.pre (Used i r.n ∷ r.post) in let w = fill.total in omega (arith, total, w, g));
+        total = (let g = ap free_bytes r.is ∙ free_bytes-append r.pre (Used i r.n ∷ r.post) in omega (arith, total, heap.1.1.total, g));
       };
       some = omega (arith, m);
-      says = (let s = r.size in omega (arith, s, m));
-      low = low;
+      says = omega (arith, r.size, m);
+      low = r.low;
       high = omega (arith, end);
       fours = tiles-fours b (table_end b) (word b 12) r.pre (e - 2) r.g r.before start_fours;
-      chunks = chunks-set b c i None n h (chunk-none c (entry c i) here) (λ j l ne. let d = each j ne in
-          chunk-cases b c (entry b j) (entry c j) (λ z. d ∙ z) (λ z. d ∙ z) (λ u. let y = told b j heap l u in let from = y.from in
-          let told_c : IsOffset (entry c j) = ((λ z. u.0 (sym d ∙ z)), (λ z. u.1 (sym d ∙ z))) in
-          chunk-shifted b c 0 0 (table_end b) (length b) (length b) (entry b j) (entry c j) y (far (table_end b) (length b) (omega arith)) (omega (arith, d)) (omega arith) (omega (arith, d)) (omega arith) (omega (arith, long)) u told_c));
+      chunks = chunks-set b c i None n h (chunk-none c (entry c i) here) (λ j l ne. chunk-kept b c j (table_end b) (length b) (omega arith) (omega (arith, long)) (each j ne) (told b j heap l) (far (table_end b) (length b) (omega arith)));
       handle = ap (λ x. word x 0) is ∙ word-other b (16 + 2 * i) 0 0 (inl (omega arith));
       count = n;
       here = here;
@@ -150,25 +138,14 @@ pub filled : (b c : List ℕ) (link at end i n : ℕ) (bytes : List ℕ) → (o 
     ((k : ℕ) → k < at → Apart k (16 + 2 * i) → get_or c k 0 ≡ get_or b k 0) → KeepsBack b c (at + cost n) → entry c i ≡ at + 2 → word c at ≡ n + 2 → part c (at + 2) n ≡ bytes → Filled b c link at end i n bytes o
 filled b c link at end i n bytes o some fits h none long keep back here says content =
     let p = open-place b link at end o in
-    let low = p.low in
-    let table = p.table in
-    let out = p.link_out in
-    let link_high = p.link_high in
-    let high = p.high in
-    let most = p.most in
-    let link_low = p.link_low in
     let k = link-place b link o.upto o.before o.linked in
-    let within = k.within in
-    let start = k.start in
     let wide = cost-least n some in
     let four = cost-fours n in
-    let at_fours = o.fours in
     let le = tiles-le b o.upto (word b link) o.ahead at o.next o.tiles_ahead in
-    let w = has-put b c i at (at + cost n) n bytes h low (omega arith) keep back here says content in
-    let m = w.count in
+    let w = has-put b c i at (at + cost n) n bytes h p.low (omega arith) keep back here says content in
     let rear = w.rear end (length b) fits in
     let apart : (j : ℕ) → table_end b + 2 ≤ entry b j → j ≢ i = (λ j a q. let z : entry b j ≡ 0 = ap (λ x. entry b x) q ∙ none in absurd (omega (arith, a, z))) in
-    let link_same : word c link ≡ word b link = elim out [
+    let link_same : word c link ≡ word b link = elim p.link_out [
       | inl e ↦ word-bytes b c link link (keep link (omega arith) (inl (omega (arith, e)))) (keep (link + 1) (omega arith) (inl (omega (arith, e))))
       | inr f ↦ word-bytes b c link link (keep link (omega arith) (inr (omega (arith, f)))) (keep (link + 1) (omega arith) (inr (omega (arith, f))))
     ] in
@@ -179,14 +156,12 @@ filled b c link at end i n bytes o some fits h none long keep back here says con
       low = w.front (table_end b) (link - 2) (omega arith) (omega arith);
       says = (λ f. word-bytes b c (link - 2) (link - 2) (keep (link - 2) (omega arith) (inr (omega arith))) (keep (link - 2 + 1) (omega arith) (inr (omega arith))));
       first = (λ f. w.first);
-      apart = (λ f e. elim o.linked [ inl k1 ↦ (let z = k1.is in absurd (omega (arith, z, f))) | inr k1 ↦ k1.apart (sym link_same ∙ e) ]);
-      mid = w.front o.upto at start (omega arith);
+      apart = (λ f e. elim o.linked [ inl k1 ↦ (absurd (omega (arith, k1.is, f))) | inr k1 ↦ k1.apart (sym link_same ∙ e) ]);
+      mid = w.front o.upto at k.start (omega arith);
     } in
-    let ahead : Tiles c o.upto (word b link) o.ahead at o.next = tiles-kept b c o.upto (word b link) o.ahead at o.next o.tiles_ahead r.mid (omega (arith, m)) (λ j l a z. w.each j l (apart j (omega arith))) in
-    let behind : Tiles c end o.next o.behind (length b) 0 = tiles-kept b c end o.next o.behind (length b) 0 o.tiles_behind rear (omega (arith, m)) (λ j l a z. w.each j l (apart j (omega arith))) in
-    let K : ℕ → Type 0 = λ x. Tiles c o.upto x o.ahead at o.next in
-    let V : ℕ → Type 0 = λ x. Tiles c end o.next o.behind x 0 in
-    let mine : Tiles c at o.next (Used i n ∷ []) (at + cost n) o.next = (some, omega (arith, m), here, says, (refl, refl)) in
+    let ahead : Tiles c o.upto (word b link) o.ahead at o.next = tiles-kept b c o.upto (word b link) o.ahead at o.next o.tiles_ahead r.mid (omega (arith, w.count)) (λ j l a z. w.each j l (apart j (omega arith))) in
+    let behind : Tiles c end o.next o.behind (length b) 0 = tiles-kept b c end o.next o.behind (length b) 0 o.tiles_behind rear (omega (arith, w.count)) (λ j l a z. w.each j l (apart j (omega arith))) in
+    let mine : Tiles c at o.next (Used i n ∷ []) (at + cost n) o.next = (some, omega (arith, w.count), here, says, (refl, refl)) in
     record {
       is = record {
         header = same-header b c o.header long w.head;
@@ -196,21 +171,21 @@ filled b c link at end i n bytes o some fits h none long keep back here says con
         next = o.next;
         behind = o.behind;
         linked = relinked b c link at o.upto o.before o.header o.linked le r;
-        tiles_ahead = tiles-join c o.upto (word c link) o.ahead (Used i n ∷ []) at o.next (at + cost n) o.next (subst K (sym link_same) ahead) mine;
-        tiles_behind = subst V (sym long) behind;
+        tiles_ahead = tiles-join c o.upto (word c link) o.ahead (Used i n ∷ []) at o.next (at + cost n) o.next (subst (λ (x : ℕ). Tiles c o.upto x o.ahead at o.next) (sym link_same) ahead) mine;
+        tiles_behind = subst (λ (x : ℕ). Tiles c end o.next o.behind x 0) (sym long) behind;
         order = fits;
-        fours = omega (arith, four, at_fours);
+        fours = omega (arith, four, o.fours);
         all = (λ j l u. elim (cases_eq j i) [
           | inl q ↦ inr (inl (has-right j o.ahead (Used i n ∷ []) (inl q)))
-          | inr ne ↦ (let lb : j < entries b = omega (arith, m) in let d = w.each j lb ne in elim (o.all j lb ((λ z. u.0 (d ∙ z)), (λ z. u.1 (d ∙ z)))) [
+          | inr ne ↦ (let lb : j < entries b = omega (arith, w.count) in let d = w.each j lb ne in elim (o.all j lb ((λ z. u.0 (d ∙ z)), (λ z. u.1 (d ∙ z)))) [
             | inl x ↦ inl x
             | inr x ↦ inr (elim x [ inl y ↦ inl (has-left j o.ahead (Used i n ∷ []) y) | inr y ↦ inr y ])
           ])
         ]);
-        total = (let t = o.total in let g = free_bytes-append o.ahead (Used i n ∷ []) in omega (arith, t, g, w.total));
+        total = omega (arith, o.total, free_bytes-append o.ahead (Used i n ∷ []), w.total);
       };
       used = (λ u. used-both o.ahead (Used i n ∷ []) u tt);
-      chunks = chunks-set b c i (Some bytes) m h w.chunk (λ j l ne. kept-chunk b c link at end end j o long r.low r.mid rear (λ x. lies b end o.next o.behind (length b) 0 j o.tiles_behind x) l (w.each j l ne));
+      chunks = chunks-set b c i (Some bytes) w.count h w.chunk (λ j l ne. kept-chunk b c link at end end j o long r.low r.mid rear (λ x. lies b end o.next o.behind (length b) 0 j o.tiles_behind x) l (w.each j l ne));
       handle = head-word b c 12 0 w.head (omega arith);
       same_link = link_same;
     }

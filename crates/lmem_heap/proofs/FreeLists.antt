@@ -13,7 +13,7 @@ use Rattle.lmem_heap.specs.Holes.{IsLink, IsOpen, IsBeside, FitsBehind}
 pub first-behind : (b : List ℕ) (at f : ℕ) (ps : List Piece) (end : ℕ) → Tiles b at f ps end 0 → (f ≡ 0) ⊎ (at ≤ f)
 first-behind b at f [] end s = inl s.1
 first-behind b at f (Used i n ∷ ps) end s = elim (first-behind b (at + cost n) f ps end s.4) [ inl e ↦ inl e | inr h ↦ inr (omega arith) ]
-first-behind b at f (Free m ∷ ps) end s = let e = s.2 in inr (omega (arith, e))
+first-behind b at f (Free m ∷ ps) end s = inr (omega (arith, s.2))
 
 -- pieces before the first free one are chunks
 pub none-before : (b : List ℕ) (at f : ℕ) (ps : List Piece) (end next : ℕ) → Tiles b at f ps end next → 0 < at → (f ≡ 0) ⊎ (end ≤ f) → AreUsed ps
@@ -21,9 +21,7 @@ none-before b at f [] end next s low h = tt
 none-before b at f (Used i n ∷ ps) end next s low h = none-before b (at + cost n) f ps end next s.4 (omega arith) h
 none-before b at f (Free m ∷ ps) end next s low h =
     let le = tiles-le b (at + m) (word b (at + 2)) ps end next s.5 in
-    let e = s.2 in
-    let some = s.0 in
-    absurd (elim h [ inl z ↦ omega (arith, z, e) | inr g ↦ omega (arith, g, e, le, some) ])
+    absurd (elim h [ inl z ↦ omega (arith, z, s.2) | inr g ↦ omega (arith, g, s.2, le, s.0) ])
 
 -- chunks leave the next free one as it is
 pub used-next : (b : List ℕ) (at f : ℕ) (ps : List Piece) (end next : ℕ) → AreUsed ps → Tiles b at f ps end next → f ≡ next
@@ -42,53 +40,42 @@ pub record Reached (b : List ℕ) (at f : ℕ) (ps : List Piece) (end next : ℕ
   pub here : Tiles b f f (Free size ∷ rest) end next
 
 pub reach : (b : List ℕ) (at f : ℕ) (ps : List Piece) (end next : ℕ) → Tiles b at f ps end next → f < end → (next ≡ 0) ⊎ (end ≤ next) → f ≢ 0 → Reached b at f ps end next
-reach b at f [] end next s l n ne = let e = s.1 in absurd (elim n [ inl z ↦ ne (e ∙ z) | inr g ↦ omega (arith, g, e, l) ])
+reach b at f [] end next s l n ne = absurd (elim n [ inl z ↦ ne (s.1 ∙ z) | inr g ↦ omega (arith, g, s.1, l) ])
 reach b at f (Used i m ∷ ps) end next s l n ne =
     let r = reach b (at + cost m) f ps end next s.4 l n ne in
     record { pre = Used i m ∷ r.pre; size = r.size; rest = r.rest; is = ap (λ xs. Used i m ∷ xs) r.is; used = r.used; front = (s.0, s.1, s.2, s.3, r.front); here = r.here }
 reach b at f (Free m ∷ ps) end next s l n ne =
-    let P : ℕ → Type 0 = λ x. Tiles b x f (Free m ∷ ps) end next in
-    record { pre = []; size = m; rest = ps; is = refl; used = tt; front = (sym s.2, refl); here = subst P (sym s.2) s }
+    record { pre = []; size = m; rest = ps; is = refl; used = tt; front = (sym s.2, refl); here = subst (λ (x : ℕ). Tiles b x f (Free m ∷ ps) end next) (sym s.2) s }
 
 -- free pieces take no more than their place
 pub free-le : (b : List ℕ) (at f : ℕ) (ps : List Piece) (end next : ℕ) → Tiles b at f ps end next → at + free_bytes ps ≤ end
-free-le b at f [] end next s = let e = s.0 in omega (arith, e)
-free-le b at f (Used i n ∷ ps) end next s = let a = free-le b (at + cost n) f ps end next s.4 in omega (arith, a)
-free-le b at f (Free m ∷ ps) end next s = let a = free-le b (at + m) (word b (at + 2)) ps end next s.5 in omega (arith, a)
+free-le b at f [] end next s = omega (arith, s.0)
+free-le b at f (Used i n ∷ ps) end next s = omega (arith, free-le b (at + cost n) f ps end next s.4)
+free-le b at f (Free m ∷ ps) end next s = omega (arith, free-le b (at + m) (word b (at + 2)) ps end next s.5)
 
 -- pieces begin and end at fours
 pub tiles-fours : (b : List ℕ) (at f : ℕ) (ps : List Piece) (end next : ℕ) → Tiles b at f ps end next → at % 4 ≡ 0 → end % 4 ≡ 0
-tiles-fours b at f [] end next s h = let e = s.0 in omega (arith, e, h)
-tiles-fours b at f (Used i n ∷ ps) end next s h = let c = cost-fours n in tiles-fours b (at + cost n) f ps end next s.4 (omega (arith, c, h))
-tiles-fours b at f (Free m ∷ ps) end next s h = let c = s.1 in tiles-fours b (at + m) (word b (at + 2)) ps end next s.5 (omega (arith, c, h))
+tiles-fours b at f [] end next s h = omega (arith, s.0, h)
+tiles-fours b at f (Used i n ∷ ps) end next s h = tiles-fours b (at + cost n) f ps end next s.4 (omega (arith, cost-fours n, h))
+tiles-fours b at f (Free m ∷ ps) end next s h = tiles-fours b (at + m) (word b (at + 2)) ps end next s.5 (omega (arith, s.1, h))
 
 -- the pieces of a link
 pub link-tiles : (b : List ℕ) (link upto : ℕ) (before : List Piece) → IsLink b link upto before → Tiles b (table_end b) (first_free b) before upto (word b link)
 link-tiles b link upto before (inl k) =
-    let none = k.none in
-    let is = k.is in
-    let start = k.start in
-    let B : List Piece → Type 0 = λ ps. Tiles b (table_end b) (first_free b) ps upto (word b link) in
-    subst B (sym none) (sym start, ap (word b) (sym is))
+    subst (λ (ps : List Piece). Tiles b (table_end b) (first_free b) ps upto (word b link)) (sym k.none) (sym k.start, ap (word b) (sym k.is))
 link-tiles b link upto before (inr k) =
-    let low = k.low in
-    let ends = k.ends in
-    let apart = k.apart in
     let place : link - 2 + 2 ≡ link = omega arith in
     let w : word b (link - 2 + 2) ≡ word b link = ap (word b) place in
-    let here : Tiles b (link - 2) (link - 2) (Free k.size ∷ []) upto (word b link) = (k.some, k.fours, refl, k.says, (λ e. apart (sym w ∙ e ∙ sym ends)), (sym ends, w)) in
-    let B : List Piece → Type 0 = λ ps. Tiles b (table_end b) (first_free b) ps upto (word b link) in
-    subst B (sym k.is) (tiles-join b (table_end b) (first_free b) k.pre (Free k.size ∷ []) (link - 2) (link - 2) upto (word b link) k.front here)
+    let here : Tiles b (link - 2) (link - 2) (Free k.size ∷ []) upto (word b link) = (k.some, k.fours, refl, k.says, (λ e. k.apart (sym w ∙ e ∙ sym k.ends)), (sym k.ends, w)) in
+    subst (λ (ps : List Piece). Tiles b (table_end b) (first_free b) ps upto (word b link)) (sym k.is) (tiles-join b (table_end b) (first_free b) k.pre (Free k.size ∷ []) (link - 2) (link - 2) upto (word b link) k.front here)
 
 -- its chunks lie before it
 pub link-lies : (b : List ℕ) (link upto : ℕ) (before : List Piece) (j : ℕ) → IsLink b link upto before → HasChunk j before → LiesWithin b (entry b j) (table_end b) (link - 2)
 link-lies b link upto before j (inl k) h =
-    let H : List Piece → Type 0 = λ ps. HasChunk j ps in
-    let no : HasChunk j [] = subst H k.none h in
+    let no : HasChunk j [] = subst (λ (ps : List Piece). HasChunk j ps) k.none h in
     absurd no
 link-lies b link upto before j (inr k) h =
-    let H : List Piece → Type 0 = λ ps. HasChunk j ps in
-    elim (has-split j k.pre (Free k.size ∷ []) (subst H k.is h)) [ inl x ↦ lies b (table_end b) (first_free b) k.pre (link - 2) (link - 2) j k.front x | inr x ↦ absurd x ]
+    elim (has-split j k.pre (Free k.size ∷ []) (subst (λ (ps : List Piece). HasChunk j ps) k.is h)) [ inl x ↦ lies b (table_end b) (first_free b) k.pre (link - 2) (link - 2) j k.front x | inr x ↦ absurd x ]
 
 -- where a link lies
 pub record LinkPlace (b : List ℕ) (link upto : ℕ) : Type 0 where
@@ -99,22 +86,14 @@ pub record LinkPlace (b : List ℕ) (link upto : ℕ) : Type 0 where
 
 pub link-place : (b : List ℕ) (link upto : ℕ) (before : List Piece) → IsLink b link upto before → LinkPlace b link upto
 link-place b link upto before (inl k) =
-    let is = k.is in
-    let start = k.start in
-    record { low = omega (arith, is); start = omega (arith, start); within = omega (arith, is, start); out = inl is }
+    record { low = omega (arith, k.is); start = omega (arith, k.start); within = omega (arith, k.is, k.start); out = inl k.is }
 link-place b link upto before (inr k) =
-    let low = k.low in
-    let some = k.some in
-    let fours = k.fours in
-    let ends = k.ends in
-    let four : 4 ≤ k.size = omega (arith, some, fours) in
-    record { low = omega (arith, low); start = omega (arith, low, ends, four); within = omega (arith, low, ends, four); out = inr low }
+    let four : 4 ≤ k.size = omega (arith, k.some, k.fours) in
+    record { low = omega (arith, k.low); start = omega (arith, k.low, k.ends, four); within = omega (arith, k.low, k.ends, four); out = inr k.low }
 
 -- a heap is open at its end, with nothing in the hole
 pub heap-open : (b : List ℕ) → IsHeap b → IsOpen b 12 (length b) (length b)
 heap-open b heap =
-    let fill = heap.1.1 in
-    let sixteens = heap.0.sixteens in
     record {
       header = heap.0;
       before = [];
@@ -123,12 +102,12 @@ heap-open b heap =
       next = 0;
       behind = [];
       linked = inl (record { is = refl; none = refl; start = refl });
-      tiles_ahead = fill.tiles;
+      tiles_ahead = heap.1.1.tiles;
       tiles_behind = (refl, refl);
       order = omega arith;
-      fours = omega (arith, sixteens);
-      all = (λ i h t. inr (inl (fill.all i h t)));
-      total = (let e = fill.total in omega (arith, e));
+      fours = omega (arith, heap.0.sixteens);
+      all = (λ i h t. inr (inl (heap.1.1.all i h t)));
+      total = omega (arith, heap.1.1.total);
     }
 
 -- with nothing in the hole it is a heap
@@ -145,7 +124,7 @@ open-heap b link at o =
             | inl x ↦ has-left i o.before (o.ahead ++ o.behind) x
             | inr x ↦ has-right i o.before (o.ahead ++ o.behind) (elim x [ inl y ↦ has-left i o.ahead o.behind y | inr y ↦ has-right i o.ahead o.behind y ])
           ]);
-          total = (let e = o.total in let p = free_bytes-append o.before (o.ahead ++ o.behind) in let q = free_bytes-append o.ahead o.behind in omega (arith, e, p, q));
+          total = omega (arith, o.total, free_bytes-append o.before (o.ahead ++ o.behind), free_bytes-append o.ahead o.behind);
         },
       ),
     )
@@ -164,23 +143,16 @@ pub record OpenPlace (b : List ℕ) (link at end : ℕ) : Type 0 where
 pub open-place : (b : List ℕ) (link at end : ℕ) → IsOpen b link at end → OpenPlace b link at end
 open-place b link at end o =
     let k = link-place b link o.upto o.before o.linked in
-    let low = k.low in
-    let start = k.start in
-    let within = k.within in
     let a = tiles-le b o.upto (word b link) o.ahead at o.next o.tiles_ahead in
     let z = tiles-le b end o.next o.behind (length b) 0 o.tiles_behind in
     let f1 = free-le b (table_end b) (first_free b) o.before o.upto (word b link) (link-tiles b link o.upto o.before o.linked) in
     let f2 = free-le b o.upto (word b link) o.ahead at o.next o.tiles_ahead in
     let f3 = free-le b end o.next o.behind (length b) 0 o.tiles_behind in
-    let total = o.total in
-    let order = o.order in
-    let some = o.header.some in
-    let most = o.header.most in
-    record { link_low = low; link_high = omega (arith, within, a); link_out = k.out; low = omega (arith, start, a); table = omega (arith, some); high = z; most = most; room = omega (arith, f1, f2, f3, total, order) }
+    record { link_low = k.low; link_high = omega (arith, k.within, a); link_out = k.out; low = omega (arith, k.start, a); table = omega (arith, o.header.some); high = z; most = o.header.most; room = omega (arith, f1, f2, f3, o.total, o.order) }
 
 -- what the last free chunk before the hole leaves
 next-behind : (b : List ℕ) (link at end : ℕ) → (o : IsOpen b link at end) → (o.next ≡ 0) ⊎ (at ≤ o.next)
-next-behind b link at end o = elim (first-behind b end o.next o.behind (length b) o.tiles_behind) [ inl e ↦ inl e | inr h ↦ (let order = o.order in inr (omega (arith, h, order))) ]
+next-behind b link at end o = elim (first-behind b end o.next o.behind (length b) o.tiles_behind) [ inl e ↦ inl e | inr h ↦ (inr (omega (arith, h, o.order))) ]
 
 -- the next free chunk before the hole
 pub record NextChunk (b : List ℕ) (link at end : ℕ) : Type 0 where
@@ -195,18 +167,12 @@ open-next b link at end o ne l =
     let f = word b link in
     let r = reach b o.upto f o.ahead at o.next o.tiles_ahead l (next-behind b link at end o) ne in
     let k = link-place b link o.upto o.before o.linked in
-    let start = k.start in
-    let within = k.within in
     let p = tiles-le b o.upto f r.pre f f r.front in
     let q = tiles-le b (f + r.size) (word b (f + 2)) r.rest at o.next r.here.5 in
-    let some = r.here.0 in
-    let fours = r.here.1 in
-    let says = r.here.3 in
-    let start_fours : table_end b % 4 ≡ 0 = (let pairs = o.header.pairs in omega (arith, pairs)) in
+    let start_fours : table_end b % 4 ≡ 0 = omega (arith, o.header.pairs) in
     let back : f + 2 - 2 ≡ f = omega arith in
     let front : Tiles b (table_end b) (first_free b) (o.before ++ r.pre) f f = tiles-join b (table_end b) (first_free b) o.before r.pre o.upto f f f (link-tiles b link o.upto o.before o.linked) r.front in
-    let F : ℕ → Type 0 = λ x. Tiles b (table_end b) (first_free b) (o.before ++ r.pre) x x in
-    let split : (i : ℕ) → HasChunk i o.ahead → HasChunk i r.pre ⊎ HasChunk i (Free r.size ∷ r.rest) = (λ i h. let H : List Piece → Type 0 = λ ps. HasChunk i ps in has-split i r.pre (Free r.size ∷ r.rest) (subst H r.is h)) in
+    let split : (i : ℕ) → HasChunk i o.ahead → HasChunk i r.pre ⊎ HasChunk i (Free r.size ∷ r.rest) = (λ i h. has-split i r.pre (Free r.size ∷ r.rest) (subst (λ (ps : List Piece). HasChunk i ps) r.is h)) in
     record {
       is = record {
         header = o.header;
@@ -219,11 +185,11 @@ open-next b link at end o ne l =
           pre = o.before ++ r.pre;
           size = r.size;
           is = refl;
-          some = some;
-          fours = fours;
-          front = subst F (sym back) front;
-          low = omega (arith, start, p);
-          says = ap (word b) back ∙ says;
+          some = r.here.0;
+          fours = r.here.1;
+          front = subst (λ (x : ℕ). Tiles b (table_end b) (first_free b) (o.before ++ r.pre) x x) (sym back) front;
+          low = omega (arith, k.start, p);
+          says = ap (word b) back ∙ r.here.3;
           apart = r.here.4;
           ends = omega arith;
         });
@@ -233,20 +199,17 @@ open-next b link at end o ne l =
         fours = o.fours;
         all = (λ i h t. elim (o.all i h t) [
           | inl x ↦ inl (has-left i (o.before ++ r.pre) (Free r.size ∷ []) (has-left i o.before r.pre x))
-          | inr x ↦ elim x [
-            | inl y ↦ elim (split i y) [
-              | inl z ↦ inl (has-left i (o.before ++ r.pre) (Free r.size ∷ []) (has-right i o.before r.pre z))
-              | inr z ↦ inr (inl z)
-            ]
-            | inr y ↦ inr (inr y)
+          | inr (inl y) ↦ elim (split i y) [
+            | inl z ↦ inl (has-left i (o.before ++ r.pre) (Free r.size ∷ []) (has-right i o.before r.pre z))
+            | inr z ↦ inr (inl z)
           ]
+          | inr (inr y) ↦ inr (inr y)
         ]);
-        total = (let e = o.total in let g = free_bytes-append (o.before ++ r.pre) (Free r.size ∷ []) in let h = free_bytes-append o.before r.pre in
-            let u = ap free_bytes r.is ∙ free_bytes-append r.pre (Free r.size ∷ r.rest) in omega (arith, e, g, h, u));
+        total = (let u = ap free_bytes r.is ∙ free_bytes-append r.pre (Free r.size ∷ r.rest) in omega (arith, o.total, free_bytes-append (o.before ++ r.pre) (Free r.size ∷ []), free_bytes-append o.before r.pre, u));
       };
-      above = omega (arith, within, p);
-      inside = omega (arith, q, says);
-      four = omega (arith, some, fours, says);
+      above = omega (arith, k.within, p);
+      inside = omega (arith, q, r.here.3);
+      four = omega (arith, r.here.0, r.here.1, r.here.3);
       place = tiles-fours b (table_end b) (first_free b) (o.before ++ r.pre) f f front start_fours;
     }
 
@@ -254,19 +217,14 @@ open-next b link at end o ne l =
 pub open-beside : (b : List ℕ) (link at end : ℕ) → IsOpen b link at end → (word b link ≡ 0) ⊎ (at ≤ word b link) → IsBeside b link at end
 open-beside b link at end o h =
     let k = link-place b link o.upto o.before o.linked in
-    let low = k.low in
-    let within = k.within in
-    record { is = o; used = none-before b o.upto (word b link) o.ahead at o.next o.tiles_ahead (omega (arith, low, within)) h }
+    record { is = o; used = none-before b o.upto (word b link) o.ahead at o.next o.tiles_ahead (omega (arith, k.low, k.within)) h }
 
 -- a free chunk lies before the end
 free-below : (b : List ℕ) (at f : ℕ) (ps : List Piece) (end next : ℕ) → Tiles b at f ps end next → next ≡ 0 → f ≢ 0 → f < end
 free-below b at f [] end next s z ne = absurd (ne (s.1 ∙ z))
 free-below b at f (Used i n ∷ ps) end next s z ne = free-below b (at + cost n) f ps end next s.4 z ne
 free-below b at f (Free m ∷ ps) end next s z ne =
-    let le = tiles-le b (at + m) (word b (at + 2)) ps end next s.5 in
-    let is = s.2 in
-    let some = s.0 in
-    omega (arith, le, is, some)
+    omega (arith, tiles-le b (at + m) (word b (at + 2)) ps end next s.5, s.2, s.0)
 
 -- the next free chunk of a heap, behind an empty hole
 pub open-fits : (b : List ℕ) (link : ℕ) → IsOpen b link (length b) (length b) → word b link ≢ 0 → (size : ℕ) → size ≤ word b (word b link) → FitsBehind b link (word b link) (word b link) size
@@ -278,7 +236,7 @@ open-fits b link o ne size fits =
     let next : o.next ≡ 0 = (let t : Tiles b end o.next [] end 0 = subst B none o.tiles_behind in t.1) in
     let l : f < end = free-below b o.upto f o.ahead end o.next o.tiles_ahead next ne in
     let r = reach b o.upto f o.ahead end o.next o.tiles_ahead l (inl next) ne in
-    let start_fours : table_end b % 4 ≡ 0 = (let pairs = o.header.pairs in omega (arith, pairs)) in
+    let start_fours : table_end b % 4 ≡ 0 = omega (arith, o.header.pairs) in
     let upto_fours : o.upto % 4 ≡ 0 = tiles-fours b (table_end b) (first_free b) o.before o.upto f (link-tiles b link o.upto o.before o.linked) start_fours in
     record {
       beside = record {
@@ -297,11 +255,11 @@ open-fits b link o ne size fits =
           all = (λ i h t. elim (o.all i h t) [
             | inl x ↦ inl x
             | inr x ↦ inr (elim x [
-              | inl y ↦ (let H : List Piece → Type 0 = λ ps. HasChunk i ps in elim (has-split i r.pre (Free r.size ∷ r.rest) (subst H r.is y)) [ inl z ↦ inl z | inr z ↦ inr (has-left i (Free r.size ∷ r.rest) o.behind z) ])
+              | inl y ↦ (elim (has-split i r.pre (Free r.size ∷ r.rest) (subst (λ (ps : List Piece). HasChunk i ps) r.is y)) [ inl z ↦ inl z | inr z ↦ inr (has-left i (Free r.size ∷ r.rest) o.behind z) ])
               | inr y ↦ inr (has-right i (Free r.size ∷ r.rest) o.behind y)
             ])
           ]);
-          total = (let t = o.total in let u = ap free_bytes r.is ∙ free_bytes-append r.pre (Free r.size ∷ r.rest) in let v = free_bytes-append (Free r.size ∷ r.rest) o.behind in omega (arith, t, u, v));
+          total = (let u = ap free_bytes r.is ∙ free_bytes-append r.pre (Free r.size ∷ r.rest) in omega (arith, o.total, u, free_bytes-append (Free r.size ∷ r.rest) o.behind));
         };
         used = r.used;
       };
@@ -324,6 +282,4 @@ heap-next b link o ne =
     let next : o.next ≡ 0 = (let t : Tiles b end o.next [] end 0 = subst B none o.tiles_behind in t.1) in
     let l : word b link < end = free-below b o.upto (word b link) o.ahead end o.next o.tiles_ahead next ne in
     let n = open-next b link end end o ne l in
-    let inside = n.inside in
-    let four = n.four in
-    record { is = n.is; above = n.above; inside = omega (arith, inside, four) }
+    record { is = n.is; above = n.above; inside = omega (arith, n.inside, n.four) }

@@ -2,12 +2,11 @@
 use Rattle.std.proofs.Common.{◌≡◌, ◌≢◌, ℕ, ◌+◌, ◌-◌, ◌*◌, ◌<◌, ◌≤◌, List, length, get_or, drop, refl, ap, sym, ◌∙◌, inl, inr, arith, length-take, length-drop}
 use Rattle.std.proofs.lemmas.Bool.{cases_eq, cases_lt}
 use Rattle.std.proofs.lemmas.Bool.Decides.{nat_tests}
-use Rattle.std.proofs.lemmas.List.{get_or-take, get_or-drop}
 use Rattle.lmem_raw.specs.Bytes.{part, with_part}
 use Rattle.lmem_raw.proofs.Parts.{length-with_part}
 use Rattle.geos_model.specs.Bytes.{word, with_word}
 use Rattle.geos_model.specs.Block.{entry, entries, table_end}
-use Rattle.geos_model.proofs.Words.{word-same, word-other, length-with_word, byte-other, word-bytes, get_or-with_part_before, get_or-with_part_behind, get_or-with_part_within}
+use Rattle.geos_model.proofs.Words.{word-same, word-other, length-with_word, byte-other, word-bytes, part-moved, get_or-with_part_before, get_or-with_part_behind}
 use Rattle.lmem_heap.specs.Moves.{entry_moved, MapsEntries, MovesRun}
 
 pub moved-in : (from end to e : ℕ) → from < e → e < end → entry_moved from end to e ≡ e - from + to
@@ -29,8 +28,7 @@ entries-none old f from = entries-kept old f from from (λ j g h. absurd (omega 
 pub entries-more : (old b : List ℕ) (f : ℕ → ℕ) (from i w : ℕ) → MapsEntries old b f from i → from ≤ i → i < entries old → table_end old ≤ length old →
     w ≡ f (word b (16 + 2 * i)) → w < 65536 → MapsEntries old (with_word b (16 + 2 * i) w) f from (i + 1)
 entries-more old b f from i w l up h fits is small =
-    let long = l.long in
-    let here : entry (with_word b (16 + 2 * i) w) i ≡ f (entry old i) = word-same b (16 + 2 * i) w small (omega (arith, long)) ∙ is ∙ ap f (l.rest i (inr (omega arith)) h) in
+    let here : entry (with_word b (16 + 2 * i) w) i ≡ f (entry old i) = word-same b (16 + 2 * i) w small (omega (arith, l.long)) ∙ is ∙ ap f (l.rest i (inr (omega arith)) h) in
     let other : (j : ℕ) → j ≢ i → entry (with_word b (16 + 2 * i) w) j ≡ entry b j = (λ j ne. elim (cases_lt j i) [
       | inl a ↦ word-other b (16 + 2 * i) w (16 + 2 * j) (inl (omega arith))
       | inr a ↦ word-other b (16 + 2 * i) w (16 + 2 * j) (inr (omega arith))
@@ -46,7 +44,7 @@ entries-more old b f from i w l up h fits is small =
       ]);
       head = (λ k g. byte-other b (16 + 2 * i) w k (inl (omega arith)) ∙ l.head k g);
       behind = (λ k g. byte-other b (16 + 2 * i) w k (inr (omega arith)) ∙ l.behind k g);
-      long = length-with_word b (16 + 2 * i) w ∙ long;
+      long = length-with_word b (16 + 2 * i) w ∙ l.long;
     }
 
 -- the table stays as long
@@ -84,9 +82,7 @@ run-moved b c d from end to low low' ordered fits fits' is m =
       long = m.long ∙ ap length is ∙ length-with_part b to ws;
       head = (λ k h. m.head k h ∙ low_byte k (omega arith));
       entries = (λ i h. m.mapped i (omega arith) (omega (arith, count)) ∙ ap (entry_moved from end to) (word-bytes b c (16 + 2 * i) (16 + 2 * i) (low_byte (16 + 2 * i) (omega arith)) (low_byte (16 + 2 * i + 1) (omega arith))));
-      moved = (λ j k e g r. let place : from + (k - from) ≡ k = omega arith in
-          m.behind j (omega (arith, count)) ∙ byte j ∙ get_or-with_part_within b to ws j (k - from) (omega arith) (omega (arith, n)) (omega arith)
-          ∙ get_or-take (end - from) (drop from b) (k - from) 0 (omega arith) ∙ get_or-drop from b (k - from) 0 ∙ ap (λ x. get_or b x 0) place);
+      moved = (λ j k e g r. m.behind j (omega (arith, count)) ∙ part-moved b c from to (end - from) (omega arith) fits' is j k e g (omega arith));
       before = (λ k g l r. m.behind k (omega (arith, count)) ∙ low_byte k r);
       behind = (λ k g l. m.behind k (omega (arith, count)) ∙ byte k ∙ get_or-with_part_behind b to ws k (omega (arith, n)));
     }

@@ -35,10 +35,8 @@ front b link at end o = tiles-join b (table_end b) (first_free b) o.before o.ahe
 pub side : (b : List ℕ) (link at end i : ℕ) → (o : IsOpen b link at end) → i < entries b → IsOffset (entry b i) → Side b link at end i o
 side b link at end i o h t = elim (o.all i h t) [
   | inl x ↦ Before (find b (table_end b) (first_free b) (o.before ++ o.ahead) at o.next i (front b link at end o) (has-left i o.before o.ahead x))
-  | inr x ↦ elim x [
-    | inl y ↦ Before (find b (table_end b) (first_free b) (o.before ++ o.ahead) at o.next i (front b link at end o) (has-right i o.before o.ahead y))
-    | inr y ↦ Behind (find b end o.next o.behind (length b) 0 i o.tiles_behind y)
-  ]
+  | inr (inl y) ↦ Before (find b (table_end b) (first_free b) (o.before ++ o.ahead) at o.next i (front b link at end o) (has-right i o.before o.ahead y))
+  | inr (inr y) ↦ Behind (find b end o.next o.behind (length b) 0 i o.tiles_behind y)
 ]
 
 -- where that chunk lies
@@ -52,16 +50,13 @@ pub record Aside (b : List ℕ) (at end i : ℕ) : Type 0 where
 pub aside : (b : List ℕ) (link at end i : ℕ) → (o : IsOpen b link at end) → i < entries b → IsOffset (entry b i) → Aside b at end i
 aside b link at end i o h t =
     let p = open-place b link at end o in
-    let high = p.high in
-    let low = p.low in
-    let order = o.order in
     elim (side b link at end i o h t) [
-      | Before r ↦ (let some = r.some in let size = r.size in let from = r.low in let n : r.n ≡ chunk_length b i = omega (arith, size) in let c = ap cost n in
+      | Before r ↦ (let n : r.n ≡ chunk_length b i = omega (arith, r.size) in let c = ap cost n in
           let le = tiles-le b (entry b i - 2 + cost r.n) r.g r.post at o.next r.behind in
-          record { some = omega (arith, some, n); size = omega (arith, size, n); low = from; out = inl (omega (arith, le, c)); high = omega (arith, le, c, high, order) })
-      | Behind r ↦ (let some = r.some in let size = r.size in let from = r.low in let n : r.n ≡ chunk_length b i = omega (arith, size) in let c = ap cost n in
+          record { some = omega (arith, r.some, n); size = omega (arith, r.size, n); low = r.low; out = inl (omega (arith, le, c)); high = omega (arith, le, c, p.high, o.order) })
+      | Behind r ↦ (let n : r.n ≡ chunk_length b i = omega (arith, r.size) in let c = ap cost n in
           let le = tiles-le b (entry b i - 2 + cost r.n) r.g r.post (length b) 0 r.behind in
-          record { some = omega (arith, some, n); size = omega (arith, size, n); low = omega (arith, from, low, order); out = inr from; high = omega (arith, le, c) })
+          record { some = omega (arith, r.some, n); size = omega (arith, r.size, n); low = omega (arith, r.low, p.low, o.order); out = inr r.low; high = omega (arith, le, c) })
     ]
 
 -- what a chunk that moved into the hole leaves
@@ -74,51 +69,34 @@ pub redirects : (b c : List ℕ) (link at end i n : ℕ) (bytes : List ℕ) → 
     ((k : ℕ) → k < at → Apart k (16 + 2 * i) → get_or c k 0 ≡ get_or b k 0) → KeepsBack b c end → entry c i ≡ at + 2 → word c at ≡ n + 2 → part c (at + 2) n ≡ bytes → Redirects b c i bytes
 redirects b c link at end i n bytes o h t some whole long keep back here says content =
     let p = open-place b link at end o in
-    let low = p.low in
-    let table = p.table in
-    let out = p.link_out in
-    let link_high = p.link_high in
-    let high = p.high in
-    let most = p.most in
-    let link_low = p.link_low in
     let e = entry b i in
     let four = cost-four n some in
-    let order = o.order in
-    let some_b = o.header.some in
     let k = link-place b link o.upto o.before o.linked in
-    let within = k.within in
-    let start = k.start in
-    let w = has-put b c i at end n bytes h low (omega arith) keep back here says content in
+    let w = has-put b c i at end n bytes h p.low (omega arith) keep back here says content in
     let m = w.count in
     let apart : (j : ℕ) → (entry b j ≡ e → ⊥) → j ≢ i = (λ j no same. no (ap (λ x. entry b x) same)) in
     let start_is : table_end b ≡ table_end c = ap (λ x. 16 + 2 * x) (sym m) in
     let first = sym w.first in
-    let total = w.total in
-    let spelled = chunks-set b c i (Some bytes) m h w.chunk (λ j l ne. kept-chunk b c link at end end j o long (w.front (table_end b) (link - 2) (omega arith) (omega arith)) (w.front o.upto at start (omega arith)) (w.rear end (length b) (omega arith))
+    let spelled = chunks-set b c i (Some bytes) m h w.chunk (λ j l ne. kept-chunk b c link at end end j o long (w.front (table_end b) (link - 2) (omega arith) (omega arith)) (w.front o.upto at k.start (omega arith)) (w.rear end (length b) (omega arith))
     (λ x. lies b end o.next o.behind (length b) 0 j o.tiles_behind x) l (w.each j l ne)) in
     let kept : (j : ℕ) → j < entries c → IsOffset (entry c j) → j ≢ i → HasChunk j (o.before ++ o.ahead) ⊎ HasChunk j o.behind = (λ j l u ne. let lb : j < entries b = omega (arith, m) in let d = w.each j lb ne in
     elim (o.all j lb ((λ z. u.0 (d ∙ z)), (λ z. u.1 (d ∙ z)))) [ inl x ↦ inl (has-left j o.before o.ahead x) | inr x ↦ elim x [ inl y ↦ inl (has-right j o.before o.ahead y) | inr y ↦ inr y ] ]) in
-    let start_fours : table_end b % 4 ≡ 0 = (let pairs = o.header.pairs in omega (arith, pairs)) in
+    let start_fours : table_end b % 4 ≡ 0 = omega (arith, o.header.pairs) in
     let mine_room : at + cost n ≡ end = whole in
-    let sum = o.total in
     let app = free_bytes-append o.before o.ahead in
     let P = o.before ++ o.ahead in
     let whole_front = front b link at end o in
     let handle = head-word b c 12 0 w.head (omega arith) in
     elim (side b link at end i o h t) [
-      | Before r ↦ (let low_e = r.low in let some_e = r.some in let size_e = r.size in let wide = cost-four r.n some_e in
-          let n_is : r.n ≡ chunk_length b i = omega (arith, size_e) in
+      | Before r ↦ (let wide = cost-four r.n r.some in
+          let n_is : r.n ≡ chunk_length b i = omega (arith, r.size) in
           let end_is : e - 2 + cost r.n ≡ chunk_end b i = ap (λ x. e - 2 + cost x) n_is in
           let le = tiles-le b (e - 2 + cost r.n) r.g r.post at o.next r.behind in
           let pre : Tiles c (table_end b) (first_free b) r.pre (e - 2) r.g = tiles-kept b c (table_end b) (first_free b) r.pre (e - 2) r.g r.before (w.front (table_end b) (e - 2) (omega arith) (omega arith)) (omega (arith, m)) (λ j l a z. w.each j l (apart j (λ q. absurd (omega arith)))) in
           let post : Tiles c (e - 2 + cost r.n) r.g r.post at o.next = tiles-kept b c (e - 2 + cost r.n) r.g r.post at o.next r.behind (w.front (e - 2 + cost r.n) at (omega arith) (omega arith)) (omega (arith, m)) (λ j l a z. w.each j l (apart j (λ q. absurd (omega arith)))) in
           let behind : Tiles c end o.next o.behind (length b) 0 = tiles-kept b c end o.next o.behind (length b) 0 o.tiles_behind (w.rear end (length b) (omega arith)) (omega (arith, m)) (λ j l a z. w.each j l (apart j (λ q. absurd (omega arith)))) in
-          let E : ℕ → Type 0 = λ x. Tiles c x o.next o.behind (length b) 0 in
-          let mine : Tiles c at o.next (Used i n ∷ o.behind) (length b) 0 = (some, omega (arith, m), here, says, subst E (sym whole) behind) in
+          let mine : Tiles c at o.next (Used i n ∷ o.behind) (length b) 0 = (some, omega (arith, m), here, says, subst (λ (x : ℕ). Tiles c x o.next o.behind (length b) 0) (sym whole) behind) in
           let rest = tiles-join c (e - 2 + cost r.n) r.g r.post (Used i n ∷ o.behind) at o.next (length b) 0 post mine in
-          let F : ℕ → Type 0 = λ x. Tiles c (table_end b) x r.pre (e - 2) r.g in
-          let X : ℕ → Type 0 = λ x. Tiles c x r.g (r.post ++ (Used i n ∷ o.behind)) (length b) 0 in
-          let L : ℕ → Type 0 = λ x. Tiles c (chunk_end b i) r.g (r.post ++ (Used i n ∷ o.behind)) x 0 in
           record {
             is = record {
               header = same-header b c o.header long w.head;
@@ -128,38 +106,34 @@ redirects b c link at end i n bytes o h t some whole long keep back here says co
               next = r.g;
               behind = r.post ++ (Used i n ∷ o.behind);
               linked = inl (record { is = refl; none = refl; start = start_is });
-              tiles_ahead = subst F first pre;
-              tiles_behind = subst L (sym long) (subst X end_is rest);
+              tiles_ahead = subst (λ (x : ℕ). Tiles c (table_end b) x r.pre (e - 2) r.g) first pre;
+              tiles_behind = subst (λ (x : ℕ). Tiles c (chunk_end b i) r.g (r.post ++ (Used i n ∷ o.behind)) x 0) (sym long) (subst (λ (x : ℕ). Tiles c x r.g (r.post ++ (Used i n ∷ o.behind)) (length b) 0) end_is rest);
               order = omega (arith, end_is);
               fours = tiles-fours b (table_end b) (first_free b) r.pre (e - 2) r.g r.before start_fours;
               all = (λ j l u. inr (elim (cases_eq j i) [
                 | inl q ↦ inr (has-right j r.post (Used i n ∷ o.behind) (inl q))
                 | inr ne ↦ elim (kept j l u ne) [
-                  | inl x ↦ (let H : List Piece → Type 0 = λ ps. HasChunk j ps in elim (has-split j r.pre (Used i r.n ∷ r.post) (subst H r.is x)) [
+                  | inl x ↦ (elim (has-split j r.pre (Used i r.n ∷ r.post) (subst (λ (ps : List Piece). HasChunk j ps) r.is x)) [
                     | inl y ↦ inl y
                     | inr y ↦ elim y [ inl q ↦ absurd (ne q) | inr z ↦ inr (has-left j r.post (Used i n ∷ o.behind) z) ]
                   ])
                   | inr x ↦ inr (has-right j r.post (Used i n ∷ o.behind) (inr x))
                 ]
               ]));
-              total = (let g = ap free_bytes r.is ∙ free_bytes-append r.pre (Used i r.n ∷ r.post) in let g2 = free_bytes-append r.post (Used i n ∷ o.behind) in omega (arith, sum, app, g, g2, total));
+              total = (let g = ap free_bytes r.is ∙ free_bytes-append r.pre (Used i r.n ∷ r.post) in omega (arith, o.total, app, g, free_bytes-append r.post (Used i n ∷ o.behind), w.total));
             };
             chunks = spelled;
             handle = handle;
           })
-      | Behind r ↦ (let low_e = r.low in let some_e = r.some in let size_e = r.size in let wide = cost-four r.n some_e in
-          let n_is : r.n ≡ chunk_length b i = omega (arith, size_e) in
+      | Behind r ↦ (let wide = cost-four r.n r.some in
+          let n_is : r.n ≡ chunk_length b i = omega (arith, r.size) in
           let end_is : e - 2 + cost r.n ≡ chunk_end b i = ap (λ x. e - 2 + cost x) n_is in
           let le = tiles-le b (e - 2 + cost r.n) r.g r.post (length b) 0 r.behind in
           let pre : Tiles c end o.next r.pre (e - 2) r.g = tiles-kept b c end o.next r.pre (e - 2) r.g r.before (w.rear end (e - 2) (omega arith)) (omega (arith, m)) (λ j l a z. w.each j l (apart j (λ q. absurd (omega arith)))) in
           let post : Tiles c (e - 2 + cost r.n) r.g r.post (length b) 0 = tiles-kept b c (e - 2 + cost r.n) r.g r.post (length b) 0 r.behind (w.rear (e - 2 + cost r.n) (length b) (omega arith)) (omega (arith, m)) (λ j l a z. w.each j l (apart j (λ q. absurd (omega arith)))) in
           let pieces : Tiles c (table_end b) (first_free b) P at o.next = tiles-kept b c (table_end b) (first_free b) P at o.next whole_front (w.front (table_end b) at (omega arith) (omega arith)) (omega (arith, m)) (λ j l a z. w.each j l (apart j (λ q. absurd (omega arith)))) in
-          let E : ℕ → Type 0 = λ x. Tiles c x o.next r.pre (e - 2) r.g in
-          let mine : Tiles c at o.next (Used i n ∷ r.pre) (e - 2) r.g = (some, omega (arith, m), here, says, subst E (sym whole) pre) in
+          let mine : Tiles c at o.next (Used i n ∷ r.pre) (e - 2) r.g = (some, omega (arith, m), here, says, subst (λ (x : ℕ). Tiles c x o.next r.pre (e - 2) r.g) (sym whole) pre) in
           let ahead = tiles-join c (table_end b) (first_free b) P (Used i n ∷ r.pre) at o.next (e - 2) r.g pieces mine in
-          let F : ℕ → Type 0 = λ x. Tiles c (table_end b) x (P ++ (Used i n ∷ r.pre)) (e - 2) r.g in
-          let X : ℕ → Type 0 = λ x. Tiles c x r.g r.post (length b) 0 in
-          let L : ℕ → Type 0 = λ x. Tiles c (chunk_end b i) r.g r.post x 0 in
           record {
             is = record {
               header = same-header b c o.header long w.head;
@@ -169,21 +143,21 @@ redirects b c link at end i n bytes o h t some whole long keep back here says co
               next = r.g;
               behind = r.post;
               linked = inl (record { is = refl; none = refl; start = start_is });
-              tiles_ahead = subst F first ahead;
-              tiles_behind = subst L (sym long) (subst X end_is post);
+              tiles_ahead = subst (λ (x : ℕ). Tiles c (table_end b) x (P ++ (Used i n ∷ r.pre)) (e - 2) r.g) first ahead;
+              tiles_behind = subst (λ (x : ℕ). Tiles c (chunk_end b i) r.g r.post x 0) (sym long) (subst (λ (x : ℕ). Tiles c x r.g r.post (length b) 0) end_is post);
               order = omega (arith, end_is);
               fours = tiles-fours c (table_end b) (first_free b) (P ++ (Used i n ∷ r.pre)) (e - 2) r.g ahead start_fours;
               all = (λ j l u. inr (elim (cases_eq j i) [
                 | inl q ↦ inl (has-right j P (Used i n ∷ r.pre) (inl q))
                 | inr ne ↦ elim (kept j l u ne) [
                   | inl x ↦ inl (has-left j P (Used i n ∷ r.pre) x)
-                  | inr x ↦ (let H : List Piece → Type 0 = λ ps. HasChunk j ps in elim (has-split j r.pre (Used i r.n ∷ r.post) (subst H r.is x)) [
+                  | inr x ↦ (elim (has-split j r.pre (Used i r.n ∷ r.post) (subst (λ (ps : List Piece). HasChunk j ps) r.is x)) [
                     | inl y ↦ inl (has-right j P (Used i n ∷ r.pre) (inr y))
                     | inr y ↦ elim y [ inl q ↦ absurd (ne q) | inr z ↦ inr z ]
                   ])
                 ]
               ]));
-              total = (let g = ap free_bytes r.is ∙ free_bytes-append r.pre (Used i r.n ∷ r.post) in let g2 = free_bytes-append P (Used i n ∷ r.pre) in omega (arith, sum, app, g, g2, total));
+              total = (let g = ap free_bytes r.is ∙ free_bytes-append r.pre (Used i r.n ∷ r.post) in omega (arith, o.total, app, g, free_bytes-append P (Used i n ∷ r.pre), w.total));
             };
             chunks = spelled;
             handle = handle;
@@ -197,18 +171,11 @@ pub moved-in-hole : (b d1 d2 d3 c : List ℕ) (link at end i keep n : ℕ) → (
     Redirects b c i (resized (part b (entry b i) (chunk_length b i)) n)
 moved-in-hole b d1 d2 d3 c link at end i keep n o h t some whole keep_n keep_len exact e1 e2 e3 e4 =
     let p = open-place b link at end o in
-    let high = p.high in
-    let most = p.most in
-    let low = p.low in
-    let table = p.table in
     let wide = cost-least n some in
     let a = aside b link at end i o h t in
     let len = chunk_length b i in
     let e = entry b i in
-    let low_e = a.low in
-    let high_e = a.high in
-    let some_e = a.some in
-    let wide_e = cost-least len some_e in
+    let wide_e = cost-least len a.some in
     let moved = part d2 e keep in
     let n1 = long b d1 (16 + 2 * i) (at + 2) e1 in
     let n2 = long d1 d2 at (n + 2) e2 in

@@ -7,7 +7,7 @@ use Rattle.geos_model.specs.Heap.{Piece, Used, Free, Tiles, HasChunk, IsOffset, 
 use Rattle.geos_model.proofs.Words.{word-same, word-other, length-with_word, byte-other, word-bytes}
 use Rattle.geos_model.proofs.Costs.{cost-four}
 use Rattle.geos_model.proofs.Pieces.{LiesWithin, lies, tiles-le}
-use Rattle.geos_model.proofs.Moves.{tiles-kept, chunk-shifted}
+use Rattle.geos_model.proofs.Moves.{tiles-kept, chunk-stays}
 use Rattle.geos_model.proofs.Tables.{chunk-cases}
 use Rattle.geos_model.proofs.Headers.{SameHead, head-word, same-header}
 use Rattle.geos_model.proofs.FreePieces.{used-any}
@@ -48,28 +48,23 @@ pub record Relinks (b c : List ℕ) (link at upto : ℕ) : Type 0 where
 pub relinked : (b c : List ℕ) (link at upto : ℕ) (before : List Piece) → IsHeader b → IsLink b link upto before → upto ≤ at → Relinks b c link at upto → IsLink c link upto before
 relinked b c link at upto before header (inl k) le r =
     let n : entries c ≡ entries b = head-word b c 12 10 r.head (omega arith) in
-    let start = k.start in
-    inl (record { is = k.is; none = k.none; start = omega (arith, start, n) })
+    inl (record { is = k.is; none = k.none; start = omega (arith, k.start, n) })
 relinked b c link at upto before header (inr k) le r =
     let n : entries c ≡ entries b = head-word b c 12 10 r.head (omega arith) in
-    let low = k.low in
-    let ends = k.ends in
     let front : Tiles c (table_end b) (first_free b) k.pre (link - 2) (link - 2) =
-    tiles-kept b c (table_end b) (first_free b) k.pre (link - 2) (link - 2) k.front r.low (omega (arith, n)) (λ j l a z. r.each j l a (omega (arith, ends))) in
+    tiles-kept b c (table_end b) (first_free b) k.pre (link - 2) (link - 2) k.front r.low (omega (arith, n)) (λ j l a z. r.each j l a (omega (arith, k.ends))) in
     let start : table_end b ≡ table_end c = ap (λ x. 16 + 2 * x) (sym n) in
-    let S : ℕ → Type 0 = λ x. Tiles c x (first_free b) k.pre (link - 2) (link - 2) in
-    let F : ℕ → Type 0 = λ x. Tiles c (table_end c) x k.pre (link - 2) (link - 2) in
     inr (record {
       pre = k.pre;
       size = k.size;
       is = k.is;
       some = k.some;
       fours = k.fours;
-      front = subst F (sym (r.first low)) (subst S start front);
-      low = omega (arith, low, n);
-      says = r.says low ∙ k.says;
-      apart = r.apart low;
-      ends = ends;
+      front = subst (λ (x : ℕ). Tiles c (table_end c) x k.pre (link - 2) (link - 2)) (sym (r.first k.low)) (subst (λ (x : ℕ). Tiles c x (first_free b) k.pre (link - 2) (link - 2)) start front);
+      low = omega (arith, k.low, n);
+      says = r.says k.low ∙ k.says;
+      apart = r.apart k.low;
+      ends = k.ends;
     })
 
 -- a hole whose other side is another
@@ -80,10 +75,9 @@ reopened b c link at end end' behind s r tiles order all total =
     let o = s.is in
     let n : entries c ≡ entries b = head-word b c 12 10 r.head (omega arith) in
     let k = link-place b link o.upto o.before o.linked in
-    let start = k.start in
     let le = tiles-le b o.upto (word b link) o.ahead at o.next o.tiles_ahead in
     let ahead : Tiles c o.upto (word b link) o.ahead at o.next =
-    tiles-kept b c o.upto (word b link) o.ahead at o.next o.tiles_ahead r.mid (omega (arith, n)) (λ j l a z. r.each j l (omega (arith, start)) z) in
+    tiles-kept b c o.upto (word b link) o.ahead at o.next o.tiles_ahead r.mid (omega (arith, n)) (λ j l a z. r.each j l (omega (arith, k.start)) z) in
     record {
       is = record {
         header = same-header b c o.header r.long r.head;
@@ -98,7 +92,7 @@ reopened b c link at end end' behind s r tiles order all total =
         order = order;
         fours = o.fours;
         all = all;
-        total = (let t = o.total in omega (arith, t, total));
+        total = omega (arith, o.total, total);
       };
       used = s.used;
     }
@@ -113,19 +107,13 @@ KeepsBack b c lo = (k : ℕ) → lo ≤ k → get_or c k 0 ≡ get_or b k 0
 pub kept-entry : (b c : List ℕ) (link at end j : ℕ) → IsOpen b link at end → KeepsFront b c link at → j < entries b → entry c j ≡ entry b j
 kept-entry b c link at end j o keep h =
     let p = open-place b link at end o in
-    let low = p.low in
-    let out = p.link_out in
-    let byte : (k : ℕ) → 16 ≤ k → k < table_end b → get_or c k 0 ≡ get_or b k 0 = (λ k g l. keep k (omega arith) (elim out [ inl e ↦ inr (omega (arith, e)) | inr f ↦ inl (omega (arith, f)) ]) (inr (omega arith))) in
+    let byte : (k : ℕ) → 16 ≤ k → k < table_end b → get_or c k 0 ≡ get_or b k 0 = (λ k g l. keep k (omega arith) (elim p.link_out [ inl e ↦ inr (omega (arith, e)) | inr f ↦ inl (omega (arith, f)) ]) (inr (omega arith))) in
     word-bytes b c (16 + 2 * j) (16 + 2 * j) (byte (16 + 2 * j) (omega arith) (omega arith)) (byte (16 + 2 * j + 1) (omega arith) (omega arith))
 
 pub relinks : (b c : List ℕ) (link at end : ℕ) → (o : IsOpen b link at end) → length c ≡ length b → KeepsFront b c link at → (table_end b + 2 ≤ link → word c link ≢ o.upto) → Relinks b c link at o.upto
 relinks b c link at end o same keep apart =
     let p = open-place b link at end o in
-    let low = p.link_low in
-    let high = p.link_high in
-    let start = p.low in
     let k = link-place b link o.upto o.before o.linked in
-    let within = k.within in
     record {
       long = same;
       head = (λ q h. keep q (omega arith) (inl (omega arith)) (inl (omega arith)));
@@ -141,17 +129,12 @@ relinks b c link at end o same keep apart =
 pub front-kept : (b c : List ℕ) (link at end : ℕ) → IsOpen b link at end → KeepsFront b c link at → IsShifted b c 0 0 (table_end b) (link - 2)
 front-kept b c link at end o keep =
     let p = open-place b link at end o in
-    let high = p.link_high in
-    let table = p.table in
     (λ j q e g l. let is : j ≡ q = omega arith in ap (λ x. get_or c x 0) is ∙ keep q (omega arith) (inl (omega arith)) (inr (omega arith)))
 
 pub mid-kept : (b c : List ℕ) (link at end : ℕ) → (o : IsOpen b link at end) → KeepsFront b c link at → IsShifted b c 0 0 o.upto at
 mid-kept b c link at end o keep =
     let p = open-place b link at end o in
-    let table = p.table in
     let k = link-place b link o.upto o.before o.linked in
-    let within = k.within in
-    let start = k.start in
     (λ j q e g l. let is : j ≡ q = omega arith in ap (λ x. get_or c x 0) is ∙ keep q l (inr (omega arith)) (inr (omega arith)))
 
 -- a chunk whose bytes and entry stay
@@ -159,22 +142,10 @@ pub kept-chunk : (b c : List ℕ) (link at end lo j : ℕ) → (o : IsOpen b lin
     (HasChunk j o.behind → LiesWithin b (entry b j) lo (length b)) → j < entries b → entry c j ≡ entry b j → chunk_at c (entry c j) ≡ chunk_at b (entry b j)
 kept-chunk b c link at end lo j o same front mid rear lies_behind h d =
     let p = open-place b link at end o in
-    let low = p.low in
-    let high = p.high in
-    let most = p.most in
-    let link_high = p.link_high in
-    let order = o.order in
-    chunk-cases b c (entry b j) (entry c j) (λ z. d ∙ z) (λ z. d ∙ z) (λ u.
-    let told : IsOffset (entry c j) = ((λ z. u.0 (sym d ∙ z)), (λ z. u.1 (sym d ∙ z))) in
-    elim (o.all j h u) [
-      | inl x ↦ (let y = link-lies b link o.upto o.before j o.linked x in let from = y.from in
-          chunk-shifted b c 0 0 (table_end b) (link - 2) (link - 2) (entry b j) (entry c j) y front (omega (arith, d)) (omega arith) (omega (arith, d)) (omega arith) (omega (arith, same)) u told)
-      | inr w ↦ elim w [
-        | inl x ↦ (let y = lies b o.upto (word b link) o.ahead at o.next j o.tiles_ahead x in let from = y.from in
-            chunk-shifted b c 0 0 o.upto at at (entry b j) (entry c j) y mid (omega (arith, d)) (omega arith) (omega (arith, d)) (omega arith) (omega (arith, same)) u told)
-        | inr x ↦ (let y = lies_behind x in let from = y.from in
-            chunk-shifted b c 0 0 lo (length b) (length b) (entry b j) (entry c j) y rear (omega (arith, d)) (omega arith) (omega (arith, d)) (omega arith) (omega (arith, same)) u told)
-      ]
+    chunk-cases b c (entry b j) (entry c j) (λ z. d ∙ z) (λ z. d ∙ z) (λ u. elim (o.all j h u) [
+      | inl x ↦ chunk-stays b c (table_end b) (link - 2) (entry b j) (entry c j) (link-lies b link o.upto o.before j o.linked x) front d (omega arith) (omega (arith, same)) u
+      | inr (inl x) ↦ chunk-stays b c o.upto at (entry b j) (entry c j) (lies b o.upto (word b link) o.ahead at o.next j o.tiles_ahead x) mid d (omega arith) (omega (arith, same)) u
+      | inr (inr x) ↦ chunk-stays b c lo (length b) (entry b j) (entry c j) (lies_behind x) rear d (omega arith) (omega (arith, same)) u
     ])
 
 -- the free chunk behind a hole
@@ -185,7 +156,7 @@ pub record FreeBehind (b : List ℕ) (link at end : ℕ) (o : IsOpen b link at e
   pub here : Tiles b end end (Free size ∷ rest) (length b) 0
 
 free-at : (b : List ℕ) (at : ℕ) (ps : List Piece) (end : ℕ) → Tiles b at at ps end 0 → 0 < at → (size : ℕ) × ((rest : List Piece) × (ps ≡ Free size ∷ rest))
-free-at b at [] end s low = let e = s.1 in absurd (omega (arith, e))
+free-at b at [] end s low = absurd (omega (arith, s.1))
 free-at b at (Used i n ∷ ps) end s low = let four = cost-four n s.0 in absurd (elim (first-behind b (at + cost n) at ps end s.4) [ inl e ↦ omega (arith, e) | inr h ↦ omega (arith, h, four) ])
 free-at b at (Free m ∷ ps) end s low = (m, (ps, refl))
 
@@ -193,12 +164,7 @@ pub free-behind : (b : List ℕ) (link at end : ℕ) → (s : IsBeside b link at
 free-behind b link at end s is =
     let o = s.is in
     let p = open-place b link at end o in
-    let low = p.low in
-    let table = p.table in
-    let order = o.order in
     let next : o.next ≡ end = sym (used-next b o.upto (word b link) o.ahead at o.next s.used o.tiles_ahead) ∙ is in
-    let N : ℕ → Type 0 = λ x. Tiles b end x o.behind (length b) 0 in
-    let tiles : Tiles b end end o.behind (length b) 0 = subst N next o.tiles_behind in
+    let tiles : Tiles b end end o.behind (length b) 0 = subst (λ (x : ℕ). Tiles b end x o.behind (length b) 0) next o.tiles_behind in
     let f = free-at b end o.behind (length b) tiles (omega arith) in
-    let T : List Piece → Type 0 = λ ps. Tiles b end end ps (length b) 0 in
-    record { size = f.0; rest = f.1.0; is = f.1.1; here = subst T f.1.1 tiles }
+    record { size = f.0; rest = f.1.0; is = f.1.1; here = subst (λ (ps : List Piece). Tiles b end end ps (length b) 0) f.1.1 tiles }

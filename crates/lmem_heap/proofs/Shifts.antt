@@ -10,19 +10,6 @@ use Rattle.geos_model.proofs.Resizes.{length-part}
 use Rattle.geos_model.proofs.Lowest.{set-twice}
 use Rattle.geos_model.proofs.Entered.{WritesEntry, writes-entry, part-part}
 
--- the length of an entry's chunk is that of its place
-pub entry-length : (b : List ℕ) (i : ℕ) (p : Place) → i < entries b → place_at b (entry b i) ≡ Some p → p.at + p.len ≤ length b → length (entry_bytes (chunks b) i) ≡ p.len
-entry-length b i p h is fits = ap length (placed-bytes b i p h is) ∙ placed-length b p fits
-
--- a part of an entry's chunk lies in its place, and that in the block
-pub record LiesInChunk (b : List ℕ) (p : Place) (at n : ℕ) : Type 0 where
-  pub part : at + n ≤ p.len
-  pub place : p.at + p.len ≤ length b
-  pub small : length b ≤ 65520
-
-pub lies-in-chunk : (b : List ℕ) (i : ℕ) (p : Place) (at n : ℕ) → IsHeap b → i < entries b → place_at b (entry b i) ≡ Some p → p.at + p.len ≤ length b → at + n ≤ length (entry_bytes (chunks b) i) → LiesInChunk b p at n
-lies-in-chunk b i p at n heap h is fits room = let l = entry-length b i p h is fits in record { part = omega arith; place = fits; small = heap.0.most }
-
 -- a heap with other bytes as the chunk of an entry
 pub record HasBytes (b d : List ℕ) (i : ℕ) (bytes : List ℕ) : Type 0 where
   pub heap : IsHeap d
@@ -50,8 +37,7 @@ opened b d d2 i p at n begin m heap h is fits room begin_is m_is made made2 =
     let zs : List ℕ = replicate n 0 in
     let lz = length-replicate {A = ℕ} n 0 in
     let one = moved-within b d i p at (at + n) m begin (begin + n) heap h is fits (omega arith) (omega arith) begin_is (omega arith) made in
-    let count = one.count in
-    let two = writes-entry d d2 i p at zs one.heap (omega (arith, count)) one.place (omega (arith, lz)) (made2 ∙ ap (λ x. with_part d x zs) begin_is) in
+    let two = writes-entry d d2 i p at zs one.heap (omega (arith, one.count)) one.place (omega (arith, lz)) (made2 ∙ ap (λ x. with_part d x zs) begin_is) in
     let m_len : m ≡ length bs - (at + n) = omega arith in
     record {
       heap = two.heap;

@@ -29,7 +29,7 @@ slid-high s ss e h = grind (arith, nat_tests)
 
 pub order-le : (low : ℕ) (ss : List Slide) (high : ℕ) → AreInOrder low ss high → low ≤ high
 order-le low [] high o = o
-order-le low (s ∷ ss) high o = let e = order-le s.end ss high o.3 in omega (arith, o.0, o.1, e)
+order-le low (s ∷ ss) high o = omega (arith, o.0, o.1, order-le s.end ss high o.3)
 
 -- one more run behind the others
 pub order-more : (low : ℕ) (ss : List Slide) (high : ℕ) (s : Slide) → AreInOrder low ss high → high ≤ s.from → s.from ≤ s.end → s.to ≤ s.from → AreInOrder low (ss ++ (s ∷ [])) s.end
@@ -58,21 +58,19 @@ slid-below low (s ∷ ss) high e o h = slid-low s ss e (omega (arith, o.0, h)) �
 
 pub slid-behind : (low : ℕ) (ss : List Slide) (high e : ℕ) → AreInOrder low ss high → high ≤ e → entry_slid ss e ≡ e
 slid-behind low [] high e o h = refl
-slid-behind low (s ∷ ss) high e o h = slid-high s ss e (let le = order-le s.end ss high o.3 in omega (arith, le, h)) ∙ slid-behind s.end ss high e o.3 h
+slid-behind low (s ∷ ss) high e o h = slid-high s ss e (omega (arith, order-le s.end ss high o.3, h)) ∙ slid-behind s.end ss high e o.3 h
 
 -- where one more run moves, behind the others, it moves what the others left
 pub slid-more : (low : ℕ) (ss : List Slide) (high : ℕ) (s : Slide) (e : ℕ) → AreInOrder low ss high → high ≤ s.from → entry_slid (ss ++ (s ∷ [])) e ≡ entry_moved s.from s.end s.to (entry_slid ss e)
 slid-more low [] high s e o h = refl
 slid-more low (x ∷ ss) high s e o h =
-    let le = order-le x.end ss high o.3 in
-    let low_to = o.2 in
     let M : ℕ → ℕ = λ y. entry_moved s.from s.end s.to y in
     let rest = slid-more x.end ss high s e o.3 h in
     elim (cases_lt x.from e) [
       | inr out ↦ slid-low x (ss ++ (s ∷ [])) e out ∙ rest ∙ sym (ap M (slid-low x ss e out))
       | inl above ↦ elim (cases_lt e x.end) [
         | inr out ↦ slid-high x (ss ++ (s ∷ [])) e out ∙ rest ∙ sym (ap M (slid-high x ss e out))
-        | inl within ↦ slid-here x (ss ++ (s ∷ [])) e above within ∙ sym (ap M (slid-here x ss e above within) ∙ moved-low s.from s.end s.to (e - x.from + x.to) (omega (arith, le, h, low_to, above, within)))
+        | inl within ↦ slid-here x (ss ++ (s ∷ [])) e above within ∙ sym (ap M (slid-here x ss e above within) ∙ moved-low s.from s.end s.to (e - x.from + x.to) (omega (arith, order-le x.end ss high o.3, h, o.2, above, within)))
       ]
     ]
 

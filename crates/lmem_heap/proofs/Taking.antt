@@ -20,28 +20,19 @@ use Rattle.lmem_heap.proofs.Filling.{Filled, filled}
 
 -- where a link lies beside the header's total
 link-apart : (b : List ℕ) (link at end : ℕ) → OpenPlace b link at end → (link + 2 ≤ 14) ⊎ (16 ≤ link)
-link-apart b link at end p = let table = p.table in elim p.link_out [ inl e ↦ inl (omega (arith, e)) | inr f ↦ inr (omega (arith, f, table)) ]
+link-apart b link at end p = elim p.link_out [ inl e ↦ inl (omega (arith, e)) | inr f ↦ inr (omega (arith, f, p.table)) ]
 
 -- all of the free chunk behind a hole
 pub whole-taken : (b d c : List ℕ) (link at end size next total : ℕ) → IsBeside b link at end → word b link ≡ end → size ≡ word b end → next ≡ word b (end + 2) → next < 65536 → total + size ≡ total_free b → d ≡ with_word b link next → c ≡ with_word d 14 total →
     Widens b c link at end (end + size) × (word c link ≢ end + size)
 whole-taken b d c link at end size next total s is size_is next_is small sum e1 e2 =
-    let o = s.is in
-    let p = open-place b link at end o in
-    let link_high = p.link_high in
-    let order = o.order in
-    let high = p.high in
-    let most = p.most in
-    let room = p.room in
-    let table = p.table in
-    let low = p.low in
+    let p = open-place b link at end s.is in
     let n1 = long b d link next e1 in
     let n2 = long d c 14 total e2 in
     let byte : (k : ℕ) → Apart k link → Apart k 14 → get_or c k 0 ≡ get_or b k 0 = (λ k u v. other d c 14 total k e2 v ∙ other b d link next k e1 u) in
-    let R : ℕ → Type 0 = λ x. Widens b c link at end (end + x) × (word c link ≢ end + x) in
-    subst R (sym size_is) (took-whole b c link at end s is (n2 ∙ n1) (λ k l u v. byte k u v) (λ k l. byte k (inr (omega arith)) (inr (omega arith)))
+    subst (λ (x : ℕ). Widens b c link at end (end + x) × (word c link ≢ end + x)) (sym size_is) (took-whole b c link at end s is (n2 ∙ n1) (λ k l u v. byte k u v) (λ k l. byte k (inr (omega arith)) (inr (omega arith)))
     (clear d c 14 total link e2 (link-apart b link at end p) ∙ put b d link next e1 small (omega arith) ∙ next_is)
-    (let w = put d c 14 total e2 (omega (arith, sum, room)) (omega (arith, n1)) in omega (arith, w, sum, size_is)))
+    (let w = put d c 14 total e2 (omega (arith, sum, p.room)) (omega (arith, n1)) in omega (arith, w, sum, size_is)))
 
 -- a free chunk that is written, with the link to it
 record Written (b c : List ℕ) (link to left next total : ℕ) : Type 0 where
@@ -74,9 +65,7 @@ written b d1 d2 d3 c link to left next total out low above fits s1 s2 s3 s4 e1 e
 pub free-inside : (b : List ℕ) (link at end : ℕ) → IsBeside b link at end → word b link ≡ end → end + word b end ≤ length b
 free-inside b link at end s is =
     let f = free-behind b link at end s is in
-    let le = tiles-le b (end + f.size) (word b (end + 2)) f.rest (length b) 0 f.here.5 in
-    let z = f.here.3 in
-    omega (arith, le, z)
+    omega (arith, tiles-le b (end + f.size) (word b (end + 2)) f.rest (length b) 0 f.here.5, f.here.3)
 
 -- its bounds
 pub record FreeFits (b : List ℕ) (end : ℕ) : Type 0 where
@@ -88,69 +77,40 @@ pub record FreeFits (b : List ℕ) (end : ℕ) : Type 0 where
 pub free-fits : (b : List ℕ) (link at end : ℕ) → IsBeside b link at end → word b link ≡ end → FreeFits b end
 free-fits b link at end s is =
     let f = free-behind b link at end s is in
-    let some = f.here.0 in
-    let fours = f.here.1 in
-    let size = f.here.3 in
     let g = ap free_bytes f.is in
-    let t = s.is.total in
-    record { four = omega (arith, some, fours, size); fours = omega (arith, fours, size); inside = free-inside b link at end s is; sum = omega (arith, g, t, size) }
+    record { four = omega (arith, f.here.0, f.here.1, f.here.3); fours = omega (arith, f.here.1, f.here.3); inside = free-inside b link at end s is; sum = omega (arith, g, s.is.total, f.here.3) }
 
 -- the front of the free chunk behind a hole
 pub front-taken : (b d1 d2 d3 c : List ℕ) (link at end size left next total : ℕ) → IsBeside b link at end → word b link ≡ end → 0 < size → size % 4 ≡ 0 → size < word b end → left + size ≡ word b end → next ≡ word b (end + 2) → next < 65536 → total + size ≡ total_free b →
     d1 ≡ with_word b (end + size) left → d2 ≡ with_word d1 (end + size + 2) next → d3 ≡ with_word d2 link (end + size) → c ≡ with_word d3 14 total → Widens b c link at end (end + size)
 front-taken b d1 d2 d3 c link at end size left next total s is pos fours less left_is next_is small sum e1 e2 e3 e4 =
-    let o = s.is in
-    let p = open-place b link at end o in
-    let link_high = p.link_high in
-    let order = o.order in
-    let high = p.high in
-    let most = p.most in
-    let room = p.room in
-    let table = p.table in
-    let low = p.low in
+    let p = open-place b link at end s.is in
     let f = free-behind b link at end s is in
     let inside : end + word b end ≤ length b = free-inside b link at end s is in
-    let four : word b end % 4 ≡ 0 = (let q = f.here.1 in let z = f.here.3 in omega (arith, q, z)) in
-    let w = written b d1 d2 d3 c link (end + size) left next total (link-apart b link at end p) (omega arith) (omega arith) (omega (arith, inside, less, four, fours)) (omega arith) (omega (arith, left_is, inside)) small (omega (arith, sum, room)) e1 e2 e3 e4 in
-    took-front b c link at end size s is pos fours less w.same (λ k l u v. w.front k (omega arith) u v) w.back w.says (let q = w.size_is in omega (arith, q, left_is)) (w.next_is ∙ next_is) (let q = w.total_is in omega (arith, q, sum))
+    let four : word b end % 4 ≡ 0 = omega (arith, f.here.1, f.here.3) in
+    let w = written b d1 d2 d3 c link (end + size) left next total (link-apart b link at end p) (omega arith) (omega arith) (omega (arith, inside, less, four, fours)) (omega arith) (omega (arith, left_is, inside)) small (omega (arith, sum, p.room)) e1 e2 e3 e4 in
+    took-front b c link at end size s is pos fours less w.same (λ k l u v. w.front k (omega arith) u v) w.back w.says (omega (arith, w.size_is, left_is)) (w.next_is ∙ next_is) (omega (arith, w.total_is, sum))
 
 -- the hole as a free chunk of its own
 pub hole-linked : (b d1 d2 d3 c : List ℕ) (link at end left next total : ℕ) → IsBeside b link at end → at < end → end % 4 ≡ 0 → word b link ≢ end → (table_end b + 2 ≤ link → link - 2 + word b (link - 2) ≢ at) → left ≡ end - at → next ≡ word b link → next < 65536 → total ≡ total_free b + (end - at) →
     d1 ≡ with_word b at left → d2 ≡ with_word d1 (at + 2) next → d3 ≡ with_word d2 link at → c ≡ with_word d3 14 total → GivesBack b c
 hole-linked b d1 d2 d3 c link at end left next total s less fours apart alone left_is next_is small sum e1 e2 e3 e4 =
-    let o = s.is in
-    let p = open-place b link at end o in
-    let link_high = p.link_high in
-    let order = o.order in
-    let high = p.high in
-    let most = p.most in
-    let room = p.room in
-    let table = p.table in
-    let low = p.low in
-    let at_fours = o.fours in
-    let w = written b d1 d2 d3 c link at left next total (link-apart b link at end p) (omega arith) link_high (omega (arith, fours, at_fours)) (omega arith) (omega (arith, left_is)) small (omega (arith, sum, room)) e1 e2 e3 e4 in
-    linked-in b c link at end s less fours apart alone w.same w.front (λ k l. w.back k (omega (arith, fours, at_fours))) w.says (w.size_is ∙ left_is) (w.next_is ∙ next_is) (w.total_is ∙ sum)
+    let p = open-place b link at end s.is in
+    let w = written b d1 d2 d3 c link at left next total (link-apart b link at end p) (omega arith) p.link_high (omega (arith, fours, s.is.fours)) (omega arith) (omega (arith, left_is)) small (omega (arith, sum, p.room)) e1 e2 e3 e4 in
+    linked-in b c link at end s less fours apart alone w.same w.front (λ k l. w.back k (omega (arith, fours, s.is.fours))) w.says (w.size_is ∙ left_is) (w.next_is ∙ next_is) (w.total_is ∙ sum)
 
 -- the hole as part of the free chunk before it
 pub hole-merged : (b d c : List ℕ) (link at end left total : ℕ) → IsBeside b link at end → at < end → end % 4 ≡ 0 → word b link ≢ end → link ≢ 12 → link - 2 + word b (link - 2) ≡ at → left ≡ end - (link - 2) → total ≡ total_free b + (end - at) →
     d ≡ with_word b (link - 2) left → c ≡ with_word d 14 total → GivesBack b c
 hole-merged b d c link at end left total s less fours apart ne touch left_is sum e1 e2 =
-    let o = s.is in
-    let p = open-place b link at end o in
-    let link_high = p.link_high in
-    let order = o.order in
-    let high = p.high in
-    let most = p.most in
-    let room = p.room in
-    let table = p.table in
-    let low = p.low in
+    let p = open-place b link at end s.is in
     let far : table_end b + 2 ≤ link = elim p.link_out [ inl e ↦ absurd (ne e) | inr f ↦ f ] in
     let n1 = long b d (link - 2) left e1 in
     let n2 = long d c 14 total e2 in
     merged-before b c link at end s less fours apart far touch (n2 ∙ n1) (λ k l u v. other d c 14 total k e2 v ∙ other b d (link - 2) left k e1 u)
     (λ k l. other d c 14 total k e2 (inr (omega arith)) ∙ other b d (link - 2) left k e1 (inr (omega arith)))
     (clear d c 14 total (link - 2) e2 (inr (omega arith)) ∙ put b d (link - 2) left e1 (omega (arith, left_is)) (omega arith) ∙ left_is)
-    (put d c 14 total e2 (omega (arith, sum, room)) (omega (arith, n1)) ∙ sum)
+    (put d c 14 total e2 (omega (arith, sum, p.room)) (omega (arith, n1)) ∙ sum)
 
 -- the chunk of an entry in a hole, once its entry says where it is: its first bytes are those
 -- that stood there
@@ -158,10 +118,6 @@ pub hole-refilled : (b d1 d2 c : List ℕ) (link at end i keep n : ℕ) → (o :
     length d1 ≡ length b → ((k : ℕ) → Apart k (16 + 2 * i) → get_or d1 k 0 ≡ get_or b k 0) → entry d1 i ≡ at + 2 → d2 ≡ with_word d1 at (n + 2) → c ≡ with_part d2 (at + 2 + keep) (replicate (n - keep) 0) → Filled b c link at end i n (resized (part b (at + 2) keep) n) o
 hole-refilled b d1 d2 c link at end i keep n o some fits kept h none n1 same1 here1 e2 e3 =
     let p = open-place b link at end o in
-    let high = p.high in
-    let most = p.most in
-    let low = p.low in
-    let table = p.table in
     let wide = cost-least n some in
     let n2 = long d1 d2 at (n + 2) e2 in
     let n3 = length-zeros d2 c (at + 2 + keep) (n - keep) e3 in
@@ -185,8 +141,5 @@ pub hole-filled : (b d1 d2 c : List ℕ) (link at end i keep n : ℕ) → (o : I
     d1 ≡ with_word b (16 + 2 * i) (at + 2) → d2 ≡ with_word d1 at (n + 2) → c ≡ with_part d2 (at + 2 + keep) (replicate (n - keep) 0) → Filled b c link at end i n (resized (part b (at + 2) keep) n) o
 hole-filled b d1 d2 c link at end i keep n o some fits kept h none e1 e2 e3 =
     let p = open-place b link at end o in
-    let high = p.high in
-    let most = p.most in
-    let low = p.low in
     let wide = cost-least n some in
     hole-refilled b d1 d2 c link at end i keep n o some fits kept h none (long b d1 (16 + 2 * i) (at + 2) e1) (λ k u. other b d1 (16 + 2 * i) (at + 2) k e1 u) (put b d1 (16 + 2 * i) (at + 2) e1 (omega arith) (omega arith)) e2 e3

@@ -6,8 +6,8 @@ use Rattle.geos_model.specs.Block.{entry, entries, table_end, chunk_at, chunks, 
 use Rattle.geos_model.specs.Heap.{Tiles, IsOffset, IsHeap}
 use Rattle.geos_model.proofs.Words.{word-same, word-other, length-with_word, byte-other}
 use Rattle.geos_model.proofs.Entries.{chunk-none, chunk-nothing, told}
-use Rattle.geos_model.proofs.Moves.{tiles-kept, chunk-shifted}
-use Rattle.geos_model.proofs.Tables.{chunks-set, chunk-cases}
+use Rattle.geos_model.proofs.Moves.{tiles-kept}
+use Rattle.geos_model.proofs.Tables.{chunks-set, chunk-kept}
 use Rattle.geos_model.proofs.Headers.{same-header}
 
 -- what such a write leaves
@@ -20,10 +20,6 @@ enters : (b : List ℕ) (i e : ℕ) (chunk : Option (List ℕ)) → IsHeap b →
 enters b i e chunk heap h silent small silent' is =
     let c = with_word b (16 + 2 * i) e in
     let long = length-with_word b (16 + 2 * i) e in
-    let fits = heap.0.fits in
-    let most = heap.0.most in
-    let fill = heap.1.1 in
-    let ps = heap.1.0 in
     let word_head : (k : ℕ) → k + 2 ≤ 16 → word c k ≡ word b k = (λ k g. word-other b (16 + 2 * i) e k (inl (omega arith))) in
     let n : entries c ≡ entries b = word_head 10 (omega arith) in
     let first : first_free b ≡ first_free c = sym (word_head 12 (omega arith)) in
@@ -33,39 +29,31 @@ enters b i e chunk heap h silent small silent' is =
       | inr a ↦ word-other b (16 + 2 * i) e (16 + 2 * j) (inr (omega arith))
     ]) in
     let kept : IsShifted b c 0 0 (table_end b) (length b) = (λ j k q g r. let s : j ≡ k = omega arith in ap (λ x. get_or c x 0) s ∙ byte-other b (16 + 2 * i) e k (inr (omega arith))) in
-    let apart : (j : ℕ) → table_end b + 2 ≤ entry b j → entry b j < length b → j ≢ i = (λ j g r q. let O : ℕ → Type 0 = λ x. IsOffset (entry b x) in let t : IsOffset (entry b j) = ((λ z. absurd (omega arith)), (λ z. absurd (omega arith))) in silent (subst O q t)) in
+    let apart : (j : ℕ) → table_end b + 2 ≤ entry b j → entry b j < length b → j ≢ i = (λ j g r q. let t : IsOffset (entry b j) = ((λ z. absurd (omega arith)), (λ z. absurd (omega arith))) in silent (subst (λ (x : ℕ). IsOffset (entry b x)) q t)) in
     let start : table_end b ≡ table_end c = ap (λ x. 16 + 2 * x) (sym n) in
-    let T : ℕ → Type 0 = λ x. Tiles c x (first_free b) ps (length b) 0 in
-    let F : ℕ → Type 0 = λ x. Tiles c (table_end c) x ps (length b) 0 in
-    let L : ℕ → Type 0 = λ x. Tiles c (table_end c) (first_free c) ps x 0 in
     record {
       heap = (
         same-header b c heap.0 long (λ k g. byte-other b (16 + 2 * i) e k (inl (omega arith))),
         (
-          ps,
+          heap.1.0,
           record {
-            tiles = subst L (sym long) (subst F first (subst T start (tiles-kept b c (table_end b) (first_free b) ps (length b) 0 fill.tiles kept (omega (arith, n)) (λ j l g r. other j (apart j g r)))));
+            tiles = subst (λ (x : ℕ). Tiles c (table_end c) (first_free c) heap.1.0 x 0) (sym long) (subst (λ (x : ℕ). Tiles c (table_end c) x heap.1.0 (length b) 0) first (subst (λ (x : ℕ). Tiles c x (first_free b) heap.1.0 (length b) 0) start (tiles-kept b c (table_end b) (first_free b) heap.1.0 (length b) 0 heap.1.1.tiles kept (omega (arith, n)) (λ j l g r. other j (apart j g r)))));
             all = (λ j l t. elim (cases_eq j i) [
-              | inl q ↦ absurd (let O : ℕ → Type 0 = λ x. IsOffset x in silent' (subst O (ap (λ x. entry c x) q ∙ here) t))
-              | inr ne ↦ (let O : ℕ → Type 0 = λ x. IsOffset x in fill.all j (omega (arith, n)) (subst O (other j ne) t))
+              | inl q ↦ absurd (silent' (subst (λ (x : ℕ). IsOffset x) (ap (λ x. entry c x) q ∙ here) t))
+              | inr ne ↦ (heap.1.1.all j (omega (arith, n)) (subst (λ (x : ℕ). IsOffset x) (other j ne) t))
             ]);
-            total = word_head 14 (omega arith) ∙ fill.total;
+            total = word_head 14 (omega arith) ∙ heap.1.1.total;
           },
         ),
       );
-      chunks = chunks-set b c i chunk n h (ap (chunk_at c) here ∙ is c) (λ j l ne.
-          let d : entry c j ≡ entry b j = other j ne in
-          chunk-cases b c (entry b j) (entry c j) (λ z. d ∙ z) (λ z. d ∙ z) (λ t.
-          let r = told b j heap l t in
-          let from = r.from in
-          chunk-shifted b c 0 0 (table_end b) (length b) (length b) (entry b j) (entry c j) r kept (omega (arith, d)) (omega arith) (omega (arith, d)) (omega arith) (omega (arith, long)) t ((λ z. t.0 (sym d ∙ z)), (λ z. t.1 (sym d ∙ z)))));
+      chunks = chunks-set b c i chunk n h (ap (chunk_at c) here ∙ is c) (λ j l ne. chunk-kept b c j (table_end b) (length b) (omega arith) (omega (arith, long)) (other j ne) (told b j heap l) kept);
       handle = word_head 0 (omega arith);
     }
 
 -- a chunk of no byte goes
 pub nothing-goes : (b c : List ℕ) (i : ℕ) → IsHeap b → i < entries b → entry b i ≡ 65535 → c ≡ with_word b (16 + 2 * i) 0 → EntersHeap b c i 0 None
-nothing-goes b c i p h is made = let P : List ℕ → Type 0 = λ x. EntersHeap b x i 0 None in subst P (sym made) (enters b i 0 None p h (λ t. t.1 is) (omega arith) (λ t. t.0 refl) (λ x. chunk-none x 0 refl))
+nothing-goes b c i p h is made = subst (λ (x : List ℕ). EntersHeap b x i 0 None) (sym made) (enters b i 0 None p h (λ t. t.1 is) (omega arith) (λ t. t.0 refl) (λ x. chunk-none x 0 refl))
 
 -- a chunk of no byte comes
 pub nothing-comes : (b c : List ℕ) (i : ℕ) → IsHeap b → i < entries b → entry b i ≡ 0 → c ≡ with_word b (16 + 2 * i) 65535 → EntersHeap b c i 65535 (Some (replicate 0 0))
-nothing-comes b c i p h is made = let P : List ℕ → Type 0 = λ x. EntersHeap b x i 65535 (Some (replicate 0 0)) in subst P (sym made) (enters b i 65535 (Some (replicate 0 0)) p h (λ t. t.0 is) (omega arith) (λ t. t.1 refl) (λ x. chunk-nothing x 65535 refl))
+nothing-comes b c i p h is made = subst (λ (x : List ℕ). EntersHeap b x i 65535 (Some (replicate 0 0))) (sym made) (enters b i 65535 (Some (replicate 0 0)) p h (λ t. t.0 is) (omega arith) (λ t. t.1 refl) (λ x. chunk-nothing x 65535 refl))

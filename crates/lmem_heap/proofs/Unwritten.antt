@@ -7,9 +7,10 @@ use Rattle.geos_model.specs.Bytes.{word, with_word, word_bytes, IsShifted}
 use Rattle.geos_model.specs.Block.{entry, entries, table_end, chunks, first_free, handle_word}
 use Rattle.geos_model.specs.Heap.{Tiles, IsCompact, IsHeap, IsOffset}
 use Rattle.geos_model.proofs.Words.{word-bytes, part-shifted, length-with_word, get_or-with_part_before}
-use Rattle.geos_model.proofs.Pieces.{lies, tiles-le}
-use Rattle.geos_model.proofs.Moves.{tiles-kept, chunk-shifted}
-use Rattle.geos_model.proofs.Tables.{chunks-same, chunk-cases}
+use Rattle.geos_model.proofs.Entries.{told}
+use Rattle.geos_model.proofs.Pieces.{tiles-le}
+use Rattle.geos_model.proofs.Moves.{tiles-kept}
+use Rattle.geos_model.proofs.Tables.{chunks-same, chunk-kept}
 use Rattle.geos_model.proofs.Headers.{head-word, same-header}
 use Rattle.geos_model.proofs.FreePieces.{first-room}
 use Rattle.lmem_heap.specs.declared.compact.Gap.{Gap}
@@ -36,35 +37,25 @@ but-behind c b k but h = word-bytes b c k k (but.same k (inr h)) (but.same (k + 
 -- bytes that are a heap's but for the entries are that heap where the entries are
 pub but-heap : (c b : List ℕ) → IsButForEntries c b → ((i : ℕ) → i < entries b → entry c i ≡ entry b i) → IsHeap c × (chunks c ≡ chunks b)
 but-heap c b but each =
-    let heap = but.is in
-    let fill = heap.1.1 in
-    let ps = heap.1.0 in
-    let long = but.long in
+    let ps = but.is.1.0 in
     let n : entries c ≡ entries b = but-head c b 10 but (omega arith) in
     let start : table_end b ≡ table_end c = ap (λ x. 16 + 2 * x) (sym n) in
     let first : first_free b ≡ first_free c = sym (but-head c b 12 but (omega arith)) in
     let total : word c 14 ≡ word b 14 = but-head c b 14 but (omega arith) in
     let kept : IsShifted b c 0 0 (table_end b) (length b) = (λ j k e g r. let same : j ≡ k = omega arith in ap (λ x. get_or c x 0) same ∙ but.same k (inr g)) in
-    let tiles : Tiles c (table_end b) (first_free b) ps (length b) 0 = tiles-kept b c (table_end b) (first_free b) ps (length b) 0 fill.tiles kept (omega (arith, n)) (λ i l low high. each i l) in
-    let A : ℕ → Type 0 = λ x. Tiles c x (first_free b) ps (length b) 0 in
-    let B : ℕ → Type 0 = λ x. Tiles c (table_end c) x ps (length b) 0 in
-    let C : ℕ → Type 0 = λ x. Tiles c (table_end c) (first_free c) ps x 0 in
-    let O : ℕ → Type 0 = λ x. IsOffset x in (
+    let tiles : Tiles c (table_end b) (first_free b) ps (length b) 0 = tiles-kept b c (table_end b) (first_free b) ps (length b) 0 but.is.1.1.tiles kept (omega (arith, n)) (λ i l low high. each i l) in (
       (
-        same-header b c heap.0 long (λ k l. but.same k (inl (omega arith))),
+        same-header b c but.is.0 but.long (λ k l. but.same k (inl (omega arith))),
         (
           ps,
           record {
-            tiles = subst C (sym long) (subst B first (subst A start tiles));
-            all = (λ i l told. let h : i < entries b = omega (arith, n) in fill.all i h (subst O (each i h) told));
-            total = total ∙ fill.total;
+            tiles = subst (λ (x : ℕ). Tiles c (table_end c) (first_free c) ps x 0) (sym but.long) (subst (λ (x : ℕ). Tiles c (table_end c) x ps (length b) 0) first (subst (λ (x : ℕ). Tiles c x (first_free b) ps (length b) 0) start tiles));
+            all = (λ i l told. let h : i < entries b = omega (arith, n) in but.is.1.1.all i h (subst (λ (x : ℕ). IsOffset x) (each i h) told));
+            total = total ∙ but.is.1.1.total;
           },
         ),
       ),
-      chunks-same b c n (λ i h. let d = each i h in chunk-cases b c (entry b i) (entry c i) (λ e. d ∙ e) (λ e. d ∙ e) (λ told.
-          let l = lies b (table_end b) (first_free b) ps (length b) 0 i fill.tiles (fill.all i h told) in
-          let from = l.from in
-          chunk-shifted b c 0 0 (table_end b) (length b) (length b) (entry b i) (entry c i) l kept (omega (arith, d)) (omega arith) (omega (arith, d)) (omega arith) (omega (arith, long)) told ((λ e. told.0 (sym d ∙ e)), (λ e. told.1 (sym d ∙ e))))),
+      chunks-same b c n (λ i h. chunk-kept b c i (table_end b) (length b) (omega arith) (omega (arith, but.long)) (each i h) (told b i but.is h) kept),
     )
 
 -- once the runs are written into the table, the block is the heap
@@ -85,9 +76,8 @@ mapped-table b f zero h fits small = (b, entries-none b f 0)
 mapped-table b f (suc n) h fits small =
     let r = mapped-table b f n (omega arith) fits (λ i l. small i (omega arith)) in
     let e : entry r.0 n ≡ entry b n = r.1.rest n (inr (omega arith)) (omega arith) in
-    let F : ℕ → Type 0 = λ x. MapsEntries b (with_word r.0 (16 + 2 * n) (f (entry b n))) f 0 x in
     let same : n + 1 ≡ suc n = omega arith in
-    (with_word r.0 (16 + 2 * n) (f (entry b n)), subst F same (entries-more b r.0 f 0 n (f (entry b n)) r.1 (omega arith) (omega arith) fits (sym (ap f e)) (small n (omega arith))))
+    (with_word r.0 (16 + 2 * n) (f (entry b n)), subst (λ (x : ℕ). MapsEntries b (with_word r.0 (16 + 2 * n) (f (entry b n))) f 0 x) same (entries-more b r.0 f 0 n (f (entry b n)) r.1 (omega arith) (omega arith) fits (sym (ap f e)) (small n (omega arith))))
 
 -- the same write to two lists that have the same byte somewhere
 same-part : (x y : List ℕ) (at : ℕ) (ws : List ℕ) (k : ℕ) → length x ≡ length y → get_or x k 0 ≡ get_or y k 0 → get_or (with_part x at ws) k 0 ≡ get_or (with_part y at ws) k 0
@@ -135,36 +125,29 @@ pub slid-on : (c b d : List ℕ) (ss : List Slide) (gap : Gap) (high : ℕ) → 
 slid-on c b d ss gap high s p small order below is =
     let f = gap.first in
     let from = gap.first + gap.size in
-    let end = gap.end in
-    let n = end - from in
-    let heap = s.but.is in
-    let header = heap.0 in
-    let most = header.most in
-    let places = p.places in
-    let size = p.size in
+    let n = gap.end - from in
     let four : 4 ≤ gap.size = omega arith in
     let low = tiles-le b (table_end b) f p.pre f f p.before in
-    let long = s.but.long in
     let ws = part b from n in
-    let kept : IsShifted b c 0 0 from end = (λ j k e g r. let same : j ≡ k = omega arith in ap (λ x. get_or c x 0) same ∙ s.but.same k (inr (omega arith))) in
-    let same_part : part c from n ≡ ws = part-shifted b c 0 0 from end from from n kept refl (omega arith) (omega arith) (omega arith) (omega arith) in
+    let kept : IsShifted b c 0 0 from gap.end = (λ j k e g r. let same : j ≡ k = omega arith in ap (λ x. get_or c x 0) same ∙ s.but.same k (inr (omega arith))) in
+    let same_part : part c from n ≡ ws = part-shifted b c 0 0 from gap.end from from n kept refl (omega arith) (omega arith) (omega arith) (omega arith) in
     let c0 = with_part c f (part c from n) in
     let b0 = with_part b f ws in
     let low_byte : (k : ℕ) → k < f → get_or b0 k 0 ≡ get_or b k 0 = (λ k h. get_or-with_part_before b f ws k h) in
     let count0 : entries b0 ≡ entries b = word-bytes b b0 10 10 (low_byte 10 (omega arith)) (low_byte 11 (omega arith)) in
     let entry0 : (i : ℕ) → i < entries b → entry b0 i ≡ entry b i = (λ i h. word-bytes b b0 (16 + 2 * i) (16 + 2 * i) (low_byte (16 + 2 * i) (omega arith)) (low_byte (16 + 2 * i + 1) (omega arith))) in
-    let fits = run-table b b0 from end f (omega arith) low (omega arith) (omega arith) refl in
-    let F : ℕ → ℕ = entry_moved from end f in
-    let t = mapped-table b0 F (entries b0) (omega arith) fits (λ i h. let l : i < entries b = omega (arith, count0) in let q = entry0 i l in let a = s.small i l in let v = moved-le from end f (entry b0 i) (omega arith) in omega (arith, q, a, v)) in
-    let m : MovesRun b t.0 from end f = run-moved b b0 t.0 from end f (omega arith) low (omega arith) (omega arith) (omega arith) refl t.1 in
+    let fits = run-table b b0 from gap.end f (omega arith) low (omega arith) (omega arith) refl in
+    let F : ℕ → ℕ = entry_moved from gap.end f in
+    let t = mapped-table b0 F (entries b0) (omega arith) fits (λ i h. let l : i < entries b = omega (arith, count0) in let q = entry0 i l in let a = s.small i l in let v = moved-le from gap.end f (entry b0 i) (omega arith) in omega (arith, q, a, v)) in
+    let m : MovesRun b t.0 from gap.end f = run-moved b b0 t.0 from gap.end f (omega arith) low (omega arith) (omega arith) (omega arith) refl t.1 in
     let next = closing_words t.0 gap in
-    let k : ClosesGap b next gap = closes b t.0 next gap header p small m refl in
+    let k : ClosesGap b next gap = closes b t.0 next gap s.but.is.0 p small m refl in
     let count : entries next ≡ entries b = head-word b next 12 10 k.head (omega arith) in
     let long_c0 : length c0 ≡ length c = length-with_part c f (part c from n) in
     let long_d : length d ≡ length c = ap length is ∙ long-closing c0 gap ∙ long_c0 in
-    let byte : (q : ℕ) → (q < 16) ⊎ (table_end b ≤ q) → get_or c0 q 0 ≡ get_or t.0 q 0 = (λ q h. ap (λ x. get_or (with_part c f x) q 0) same_part ∙ same-part c b f ws q long (s.but.same q h)
+    let byte : (q : ℕ) → (q < 16) ⊎ (table_end b ≤ q) → get_or c0 q 0 ≡ get_or t.0 q 0 = (λ q h. ap (λ x. get_or (with_part c f x) q 0) same_part ∙ same-part c b f ws q s.but.long (s.but.same q h)
     ∙ sym (elim h [ inl l ↦ t.1.head q l | inr l ↦ t.1.behind q (omega (arith, count0, l)) ])) in
-    let long_t : length c0 ≡ length t.0 = long_c0 ∙ long ∙ sym m.long in
+    let long_t : length c0 ≡ length t.0 = long_c0 ∙ s.but.long ∙ sym m.long in
     let kept_entry : (i : ℕ) → i < entries b → entry d i ≡ entry c i = (λ i h. let q = 16 + 2 * i in
     let one : (q : ℕ) → 16 ≤ q → q < table_end b → get_or d q 0 ≡ get_or c q 0 = (λ q g l. ap (λ x. get_or x q 0) is ∙ words-byte c0 gap q (inr (inl (omega arith, omega arith))) (omega arith) ∙ get_or-with_part_before c f (part c from n) q (omega arith)) in
     word-bytes c d q q (one q (omega arith) (omega arith)) (one (q + 1) (omega arith) (omega arith))) in
@@ -172,13 +155,13 @@ slid-on c b d ss gap high s p small order below is =
       next = next;
       slid = record {
         but = record {
-          is = closed-heap b next gap header p k;
-          long = long_d ∙ long ∙ sym k.long;
+          is = closed-heap b next gap s.but.is.0 p k;
+          long = long_d ∙ s.but.long ∙ sym k.long;
           same = (λ q h. ap (λ x. get_or x q 0) is ∙ same-closing c0 t.0 gap q long_t (byte q (elim h [ inl l ↦ inl l | inr l ↦ inr (omega (arith, count, l)) ])));
         };
         says = (λ i h. let l : i < entries b = omega (arith, count) in
             k.places i l ∙ ap F (s.says i l) ∙ sym (slid-more 0 ss high (slide_of gap) (entry c i) order below) ∙ ap (entry_slid (ss ++ (slide_of gap ∷ []))) (sym (kept_entry i l)));
-        small = (λ i h. let l : i < entries b = omega (arith, count) in let e = k.places i l in let a = s.small i l in let v = moved-le from end f (entry b i) (omega arith) in omega (arith, e, a, v));
+        small = (λ i h. let l : i < entries b = omega (arith, count) in let e = k.places i l in let a = s.small i l in let v = moved-le from gap.end f (entry b i) (omega arith) in omega (arith, e, a, v));
       };
       closed = k;
     }
@@ -221,13 +204,8 @@ but-inner c b f g but q next some =
     let size : word b f ≡ word c f = sym q.size in
     let more : word b g ≡ word c g = sym (but-behind c b g but (omega (arith, n.1, r.0))) in
     let after : word b (g + 2) ≡ word c (g + 2) = sym (but-behind c b (g + 2) but (omega (arith, n.1, r.0))) in
-    let P : ℕ → Type 0 = λ x. HasGap b (gap_of f x g (word b g) (word b (g + 2))) in
-    let Q : ℕ → Type 0 = λ x. HasGap b (gap_of f (word c f) g x (word b (g + 2))) in
-    let S : ℕ → Type 0 = λ x. HasGap b (gap_of f (word c f) g (word c g) x) in
-    record { gap = subst S after (subst Q more (subst P size n.0)); inner = omega (arith, n.1, size); within = omega (arith, n.2, q.long) }
+    record { gap = subst (λ (x : ℕ). HasGap b (gap_of f (word c f) g (word c g) x)) after (subst (λ (x : ℕ). HasGap b (gap_of f (word c f) g x (word b (g + 2)))) more (subst (λ (x : ℕ). HasGap b (gap_of f x g (word b g) (word b (g + 2)))) size n.0)); inner = omega (arith, n.1, size); within = omega (arith, n.2, q.long) }
 
 pub but-last : (c b : List ℕ) (f g : ℕ) → IsButForEntries c b → ButFirst c b f → g ≡ word c (f + 2) → g ≡ 0 → HasGap b (gap_of f (word c f) (length c) 0 0)
 but-last c b f g but q next none =
-    let P : ℕ → Type 0 = λ x. HasGap b (gap_of f x (length b) 0 0) in
-    let Q : ℕ → Type 0 = λ x. HasGap b (gap_of f (word c f) x 0 0) in
-    subst Q (sym q.long) (subst P (sym q.size) (gap-last b f g but.is q.is q.gap.some (next ∙ q.next) none))
+    subst (λ (x : ℕ). HasGap b (gap_of f (word c f) x 0 0)) (sym q.long) (subst (λ (x : ℕ). HasGap b (gap_of f x (length b) 0 0)) (sym q.size) (gap-last b f g but.is q.is q.gap.some (next ∙ q.next) none))

@@ -16,23 +16,23 @@ overflow_sub-found c = c.in-Ok.ensures.least
 
 pub unreachable-requires : goal.unreachable-requires
 unreachable-requires c =
-    let b = c.args.block.now in let found = c.in-Ok.found in let f = c.in-Ok.ensures in let h = holds b c.args.c found f in let least = f.least in
-    can-delete c.in-Err-delete.field-0 (chunks b) c.args.c 8 (found.len - 8) (part b found.at found.len) h.there (omega (arith, h.long, least)) c.in-Err-delete.ensures.refused
+    let b = c.args.block.now in let found = c.in-Ok.found in let h = holds b c.args.c found c.in-Ok.ensures in
+    can-delete c.in-Err-delete.field-0 (chunks b) c.args.c 8 (found.len - 8) (part b found.at found.len) h.there (omega (arith, h.long, c.in-Ok.ensures.least)) c.in-Err-delete.ensures.refused
 
 length-cut : (bytes : List ℕ) (len : ℕ) → length bytes ≡ len → 8 ≤ len → length (without_part bytes 8 (len - 8)) ≡ 8
 length-cut bytes len e h = omega (arith, length-append (take 8 bytes) (drop (8 + (len - 8)) bytes), length-take 8 bytes, length-drop (8 + (len - 8)) bytes)
 
 pub put_empty-requires-clause-chunk : goal.put_empty-requires-clause-chunk
 put_empty-requires-clause-chunk c =
-    let b = c.args.block.now in let found = c.in-Ok.found in let f = c.in-Ok.ensures in let h = holds b c.args.c found f in
+    let b = c.args.block.now in let found = c.in-Ok.found in let h = holds b c.args.c found c.in-Ok.ensures in
     let cs = chunks b in let bytes = part b found.at found.len in let cut = without_part (bytes_of cs c.args.c) 8 (found.len - 8) in
     let there : chunk_of (chunks c.delete.new.block) c.args.c ≡ Some cut = ap (λ xs. chunk_of xs c.args.c) c.in-Ok-delete.ensures.ok.2 ∙ chunk-written cs c.args.c bytes cut h.there in
-    rw there (ap (λ x. length (without_part x 8 (found.len - 8))) (known-bytes cs c.args.c bytes h.there) ∙ length-cut bytes found.len h.long f.least)
+    rw there (ap (λ x. length (without_part x 8 (found.len - 8))) (known-bytes cs c.args.c bytes h.there) ∙ length-cut bytes found.len h.long c.in-Ok.ensures.least)
 
 pub returns-clause-ok : goal.returns-clause-ok
 returns-clause-ok c =
-    let b = c.args.block.now in let found = c.in-Ok.found in let f = c.in-Ok.ensures in let h = holds b c.args.c found f in
-    let cs = chunks b in let bytes = part b found.at found.len in let a = f.shape.array in
+    let b = c.args.block.now in let found = c.in-Ok.found in let h = holds b c.args.c found c.in-Ok.ensures in
+    let cs = chunks b in let bytes = part b found.at found.len in let a = c.in-Ok.ensures.shape.array in
     let same = array-of cs c.args.c bytes a h.there h.is in
     let size = ap (λ (x : Array). x.element_size) same ∙ h.shaped.size in (
       array-passes cs c.args.c bytes a h.there h.is [],

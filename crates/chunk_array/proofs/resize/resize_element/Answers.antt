@@ -13,35 +13,34 @@ use Rattle.chunk_array.proofs.resize.resize_element.Goals as goal
 
 pub returns-in-Err-clause-refused : goal.returns-in-Err-clause-refused
 returns-in-Err-clause-refused c =
-    let b = c.args.block.now in let found = c.in-Ok.found in let f = c.in-Ok.ensures in let a = f.shape.array in let e = c.place-element in
-    let N : ℕ → Type 0 = λ x. IsRoomError c.in-Err.room x (length b) in (
-      passes b c.args.c found f c.args.i c.args.n e.result c.if-found-ne0.false c.if-i-found.false e.ensures.index (e.ensures.begin a f.shape.is) (e.ensures.end a f.shape.is),
-      subst N (changed-need b c.args.c found f c.args.i c.args.n e.result c.if-found-ne0.false c.if-i-found.false e.ensures.index (e.ensures.begin a f.shape.is) (e.ensures.end a f.shape.is)) c.in-Err.ensures.refused,
+    let b = c.args.block.now in let f = c.in-Ok.ensures in let a = f.shape.array in let e = c.place-element in (
+      passes b c.args.c c.in-Ok.found f c.args.i c.args.n e.result c.if-found-ne0.false c.if-i-found.false e.ensures.index (e.ensures.begin a f.shape.is) (e.ensures.end a f.shape.is),
+      subst (λ (x : ℕ). IsRoomError c.in-Err.room x (length b)) (changed-need b c.args.c c.in-Ok.found f c.args.i c.args.n e.result c.if-found-ne0.false c.if-i-found.false e.ensures.index (e.ensures.begin a f.shape.is) (e.ensures.end a f.shape.is)) c.in-Err.ensures.refused,
     )
 
 pub put_offsets-requires-clause-refit : goal.put_offsets-requires-clause-refit
 put_offsets-requires-clause-refit c =
-    let b = c.args.block.now in let found = c.in-Ok.found in let f = c.in-Ok.ensures in let a = f.shape.array in let e = c.place-element in let made = c.in-Ok-resize_part.ensures in
-    let r = refits b c.args.c found f c.args.i c.args.n e.result c.if-found-ne0.false c.if-i-found.false e.ensures.index (e.ensures.begin a f.shape.is) (e.ensures.end a f.shape.is) c.resize_part.new.block made.heap made.ok in
-    let there = r.0 in rw there (record { before = part b found.at found.len; array = a; has_refit = r.1 })
+    let f = c.in-Ok.ensures in let e = c.place-element in let made = c.in-Ok-resize_part.ensures in
+    let r = refits c.args.block.now c.args.c c.in-Ok.found f c.args.i c.args.n e.result c.if-found-ne0.false c.if-i-found.false e.ensures.index (e.ensures.begin f.shape.array f.shape.is) (e.ensures.end f.shape.array f.shape.is) c.resize_part.new.block made.heap made.ok in
+    rw r.0 (record { before = part c.args.block.now c.in-Ok.found.at c.in-Ok.found.len; array = f.shape.array; has_refit = r.1 })
 
 pub returns-clause-ok : goal.returns-clause-ok
 returns-clause-ok c =
     let b = c.args.block.now in let found = c.in-Ok.found in let f = c.in-Ok.ensures in let a = f.shape.array in let e = c.place-element in let made = c.in-Ok-resize_part.ensures in
-    let i = c.args.i in let n = c.args.n in let cs = chunks b in let bytes = part b found.at found.len in let begin = e.result.begin in let len = e.result.len in
+    let cs = chunks b in let bytes = part b found.at found.len in
     let index = e.ensures.index in let from = e.ensures.begin a f.shape.is in let to = e.ensures.end a f.shape.is in let none = c.if-found-ne0.false in let known = c.if-i-found.false in
-    let r = refits b c.args.c found f i n e.result none known index from to c.resize_part.new.block made.heap made.ok in (
-      passes b c.args.c found f i n e.result none known index from to,
-      c.put_offsets.ensures.chunks (with_resized_part bytes begin len n) bytes a r.0 r.1 ∙ ap (λ xs. with_array xs c.args.c (with_refit a e.result.index n)) made.ok
-          ∙ written-twice cs c.args.c (with_resized_part (bytes_of cs c.args.c) begin len n) (spelled (with_refit a e.result.index n))
-          ∙ ap (λ k. with_array cs c.args.c (with_refit a k n)) index ∙ sym (same b c.args.c found f i n e.result none known index from to),
+    let r = refits b c.args.c found f c.args.i c.args.n e.result none known index from to c.resize_part.new.block made.heap made.ok in (
+      passes b c.args.c found f c.args.i c.args.n e.result none known index from to,
+      c.put_offsets.ensures.chunks (with_resized_part bytes e.result.begin e.result.len c.args.n) bytes a r.0 r.1 ∙ ap (λ xs. with_array xs c.args.c (with_refit a e.result.index c.args.n)) made.ok
+          ∙ written-twice cs c.args.c (with_resized_part (bytes_of cs c.args.c) e.result.begin e.result.len c.args.n) (spelled (with_refit a e.result.index c.args.n))
+          ∙ ap (λ k. with_array cs c.args.c (with_refit a k c.args.n)) index ∙ sym (same b c.args.c found f c.args.i c.args.n e.result none known index from to),
     )
 
 pub returns-clause-fits : goal.returns-clause-fits
 returns-clause-fits c =
-    let b = c.args.block.now in let found = c.in-Ok.found in let f = c.in-Ok.ensures in let a = f.shape.array in let e = c.place-element in
-    let changed = changed-need b c.args.c found f c.args.i c.args.n e.result c.if-found-ne0.false c.if-i-found.false e.ensures.index (e.ensures.begin a f.shape.is) (e.ensures.end a f.shape.is) in
-    let fits = c.in-Ok-resize_part.ensures.fits in omega (arith, changed, fits)
+    let f = c.in-Ok.ensures in let e = c.place-element in
+    let changed = changed-need c.args.block.now c.args.c c.in-Ok.found f c.args.i c.args.n e.result c.if-found-ne0.false c.if-i-found.false e.ensures.index (e.ensures.begin f.shape.array f.shape.is) (e.ensures.end f.shape.array f.shape.is) in
+    omega (arith, changed, c.in-Ok-resize_part.ensures.fits)
 
 pub returns-clause-array : goal.returns-clause-array
 returns-clause-array c = let ok = returns-clause-ok c in resizes (chunks c.args.block.now) (chunks c.put_offsets.new.block) c.args.c c.args.i c.args.n ok.0 ok.1

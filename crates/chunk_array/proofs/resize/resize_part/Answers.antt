@@ -19,18 +19,16 @@ grown : (cs : List (Option (List ℕ))) (c at has n : ℕ) → at + has ≤ leng
 grown cs c at has n within more = ap (with_bytes cs c) (resized-grows (bytes_of cs c) at has n within more)
 
 pub returns-in-Ok-clause-ok : goal.returns-in-Ok-clause-ok
-returns-in-Ok-clause-ok c = let a = c.args in let t = c.if-n-has.true in c.in-Ok.ensures.ok.2 ∙ grown (chunks a.block.now) a.c a.at a.has a.n c.requires.within (omega (arith, t))
+returns-in-Ok-clause-ok c = c.in-Ok.ensures.ok.2 ∙ grown (chunks c.args.block.now) c.args.c c.args.at c.args.has c.args.n c.requires.within (omega (arith, c.if-n-has.true))
 
 pub returns-in-Ok-clause-fits : goal.returns-in-Ok-clause-fits
 returns-in-Ok-clause-fits c =
-    let a = c.args in let t = c.if-n-has.true in let P : List (Option (List ℕ)) → Type 0 = λ x. need x ≤ length a.block.now in
-    subst P (grown (chunks a.block.now) a.c a.at a.has a.n c.requires.within (omega (arith, t))) c.in-Ok.ensures.fits
+    subst (λ (x : List (Option (List ℕ))). need x ≤ length c.args.block.now) (grown (chunks c.args.block.now) c.args.c c.args.at c.args.has c.args.n c.requires.within (omega (arith, c.if-n-has.true))) c.in-Ok.ensures.fits
 
 pub returns-in-Err-Room-clause-refused : goal.returns-in-Err-Room-clause-refused
 returns-in-Err-Room-clause-refused c =
-    let a = c.args in let t = c.if-n-has.true in let P : List (Option (List ℕ)) → Type 0 = λ x. IsRoomError c.in-Err-Room.room (need x) (length a.block.now) in
-    let E : InsertError → Type 0 = λ e. IsInsertError e (chunks a.block.now) (length a.block.now) a.c (a.at + a.has) (a.n - a.has) in
-    subst P (grown (chunks a.block.now) a.c a.at a.has a.n c.requires.within (omega (arith, t))) (subst E c.in-Err-Room.field-0-is c.in-Err-Room.ensures.refused).2
+    let a = c.args in
+    subst (λ (x : List (Option (List ℕ))). IsRoomError c.in-Err-Room.room (need x) (length a.block.now)) (grown (chunks a.block.now) a.c a.at a.has a.n c.requires.within (omega (arith, c.if-n-has.true))) (subst (λ (e : InsertError). IsInsertError e (chunks a.block.now) (length a.block.now) a.c (a.at + a.has) (a.n - a.has)) c.in-Err-Room.field-0-is c.in-Err-Room.ensures.refused).2
 
 pub returns-clause-ok : goal.returns-clause-ok
 returns-clause-ok c =
@@ -39,7 +37,7 @@ returns-clause-ok c =
 
 pub returns-clause-fits : goal.returns-clause-fits
 returns-clause-fits c =
-    let b = c.args.block.now in let cs = chunks b in let x = with_resized_part (bytes_of cs c.args.c) c.args.at c.args.has c.args.n in
-    let l = length-resized_part (bytes_of cs c.args.c) c.args.at c.args.has c.args.n c.requires.within in let f = c.if-n-has.false in
-    let less = need-with_bytes cs c.args.c x (omega (arith, l, f)) in
-    let u = block-used b c.requires.heap in let s = c.requires.heap.0.sixteens in omega (arith, less, u, s)
+    let cs = chunks c.args.block.now in let x = with_resized_part (bytes_of cs c.args.c) c.args.at c.args.has c.args.n in
+    let l = length-resized_part (bytes_of cs c.args.c) c.args.at c.args.has c.args.n c.requires.within in
+    let less = need-with_bytes cs c.args.c x (omega (arith, l, c.if-n-has.false)) in
+    omega (arith, less, block-used c.args.block.now c.requires.heap, c.requires.heap.0.sixteens)

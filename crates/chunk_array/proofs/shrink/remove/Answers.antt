@@ -14,38 +14,37 @@ use Rattle.chunk_array.proofs.shrink.remove.Goals as goal
 
 pub take_element-requires-clause-part : goal.take_element-requires-clause-part
 take_element-requires-clause-part c =
-    let b = c.args.block.now in let found = c.in-Ok.found in let f = c.in-Ok.ensures in let a = f.is.shape.array in let e = c.place-element in
-    let h = parted b c.args.c c.args.i found f e.result c.requires e.ensures.index (e.ensures.begin a f.is.shape.is) (e.ensures.end a f.is.shape.is) in
-    let there = f.is.bytes in rw there (record { array = a; has = h })
+    let f = c.in-Ok.ensures in let a = f.is.shape.array in let e = c.place-element in
+    let h = parted c.args.block.now c.args.c c.args.i c.in-Ok.found f e.result c.requires e.ensures.index (e.ensures.begin a f.is.shape.is) (e.ensures.end a f.is.shape.is) in
+    rw f.is.bytes (record { array = a; has = h })
 
 pub overflow_sub-end : goal.overflow_sub-end
 overflow_sub-end c =
-    let b = c.args.block.now in let found = c.in-Ok.found in let f = c.in-Ok.ensures in let a = f.is.shape.array in let e = c.place-element in
-    let h = parted b c.args.c c.args.i found f e.result c.requires e.ensures.index (e.ensures.begin a f.is.shape.is) (e.ensures.end a f.is.shape.is) in
-    let fits = (parts (part b found.at found.len) a found.shape e.result h).fits in let value = c.room-room.ensures.value in omega (arith, fits, value)
+    let found = c.in-Ok.found in let f = c.in-Ok.ensures in let a = f.is.shape.array in let e = c.place-element in
+    let h = parted c.args.block.now c.args.c c.args.i found f e.result c.requires e.ensures.index (e.ensures.begin a f.is.shape.is) (e.ensures.end a f.is.shape.is) in
+    omega (arith, (parts (part c.args.block.now found.at found.len) a found.shape e.result h).fits, c.room-room.ensures.value)
 
 pub unreachable-requires : goal.unreachable-requires
 unreachable-requires c =
     let b = c.args.block.now in let found = c.in-Ok.found in let f = c.in-Ok.ensures in let a = f.is.shape.array in let bytes = part b found.at found.len in
-    let e = c.place-element in let end = e.result.begin + e.result.len in let room = c.room-room.result in let d = c.take_element.new.block in
+    let e = c.place-element in let end = e.result.begin + e.result.len in let d = c.take_element.new.block in
     let h = parted b c.args.c c.args.i found f e.result c.requires e.ensures.index (e.ensures.begin a f.is.shape.is) (e.ensures.end a f.is.shape.is) in
-    let p = parts bytes a found.shape e.result h in let fits = p.fits in let within = p.within in let value = c.room-room.ensures.value in
-    let x = c.take_element.ensures.chunks bytes a f.is.bytes h in let long = x.long in
+    let p = parts bytes a found.shape e.result h in
+    let x = c.take_element.ensures.chunks bytes a f.is.bytes h in
     let there : chunk_of (chunks d) c.args.c ≡ Some x.bytes = ap (λ xs. chunk_of xs c.args.c) x.chunks ∙ chunk-written (chunks b) c.args.c bytes x.bytes f.is.bytes in
-    can-delete c.in-Err-delete.field-0 (chunks d) c.args.c (end - room) room x.bytes there (omega (arith, fits, within, value, long)) c.in-Err-delete.ensures.refused
+    can-delete c.in-Err-delete.field-0 (chunks d) c.args.c (end - c.room-room.result) c.room-room.result x.bytes there (omega (arith, p.fits, p.within, c.room-room.ensures.value, x.long)) c.in-Err-delete.ensures.refused
 
 pub returns-clause-ok : goal.returns-clause-ok
 returns-clause-ok c =
     let b = c.args.block.now in let found = c.in-Ok.found in let f = c.in-Ok.ensures in let a = f.is.shape.array in let bytes = part b found.at found.len in
-    let e = c.place-element in let end = e.result.begin + e.result.len in let room = c.room-room.result in let d = c.take_element.new.block in let i = e.result.index in
+    let e = c.place-element in let end = e.result.begin + e.result.len in let room = c.room-room.result in let d = c.take_element.new.block in
     let h = parted b c.args.c c.args.i found f e.result c.requires e.ensures.index (e.ensures.begin a f.is.shape.is) (e.ensures.end a f.is.shape.is) in
-    let p = parts bytes a found.shape e.result h in let index = p.index in let same = e.ensures.index in
     let x = c.take_element.ensures.chunks bytes a f.is.bytes h in
     let there : chunk_of (chunks d) c.args.c ≡ Some x.bytes = ap (λ xs. chunk_of xs c.args.c) x.chunks ∙ chunk-written (chunks b) c.args.c bytes x.bytes f.is.bytes in (
-      element-passes (chunks b) c.args.c bytes a f.is.bytes f.is.shape.is c.args.i (omega (arith, index, same)),
+      element-passes (chunks b) c.args.c bytes a f.is.bytes f.is.shape.is c.args.i (omega (arith, (parts bytes a found.shape e.result h).index, e.ensures.index)),
       c.in-Ok-delete.ensures.ok.2 ∙ ap (λ y. with_bytes (chunks d) c.args.c (without_part y (end - room) room)) (known-bytes (chunks d) c.args.c x.bytes there)
-          ∙ ap (with_bytes (chunks d) c.args.c) (x.spells.rest room c.room-room.ensures.value) ∙ ap (λ xs. with_bytes xs c.args.c (spelled (without_element a i))) x.chunks
-          ∙ written-twice (chunks b) c.args.c x.bytes (spelled (without_element a i)) ∙ ap (λ k. with_array (chunks b) c.args.c (without_element a k)) same
+          ∙ ap (with_bytes (chunks d) c.args.c) (x.spells.rest room c.room-room.ensures.value) ∙ ap (λ xs. with_bytes xs c.args.c (spelled (without_element a e.result.index))) x.chunks
+          ∙ written-twice (chunks b) c.args.c x.bytes (spelled (without_element a e.result.index)) ∙ ap (λ k. with_array (chunks b) c.args.c (without_element a k)) e.ensures.index
           ∙ sym (ap (λ y. with_array (chunks b) c.args.c (without_element y c.args.i)) (array-of (chunks b) c.args.c bytes a f.is.bytes f.is.shape.is)),
     )
 

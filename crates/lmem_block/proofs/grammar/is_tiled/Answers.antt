@@ -6,12 +6,11 @@ use Rattle.lmem_block.proofs.grammar.is_tiled.Goals.{then-free-ne0-via-then-free
 
 pub loop-at-init : goal.loop-at-init
 loop-at-init c =
-    let b = c.args.block.now in
     let at = c.table_end-at.result in
     let is = c.table_end-at.ensures.value in
     let fours : at % 4 ≡ 0 = omega (arith, is, c.requires.header.pairs) in
-    let first = start b at c.get16-free.result c.args.starts.now c.requires.marks is c.get16-free.ensures in
-    let none = c.requires.counted ∙ before b at c.args.starts.now c.requires.marks fours is in
+    let first = start c.args.block.now at c.get16-free.result c.args.starts.now c.requires.marks is c.get16-free.ensures in
+    let none = c.requires.counted ∙ before c.args.block.now at c.args.starts.now c.requires.marks fours is in
     record {
       same = ((λ full. (first.0 full, sym none)), (λ can. first.1 can.0));
       marks = omega (arith, none);
@@ -22,27 +21,22 @@ loop-at-init c =
     }
 
 pub returns-then-free-ne0 : goal.returns-then-free-ne0
-returns-then-free-ne0 c =
-    let i = c.loop-at.invariant in
-    let b = c.args.block.now in
-    let at = c.loop-at.at in (
-      (λ t. absurd (false≢true t)),
-      (λ full. let can = i.same.0 full in let e = end-forward b at c.loop-at.free c.loop-at.sum c.loop-at-test.false can.0 in
-          let none = behind b at c.args.starts.now c.requires.marks c.loop-at-test.false i.fours in
-          elim c.then-free-ne0.branch [
-            | then-free-ne0-via-then-free-ne0 w ↦ absurd (w.if-free-ne0.true e.0)
-            | then-free-ne0-via-else-free-ne0+then-sum-total w ↦ absurd (w.if-sum-total.true (e.1 ∙ sym c.get16-total.ensures))
-            | then-free-ne0-via-else-free-ne0+else-sum-total+then-left-ne0 w ↦ absurd (w.if-left-ne0.true (sym can.1 ∙ none))
-          ]),
-    )
+returns-then-free-ne0 c = (
+  (λ t. absurd (false≢true t)),
+  (λ full. let can = c.loop-at.invariant.same.0 full in let e = end-forward c.args.block.now c.loop-at.at c.loop-at.free c.loop-at.sum c.loop-at-test.false can.0 in
+      let none = behind c.args.block.now c.loop-at.at c.args.starts.now c.requires.marks c.loop-at-test.false c.loop-at.invariant.fours in
+      elim c.then-free-ne0.branch [
+        | then-free-ne0-via-then-free-ne0 w ↦ absurd (w.if-free-ne0.true e.0)
+        | then-free-ne0-via-else-free-ne0+then-sum-total w ↦ absurd (w.if-sum-total.true (e.1 ∙ sym c.get16-total.ensures))
+        | then-free-ne0-via-else-free-ne0+else-sum-total+then-left-ne0 w ↦ absurd (w.if-left-ne0.true (sym can.1 ∙ none))
+      ]),
+)
 
 pub returns : goal.returns
 returns c =
     let i = c.loop-at.invariant in
-    let b = c.args.block.now in
-    let at = c.loop-at.at in
-    let end : at ≡ length b = omega (arith, i.upto) in
-    let none = behind b at c.args.starts.now c.requires.marks c.loop-at-test.false i.fours in (
-      (λ t. i.same.1 (end-back b at c.loop-at.free c.loop-at.sum c.args.starts.now c.requires.marks end (omega arith) (omega (arith, c.get16-total.ensures)), omega (arith, none))),
+    let end : c.loop-at.at ≡ length c.args.block.now = omega (arith, i.upto) in
+    let none = behind c.args.block.now c.loop-at.at c.args.starts.now c.requires.marks c.loop-at-test.false i.fours in (
+      (λ t. i.same.1 (end-back c.args.block.now c.loop-at.at c.loop-at.free c.loop-at.sum c.args.starts.now c.requires.marks end (omega arith) (omega (arith, c.get16-total.ensures)), omega (arith, none))),
       (λ full. refl),
     )

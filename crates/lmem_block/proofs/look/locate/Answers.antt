@@ -6,6 +6,5 @@ use Rattle.lmem_block.proofs.look.locate.Goals as goal
 
 pub returns-clause-bytes : goal.returns-clause-bytes
 returns-clause-bytes c =
-    let b = c.args.block.now in
     let f = c.in_ok-i.ensures.found in
-    chunk-entry b c.args.c c.in_ok-i.i f.0 f.1 ∙ ap (option_map (bytes_at b)) c.place_of_entry.ensures.place
+    chunk-entry c.args.block.now c.args.c c.in_ok-i.i f.0 f.1 ∙ ap (option_map (bytes_at c.args.block.now)) c.place_of_entry.ensures.place

@@ -10,11 +10,10 @@ returns c h above =
 
 pub returns-then-entry-ne0 : goal.returns-then-entry-ne0
 returns-then-entry-ne0 c =
-    let b = c.args.block.now in
     let from : c.if-c-lt-TABLE.first ≤ c.loop-i.i = c.loop-i.auto.i in (
       (elim c.if-c-lt-TABLE.branch [ then-c-lt-TABLE w ↦ omega (arith, w.first-is, w.if-c-lt-TABLE.true, c.handle_of.ensures) | else-c-lt-TABLE w ↦ omega (arith, w.first-is, w.if-c-lt-TABLE.false, c.handle_of.ensures) ]),
-      some-chunk b c.loop-i.i c.handle_of.result (omega (arith, c.entries-i-end.ensures.value)) (λ e. c.if-entry-ne0.true (c.entry.ensures ∙ e)) c.handle_of.ensures,
+      some-chunk c.args.block.now c.loop-i.i c.handle_of.result (omega (arith, c.entries-i-end.ensures.value)) (λ e. c.if-entry-ne0.true (c.entry.ensures ∙ e)) c.handle_of.ensures,
       (λ h above below.
           let low : 16 ≤ h → h % 2 ≡ 0 → c.if-c-lt-TABLE.first ≤ (h - 16) / 2 = (λ g even. elim c.if-c-lt-TABLE.branch [ then-c-lt-TABLE w ↦ omega (arith, w.first-is) | else-c-lt-TABLE w ↦ omega (arith, w.first-is, w.if-c-lt-TABLE.false) ]) in
-          no-chunk b h (λ g even l. c.loop-i.invariant ((h - 16) / 2) (low g even) (omega (arith, c.handle_of.ensures)))),
+          no-chunk c.args.block.now h (λ g even l. c.loop-i.invariant ((h - 16) / 2) (low g even) (omega (arith, c.handle_of.ensures)))),
     )

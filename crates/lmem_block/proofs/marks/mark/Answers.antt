@@ -35,20 +35,19 @@ loop-i-preserved c =
     elim c.if-e-ne0.branch [
       | then-e-ne0+then-e+else-at-lowest+else-at-block+else-at-ne2+else-starts-at w ↦
           (let at : e / 4 < length starts = omega (arith, long, c.requires.room, w.if-at-block.false) in
-          let Q : List Bool → Type 0 = λ s. Marks b (i + 1) s in
-          let R : List Bool → Type 0 = λ s. marks_from starts 0 + 1 ≡ marks_from s 0 in record {
-            so_far = subst Q (sym w.starts-is) (marks-add b i e starts c.loop-i.invariant.so_far is (w.if-e-ne0.true, w.if-e.true) (omega (arith, c.table_end-lowest.ensures.value, w.if-at-lowest.false)) w.if-at-ne2.false w.if-at-block.false at w.if-starts-at.false);
-            counted = w.marks-is ∙ ap (λ n. n + 1) c.loop-i.invariant.counted ∙ subst R (sym w.starts-is) (sym (marks-set starts (e / 4) at w.if-starts-at.false));
+          record {
+            so_far = subst (λ (s : List Bool). Marks b (i + 1) s) (sym w.starts-is) (marks-add b i e starts c.loop-i.invariant.so_far is (w.if-e-ne0.true, w.if-e.true) (omega (arith, c.table_end-lowest.ensures.value, w.if-at-lowest.false)) w.if-at-ne2.false w.if-at-block.false at w.if-starts-at.false);
+            counted = w.marks-is ∙ ap (λ n. n + 1) c.loop-i.invariant.counted ∙ subst (λ (s : List Bool). marks_from starts 0 + 1 ≡ marks_from s 0) (sym w.starts-is) (sym (marks-set starts (e / 4) at w.if-starts-at.false));
             few = omega (arith, w.marks-is, c.loop-i.invariant.few);
           })
       | else-e-ne0 w ↦
           (let Q : List Bool → Type 0 = λ s. Marks b (i + 1) s in
-          let R : List Bool → Type 0 = λ s. c.loop-i.marks ≡ marks_from s 0 in record {
+          record {
             so_far = subst Q (sym w.starts-is) (marks-skip b i starts c.loop-i.invariant.so_far (λ told. elim w.else-e-ne0.branch [
               | else-e-ne0-via-then-e-ne0+else-e v ↦ told.1 (sym is ∙ v.if-e.false)
               | else-e-ne0-via-else-e-ne0 v ↦ told.0 (sym is ∙ v.if-e-ne0.false)
             ]));
-            counted = w.marks-is ∙ subst R (sym w.starts-is) c.loop-i.invariant.counted;
+            counted = w.marks-is ∙ subst (λ (s : List Bool). c.loop-i.marks ≡ marks_from s 0) (sym w.starts-is) c.loop-i.invariant.counted;
             few = omega (arith, w.marks-is, c.loop-i.invariant.few);
           })
     ]

@@ -6,10 +6,8 @@ use Rattle.lmem_heap.proofs.allocate.free.Goals as goal
 
 pub returns-clause-ok : goal.returns-clause-ok
 returns-clause-ok c =
-    let b = c.args.block.now in
     let f = c.in_ok-i.ensures.found in
-    let i = c.in_ok-i.i in
-    let index : i ≡ entry_of c.args.c = omega (arith, f.0) in (
-      some-chunk b i c.args.c f.1 f.2 f.0,
-      c.release_chunk.ensures.chunks ∙ ap (λ x. set (chunks b) x None) index,
+    let index : c.in_ok-i.i ≡ entry_of c.args.c = omega (arith, f.0) in (
+      some-chunk c.args.block.now c.in_ok-i.i c.args.c f.1 f.2 f.0,
+      c.release_chunk.ensures.chunks ∙ ap (λ x. set (chunks c.args.block.now) x None) index,
     )

@@ -10,5 +10,4 @@ returns-then-n-eq0 c = sym (ap cost c.if-n-eq0.true ∙ cost-zero)
 pub returns-else-n-eq0 : goal.returns-else-n-eq0
 returns-else-n-eq0 c =
     let some : 0 < c.args.n = omega arith in
-    let e = cost_is c.args.n some in
-    omega (arith, e)
+    omega (arith, cost_is c.args.n some)

@@ -24,23 +24,18 @@ new_chunk-requires-clause-free c = (freed c.args.block.now c.release_chunk.new.b
 
 pub new_chunk-requires-clause-room : goal.new_chunk-requires-clause-room
 new_chunk-requires-clause-room c =
-    let b = c.args.block.now in
-    let d = c.release_chunk.new.block in
-    let r = c.release_chunk.ensures in
-    let t = total-set b d c.args.i None c.requires.heap r.heap c.release_chunk.auto.block c.requires.known r.chunks in
-    omega (arith, t, c.requires.room)
+    omega (arith, total-set c.args.block.now c.release_chunk.new.block c.args.i None c.requires.heap c.release_chunk.ensures.heap c.release_chunk.auto.block c.requires.known c.release_chunk.ensures.chunks, c.requires.room)
 
 pub returns-then-n-eq0-clause-chunks : goal.returns-then-n-eq0-clause-chunks
 returns-then-n-eq0-clause-chunks c =
     let b = c.args.block.now in
     let i = c.args.i in
-    let n = c.args.n in
     let cs = chunks b in
-    let zeros : replicate n 0 ≡ resized (unwrap_or (get_or cs i None) []) n = elim c.then-n-eq0.branch [
-      | then-n-eq0-via-then-n-eq0 w ↦ (let bytes = unwrap_or (get_or cs i None) [] in zeros-for cs i n bytes (ap (resized bytes) w.if-n-eq0.true ∙ resized-none bytes ∙ ap (λ m. replicate {A = ℕ} m 0) (sym w.if-n-eq0.true)) refl)
-      | then-n-eq0-via-else-n-eq0+then-entry w ↦ zeros-for cs i n [] (resized-nothing n) (ap (λ x. unwrap_or x []) (chunks-at b i c.requires.known ∙ chunk-nothing b (entry b i) (sym w.entry.ensures ∙ w.if-entry.true)))
+    let zeros : replicate c.args.n 0 ≡ resized (unwrap_or (get_or cs i None) []) c.args.n = elim c.then-n-eq0.branch [
+      | then-n-eq0-via-then-n-eq0 w ↦ (let bytes = unwrap_or (get_or cs i None) [] in zeros-for cs i c.args.n bytes (ap (resized bytes) w.if-n-eq0.true ∙ resized-none bytes ∙ ap (λ m. replicate {A = ℕ} m 0) (sym w.if-n-eq0.true)) refl)
+      | then-n-eq0-via-else-n-eq0+then-entry w ↦ zeros-for cs i c.args.n [] (resized-nothing c.args.n) (ap (λ x. unwrap_or x []) (chunks-at b i c.requires.known ∙ chunk-nothing b (entry b i) (sym w.entry.ensures ∙ w.if-entry.true)))
     ] in
-    c.new_chunk.ensures.chunks ∙ ap (λ xs. set xs i (Some (replicate n 0))) c.release_chunk.ensures.chunks ∙ set-twice cs i None (Some (replicate n 0)) ∙ ap (λ x. set cs i (Some x)) zeros
+    c.new_chunk.ensures.chunks ∙ ap (λ xs. set xs i (Some (replicate c.args.n 0))) c.release_chunk.ensures.chunks ∙ set-twice cs i None (Some (replicate c.args.n 0)) ∙ ap (λ x. set cs i (Some x)) zeros
 
 -- the packed block has the same chunks
 packed-same : (c : After-pack) → chunks c.pack.new.block ≡ chunks c.args.block.now
@@ -58,13 +53,11 @@ resize_in_place-requires-clause-offset c = (packed-offset (goal.at.resize_in_pla
 
 pub resize_in_place-requires-clause-room : goal.resize_in_place-requires-clause-room
 resize_in_place-requires-clause-room c =
-    let d = c.pack.new.block in
     let same = packed-same (goal.at.resize_in_place-requires-clause-room c).After-pack in
     let o = packed-offset (goal.at.resize_in_place-requires-clause-room c).After-pack in
-    let room = chunk-cost d c.args.i c.pack.ensures.packed o.0 o.1 in
     let e = ap (λ xs. cost_of (get_or xs c.args.i None)) same in
-    let total = packed-room c.args.block.now d c.requires.heap c.pack.ensures.packed same (c.pack.auto.block ∙ ap length c.if-move_away.ensures ∙ c.resize_beside.auto.block) in
-    omega (arith, room, e, total, c.requires.room)
+    let total = packed-room c.args.block.now c.pack.new.block c.requires.heap c.pack.ensures.packed same (c.pack.auto.block ∙ ap length c.if-move_away.ensures ∙ c.resize_beside.auto.block) in
+    omega (arith, chunk-cost c.pack.new.block c.args.i c.pack.ensures.packed o.0 o.1, e, total, c.requires.room)
 
 pub returns-clause-chunks : goal.returns-clause-chunks
 returns-clause-chunks c =
@@ -86,9 +79,7 @@ move_away-requires-clause-offset c = (beside-offset (goal.at.move_away-requires-
 
 pub returns-then-move_away-clause-chunks : goal.returns-then-move_away-clause-chunks
 returns-then-move_away-clause-chunks c =
-    let i = c.args.i in
-    let g = c.if-resize_beside.ensures in
-    c.if-move_away.ensures.chunks ∙ ap (λ xs. set xs i (Some (resized (unwrap_or (get_or xs i None) []) c.args.n))) g.chunks
+    c.if-move_away.ensures.chunks ∙ ap (λ xs. set xs c.args.i (Some (resized (unwrap_or (get_or xs c.args.i None) []) c.args.n))) c.if-resize_beside.ensures.chunks
 
 pub returns-then-move_away-clause-handle : goal.returns-then-move_away-clause-handle
 returns-then-move_away-clause-handle c = c.if-move_away.ensures.handle ∙ c.if-resize_beside.ensures.handle

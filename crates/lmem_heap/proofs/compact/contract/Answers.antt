@@ -8,8 +8,7 @@ is_compact-requires c = (c.loop-block.block, but-itself c.loop-block.block c.loo
 pub loop-block-preserved : goal.loop-block-preserved
 loop-block-preserved c =
     let k = c.close_gaps.ensures in
-    let i = c.loop-block.invariant in
-    record { heap = k.heap; chunks = k.chunks ∙ i.chunks; handle = k.handle ∙ i.handle }
+    record { heap = k.heap; chunks = k.chunks ∙ c.loop-block.invariant.chunks; handle = k.handle ∙ c.loop-block.invariant.handle }
 
 pub loop-block-smaller : goal.loop-block-smaller
-loop-block-smaller c = let k = c.close_gaps.ensures in omega (arith, k.went, k.within)
+loop-block-smaller c = omega (arith, c.close_gaps.ensures.went, c.close_gaps.ensures.within)

@@ -23,16 +23,14 @@ next_short block n (Some gap) first some few = (first, few)
 pub loop-next-init : goal.loop-next-init
 loop-next-init c =
     let b = c.args.block.now in
-    let P : List Slide → Type 0 = λ x. SlidesGaps b b x in
     let n : length c.new-slides.result.items ≡ 0 = ap length c.new-slides.ensures in
-    record { so_far = subst P (sym c.new-slides.ensures) (slides-none b c.requires.heap (λ k. omega (arith, c.type_inv.block k))); next = (c.requires.first, omega (arith, n)) }
+    record { so_far = subst (λ (x : List Slide). SlidesGaps b b x) (sym c.new-slides.ensures) (slides-none b c.requires.heap (λ k. omega (arith, c.type_inv.block k))); next = (c.requires.first, omega (arith, n)) }
 
 -- the run behind the gap has moved, and is listed
 one-more : (c : After-push) → SlidOneMore c.args.block.now c.slide-slide.new.block c.push.new.self.items
 one-more c =
-    let i = c.loop-next.invariant in
-    let gap = subst (Next c.loop-next.block (length c.loop-next.slides.items)) c.in-Some.is i.next in
-    slides-one-more _ _ _ _ _ c.in-Some.gap _ i.so_far gap.0 (omega arith) c.slide-slide.ensures.bytes c.slide-slide.ensures.run c.push.ensures.items
+    let gap = subst (Next c.loop-next.block (length c.loop-next.slides.items)) c.in-Some.is c.loop-next.invariant.next in
+    slides-one-more _ _ _ _ _ c.in-Some.gap _ c.loop-next.invariant.so_far gap.0 (omega arith) c.slide-slide.ensures.bytes c.slide-slide.ensures.run c.push.ensures.items
 
 pub short_gap-next-requires : goal.short_gap-next-requires
 short_gap-next-requires c = let s = (one-more (goal.at.short_gap-next-requires c).After-push).so_far in (s.heap, s.slid.but)
@@ -49,16 +47,13 @@ loop-next-preserved c =
 pub write_entries-requires-clause-table : goal.write_entries-requires-clause-table
 write_entries-requires-clause-table c =
     let s = c.loop-next.invariant.so_far in
-    let but = s.slid.but in
-    let count = but-head c.loop-next.block s.heap 10 but (omega arith) in
-    omega (arith, count, but.long, but.is.0.fits)
+    let count = but-head c.loop-next.block s.heap 10 s.slid.but (omega arith) in
+    omega (arith, count, s.slid.but.long, s.slid.but.is.0.fits)
 
 pub returns : goal.returns
 returns c =
-    let i = c.loop-next.invariant in
     let block = c.loop-next.block in
     let items = c.loop-next.slides.items in
     let new = c.write_entries.new.block in
-    let P : List Slide → Type 0 = λ x. MapsEntries block new (entry_slid x) 0 (entries block) in
-    let some : 0 < length items = subst (Next block (length items)) c.in_default.is i.next in
-    slides-done c.args.block.now block new items i.so_far c.requires.heap c.requires.not_compact some (subst P c.deref.ensures.0 c.write_entries.ensures)
+    let some : 0 < length items = subst (Next block (length items)) c.in_default.is c.loop-next.invariant.next in
+    slides-done c.args.block.now block new items c.loop-next.invariant.so_far c.requires.heap c.requires.not_compact some (subst (λ (x : List Slide). MapsEntries block new (entry_slid x) 0 (entries block)) c.deref.ensures.0 c.write_entries.ensures)

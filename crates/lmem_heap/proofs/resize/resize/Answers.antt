@@ -9,28 +9,20 @@ use Rattle.lmem_heap.proofs.resize.resize.Goals as goal
 
 pub overflow_cast-n : goal.overflow_cast-n
 overflow_cast-n c =
-    let b = c.args.block.now in
-    let n = c.args.n in
-    let cs = chunks b in
-    let known = c.requires.known in
-    let count = count-chunks b in
-    let long = length-replicate {A = ℕ} n 0 in
+    let cs = chunks c.args.block.now in
+    let count = count-chunks c.args.block.now in
+    let long = length-replicate {A = ℕ} c.args.n 0 in
     let m = ap cost long in
-    let s = used-set cs c.args.i (Some (replicate n 0)) (omega (arith, count)) in
+    let s = used-set cs c.args.i (Some (replicate c.args.n 0)) (omega (arith, count)) in
     let t = used-set cs c.args.i None (omega (arith, count)) in
-    let u = c.used_with-used.ensures.value (replicate n 0) long in
-    omega (arith, s, t, u, m, cost-over n, c.in_ok-room_for.ensures.0, c.requires.heap.0.most)
+    omega (arith, s, t, c.used_with-used.ensures.value (replicate c.args.n 0) long, m, cost-over c.args.n, c.in_ok-room_for.ensures.0, c.requires.heap.0.most)
 
 pub resize_chunk-requires-clause-room : goal.resize_chunk-requires-clause-room
 resize_chunk-requires-clause-room c =
     let b = c.args.block.now in
-    let n = c.args.n in
     let cs = chunks b in
-    let known = c.requires.known in
     let count = count-chunks b in
-    let long = length-replicate {A = ℕ} n 0 in
+    let long = length-replicate {A = ℕ} c.args.n 0 in
     let m = ap cost long in
-    let s = used-set cs c.args.i (Some (replicate n 0)) (omega (arith, count)) in
-    let u = c.used_with-used.ensures.value (replicate n 0) long in
-    let v = block-used b c.requires.heap in
-    omega (arith, s, u, v, m, c.in_ok-room_for.ensures.0)
+    let s = used-set cs c.args.i (Some (replicate c.args.n 0)) (omega (arith, count)) in
+    omega (arith, s, c.used_with-used.ensures.value (replicate c.args.n 0) long, block-used b c.requires.heap, m, c.in_ok-room_for.ensures.0)

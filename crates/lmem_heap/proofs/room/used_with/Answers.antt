@@ -12,8 +12,7 @@ overflow_sub-result c =
     let b = c.args.block.now in
     let p = c.place_of_entry-len.ensures in
     let n = count-chunks b in
-    let known = c.requires.known in
-    let k = placed-cost b c.args.i _ known p.place p.within in
+    let k = placed-cost b c.args.i _ c.requires.known p.place p.within in
     let s = used-set (chunks b) c.args.i None (omega (arith, n)) in
     omega (arith, k, s, c.used_bytes.ensures, c.cost.ensures)
 
@@ -25,8 +24,7 @@ returns-clause-value c bytes long =
     let b = c.args.block.now in
     let p = c.place_of_entry-len.ensures in
     let n = count-chunks b in
-    let known = c.requires.known in
-    let k = placed-cost b c.args.i _ known p.place p.within in
+    let k = placed-cost b c.args.i _ c.requires.known p.place p.within in
     let s = used-set (chunks b) c.args.i (Some bytes) (omega (arith, n)) in
     let m = ap cost long in
     let t = used-set (chunks b) c.args.i None (omega (arith, n)) in

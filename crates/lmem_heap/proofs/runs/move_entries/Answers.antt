@@ -6,7 +6,6 @@ use Rattle.lmem_heap.proofs.runs.move_entries.Goals as goal
 pub loop-i-preserved : goal.loop-i-preserved
 loop-i-preserved c =
     let a = c.args in
-    let P : List ℕ → Type 0 = λ b. MapsEntries a.block.now b (entry_moved a.from a.end a.to) 0 (c.loop-i.i + 1) in
-    subst P (sym c.put_entry.ensures)
+    subst (λ (b : List ℕ). MapsEntries a.block.now b (entry_moved a.from a.end a.to) 0 (c.loop-i.i + 1)) (sym c.put_entry.ensures)
     (entries-more a.block.now c.loop-i.block (entry_moved a.from a.end a.to) 0 c.loop-i.i c.moved_entry-moved.result c.loop-i.invariant (omega arith) (omega (arith, c.entries-i-end.ensures.value)) c.requires.table
     (c.moved_entry-moved.ensures ∙ ap (entry_moved a.from a.end a.to) c.entry.ensures) c.moved_entry-moved.type_inv)

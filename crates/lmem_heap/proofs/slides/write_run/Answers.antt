@@ -6,9 +6,7 @@ use Rattle.lmem_heap.proofs.slides.write_run.Goals as goal
 
 pub loop-i-preserved : goal.loop-i-preserved
 loop-i-preserved c =
-    let a = c.args in
-    let f : ℕ → ℕ = entry_slid a.slides.now.runs.now in
-    let P : List ℕ → Type 0 = λ b. MapsEntries a.block.now b f a.from (c.loop-i.i + 1) in
-    subst P (sym c.put_entry.ensures)
-    (entries-more a.block.now c.loop-i.block f a.from c.loop-i.i c.slid_entry-slid.result c.loop-i.invariant c.loop-i.auto.i (omega arith) c.requires.table
+    let f : ℕ → ℕ = entry_slid c.args.slides.now.runs.now in
+    subst (λ (b : List ℕ). MapsEntries c.args.block.now b f c.args.from (c.loop-i.i + 1)) (sym c.put_entry.ensures)
+    (entries-more c.args.block.now c.loop-i.block f c.args.from c.loop-i.i c.slid_entry-slid.result c.loop-i.invariant c.loop-i.auto.i (omega arith) c.requires.table
     (c.slid_entry-slid.ensures ∙ ap f c.entry.ensures) c.slid_entry-slid.type_inv)

@@ -12,10 +12,10 @@ returns-then-bytes-lt-HEADER c =
     let b = c.args.bytes.now in
     not-headed b (elim c.then-bytes-lt-HEADER.branch [
       | then-bytes-lt-HEADER-via-then-bytes-lt-HEADER w ↦ and_left (nat_le 8 (length b) && (word b 4 == 0)) (word b 6 == 8) (and_left (nat_le 8 (length b)) (word b 4 == 0) (lt-leb 8 (length b) w.if-bytes-lt-HEADER.true))
-      | then-bytes-lt-HEADER-via-else-bytes-lt-HEADER+then-get16-ne0 w ↦ (let t = w.if-get16-ne0.true in let g = w.get16.ensures in
-          and_left (nat_le 8 (length b) && (word b 4 == 0)) (word b 6 == 8) (and_right (nat_le 8 (length b)) (word b 4 == 0) (ne_eqb (word b 4) 0 (λ e. t (g ∙ e)))))
-      | then-bytes-lt-HEADER-via-else-bytes-lt-HEADER+else-get16-ne0+then-get16-ne8 w ↦ (let t = w.if-get16-ne8.true in let g = w.get16-else-get16-ne0.ensures in
-          and_right (nat_le 8 (length b) && (word b 4 == 0)) (word b 6 == 8) (ne_eqb (word b 6) 8 (λ e. t (g ∙ e))))
+      | then-bytes-lt-HEADER-via-else-bytes-lt-HEADER+then-get16-ne0 w ↦ (
+          and_left (nat_le 8 (length b) && (word b 4 == 0)) (word b 6 == 8) (and_right (nat_le 8 (length b)) (word b 4 == 0) (ne_eqb (word b 4) 0 (λ e. w.if-get16-ne0.true (w.get16.ensures ∙ e)))))
+      | then-bytes-lt-HEADER-via-else-bytes-lt-HEADER+else-get16-ne0+then-get16-ne8 w ↦ (
+          and_right (nat_le 8 (length b) && (word b 4 == 0)) (word b 6 == 8) (ne_eqb (word b 6) 8 (λ e. w.if-get16-ne8.true (w.get16-else-get16-ne0.ensures ∙ e))))
     ])
 
 pub returns-then-fits : goal.returns-then-fits
@@ -31,9 +31,9 @@ returns-then-fits c =
 
 pub returns-else-fits : goal.returns-else-fits
 returns-else-fits c =
-    let b = c.args.bytes.now in let size = c.get16-element_size.ensures in let count = c.get16-count.ensures in
+    let b = c.args.bytes.now in let size = c.get16-element_size.ensures in
     let h = headed b c.if-bytes-lt-HEADER.false (sym c.get16.ensures ∙ c.if-get16-ne0.false) (sym c.get16-else-get16-ne0.ensures ∙ c.if-get16-ne8.false) in
     elim c.if-element_size-eq0.branch [
-      | then-element_size-eq0 w ↦ varying-none b h (sym size ∙ w.if-element_size-eq0.true) (ap (λ n. are_offsets (words_from b 8 n) (8 + 2 * n) (length b)) (sym count) ∙ sym w.are_offsets-fits.ensures ∙ sym w.fits-is ∙ c.if-fits.false)
-      | else-element_size-eq0 w ↦ equal-none b h (λ e. w.if-element_size-eq0.false (size ∙ e)) (ap (λ n. length b == 8 + n * word b 2) (sym count) ∙ ap (λ k. length b == 8 + c.get16-count.result * k) (sym size) ∙ sym w.fits-is ∙ c.if-fits.false)
+      | then-element_size-eq0 w ↦ varying-none b h (sym size ∙ w.if-element_size-eq0.true) (ap (λ n. are_offsets (words_from b 8 n) (8 + 2 * n) (length b)) (sym c.get16-count.ensures) ∙ sym w.are_offsets-fits.ensures ∙ sym w.fits-is ∙ c.if-fits.false)
+      | else-element_size-eq0 w ↦ equal-none b h (λ e. w.if-element_size-eq0.false (size ∙ e)) (ap (λ n. length b == 8 + n * word b 2) (sym c.get16-count.ensures) ∙ ap (λ k. length b == 8 + c.get16-count.result * k) (sym size) ∙ sym w.fits-is ∙ c.if-fits.false)
     ]

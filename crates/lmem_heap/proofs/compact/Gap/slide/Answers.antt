@@ -5,6 +5,5 @@ use Rattle.lmem_heap.proofs.compact.Gap.slide.Goals as goal
 
 pub returns-clause-bytes : goal.returns-clause-bytes
 returns-clause-bytes c =
-    let g = c.args.self in
-    let W : List ℕ → List ℕ = λ x. closing_words x g in
-    closing_words-is c.move_bytes.new.block c.put16.new.block c.put16-2.new.block c.put16-3.new.block g c.put16.ensures c.put16-2.ensures c.put16-3.ensures ∙ ap W c.move_bytes.ensures
+    let W : List ℕ → List ℕ = λ x. closing_words x c.args.self in
+    closing_words-is c.move_bytes.new.block c.put16.new.block c.put16-2.new.block c.put16-3.new.block c.args.self c.put16.ensures c.put16-2.ensures c.put16-3.ensures ∙ ap W c.move_bytes.ensures

@@ -6,5 +6,4 @@ use Rattle.lmem_heap.proofs.holes.Hole.give_back.Goals as goal
 pub returns-then-self : goal.returns-then-self
 returns-then-self c =
     let h = c.args.self in
-    let P : ℕ → Type 0 = λ x. IsOpen c.args.block.now h.link h.at x in
-    record { heap = open-heap c.args.block.now h.link h.at (subst P (sym c.if-self.true) c.requires.hole.is); chunks = refl; handle = refl }
+    record { heap = open-heap c.args.block.now h.link h.at (subst (λ (x : ℕ). IsOpen c.args.block.now h.link h.at x) (sym c.if-self.true) c.requires.hole.is); chunks = refl; handle = refl }

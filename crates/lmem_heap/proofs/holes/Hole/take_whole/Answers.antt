@@ -16,10 +16,10 @@ pub put16-requires : goal.put16-requires
 put16-requires c = let p = open-place _ _ _ _ c.requires.hole.is in omega (arith, p.link_high, p.high, c.requires.hole.is.order)
 
 pub overflow_sub-total : goal.overflow_sub-total
-overflow_sub-total c = let f = free-fits _ _ _ _ c.requires.hole c.requires.behind in omega (arith, f.sum, c.get16-size.ensures, c.get16-total.ensures)
+overflow_sub-total c = omega (arith, (free-fits _ _ _ _ c.requires.hole c.requires.behind).sum, c.get16-size.ensures, c.get16-total.ensures)
 
 pub overflow_add-result : goal.overflow_add-result
-overflow_add-result c = let f = free-fits _ _ _ _ c.requires.hole c.requires.behind in omega (arith, f.inside, c.requires.hole.is.header.most, c.get16-size.ensures)
+overflow_add-result c = omega (arith, (free-fits _ _ _ _ c.requires.hole c.requires.behind).inside, c.requires.hole.is.header.most, c.get16-size.ensures)
 
 pub returns : goal.returns
 returns c =
