@@ -8,7 +8,6 @@ pub mod Contents
 pub mod PackedHeaps
 pub mod Edits
 pub mod Additions
-pub mod Entrywise
 pub mod Tails
 pub mod Making
 pub mod Extending

@@ -1,21 +1,22 @@
 -- From the moves and writes of the code to the steps that they make.
-use Rattle.std.proofs.Common.{◌≡◌, ℕ, ◌+◌, ◌-◌, ◌*◌, ◌<◌, ◌≤◌, ◌⊎◌, List, length, get_or, replicate, drop, refl, ap, sym, ◌∙◌, subst, inl, inr, arith}
+use Rattle.std.proofs.Common.{◌≡◌, ℕ, ◌+◌, ◌-◌, ◌*◌, ◌<◌, ◌≤◌, ◌⊎◌, List, length, get_or, replicate, drop, ap, sym, ◌∙◌, subst, inl, inr, arith}
 use Rattle.std.proofs.lemmas.Bool.{cases_lt}
-use Rattle.std.proofs.lemmas.List.{get_or-take, get_or-drop, length-replicate}
+use Rattle.std.proofs.lemmas.List.{get_or-take, get_or-drop}
 use Rattle.lmem_raw.specs.Bytes.{part, with_part}
-use Rattle.lmem_raw.proofs.Parts.{part-same, length-with_part}
 use Rattle.geos_model.specs.Bytes.{word, with_word}
 use Rattle.geos_model.specs.Chunks.{cost}
 use Rattle.geos_model.specs.Block.{entry, entries, table_end, total_free}
-use Rattle.geos_model.proofs.Words.{word-same, word-other, word-part_other, length-with_word, byte-other, word-bytes, part-shifted, get_or-with_part_before}
+use Rattle.geos_model.specs.Heap.{IsOffset}
+use Rattle.geos_model.proofs.Words.{word-same, word-other, word-part_other, length-with_word, byte-other, word-bytes}
 use Rattle.geos_model.proofs.Costs.{cost-least}
 use Rattle.geos_model.proofs.Resizes.{length-part}
 use Rattle.lmem_heap.specs.Moves.{MovesRun}
-use Rattle.lmem_heap.specs.Packed.{IsPacked, EndsFree, SetsTail, EditsChunk, HasResized, PutsChunk, GrowsTable, chunks_end, chunk_end, chunk_length}
+use Rattle.lmem_heap.specs.Packed.{IsPacked, EndsFree, SetsTail, EditsChunk, HasResized, GrowsTable, chunks_end, chunk_end, chunk_length}
 use Rattle.lmem_heap.specs.Extents.{IsExtent}
-use Rattle.lmem_heap.specs.declared.chunks.Extent.{Extent}
+use Rattle.lmem_heap.specs.declared.extents.Extent.{Extent}
 use Rattle.lmem_heap.proofs.Contents.{length-zeros, beside-zeros, within-zeros, kept-bytes}
 use Rattle.lmem_heap.proofs.Movers.{moved-low}
+use Rattle.lmem_heap.proofs.Edits.{split}
 use Rattle.lmem_heap.proofs.PackedHeaps.{bounds}
 
 -- two blocks are the same but for an entry and the chunk that it tells of, up to an offset
@@ -57,7 +58,6 @@ resize-made b d d2 c i begin n h low is some some_old whole high fits fits' most
     let to = begin + cost n in
     let wide = cost-least n some in
     let wide_old = cost-least len some_old in
-    let long_d = m.long in
     let back : e - 2 ≡ begin = omega arith in
     let d1 = with_word d begin (n + 2) in
     let n1 = length-with_word d begin (n + 2) in
@@ -74,53 +74,19 @@ resize-made b d d2 c i begin n h low is some some_old whole high fits fits' most
         place = word-bytes d c (16 + 2 * i) (16 + 2 * i) (t.same (16 + 2 * i) (omega arith) (inr (omega arith)) ∙ entry_byte (16 + 2 * i) (omega arith)) (t.same (16 + 2 * i + 1) (omega arith) (inr (omega arith)) ∙ entry_byte (16 + 2 * i + 1) (omega arith))
             ∙ m.entries i h ∙ moved-low end at to e (omega arith);
         size = ap (word c) back ∙ word-bytes d2 c begin begin (t.same begin (omega arith) (inr (omega arith))) (t.same (begin + 1) (omega arith) (inr (omega arith)))
-            ∙ ap (λ x. word x begin) made ∙ word-part_other d1 (begin + 2 + len) _ begin (inl (omega arith)) ∙ word-same d begin (n + 2) (omega arith) (omega (arith, long_d));
-        bytes = (let lc = t.long in
-            let np = length-part b e len (omega arith) in
-            kept-bytes (part b e len) c e len n (omega (arith, lc, long, long_d)) (inr (omega (arith, np)))
+            ∙ ap (λ x. word x begin) made ∙ word-part_other d1 (begin + 2 + len) _ begin (inl (omega arith)) ∙ word-same d begin (n + 2) (omega arith) (omega (arith, m.long));
+        bytes = (let np = length-part b e len (omega arith) in
+            kept-bytes (part b e len) c e len n (omega (arith, t.long, long, m.long)) (inr (omega (arith, np)))
             (λ q old small. t.same (e + q) (omega arith) (inr (omega arith)) ∙ byte (e + q) (inr (omega arith)) (inl (omega arith)) ∙ m.before (e + q) (omega arith) (omega arith) (omega arith)
             ∙ sym (get_or-take len (drop e b) q 0 old ∙ get_or-drop e b q 0))
-            (λ q new small. t.same (e + q) (omega arith) (inr (omega arith)) ∙ within-zeros d1 d2 (begin + 2 + len) (n - len) (e + q) made (omega (arith, n1, long_d)) (omega arith) (omega arith)));
+            (λ q new small. t.same (e + q) (omega arith) (inr (omega arith)) ∙ within-zeros d1 d2 (begin + 2 + len) (n - len) (e + q) made (omega (arith, n1, m.long)) (omega arith) (omega arith)));
       },
     )
-
--- a chunk of zeros behind the others
-pub put-made : (b b1 b2 b3 c : List ℕ) (i n at : ℕ) → table_end b ≤ at → i < entries b → 0 < n → at + cost n ≤ length b → length b ≤ 65520 → at ≡ chunks_end b →
-    b1 ≡ with_word b (16 + 2 * i) (at + 2) → b2 ≡ with_word b1 at (n + 2) → b3 ≡ with_part b2 (at + 2) (replicate n 0) → SetsTail b3 c (at + cost n) → PutsChunk b c i n
-put-made b b1 b2 b3 c i n at low h some fits most is e1 e2 e3 t =
-    let wide = cost-least n some in
-    let zs : List ℕ = replicate n 0 in
-    let nz = length-replicate {A = ℕ} n 0 in
-    let n1 : length b1 ≡ length b = ap length e1 ∙ length-with_word b (16 + 2 * i) (at + 2) in
-    let n2 : length b2 ≡ length b1 = ap length e2 ∙ length-with_word b1 at (n + 2) in
-    let n3 : length b3 ≡ length b2 = ap length e3 ∙ length-with_part b2 (at + 2) zs in
-    let byte : (k : ℕ) → k < at → (k < 16 + 2 * i) ⊎ (18 + 2 * i ≤ k) → get_or b3 k 0 ≡ get_or b k 0 = (λ k l out. ap (λ x. get_or x k 0) e3 ∙ get_or-with_part_before b2 (at + 2) zs k (omega arith) ∙ ap (λ x. get_or x k 0) e2 ∙ byte-other b1 at (n + 2) k (inl l)
-    ∙ ap (λ x. get_or x k 0) e1 ∙ byte-other b (16 + 2 * i) (at + 2) k (elim out [ inl a ↦ inl a | inr a ↦ inr (omega arith) ])) in
-    let words : (j : ℕ) → 16 ≤ j → j + 2 ≤ at + cost n → word c j ≡ word b3 j = (λ j g r. word-bytes b3 c j j (t.same j (omega arith) (inr g)) (t.same (j + 1) (omega arith) (inr (omega arith)))) in
-    let size : word c at ≡ n + 2 = words at (omega arith) (omega arith) ∙ ap (λ x. word x at) e3 ∙ word-part_other b2 (at + 2) zs at (inl (omega arith)) ∙ ap (λ x. word x at) e2 ∙ word-same b1 at (n + 2) (omega arith) (omega (arith, n1)) in
-    let zeros : part c (at + 2) n ≡ replicate n 0 = part-shifted b3 c 0 0 (at + 2) (at + 2 + n) (at + 2) (at + 2) n (λ j k e g r. let s : j ≡ k = omega arith in ap (λ x. get_or c x 0) s ∙ t.same k (omega arith) (inr (omega arith)))
-    refl (omega arith) (omega arith) (omega (arith, n1, n2, n3)) (let l = t.long in omega (arith, n1, n2, n3, l)) ∙ ap (λ x. part x (at + 2) n) e3 ∙ ap (λ x. part (with_part b2 (at + 2) zs) (at + 2) x) (sym nz) ∙ part-same b2 (at + 2) zs (omega (arith, n1, n2, nz)) in
-    record {
-      long = t.long ∙ n3 ∙ n2 ∙ n1;
-      head = (λ k g. t.same k (omega arith) (inl g) ∙ byte k (omega arith) (inl (omega arith)));
-      others = (λ j l ne. words (16 + 2 * j) (omega arith) (omega arith) ∙ (elim (cases_lt j i) [
-        | inl a ↦ word-bytes b b3 (16 + 2 * j) (16 + 2 * j) (byte (16 + 2 * j) (omega arith) (inl (omega arith))) (byte (16 + 2 * j + 1) (omega arith) (inl (omega arith)))
-        | inr a ↦ word-bytes b b3 (16 + 2 * j) (16 + 2 * j) (byte (16 + 2 * j) (omega arith) (inr (omega arith))) (byte (16 + 2 * j + 1) (omega arith) (inr (omega arith)))
-      ]));
-      here = words (16 + 2 * i) (omega arith) (omega arith) ∙ ap (λ x. word x (16 + 2 * i)) e3 ∙ word-part_other b2 (at + 2) zs (16 + 2 * i) (inl (omega arith)) ∙ ap (λ x. word x (16 + 2 * i)) e2 ∙ word-other b1 at (n + 2) (16 + 2 * i) (inl (omega arith))
-          ∙ ap (λ x. word x (16 + 2 * i)) e1 ∙ word-same b (16 + 2 * i) (at + 2) (omega arith) (omega arith) ∙ ap (λ x. x + 2) is;
-      before = (λ j k e g r. let s : j ≡ k = omega arith in ap (λ x. get_or c x 0) s ∙ t.same k (omega arith) (inr (omega arith)) ∙ byte k (omega arith) (inr (omega arith)));
-      size = ap (word c) (sym is) ∙ size;
-      zeros = ap (λ x. part c (x + 2) n) (sym is) ∙ zeros;
-      total = ap (λ x. x + cost n + total_free c) (sym is) ∙ t.total;
-      ends = (let E : ℕ → Type 0 = λ x. EndsFree c (x + cost n) in subst E is t.ends);
-    }
 
 -- two more entries
 pub grow-made : (b d d1 d2 d3 c : List ℕ) (n end at : ℕ) → n ≡ entries b → end ≡ table_end b → at ≡ chunks_end b → end ≤ at → at + 4 ≤ length b → length b ≤ 65520 → MovesRun b d end at (end + 4) →
     d1 ≡ with_word d end 0 → d2 ≡ with_word d1 (end + 2) 0 → d3 ≡ with_word d2 10 (n + 2) → SetsTail d3 c (at + 4) → GrowsTable b c
 grow-made b d d1 d2 d3 c n end at n_is end_is at_is low fits most m e1 e2 e3 t =
-    let n0 = m.long in
     let n1 : length d1 ≡ length d = ap length e1 ∙ length-with_word d end 0 in
     let n2 : length d2 ≡ length d1 = ap length e2 ∙ length-with_word d1 (end + 2) 0 in
     let n3 : length d3 ≡ length d2 = ap length e3 ∙ length-with_word d2 10 (n + 2) in
@@ -128,44 +94,52 @@ grow-made b d d1 d2 d3 c n end at n_is end_is at_is low fits most m e1 e2 e3 t =
     ∙ ap (λ x. get_or x k 0) e2 ∙ byte-other d1 (end + 2) 0 k (elim out [ inl a ↦ inl (omega arith) | inr a ↦ elim a [ inl z ↦ inl (omega arith) | inr z ↦ inr (omega arith) ] ])
     ∙ ap (λ x. get_or x k 0) e1 ∙ byte-other d end 0 k (elim out [ inl a ↦ inl (omega arith) | inr a ↦ elim a [ inl z ↦ inl (omega arith) | inr z ↦ inr (omega arith) ] ])) in
     let words : (j : ℕ) → 16 ≤ j → j + 2 ≤ at + 4 → word c j ≡ word d3 j = (λ j g r. word-bytes d3 c j j (t.same j (omega arith) (inr g)) (t.same (j + 1) (omega arith) (inr (omega arith)))) in
-    let MovesBehind : ℕ → Type 0 = λ x. MovesRun b d x at (x + 4) in
-    let MovesUntil : ℕ → Type 0 = λ y. MovesRun b d (table_end b) y (table_end b + 4) in
-    let m' : MovesRun b d (table_end b) (chunks_end b) (table_end b + 4) = subst MovesUntil at_is (subst MovesBehind end_is m) in
+    let m' : MovesRun b d (table_end b) (chunks_end b) (table_end b + 4) = subst (λ (y : ℕ). MovesRun b d (table_end b) y (table_end b + 4)) at_is (subst (λ (x : ℕ). MovesRun b d x at (x + 4)) end_is m) in
     record {
-      long = t.long ∙ n3 ∙ n2 ∙ n1 ∙ n0;
+      long = t.long ∙ n3 ∙ n2 ∙ n1 ∙ m.long;
       head = (λ k g. t.same k (omega arith) (inl (omega arith)) ∙ byte k (inl g) ∙ m.head k (omega arith));
-      count = word-bytes d3 c 10 10 (t.same 10 (omega arith) (inl (omega arith))) (t.same 11 (omega arith) (inl (omega arith))) ∙ ap (λ x. word x 10) e3 ∙ word-same d2 10 (n + 2) (omega arith) (omega (arith, n0, n1, n2)) ∙ ap (λ x. x + 2) n_is;
+      count = word-bytes d3 c 10 10 (t.same 10 (omega arith) (inl (omega arith))) (t.same 11 (omega arith) (inl (omega arith))) ∙ ap (λ x. word x 10) e3 ∙ word-same d2 10 (n + 2) (omega arith) (omega (arith, m.long, n1, n2)) ∙ ap (λ x. x + 2) n_is;
       places = (λ i g. words (16 + 2 * i) (omega arith) (omega arith) ∙ word-bytes d d3 (16 + 2 * i) (16 + 2 * i) (byte (16 + 2 * i) (inr (inl (omega arith, omega arith)))) (byte (16 + 2 * i + 1) (inr (inl (omega arith, omega arith)))) ∙ m'.entries i g);
       fresh = (
         ap (word c) (sym end_is) ∙ words end (omega arith) (omega arith) ∙ ap (λ x. word x end) e3 ∙ word-other d2 10 (n + 2) end (inr (omega arith)) ∙ ap (λ x. word x end) e2 ∙ word-other d1 (end + 2) 0 end (inl (omega arith))
-            ∙ ap (λ x. word x end) e1 ∙ word-same d end 0 (omega arith) (omega (arith, n0)),
-        ap (λ x. word c (x + 2)) (sym end_is) ∙ words (end + 2) (omega arith) (omega arith) ∙ ap (λ x. word x (end + 2)) e3 ∙ word-other d2 10 (n + 2) (end + 2) (inr (omega arith)) ∙ ap (λ x. word x (end + 2)) e2 ∙ word-same d1 (end + 2) 0 (omega arith) (omega (arith, n0, n1)),
+            ∙ ap (λ x. word x end) e1 ∙ word-same d end 0 (omega arith) (omega (arith, m.long)),
+        ap (λ x. word c (x + 2)) (sym end_is) ∙ words (end + 2) (omega arith) (omega arith) ∙ ap (λ x. word x (end + 2)) e3 ∙ word-other d2 10 (n + 2) (end + 2) (inr (omega arith)) ∙ ap (λ x. word x (end + 2)) e2 ∙ word-same d1 (end + 2) 0 (omega arith) (omega (arith, m.long, n1)),
       );
       moved = (λ j k e g r. t.same j (omega arith) (inr (omega arith)) ∙ byte j (inr (inr (omega arith))) ∙ m'.moved j k e g r);
       total = ap (λ x. x + 4 + total_free c) (sym at_is) ∙ t.total;
-      ends = (let E : ℕ → Type 0 = λ x. EndsFree c (x + 4) in subst E at_is t.ends);
+      ends = (subst (λ (x : ℕ). EndsFree c (x + 4)) at_is t.ends);
     }
 
-pub resized-in-place : (b d d1 d2 c : List ℕ) (i at n : ℕ) (x : Extent) → IsPacked b → i < entries b → IsExtent b i x → at ≡ chunks_end b → 0 < n → cost n ≤ total_free b + cost (chunk_length b i) →
+-- where the chunk of a packed heap gets n bytes, and the chunks behind it go
+pub record InPlace (b : List ℕ) (n : ℕ) (x : Extent) : Type 0 where
+  pub low : 16 ≤ x.begin
+  pub ends : x.end ≤ chunks_end b
+  pub room : chunks_end b ≤ length b
+  pub fits : x.begin + cost n + (chunks_end b - x.end) ≤ length b
+  pub inside : x.begin + 2 + n ≤ length b
+  pub most : length b ≤ 65520
+
+pub in-place : (b : List ℕ) (i n : ℕ) (x : Extent) → IsPacked b → i < entries b → IsOffset (entry b i) → IsExtent b i x → 0 < n → cost n ≤ total_free b + cost (chunk_length b i) → InPlace b n x
+in-place b i n x p h t k some fits =
+    let s = split b i p h t in
+    let bs = bounds b p in
+    let len = ap cost k.len in
+    let wide = cost-least n some in
+    record {
+      low = omega (arith, k.low);
+      ends = omega (arith, s.high, k.end);
+      room = omega (arith, bs.room);
+      fits = omega (arith, s.high, k.end, k.wide, len, bs.room, fits);
+      inside = omega (arith, s.high, k.end, k.wide, len, bs.room, fits, wide);
+      most = bs.most;
+    }
+
+pub resized-in-place : (b d d1 d2 c : List ℕ) (i at n : ℕ) (x : Extent) → IsPacked b → i < entries b → IsExtent b i x → InPlace b n x → at ≡ chunks_end b → 0 < n →
     MovesRun b d x.end at (x.begin + cost n) → d1 ≡ with_word d x.begin (n + 2) → d2 ≡ with_part d1 (x.begin + 2 + x.len) (replicate (n - x.len) 0) → SetsTail d2 c (x.begin + cost n + (at - x.end)) →
     EditsChunk b c i (entry b i - 2 + cost n) × HasResized b c i n
-resized-in-place b d d1 d2 c i at n x p h k at_is some fits m is1 is2 t =
-    let bs = bounds b p in
-    let low = k.low in
-    let high = k.high in
-    let wide = k.wide in
-    let e = k.entry in
-    let end_is = k.end in
-    let len_is = k.len in
-    let room = bs.room in
+resized-in-place b d d1 d2 c i at n x p h k l at_is some m is1 is2 t =
     let begin_is : x.begin ≡ entry b i - 2 = omega arith in
-    let same_cost : cost x.len ≡ cost (chunk_length b i) = ap cost len_is in
-    let MovesBehind : ℕ → Type 0 = λ y. MovesRun b d y at (x.begin + cost n) in
-    let MovesUntil : ℕ → Type 0 = λ y. MovesRun b d (chunk_end b i) y (x.begin + cost n) in
-    let TailBehind : ℕ → Type 0 = λ y. SetsTail d2 c (x.begin + cost n + (at - y)) in
-    let TailUntil : ℕ → Type 0 = λ y. SetsTail d2 c (x.begin + cost n + (y - chunk_end b i)) in
-    let ZerosBehind : ℕ → Type 0 = λ y. d2 ≡ with_part (with_word d x.begin (n + 2)) (x.begin + 2 + y) (replicate (n - y) 0) in
-    let r = resize-made b d d2 c i x.begin n h low e some (omega arith) (omega arith) (omega arith) (omega arith) (omega arith) bs.most (subst MovesUntil at_is (subst MovesBehind end_is m))
-    (subst ZerosBehind len_is (resized_at-is d d1 d2 x.begin x.len n is1 is2)) (subst TailUntil at_is (subst TailBehind end_is t)) in
-    let E : ℕ → Type 0 = λ y. EditsChunk b c i (y + cost n) in
-    (subst E begin_is r.0, r.1)
+    let same_cost : cost x.len ≡ cost (chunk_length b i) = ap cost k.len in
+    let r = resize-made b d d2 c i x.begin n h k.low k.entry some (omega arith) (omega arith) (omega (arith, l.ends, k.end)) l.room (omega (arith, l.fits, k.end)) l.most (subst (λ (y : ℕ). MovesRun b d (chunk_end b i) y (x.begin + cost n)) at_is (subst (λ (y : ℕ). MovesRun b d y at (x.begin + cost n)) k.end m))
+    (subst (λ (y : ℕ). d2 ≡ with_part (with_word d x.begin (n + 2)) (x.begin + 2 + y) (replicate (n - y) 0)) k.len (resized_at-is d d1 d2 x.begin x.len n is1 is2)) (subst (λ (y : ℕ). SetsTail d2 c (x.begin + cost n + (y - chunk_end b i))) at_is (subst (λ (y : ℕ). SetsTail d2 c (x.begin + cost n + (at - y))) k.end t)) in
+    (subst (λ (y : ℕ). EditsChunk b c i (y + cost n)) begin_is r.0, r.1)

@@ -9,15 +9,14 @@ use Rattle.geos_model.proofs.Entries.{chunks-at, chunk-none}
 use Rattle.geos_model.specs.Heap.{Piece, Free, Tiles, HasChunk, free_bytes, IsHeap, IsCompact}
 use Rattle.geos_model.proofs.Pieces.{tiles-le, tiles-join, has-split, has-left, free_bytes-append}
 use Rattle.geos_model.proofs.FreePieces.{first-piece, none-free, used-free, used-any, nothing-left}
+use Rattle.lmem_heap.specs.Holes.{FirstIsSmaller}
 use Rattle.lmem_heap.specs.Packed.{IsPacked, chunks_end}
 
 packed-full : (b : List ℕ) → IsHeap b → first_free b ≡ 0 → IsPacked b
 packed-full b heap none =
-    let fill = heap.1.1 in
-    let P : ℕ → Type 0 = λ x. Tiles b (table_end b) x heap.1.0 (length b) 0 in
-    let st : Tiles b (table_end b) 0 heap.1.0 (length b) 0 = subst P none fill.tiles in
+    let st : Tiles b (table_end b) 0 heap.1.0 (length b) 0 = subst (λ (x : ℕ). Tiles b (table_end b) x heap.1.0 (length b) 0) none heap.1.1.tiles in
     let used = none-free b (table_end b) heap.1.0 (length b) (omega arith) st in
-    let z : total_free b ≡ 0 = fill.total ∙ used-free heap.1.0 used in
+    let z : total_free b ≡ 0 = heap.1.1.total ∙ used-free heap.1.0 used in
     record {
       header = heap.0;
       pre = heap.1.0;
@@ -26,21 +25,19 @@ packed-full b heap none =
       tiles = st;
       room = omega (arith, z);
       fours = ap (λ x. x % 4) z;
-      all = fill.all;
+      all = heap.1.1.all;
       ends = record { none = (λ e. none); some = (λ h. absurd (omega (arith, z))) };
     }
 
 packed-tail : (b : List ℕ) → IsHeap b → first_free b ≢ 0 → first_free b + word b (first_free b) ≡ length b → IsPacked b
 packed-tail b heap ne last =
-    let fill = heap.1.1 in
     let f = first_free b in
-    let r = first-piece b (table_end b) f heap.1.0 (length b) fill.tiles ne in
+    let r = first-piece b (table_end b) f heap.1.0 (length b) heap.1.1.tiles ne in
     let size : word b f ≡ r.s = r.here.3 in
     let rest : r.rest ≡ [] = nothing-left b (f + r.s) (word b (f + 2)) r.rest (length b) 0 (omega (arith, last, size)) r.here.5 in
     let is : heap.1.0 ≡ r.pre ++ (Free r.s ∷ []) = r.is ∙ ap (λ xs. r.pre ++ (Free r.s ∷ xs)) rest in
-    let total : total_free b ≡ r.s = (let e = fill.total ∙ ap free_bytes is ∙ free_bytes-append r.pre (Free r.s ∷ []) in let u = used-free r.pre r.used in omega (arith, e, u)) in
-    let R : List Piece → Type 0 = λ ps. Tiles b (f + r.s) (word b (f + 2)) ps (length b) 0 in
-    let next : word b (f + 2) ≡ 0 = (let t : Tiles b (f + r.s) (word b (f + 2)) [] (length b) 0 = subst R rest r.here.5 in t.1) in
+    let total : total_free b ≡ r.s = (let e = heap.1.1.total ∙ ap free_bytes is ∙ free_bytes-append r.pre (Free r.s ∷ []) in omega (arith, e, used-free r.pre r.used)) in
+    let next : word b (f + 2) ≡ 0 = (let t : Tiles b (f + r.s) (word b (f + 2)) [] (length b) 0 = subst (λ (ps : List Piece). Tiles b (f + r.s) (word b (f + 2)) ps (length b) 0) rest r.here.5 in t.1) in
     record {
       header = heap.0;
       pre = r.pre;
@@ -49,8 +46,8 @@ packed-tail b heap ne last =
       tiles = used-any b (table_end b) f 0 r.pre f f r.used r.before;
       room = omega (arith, last, size, total);
       fours = ap (λ x. x % 4) total ∙ r.here.1;
-      all = (λ i h t. let K : List Piece → Type 0 = λ ps. HasChunk i ps in elim (has-split i r.pre (Free r.s ∷ []) (subst K is (fill.all i h t))) [ inl x ↦ x | inr x ↦ absurd x ]);
-      ends = record { none = (λ z. absurd (let s = r.here.0 in omega (arith, z, total))); some = (λ h. (refl, size ∙ sym total, next)) };
+      all = (λ i h t. elim (has-split i r.pre (Free r.s ∷ []) (subst (λ (ps : List Piece). HasChunk i ps) is (heap.1.1.all i h t))) [ inl x ↦ x | inr x ↦ absurd x ]);
+      ends = record { none = (λ z. absurd (omega (arith, z, total))); some = (λ h. (refl, size ∙ sym total, next)) };
     }
 
 pub heap-packed : (b : List ℕ) → IsHeap b → IsCompact b → IsPacked b
@@ -61,28 +58,24 @@ heap-packed b heap compact = elim (cases_eq (first_free b) 0) [
 
 pub packed-heap : (b : List ℕ) → IsPacked b → IsHeap b
 packed-heap b p = elim (cases_eq (total_free b) 0) [
-  | inl z ↦ (let room = p.room in
-      let first : first_free b ≡ 0 = p.ends.none z in
+  | inl z ↦ (let first : first_free b ≡ 0 = p.ends.none z in
       let at : p.at ≡ length b = omega arith in
-      let P : ℕ → Type 0 = λ x. Tiles b (table_end b) x p.pre (length b) 0 in
-      let Q : ℕ → Type 0 = λ x. Tiles b (table_end b) 0 p.pre x 0 in
       let u = used-free p.pre p.used in
-      (p.header, (p.pre, record { tiles = subst P (sym first) (subst Q at p.tiles); all = p.all; total = z ∙ sym u })))
-  | inr nz ↦ (let room = p.room in let some = p.ends.some (omega arith) in let fours = p.fours in
+      (p.header, (p.pre, record { tiles = subst (λ (x : ℕ). Tiles b (table_end b) x p.pre (length b) 0) (sym first) (subst (λ (x : ℕ). Tiles b (table_end b) 0 p.pre x 0) at p.tiles); all = p.all; total = z ∙ sym u })))
+  | inr nz ↦ (let some = p.ends.some (omega arith) in
       let s = total_free b in
       let f = first_free b in
       let low = tiles-le b (table_end b) 0 p.pre p.at 0 p.tiles in
-      let here : Tiles b p.at p.at (Free s ∷ []) (length b) 0 = (omega arith, fours, refl, some.1, (λ e. absurd (let n = some.2 in omega (arith, e, n))), (room, some.2)) in
+      let here : Tiles b p.at p.at (Free s ∷ []) (length b) 0 = (omega arith, p.fours, refl, some.1, (λ e. absurd (omega (arith, e, some.2))), (p.room, some.2)) in
       let whole : Tiles b (table_end b) p.at (p.pre ++ (Free s ∷ [])) (length b) 0 =
-      tiles-join b (table_end b) p.at p.pre (Free s ∷ []) p.at p.at (length b) 0 (used-any b (table_end b) 0 p.at p.pre p.at 0 p.used p.tiles) here in
-      let P : ℕ → Type 0 = λ x. Tiles b (table_end b) x (p.pre ++ (Free s ∷ [])) (length b) 0 in (
+      tiles-join b (table_end b) p.at p.pre (Free s ∷ []) p.at p.at (length b) 0 (used-any b (table_end b) 0 p.at p.pre p.at 0 p.used p.tiles) here in (
         p.header,
         (
           p.pre ++ (Free s ∷ []),
           record {
-            tiles = subst P (sym some.0) whole;
+            tiles = subst (λ (x : ℕ). Tiles b (table_end b) x (p.pre ++ (Free s ∷ [])) (length b) 0) (sym some.0) whole;
             all = (λ i h t. has-left i p.pre (Free s ∷ []) (p.all i h t));
-            total = (let e = free_bytes-append p.pre (Free s ∷ []) in let u = used-free p.pre p.used in omega (arith, e, u));
+            total = omega (arith, free_bytes-append p.pre (Free s ∷ []), used-free p.pre p.used);
           },
         ),
       ))
@@ -100,9 +93,14 @@ pub record Bounds (b : List ℕ) : Type 0 where
 pub bounds : (b : List ℕ) → IsPacked b → Bounds b
 bounds b p =
     let low = tiles-le b (table_end b) 0 p.pre p.at 0 p.tiles in
-    let room = p.room in
-    let some = p.header.some in
     record { low = omega arith; room = omega arith; most = p.header.most; least = p.header.least; fours = p.fours; table = omega arith }
+
+-- its free bytes are one free chunk
+pub first-fits : (b : List ℕ) (size : ℕ) → IsPacked b → 0 < size → size ≤ total_free b → FirstIsSmaller b size → ⊥
+first-fits b size p some fits h =
+    let low = tiles-le b (table_end b) 0 p.pre p.at 0 p.tiles in
+    let e = p.ends.some (omega arith) in
+    elim h [ inl none ↦ omega (arith, e.0, none, low) | inr less ↦ omega (arith, ap (word b) e.0, e.1, less, fits) ]
 
 -- packing leaves as many bytes free
 pub packed-room : (b d : List ℕ) → IsHeap b → IsPacked d → chunks d ≡ chunks b → length d ≡ length b → total_free d ≡ total_free b
@@ -111,8 +109,7 @@ packed-room b d heap p same long = let e = ap used_bytes same in omega (arith, e
 -- nor does it change which entries are in use
 pub free-same : (b d : List ℕ) (i : ℕ) → chunks d ≡ chunks b → i < entries b → entry b i ≡ 0 → (i < entries d) × (entry d i ≡ 0)
 free-same b d i same h none =
-    let n = entries-same b d same in
-    let l : i < entries d = omega (arith, n) in (
+    let l : i < entries d = omega (arith, entries-same b d same) in (
       l,
       (elim (cases_eq (entry d i) 0) [
         | inl e ↦ e

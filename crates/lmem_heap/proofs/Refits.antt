@@ -1,19 +1,18 @@
 -- Chunks that are taken out of a list of chunks, and come back.
-use Rattle.std.proofs.Common.{◌≡◌, ℕ, zero, suc, ◌+◌, ◌-◌, ◌<◌, ◌≤◌, List, [], ◌∷◌, Some, None, length, get_or, set, unwrap_or, refl, ap, sym, ◌∙◌, inl, inr, arith, length-set, get_or-set_same}
+use Rattle.std.proofs.Common.{◌≡◌, ℕ, zero, suc, ◌<◌, List, [], ◌∷◌, Some, None, length, get_or, set, unwrap_or, refl, ap, sym, ◌∙◌, inl, inr, arith, length-set, get_or-set_same}
 use Rattle.std.proofs.lemmas.Bool.{cases_eq}
 use Rattle.std.proofs.lemmas.Grind.{same_number_lists}
 use Rattle.lmem_raw.specs.Bytes.{part}
-use Rattle.geos_model.specs.Bytes.{word}
 use Rattle.geos_model.specs.Chunks.{resized, entry_bytes}
 use Rattle.geos_model.specs.Block.{entry, entries, chunks}
 use Rattle.geos_model.specs.Heap.{IsHeap, IsOffset}
-use Rattle.geos_model.proofs.Costs.{cost-least}
 use Rattle.geos_model.proofs.Sums.{count-chunks}
-use Rattle.geos_model.proofs.Entries.{told, chunks-at, chunk-nothing}
+use Rattle.geos_model.proofs.Entries.{chunks-at, chunk-nothing}
 use Rattle.geos_model.proofs.Resizes.{length-resized, get_or-resized, length-part}
 use Rattle.geos_model.proofs.Lowest.{in-use-bytes, in-use-same}
 use Rattle.lmem_heap.specs.Packed.{chunk_length}
 use Rattle.lmem_heap.proofs.Edits.{chunk-bytes}
+use Rattle.lmem_heap.proofs.Extending.{heap-extent}
 
 -- bytes that get the length they have
 pub resized-same : (bs : List ℕ) (n : ℕ) → length bs ≡ n → resized bs n ≡ bs
@@ -45,41 +44,21 @@ freed b d i h is =
 pub placed : (b : List ℕ) (i : ℕ) → i < entries b → IsOffset (entry b i) → entry_bytes (chunks b) i ≡ part b (entry b i) (chunk_length b i)
 placed b i h t = ap (λ x. unwrap_or x []) (chunk-bytes b i h t)
 
--- what the words of a chunk say of it
-pub record Says (b : List ℕ) (i : ℕ) : Type 0 where
-  pub some : 0 < chunk_length b i
-  pub size : word b (entry b i - 2) ≡ chunk_length b i + 2
-  pub low : 18 ≤ entry b i
-  pub inside : entry b i + chunk_length b i ≤ length b
-
-pub says : (b : List ℕ) (i : ℕ) → IsHeap b → i < entries b → IsOffset (entry b i) → Says b i
-says b i heap h t =
-    let y = told b i heap h t in
-    let some = y.some in
-    let from = y.from in
-    let is = y.says in
-    let upto = y.upto in
-    let wide = cost-least y.n some in
-    record { some = omega (arith, is, some); size = omega (arith, is); low = omega (arith, from); inside = omega (arith, is, upto, wide) }
-
 pub placed-length : (b : List ℕ) (i : ℕ) → IsHeap b → i < entries b → IsOffset (entry b i) → length (entry_bytes (chunks b) i) ≡ chunk_length b i
 placed-length b i heap h t =
-    let y = says b i heap h t in
-    let inside = y.inside in
-    ap length (placed b i h t) ∙ length-part b (entry b i) (chunk_length b i) inside
+    let k = (heap-extent b i heap h t).is in
+    ap length (placed b i h t) ∙ length-part b (entry b i) (chunk_length b i) (omega (arith, k.entry, k.len, k.wide, k.high))
 
 -- an entry that is an offset is one in a block with the same chunks
 pub offset-same : (b d : List ℕ) (i : ℕ) → IsHeap b → chunks d ≡ chunks b → i < entries b → IsOffset (entry b i) → (i < entries d) × IsOffset (entry d i)
 offset-same b d i heap same h t =
     let u = in-use-same b d i same h t.0 in
-    let y = says b i heap h t in
-    let some = y.some in (
+    let k = (heap-extent b i heap h t).is in (
       u.0,
       (
         u.1,
         (λ e. let nothing : entry_bytes (chunks d) i ≡ [] = ap (λ x. unwrap_or x []) (chunks-at d i u.0 ∙ chunk-nothing d (entry d i) e) in
             let long = sym (ap (λ xs. length (entry_bytes xs i)) same) ∙ ap length nothing in
-            let l = placed-length b i heap h t in
-            absurd (omega (arith, long, l, some))),
+            absurd (omega (arith, long, placed-length b i heap h t, k.len, k.wide))),
       ),
     )

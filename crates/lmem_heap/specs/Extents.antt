@@ -1,9 +1,10 @@
--- Where the chunk of an entry lies in a packed heap.
-use Rattle.std.specs.Prelude.{◌≡◌, ℕ, ◌+◌, ◌<◌, ◌≤◌, List}
+-- Where the chunk of an entry lies.
+use Rattle.std.specs.Prelude.{◌≡◌, ℕ, ◌+◌, ◌<◌, ◌≤◌, List, length}
 use Rattle.geos_model.specs.Chunks.{cost}
-use Rattle.geos_model.specs.Block.{entry, table_end}
-use Rattle.lmem_heap.specs.declared.chunks.Extent.{Extent}
-use Rattle.lmem_heap.specs.Packed.{chunks_end, chunk_end, chunk_length}
+use Rattle.geos_model.specs.Block.{entry, entries, table_end}
+use Rattle.geos_model.specs.Heap.{most_block_bytes}
+use Rattle.lmem_heap.specs.declared.extents.Extent.{Extent}
+use Rattle.lmem_heap.specs.Packed.{chunk_end, chunk_length}
 
 -- from its size word to the end of its padding
 pub record IsExtent (block : List ℕ) (i : ℕ) (extent : Extent) : Type 0 where
@@ -11,5 +12,11 @@ pub record IsExtent (block : List ℕ) (i : ℕ) (extent : Extent) : Type 0 wher
   pub len : extent.len ≡ chunk_length block i
   pub end : extent.end ≡ chunk_end block i
   pub low : table_end block ≤ extent.begin
-  pub high : extent.end ≤ chunks_end block
+  pub high : (extent.end ≤ length block) × (extent.end ≤ most_block_bytes)
   pub wide : (0 < extent.len) × (extent.begin + cost extent.len ≡ extent.end) × (extent.len + 2 ≤ cost extent.len)
+
+-- the entry is in the table, and has a chunk in the block, behind it
+pub record HasExtent (block : List ℕ) (i : ℕ) : Type 0 where
+  pub known : i < entries block
+  pub extent : Extent
+  pub is : IsExtent block i extent

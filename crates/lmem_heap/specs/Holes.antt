@@ -56,6 +56,10 @@ pub record FitsBehind (block : List ℕ) (link at end size : ℕ) : Type 0 where
   pub next : word block link ≡ end
   pub room : size ≤ word block end
 
+-- there is no free chunk, or the first one is smaller than that
+abbrev pub FirstIsSmaller : List ℕ → ℕ → Type 0
+FirstIsSmaller block size = (first_free block ≡ 0) ⊎ (word block (first_free block) < size)
+
 -- the hole reaches up to another offset now, in a block with the same chunks
 pub record Widens (old new : List ℕ) (link at end to : ℕ) : Type 0 where
   pub beside : IsBeside new link at to

@@ -1,5 +1,5 @@
 -- Heaps with all free bytes at the end, and the steps from one to the next.
-use Rattle.std.specs.Prelude.{◌≡◌, ◌≢◌, ℕ, ◌+◌, ◌-◌, ◌%◌, ◌<◌, ◌≤◌, ◌⊎◌, List, length, replicate, slice_index}
+use Rattle.std.specs.Prelude.{◌≡◌, ◌≢◌, ℕ, ◌+◌, ◌-◌, ◌%◌, ◌<◌, ◌≤◌, ◌⊎◌, List, length, slice_index}
 use Rattle.lmem_raw.specs.Bytes.{part}
 use Rattle.geos_model.specs.Bytes.{word, IsShifted}
 use Rattle.geos_model.specs.Chunks.{cost, resized}
@@ -59,18 +59,6 @@ pub record HasResized (old new : List ℕ) (i n : ℕ) : Type 0 where
   pub place : entry new i ≡ entry old i
   pub size : word new (entry old i - 2) ≡ n + 2
   pub bytes : part new (entry old i) n ≡ resized (part old (entry old i) (chunk_length old i)) n
-
--- entry i has got a chunk of n zeros behind the others
-pub record PutsChunk (old new : List ℕ) (i n : ℕ) : Type 0 where
-  pub long : length new ≡ length old
-  pub head : (k : ℕ) → k < 12 → slice_index new k ≡ slice_index old k
-  pub others : (j : ℕ) → j < entries old → j ≢ i → entry new j ≡ entry old j
-  pub here : entry new i ≡ chunks_end old + 2
-  pub before : IsShifted old new 0 0 (table_end old) (chunks_end old)
-  pub size : word new (chunks_end old) ≡ n + 2
-  pub zeros : part new (chunks_end old + 2) n ≡ replicate n 0
-  pub total : chunks_end old + cost n + total_free new ≡ length new
-  pub ends : EndsFree new (chunks_end old + cost n)
 
 -- the table has two more entries, and the chunks stand 4 higher
 pub record GrowsTable (old new : List ℕ) : Type 0 where

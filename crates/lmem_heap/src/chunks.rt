@@ -1,12 +1,13 @@
-//! Chunks of a packed heap that come, go and change their length.
+//! Chunks that come, go and change their length.
 ghost use Rattle.std.specs.Prelude.{◌≡◌, ◌≢◌, ℕ, ◌+◌, ◌-◌, ◌*◌, ◌^◌, ◌<◌, ◌≤◌, length, replicate, slice_index_or, slice_set, unwrap_or, MatchBool, [], ◌∷◌, List, Option};
 ghost use Rattle.geos_model.specs.Chunks.{cost, cost_of, entry_bytes, resized};
 ghost use Rattle.geos_model.specs.Block.{chunks, entries, entry, handle_word, table_end, total_free};
 ghost use Rattle.geos_model.specs.Heap.{IsHeap, IsOffset};
-ghost use Rattle.lmem_heap.specs.Holes.{GivesBack, PlacesChunk, ResizesChunk};
+ghost use Rattle.lmem_heap.specs.Holes.{FirstIsSmaller, GivesBack, PlacesChunk, ResizesChunk};
 ghost use Rattle.lmem_heap.specs.Changes.{entry_resized};
-ghost use Rattle.lmem_heap.specs.Packed.{chunks_end, chunk_end, chunk_length, EditsChunk, HasResized, IsPacked, PutsChunk};
+ghost use Rattle.lmem_heap.specs.Packed.{chunks_end, chunk_end, chunk_length, EditsChunk, HasResized, IsPacked};
 
+use crate::extents::Extent;
 use crate::holes::Hole;
 use crate::runs::move_run;
 use crate::tail::{chunks_end, pack, set_tail};
@@ -18,34 +19,6 @@ pub(crate) fn cost(n: usize) -> usize
     ensures { result ≡ cost n }
 {
     if n == 0 { 0 } else { (n + 5) / 4 * 4 }
-}
-
-/// Where an entry's chunk lies, with its size word and its padding.
-#[derive(Clone, Copy)]
-struct Extent {
-    begin: usize,
-    end: usize,
-    /// The length of its bytes.
-    len: usize,
-}
-
-impl Extent {
-    ghost use Rattle.lmem_heap.specs.Extents.{IsExtent};
-
-    fn of(block: &[u8], i: usize) -> Extent
-        requires packed { IsPacked block.now }
-        requires known { i < entries block.now }
-        requires offset { IsOffset (entry block.now i) }
-        ensures { IsExtent block.now i result }
-    {
-        let begin = entry(block, i) as usize - 2;
-        let len = get16(block, begin) as usize - 2;
-        Extent {
-            begin,
-            end: begin + cost(len),
-            len,
-        }
-    }
 }
 
 /// Takes the chunk of an entry away, and leaves the others where they are. The entry is not in
@@ -81,7 +54,10 @@ pub(crate) fn new_chunk(block: &mut [u8], i: usize, n: u16)
         return;
     }
     pack(block);
-    put_chunk(block, i, n);
+    if place_chunk(block, i, n) {
+        return;
+    }
+    unreachable!()
 }
 
 /// Gives an entry that is not in use a chunk of n zero bytes, in front of the first free chunk
@@ -90,7 +66,7 @@ fn place_chunk(block: &mut [u8], i: usize, n: u16) -> bool
     requires heap { IsHeap block.old }
     requires known { i < entries block.old }
     requires free { entry block.old i ≡ 0 }
-    ensures { MatchBool result (PlacesChunk block.old block.new i n) (block.new ≡ block.old) }
+    ensures { MatchBool result (PlacesChunk block.old block.new i n) ((0 < n) × (block.new ≡ block.old) × FirstIsSmaller block.old (cost n)) }
 {
     if n == 0 {
         put_entry(block, i, NO_BYTE);
@@ -105,38 +81,6 @@ fn place_chunk(block: &mut [u8], i: usize, n: u16) -> bool
         }
         None => false,
     }
-}
-
-/// Gives an entry that is not in use a chunk of n zero bytes.
-pub(crate) fn put_chunk(block: &mut [u8], i: usize, n: u16)
-    requires packed { IsPacked block.old }
-    requires known { i < entries block.old }
-    requires free { entry block.old i ≡ 0 }
-    requires room { cost n ≤ total_free block.old }
-    ensures packed { IsPacked block.new }
-    ensures chunks { chunks block.new ≡ slice_set (chunks block.old) i (Some (replicate n 0)) }
-    ensures handle { handle_word block.new ≡ handle_word block.old }
-{
-    if n == 0 {
-        put_entry(block, i, NO_BYTE);
-    } else {
-        put_behind(block, i, n);
-    }
-}
-
-/// Puts a chunk of n zero bytes behind the others.
-fn put_behind(block: &mut [u8], i: usize, n: u16)
-    requires packed { IsPacked block.old }
-    requires known { i < entries block.old }
-    requires some { 0 < n }
-    requires room { cost n ≤ total_free block.old }
-    ensures { PutsChunk block.old block.new i n }
-{
-    let at = chunks_end(block);
-    put_entry(block, i, (at + 2) as u16);
-    put16(block, at, n + 2);
-    clear(block, at + 2, n as usize);
-    set_tail(block, at + cost(n as usize));
 }
 
 /// Gives a chunk n bytes: the first ones that fit, and zeros behind them. Where the free chunk
@@ -174,25 +118,24 @@ fn resize_beside(block: &mut [u8], i: usize, n: u16) -> bool
     requires some { 0 < n }
     ensures { MatchBool result (ResizesChunk block.old block.new i n) (GivesBack block.old block.new) }
 {
-    let at = entry(block, i) as usize;
-    let len = get16(block, at - 2) - 2;
-    let (has, size) = (cost(len as usize), cost(n as usize));
+    let chunk = Extent::of(block, i);
+    let (has, size) = (chunk.end - chunk.begin, cost(n as usize));
     if has == size {
         resize_within(block, i, n);
         return true;
     }
-    if has < size && !may_be_free(block, at - 2 + has, size - has) {
+    if has < size && !may_be_free(block, chunk.end, size - has) {
         return false;
     }
     let hole = Hole::left_by(block, i);
     match hole.widen(block, size) {
         Some(wide) => {
-            let rest = wide.fill(block, i, len as usize, n);
+            let rest = wide.fill(block, i, chunk.len, n);
             rest.give_back(block);
             true
         }
         None => {
-            hole.fill(block, i, len as usize, len);
+            hole.fill(block, i, chunk.len, chunk.len as u16);
             false
         }
     }
@@ -208,11 +151,10 @@ fn resize_within(block: &mut [u8], i: usize, n: u16)
     requires same { cost n ≡ cost (chunk_length block.old i) }
     ensures { ResizesChunk block.old block.new i n }
 {
-    let at = entry(block, i) as usize;
-    let len = get16(block, at - 2) as usize - 2;
-    put16(block, at - 2, n + 2);
-    let more = (n as usize).saturating_sub(len);
-    clear(block, at + len, more);
+    let chunk = Extent::of(block, i);
+    put16(block, chunk.begin, n + 2);
+    let more = (n as usize).saturating_sub(chunk.len);
+    clear(block, chunk.begin + 2 + chunk.len, more);
 }
 
 /// Whether the word at an offset may be that of a free chunk of at least this size. It may be

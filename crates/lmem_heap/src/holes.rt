@@ -6,10 +6,11 @@ ghost use Rattle.geos_model.specs.Chunks.{cost, resized};
 ghost use Rattle.geos_model.specs.Block.{chunks, entries, entry, handle_word, table_end, total_free};
 ghost use Rattle.geos_model.specs.Heap.{IsHeap, IsOffset};
 ghost use Rattle.lmem_heap.specs.Packed.{chunk_end, chunk_length};
-ghost use Rattle.lmem_heap.specs.Holes.{FitsBehind, GivesBack, IsBeside, IsOpen, MakesRoom, Widens};
+ghost use Rattle.lmem_heap.specs.Holes.{FirstIsSmaller, FitsBehind, GivesBack, IsBeside, IsOpen, MakesRoom, Widens};
 
 use crate::chunks::cost;
-use lmem_block::{FIRST_FREE, TOTAL_FREE, clear, entry, get16, move_bytes, put_entry, put16};
+use crate::extents::Extent;
+use lmem_block::{FIRST_FREE, TOTAL_FREE, clear, get16, move_bytes, put_entry, put16};
 
 /// The bytes of a hole, and the link of the free list before it: the offset of the word that
 /// names the next free chunk, which is the header's or that of the last free chunk before the
@@ -40,7 +41,7 @@ impl Hole {
     /// The first free chunk of at least this size, as what stands behind an empty hole.
     pub(crate) fn first_fit(block: &[u8], size: usize) -> Option<Hole>
         requires { IsHeap block.now }
-        ensures { IfSome result (λ hole. FitsBehind block.now hole.link hole.at hole.end size) }
+        ensures { MatchOption result (FirstIsSmaller block.now size) (λ hole. FitsBehind block.now hole.link hole.at hole.end size) }
     {
         let mut link = FIRST_FREE;
         let mut next = get16(block, link) as usize;
@@ -73,10 +74,9 @@ impl Hole {
         ensures free { entry block.new i ≡ 0 }
         ensures bytes { part block.new (entry block.old i) (chunk_length block.old i) ≡ part block.old (entry block.old i) (chunk_length block.old i) }
     {
-        let begin = entry(block, i) as usize - 2;
-        let len = get16(block, begin) as usize - 2;
+        let chunk = Extent::of(block, i);
         put_entry(block, i, 0);
-        Hole::at(block, begin, begin + cost(len))
+        Hole::at(block, chunk.begin, chunk.end)
     }
 
     /// Makes the front of the hole the chunk of an entry that is not in use. Its first `keep`
@@ -117,14 +117,13 @@ impl Hole {
         ensures chunks { chunks block.new ≡ slice_set (chunks block.old) i (Some (resized (part block.old (entry block.old i) (chunk_length block.old i)) n)) }
         ensures handle { handle_word block.new ≡ handle_word block.old }
     {
-        let from = entry(block, i) as usize;
-        let len = get16(block, from - 2) as usize - 2;
-        let keep = len.min(n as usize);
+        let chunk = Extent::of(block, i);
+        let keep = chunk.len.min(n as usize);
         put_entry(block, i, (self.at + 2) as u16);
         put16(block, self.at, n + 2);
-        move_bytes(block, from, self.at + 2, keep);
+        move_bytes(block, chunk.begin + 2, self.at + 2, keep);
         clear(block, self.at + 2 + keep, n as usize - keep);
-        Hole::at(block, from - 2, from - 2 + cost(len))
+        Hole::at(block, chunk.begin, chunk.end)
     }
 
     /// Makes the hole this large, with bytes of the free chunk behind it where it is smaller.

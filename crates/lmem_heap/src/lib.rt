@@ -14,6 +14,7 @@ mod chunks;
 mod compact;
 mod enlarge;
 mod error;
+mod extents;
 mod holes;
 mod resize;
 mod room;

@@ -1,11 +1,11 @@
-use Rattle.std.proofs.Common.{ℕ, ◌+◌, ◌≤◌, length, ap, sym, ◌∙◌, subst, arith}
+use Rattle.std.proofs.Common.{ℕ, ◌+◌, ◌≤◌, length, ap, refl, sym, ◌∙◌, subst, inl, inr, arith}
 use Rattle.geos_model.specs.Bytes.{word}
 use Rattle.lmem_heap.specs.Holes.{IsOpen, FitsBehind}
 use Rattle.lmem_heap.proofs.FreeLists.{heap-open, heap-next, open-fits}
 use Rattle.lmem_heap.proofs.holes.Hole.first_fit.Goals as goal
 
 pub loop-next-init : goal.loop-next-init
-loop-next-init c = record { is = heap-open c.args.block.now c.requires; next = c.get16-next.ensures }
+loop-next-init c = record { is = heap-open c.args.block.now c.requires; next = c.get16-next.ensures; passed = inl refl }
 
 pub get16-requires : goal.get16-requires
 get16-requires c =
@@ -44,5 +44,12 @@ loop-next-preserved c =
     let b = c.args.block.now in
     let i = c.loop-next.invariant in
     let n = heap-next _ _ i.is (λ z. c.loop-next-test.true (i.next ∙ z)) in
-    let P : ℕ → Type 0 = λ x. IsOpen b (x + 2) (length b) (length b) in
-    record { is = subst P (sym i.next) n.is; next = c.get16-next-in-loop-next.ensures }
+    record {
+      is = subst (λ (x : ℕ). IsOpen b (x + 2) (length b) (length b)) (sym i.next) n.is;
+      next = c.get16-next-in-loop-next.ensures;
+      passed = inr (elim i.passed [ inl first ↦ omega (arith, c.get16.ensures, ap (word b) (i.next ∙ ap (word b) first), c.if-get16-size.false) | inr less ↦ less ]);
+    }
+
+pub returns : goal.returns
+returns c =
+    elim c.loop-next.invariant.passed [ inl first ↦ inl (sym (ap (word c.args.block.now) first) ∙ sym c.loop-next.invariant.next ∙ c.loop-next-test.false) | inr less ↦ inr less ]
