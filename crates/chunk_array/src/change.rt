@@ -12,7 +12,7 @@ ghost use Rattle.chunk_array.specs.Removals.{Excludes, HasPart, IsParted, Spells
 
 use crate::shape::{COUNT, ElementPlace, Shape};
 use crate::table::{close_table, open_table, shift_offsets};
-use crate::words::put16;
+use lmem_block::put16;
 use lmem_heap::place;
 
 /// Spells an array with a new element of zeros in a chunk that has the room for it at its place.

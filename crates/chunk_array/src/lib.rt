@@ -21,7 +21,6 @@ mod resize;
 mod shape;
 mod shrink;
 mod table;
-mod words;
 
 pub use error::{AppendError, ArrayError, ElementError, GrowthError};
 pub use grow::{append, insert};

@@ -13,7 +13,7 @@ ghost use Rattle.chunk_array.specs.Changes.{ChangesArray};
 use crate::error::ArrayError;
 use crate::look::find;
 use crate::shape::{COUNT, ELEMENT_SIZE, HEADER, HEADER_SIZE, ZERO};
-use crate::words::put16;
+use lmem_block::put16;
 use lmem_heap::{RoomError, alloc, delete, place};
 
 /// Makes an array with no element in a new chunk, and answers the chunk's handle: the lowest

@@ -3,7 +3,7 @@ ghost use Rattle.std.specs.Prelude.{◌≡◌, ◌≢◌, ℕ, ◌+◌, ◌-◌,
 ghost use Rattle.geos_model.specs.Arrays.{Array, arr, are_offsets, element_at, words_from};
 
 use crate::table::rising_offsets;
-use crate::words::get16;
+use lmem_block::get16;
 
 // the offsets of the header's words
 /// How many elements there are.

@@ -3,7 +3,7 @@ ghost use Rattle.std.specs.Prelude.{◌≡◌, ℕ, ◌+◌, ◌*◌, ◌<◌, �
 ghost use Rattle.chunk_array.specs.Tables.{offset, ClosesTable, OpensTable, ShiftsOffsets};
 
 use crate::shape::HEADER;
-use crate::words::{get16, move_bytes, put16};
+use lmem_block::{get16, move_bytes, put16};
 
 /// How many offsets are compared together.
 const RUN: usize = 16;

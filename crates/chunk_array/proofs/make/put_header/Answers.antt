@@ -5,8 +5,5 @@ use Rattle.chunk_array.proofs.make.put_header.Goals as goal
 
 pub returns : goal.returns
 returns c =
-    let b = c.args.bytes.now in let k = c.args.element_size in let d = c.put16-4.new.bytes in
-    let is : d ≡ with_header b k = c.put16-4.ensures ∙ ap (λ x. with_word x 6 8) (c.put16-3.ensures ∙ ap (λ x. with_word x 4 0) (c.put16-2.ensures ∙ ap (λ x. with_word x 2 k) c.put16.ensures)) in
-    let S : List ℕ → Type 0 = λ x. (i : ℕ) → get_or x i 0 < 256 in
-    let small : S d = (λ i. let t = c.type_inv.bytes i in omega arith) in
-    is ∙ header-spells b k c.requires (omega arith) (subst S is small)
+    let is : c.put16-4.new.block ≡ with_header c.args.bytes.now c.args.element_size = c.put16-4.ensures ∙ ap (λ x. with_word x 6 8) (c.put16-3.ensures ∙ ap (λ x. with_word x 4 0) (c.put16-2.ensures ∙ ap (λ x. with_word x 2 c.args.element_size) c.put16.ensures)) in
+    is ∙ header-spells c.args.bytes.now c.args.element_size c.requires (omega arith) (subst (λ (x : List ℕ). (i : ℕ) → get_or x i 0 < 256) is (λ i. let t = c.type_inv.bytes i in omega arith))

@@ -1,6 +1,0 @@
-use Rattle.std.proofs.Common.{◌∙◌}
-use Rattle.lmem_raw.proofs.Parts.{copied}
-use Rattle.chunk_array.proofs.words.move_bytes.Goals as goal
-
-pub returns : goal.returns
-returns c = c.copy_within.ensures.after ∙ copied c.args.bytes.now c.args.from c.args.n c.args.to c.requires.source c.requires.target
