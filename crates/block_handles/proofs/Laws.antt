@@ -4,6 +4,7 @@ use Rattle.std.proofs.lemmas.List.{get_or-set_same, get_or-set_other, drop_all, 
 use Rattle.std.proofs.lemmas.Bool.Decides.{nat_tests}
 use Rattle.lmem_raw.specs.Bytes.{part, with_part}
 use Rattle.lmem_raw.proofs.Parts.{length-with_part, with_whole}
+use Rattle.geos_model.proofs.Words.{with_nothing}
 use Rattle.geos_model.specs.declared.name.Name.{Name}
 use Rattle.geos_model.specs.declared.name.Owner.{Owner}
 use Rattle.geos_model.specs.declared.name.Owner.TheVariants.{Mem, Vm}
@@ -68,16 +69,11 @@ past_end [] at ws h = refl
 past_end (b ∷ bs) zero ws h = absurd (omega arith)
 past_end (b ∷ bs) (suc at) ws h = ap (λ l. b ∷ l) (past_end bs at ws (omega arith))
 
-nothing_more : (bs : List ℕ) (at : ℕ) → with_part bs at [] ≡ bs
-nothing_more [] at = refl
-nothing_more (b ∷ bs) zero = refl
-nothing_more (b ∷ bs) (suc at) = ap (λ l. b ∷ l) (nothing_more bs at)
-
 -- bytes that do not land in a block leave it
 block_after_write-off : (b : Option Block) (place at : ℕ) (ws : List ℕ) → (place + length (bytes_in b) ≤ at) ⊎ (at + length ws ≤ place) → block_after_write b place at ws ≡ b
 block_after_write-off None place at ws h = refl
 block_after_write-off (Some b) place at ws (inl h) = λ k. Some (record { locks = b.locks; bytes = past_end b.bytes (at - place) (drop (place - at) ws) (omega arith) k })
-block_after_write-off (Some b) place at ws (inr h) = λ k. Some (record { locks = b.locks; bytes = (ap (with_part b.bytes (at - place)) (drop_all (place - at) ws (omega arith)) ∙ nothing_more b.bytes (at - place)) k })
+block_after_write-off (Some b) place at ws (inr h) = λ k. Some (record { locks = b.locks; bytes = (ap (with_part b.bytes (at - place)) (drop_all (place - at) ws (omega arith)) ∙ with_nothing b.bytes (at - place)) k })
 
 -- bytes that land in a block whole are written there
 block_after_write-in : (b : Option Block) (place at : ℕ) (ws : List ℕ) → place ≤ at → IsBlock b → block_after_write b place at ws ≡ Some (record { locks = locks_in b; bytes = with_part (bytes_in b) (at - place) ws })

@@ -63,14 +63,11 @@ zeros-front bs from at n h fits =
     let zs : List ℕ = replicate n 0 ++ drop at bs in
     ap (take (at - from)) (drop-front bs zs from at h fits) ∙ take_at (part bs from (at - from)) zs (at - from) (length-part bs from (at - from) (omega arith))
 
-pub zeros-drop : (bs : List ℕ) (at n : ℕ) → at ≤ length bs → drop at (with_zeros bs at n) ≡ replicate n 0 ++ drop at bs
-zeros-drop bs at n fits = drop_at (take at bs) (replicate n 0 ++ drop at bs) at (length-take-le at bs fits)
-
 -- behind the first of them
 pub zeros-behind : (bs : List ℕ) (at m n : ℕ) → at ≤ length bs → drop (at + m) (with_zeros bs at (n + m)) ≡ replicate n 0 ++ drop at bs
 zeros-behind bs at m n fits =
     let zs : List ℕ = replicate (n + m) 0 in let rest : n + m - m ≡ n = omega arith in
-    sym (drop-drop m at (with_zeros bs at (n + m))) ∙ ap (drop m) (zeros-drop bs at (n + m) fits) ∙ drop-append-le m zs (drop at bs) (omega (arith, length-replicate {A = ℕ} (n + m) 0))
+    sym (drop-drop m at (with_zeros bs at (n + m))) ∙ ap (drop m) (drop_at (take at bs) (zs ++ drop at bs) at (length-take-le at bs fits)) ∙ drop-append-le m zs (drop at bs) (omega (arith, length-replicate {A = ℕ} (n + m) 0))
     ∙ ap (λ xs. xs ++ drop at bs) (drop-replicate m (n + m) 0 ∙ ap (λ k. replicate {A = ℕ} k 0) rest)
 
 pub length-without : (bs : List ℕ) (at n : ℕ) → at + n ≤ length bs → length (without_part bs at n) ≡ length bs - n

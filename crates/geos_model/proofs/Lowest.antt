@@ -134,6 +134,10 @@ in-use-bytes b i h ne = chunks-at b i h ∙ known (chunk_at b (entry b i)) (chun
     known None h = absurd (h refl)
     known (Some x) h = refl
 
+-- an entry that has no chunk is 0
+pub unused : (b : List ℕ) (i : ℕ) → i < entries b → get_or (chunks b) i None ≡ None → entry b i ≡ 0
+unused b i h none = elim (cases_eq (entry b i) 0) [ inl e ↦ e | inr ne ↦ absurd (chunk-some b (entry b i) ne (sym (chunks-at b i h) ∙ none)) ]
+
 pub in-use-same : (b d : List ℕ) (i : ℕ) → chunks d ≡ chunks b → i < entries b → entry b i ≢ 0 → (i < entries d) × (entry d i ≢ 0)
 in-use-same b d i e h ne = in-use d i (entry_bytes (chunks b) i) (ap (λ xs. get_or xs i None) e ∙ in-use-bytes b i h ne)
 

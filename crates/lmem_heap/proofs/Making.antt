@@ -43,9 +43,6 @@ edit-made b d d1 c i to h low ahead wide high m long same t =
     }
 
 -- a chunk gets its size word and zeros behind its old bytes
-pub resized_at-is : (d d1 d2 : List ℕ) (begin len n : ℕ) → d1 ≡ with_word d begin (n + 2) → d2 ≡ with_part d1 (begin + 2 + len) (replicate (n - len) 0) → d2 ≡ with_part (with_word d begin (n + 2)) (begin + 2 + len) (replicate (n - len) 0)
-resized_at-is d d1 d2 begin len n e1 e2 = e2 ∙ ap (λ x. with_part x (begin + 2 + len) (replicate (n - len) 0)) e1
-
 pub resize-made : (b d d2 c : List ℕ) (i begin n : ℕ) → i < entries b → table_end b ≤ begin → entry b i ≡ begin + 2 → 0 < n → 0 < chunk_length b i → begin + cost (chunk_length b i) ≡ chunk_end b i → chunk_end b i ≤ chunks_end b →
     chunks_end b ≤ length b → begin + cost n + (chunks_end b - chunk_end b i) ≤ length b → length b ≤ 65520 →
     MovesRun b d (chunk_end b i) (chunks_end b) (begin + cost n) → d2 ≡ with_part (with_word d begin (n + 2)) (begin + 2 + chunk_length b i) (replicate (n - chunk_length b i) 0) →
@@ -141,5 +138,5 @@ resized-in-place b d d1 d2 c i at n x p h k l at_is some m is1 is2 t =
     let begin_is : x.begin ≡ entry b i - 2 = omega arith in
     let same_cost : cost x.len ≡ cost (chunk_length b i) = ap cost k.len in
     let r = resize-made b d d2 c i x.begin n h k.low k.entry some (omega arith) (omega arith) (omega (arith, l.ends, k.end)) l.room (omega (arith, l.fits, k.end)) l.most (subst (λ (y : ℕ). MovesRun b d (chunk_end b i) y (x.begin + cost n)) at_is (subst (λ (y : ℕ). MovesRun b d y at (x.begin + cost n)) k.end m))
-    (subst (λ (y : ℕ). d2 ≡ with_part (with_word d x.begin (n + 2)) (x.begin + 2 + y) (replicate (n - y) 0)) k.len (resized_at-is d d1 d2 x.begin x.len n is1 is2)) (subst (λ (y : ℕ). SetsTail d2 c (x.begin + cost n + (y - chunk_end b i))) at_is (subst (λ (y : ℕ). SetsTail d2 c (x.begin + cost n + (at - y))) k.end t)) in
+    (subst (λ (y : ℕ). d2 ≡ with_part (with_word d x.begin (n + 2)) (x.begin + 2 + y) (replicate (n - y) 0)) k.len (is2 ∙ ap (λ y. with_part y (x.begin + 2 + x.len) (replicate (n - x.len) 0)) is1)) (subst (λ (y : ℕ). SetsTail d2 c (x.begin + cost n + (y - chunk_end b i))) at_is (subst (λ (y : ℕ). SetsTail d2 c (x.begin + cost n + (at - y))) k.end t)) in
     (subst (λ (y : ℕ). EditsChunk b c i (y + cost n)) begin_is r.0, r.1)

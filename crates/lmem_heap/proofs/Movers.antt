@@ -22,9 +22,6 @@ moved-high from end to e h = grind (arith, nat_tests)
 pub entries-kept : (old : List ℕ) (f : ℕ → ℕ) (from end : ℕ) → ((j : ℕ) → from ≤ j → j < end → f (entry old j) ≡ entry old j) → MapsEntries old old f from end
 entries-kept old f from end same = record { mapped = (λ j g h. sym (same j g h)); rest = (λ j h l. refl); head = (λ k h. refl); behind = (λ k h. refl); long = refl }
 
-pub entries-none : (old : List ℕ) (f : ℕ → ℕ) (from : ℕ) → MapsEntries old old f from from
-entries-none old f from = entries-kept old f from from (λ j g h. absurd (omega arith))
-
 pub entries-more : (old b : List ℕ) (f : ℕ → ℕ) (from i w : ℕ) → MapsEntries old b f from i → from ≤ i → i < entries old → table_end old ≤ length old →
     w ≡ f (word b (16 + 2 * i)) → w < 65536 → MapsEntries old (with_word b (16 + 2 * i) w) f from (i + 1)
 entries-more old b f from i w l up h fits is small =

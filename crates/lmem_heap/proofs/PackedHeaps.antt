@@ -1,10 +1,10 @@
 -- Packed heaps are the compact ones.
-use Rattle.std.proofs.Common.{◌≡◌, ◌≢◌, ℕ, ◌+◌, ◌%◌, ◌≤◌, List, [], ◌∷◌, ◌++◌, Some, None, get_or, ◌<◌, length, refl, ap, sym, ◌∙◌, subst, inl, inr, arith}
+use Rattle.std.proofs.Common.{◌≡◌, ◌≢◌, ℕ, ◌+◌, ◌%◌, ◌≤◌, List, [], ◌∷◌, ◌++◌, None, get_or, ◌<◌, length, refl, ap, sym, ◌∙◌, subst, inl, inr, arith}
 use Rattle.std.proofs.lemmas.Bool.{cases_eq}
 use Rattle.geos_model.specs.Bytes.{word}
 use Rattle.geos_model.specs.Chunks.{used_bytes}
 use Rattle.geos_model.specs.Block.{chunks, entries, entry, table_end, first_free, total_free}
-use Rattle.geos_model.proofs.Lowest.{block-used, entries-same, in-use-bytes}
+use Rattle.geos_model.proofs.Lowest.{block-used, entries-same, unused}
 use Rattle.geos_model.proofs.Entries.{chunks-at, chunk-none}
 use Rattle.geos_model.specs.Heap.{Piece, Free, Tiles, HasChunk, free_bytes, IsHeap, IsCompact}
 use Rattle.geos_model.proofs.Pieces.{tiles-le, tiles-join, has-split, has-left, free_bytes-append}
@@ -109,13 +109,6 @@ packed-room b d heap p same long = let e = ap used_bytes same in omega (arith, e
 -- nor does it change which entries are in use
 pub free-same : (b d : List ℕ) (i : ℕ) → chunks d ≡ chunks b → i < entries b → entry b i ≡ 0 → (i < entries d) × (entry d i ≡ 0)
 free-same b d i same h none =
-    let l : i < entries d = omega (arith, entries-same b d same) in (
-      l,
-      (elim (cases_eq (entry d i) 0) [
-        | inl e ↦ e
-        | inr ne ↦ absurd (some-none (sym (in-use-bytes d i l ne) ∙ ap (λ xs. get_or xs i None) same ∙ chunks-at b i h ∙ chunk-none b (entry b i) none))
-      ]),
-    )
-  where
-    some-none : {x : List ℕ} → Some x ≡ None → ⊥
-    some-none h = cc
+    let n = entries-same b d same in
+    let l : i < entries d = omega (arith, n) in
+    (l, unused d i l (ap (λ xs. get_or xs i None) same ∙ chunks-at b i h ∙ chunk-none b (entry b i) none))

@@ -1,6 +1,5 @@
 -- Chunks that are taken out of a list of chunks, and come back.
-use Rattle.std.proofs.Common.{◌≡◌, ℕ, zero, suc, ◌<◌, List, [], ◌∷◌, Some, None, length, get_or, set, unwrap_or, refl, ap, sym, ◌∙◌, inl, inr, arith, length-set, get_or-set_same}
-use Rattle.std.proofs.lemmas.Bool.{cases_eq}
+use Rattle.std.proofs.Common.{◌≡◌, ℕ, zero, suc, ◌<◌, List, [], ◌∷◌, None, length, get_or, set, unwrap_or, refl, ap, sym, ◌∙◌, arith, length-set, get_or-set_same}
 use Rattle.std.proofs.lemmas.Grind.{same_number_lists}
 use Rattle.lmem_raw.specs.Bytes.{part}
 use Rattle.geos_model.specs.Chunks.{resized, entry_bytes}
@@ -9,7 +8,7 @@ use Rattle.geos_model.specs.Heap.{IsHeap, IsOffset}
 use Rattle.geos_model.proofs.Sums.{count-chunks}
 use Rattle.geos_model.proofs.Entries.{chunks-at, chunk-nothing}
 use Rattle.geos_model.proofs.Resizes.{length-resized, get_or-resized, length-part}
-use Rattle.geos_model.proofs.Lowest.{in-use-bytes, in-use-same}
+use Rattle.geos_model.proofs.Lowest.{unused, in-use-same}
 use Rattle.lmem_heap.specs.Packed.{chunk_length}
 use Rattle.lmem_heap.proofs.Edits.{chunk-bytes}
 use Rattle.lmem_heap.proofs.Extending.{heap-extent}
@@ -27,18 +26,10 @@ set-same (y ∷ xs) (suc i) x d h e = ap (λ zs. y ∷ zs) (set-same xs i x d (o
 -- an entry whose chunk went is not in use
 pub freed : (b d : List ℕ) (i : ℕ) → i < entries b → chunks d ≡ set (chunks b) i None → (i < entries d) × (entry d i ≡ 0)
 freed b d i h is =
-    let n : entries d ≡ entries b = sym (count-chunks d) ∙ ap length is ∙ length-set (chunks b) i None ∙ count-chunks b in
     let count = count-chunks b in
-    let l : i < entries d = omega (arith, n) in (
-      l,
-      (elim (cases_eq (entry d i) 0) [
-        | inl e ↦ e
-        | inr ne ↦ absurd (some-none (sym (in-use-bytes d i l ne) ∙ ap (λ xs. get_or xs i None) is ∙ get_or-set_same (chunks b) i None None (omega (arith, count))))
-      ]),
-    )
-  where
-    some-none : {x : List ℕ} → Some x ≡ None → ⊥
-    some-none h = cc
+    let n : entries d ≡ entries b = sym (count-chunks d) ∙ ap length is ∙ length-set (chunks b) i None ∙ count in
+    let l : i < entries d = omega (arith, n) in
+    (l, unused d i l (ap (λ xs. get_or xs i None) is ∙ get_or-set_same (chunks b) i None None (omega (arith, count))))
 
 -- the bytes of an entry whose chunk has a place
 pub placed : (b : List ℕ) (i : ℕ) → i < entries b → IsOffset (entry b i) → entry_bytes (chunks b) i ≡ part b (entry b i) (chunk_length b i)

@@ -18,7 +18,7 @@ use Rattle.lmem_heap.specs.Moves.{entry_moved, MapsEntries, MovesRun}
 use Rattle.lmem_heap.specs.declared.slides.Slide.{Slide}
 use Rattle.lmem_heap.specs.Slides.{AreInOrder, entry_slid, HasSlid, IsButForEntries}
 use Rattle.lmem_heap.specs.Gaps.{HasGap, ClosesGap, closing_words, slid, slide_of}
-use Rattle.lmem_heap.proofs.Movers.{entries-none, entries-more, run-moved, run-table}
+use Rattle.lmem_heap.proofs.Movers.{entries-kept, entries-more, run-moved, run-table}
 use Rattle.lmem_heap.proofs.Closing.{closes, closed-heap, words-byte}
 use Rattle.lmem_heap.proofs.Opening.{OpensAt, first-gap, gap_of, gap-inner, gap-last}
 use Rattle.lmem_heap.proofs.Sliding.{moved-le, slid-more}
@@ -72,7 +72,7 @@ written c b d ss s m =
 
 -- a table whose entries are what a function makes of them
 mapped-table : (b : List ℕ) (f : ℕ → ℕ) (n : ℕ) → n ≤ entries b → table_end b ≤ length b → ((i : ℕ) → i < n → f (entry b i) < 65536) → (d : List ℕ) × MapsEntries b d f 0 n
-mapped-table b f zero h fits small = (b, entries-none b f 0)
+mapped-table b f zero h fits small = (b, entries-kept b f 0 0 (λ j g l. absurd (omega arith)))
 mapped-table b f (suc n) h fits small =
     let r = mapped-table b f n (omega arith) fits (λ i l. small i (omega arith)) in
     let e : entry r.0 n ≡ entry b n = r.1.rest n (inr (omega arith)) (omega arith) in
