@@ -215,11 +215,11 @@ impl Arena {
         self.region.put16(at, word);
     }
 
-    pub(crate) fn copy(&mut self, from: u32, to: u32, n: u32)
-        requires { (from + n ≤ region_len self.old) × (to + n ≤ region_len self.old) }
-        ensures { Copies self.old self.new from to n }
+    pub(crate) fn copy(&mut self, from: u32, to: u32, count: u32)
+        requires { (from + count ≤ region_len self.old) × (to + count ≤ region_len self.old) }
+        ensures { Copies self.old self.new from to count }
     {
-        self.region.move_bytes(from, to, n);
+        self.region.move_bytes(from, to, count);
     }
 
     /// Puts a new block into a free slot, where no other lies.

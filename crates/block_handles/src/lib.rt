@@ -214,14 +214,14 @@ impl Blocks {
         self.arena.write16(at, word);
     }
 
-    /// Copies `n` bytes from one offset of the region to another, as they were before, also
+    /// Copies `count` bytes from one offset of the region to another, as they were before, also
     /// where the ranges overlap. Nothing outside the target changes.
-    pub fn copy(&mut self, from: u32, to: u32, n: u32)
-        requires { (from + n ≤ region_len self.old) × (to + n ≤ region_len self.old) }
-        ensures copied { Copies self.old self.new from to n }
-        ensures covered { CopiesCovered self.old self.new from to n }
+    pub fn copy(&mut self, from: u32, to: u32, count: u32)
+        requires { (from + count ≤ region_len self.old) × (to + count ≤ region_len self.old) }
+        ensures copied { Copies self.old self.new from to count }
+        ensures covered { CopiesCovered self.old self.new from to count }
     {
-        self.arena.copy(from, to, n);
+        self.arena.copy(from, to, count);
     }
 
     /// Locks a block once more: it keeps its place until its count is 0 again, or it grows.

@@ -17,15 +17,15 @@ use lmem_heap::place;
 
 /// Spells an array with a new element of zeros in a chunk that has the room for it at its place.
 /// Its length is not used where elements have one size.
-pub(crate) fn put_element(block: &mut [u8], c: u16, shape: Shape, element: ElementPlace)
+pub(crate) fn put_element(block: &mut [u8], chunk: u16, shape: Shape, element: ElementPlace)
     requires heap { IsHeap block.old }
-    requires room { IsSomeAnd (chunk_of (chunks block.old) c) (λ bytes. IsRoomy bytes shape element) }
+    requires room { IsSomeAnd (chunk_of (chunks block.old) chunk) (λ bytes. IsRoomy bytes shape element) }
     ensures heap { IsHeap block.new }
     ensures handle { handle_word block.new ≡ handle_word block.old }
-    ensures chunks { (bytes before : List ℕ) (a : Array) → chunk_of (chunks block.old) c ≡ Some bytes → HasRoom bytes before a shape element
-        → chunks block.new ≡ with_array (chunks block.old) c (with_element a element.index element.len) }
+    ensures chunks { (bytes before : List ℕ) (a : Array) → chunk_of (chunks block.old) chunk ≡ Some bytes → HasRoom bytes before a shape element
+        → chunks block.new ≡ with_array (chunks block.old) chunk (with_element a element.index element.len) }
 {
-    let (begin, len) = match place(block, c) {
+    let (begin, len) = match place(block, chunk) {
         Ok(place) => place,
         Err(_) => unreachable!(),
     };
@@ -53,15 +53,15 @@ fn spell_inserted(bytes: &mut [u8], shape: Shape, element: ElementPlace)
 
 /// Spells an array without an element, in front of whose end the bytes that it took, with its
 /// offset where sizes vary, are left: they are to be deleted.
-pub(crate) fn take_element(block: &mut [u8], c: u16, shape: Shape, element: ElementPlace)
+pub(crate) fn take_element(block: &mut [u8], chunk: u16, shape: Shape, element: ElementPlace)
     requires heap { IsHeap block.old }
-    requires part { IsSomeAnd (chunk_of (chunks block.old) c) (λ bytes. IsParted bytes shape element) }
+    requires part { IsSomeAnd (chunk_of (chunks block.old) chunk) (λ bytes. IsParted bytes shape element) }
     ensures heap { IsHeap block.new }
     ensures handle { handle_word block.new ≡ handle_word block.old }
-    ensures chunks { (bytes : List ℕ) (a : Array) → chunk_of (chunks block.old) c ≡ Some bytes → HasPart bytes a shape element
-        → Excludes block.old block.new c bytes a shape element }
+    ensures chunks { (bytes : List ℕ) (a : Array) → chunk_of (chunks block.old) chunk ≡ Some bytes → HasPart bytes a shape element
+        → Excludes block.old block.new chunk bytes a shape element }
 {
-    let (begin, len) = match place(block, c) {
+    let (begin, len) = match place(block, chunk) {
         Ok(place) => place,
         Err(_) => unreachable!(),
     };
@@ -88,16 +88,22 @@ fn spell_removed(bytes: &mut [u8], shape: Shape, element: ElementPlace)
 }
 
 /// Makes the offsets right behind an element that has n bytes in place of those that it had.
-pub(crate) fn put_offsets(block: &mut [u8], c: u16, shape: Shape, element: ElementPlace, n: usize)
+pub(crate) fn put_offsets(
+    block: &mut [u8],
+    chunk: u16,
+    shape: Shape,
+    element: ElementPlace,
+    n: usize,
+)
     requires heap { IsHeap block.old }
-    requires refit { IsSomeAnd (chunk_of (chunks block.old) c) (λ bytes. IsRefitted bytes shape element n) }
+    requires refit { IsSomeAnd (chunk_of (chunks block.old) chunk) (λ bytes. IsRefitted bytes shape element n) }
     requires small { (element.len ≤ 65535) × (n ≤ 65535) }
     ensures heap { IsHeap block.new }
     ensures handle { handle_word block.new ≡ handle_word block.old }
-    ensures chunks { (bytes before : List ℕ) (a : Array) → chunk_of (chunks block.old) c ≡ Some bytes → HasRefit bytes before a shape element n
-        → chunks block.new ≡ with_array (chunks block.old) c (with_refit a element.index n) }
+    ensures chunks { (bytes before : List ℕ) (a : Array) → chunk_of (chunks block.old) chunk ≡ Some bytes → HasRefit bytes before a shape element n
+        → chunks block.new ≡ with_array (chunks block.old) chunk (with_refit a element.index n) }
 {
-    let (begin, len) = match place(block, c) {
+    let (begin, len) = match place(block, chunk) {
         Ok(place) => place,
         Err(_) => unreachable!(),
     };

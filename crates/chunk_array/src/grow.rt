@@ -17,60 +17,60 @@ use crate::look::{Found, find};
 use crate::shape::ElementPlace;
 use lmem_heap::{InsertError, RoomError};
 
-/// Puts an element of `n` zero bytes behind the others; `n` is not used where elements have
+/// Puts an element of `len` zero bytes behind the others; `len` is not used where elements have
 /// one size. Other chunks may move.
 ///
 /// `BadChunk` exactly where no chunk has this handle; else `BadArray` where its bytes are no
 /// array; else `Room` where the block has no room: `NeedMore` names the size that the block
 /// needs, where it is larger than the block is, and `TooBig` comes where no block is that
 /// large.
-pub fn append(block: &mut [u8], c: u16, n: u16) -> Result<(), AppendError>
+pub fn append(block: &mut [u8], chunk: u16, len: u16) -> Result<(), AppendError>
     requires { IsHeap block.old }
     ensures heap { IsHeap block.new }
     ensures handle { handle_word block.new ≡ handle_word block.old }
-    ensures ok { let e = append_element c n (chunks block.old) in OnOk result ((first_refusal e.refusals ≡ None) × (chunks block.new ≡ e.chunks)) }
-    ensures array { OnOk result (ChangesArray (chunks block.old) (chunks block.new) c (λ a. with_element a (length a.elements) n)) }
-    ensures fits { OnOk result (need (append_element c n (chunks block.old)).chunks ≤ length block.old) }
-    ensures refused { let e = append_element c n (chunks block.old) in
+    ensures ok { let e = append_element chunk len (chunks block.old) in OnOk result ((first_refusal e.refusals ≡ None) × (chunks block.new ≡ e.chunks)) }
+    ensures array { OnOk result (ChangesArray (chunks block.old) (chunks block.new) chunk (λ a. with_element a (length a.elements) len)) }
+    ensures fits { OnOk result (need (append_element chunk len (chunks block.old)).chunks ≤ length block.old) }
+    ensures refused { let e = append_element chunk len (chunks block.old) in
         IfErr result (λ why. IsGrowthError (as_growth_error why) e.refusals (need e.chunks) (length block.old)) }
     ensures err { OnErr result (block.new ≡ block.old) }
 {
-    let found = match find(block, c) {
+    let found = match find(block, chunk) {
         Ok(found) => found,
         Err(ArrayError::BadChunk) => return Err(AppendError::BadChunk),
         Err(ArrayError::BadArray) => return Err(AppendError::BadArray),
     };
-    match insert_at(block, c, found, found.shape.count as usize, n) {
+    match insert_at(block, chunk, found, found.shape.count as usize, len) {
         Ok(()) => Ok(()),
         Err(room) => Err(AppendError::Room(room)),
     }
 }
 
-/// Puts an element of `n` zero bytes at an index, which may be the count; `n` is not used
+/// Puts an element of `len` zero bytes at an index, which may be the count; `len` is not used
 /// where elements have one size. Other chunks may move.
 ///
 /// `BadChunk` exactly where no chunk has this handle; else `BadArray` where its bytes are no
-/// array; else `BadElement` where `i` is above the count; else `Room` where the block has no
+/// array; else `BadElement` where `index` is above the count; else `Room` where the block has no
 /// room: see `append`.
-pub fn insert(block: &mut [u8], c: u16, i: u16, n: u16) -> Result<(), GrowthError>
+pub fn insert(block: &mut [u8], chunk: u16, index: u16, len: u16) -> Result<(), GrowthError>
     requires { IsHeap block.old }
     ensures heap { IsHeap block.new }
     ensures handle { handle_word block.new ≡ handle_word block.old }
-    ensures ok { let e = insert_element c i n (chunks block.old) in OnOk result ((first_refusal e.refusals ≡ None) × (chunks block.new ≡ e.chunks)) }
-    ensures array { OnOk result (ChangesArray (chunks block.old) (chunks block.new) c (λ a. with_element a i n)) }
-    ensures fits { OnOk result (need (insert_element c i n (chunks block.old)).chunks ≤ length block.old) }
-    ensures refused { let e = insert_element c i n (chunks block.old) in IfErr result (λ why. IsGrowthError why e.refusals (need e.chunks) (length block.old)) }
+    ensures ok { let e = insert_element chunk index len (chunks block.old) in OnOk result ((first_refusal e.refusals ≡ None) × (chunks block.new ≡ e.chunks)) }
+    ensures array { OnOk result (ChangesArray (chunks block.old) (chunks block.new) chunk (λ a. with_element a index len)) }
+    ensures fits { OnOk result (need (insert_element chunk index len (chunks block.old)).chunks ≤ length block.old) }
+    ensures refused { let e = insert_element chunk index len (chunks block.old) in IfErr result (λ why. IsGrowthError why e.refusals (need e.chunks) (length block.old)) }
     ensures err { OnErr result (block.new ≡ block.old) }
 {
-    let found = match find(block, c) {
+    let found = match find(block, chunk) {
         Ok(found) => found,
         Err(ArrayError::BadChunk) => return Err(GrowthError::BadChunk),
         Err(ArrayError::BadArray) => return Err(GrowthError::BadArray),
     };
-    if i > found.shape.count {
+    if index > found.shape.count {
         return Err(GrowthError::BadElement);
     }
-    match insert_at(block, c, found, i as usize, n) {
+    match insert_at(block, chunk, found, index as usize, len) {
         Ok(()) => Ok(()),
         Err(room) => Err(GrowthError::Room(room)),
     }
@@ -78,33 +78,39 @@ pub fn insert(block: &mut [u8], c: u16, i: u16, n: u16) -> Result<(), GrowthErro
 
 /// Puts an element of n zero bytes at an index. All room is made first, by one `insert` of
 /// bytes where the element is to begin.
-fn insert_at(block: &mut [u8], c: u16, found: Found, i: usize, n: u16) -> Result<(), RoomError>
+fn insert_at(
+    block: &mut [u8],
+    chunk: u16,
+    found: Found,
+    index: usize,
+    len: u16,
+) -> Result<(), RoomError>
     requires heap { IsHeap block.old }
-    requires found { IsFound block.old c found }
-    requires known { i ≤ found.shape.count }
+    requires found { IsFound block.old chunk found }
+    requires known { index ≤ found.shape.count }
     ensures heap { IsHeap block.new }
     ensures handle { handle_word block.new ≡ handle_word block.old }
-    ensures ok { let old = chunks block.old in OnOk result (chunks block.new ≡ with_array old c (with_element (array_of old c) i n)) }
-    ensures fits { let old = chunks block.old in OnOk result (need (with_array old c (with_element (array_of old c) i n)) ≤ length block.old) }
+    ensures ok { let old = chunks block.old in OnOk result (chunks block.new ≡ with_array old chunk (with_element (array_of old chunk) index len)) }
+    ensures fits { let old = chunks block.old in OnOk result (need (with_array old chunk (with_element (array_of old chunk) index len)) ≤ length block.old) }
     ensures refused { let old = chunks block.old in
-        IfErr result (λ e. IsRoomError e (need (with_array old c (with_element (array_of old c) i n))) (length block.old)) }
+        IfErr result (λ e. IsRoomError e (need (with_array old chunk (with_element (array_of old chunk) index len))) (length block.old)) }
     ensures err { OnErr result (block.new ≡ block.old) }
 {
-    let at = found.start(block, i);
-    let room = found.shape.room(n);
+    let at = found.start(block, index);
+    let room = found.shape.room(len);
     if room > 65535 {
         return Err(RoomError::TooBig);
     }
-    match lmem_heap::insert(block, c, at as u16, room as u16) {
+    match lmem_heap::insert(block, chunk, at as u16, room as u16) {
         Ok(()) => {}
         Err(InsertError::Room(room)) => return Err(room),
         Err(_) => unreachable!(),
     }
     let element = ElementPlace {
-        index: i,
+        index,
         begin: at,
-        len: n as usize,
+        len: len as usize,
     };
-    put_element(block, c, found.shape, element);
+    put_element(block, chunk, found.shape, element);
     Ok(())
 }

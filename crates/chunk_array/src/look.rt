@@ -28,32 +28,32 @@ impl Found {
 
     /// Where an element begins, from the chunk's first byte on; at the count, where the last
     /// one ends.
-    pub(crate) fn start(self, block: &[u8], i: usize) -> usize
+    pub(crate) fn start(self, block: &[u8], index: usize) -> usize
         requires within { self.at + self.len ≤ length block.now }
         requires shape { HasShape (part block.now self.at self.len) self.shape }
-        requires known { i ≤ self.shape.count }
-        ensures start { (a : Array) → arr (part block.now self.at self.len) ≡ Some a → result ≡ element_at a i }
+        requires known { index ≤ self.shape.count }
+        ensures start { (a : Array) → arr (part block.now self.at self.len) ≡ Some a → result ≡ element_at a index }
         ensures within { (8 ≤ result) × (result ≤ self.len) }
     {
         let begin = self.at as usize;
         self.shape
-            .start(&block[begin..begin + self.len as usize], i)
+            .start(&block[begin..begin + self.len as usize], index)
     }
 
     /// Where an element lies.
-    pub(crate) fn place(self, block: &[u8], i: usize) -> ElementPlace
+    pub(crate) fn place(self, block: &[u8], index: usize) -> ElementPlace
         requires within { self.at + self.len ≤ length block.now }
         requires shape { HasShape (part block.now self.at self.len) self.shape }
-        requires known { i < self.shape.count }
-        ensures index { result.index ≡ i }
-        ensures begin { (a : Array) → arr (part block.now self.at self.len) ≡ Some a → result.begin ≡ element_at a i }
-        ensures end { (a : Array) → arr (part block.now self.at self.len) ≡ Some a → result.begin + result.len ≡ element_at a (i + 1) }
+        requires known { index < self.shape.count }
+        ensures index { result.index ≡ index }
+        ensures begin { (a : Array) → arr (part block.now self.at self.len) ≡ Some a → result.begin ≡ element_at a index }
+        ensures end { (a : Array) → arr (part block.now self.at self.len) ≡ Some a → result.begin + result.len ≡ element_at a (index + 1) }
         ensures within { (8 ≤ result.begin) × (result.begin + result.len ≤ self.len) }
     {
-        let begin = self.start(block, i);
-        let end = self.start(block, i + 1);
+        let begin = self.start(block, index);
+        let end = self.start(block, index + 1);
         ElementPlace {
-            index: i,
+            index,
             begin,
             len: end - begin,
         }
@@ -61,11 +61,11 @@ impl Found {
 }
 
 /// The array of a chunk's handle.
-pub(crate) fn find(block: &[u8], c: u16) -> Result<Found, ArrayError>
+pub(crate) fn find(block: &[u8], chunk: u16) -> Result<Found, ArrayError>
     requires { IsHeap block.now }
-    ensures { MatchResult result (λ found. IsFound block.now c found) (λ e. IsArrayError e (no_array (chunks block.now) c)) }
+    ensures { MatchResult result (λ found. IsFound block.now chunk found) (λ e. IsArrayError e (no_array (chunks block.now) chunk)) }
 {
-    let (at, len) = match place(block, c) {
+    let (at, len) = match place(block, chunk) {
         Ok(place) => place,
         Err(_) => return Err(ArrayError::BadChunk),
     };
@@ -77,16 +77,16 @@ pub(crate) fn find(block: &[u8], c: u16) -> Result<Found, ArrayError>
 }
 
 /// The array of a chunk's handle, which has an element of this index.
-pub(crate) fn find_element(block: &[u8], c: u16, i: u16) -> Result<Found, ElementError>
+pub(crate) fn find_element(block: &[u8], chunk: u16, index: u16) -> Result<Found, ElementError>
     requires { IsHeap block.now }
-    ensures { MatchResult result (λ found. HasIndex block.now c i found) (λ e. IsElementError e (no_element (chunks block.now) c i)) }
+    ensures { MatchResult result (λ found. HasIndex block.now chunk index found) (λ e. IsElementError e (no_element (chunks block.now) chunk index)) }
 {
-    let found = match find(block, c) {
+    let found = match find(block, chunk) {
         Ok(found) => found,
         Err(ArrayError::BadChunk) => return Err(ElementError::BadChunk),
         Err(ArrayError::BadArray) => return Err(ElementError::BadArray),
     };
-    if i >= found.shape.count {
+    if index >= found.shape.count {
         return Err(ElementError::BadElement);
     }
     Ok(found)
@@ -96,12 +96,12 @@ pub(crate) fn find_element(block: &[u8], c: u16, i: u16) -> Result<Found, Elemen
 ///
 /// `BadChunk` exactly where no chunk has this handle; else `BadArray` where its bytes are no
 /// array.
-pub fn count(block: &[u8], c: u16) -> Result<u16, ArrayError>
+pub fn count(block: &[u8], chunk: u16) -> Result<u16, ArrayError>
     requires { IsHeap block.now }
-    ensures ok { let e = count_elements c (chunks block.now) in IfOk result (λ n. (first_refusal e.refusals ≡ None) × (n ≡ e.answer)) }
-    ensures refused { IfErr result (λ e. IsArrayError e (count_elements c (chunks block.now)).refusals) }
+    ensures ok { let e = count_elements chunk (chunks block.now) in IfOk result (λ n. (first_refusal e.refusals ≡ None) × (n ≡ e.answer)) }
+    ensures refused { IfErr result (λ e. IsArrayError e (count_elements chunk (chunks block.now)).refusals) }
 {
-    let found = find(block, c)?;
+    let found = find(block, chunk)?;
     Ok(found.shape.count)
 }
 
@@ -109,18 +109,18 @@ pub fn count(block: &[u8], c: u16) -> Result<u16, ArrayError>
 /// has. Bytes may be written there: see `lmem_heap::writes_stay_in_their_chunk`.
 ///
 /// `BadChunk` exactly where no chunk has this handle; else `BadArray` where its bytes are no
-/// array; else `BadElement` where `i` is not below the count.
-pub fn element(block: &[u8], c: u16, i: u16) -> Result<(u16, u16), ElementError>
+/// array; else `BadElement` where `index` is not below the count.
+pub fn element(block: &[u8], chunk: u16, index: u16) -> Result<(u16, u16), ElementError>
     requires { IsHeap block.now }
-    ensures ok { OnOk result (first_refusal (no_element (chunks block.now) c i) ≡ None) }
-    ensures place { IfOk result (λ p. HasElement block.now c i p.0 p.1) }
+    ensures ok { OnOk result (first_refusal (no_element (chunks block.now) chunk index) ≡ None) }
+    ensures place { IfOk result (λ p. HasElement block.now chunk index p.0 p.1) }
     ensures within { IfOk result (λ p. p.0 + p.1 ≤ length block.now) }
-    ensures refused { IfErr result (λ e. IsElementError e (no_element (chunks block.now) c i)) }
+    ensures refused { IfErr result (λ e. IsElementError e (no_element (chunks block.now) chunk index)) }
 {
-    let found = match find_element(block, c, i) {
+    let found = match find_element(block, chunk, index) {
         Ok(found) => found,
         Err(e) => return Err(e),
     };
-    let place = found.place(block, i as usize);
+    let place = found.place(block, index as usize);
     Ok((found.at + place.begin as u16, place.len as u16))
 }

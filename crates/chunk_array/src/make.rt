@@ -44,36 +44,36 @@ pub fn create(block: &mut [u8], element_size: u16) -> Result<u16, RoomError>
 ///
 /// `BadChunk` exactly where no chunk has this handle; else `BadArray` where its bytes are no
 /// array.
-pub fn clear(block: &mut [u8], c: u16) -> Result<(), ArrayError>
+pub fn clear(block: &mut [u8], chunk: u16) -> Result<(), ArrayError>
     requires { IsHeap block.old }
     ensures heap { IsHeap block.new }
     ensures handle { handle_word block.new ≡ handle_word block.old }
-    ensures ok { let e = clear_array c (chunks block.old) in OnOk result ((first_refusal e.refusals ≡ None) × (chunks block.new ≡ e.chunks)) }
-    ensures array { OnOk result (ChangesArray (chunks block.old) (chunks block.new) c (λ a. empty a.element_size)) }
-    ensures refused { IfErr result (λ e. IsArrayError e (clear_array c (chunks block.old)).refusals) }
+    ensures ok { let e = clear_array chunk (chunks block.old) in OnOk result ((first_refusal e.refusals ≡ None) × (chunks block.new ≡ e.chunks)) }
+    ensures array { OnOk result (ChangesArray (chunks block.old) (chunks block.new) chunk (λ a. empty a.element_size)) }
+    ensures refused { IfErr result (λ e. IsArrayError e (clear_array chunk (chunks block.old)).refusals) }
     ensures err { OnErr result (block.new ≡ block.old) }
 {
-    let found = match find(block, c) {
+    let found = match find(block, chunk) {
         Ok(found) => found,
         Err(e) => return Err(e),
     };
-    match delete(block, c, HEADER as u16, found.len - HEADER as u16) {
+    match delete(block, chunk, HEADER as u16, found.len - HEADER as u16) {
         Ok(()) => {}
         Err(_) => unreachable!(),
     }
-    put_empty(block, c, found.shape.element_size);
+    put_empty(block, chunk, found.shape.element_size);
     Ok(())
 }
 
 /// Writes the header of an array with no element over a chunk of its length.
-fn put_empty(block: &mut [u8], c: u16, element_size: u16)
+fn put_empty(block: &mut [u8], chunk: u16, element_size: u16)
     requires heap { IsHeap block.old }
-    requires chunk { IsSomeAnd (chunk_of (chunks block.old) c) (λ bytes. length bytes ≡ 8) }
+    requires chunk { IsSomeAnd (chunk_of (chunks block.old) chunk) (λ bytes. length bytes ≡ 8) }
     ensures heap { IsHeap block.new }
     ensures handle { handle_word block.new ≡ handle_word block.old }
-    ensures chunks { chunks block.new ≡ with_array (chunks block.old) c (empty element_size) }
+    ensures chunks { chunks block.new ≡ with_array (chunks block.old) chunk (empty element_size) }
 {
-    let (at, len) = match place(block, c) {
+    let (at, len) = match place(block, chunk) {
         Ok(place) => place,
         Err(_) => unreachable!(),
     };

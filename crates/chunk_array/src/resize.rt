@@ -15,23 +15,23 @@ use crate::error::{ArrayError, GrowthError};
 use crate::look::find;
 use lmem_heap::{InsertError, RoomError, delete};
 
-/// Gives an element of an array whose sizes vary `n` bytes: its first ones that fit, and zeros
+/// Gives an element of an array whose sizes vary `len` bytes: its first ones that fit, and zeros
 /// behind them. Other chunks may move.
 ///
 /// `BadChunk` exactly where no chunk has this handle; else `BadArray` where its bytes are no
-/// array, or elements have one size; else `BadElement` where `i` is not below the count; else
+/// array, or elements have one size; else `BadElement` where `index` is not below the count; else
 /// `Room` where the block has no room: see `append`.
-pub fn resize_element(block: &mut [u8], c: u16, i: u16, n: u16) -> Result<(), GrowthError>
+pub fn resize_element(block: &mut [u8], chunk: u16, index: u16, len: u16) -> Result<(), GrowthError>
     requires { IsHeap block.old }
     ensures heap { IsHeap block.new }
     ensures handle { handle_word block.new ≡ handle_word block.old }
-    ensures ok { let e = resize_element c i n (chunks block.old) in OnOk result ((first_refusal e.refusals ≡ None) × (chunks block.new ≡ e.chunks)) }
-    ensures array { OnOk result (ChangesArray (chunks block.old) (chunks block.new) c (λ a. with_element_bytes a i (resized (element a i) n))) }
-    ensures fits { OnOk result (need (resize_element c i n (chunks block.old)).chunks ≤ length block.old) }
-    ensures refused { let e = resize_element c i n (chunks block.old) in IfErr result (λ why. IsGrowthError why e.refusals (need e.chunks) (length block.old)) }
+    ensures ok { let e = resize_element chunk index len (chunks block.old) in OnOk result ((first_refusal e.refusals ≡ None) × (chunks block.new ≡ e.chunks)) }
+    ensures array { OnOk result (ChangesArray (chunks block.old) (chunks block.new) chunk (λ a. with_element_bytes a index (resized (element a index) len))) }
+    ensures fits { OnOk result (need (resize_element chunk index len (chunks block.old)).chunks ≤ length block.old) }
+    ensures refused { let e = resize_element chunk index len (chunks block.old) in IfErr result (λ why. IsGrowthError why e.refusals (need e.chunks) (length block.old)) }
     ensures err { OnErr result (block.new ≡ block.old) }
 {
-    let found = match find(block, c) {
+    let found = match find(block, chunk) {
         Ok(found) => found,
         Err(ArrayError::BadChunk) => return Err(GrowthError::BadChunk),
         Err(ArrayError::BadArray) => return Err(GrowthError::BadArray),
@@ -39,15 +39,15 @@ pub fn resize_element(block: &mut [u8], c: u16, i: u16, n: u16) -> Result<(), Gr
     if found.shape.element_size != 0 {
         return Err(GrowthError::BadArray);
     }
-    if i >= found.shape.count {
+    if index >= found.shape.count {
         return Err(GrowthError::BadElement);
     }
-    let element = found.place(block, i as usize);
-    match resize_part(block, c, element.begin, element.len, n) {
+    let element = found.place(block, index as usize);
+    match resize_part(block, chunk, element.begin, element.len, len) {
         Ok(()) => {}
         Err(room) => return Err(GrowthError::Room(room)),
     }
-    put_offsets(block, c, found.shape, element, n as usize);
+    put_offsets(block, chunk, found.shape, element, len as usize);
     Ok(())
 }
 

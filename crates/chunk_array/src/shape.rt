@@ -78,17 +78,17 @@ impl Shape {
 
     /// Where an element begins, from the chunk's first byte on; at the count, where the last
     /// one ends.
-    pub(crate) fn start(self, bytes: &[u8], i: usize) -> usize
+    pub(crate) fn start(self, bytes: &[u8], index: usize) -> usize
         requires shape { HasShape bytes.now self }
-        requires known { i ≤ self.count }
-        ensures start { (a : Array) → arr bytes.now ≡ Some a → result ≡ element_at a i }
+        requires known { index ≤ self.count }
+        ensures start { (a : Array) → arr bytes.now ≡ Some a → result ≡ element_at a index }
         ensures within { (8 ≤ result) × (result ≤ length bytes.now) }
     {
         if self.element_size != 0 {
-            return HEADER + i * self.element_size as usize;
+            return HEADER + index * self.element_size as usize;
         }
-        if i < self.count as usize {
-            get16(bytes, HEADER + 2 * i) as usize
+        if index < self.count as usize {
+            get16(bytes, HEADER + 2 * index) as usize
         } else {
             bytes.len()
         }

@@ -16,25 +16,25 @@ use lmem_heap::delete;
 /// Takes an element out of an array. Other chunks may move.
 ///
 /// `BadChunk` exactly where no chunk has this handle; else `BadArray` where its bytes are no
-/// array; else `BadElement` where `i` is not below the count.
-pub fn remove(block: &mut [u8], c: u16, i: u16) -> Result<(), ElementError>
+/// array; else `BadElement` where `index` is not below the count.
+pub fn remove(block: &mut [u8], chunk: u16, index: u16) -> Result<(), ElementError>
     requires { IsHeap block.old }
     ensures heap { IsHeap block.new }
     ensures handle { handle_word block.new ≡ handle_word block.old }
-    ensures ok { let e = remove_element c i (chunks block.old) in OnOk result ((first_refusal e.refusals ≡ None) × (chunks block.new ≡ e.chunks)) }
-    ensures array { OnOk result (ChangesArray (chunks block.old) (chunks block.new) c (λ a. without_element a i)) }
-    ensures refused { IfErr result (λ why. IsElementError why (remove_element c i (chunks block.old)).refusals) }
+    ensures ok { let e = remove_element chunk index (chunks block.old) in OnOk result ((first_refusal e.refusals ≡ None) × (chunks block.new ≡ e.chunks)) }
+    ensures array { OnOk result (ChangesArray (chunks block.old) (chunks block.new) chunk (λ a. without_element a index)) }
+    ensures refused { IfErr result (λ why. IsElementError why (remove_element chunk index (chunks block.old)).refusals) }
     ensures err { OnErr result (block.new ≡ block.old) }
 {
-    let found = match find_element(block, c, i) {
+    let found = match find_element(block, chunk, index) {
         Ok(found) => found,
         Err(e) => return Err(e),
     };
-    let element = found.place(block, i as usize);
+    let element = found.place(block, index as usize);
     let room = found.shape.room(element.len as u16);
-    take_element(block, c, found.shape, element);
+    take_element(block, chunk, found.shape, element);
     let end = element.begin + element.len;
-    match delete(block, c, (end - room) as u16, room as u16) {
+    match delete(block, chunk, (end - room) as u16, room as u16) {
         Ok(()) => Ok(()),
         Err(_) => unreachable!(),
     }

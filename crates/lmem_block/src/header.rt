@@ -47,25 +47,25 @@ pub fn table_end(block: &[u8]) -> usize
 }
 
 /// The handle of an entry, which is the entry's offset.
-pub fn handle_of(i: usize) -> u16
-    requires { handle_of i < 65536 }
-    ensures { result ≡ handle_of i }
+pub fn handle_of(index: usize) -> u16
+    requires { handle_of index < 65536 }
+    ensures { result ≡ handle_of index }
 {
-    (TABLE + 2 * i) as u16
+    (TABLE + 2 * index) as u16
 }
 
 /// An entry of the table: 0 for no chunk, `NO_BYTE`, or the offset of a chunk's first byte.
-pub fn entry(block: &[u8], i: usize) -> u16
-    requires { entry_offset i + 2 ≤ length block.now }
-    ensures { result ≡ entry block.now i }
+pub fn entry(block: &[u8], index: usize) -> u16
+    requires { entry_offset index + 2 ≤ length block.now }
+    ensures { result ≡ entry block.now index }
 {
-    get16(block, TABLE + 2 * i)
+    get16(block, TABLE + 2 * index)
 }
 
 /// Writes an entry of the table.
-pub fn put_entry(block: &mut [u8], i: usize, word: u16)
-    requires { entry_offset i + 2 ≤ length block.old }
-    ensures { block.new ≡ with_word block.old (entry_offset i) word }
+pub fn put_entry(block: &mut [u8], index: usize, word: u16)
+    requires { entry_offset index + 2 ≤ length block.old }
+    ensures { block.new ≡ with_word block.old (entry_offset index) word }
 {
-    put16(block, TABLE + 2 * i, word);
+    put16(block, TABLE + 2 * index, word);
 }

@@ -17,13 +17,13 @@ use thiserror::Error;
 pub struct BadChunk;
 
 /// The entry of a chunk's handle. `BadChunk` where no chunk has it.
-pub fn find(block: &[u8], c: u16) -> Result<usize, BadChunk>
+pub fn find(block: &[u8], chunk: u16) -> Result<usize, BadChunk>
     requires { IsHeap block.now }
-    ensures place { MatchResult result (λ i. place_of block.now c ≡ place_at block.now (entry block.now i)) (λ _. place_of block.now c ≡ None) }
-    ensures found { MatchResult result (λ i. HasEntry block.now c i) (λ _. chunk_of (chunks block.now) c ≡ None) }
+    ensures place { MatchResult result (λ i. place_of block.now chunk ≡ place_at block.now (entry block.now i)) (λ _. place_of block.now chunk ≡ None) }
+    ensures found { MatchResult result (λ i. HasEntry block.now chunk i) (λ _. chunk_of (chunks block.now) chunk ≡ None) }
 {
     // below the table it wraps, and is past the last entry then
-    let at = c.wrapping_sub(TABLE as u16) as usize;
+    let at = chunk.wrapping_sub(TABLE as u16) as usize;
     let i = at / 2;
     if at % 2 != 0 || i >= entries(block) || entry(block, i) == 0 {
         return Err(BadChunk);
@@ -32,15 +32,15 @@ pub fn find(block: &[u8], c: u16) -> Result<usize, BadChunk>
 }
 
 /// Where the bytes of an entry's chunk stand, and how many there are.
-pub fn place_of_entry(block: &[u8], i: usize) -> (usize, u16)
+pub fn place_of_entry(block: &[u8], index: usize) -> (usize, u16)
     requires heap { IsHeap block.now }
-    requires known { i < entries block.now }
-    requires used { entry block.now i ≢ 0 }
+    requires known { index < entries block.now }
+    requires used { entry block.now index ≢ 0 }
     ensures within { result.0 + result.1 ≤ length block.now }
-    ensures place { place_at block.now (entry block.now i) ≡ Some (record { at = result.0; len = result.1 }) }
-    ensures len { length (entry_bytes (chunks block.now) i) ≡ result.1 }
+    ensures place { place_at block.now (entry block.now index) ≡ Some (record { at = result.0; len = result.1 }) }
+    ensures len { length (entry_bytes (chunks block.now) index) ≡ result.1 }
 {
-    let at = entry(block, i);
+    let at = entry(block, index);
     if at == NO_BYTE {
         return (0, 0);
     }
@@ -49,37 +49,37 @@ pub fn place_of_entry(block: &[u8], i: usize) -> (usize, u16)
 }
 
 /// The length of a chunk in bytes. `BadChunk` exactly where no chunk has this handle.
-pub fn size(block: &[u8], c: u16) -> Result<u16, BadChunk>
+pub fn size(block: &[u8], chunk: u16) -> Result<u16, BadChunk>
     requires { IsHeap block.now }
-    ensures { MatchResult result (λ n. IsSomeAnd (chunk_of (chunks block.now) c) (λ bytes. length bytes ≡ n)) (λ _. chunk_of (chunks block.now) c ≡ None) }
+    ensures { MatchResult result (λ n. IsSomeAnd (chunk_of (chunks block.now) chunk) (λ bytes. length bytes ≡ n)) (λ _. chunk_of (chunks block.now) chunk ≡ None) }
 {
-    let (_, n) = place(block, c)?;
+    let (_, n) = place(block, chunk)?;
     Ok(n)
 }
 
 /// Where the bytes of a chunk stand: the offset of the first one, and how many there are. A
 /// chunk of no byte has offset 0. `BadChunk` exactly where no chunk has this handle. Bytes may
 /// be written there: see `writes_stay_in_their_chunk`.
-pub fn place(block: &[u8], c: u16) -> Result<(u16, u16), BadChunk>
+pub fn place(block: &[u8], chunk: u16) -> Result<(u16, u16), BadChunk>
     requires { IsHeap block.now }
     ensures within { IfOk result (λ p. p.0 + p.1 ≤ length block.now) }
-    ensures place { MatchResult result (λ p. IsPlaced block.now c p.0 p.1) (λ _. place_of block.now c ≡ None) }
-    ensures bytes { MatchResult result (λ p. chunk_of (chunks block.now) c ≡ Some (part block.now p.0 p.1)) (λ _. chunk_of (chunks block.now) c ≡ None) }
+    ensures place { MatchResult result (λ p. IsPlaced block.now chunk p.0 p.1) (λ _. place_of block.now chunk ≡ None) }
+    ensures bytes { MatchResult result (λ p. chunk_of (chunks block.now) chunk ≡ Some (part block.now p.0 p.1)) (λ _. chunk_of (chunks block.now) chunk ≡ None) }
 {
-    let (at, n) = locate(block, c)?;
+    let (at, n) = locate(block, chunk)?;
     Ok((at as u16, n))
 }
 
 /// Where the bytes of a chunk stand, as `place` says it, the offset as an index of the block.
 /// `BadChunk` exactly where no chunk has this handle.
 // The compiler makes one number of a pair of words, and takes it apart again; not of this pair.
-pub fn locate(block: &[u8], c: u16) -> Result<(usize, u16), BadChunk>
+pub fn locate(block: &[u8], chunk: u16) -> Result<(usize, u16), BadChunk>
     requires { IsHeap block.now }
     ensures within { IfOk result (λ p. p.0 + p.1 ≤ length block.now) }
-    ensures place { MatchResult result (λ p. IsPlaced block.now c p.0 p.1) (λ _. place_of block.now c ≡ None) }
-    ensures bytes { MatchResult result (λ p. chunk_of (chunks block.now) c ≡ Some (part block.now p.0 p.1)) (λ _. chunk_of (chunks block.now) c ≡ None) }
+    ensures place { MatchResult result (λ p. IsPlaced block.now chunk p.0 p.1) (λ _. place_of block.now chunk ≡ None) }
+    ensures bytes { MatchResult result (λ p. chunk_of (chunks block.now) chunk ≡ Some (part block.now p.0 p.1)) (λ _. chunk_of (chunks block.now) chunk ≡ None) }
 {
-    let i = find(block, c)?;
+    let i = find(block, chunk)?;
     Ok(place_of_entry(block, i))
 }
 
@@ -92,13 +92,17 @@ pub fn total_free(block: &[u8]) -> u16
     get16(block, TOTAL_FREE)
 }
 
-/// The lowest handle above `c` that has a chunk, or none where there is none.
-pub fn next(block: &[u8], c: u16) -> Option<u16>
+/// The lowest handle above `chunk` that has a chunk, or none where there is none.
+pub fn next(block: &[u8], chunk: u16) -> Option<u16>
     requires { IsHeap block.now }
-    ensures { MatchOption result (IsLast (chunks block.now) c) (λ h. IsNext (chunks block.now) c h) }
+    ensures { MatchOption result (IsLast (chunks block.now) chunk) (λ h. IsNext (chunks block.now) chunk h) }
 {
-    let c = c as usize;
-    let first = if c < TABLE { 0 } else { (c - TABLE) / 2 + 1 };
+    let chunk = chunk as usize;
+    let first = if chunk < TABLE {
+        0
+    } else {
+        (chunk - TABLE) / 2 + 1
+    };
     for i in first..entries(block) {
         if entry(block, i) != 0 {
             return Some(handle_of(i));

@@ -33,18 +33,18 @@ pub(crate) fn put_words(block: &mut [u8], at: usize, words: &[u16])
 }
 
 /// Moves bytes. They are those from before, also where the two ranges overlap.
-pub fn move_bytes(block: &mut [u8], from: usize, to: usize, n: usize)
-    requires source { from + n ≤ length block.old }
-    requires target { to + n ≤ length block.old }
-    ensures { block.new ≡ with_part block.old to (part block.old from n) }
+pub fn move_bytes(block: &mut [u8], from: usize, to: usize, count: usize)
+    requires source { from + count ≤ length block.old }
+    requires target { to + count ≤ length block.old }
+    ensures { block.new ≡ with_part block.old to (part block.old from count) }
 {
-    block.copy_within(from..from + n, to);
+    block.copy_within(from..from + count, to);
 }
 
 /// Writes zero bytes.
-pub fn clear(block: &mut [u8], at: usize, n: usize)
-    requires { at + n ≤ length block.old }
-    ensures { block.new ≡ with_part block.old at (replicate n 0) }
+pub fn clear(block: &mut [u8], at: usize, count: usize)
+    requires { at + count ≤ length block.old }
+    ensures { block.new ≡ with_part block.old at (replicate count 0) }
 {
-    block[at..at + n].fill(0);
+    block[at..at + count].fill(0);
 }

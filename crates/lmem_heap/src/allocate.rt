@@ -11,25 +11,25 @@ use crate::room::{room_for, used_with_new};
 use crate::table::{add_entries, lowest_entry};
 use lmem_block::{BadChunk, entries, find, handle_of};
 
-/// Makes a chunk of `n` zero bytes and answers its handle: the lowest one that is not in use.
+/// Makes a chunk of `len` zero bytes and answers its handle: the lowest one that is not in use.
 /// Where all entries of the table are in use, it gets two more. Other chunks may move.
 ///
 /// `NeedMore` names the size that the block needs, where it is larger than the block is;
 /// `TooBig` where no block is that large.
-pub fn alloc(block: &mut [u8], n: u16) -> Result<u16, RoomError>
+pub fn alloc(block: &mut [u8], len: u16) -> Result<u16, RoomError>
     requires { IsHeap block.old }
     ensures heap { IsHeap block.new }
     ensures handle { handle_word block.new ≡ handle_word block.old }
-    ensures ok { IfOk result (λ c. (c ≡ new_handle (chunks block.old)) × (chunks block.new ≡ with_new (chunks block.old) n)) }
-    ensures fits { OnOk result (need (with_new (chunks block.old) n) ≤ length block.old) }
-    ensures refused { IfErr result (λ e. IsRoomError e (need (with_new (chunks block.old) n)) (length block.old)) }
+    ensures ok { IfOk result (λ c. (c ≡ new_handle (chunks block.old)) × (chunks block.new ≡ with_new (chunks block.old) len)) }
+    ensures fits { OnOk result (need (with_new (chunks block.old) len) ≤ length block.old) }
+    ensures refused { IfErr result (λ e. IsRoomError e (need (with_new (chunks block.old) len)) (length block.old)) }
     ensures err { OnErr result (block.new ≡ block.old) }
 {
     let i = lowest_entry(block);
-    let used = used_with_new(block, i, n);
+    let used = used_with_new(block, i, len);
     room_for(used, block.len())?;
     make_entry(block, i);
-    new_chunk(block, i, n);
+    new_chunk(block, i, len);
     Ok(handle_of(i))
 }
 
@@ -51,15 +51,15 @@ fn make_entry(block: &mut [u8], i: usize)
 
 /// Frees a chunk: its handle has no chunk then, and its bytes are free. Other chunks may move.
 /// `BadChunk` exactly where no chunk has this handle.
-pub fn free(block: &mut [u8], c: u16) -> Result<(), BadChunk>
+pub fn free(block: &mut [u8], chunk: u16) -> Result<(), BadChunk>
     requires { IsHeap block.old }
     ensures heap { IsHeap block.new }
     ensures handle { handle_word block.new ≡ handle_word block.old }
-    ensures ok { OnOk result (IsSome (chunk_of (chunks block.old) c) × (chunks block.new ≡ without (chunks block.old) c)) }
-    ensures bad { OnErr result (chunk_of (chunks block.old) c ≡ None) }
+    ensures ok { OnOk result (IsSome (chunk_of (chunks block.old) chunk) × (chunks block.new ≡ without (chunks block.old) chunk)) }
+    ensures bad { OnErr result (chunk_of (chunks block.old) chunk ≡ None) }
     ensures err { OnErr result (block.new ≡ block.old) }
 {
-    let i = find(block, c)?;
+    let i = find(block, chunk)?;
     release_chunk(block, i);
     Ok(())
 }

@@ -12,70 +12,70 @@ use crate::error::{DeleteError, InsertError, ReallocError, RoomError};
 use crate::room::{room_for, used_with};
 use lmem_block::{clear, find, move_bytes, place_of_entry};
 
-/// Gives a chunk `n` bytes: its first ones that fit, and zeros behind them. Other chunks may
+/// Gives a chunk `len` bytes: its first ones that fit, and zeros behind them. Other chunks may
 /// move.
 ///
 /// `BadChunk` exactly where no chunk has this handle; else `Room` where the block has no room:
 /// see `alloc`.
-pub fn realloc(block: &mut [u8], c: u16, n: u16) -> Result<(), ReallocError>
+pub fn realloc(block: &mut [u8], chunk: u16, len: u16) -> Result<(), ReallocError>
     requires { IsHeap block.old }
     ensures heap { IsHeap block.new }
     ensures handle { handle_word block.new ≡ handle_word block.old }
-    ensures ok { let old = chunks block.old in OnOk result (IsSome (chunk_of old c) × (chunks block.new ≡ with_resized old c n)) }
-    ensures fits { OnOk result (need (with_resized (chunks block.old) c n) ≤ length block.old) }
-    ensures refused { IfErr result (λ e. IsReallocError e (chunks block.old) (length block.old) c n) }
+    ensures ok { let old = chunks block.old in OnOk result (IsSome (chunk_of old chunk) × (chunks block.new ≡ with_resized old chunk len)) }
+    ensures fits { OnOk result (need (with_resized (chunks block.old) chunk len) ≤ length block.old) }
+    ensures refused { IfErr result (λ e. IsReallocError e (chunks block.old) (length block.old) chunk len) }
     ensures err { OnErr result (block.new ≡ block.old) }
 {
-    let i = find(block, c)?;
-    resize(block, i, n as usize)?;
+    let i = find(block, chunk)?;
+    resize(block, i, len as usize)?;
     Ok(())
 }
 
-/// Inserts `n` zero bytes at an offset of a chunk. Other chunks may move.
+/// Inserts `count` zero bytes at an offset of a chunk. Other chunks may move.
 ///
 /// `BadChunk` exactly where no chunk has this handle; else `Range` where `at` is past the
 /// chunk's length; else `Room` where the block has no room: see `alloc`.
-pub fn insert(block: &mut [u8], c: u16, at: u16, n: u16) -> Result<(), InsertError>
+pub fn insert(block: &mut [u8], chunk: u16, at: u16, count: u16) -> Result<(), InsertError>
     requires { IsHeap block.old }
     ensures heap { IsHeap block.new }
     ensures handle { handle_word block.new ≡ handle_word block.old }
     ensures ok { let old = chunks block.old in
-        OnOk result (IsSome (chunk_of old c) × (at ≤ length (bytes_of old c)) × (chunks block.new ≡ with_inserted old c at n)) }
-    ensures fits { OnOk result (need (with_inserted (chunks block.old) c at n) ≤ length block.old) }
-    ensures refused { IfErr result (λ e. IsInsertError e (chunks block.old) (length block.old) c at n) }
+        OnOk result (IsSome (chunk_of old chunk) × (at ≤ length (bytes_of old chunk)) × (chunks block.new ≡ with_inserted old chunk at count)) }
+    ensures fits { OnOk result (need (with_inserted (chunks block.old) chunk at count) ≤ length block.old) }
+    ensures refused { IfErr result (λ e. IsInsertError e (chunks block.old) (length block.old) chunk at count) }
     ensures err { OnErr result (block.new ≡ block.old) }
 {
-    let i = find(block, c)?;
+    let i = find(block, chunk)?;
     let (_, len) = place_of_entry(block, i);
     if at > len {
         return Err(InsertError::Range);
     }
-    resize(block, i, len as usize + n as usize)?;
-    open_bytes(block, i, at as usize, n as usize);
+    resize(block, i, len as usize + count as usize)?;
+    open_bytes(block, i, at as usize, count as usize);
     Ok(())
 }
 
-/// Deletes the `n` bytes at an offset of a chunk. Other chunks may move.
+/// Deletes the `count` bytes at an offset of a chunk. Other chunks may move.
 ///
-/// `BadChunk` exactly where no chunk has this handle; else `Range` where `at + n` is past the
+/// `BadChunk` exactly where no chunk has this handle; else `Range` where `at + count` is past the
 /// chunk's length.
-pub fn delete(block: &mut [u8], c: u16, at: u16, n: u16) -> Result<(), DeleteError>
+pub fn delete(block: &mut [u8], chunk: u16, at: u16, count: u16) -> Result<(), DeleteError>
     requires { IsHeap block.old }
     ensures heap { IsHeap block.new }
     ensures handle { handle_word block.new ≡ handle_word block.old }
     ensures ok { let old = chunks block.old in
-        OnOk result (IsSome (chunk_of old c) × (at + n ≤ length (bytes_of old c)) × (chunks block.new ≡ with_deleted old c at n)) }
-    ensures refused { IfErr result (λ e. IsDeleteError e (chunks block.old) c at n) }
+        OnOk result (IsSome (chunk_of old chunk) × (at + count ≤ length (bytes_of old chunk)) × (chunks block.new ≡ with_deleted old chunk at count)) }
+    ensures refused { IfErr result (λ e. IsDeleteError e (chunks block.old) chunk at count) }
     ensures err { OnErr result (block.new ≡ block.old) }
 {
-    let i = find(block, c)?;
+    let i = find(block, chunk)?;
     let (_, len) = place_of_entry(block, i);
-    let (at, n, len) = (at as usize, n as usize, len as usize);
-    if at + n > len {
+    let (at, count, len) = (at as usize, count as usize, len as usize);
+    if at + count > len {
         return Err(DeleteError::Range);
     }
-    close_bytes(block, i, at, n);
-    resize_chunk(block, i, (len - n) as u16);
+    close_bytes(block, i, at, count);
+    resize_chunk(block, i, (len - count) as u16);
     Ok(())
 }
 

@@ -101,41 +101,41 @@ impl Region {
         bytes[1] = high;
     }
 
-    /// Writes `byte` into each of the `n` bytes from `at` on; every other byte stays.
-    pub fn fill(&mut self, at: u32, n: u32, byte: u8)
-        requires { at + n ≤ length self.old }
-        ensures { self.new ≡ with_part self.old at (replicate n byte) }
+    /// Writes `byte` into each of the `count` bytes from `at` on; every other byte stays.
+    pub fn fill(&mut self, at: u32, count: u32, byte: u8)
+        requires { at + count ≤ length self.old }
+        ensures { self.new ≡ with_part self.old at (replicate count byte) }
     {
-        self.slice_mut(at, n).fill(byte);
+        self.slice_mut(at, count).fill(byte);
     }
 
-    /// Writes the `n` bytes from `from` on at `to`. They are the bytes from before, also where
+    /// Writes the `count` bytes from `from` on at `to`. They are the bytes from before, also where
     /// the two ranges overlap; every byte outside the target stays.
-    pub fn move_bytes(&mut self, from: u32, to: u32, n: u32)
-        requires { (from + n ≤ length self.old) × (to + n ≤ length self.old) }
-        ensures { self.new ≡ with_part self.old to (part self.old from n) }
+    pub fn move_bytes(&mut self, from: u32, to: u32, count: u32)
+        requires { (from + count ≤ length self.old) × (to + count ≤ length self.old) }
+        ensures { self.new ≡ with_part self.old to (part self.old from count) }
     {
         let len = self.len();
-        let (from, to, n) = (from as usize, to as usize, n as usize);
-        self.slice_mut(0, len).copy_within(from..from + n, to);
+        let (from, to, count) = (from as usize, to as usize, count as usize);
+        self.slice_mut(0, len).copy_within(from..from + count, to);
     }
 
-    /// Lends the `n` bytes from `at` on for reading.
-    pub fn slice(&self, at: u32, n: u32) -> &[u8]
-        requires { at + n ≤ length self.now }
-        ensures { result.now ≡ part self.now at n }
+    /// Lends the `count` bytes from `at` on for reading.
+    pub fn slice(&self, at: u32, count: u32) -> &[u8]
+        requires { at + count ≤ length self.now }
+        ensures { result.now ≡ part self.now at count }
     {
-        self.raw.slice(at as usize, n as usize)
+        self.raw.slice(at as usize, count as usize)
     }
 
-    /// Lends the `n` bytes from `at` on for writing. Once the loan ends, the region has there
+    /// Lends the `count` bytes from `at` on for writing. Once the loan ends, the region has there
     /// what was left in it, and every other byte is as before.
-    pub fn slice_mut(&mut self, at: u32, n: u32) -> &mut [u8]
-        requires { at + n ≤ length self.old }
-        ensures* writes_back { sem 𝓛 (LendsPart self.entry at n result) }
-        ensures value { result.now ≡ part self.old at n }
+    pub fn slice_mut(&mut self, at: u32, count: u32) -> &mut [u8]
+        requires { at + count ≤ length self.old }
+        ensures* writes_back { sem 𝓛 (LendsPart self.entry at count result) }
+        ensures value { result.now ≡ part self.old at count }
     {
-        self.raw.slice_mut(at as usize, n as usize)
+        self.raw.slice_mut(at as usize, count as usize)
     }
 }
 

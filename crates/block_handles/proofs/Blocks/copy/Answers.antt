@@ -11,5 +11,5 @@ invariant_of-self c = kept-after_write c.self.inside.arena c.copy.new.self c.sel
 
 pub returns-clause-covered : goal.returns-clause-covered
 returns-clause-covered c =
-    subst (λ s. (slot : ℕ) → CoversRange s slot c.args.from c.args.n → WritesCovered s c.copy.new.self c.args.to (part (bytes_of s slot) (c.args.from - place_of s slot) c.args.n)) c.self.view_is
-    (copy-covered c.self.inside.arena c.copy.new.self c.args.from c.args.to c.args.n c.self.invariant.ready.laid c.copy.ensures)
+    subst (λ s. (slot : ℕ) → CoversRange s slot c.args.from c.args.count → WritesCovered s c.copy.new.self c.args.to (part (bytes_of s slot) (c.args.from - place_of s slot) c.args.count)) c.self.view_is
+    (copy-covered c.self.inside.arena c.copy.new.self c.args.from c.args.to c.args.count c.self.invariant.ready.laid c.copy.ensures)

@@ -9,9 +9,9 @@ pub returns : goal.returns
 returns c =
     let b = c.args.block.now in
     let p = c.in-Ok.ensures in
-    let r = rewritten b c.args.c _ _ c.spell_refitted.new.bytes c.requires.heap p.place p.within c.spell_refitted.auto.bytes in
+    let r = rewritten b c.args.chunk _ _ c.spell_refitted.new.bytes c.requires.heap p.place p.within c.spell_refitted.auto.bytes in
     record {
       heap = r.heap;
       handle = r.handle;
-      chunks = (λ bytes before a there h. r.chunks ∙ ap (with_bytes (chunks b) c.args.c) (c.spell_refitted.ensures before a (subst (λ (x : List ℕ). HasRefit x before a c.args.shape c.args.element c.args.n) (range-bytes b _ _ bytes (sym there ∙ p.bytes)) h)));
+      chunks = (λ bytes before a there h. r.chunks ∙ ap (with_bytes (chunks b) c.args.chunk) (c.spell_refitted.ensures before a (subst (λ (x : List ℕ). HasRefit x before a c.args.shape c.args.element c.args.n) (range-bytes b _ _ bytes (sym there ∙ p.bytes)) h)));
     }

@@ -6,7 +6,7 @@ use Rattle.chunk_array.proofs.change.take_element.Goals as goal
 pub returns : goal.returns
 returns c =
     let p = c.in-Ok.ensures in
-    let r = rewritten c.args.block.now c.args.c _ _ c.spell_removed.new.bytes c.requires.heap p.place p.within c.spell_removed.auto.bytes in
+    let r = rewritten c.args.block.now c.args.chunk _ _ c.spell_removed.new.bytes c.requires.heap p.place p.within c.spell_removed.auto.bytes in
     record {
       heap = r.heap;
       handle = r.handle;

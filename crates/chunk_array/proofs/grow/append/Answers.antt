@@ -10,6 +10,6 @@ use Rattle.chunk_array.proofs.grow.append.Goals as goal
 pub returns-in-Ok-insert_at-clause-array : goal.returns-in-Ok-insert_at-clause-array
 returns-in-Ok-insert_at-clause-array c =
     let cs = chunks c.args.block.now in let f = c.in-Ok.ensures in let bytes = part c.args.block.now c.in-Ok.found.at c.in-Ok.found.len in
-    let count = count-of cs c.args.c bytes f.shape.array f.bytes f.shape.is in
-    appends cs (chunks c.insert_at.new.block) c.args.c c.args.n (array-passes cs c.args.c bytes f.shape.array f.bytes f.shape.is [])
-    (c.in-Ok-insert_at.ensures.ok ∙ ap (λ k. with_array cs c.args.c (with_element (array_of cs c.args.c) k c.args.n)) (sym f.shape.count ∙ sym count))
+    let count = count-of cs c.args.chunk bytes f.shape.array f.bytes f.shape.is in
+    appends cs (chunks c.insert_at.new.block) c.args.chunk c.args.len (array-passes cs c.args.chunk bytes f.shape.array f.bytes f.shape.is [])
+    (c.in-Ok-insert_at.ensures.ok ∙ ap (λ k. with_array cs c.args.chunk (with_element (array_of cs c.args.chunk) k c.args.len)) (sym f.shape.count ∙ sym count))

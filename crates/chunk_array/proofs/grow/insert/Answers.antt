@@ -8,4 +8,4 @@ use Rattle.chunk_array.proofs.grow.insert.Goals as goal
 pub returns-in-Ok-insert_at-clause-array : goal.returns-in-Ok-insert_at-clause-array
 returns-in-Ok-insert_at-clause-array c =
     let cs = chunks c.args.block.now in let f = c.in-Ok.ensures in let bytes = part c.args.block.now c.in-Ok.found.at c.in-Ok.found.len in
-    inserts cs (chunks c.insert_at.new.block) c.args.c c.args.i c.args.n (insert-passes cs c.args.c bytes f.shape.array f.bytes f.shape.is c.args.i (omega (arith, f.shape.count))) c.in-Ok-insert_at.ensures.ok
+    inserts cs (chunks c.insert_at.new.block) c.args.chunk c.args.index c.args.len (insert-passes cs c.args.chunk bytes f.shape.array f.bytes f.shape.is c.args.index (omega (arith, f.shape.count))) c.in-Ok-insert_at.ensures.ok
