@@ -10,6 +10,7 @@ pub mod Searches
 pub mod SlotBits
 pub mod Steps
 pub mod Sums
+pub mod Counting
 pub mod Views
 pub mod Walks
 pub mod Writes

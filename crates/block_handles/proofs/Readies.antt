@@ -1,5 +1,5 @@
 -- That blocks lie as they should and the gap is free, after what calls do.
-use Rattle.std.proofs.Common.{◌≡◌, ◌≢◌, ℕ, ◌+◌, ◌-◌, ◌≤◌, ◌<◌, ◌⊎◌, ◌/◌, ◌%◌, Option, slice_index, List, ◌++◌, length, replicate, slice_index_or, None, refl, ap, sym, subst, ◌∙◌, arith, inl, inr, length-append}
+use Rattle.std.proofs.Common.{◌≡◌, ◌≢◌, ℕ, ◌+◌, ◌-◌, ◌≤◌, ◌<◌, ◌⊎◌, ◌/◌, ◌%◌, Option, slice_index, List, length, replicate, slice_index_or, None, refl, ap, sym, subst, ◌∙◌, arith, inl, inr, length-append}
 use Rattle.std.proofs.lemmas.List.{length-replicate, get_or-set_same, get_or-set_other}
 use Rattle.std.proofs.lemmas.Nat.Bits.{bit_at-lt}
 use Rattle.std.proofs.lemmas.Bool.{cases_eq}
@@ -9,9 +9,11 @@ use Rattle.block_handles.specs.Change.{with_block, new_block, grown_block, with_
 use Rattle.block_handles.specs.Gap.{IsGap, IsReady, MakesRoom}
 use Rattle.block_handles.specs.Joined.{Joins}
 use Rattle.block_handles.specs.Bits.{bit_of, SetsBit}
-use Rattle.block_handles.specs.Used.{IsUsed, IsKept}
+use Rattle.block_handles.specs.Used.{IsUsed, IsFreeCount, IsKept}
 use Rattle.block_handles.specs.Layout.{Apart, IsLaidOut, IsFree}
-use Rattle.block_handles.proofs.Layouts.{Differs, with_block-differs, there_small, there_of_size, with_locks-shape, SameShape, laid-same, free-same}
+use Rattle.block_handles.specs.Stretch.{all_sizes}
+use Rattle.block_handles.proofs.Layouts.{Differs, with_block-differs, there_small, there_of_size, size_of_none, with_locks-shape, SameShape, laid-same, free-same}
+use Rattle.block_handles.proofs.Counting.{sizes-fit, sizes-same, sizes-with_block}
 use Rattle.block_handles.proofs.Packs.{size_along}
 use Rattle.block_handles.proofs.Writes.{after_write-shape, with_bytes-shape}
 
@@ -25,16 +27,17 @@ ready-same S S' gap shape r = record {
 pub used-same : (S S' : Store) (words : List ℕ) → ((j : ℕ) → IsThere S' j → IsThere S j) → ((j : ℕ) → IsThere S j → IsThere S' j) → IsUsed S words → IsUsed S' words
 used-same S S' words back on u = record { long = u.long; there = λ j small is. on j (u.there j small is); none = λ j small is h. u.none j small is (back j h) }
 
-pub kept-same : (S S' : Store) (gap : Gap) (words : List ℕ) → SameShape S S' → IsKept S gap words → IsKept S' gap words
+pub kept-same : {free : ℕ} (S S' : Store) (gap : Gap) (words : List ℕ) → SameShape S S' → IsKept S gap words free → IsKept S' gap words free
 kept-same S S' gap words shape k = record {
   ready = ready-same S S' gap shape k.ready;
   used = used-same S S' words shape.there (λ j h. there_of_size S' j (omega (arith, shape.sizes j, (k.ready.laid.sized j h).0))) k.used;
+  count = record { counted = omega (arith, k.count.counted, sizes-same S S' shape, shape.len); short = omega (arith, k.count.short, shape.len) };
 }
 
-pub kept-after_write : (S S' : Store) (gap : Gap) (words : List ℕ) (at : ℕ) (ws : List ℕ) → S' ≡ after_write S at ws → IsKept S gap words → IsKept S' gap words
-kept-after_write S S' gap words at ws e k = subst (λ s. IsKept s gap words) (sym e) (kept-same S (after_write S at ws) gap words (after_write-shape at ws S) k)
+pub kept-after_write : {free : ℕ} (S S' : Store) (gap : Gap) (words : List ℕ) (at : ℕ) (ws : List ℕ) → S' ≡ after_write S at ws → IsKept S gap words free → IsKept S' gap words free
+kept-after_write {free} S S' gap words at ws e k = subst (λ s. IsKept s gap words free) (sym e) (kept-same S (after_write S at ws) gap words (after_write-shape at ws S) k)
 
-pub kept-bytes : (S : Store) (gap : Gap) (words : List ℕ) (slot : ℕ) (ws : List ℕ) → IsKept S gap words → IsKept (with_bytes S slot ws) gap words
+pub kept-bytes : {free : ℕ} (S : Store) (gap : Gap) (words : List ℕ) (slot : ℕ) (ws : List ℕ) → IsKept S gap words free → IsKept (with_bytes S slot ws) gap words free
 kept-bytes S gap words slot ws k = kept-same S (with_bytes S slot ws) gap words (with_bytes-shape S slot ws) k
 
 -- a slot gets a block, or loses it, and the bit says so
@@ -68,6 +71,15 @@ bit-there S words slot small h u = elim (cases_eq (bit_of words slot) 0) as (λ 
 pub used-blocks : (S S' : Store) (words : List ℕ) → S'.blocks ≡ S.blocks → IsUsed S words → IsUsed S' words
 used-blocks S S' words e u = used-same S S' words (λ j h. subst (λ bs. IsBlock (slice_index_or bs j None)) e h) (λ j h. subst (λ bs. IsBlock (slice_index_or bs j None)) (sym e) h) u
 
+length-grown : (S : Store) (slot size : ℕ) → size_of S slot ≤ size → length (bytes_in (grown_block S slot size)) ≡ size
+length-grown S slot size more = omega (arith, length-append (bytes_of S slot) (replicate (size - size_of S slot) 0), length-replicate {A = ℕ} (size - size_of S slot) 0, more)
+
+-- bytes that a block takes of those that are free
+pub count-taken : (S S' : Store) (free more : ℕ) → IsFreeCount S free → all_sizes S' ≡ all_sizes S + more → S'.len ≡ S.len → IsLaidOut S' → (more ≤ free) × IsFreeCount S' (free - more)
+count-taken S S' free more count sizes len laid =
+    let fits : more ≤ free = omega (arith, count.counted, sizes, len, sizes-fit S' laid) in
+    (fits, record { counted = omega (arith, count.counted, sizes, len, fits); short = omega (arith, count.short, len) })
+
 -- the gap behind a block that has moved into it
 ready-grown_block : (old mid new : Store) (slot size : ℕ) (gap : Gap) → MakesRoom old mid slot size gap → IsThere old slot → size_of old slot ≤ size → new ≡ with_block mid slot (grown_block mid slot size) gap.at → IsLaidOut new → IsReady new (record { at = gap.at + size; end = gap.end })
 ready-grown_block old mid new slot size gap m was-there was-more e laid = record {
@@ -81,8 +93,8 @@ ready-grown_block old mid new slot size gap m was-there was-more e laid = record
     more : size_of mid slot ≤ size
     more = omega (arith, was-more, size_along old mid m.blocks slot)
 
-    whole : length (bytes_of mid slot ++ replicate (size - size_of mid slot) 0) ≡ size
-    whole = omega (arith, length-append (bytes_of mid slot) (replicate (size - size_of mid slot) 0), length-replicate {A = ℕ} (size - size_of mid slot) 0, more)
+    whole : length (bytes_in (grown_block mid slot size)) ≡ size
+    whole = length-grown mid slot size more
 
     d : Differs mid (with_block mid slot (grown_block mid slot size) gap.at) slot (length (bytes_in (grown_block mid slot size))) gap.at
     d = with_block-differs mid slot (grown_block mid slot size) gap.at m.laid (there_small mid slot m.laid there)
@@ -97,26 +109,43 @@ ready-grown_block old mid new slot size gap m was-there was-more e laid = record
       | inr ne ↦ other j ne (m.free j ne)
     ]
 
-pub kept-grown_block : (old mid new : Store) (slot size : ℕ) (gap : Gap) (words : List ℕ) → MakesRoom old mid slot size gap → IsLaidOut old → IsUsed old words → IsThere old slot → size_of old slot ≤ size → new ≡ with_block mid slot (grown_block mid slot size) gap.at → IsLaidOut new → IsKept new (record { at = gap.at + size; end = gap.end }) words
-kept-grown_block old mid new slot size gap words m laid_old u was-there was-more e laid =
-    let small : slot < 2048 = there_small old slot laid_old was-there in
-    let bit : bit_of words slot ≡ 1 = bit-there old words slot small was-there u in
-    record {
-      ready = ready-grown_block old mid new slot size gap m was-there was-more e laid;
-      used = used-with_block mid new words words slot (grown_block mid slot size) gap.at 1 small m.laid e (record { here = bit; others = λ j ne. refl; long = refl }) (λ _. tt) (λ z. absurd (omega (arith, z))) (used-blocks old mid words m.blocks u);
-    }
+-- a block that grows takes its bytes of those that are free
+module _ (old mid new : Store) (slot size free more : ℕ) (gap : Gap) (m : MakesRoom old mid slot size gap) (there : IsThere old slot) (grows : size_of old slot ≤ size) (by : more ≡ size - size_of old slot) (laid_old : IsLaidOut old) (count : IsFreeCount old free)
+    (e : new ≡ with_block mid slot (grown_block mid slot size) gap.at) (laid : IsLaidOut new) where
+  small : slot < 2048
+  small = there_small old slot laid_old there
 
-pub kept-locks : (S S' : Store) (gap : Gap) (words : List ℕ) (slot n : ℕ) → IsThere S slot → S' ≡ with_locks S slot n → IsKept S gap words → IsKept S' gap words
-kept-locks S S' gap words slot n h e k = subst (λ s. IsKept s gap words) (sym e) (kept-same S (with_locks S slot n) gap words (with_locks-shape S slot n k.ready.laid h) k)
+  pub grown-taken : (more ≤ free) × IsFreeCount new (free - more)
+  grown-taken =
+      let long : length (bytes_in (grown_block mid slot size)) ≡ size = length-grown mid slot size (omega (arith, grows, size_along old mid m.blocks slot)) in
+      count-taken old new free more count (omega (arith, by, grows, long, sizes-with_block old mid new slot gap.at (grown_block mid slot size) m.blocks m.laid small e)) (ap (λ s. s.len) e ∙ m.len) laid
+
+  pub kept-grown_block : (words : List ℕ) → IsUsed old words → IsKept new (record { at = gap.at + size; end = gap.end }) words (free - more)
+  kept-grown_block words u =
+      let bit : bit_of words slot ≡ 1 = bit-there old words slot small there u in
+      record {
+        ready = ready-grown_block old mid new slot size gap m there grows e laid;
+        used = used-with_block mid new words words slot (grown_block mid slot size) gap.at 1 small m.laid e (record { here = bit; others = λ j ne. refl; long = refl }) (λ _. tt) (λ z. absurd (omega (arith, z))) (used-blocks old mid words m.blocks u);
+        count = grown-taken.1;
+      }
+
+pub kept-locks : {free : ℕ} (S S' : Store) (gap : Gap) (words : List ℕ) (slot n : ℕ) → IsThere S slot → S' ≡ with_locks S slot n → IsKept S gap words free → IsKept S' gap words free
+kept-locks {free} S S' gap words slot n h e k = subst (λ s. IsKept s gap words free) (sym e) (kept-same S (with_locks S slot n) gap words (with_locks-shape S slot n k.ready.laid h) k)
+
+-- a new block takes its bytes of those that are free
+pub made-taken : (old mid new : Store) (slot size free : ℕ) (gap : Gap) → MakesRoom old mid slot size gap → slot < 2048 → (IsThere old slot → ⊥) → IsFreeCount old free → new ≡ with_block mid slot (new_block size) gap.at → IsLaidOut new → (size ≤ free) × IsFreeCount new (free - size)
+made-taken old mid new slot size free gap m small absent count e laid =
+    count-taken old new free size count (omega (arith, size_of_none old slot absent, length-replicate {A = ℕ} size 0, sizes-with_block old mid new slot gap.at (new_block size) m.blocks m.laid small e)) (ap (λ s. s.len) e ∙ m.len) laid
 
 -- the gap beside a block that was made in it
-pub kept-made : (old mid new : Store) (slot size : ℕ) (gap : Gap) (words words' : List ℕ) → MakesRoom old mid slot size gap → slot < 2048 → IsUsed old words → new ≡ with_block mid slot (new_block size) gap.at → IsLaidOut new → SetsBit words words' slot 1 → IsKept new (record { at = gap.at + size; end = gap.end }) words'
-kept-made old mid new slot size gap words words' m small u e laid set = record {
+pub kept-made : (old mid new : Store) (slot size free : ℕ) (gap : Gap) (words words' : List ℕ) → MakesRoom old mid slot size gap → slot < 2048 → IsUsed old words → IsFreeCount new (free - size) → new ≡ with_block mid slot (new_block size) gap.at → IsLaidOut new → SetsBit words words' slot 1 → IsKept new (record { at = gap.at + size; end = gap.end }) words' (free - size)
+kept-made old mid new slot size free gap words words' m small u count e laid set = record {
   ready = record {
     laid = laid;
     room = record { ordered = m.room; inside = omega (arith, m.inside, ap (λ s. s.len) e); free = λ j. subst (λ s. (end_of s j ≤ gap.at + size) ⊎ (gap.end ≤ place_of s j)) (sym e) (each j) };
   };
   used = used-with_block mid new words words' slot (new_block size) gap.at 1 small m.laid e set (λ _. tt) (λ z. absurd (omega (arith, z))) (used-blocks old mid words m.blocks u);
+  count = count;
 }
   where
     d : Differs mid (with_block mid slot (new_block size) gap.at) slot (length (bytes_in (new_block size))) gap.at
@@ -195,8 +224,16 @@ module _ (S : Store) (slot : ℕ) (laid : IsLaidOut S) (there : IsThere S slot) 
       let at : gap'.at ≡ gap.at = ap (λ x. x.at) is in let stop : gap'.end ≡ gap.end = ap (λ x. x.end) is in
       record { ordered = omega (arith, at, stop, g.ordered); inside = omega (arith, stop, g.inside); free = rw (at, stop) (freed-range gap.at gap.end (λ j ne. g.free j)) }
 
-  pub kept-freed : (S' : Store) (gap gap' : Gap) (words words' : List ℕ) (place end : ℕ) → S' ≡ with_block S slot None 0 → IsLaidOut S' → place ≡ place_of S slot → end ≡ end_of S slot → Joins gap place end gap' → SetsBit words words' slot 0 → IsKept S gap words → IsKept S' gap' words'
-  kept-freed S' gap gap' words words' place end e laid' ep ee joins set k = record {
+  -- its bytes are free
+  pub count-freed : (S' : Store) (free place end : ℕ) → S' ≡ with_block S slot None 0 → place ≡ place_of S slot → end ≡ end_of S slot → IsFreeCount S free → IsFreeCount S' (free + (end - place))
+  count-freed S' free place end e ep ee count = record {
+    counted = omega (arith, ep, ee, count.counted, ap (λ s. s.len) e, sizes-with_block S S S' slot 0 None refl laid (there_small S slot laid there) e);
+    short = omega (arith, count.short, ap (λ s. s.len) e);
+  }
+
+  pub kept-freed : (S' : Store) (gap gap' : Gap) (words words' : List ℕ) (free place end : ℕ) → S' ≡ with_block S slot None 0 → IsLaidOut S' → place ≡ place_of S slot → end ≡ end_of S slot → Joins gap place end gap' → SetsBit words words' slot 0 → IsKept S gap words free → IsKept S' gap' words' (free + (end - place))
+  kept-freed S' gap gap' words words' free place end e laid' ep ee joins set k = record {
     ready = record { laid = laid'; room = subst (λ s. IsGap s gap') (sym e) (freed-gap gap gap' place end ep ee k.ready.room joins) };
     used = used-with_block S S' words words' slot None 0 0 (there_small S slot laid there) laid e set (λ z. absurd (omega (arith, z))) (λ _ h. h) k.used;
+    count = count-freed S' free place end e ep ee k.count;
   }

@@ -42,6 +42,10 @@ pub record IsStretch (store : Store) (but from until : ℕ) : Type 0 where
 abbrev pub IsFull : Store → ℕ → ℕ → Type 0
 IsFull store but size = (from until : ℕ) → IsStretch store but from until → until < from + size + sum_in store from until (unlocked_size store but)
 
+-- the sizes of all blocks
+abbrev pub all_sizes : Store → ℕ
+all_sizes store = total (slot_count store) (size_of store)
+
 -- how many other blocks are locked
 abbrev pub other_locked : Store → ℕ → ℕ
 other_locked store but = total (slot_count store) (locked_one store but)

@@ -1,11 +1,12 @@
--- Which slots are in use, and which handle is the lowest that is free.
-use Rattle.std.specs.Prelude.{◌≡◌, ℕ, ◌<◌, List, length}
+-- Which slots are in use, which handle is the lowest that is free, and how many bytes are.
+use Rattle.std.specs.Prelude.{◌≡◌, ℕ, ◌+◌, ◌<◌, ◌^◌, List, length}
 use Rattle.geos_model.specs.declared.name.Owner.{Owner}
 use Rattle.block_handles.specs.declared.room.Gap.{Gap}
 use Rattle.block_handles.specs.Bits.{bit_of}
 use Rattle.block_handles.specs.Gap.{IsReady}
 use Rattle.block_handles.specs.Names.{IsHandle, slot_of}
-use Rattle.block_handles.specs.Store.{Store, IsThere}
+use Rattle.block_handles.specs.Store.{Store, IsThere, region_len}
+use Rattle.block_handles.specs.Stretch.{all_sizes}
 
 -- the bits say which slots are in use
 pub record IsUsed (store : Store) (words : List ℕ) : Type 0 where
@@ -13,10 +14,16 @@ pub record IsUsed (store : Store) (words : List ℕ) : Type 0 where
   pub there : (slot : ℕ) → slot < 2048 → bit_of words slot ≡ 1 → IsThere store slot
   pub none : (slot : ℕ) → slot < 2048 → bit_of words slot ≡ 0 → IsThere store slot → ⊥
 
+-- so many bytes of the region no block has
+pub record IsFreeCount (store : Store) (free : ℕ) : Type 0 where
+  pub counted : free + all_sizes store ≡ region_len store
+  pub short : region_len store < 2 ^ 32
+
 -- what holds of the fields
-pub record IsKept (store : Store) (gap : Gap) (words : List ℕ) : Type 0 where
+pub record IsKept (store : Store) (gap : Gap) (words : List ℕ) (free : ℕ) : Type 0 where
   pub ready : IsReady store gap
   pub used : IsUsed store words
+  pub count : IsFreeCount store free
 
 -- a handle of an owner names no block, and each lower one does
 pub record IsLowest (store : Store) (owner : Owner) (h : ℕ) : Type 0 where

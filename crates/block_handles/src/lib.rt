@@ -7,7 +7,7 @@
 //! (GEOS SDK Concepts Book, chapters Handles and Memory Management.)
 #![tactic(auto)]
 
-ghost use Rattle.std.specs.Prelude.{◌≡◌, ◌+◌, ◌/◌, ◌%◌, ◌<◌, ◌≤◌, ◌↔◌, [], ◌∷◌, IsTrue, All, IfOk, IfSome, IfNone, OnOk, OnErr, Err};
+ghost use Rattle.std.specs.Prelude.{◌≡◌, ◌+◌, ◌/◌, ◌%◌, ◌<◌, ◌≤◌, ◌↔◌, [], ◌∷◌, ℕ, IsTrue, All, IfOk, IfSome, IfNone, OnOk, OnErr, Err};
 ghost use Rattle.std.specs.Borrow.{sem};
 
 mod arena;
@@ -34,7 +34,7 @@ pub struct Blocks {
     arena: Arena,
     gap: Gap,
     used: SlotSet,
-    /// How many bytes no block has. No contract rests on it.
+    /// How many bytes no block has.
     free: u32,
 }
 
@@ -47,7 +47,7 @@ impl Model for Blocks {
 
     ghost view = { λ b. b.arena };
 
-    ghost invariant = { λ b. IsKept b.arena b.gap b.used.words.items };
+    ghost invariant = { λ b. IsKept b.arena b.gap b.used.words.items b.free };
 }
 
 impl Blocks {
@@ -59,7 +59,7 @@ impl Blocks {
     ghost use Rattle.block_handles.specs.Names.{slot_of, IsHandle};
     ghost use Rattle.block_handles.specs.Offsets.{Copies, CopiesCovered, ReadsByte, ReadsWord, WritesCovered};
     ghost use Rattle.block_handles.specs.Store.{IsThere, bytes_of, size_of, place_of, end_of, locks_of, region_len};
-    ghost use Rattle.block_handles.specs.Stretch.{HasNoRoom};
+    ghost use Rattle.block_handles.specs.Stretch.{HasNoRoom, all_sizes};
     ghost use Rattle.block_handles.specs.Used.{IsLowest, AllInUse};
 
     /// No block, in a region of `region` zero bytes. This is the only call that takes memory:
@@ -114,10 +114,12 @@ impl Blocks {
         }
     }
 
-    /// Whether the region has fewer than `more` bytes that no block has, so that surely no block of
-    /// that size can be made, nor one grow by as much. A hint that saves a search for room: no
-    /// contract rests on it.
-    pub fn lacks(&self, more: u32) -> bool {
+    /// Whether the region has fewer than `more` bytes that no block has. Then no block of that
+    /// size can be made, and none grow by as much: a search for room would be in vain.
+    pub fn lacks(&self, more: u32) -> bool
+        ensures lacks { IsTrue result ↔ (region_len self.now < all_sizes self.now + more) }
+        ensures no_room { IsTrue result → (slot size : ℕ) → size ≡ size_of self.now slot + more → HasNoRoom self.now slot size }
+    {
         self.free < more
     }
 
@@ -278,7 +280,7 @@ impl Blocks {
         self.arena.remove(slot);
         self.used.remove(slot);
         self.gap = self.gap.joined(place, end, self.free);
-        self.free = self.free.wrapping_add(end - place);
+        self.free += end - place;
         Ok(())
     }
 
@@ -304,7 +306,7 @@ impl Blocks {
             at: gap.at + size,
             end: gap.end,
         };
-        self.free = self.free.wrapping_sub(size);
+        self.free -= size;
         Ok(())
     }
 
@@ -326,6 +328,7 @@ impl Blocks {
         let slot = slot_of(name);
         let place = self.arena.place(slot);
         let end = self.arena.end(slot);
+        let more = size - (end - place);
         let gap = self.gap.reaching(place, end);
         let gap = room_for(&mut self.arena, gap, self.gap.end, slot, size)?;
         self.arena.relocate(slot, gap.at, size);
@@ -333,7 +336,7 @@ impl Blocks {
             at: gap.at + size,
             end: gap.end,
         };
-        self.free = self.free.wrapping_sub(size - (end - place));
+        self.free -= more;
         Ok(())
     }
 }
