@@ -28,6 +28,10 @@ pub record Counts {T E : Type 0} (before now : ℕ) (result : Result T E) : Type
   pub ok : OnOk result (now ≡ before)
   pub err : OnErr result (now ≡ one_more before)
 
+-- one call failed at most, which counts once
+abbrev pub FailedOnce : ℕ → ℕ → Type 0
+FailedOnce before now = (now ≡ before) ⊎ (now ≡ one_more before)
+
 -- a count of failures rose: at the greatest number it stays, and counts as risen
 abbrev pub Rose : ℕ → ℕ → Type 0
 Rose before now = (before < now) ⊎ (now ≡ 2 ^ 64 - 1)

@@ -2,7 +2,7 @@
 ghost use Rattle.std.specs.Prelude.{◌≡◌, ◌+◌, ◌≤◌, ℕ, List, length, OnOk};
 ghost use Rattle.geos_model.specs.Bytes.{AreBytes};
 ghost use Rattle.lmem_raw.specs.Bytes.{part, with_part};
-ghost use Rattle.vm_file.specs.Device.{Counts, Only, one_more};
+ghost use Rattle.vm_file.specs.Device.{Counts, FailedOnce, Only, one_more};
 ghost use Rattle.vm_file.specs.Outcomes.{CausesDisk, ReadsOnly, WritesOnly};
 
 use thiserror::Error;
@@ -91,6 +91,7 @@ pub(crate) fn write_durably<D: Device>(device: &mut D, at: u64, bytes: &[u8]) ->
     ensures durable { D.honest device.old → OnOk result (Only (D.image device.new) (D.may_leave device.new)) }
     ensures writes { WritesOnly D.image D.honest D.may_leave D.may_have_left at (length bytes.now) device.old device.new }
     ensures cause { CausesDisk (D.failed device.old) (D.failed device.new) result }
+    ensures once { FailedOnce (D.failed device.old) (D.failed device.new) }
 {
     match device.write_at(at, bytes) {
         Ok(()) => device.sync(),

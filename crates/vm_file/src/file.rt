@@ -1,7 +1,7 @@
 //! Files that are open.
 ghost use Rattle.std.specs.Prelude.{◌≡◌, ◌+◌, ◌*◌, ◌≤◌, ◌<◌, ◌↔◌, ◌++◌, ℕ, List, [], Ok, Err, true, false, not, MatchResult, IfOk, IfErr, OnOk, OnErr, IsTrue, length};
 ghost use Rattle.std.specs.Vec.{vec_len, vec_capacity};
-ghost use Rattle.vm_file.specs.Device.{Only, Passes, Rose};
+ghost use Rattle.vm_file.specs.Device.{FailedOnce, Only, Passes, Rose};
 ghost use Rattle.vm_file.specs.Outcomes.{CausesDisk, CausesNoBlock, IsCaused, IsHeapUnder, IsRefused, ReadsOnly, WritesOnly};
 ghost use Rattle.vm_file.specs.Reading.{file_at};
 
@@ -287,6 +287,8 @@ impl<D: Device + Drop> VmFile<D> {
         ensures honest { D.honest self.old.device → D.honest self.new.device }
         ensures was_honest { D.honest self.new.device → D.honest self.old.device }
         ensures ok { OnOk result (D.failed self.new.device ≡ D.failed self.old.device) }
+        // The first call that fails is the last one: nothing is written or read behind it.
+        ensures once { FailedOnce (D.failed self.old.device) (D.failed self.new.device) }
         ensures cause { D.honest self.old.device → result ≡ Err CommitError.Disk → Rose (D.failed self.old.device) (D.failed self.new.device) }
         ensures no_read { NeedsNoRead (S.resident_bytes source.now) how cur.now self.old.saved → result ≡ Err CommitError.Disk
             → Rose (D.failed self.old.device) (D.failed self.new.device) }
@@ -331,6 +333,7 @@ impl<D: Device + Drop> VmFile<D> {
         ensures same { self.new ≡ record self.old { device = self.new.device } }
         ensures pair { pair_of D.image self.new ≡ pair_of D.image self.old }
         ensures ok { OnOk result (D.failed self.new.device ≡ D.failed self.old.device) }
+        ensures once { FailedOnce (D.failed self.old.device) (D.failed self.new.device) }
         ensures cause { D.honest self.old.device → OnErr result (Rose (D.failed self.old.device) (D.failed self.new.device)) }
         ensures resident { AreResident (S.resident_bytes source.now) cur.now.entries.items → OnErr result ⊥ }
         ensures reads { ReadsOnly D.image D.honest D.may_leave D.may_have_left self.old.device self.new.device }
@@ -354,6 +357,7 @@ impl<D: Device + Drop> VmFile<D> {
         ensures same { self.new ≡ record self.old { device = self.new.device } }
         ensures pair { pair_of D.image self.new ≡ pair_of D.image self.old }
         ensures ok { OnOk result (D.failed self.new.device ≡ D.failed self.old.device) }
+        ensures once { FailedOnce (D.failed self.old.device) (D.failed self.new.device) }
         ensures cause { D.honest self.old.device → OnErr result (Rose (D.failed self.old.device) (D.failed self.new.device)) }
         ensures no_block { self.old.saved.entries.items ≡ [] → OnErr result ⊥ }
         ensures reads { ReadsOnly D.image D.honest D.may_leave D.may_have_left self.old.device self.new.device }
@@ -384,6 +388,7 @@ impl<D: Device + Drop> VmFile<D> {
         ensures same { self.new ≡ record self.old { device = self.new.device } }
         ensures pair { pair_of D.image self.new ≡ pair_of D.image self.old }
         ensures ok { OnOk result (D.failed self.new.device ≡ D.failed self.old.device) }
+        ensures once { FailedOnce (D.failed self.old.device) (D.failed self.new.device) }
         ensures cause { D.honest self.old.device → OnErr result (Rose (D.failed self.old.device) (D.failed self.new.device)) }
         ensures no_read { NeedsNoRead (S.resident_bytes source.now) how cur.now self.old.saved → OnErr result ⊥ }
         ensures reads { ReadsOnly D.image D.honest D.may_leave D.may_have_left self.old.device self.new.device }
@@ -439,6 +444,7 @@ impl<D: Device + Drop> VmFile<D> {
         ensures honest { D.honest self.old.device → D.honest self.new.device }
         ensures was_honest { D.honest self.new.device → D.honest self.old.device }
         ensures cause { CausesDisk (D.failed self.old.device) (D.failed self.new.device) result }
+        ensures once { FailedOnce (D.failed self.old.device) (D.failed self.new.device) }
     {
         let base = base_of(self.area, !self.second);
         match write_durably(&mut self.device, base, bytes) {

@@ -5,7 +5,7 @@ ghost use Rattle.geos_model.specs.Heap.{IsHeap, most_block_bytes};
 ghost use Rattle.lmem_raw.specs.Bytes.{part};
 ghost use Rattle.vm_file.specs.Contents.{entry_of, listed};
 ghost use Rattle.vm_file.specs.Directories.{AreMaps, are_entries, directory_length, entries_length, is_directory, is_entry};
-ghost use Rattle.vm_file.specs.Device.{Rose};
+ghost use Rattle.vm_file.specs.Device.{FailedOnce, Rose};
 ghost use Rattle.vm_file.specs.Outcomes.{Causes, CausesDisk, CausesNoBlock, IsHeapUnder, ReadsOnly, Tells, items_of};
 ghost use Rattle.vm_file.specs.Reading.{block_at, blocks_at, contents_at, count_at, maps_at};
 
@@ -68,6 +68,7 @@ pub(crate) fn read_block<D: Device>(
     ensures bytes { D.honest device.old → OnOk result (into.new ≡ part (D.image device.old) at (length into.old)) }
     ensures reads { ReadsOnly D.image D.honest D.may_leave D.may_have_left device.old device.new }
     ensures ok { OnOk result (D.failed device.new ≡ D.failed device.old) }
+    ensures once { FailedOnce (D.failed device.old) (D.failed device.new) }
     ensures cause { D.honest device.old
         → IsHeap (part (D.image device.old) at (length into.old))
         → handle_word (part (D.image device.old) at (length into.old)) ≡ h

@@ -9,7 +9,7 @@ ghost use Rattle.geos_model.specs.Heap.{IsHeap};
 ghost use Rattle.lmem_raw.specs.Bytes.{part};
 ghost use Rattle.vm_file.specs.Committing.{AreResident, HasLength, placed_block, placed_contents};
 ghost use Rattle.vm_file.specs.Contents.{block_spelling, contents_spelling, is_filled};
-ghost use Rattle.vm_file.specs.Device.{Rose};
+ghost use Rattle.vm_file.specs.Device.{FailedOnce, Rose};
 ghost use Rattle.vm_file.specs.Directories.{directory_length, entries_length};
 ghost use Rattle.vm_file.specs.Outcomes.{ReadsOnly};
 
@@ -56,6 +56,7 @@ fn read_from<D: Device>(
     ensures bytes { D.honest device.old → OnOk result (into.new ≡ take at into.old ++ part (D.image device.old) from (length into.old - at)) }
     ensures reads { ReadsOnly D.image D.honest D.may_leave D.may_have_left device.old device.new }
     ensures ok { OnOk result (D.failed device.new ≡ D.failed device.old) }
+    ensures once { FailedOnce (D.failed device.old) (D.failed device.new) }
     ensures cause { D.honest device.old
         → IsHeap (part (D.image device.old) from (length into.old - at))
         → handle_word (part (D.image device.old) from (length into.old - at)) ≡ h
@@ -78,6 +79,7 @@ fn append_block<D: Device>(
     ensures room { vec_capacity into.old ≤ vec_capacity into.new }
     ensures reads { ReadsOnly D.image D.honest D.may_leave D.may_have_left device.old device.new }
     ensures ok { OnOk result (D.failed device.new ≡ D.failed device.old) }
+    ensures once { FailedOnce (D.failed device.old) (D.failed device.new) }
     ensures cause { D.honest device.old
         → IsHeap (part (D.image device.old) from n)
         → handle_word (part (D.image device.old) from n) ≡ h
@@ -114,6 +116,7 @@ fn spell_block<D: Device, S: Source>(
     ensures room { vec_capacity into.old ≤ vec_capacity into.new }
     ensures reads { ReadsOnly D.image D.honest D.may_leave D.may_have_left device.old device.new }
     ensures ok { OnOk result (D.failed device.new ≡ D.failed device.old) }
+    ensures once { FailedOnce (D.failed device.old) (D.failed device.new) }
     ensures resident { IsSome (S.resident_bytes source.now e.h) → OnErr result ⊥ }
     ensures cause { D.honest device.old
         → is_filled (placed_block (S.resident_bytes source.now) (D.image device.old) kept.now e) ≡ true
@@ -150,6 +153,7 @@ fn spell_blocks<D: Device, S: Source>(
     ensures room { vec_capacity into.old ≤ vec_capacity into.new }
     ensures reads { ReadsOnly D.image D.honest D.may_leave D.may_have_left device.old device.new }
     ensures ok { OnOk result (D.failed device.new ≡ D.failed device.old) }
+    ensures once { FailedOnce (D.failed device.old) (D.failed device.new) }
     ensures resident { AreResident (S.resident_bytes source.now) entries.now → OnErr result ⊥ }
     ensures cause { D.honest device.old
         → list_all is_filled (map (placed_block (S.resident_bytes source.now) (D.image device.old) kept.now) entries.now) ≡ true
@@ -181,6 +185,7 @@ pub(crate) fn spell_directory<D: Device, S: Source>(
     ensures room { vec_capacity into.old ≤ vec_capacity into.new }
     ensures reads { ReadsOnly D.image D.honest D.may_leave D.may_have_left device.old device.new }
     ensures ok { OnOk result (D.failed device.new ≡ D.failed device.old) }
+    ensures once { FailedOnce (D.failed device.old) (D.failed device.new) }
     ensures resident { AreResident (S.resident_bytes source.now) directory.now.entries.items → OnErr result ⊥ }
     ensures cause { D.honest device.old
         → list_all is_filled (placed_contents (S.resident_bytes source.now) (D.image device.old) kept.now directory.now).blocks ≡ true

@@ -3,7 +3,7 @@ use Rattle.std.specs.Vec.{vec_items}
 use Rattle.vm_file.specs.declared.directory.Entry.{Entry}
 use Rattle.vm_file.specs.Committing.{block_read}
 use Rattle.vm_file.specs.Contents.{block_spelling, is_filled}
-use Rattle.vm_file.specs.Device.{Rose}
+use Rattle.vm_file.specs.Device.{FailedOnce, Rose}
 use Rattle.vm_file.proofs.Blocks.{entry_fits, blocks_appended, filled_at}
 use Rattle.vm_file.proofs.Moments.{reads_then}
 use Rattle.vm_file.proofs.Lengths.{entries_length-more}
@@ -25,6 +25,9 @@ returns-in-Err-clause-cause g c = λ h filled.
     let R : ℕ → Type 0 = λ k. Rose k (g.D.Device.failed c.spell_block.new.device) in
     subst R i.count (c.in-Err.ensures.cause (i.reads.stays h)
     (subst F (sym i.reads.same) (filled_at (block_read resident (g.D.Device.image c.args.device.now) c.args.kept.now.from c.args.kept.now.directory.now.entries.items) es c.loop-e.e-index blank c.loop-e-test.true filled)))
+
+pub returns-in-Err-clause-once : goal.returns-in-Err-clause-once
+returns-in-Err-clause-once g c = subst (λ (k : ℕ). FailedOnce k (g.D.Device.failed c.spell_block.new.device)) c.loop-e.invariant.count c.in-Err.ensures.once
 
 pub returns-in-Err-clause-resident : goal.returns-in-Err-clause-resident
 returns-in-Err-clause-resident g c = λ all. c.in-Err.ensures.resident (all c.loop-e.e-index blank c.loop-e-test.true)
