@@ -17,6 +17,7 @@ pub mod Lawful
 pub mod Told
 pub mod Opened
 pub mod Listed
+pub mod Lacking
 pub mod Remaining
 pub mod ListedRows
 pub mod VmCalls

@@ -20,6 +20,7 @@ use Rattle.geos_table.specs.Calls.{store}
 use Rattle.geos_table.specs.Effects.{Choice, Call, Reference, outcome, effect_of}
 use Rattle.vm_blocks.specs.FileOf as vm
 use Rattle.vm_blocks.specs.Room.{NoneIdle, Thins, own_handle}
+pub use Rattle.vm_blocks.specs.Room.{Remain}
 use Rattle.vm_blocks.specs.Tied.{IsTied}
 use Rattle.vm_blocks.specs.Blocks.{IsLowestUnlisted}
 use Rattle.vm_blocks.specs.View.{VmState, held_at, vm_slot}
@@ -125,10 +126,6 @@ pub record ItemHasNoRoom {A : Type 0} (s : KernelState) (g : ℕ) (edit : List (
 -- a call that is refused, but not for want of room, leaves all blocks as they were
 abbrev pub StaysIfRefused : {A : Type 0} → Result A Refusal → Store → Store → Type 0
 StaysIfRefused result old new = (result ≡ Err NoRoom → ⊥) → OnErr result (new ≡ old)
-
--- each block of the file but that of a handle that was in memory is there still; 0 is for no handle
-abbrev pub Remain : Store → Store → ℕ → Type 0
-Remain old new but = (h : ℕ) → IsHandle h → h ≢ but → IsThere old (vm_slot h) → IsThere new (vm_slot h)
 
 -- bytes were written at an offset of whatever a span stands for, as the row says
 abbrev pub Stores : Type 0 → Span → ℕ → List ℕ → KernelState → KernelState → Type 0

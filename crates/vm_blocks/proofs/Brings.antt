@@ -18,7 +18,7 @@ use Rattle.geos_model.specs.Names.{vm}
 use Rattle.vm_blocks.specs.View.{VmState, bytes_read, held_at, vm_slot}
 use Rattle.vm_blocks.specs.Tied.{IsTied, IsAbsent, TiedAt}
 use Rattle.vm_blocks.specs.Room.{MakesRoom, Goes, StaysOrGoes, is_idle}
-use Rattle.vm_blocks.specs.Bring.{Fills, Drops, Keeps}
+use Rattle.vm_blocks.specs.Bring.{Fills, Drops, Keeps, KeptOrGoes}
 use Rattle.vm_blocks.proofs.Slots.{slot-one, slot-is, freed, no-block, some-block}
 use Rattle.vm_blocks.proofs.Thinning.{gone-tied}
 
@@ -38,7 +38,15 @@ drops old mid new h ws there m n =
     }
 
 module _ {D : Type 0} (image : D → List ℕ) (honest : D → Type 0) (v : VmState D) where
-  -- what is kept is tied, where the one is
+  -- what is kept stays tied
+  pub kept-tied : (s t : Store) (h k : ℕ) → IsHandle k → IsTied image honest v s → KeptOrGoes v s t h (vm_slot k) → TiedAt image honest v.file k (held_at v k) (block_at t (vm_slot k))
+  kept-tied s t h k p tied (inl u) = subst (TiedAt image honest v.file k (held_at v k)) (sym u.0) (tied.each k p)
+  kept-tied s t h k p tied (inr g) =
+      let one : k ≡ g.h = slot-one k g.h p g.handle g.slot_is in
+      let i : is_idle v s k ≡ true = subst (λ j. is_idle v s j ≡ true) (sym one) g.idle in
+      subst (TiedAt image honest v.file k (held_at v k)) (sym g.gone) (gone-tied image honest v k (held_at v k) (block_at s (vm_slot k)) i (tied.each k p))
+
+  -- and so is all, where the one is
   pub tied-keeps : (s t : Store) (h : ℕ) → IsHandle h → IsTied image honest v s → Keeps v s t h → TiedAt image honest v.file h (held_at v h) (block_at t (vm_slot h)) → IsTied image honest v t
   tied-keeps s t h q tied keeps own = record {
     laid = keeps.laid;
@@ -46,17 +54,9 @@ module _ {D : Type 0} (image : D → List ℕ) (honest : D → Type 0) (v : VmSt
     maps = tied.maps;
     each = λ k p. elim (cases_eq k h) [
       | inl same ↦ subst (λ j. TiedAt image honest v.file j (held_at v j) (block_at t (vm_slot j))) (sym same) own
-      | inr other ↦ on k p (keeps.each (vm_slot k) (λ e. other (slot-one k h p q e)))
+      | inr other ↦ kept-tied s t h k p tied (keeps.each (vm_slot k) (λ e. other (slot-one k h p q e)))
     ];
   }
-    where
-      on : (k : ℕ) → IsHandle k → ((block_at t (vm_slot k) ≡ block_at s (vm_slot k)) × (0 < locks_of s (vm_slot k) → place_of t (vm_slot k) ≡ place_of s (vm_slot k))) ⊎ Goes v s t h (vm_slot k)
-          → TiedAt image honest v.file k (held_at v k) (block_at t (vm_slot k))
-      on k p (inl u) = subst (TiedAt image honest v.file k (held_at v k)) (sym u.0) (tied.each k p)
-      on k p (inr g) =
-          let one : k ≡ g.h = slot-one k g.h p g.handle g.slot_is in
-          let i : is_idle v s k ≡ true = subst (λ j. is_idle v s j ≡ true) (sym one) g.idle in
-          subst (TiedAt image honest v.file k (held_at v k)) (sym g.gone) (gone-tied image honest v k (held_at v k) (block_at s (vm_slot k)) i (tied.each k p))
 
   -- another file that keeps the same current pair and lists it
   pub tied-file : (s : Store) (f : FileState D) → f.current ≡ v.file.current → (honest f.device → honest v.file.device) → (honest v.file.device → pair_of image f ≡ pair_of image v.file) → IsTied image honest v s → IsTied image honest (record v { file = f }) s
@@ -82,7 +82,7 @@ module _ {D : Type 0} (v : VmState D) (old new : Store) (h size : ℕ) (q : IsHa
   pub made-block : block_at new (vm_slot h) ≡ new_block size
   made-block = ap (λ bs. get_or bs (vm_slot h) None) made.makes.blocks ∙ get_or-set_same made.mid.blocks (vm_slot h) (new_block size) None small
 
-  made-other : (slot : ℕ) → slot ≢ vm_slot h → block_at new slot ≡ block_at made.mid slot
+  pub made-other : (slot : ℕ) → slot ≢ vm_slot h → block_at new slot ≡ block_at made.mid slot
   made-other slot ne = ap (λ bs. get_or bs slot None) made.makes.blocks ∙ get_or-set_other made.mid.blocks (vm_slot h) slot (new_block size) None ne
 
   pub made-keeps : Keeps v old new h
@@ -137,6 +137,9 @@ read-failed old new h one other ws r e f there free long ok bad locked =
     let n = freed mid new (slot_of other) r ok bad locked (subst (IsThere mid) (sym j) here) (ap (locks_of mid) j ∙ none) in
     drops old mid new h ws here m (n ∙ ap (without mid) j)
 
+pub fills-others : (old new : Store) (h : ℕ) → Fills old new h → (slot : ℕ) → slot ≢ vm_slot h → block_at new slot ≡ block_at old slot
+fills-others old new h fills slot ne = ap (λ u. block_at u slot) fills.is ∙ others-same old (vm_slot h) slot fills.bytes (λ e. ne (sym e))
+
 -- a listed block that is not in memory
 module _ {D : Type 0} (image : D → List ℕ) (honest : D → Type 0) (v : VmState D) (s : Store) (h : ℕ) (e : Held) (q : IsHandle h) (tied : IsTied image honest v s) (listed : held_at v h ≡ Some e) (absent : IsThere s (vm_slot h) → ⊥) where
   none-there : block_at s (vm_slot h) ≡ None
@@ -156,7 +159,7 @@ module _ {D : Type 0} (image : D → List ℕ) (honest : D → Type 0) (v : VmSt
     module _ (fills : Fills m t h) where
       pub filled-keeps : Keeps v s t h
       filled-keeps = keeps-more v s m t h (made-keeps v s m h e.len q made)
-          (λ slot ne. ap (λ u. block_at u slot) fills.is ∙ others-same m (vm_slot h) slot fills.bytes (λ x. ne (sym x)))
+          (fills-others m t h fills)
           (λ slot ne. ap (λ u. place_of u slot) fills.is)
           (subst IsLaidOut (sym fills.is) (laid-with_bytes m made.makes.laid (vm_slot h) fills.bytes))
           (ap (λ (u : Store). u.len) fills.is)

@@ -22,7 +22,6 @@ use Rattle.vm_blocks.specs.Matches.{IsListedAs}
 use Rattle.vm_blocks.specs.FileOf.{IsMemoryOf}
 use Rattle.vm_blocks.specs.DoesRow.{DoesRow}
 use Rattle.vm_blocks.specs.ListedCalls.{free_listed}
-use Rattle.vm_blocks.specs.declared.error.FreeError.TheVariants as error
 use Rattle.vm_blocks.proofs.BringRows.{chosen, listed-told, unlisted-told}
 use Rattle.vm_blocks.proofs.Changed.{memory-entry}
 use Rattle.vm_blocks.proofs.Files.{IsListedIn}

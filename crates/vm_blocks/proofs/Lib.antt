@@ -12,6 +12,7 @@ pub mod Opened
 pub mod Thinning
 pub mod Discards
 pub mod Brings
+pub mod Wanting
 pub mod Table
 pub mod Counts
 pub mod LockRows

@@ -1,23 +1,26 @@
 -- New blocks of the file.
-use Rattle.std.proofs.Common.{◌≡◌, ◌∙◌, ℕ, ◌<◌, List, length, replicate, Option, Some, None, true, refl, sym, ap, subst, arith, inl, inr}
+use Rattle.std.proofs.Common.{◌≡◌, ◌≢◌, ◌∙◌, ℕ, ◌<◌, List, length, replicate, Option, Some, None, refl, sym, ap, subst, arith, inl, inr}
+use Rattle.std.specs.Prelude.{IsSomeAnd}
+use Rattle.std.proofs.lemmas.Bool.{cases_eq}
 use Rattle.std.proofs.lemmas.List.{length-replicate}
 use Rattle.geos_model.specs.Names.{vm}
 use Rattle.block_handles.specs.Change.{with_locks}
 use Rattle.block_handles.specs.Layout.{IsLaidOut}
 use Rattle.block_handles.specs.Names.{IsHandle}
 use Rattle.block_handles.specs.Store.{Block, Store, block_at, bytes_in, IsBlock, IsThere, locks_in, locks_of, place_of, size_of}
-use Rattle.block_handles.proofs.Laws.{laid-with_bytes, others-same, with_locks-same}
+use Rattle.block_handles.proofs.Laws.{laid-with_bytes, with_locks-same}
 use Rattle.block_handles.proofs.Layouts.{there_small}
+use Rattle.vm_file.specs.Directories.{group_uid}
 use Rattle.vm_file.specs.State.{FileState}
 use Rattle.vm_blocks.specs.declared.entries.Held.{Held}
-use Rattle.vm_blocks.specs.View.{VmState, held_at, vm_slot}
-use Rattle.vm_blocks.specs.Tied.{IsTied, TiedAt}
-use Rattle.vm_blocks.specs.Room.{MakesRoom, is_idle}
-use Rattle.vm_blocks.specs.Bring.{Keeps, KeptOrGoes}
+use Rattle.vm_blocks.specs.View.{VmState, held_at, vm_slot, with_held}
+use Rattle.vm_blocks.specs.Tied.{AreMapped, IsTied, TiedAt}
+use Rattle.vm_blocks.specs.Room.{MakesRoom}
+use Rattle.vm_blocks.specs.Bring.{Keeps}
 use Rattle.vm_blocks.specs.Blocks.{Adds, Begins, IsNew, new_held}
 use Rattle.vm_blocks.proofs.Slots.{slot-one}
-use Rattle.vm_blocks.proofs.Thinning.{gone-tied}
-use Rattle.vm_blocks.proofs.Brings.{filled-at, keeps-more, made-block, made-keeps}
+use Rattle.vm_blocks.proofs.Table.{held-other, held-same, length-with}
+use Rattle.vm_blocks.proofs.Brings.{filled-at, fills-others, keeps-more, kept-tied, made-block, made-keeps}
 use Rattle.vm_blocks.proofs.Counts.{keeps-locked}
 
 -- nothing is in memory under a handle that is not listed
@@ -48,23 +51,46 @@ module _ {D : Type 0} (v : VmState D) (s m t : Store) (h : ℕ) (q : IsHandle h)
 
     pub begun-keeps : Keeps v s t h
     begun-keeps = keeps-more v s m t h (made-keeps v s m h 64 q made)
-        (λ slot ne. ap (λ u. block_at u slot) begins.fills.is ∙ others-same m (vm_slot h) slot begins.fills.bytes (λ x. ne (sym x)))
+        (fills-others m t h begins.fills)
         (λ slot ne. ap (λ u. place_of u slot) begins.fills.is)
         (subst IsLaidOut (sym begins.fills.is) (laid-with_bytes m made.makes.laid (vm_slot h) begins.fills.bytes))
         (ap (λ (u : Store). u.len) begins.fills.is)
 
 -- what is mapped is another block than one that was not listed
+maps-more : {D : Type 0} (v : VmState D) (h : ℕ) (x : Option Held) → held_at v h ≡ None → AreMapped v → AreMapped (with_held v h x)
+maps-more {D} v h x free maps = record {
+  block = λ some. other (λ e. e.uid ≢ group_uid) v.map_block (maps.block some);
+  group = λ some. other (λ e. e.uid ≡ group_uid) v.map_item.0 (maps.group some);
+  no_item = maps.no_item;
+}
+  where
+    other : (P : Held → Type 0) (k : ℕ) → IsSomeAnd (held_at v k) P → IsSomeAnd (held_at (with_held v h x) k) P
+    other P k some = elim (cases_eq k h) [
+      | inl same ↦ absurd (subst (λ o. IsSomeAnd o P) free (subst (λ j. IsSomeAnd (held_at v j) P) same some))
+      | inr ne ↦ subst (λ o. IsSomeAnd o P) (sym (held-other v.entries h k x ne)) some
+    ]
+
 -- a new block is listed
 module _ {D : Type 0} (image : D → List ℕ) (honest : D → Type 0) (v : VmState D) (s t : Store) (h uid : ℕ) (q : IsHandle h) (tied : IsTied image honest v s) (free : held_at v h ≡ None) (keeps : Keeps v s t h) (new : IsNew t h 0) where
-  kept-tied : (k : ℕ) → IsHandle k → KeptOrGoes v s t h (vm_slot k) → TiedAt image honest v.file k (held_at v k) (block_at t (vm_slot k))
-  kept-tied k p (inl u) = subst (TiedAt image honest v.file k (held_at v k)) (sym u.0) (tied.each k p)
-  kept-tied k p (inr g) =
-      let one : k ≡ g.h = slot-one k g.h p g.handle g.slot_is in
-      let i : is_idle v s k ≡ true = subst (λ j. is_idle v s j ≡ true) (sym one) g.idle in
-      subst (TiedAt image honest v.file k (held_at v k)) (sym g.gone) (gone-tied image honest v k (held_at v k) (block_at s (vm_slot k)) i (tied.each k p))
+  abbrev w : VmState D
+  w = with_held v h (Some (new_held uid))
 
   own-tied : TiedAt image honest v.file h (Some (new_held uid)) (Some new.block)
   own-tied = record { size = (omega arith, omega arith, refl); heap = new.heap; handle = new.handle; kept = λ m. absurd cc; clean = λ m. absurd cc }
+
+  pub added-tied : IsTied image honest w t
+  added-tied = record {
+    laid = keeps.laid;
+    long = length-with v.entries h (Some (new_held uid)) ∙ tied.long;
+    maps = maps-more v h (Some (new_held uid)) free tied.maps;
+    each = λ k p. elim (cases_eq k h) [
+      | inl same ↦ subst (λ j. TiedAt image honest v.file j (held_at w j) (block_at t (vm_slot j))) (sym same)
+          (subst (TiedAt image honest v.file h (held_at w h)) (sym new.at)
+          (subst (λ o. TiedAt image honest v.file h o (Some new.block)) (sym (held-same v.entries h (Some (new_held uid)) q tied.long)) own-tied))
+      | inr other ↦ subst (λ o. TiedAt image honest v.file k o (block_at t (vm_slot k))) (sym (held-other v.entries h k (Some (new_held uid)) other))
+          (kept-tied image honest v s t h k p tied (keeps.each (vm_slot k) (λ e. other (slot-one k h p q e))))
+    ];
+  }
 
 -- a new block is there, and not locked
 pub there-new : (t : Store) (h n : ℕ) → IsNew t h n → IsThere t (vm_slot h)

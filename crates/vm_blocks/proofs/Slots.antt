@@ -1,5 +1,5 @@
 -- Slots of the file's blocks.
-use Rattle.std.proofs.Common.{◌≡◌, ℕ, zero, suc, ◌+◌, ◌-◌, ◌<◌, List, [], ◌∷◌, set, get_or, Option, Some, None, Bool, true, false, refl, arith}
+use Rattle.std.proofs.Common.{◌≡◌, ℕ, zero, suc, ◌+◌, ◌<◌, List, [], ◌∷◌, set, get_or, Option, Some, None, Bool, true, false, refl, arith}
 use Rattle.std.specs.Prelude.{◌&&◌, ◌==◌, ◌↔◌, not, Result, Ok, Err, OnOk}
 use Rattle.block_handles.specs.declared.error.HandleError.{HandleError}
 use Rattle.block_handles.specs.declared.error.HandleError.TheVariants.{BadHandle, Locked}

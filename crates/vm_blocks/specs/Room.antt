@@ -7,7 +7,7 @@ use Rattle.block_handles.specs.Calls.{Makes, Grows}
 use Rattle.block_handles.specs.Change.{without}
 use Rattle.block_handles.specs.Layout.{IsLaidOut}
 use Rattle.block_handles.specs.Names.{IsHandle, slot_of}
-use Rattle.block_handles.specs.Store.{Block, Store, block_at, place_of}
+use Rattle.block_handles.specs.Store.{Block, Store, IsThere, block_at, place_of}
 use Rattle.block_handles.specs.Stretch.{HasNoRoom}
 use Rattle.vm_blocks.specs.declared.entries.Held.{Held}
 use Rattle.vm_blocks.specs.View.{VmState, held_at, vm_slot}
@@ -53,6 +53,26 @@ pub record DiscardsOne {D : Type 0} (v : VmState D) (old new : Store) (but : ℕ
   pub idle : is_idle v old h ≡ true
   pub gone : new ≡ without old (vm_slot h)
 
+-- blocks were discarded for a request, one after the other, while there was no room for it: there was none before the first of them went, nor before the last
+pub record WentForRoom {D : Type 0} (v : VmState D) (old new : Store) (but slot size : ℕ) : Type 0 where
+  pub first : HasNoRoom old slot size
+  pub last : Store
+  pub before : Thins v old last but
+  pub wanted : HasNoRoom last slot size
+  pub one : DiscardsOne v last new but
+
+-- no block was discarded while there was room for a request
+abbrev pub DiscardsForRoom : {D : Type 0} → VmState D → Store → Store → ℕ → ℕ → ℕ → Type 0
+DiscardsForRoom v old new but slot size = (new ≡ old) ⊎ WentForRoom v old new but slot size
+
+-- each block of the file but that of a handle that was in memory is there still; 0 is for no handle
+abbrev pub Remain : Store → Store → ℕ → Type 0
+Remain old new but = (h : ℕ) → IsHandle h → h ≢ but → IsThere old (vm_slot h) → IsThere new (vm_slot h)
+
+-- or there was no room for a block of this size in the slot of that handle
+abbrev pub RemainOrNoRoom : Store → Store → ℕ → ℕ → Type 0
+RemainOrNoRoom old new h size = Remain old new h ⊎ HasNoRoom old (vm_slot h) size
+
 -- the handle of a block of the file by its owner, and 0 for a block of global memory
 abbrev pub own_handle_of : Owner → ℕ → ℕ
 own_handle_of Mem h = 0
@@ -62,17 +82,19 @@ own_handle_of Vm h = h
 abbrev pub own_handle : Name → ℕ
 own_handle name = own_handle_of name.owner name.h
 
--- room was made for a new block: some were discarded, and it was made
+-- room was made for a new block: some were discarded where there was none, and it was made
 pub record MakesRoom {D : Type 0} (v : VmState D) (old new : Store) (name : Name) (size : ℕ) : Type 0 where
   pub mid : Store
   pub thins : Thins v old mid (own_handle name)
+  pub wanted : DiscardsForRoom v old mid (own_handle name) (slot_of name) size
   pub absent : block_at mid (slot_of name) ≡ None
   pub makes : Makes mid new (slot_of name) size
 
--- room was made for a block that is there: some others were discarded, and it grew
+-- room was made for a block that is there: some others were discarded where there was none, and it grew
 pub record GrowsRoom {D : Type 0} (v : VmState D) (old new : Store) (name : Name) (size : ℕ) : Type 0 where
   pub mid : Store
   pub thins : Thins v old mid (own_handle name)
+  pub wanted : DiscardsForRoom v old mid (own_handle name) (slot_of name) size
   pub own : block_at mid (slot_of name) ≡ block_at old (slot_of name)
   pub grows : Grows mid new (slot_of name) size
 

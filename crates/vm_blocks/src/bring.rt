@@ -11,7 +11,7 @@ ghost use Rattle.vm_file.specs.State.{HasBlock, pair_of};
 ghost use Rattle.vm_blocks.specs.Bring.{Brought, Drops, Fills, Keeps, NotBrought};
 ghost use Rattle.vm_blocks.specs.DoesRow.{DoesRow};
 ghost use Rattle.vm_blocks.specs.Refused.{of_bring};
-ghost use Rattle.vm_blocks.specs.Room.{LacksRoom};
+ghost use Rattle.vm_blocks.specs.Room.{LacksRoom, RemainOrNoRoom};
 ghost use Rattle.vm_blocks.specs.Tied.{IsTied};
 ghost use Rattle.vm_blocks.specs.View.{bytes_read, held_at, vm_slot, with_device};
 
@@ -70,6 +70,7 @@ impl<D: Device + Drop> VmBlocks<D> {
         ensures absent { OnErr result (IsThere blocks.new (vm_slot h) → ⊥) }
         ensures keeps { Keeps self.old blocks.old blocks.new h }
         ensures no_room { result ≡ Err BringError.NoRoom → LacksRoom self.old blocks.old blocks.new (vm h) held.len }
+        ensures wanted { RemainOrNoRoom blocks.old blocks.new h held.len }
         ensures pair { pair_of D.image self.new.file ≡ pair_of D.image self.old.file }
         ensures reads { ReadsOnly D.image D.honest D.may_leave D.may_have_left self.old.file.device self.new.file.device }
         ensures cause { D.honest self.old.file.device → result ≡ Err BringError.Disk → Rose (D.failed self.old.file.device) (D.failed self.new.file.device) }
@@ -103,6 +104,8 @@ impl<D: Device + Drop> VmBlocks<D> {
         ensures err { OnErr result (NotBrought blocks.old blocks.new h) }
         ensures keeps { Keeps self.old blocks.old blocks.new h }
         ensures no_room { result ≡ Err BringError.NoRoom → IfSome (held_at self.old h) (λ held. LacksRoom self.old blocks.old blocks.new (vm h) held.len) }
+        // No block goes where there is room.
+        ensures wanted { IfSome (held_at self.old h) (λ held. RemainOrNoRoom blocks.old blocks.new h held.len) }
         // Its row of the table of calls, in each memory that the model may have before it.
         ensures row { DoesRow D.image D.honest D.failed (bring h) (of_bring result) self.old blocks.old self.new blocks.new }
         // The device: nothing is written, and the pair that it keeps is the same.

@@ -16,7 +16,7 @@ ghost use Rattle.vm_blocks.specs.FileOf.{IsMemoryOf};
 ghost use Rattle.vm_blocks.specs.Keeping.{IsChanged};
 ghost use Rattle.vm_blocks.specs.ListedCalls.{lock_listed};
 ghost use Rattle.vm_blocks.specs.Refused.{of_lock};
-ghost use Rattle.vm_blocks.specs.Room.{LacksRoom};
+ghost use Rattle.vm_blocks.specs.Room.{LacksRoom, RemainOrNoRoom};
 ghost use Rattle.vm_blocks.specs.Tied.{IsTied};
 ghost use Rattle.vm_blocks.specs.View.{held_at, vm_slot, with_device, with_held};
 
@@ -47,6 +47,8 @@ impl<D: Device + Drop> VmBlocks<D> {
         ensures err { OnErr result (NotBrought blocks.old blocks.new h) }
         ensures keeps { Keeps self.old blocks.old blocks.new h }
         ensures no_room { result ≡ Err LockError.NoRoom → IfSome (held_at self.old h) (λ held. LacksRoom self.old blocks.old blocks.new (vm h) held.len) }
+        // No block goes where there is room.
+        ensures wanted { IfSome (held_at self.old h) (λ held. RemainOrNoRoom blocks.old blocks.new h held.len) }
         // Its row of the table of calls, in each memory that the model may have before it.
         ensures row { DoesRow D.image D.honest D.failed (lock_listed h) (of_lock result) self.old blocks.old self.new blocks.new }
         // The device: nothing is written, and the pair that it keeps is the same.
@@ -78,6 +80,7 @@ impl<D: Device + Drop> VmBlocks<D> {
         ensures err { OnErr result (NotBrought blocks.old blocks.new h) }
         ensures keeps { Keeps self.old blocks.old blocks.new h }
         ensures no_room { result ≡ Err LockError.NoRoom → IfSome (held_at self.old h) (λ held. LacksRoom self.old blocks.old blocks.new (vm h) held.len) }
+        ensures wanted { IfSome (held_at self.old h) (λ held. RemainOrNoRoom blocks.old blocks.new h held.len) }
         ensures row { DoesRow D.image D.honest D.failed (lock_listed h) (of_lock result) self.old blocks.old self.new blocks.new }
         ensures pair { pair_of D.image self.new.file ≡ pair_of D.image self.old.file }
         ensures reads { ReadsOnly D.image D.honest D.may_leave D.may_have_left self.old.file.device self.new.file.device }

@@ -3,12 +3,12 @@ ghost use Rattle.std.specs.Prelude.{◌≡◌, ◌<◌, ◌↔◌, ℕ, None, Er
 ghost use Rattle.geos_model.specs.Names.{vm};
 ghost use Rattle.block_handles.specs.Names.{IsHandle};
 ghost use Rattle.block_handles.specs.Store.{IsThere, locks_of, size_of};
-ghost use Rattle.vm_blocks.specs.Blocks.{Adds, AllListed, Begins, IsNew, LacksRoomForNew, without_held};
+ghost use Rattle.vm_blocks.specs.Blocks.{Adds, AllListed, Begins, IsLowestUnlisted, IsNew, LacksRoomForNew, without_held};
 ghost use Rattle.vm_blocks.specs.Bring.{Drops, Keeps};
 ghost use Rattle.vm_blocks.specs.DoesRow.{DoesRow};
 ghost use Rattle.vm_blocks.specs.ListedCalls.{free_listed, make_listed};
 ghost use Rattle.vm_blocks.specs.Refused.{of_free, of_new};
-ghost use Rattle.vm_blocks.specs.Room.{LacksRoom};
+ghost use Rattle.vm_blocks.specs.Room.{LacksRoom, RemainOrNoRoom};
 ghost use Rattle.vm_blocks.specs.Tied.{IsTied};
 ghost use Rattle.vm_blocks.specs.View.{held_at, vm_slot};
 
@@ -37,6 +37,7 @@ impl<D: Device + Drop> VmBlocks<D> {
         ensures ok { OnOk result (IsNew blocks.new h 0) }
         ensures keeps { OnOk result (Keeps self.now blocks.old blocks.new h) }
         ensures err { OnErr result (LacksRoom self.now blocks.old blocks.new (vm h) 64) }
+        ensures wanted { RemainOrNoRoom blocks.old blocks.new h 64 }
     {
         match self.make_room(blocks, Name::vm(h), 64) {
             Ok(()) => {}
@@ -56,6 +57,8 @@ impl<D: Device + Drop> VmBlocks<D> {
         ensures ok { IfOk result (Adds self.old self.new blocks.old blocks.new uid 0) }
         ensures no_handle { (result ≡ Err NewError.NoHandle) ↔ AllListed self.old }
         ensures no_room { result ≡ Err NewError.NoRoom → LacksRoomForNew self.old blocks.old blocks.new }
+        // No block goes where there is room.
+        ensures wanted { (h : ℕ) → IsLowestUnlisted self.old h → RemainOrNoRoom blocks.old blocks.new h 64 }
         ensures stays { result ≡ Err NewError.NoHandle → blocks.new ≡ blocks.old }
         ensures err { OnErr result (self.new ≡ self.old) }
         // Its row of the table of calls, in each memory that the model may have before it.
@@ -86,6 +89,8 @@ impl<D: Device + Drop> VmBlocks<D> {
         ensures ok { IfOk result (Adds self.old self.new blocks.old blocks.new uid 1) }
         ensures no_handle { (result ≡ Err NewError.NoHandle) ↔ AllListed self.old }
         ensures no_room { result ≡ Err NewError.NoRoom → LacksRoomForNew self.old blocks.old blocks.new }
+        // No block goes where there is room.
+        ensures wanted { (h : ℕ) → IsLowestUnlisted self.old h → RemainOrNoRoom blocks.old blocks.new h 64 }
         ensures stays { result ≡ Err NewError.NoHandle → blocks.new ≡ blocks.old }
         ensures err { OnErr result (self.new ≡ self.old) }
         // Its row of the table of calls, in each memory that the model may have before it.

@@ -1,9 +1,9 @@
 //! Room for a block: others, which can be read from the file again, are discarded for it.
-ghost use Rattle.std.specs.Prelude.{◌≡◌, ◌≢◌, ◌%◌, ◌<◌, ◌≤◌, IsTrue, IfSome, IfNone, OnOk, OnErr, true, false};
+ghost use Rattle.std.specs.Prelude.{◌≡◌, ◌≢◌, ◌+◌, ◌%◌, ◌<◌, ◌≤◌, IsTrue, IfSome, IfNone, OnOk, OnErr, true, false};
 ghost use Rattle.geos_model.specs.Heap.{IsBlockSize, most_block_bytes};
 ghost use Rattle.block_handles.specs.Names.{IsHandle, slot_of};
 ghost use Rattle.block_handles.specs.Store.{IsThere, size_of};
-ghost use Rattle.vm_blocks.specs.Room.{DiscardsOne, GrowsRoom, LacksRoom, MakesRoom, NoneIdle, Thins, is_idle, own_handle, there_count};
+ghost use Rattle.vm_blocks.specs.Room.{DiscardsForRoom, DiscardsOne, GrowsRoom, LacksRoom, MakesRoom, NoneIdle, Thins, is_idle, own_handle, there_count};
 ghost use Rattle.vm_blocks.specs.Tied.{IsTied};
 
 use crate::blocks::VmBlocks;
@@ -89,18 +89,21 @@ impl<D: Device + Drop> VmBlocks<D> {
         }
     }
 
-    /// Discards blocks, but that of the handle `but`, while the region's free bytes are fewer than
-    /// `more`. To look for room then would be in vain.
-    fn discard_for(&self, blocks: &mut Blocks, but: u16, more: u32)
-        requires { IsTied D.image D.honest self.now blocks.old }
-        ensures { Thins self.now blocks.old blocks.new but }
+    /// Discards blocks, but the named one, which is to have `more` bytes, while fewer are free. To
+    /// look for room then would be in vain.
+    fn discard_for(&self, blocks: &mut Blocks, name: Name, more: u32)
+        requires tied { IsTied D.image D.honest self.now blocks.old }
+        requires handle { IsHandle name.h }
+        ensures thins { Thins self.now blocks.old blocks.new (own_handle name) }
+        ensures wanted { DiscardsForRoom self.now blocks.old blocks.new (own_handle name) (slot_of name) (size_of blocks.old (slot_of name) + more) }
     {
+        let but = own_handle(name);
         while blocks.lacks(more) && self.discard_one(blocks, but) {}
     }
 
     /// Makes a block of `size` zero bytes, not locked, under a name that is not in use, and
-    /// discards others for it, one after another, until there is room. `NoRoom` where there is
-    /// none though all that may be were discarded.
+    /// discards others for it, one after another, until there is room: none where there is room
+    /// at once. `NoRoom` where there is none though all that may be were discarded.
     pub fn make_room(&self, blocks: &mut Blocks, name: Name, size: u32) -> Result<(), NoRoom>
         requires tied { IsTied D.image D.honest self.now blocks.old }
         requires handle { IsHandle name.h }
@@ -108,9 +111,10 @@ impl<D: Device + Drop> VmBlocks<D> {
         requires size { IsBlockSize size }
         ensures ok { OnOk result (MakesRoom self.now blocks.old blocks.new name size) }
         ensures err { OnErr result (LacksRoom self.now blocks.old blocks.new name size) }
+        ensures wanted { OnErr result (DiscardsForRoom self.now blocks.old blocks.new (own_handle name) (slot_of name) size) }
     {
         let but = own_handle(name);
-        self.discard_for(blocks, but, size);
+        self.discard_for(blocks, name, size);
         loop {
             match blocks.make(name, size) {
                 Ok(()) => return Ok(()),
@@ -123,18 +127,19 @@ impl<D: Device + Drop> VmBlocks<D> {
     }
 
     /// Grows a block to `size` bytes, zeros behind its own, and discards others for it, one after
-    /// another, until there is room. `NoRoom` where there is none though all that may be were
-    /// discarded.
+    /// another, until there is room: none where there is room at once. `NoRoom` where there is
+    /// none though all that may be were discarded.
     pub fn grow_room(&self, blocks: &mut Blocks, name: Name, size: u32) -> Result<(), NoRoom>
         requires tied { IsTied D.image D.honest self.now blocks.old }
         requires there { IsThere blocks.old (slot_of name) }
         requires size { (size_of blocks.old (slot_of name) ≤ size) × (size ≤ most_block_bytes) × (size % 16 ≡ 0) }
         ensures ok { OnOk result (GrowsRoom self.now blocks.old blocks.new name size) }
         ensures err { OnErr result (LacksRoom self.now blocks.old blocks.new name size) }
+        ensures wanted { OnErr result (DiscardsForRoom self.now blocks.old blocks.new (own_handle name) (slot_of name) size) }
     {
         let but = own_handle(name);
         let more = size - blocks.size(name);
-        self.discard_for(blocks, but, more);
+        self.discard_for(blocks, name, more);
         loop {
             match blocks.grow(name, size) {
                 Ok(()) => return Ok(()),

@@ -1,5 +1,10 @@
+use Rattle.std.proofs.Common.{subst}
+use Rattle.geos_model.specs.declared.refusal.Refusal.TheVariants as refusal
 use Rattle.geos_table.specs.ItemCalls.{gnew}
 use Rattle.vm_file.specs.Directories.{group_uid}
+use Rattle.geos_kernel.specs.Kernel.{NewListedHasNoRoom}
+use Rattle.geos_kernel.specs.View.{core_of}
+use Rattle.geos_kernel.proofs.Lacking.{new-lacks}
 use Rattle.geos_kernel.proofs.Seen.{calls-seen}
 use Rattle.geos_kernel.proofs.VmCalls.{made-file, made-group, made-spares, quiet-calls, spared-kernel}
 use Rattle.geos_kernel.proofs.kernel.Kernel.gnew.Goals as goal
@@ -20,3 +25,8 @@ returns-clause-calls g c =
     let made = made-group d.image d.honest v w s t group_uid 0 c.self.invariant r e.ok e.why e.no_room e.stays e.err in
     let file = made-file d.image d.honest v w s t group_uid 0 c.self.invariant made in
     calls-seen d.image d.honest d.failed v s c.args.self.now c.self.view_is (quiet-calls d.image d.honest d.failed v w s t file e.row (made-spares d.image d.honest v w s t group_uid 0 c.self.invariant made))
+
+pub returns-clause-no_room : goal.returns-clause-no_room
+returns-clause-no_room g c = λ is.
+    let d = g.D.Device in let v = c.self.inside.vm in let s = c.self.inside.blocks in let w = c.group_new.new.vm in let t = c.group_new.new.blocks in let e = c.group_new.ensures in
+    subst (λ k. NewListedHasNoRoom k.core (core_of d.image d.failed w t)) c.self.view_is (new-lacks d.image d.failed v w s t c.group_new.result refusal.NoRoom is e.err (e.no_room is))

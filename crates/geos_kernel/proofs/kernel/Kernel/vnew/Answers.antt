@@ -1,5 +1,10 @@
+use Rattle.std.proofs.Common.{subst, sym, ◌∙◌}
+use Rattle.vm_blocks.specs.declared.error.NewError.TheVariants as error
 use Rattle.vm_blocks.specs.ListedCalls.{make_listed}
 use Rattle.vm_blocks.specs.Refused.{of_new}
+use Rattle.geos_kernel.specs.Kernel.{NewListedHasNoRoom}
+use Rattle.geos_kernel.specs.View.{core_of}
+use Rattle.geos_kernel.proofs.Lacking.{new-lacks, room-below}
 use Rattle.geos_kernel.proofs.ListedRows.{vnew-reserved-row, vnew-row}
 use Rattle.geos_kernel.proofs.Seen.{calls-seen}
 use Rattle.geos_kernel.proofs.VmCalls.{made-below, made-file, made-spares, quiet-calls, spared-kernel, told-calls}
@@ -27,3 +32,9 @@ returns-clause-calls g c =
     let row = vnew-row d.image d.honest d.failed v s c.self.invariant.tied uid c.if-uid-eq-GROUP_UID.false w t (of_new r) e.row in
     let file = made-file d.image d.honest v w s t uid 1 c.self.invariant made in
     rw c.of_new.ensures (calls-seen d.image d.honest d.failed v s c.args.self.now c.self.view_is (quiet-calls d.image d.honest d.failed v w s t file row (made-spares d.image d.honest v w s t uid 1 c.self.invariant made)))
+
+pub returns-clause-no_room : goal.returns-clause-no_room
+returns-clause-no_room g c = λ is.
+    let d = g.D.Device in let v = c.self.inside.vm in let s = c.self.inside.blocks in let w = c.vnew-made.new.self in let t = c.vnew-made.new.blocks in let e = c.vnew-made.ensures in
+    let below = room-below c.vnew-made.result (sym c.of_new.ensures ∙ is) in
+    subst (λ k. NewListedHasNoRoom k.core (core_of d.image d.failed w t)) c.self.view_is (new-lacks d.image d.failed v w s t c.vnew-made.result error.NoRoom below e.err (e.no_room below))

@@ -1,11 +1,15 @@
-use Rattle.std.proofs.Common.{◌≡◌, ap, sym, subst, ◌∙◌}
+use Rattle.std.proofs.Common.{◌≡◌, ℕ, ap, sym, subst, ◌∙◌}
+use Rattle.geos_model.specs.declared.name.Name.{Name}
+use Rattle.block_handles.specs.Names.{slot_of}
 use Rattle.geos_model.specs.Heap.{IsBlockSize}
 use Rattle.block_handles.specs.Store.{IsBlock, block_at, bytes_of, locks_in}
 use Rattle.vm_file.specs.State.{FileState, pair_of}
 use Rattle.vm_blocks.specs.View.{VmState, bytes_read, vm_slot}
 use Rattle.vm_blocks.specs.Tied.{IsTied}
-use Rattle.vm_blocks.specs.Room.{MakesRoom, own_handle}
-use Rattle.vm_blocks.proofs.Brings.{absent-is, filled-keeps, filled-locks, filled-there, made-room, read-tied, dropped-keeps, dropped-tied}
+use Rattle.vm_blocks.specs.Room.{DiscardsForRoom, MakesRoom, own_handle}
+use Rattle.vm_blocks.proofs.Brings.{absent-is, fills-others, filled-keeps, filled-locks, filled-there, made-room, read-tied, dropped-keeps, dropped-tied}
+use Rattle.vm_blocks.proofs.Wanting.{discards-remain, made-remain, remain-more}
+use Rattle.geos_model.specs.Names.{vm}
 use Rattle.vm_blocks.proofs.blocks.VmBlocks.fetch.Goals.{in-Ok-read_into, in-Err-read_into}
 use Rattle.vm_blocks.proofs.BringRows.{absent-bytes, thins-absent}
 use Rattle.vm_blocks.proofs.blocks.VmBlocks.fetch.Goals as goal
@@ -73,4 +77,20 @@ returns-clause-values g c =
     elim c.match-read_into.branch [
       | in-Ok-read_into w ↦ w.in-Ok-read_into.ensures.values
       | in-Err-read_into w ↦ (let gone = w.in-Err-read_into.ensures.err.gone in absent-bytes (block_at c.read_into.new.blocks (vm_slot h)) (λ there. subst IsBlock gone there))
+    ]
+
+pub returns-in-Err-clause-wanted : goal.returns-in-Err-clause-wanted
+returns-in-Err-clause-wanted g c =
+    let now = c.args.self.now in let old = c.args.blocks.now in let mid = c.make_room.new.blocks in let h = c.args.h in let len = c.args.held.len in
+    let P : Name → ℕ → Type 0 = λ n size. DiscardsForRoom now old mid (own_handle n) (slot_of n) size in
+    discards-remain old mid h len now (subst (P (vm h)) c.from.ensures (subst (λ n. P n c.from.result) c.vm.ensures c.in-Err.ensures.wanted))
+
+pub returns-clause-wanted : goal.returns-clause-wanted
+returns-clause-wanted g c =
+    let now = c.args.self.now in let old = c.args.blocks.now in let mid = c.make_room.new.blocks in let t = c.read_into.new.blocks in let h = c.args.h in let len = c.args.held.len in let q = c.requires.handle in
+    let made = made-room now old mid c.vm.result h c.vm.ensures (subst (MakesRoom now old mid c.vm.result) c.from.ensures c.in-Ok.ensures.ok) in
+    let remain = made-remain now old mid h len q made in
+    elim c.match-read_into.branch [
+      | in-Ok-read_into w ↦ remain-more old mid h len t q (fills-others mid t h w.in-Ok-read_into.ensures.ok) remain
+      | in-Err-read_into w ↦ remain-more old mid h len t q w.in-Err-read_into.ensures.err.others remain
     ]

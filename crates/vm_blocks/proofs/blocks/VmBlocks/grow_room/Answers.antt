@@ -1,8 +1,11 @@
-use Rattle.std.proofs.Common.{◌≡◌, ◌≤◌, ◌%◌, length, refl, sym, subst, rules}
-use Rattle.block_handles.specs.Store.{IsBlock, bytes_in}
+use Rattle.std.proofs.Common.{◌≡◌, ◌≤◌, ◌+◌, ◌-◌, ◌%◌, length, refl, sym, subst, arith, rules}
+use Rattle.block_handles.specs.Names.{slot_of}
+use Rattle.block_handles.specs.Store.{IsBlock, bytes_in, size_of}
+use Rattle.block_handles.specs.Stretch.{HasNoRoom}
 use Rattle.block_handles.proofs.Laws.{handle_of_there}
-use Rattle.vm_blocks.specs.Room.{Thins, own_handle}
+use Rattle.vm_blocks.specs.Room.{DiscardsForRoom, DiscardsOne, Thins, own_handle}
 use Rattle.vm_blocks.proofs.Thinning.{thins-own, thins-more, tied-thins}
+use Rattle.vm_blocks.proofs.Wanting.{discards-more, refused-for-room}
 use Rattle.vm_blocks.proofs.blocks.VmBlocks.grow_room.Goals as goal
 
 pub grow-requires-clause-there : goal.grow-requires-clause-there
@@ -17,12 +20,27 @@ grow-requires-clause-size g c =
     let own = thins-own c.args.self.now old now name (handle_of_there old old name refl q.tied.laid q.there) c.loop-blocks.invariant.thins in
     subst (λ o. (length (bytes_in o) ≤ c.args.size) × (c.args.size % 16 ≡ 0)) (sym own) (q.size.0, q.size.2)
 
+pub loop-blocks-init : goal.loop-blocks-init
+loop-blocks-init g c =
+    let v = c.args.self.now in let old = c.args.blocks.now in let now = c.discard_for.new.blocks in let but = own_handle c.args.name in let slot = slot_of c.args.name in
+    let e = c.discard_for.ensures in
+    let whole : size_of old slot + (c.args.size - c.size.result) ≡ c.args.size = omega (arith, c.size.ensures.size, c.requires.size.0) in
+    record {
+      tied = tied-thins g.D.Device.image g.D.Device.honest v old now but c.requires.tied e.thins;
+      thins = e.thins;
+      wanted = subst (DiscardsForRoom v old now but slot) whole e.wanted;
+    }
+
 pub loop-blocks-preserved : goal.loop-blocks-preserved
 loop-blocks-preserved g c =
-    let v = c.args.self.now in let now = c.loop-blocks.blocks in let new = c.discard_one.new.blocks in let i = c.loop-blocks.invariant in
-    let same : c.grow.new.self ≡ now = c.in-Err.ensures.err in
-    let thins : Thins v now new (own_handle c.args.name) = subst (λ s. Thins v s new (own_handle c.args.name)) same (subst (Thins v c.grow.new.self new) c.own_handle-but.ensures (c.discard_one.ensures.thins (search rules))) in
+    let v = c.args.self.now in let old = c.args.blocks.now in let now = c.loop-blocks.blocks in let new = c.discard_one.new.blocks in let i = c.loop-blocks.invariant in
+    let but = own_handle c.args.name in let slot = slot_of c.args.name in let size = c.args.size in let e = c.in-Err.ensures in
+    let same : c.grow.new.self ≡ now = e.err in
+    let one : DiscardsOne v now new but = subst (λ s. DiscardsOne v s new but) same (subst (DiscardsOne v c.grow.new.self new) c.own_handle-but.ensures (c.discard_one.ensures.one (search rules))) in
+    let thins : Thins v now new but = subst (λ s. Thins v s new but) same (subst (Thins v c.grow.new.self new) c.own_handle-but.ensures (c.discard_one.ensures.thins (search rules))) in
+    let no_room : HasNoRoom now slot size = subst (λ s. HasNoRoom s slot size) same (refused-for-room size c.in-Err.field-0 c.grow.result (HasNoRoom c.grow.new.self slot size) c.in-Err.is c.requires.size.1 c.grow.ensures.no_room c.grow.ensures.too_big) in
     record {
-      tied = tied-thins g.D.Device.image g.D.Device.honest v now new (own_handle c.args.name) i.tied thins;
-      thins = thins-more v c.args.blocks.now now new (own_handle c.args.name) i.thins thins;
+      tied = tied-thins g.D.Device.image g.D.Device.honest v now new but i.tied thins;
+      thins = thins-more v old now new but i.thins thins;
+      wanted = discards-more v old now new but slot size i.thins i.wanted no_room one;
     }

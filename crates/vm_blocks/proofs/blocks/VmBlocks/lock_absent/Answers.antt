@@ -12,7 +12,9 @@ use Rattle.geos_model.specs.declared.refusal.Refusal.{Refusal}
 use Rattle.geos_model.specs.declared.refusal.Refusal.TheVariants as refusal
 use Rattle.geos_table.specs.VmCalls.{bring}
 use Rattle.vm_blocks.specs.Bring.{Brought, NotBrought}
-use Rattle.vm_blocks.specs.View.{vm_slot}
+use Rattle.vm_blocks.specs.Room.{RemainOrNoRoom}
+use Rattle.vm_blocks.specs.View.{held_at, vm_slot}
+use Rattle.vm_blocks.proofs.Wanting.{listed-more, locked-remain}
 use Rattle.vm_blocks.proofs.Counts.{keeps-locked, locked-more, locked-tied, locks-more}
 use Rattle.vm_blocks.specs.DoesRow.{DoesRow}
 use Rattle.vm_blocks.specs.ListedCalls.{lock_listed}
@@ -82,3 +84,11 @@ returns-clause-row g c =
     let d = g.D.Device in let now = c.args.self.now in let w = c.bring.new.self in let s = c.args.blocks.now in let t = c.bring.new.blocks in let h = c.args.h in let b = c.in-Ok.ensures.ok in
     lock-done d.image d.honest d.failed now w s t h c.bring.ensures.tied (brought-few s t h c.requires.absent b) c.lock.new.self b.there (taken g (goal.at.returns-clause-row g c).After-lock)
     (subst (λ r. DoesRow d.image d.honest d.failed (bring h) r now s w t) (ap of_bring c.in-Ok.is) c.bring.ensures.row)
+
+pub returns-clause-wanted : goal.returns-clause-wanted
+returns-clause-wanted g c =
+    let s = c.args.blocks.now in let t = c.bring.new.blocks in let u = c.lock.new.self in let h = c.args.h in
+    let handle = handle_of_there t t (vm h) refl c.bring.ensures.tied.laid c.in-Ok.ensures.ok.there in
+    let is = taken g (goal.at.returns-clause-wanted g c).After-lock in
+    listed-more (λ held. RemainOrNoRoom s t h held.len) (λ held. RemainOrNoRoom s u h held.len) (held_at c.args.self.now h)
+    (λ held. locked-remain s t u h held.len (locks_of t (vm_slot h) + 1) handle is) c.bring.ensures.wanted
