@@ -15,7 +15,7 @@ use Rattle.block_handles.specs.Store.{Store, IsBlock, IsThere, block_at, bytes_i
 use Rattle.block_handles.specs.Stretch.{HasNoRoom}
 use Rattle.lmem_heap.specs.declared.error.RoomError.{RoomError}
 use Rattle.lmem_heap.specs.declared.error.RoomError.TheVariants as room
-use Rattle.vm_blocks.specs.Room.{Thins, own_handle}
+use Rattle.vm_blocks.specs.Room.{DiscardsForRoom, Thins, own_handle}
 use Rattle.vm_blocks.specs.View.{VmState}
 use Rattle.vm_blocks.proofs.Thinning.{thins-none}
 use Rattle.heap_calls.specs.declared.obstacle.Obstacle.{Obstacle}
@@ -39,6 +39,7 @@ module _ {D A : Type 0} (v : VmState D) (edit : List (Option (List ℕ)) → Edi
   comes-at_once new answer t = record {
     mid = old;
     thins = thins-none v old (own_handle name) laid;
+    wanted = inl refl;
     own = refl;
     grows = (t.0, kept-size old new name (edit (chunks_at old name)).chunks t.1);
     none = λ e. absurd (not-both answer refusal.NoRoom e);
@@ -48,6 +49,7 @@ module _ {D A : Type 0} (v : VmState D) (edit : List (Option (List ℕ)) → Edi
   comes-refused never new why t = record {
     mid = old;
     thins = thins-none v old (own_handle name) laid;
+    wanted = inl refl;
     own = refl;
     grows = (inl t.0, t.1);
     none = λ e. absurd (never (chunks_at old name) (subst (λ w. first_refusal (edit (chunks_at old name)).refusals ≡ Some w) (same-error {A = A} why refusal.NoRoom e) t.0));
@@ -57,6 +59,7 @@ module _ {D A : Type 0} (v : VmState D) (edit : List (Option (List ℕ)) → Edi
   record Made (grown : Store) : Type 0 where
     mid : Store
     thins : Thins v old mid (own_handle name)
+    wanted : DiscardsForRoom v old mid (own_handle name) (slot_of name) (need (edit (chunks_at old name)).chunks)
     own : block_at mid (slot_of name) ≡ block_at old (slot_of name)
     passes : first_refusal (edit (chunks_at mid name)).refusals ≡ None
     less : size_at mid name < need (edit (chunks_at mid name)).chunks
@@ -80,6 +83,7 @@ module _ {D A : Type 0} (v : VmState D) (edit : List (Option (List ℕ)) → Edi
             record {
               mid = old;
               thins = thins-none v old (own_handle name) laid;
+              wanted = inl refl;
               own = refl;
               grows = (inr (asked.0, subst (λ w. LacksRoom w old name (edit (chunks_at old name)).chunks) (sym is) asked.1), n.1);
               none = λ e. absurd (let x : refusal.TooBig ≡ refusal.NoRoom = sym is ∙ same-error {A = A} why refusal.NoRoom e in cc);
@@ -91,6 +95,7 @@ module _ {D A : Type 0} (v : VmState D) (edit : List (Option (List ℕ)) → Edi
             record {
               mid = n.mid;
               thins = n.thins;
+              wanted = subst (DiscardsForRoom v old n.mid (own_handle name) (slot_of name)) asked.1.0 n.wanted;
               own = n.own;
               grows = (inr (now.0, subst (λ w. LacksRoom w n.mid name (edit (chunks_at n.mid name)).chunks) (sym finds.0) lack), finds.2);
               none = λ e. n.no_room.1;
@@ -108,6 +113,7 @@ module _ {D A : Type 0} (v : VmState D) (edit : List (Option (List ℕ)) → Edi
               record {
                 mid = n.mid;
                 thins = n.thins;
+                wanted = subst (DiscardsForRoom v old n.mid (own_handle name) (slot_of name)) asked.1.0 n.wanted;
                 own = n.own;
                 passes = now.0;
                 less = now.1.1;
@@ -131,6 +137,7 @@ module _ {D A : Type 0} (v : VmState D) (edit : List (Option (List ℕ)) → Edi
       comes-again new answer t = record {
         mid = made.mid;
         thins = made.thins;
+        wanted = made.wanted;
         own = made.own;
         grows = ((t.0.0 ∙ ap (λ cs. (edit cs).answer) same, made.passes), regrown f made.mid grown name still made.less made.small made.made new t.1);
         none = λ e. absurd (not-both answer refusal.NoRoom e);

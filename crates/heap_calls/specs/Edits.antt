@@ -13,7 +13,7 @@ use Rattle.lmem_heap.specs.Refusals.{IsRoomError}
 use Rattle.heap_calls.specs.declared.obstacle.Obstacle.{Obstacle}
 use Rattle.heap_calls.specs.declared.obstacle.Obstacle.TheVariants.{Refused, Room}
 use Rattle.heap_calls.specs.Heaps.{Edits, Regrows, LacksRoom, chunks_at, size_at}
-use Rattle.vm_blocks.specs.Room.{NoneIdle, Thins, own_handle}
+use Rattle.vm_blocks.specs.Room.{DiscardsForRoom, NoneIdle, Thins, own_handle}
 use Rattle.vm_blocks.specs.View.{VmState}
 
 -- no test of an edit holds, and this is its answer
@@ -65,11 +65,13 @@ Grows edit old new name (Err why) =
     let e = edit (chunks_at old name) in
     ((first_refusal e.refusals ≡ Some why) ⊎ ((first_refusal e.refusals ≡ None) × LacksRoom why old name e.chunks)) × (new ≡ old)
 
--- makes an edit, for which the block may grow, and blocks that can be read again be discarded;
--- or refuses it, or the room, where none of those is left
+-- makes an edit, for which the block may grow, and blocks that can be read again be discarded
+-- where there is no room for what its chunks need; or refuses it, or the room, where none of those
+-- is left
 pub record Comes {D A : Type 0} (v : VmState D) (edit : List (Option (List ℕ)) → Edit A) (old new : Store) (name : Name) (result : Result A Refusal) : Type 0 where
   pub mid : Store
   pub thins : Thins v old mid (own_handle name)
+  pub wanted : DiscardsForRoom v old mid (own_handle name) (slot_of name) (need (edit (chunks_at old name)).chunks)
   pub own : block_at mid (slot_of name) ≡ block_at old (slot_of name)
   pub grows : Grows edit mid new name result
   pub none : result ≡ Err NoRoom → NoneIdle v new (own_handle name)

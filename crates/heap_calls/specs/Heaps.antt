@@ -14,7 +14,7 @@ use Rattle.geos_model.specs.Chunks.{need}
 use Rattle.geos_model.specs.Heap.{IsHeap, most_block_bytes}
 use Rattle.geos_model.specs.declared.refusal.Refusal.{Refusal}
 use Rattle.geos_model.specs.declared.refusal.Refusal.TheVariants.{TooBig, NoRoom}
-use Rattle.vm_blocks.specs.Room.{NoneIdle, Thins, own_handle}
+use Rattle.vm_blocks.specs.Room.{DiscardsForRoom, NoneIdle, Thins, own_handle}
 use Rattle.vm_blocks.specs.View.{VmState}
 
 -- the chunks that the bytes of a named block spell
@@ -59,11 +59,12 @@ AsksFor (room.NeedMore k) size = (size < k) × (k ≤ most_block_bytes) × (k % 
 abbrev pub FindsNoRoom : Refusal → Store → Store → ℕ → ℕ → Type 0
 FindsNoRoom refusal old new slot size = (refusal ≡ NoRoom) × HasNoRoom old slot size × (new ≡ old)
 
--- blocks that can be read again were discarded, and then a named block gets this size; or no
--- stretch of the region has room for it, though none of those is left
+-- blocks that can be read again were discarded where there was no room, and then a named block gets
+-- this size; or no stretch of the region has room for it, though none of those is left
 pub record Enlarges {D : Type 0} (v : VmState D) (old new : Store) (name : Name) (size : ℕ) (result : Result (Unit {0}) Refusal) : Type 0 where
   pub mid : Store
   pub thins : Thins v old mid (own_handle name)
+  pub wanted : DiscardsForRoom v old mid (own_handle name) (slot_of name) size
   pub own : store.block_at mid (slot_of name) ≡ store.block_at old (slot_of name)
   pub ok : OnOk result (Rechunks mid new (slot_of name) (chunks_at mid name) size)
   pub no_room : IfErr result (λ refusal. FindsNoRoom refusal mid new (slot_of name) size × NoneIdle v new (own_handle name))

@@ -1,8 +1,11 @@
-use Rattle.std.proofs.Common.{subst, sym, arith, ap, length, ◌≤◌, ◌<◌, ◌∙◌}
+use Rattle.std.proofs.Common.{refl, subst, sym, arith, ap, length, ◌≤◌, ◌<◌, ◌∙◌}
 use Rattle.block_handles.specs.Calls.{Grows}
 use Rattle.block_handles.specs.Names.{slot_of}
 use Rattle.block_handles.specs.Store.{IsBlock, bytes_in, size_of}
 use Rattle.geos_model.specs.Heap.{IsHeap}
+use Rattle.block_handles.proofs.Laws.{handle_of_there}
+use Rattle.vm_blocks.specs.Room.{DiscardsForRoom, LacksRoom, own_handle}
+use Rattle.vm_blocks.proofs.Thinning.{thins-own}
 use Rattle.heap_calls.proofs.Regrown.{grown-front, grown-heap}
 use Rattle.heap_calls.proofs.growth.enlarge.Goals as goal
 
@@ -26,8 +29,22 @@ returns g c =
     record {
       mid = r.mid;
       thins = r.thins;
+      wanted = subst (DiscardsForRoom c.args.vm.now c.args.blocks.now r.mid (own_handle c.args.name) slot) c.from.ensures r.wanted;
       own = r.own;
       ok = grown-heap r.mid c.grow_room.new.blocks slot c.args.size there grows c.bytes_mut.result.now c.enlarged.new.block c.size-old_size.result larger
           same c.bytes_mut.ensures.value c.enlarged.auto.block c.enlarged.ensures.heap some c.enlarged.ensures.handle c.enlarged.ensures.chunks;
       no_room = tt;
+    }
+
+pub returns-in-Err : goal.returns-in-Err
+returns-in-Err g c =
+    let v = c.args.vm.now in let old = c.args.blocks.now in let new = c.grow_room.new.blocks in let name = c.args.name in let e = c.in-Err.ensures in
+    let lacks = subst (LacksRoom v old new name) c.from.ensures e.err in
+    record {
+      mid = new;
+      thins = lacks.thins;
+      wanted = subst (DiscardsForRoom v old new (own_handle name) (slot_of name)) c.from.ensures e.wanted;
+      own = thins-own v old new name (handle_of_there old old name refl c.requires.tied.laid c.requires.heap.there) lacks.thins;
+      ok = tt;
+      no_room = ((refl, lacks.no_room, refl), lacks.none);
     }
