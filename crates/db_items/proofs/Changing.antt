@@ -12,8 +12,10 @@ use Rattle.geos_model.specs.declared.refusal.Refusal.TheVariants as refusal
 use Rattle.geos_table.specs.Effects.{Call}
 use Rattle.geos_table.specs.ItemCalls.{on_group}
 use Rattle.geos_table.specs.Memory.{Memory, with_mark}
-use Rattle.block_handles.specs.Store.{Block, Store, IsBlock, IsThere, block_at, bytes_in, locks_in, locks_of}
+use Rattle.block_handles.specs.Names.{IsHandle}
+use Rattle.block_handles.specs.Store.{Block, Store, IsBlock, IsThere, block_at, bytes_in, bytes_of, locks_in, locks_of}
 use Rattle.block_handles.specs.Stretch.{HasNoRoom}
+use Rattle.block_handles.proofs.Laws.{handle_of_there}
 use Rattle.vm_file.specs.Directories.{group_uid}
 use Rattle.vm_file.specs.Outcomes.{ReadsOnly}
 use Rattle.vm_file.specs.State.{FileState, pair_of}
@@ -23,15 +25,17 @@ use Rattle.vm_blocks.specs.Bring.{NotBrought}
 use Rattle.vm_blocks.specs.DoesRow.{DoesRow, DoesRowAlone}
 use Rattle.vm_blocks.specs.FileOf.{IsMemoryOf}
 use Rattle.vm_blocks.specs.Keeping.{IsChanged}
-use Rattle.vm_blocks.specs.Room.{LacksRoom, NoneIdle}
+use Rattle.vm_blocks.specs.Room.{LacksRoom, NoneIdle, RemainOrNoRoom}
 use Rattle.vm_blocks.specs.Tied.{IsTied}
 use Rattle.vm_blocks.specs.View.{VmState, held_at, vm_slot, with_device, with_held}
 use Rattle.vm_blocks.proofs.Marking.{stays-changed}
 use Rattle.vm_blocks.proofs.Thinning.{tied-thins}
+use Rattle.vm_blocks.proofs.Wanting.{discards-remain, remain-more, same-remain}
 use Rattle.heap_calls.specs.Edits.{Carries, Comes}
 use Rattle.heap_calls.specs.Heaps as heaps
 use Rattle.heap_calls.specs.Others.{KeepsOthers}
 use Rattle.heap_calls.proofs.Kept.{vm-keeps}
+use Rattle.heap_calls.proofs.Regrown.{rechunked-other}
 use Rattle.db_items.specs.Groups.{BringsGroup, IsGroup, ReadsDevice}
 use Rattle.db_items.specs.Items.{ChangesItem, LacksItemRoom, room_wanted}
 use Rattle.db_items.proofs.Asking.{AsksInside, carries-no_disk}
@@ -51,6 +55,14 @@ group-or-not (Some e) = cases_eq e.uid group_uid
 
 pub group-or : {D : Type 0} (v : VmState D) (g : ℕ) → IsGroup v g ⊎ (IsGroup v g → ⊥)
 group-or v g = group-or-not (held_at v g)
+
+-- Over a change of a block in memory the others stay there, or it had no room
+carries-remain : {D A : Type 0} (w : VmState D) (edit : List (Option (List ℕ)) → Edit A) (t u : Store) (g : ℕ) → IsHandle g → IsThere t (vm_slot g) → (grows : Bool) (r : Result A Refusal) → Carries grows w edit t u (vm g) r
+    → RemainOrNoRoom t u g (need (edit (chunks (bytes_of t (vm_slot g)))).chunks)
+carries-remain w edit t u g q there true (Ok a) c = remain-more t c.mid g _ u q (rechunked-other c.mid u (vm_slot g) (subst IsBlock (sym c.own) there) _ _ c.grows.1) (discards-remain t c.mid g _ w c.wanted)
+carries-remain w edit t u g q there true (Err why) c = subst (λ x. RemainOrNoRoom t x g (need (edit (chunks (bytes_of t (vm_slot g)))).chunks)) (sym c.grows.1) (discards-remain t c.mid g _ w c.wanted)
+carries-remain w edit t u g q there false (Ok a) c = remain-more t t g _ u q (rechunked-other t u (vm_slot g) there _ _ c.1) (same-remain t t g _ refl)
+carries-remain w edit t u g q there false (Err why) c = same-remain t u g _ c.1
 
 -- A group that was not brought
 
@@ -118,6 +130,7 @@ module _ {D : Type 0} (image : D → List ℕ) (honest : D → Type 0) (may_leav
         listed = b.same;
         no_group = λ none. (let n = b.no_group none in (refused-so why refusal.BadHandle n.0, n.1, n.2));
         keeps = b.keeps;
+        wanted = λ there. same-remain s t g _ (b.err.stays there);
         locks = not_brought-locks s t g b.err;
         refused = λ there. ap (λ u. block_at u (vm_slot g)) (b.err.stays there);
         stays = λ other there. b.err.stays there;
@@ -156,13 +169,18 @@ module _ {D : Type 0} (image : D → List ℕ) (honest : D → Type 0) (may_leav
         others : (k : ℕ) → k ≢ g → held_at w k ≡ held_at v k
         others k ne = ap (λ (x : VmState D). held_at x k) b.same
 
+        remain : (grows : Bool) (r : Result A Refusal) → Carries grows w edit t u (vm g) r → IsThere s (vm_slot g) → RemainOrNoRoom s u g (need (edit (chunks (bytes_of s (vm_slot g)))).chunks)
+        remain grows r carries there =
+            subst (λ x. RemainOrNoRoom x u g (need (edit (chunks (bytes_of x (vm_slot g)))).chunks)) (b.ok.stays there)
+            (carries-remain w edit t u g (handle_of_there t t (vm g) refl b.tied.laid b.ok.there) b.ok.there grows r carries)
+
         same-file : IsThere s (vm_slot g) → w.file ≡ v.file
         same-file there = ap (λ (x : VmState D). x.file) (b.there there).0
 
         -- its chunks have changed, and it is marked
-        pub item-changed : (x : VmState D) (a : A) → IsTied image honest x u → x ≡ with_held w g (option_map marked (held_at w g)) → ((n : Memory) → IsMemoryOf image honest w u n → IsMemoryOf image honest x u (with_mark n g true))
+        pub item-changed : (grows : Bool) (x : VmState D) (a : A) → Carries grows w edit t u (vm g) (Ok a) → IsTied image honest x u → x ≡ with_held w g (option_map marked (held_at w g)) → ((n : Memory) → IsMemoryOf image honest w u n → IsMemoryOf image honest x u (with_mark n g true))
             → DoesRowAlone image honest call (Ok a) w t w u → ChangesItem image honest may_leave left failed (on_group g call) edit g (Ok a) v x s u
-        item-changed x a tied marks memory row =
+        item-changed grows x a carries tied marks memory row =
             let file : x.file ≡ w.file = ap (λ (y : VmState D). y.file) marks in
             let device : x.file.device ≡ w.file.device = ap (λ (f : FileState D). f.device) file in
             let now : VmState D = with_held v g (option_map marked (held_at v g)) in
@@ -173,6 +191,7 @@ module _ {D : Type 0} (image : D → List ℕ) (honest : D → Type 0) (may_leav
               listed = was ∙ ap (with_device now) (sym device);
               no_group = λ none. absurd (none group);
               keeps = keeps-then v w s t u g others b.keeps (vm-keeps w t u g keeps.others);
+              wanted = remain grows (Ok a) carries;
               locks = keeps.locks ∙ b.ok.locks;
               refused = tt;
               stays = λ other. tt;
@@ -192,6 +211,7 @@ module _ {D : Type 0} (image : D → List ℕ) (honest : D → Type 0) (may_leav
           listed = b.same;
           no_group = λ none. absurd (none group);
           keeps = keeps-then v w s t u g others b.keeps (vm-keeps w t u g keeps.others);
+          wanted = remain grows (Err why) carries;
           locks = keeps.locks ∙ b.ok.locks;
           refused = λ there. own grows carries ∙ ap (λ x. block_at x (vm_slot g)) (b.ok.stays there);
           stays = λ other there. stays other ∙ b.ok.stays there;

@@ -16,9 +16,11 @@ use Rattle.block_handles.proofs.Laws.{handle_of_there, with_locks-same}
 use Rattle.block_handles.proofs.Layouts.{there_small}
 use Rattle.vm_blocks.specs.DoesRow.{DoesRow}
 use Rattle.vm_blocks.specs.Tied.{IsTied}
-use Rattle.vm_blocks.specs.View.{VmState, vm_slot, with_device}
+use Rattle.vm_blocks.specs.Room.{RemainOrNoRoom}
+use Rattle.vm_blocks.specs.View.{VmState, held_at, vm_slot, with_device}
 use Rattle.vm_blocks.proofs.Counts.{keeps-locked, locked-tied, locks-more}
 use Rattle.vm_blocks.proofs.LockRows.{not-brought-few}
+use Rattle.vm_blocks.proofs.Wanting.{always-listed, listed-more, locked-remain, same-remain}
 use Rattle.heap_calls.specs.Edits.{Finds}
 use Rattle.db_items.specs.Groups.{BringsGroup, IsGroup, ReadsDevice}
 use Rattle.db_items.specs.Items.{LocksItem}
@@ -51,6 +53,7 @@ module _ {D : Type 0} (image : D → List ℕ) (honest : D → Type 0) (may_leav
     same = refl;
     no_group = λ none. absurd (none group);
     keeps = record { each = λ slot ne. inl (refl, λ some. refl); laid = tied.laid; len = refl };
+    wanted = always-listed (λ e. RemainOrNoRoom s s g e.len) (held_at v g) (λ e. same-remain s s g e.len refl);
     ok = tt;
     locks = refl;
     refused = λ there. refl;
@@ -75,6 +78,7 @@ module _ {D : Type 0} (image : D → List ℕ) (honest : D → Type 0) (may_leav
       same = b.same;
       no_group = λ none. (let x = b.no_group none in (refused-so why refusal.BadHandle x.0, x.1, x.2));
       keeps = b.keeps;
+      wanted = b.wanted;
       ok = tt;
       locks = not_brought-locks s t g b.err;
       refused = b.err.stays;
@@ -112,6 +116,7 @@ module _ {D : Type 0} (image : D → List ℕ) (honest : D → Type 0) (may_leav
         same = b.same;
         no_group = λ none. absurd (none group);
         keeps = b.keeps;
+        wanted = b.wanted;
         ok = tt;
         locks = b.ok.locks;
         refused = b.ok.stays;
@@ -140,6 +145,7 @@ module _ {D : Type 0} (image : D → List ℕ) (honest : D → Type 0) (may_leav
             same = b.same;
             no_group = λ none. absurd (none group);
             keeps = keeps-locked v s t u g count b.keeps b.ok.there is_u;
+            wanted = listed-more (λ e. RemainOrNoRoom s t g e.len) (λ e. RemainOrNoRoom s u g e.len) (held_at v g) (λ e. locked-remain s t u g e.len count p is_u) b.wanted;
             ok = locks-more s t u g b.tied.laid b.ok is_u;
             locks = tt;
             refused = tt;

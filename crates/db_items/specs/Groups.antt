@@ -11,7 +11,7 @@ use Rattle.vm_file.specs.Outcomes.{ReadsOnly}
 use Rattle.vm_file.specs.State.{pair_of}
 use Rattle.vm_blocks.specs.Bring.{Brought, Keeps, NotBrought}
 use Rattle.vm_blocks.specs.DoesRow.{DoesRow}
-use Rattle.vm_blocks.specs.Room.{LacksRoom}
+use Rattle.vm_blocks.specs.Room.{LacksRoom, RemainOrNoRoom}
 use Rattle.vm_blocks.specs.Tied.{IsTied}
 use Rattle.vm_blocks.specs.View.{VmState, held_at, vm_slot, with_device}
 
@@ -31,7 +31,8 @@ pub record ReadsDevice {D : Type 0} (image : D → List ℕ) (honest : D → Typ
 abbrev pub RefusesNoGroup : {D A : Type 0} → ℕ → Result A Refusal → VmState D → VmState D → Store → Store → Type 0
 RefusesNoGroup g result v w s t = (IsGroup v g → ⊥) → (result ≡ Err BadHandle) × (w ≡ v) × (t ≡ s)
 
--- a group is brought into memory, or refused; a handle of no group is. One that is there asks the device nothing
+-- a group is brought into memory, or refused; a handle of no group is. One that is there asks the device nothing, and no block
+-- goes for one that is not where there is room
 pub record BringsGroup {D : Type 0} (image : D → List ℕ) (honest : D → Type 0) (may_leave : D → List ℕ → Type 0) (left : D → D → List ℕ → Type 0) (failed : D → ℕ)
     (g : ℕ) (result : Result (Unit {0}) Refusal) (v w : VmState D) (s t : Store) : Type 0 where
   pub tied : IsTied image honest w t
@@ -44,5 +45,6 @@ pub record BringsGroup {D : Type 0} (image : D → List ℕ) (honest : D → Typ
   pub ok : OnOk result (Brought s t g)
   pub err : OnErr result (NotBrought s t g)
   pub keeps : Keeps v s t g
+  pub wanted : IfSome (held_at v g) (λ e. RemainOrNoRoom s t g e.len)
   pub no_room : result ≡ Err NoRoom → (IsThere s (vm_slot g) → ⊥) × IfSome (held_at v g) (λ e. LacksRoom v s t (vm g) e.len)
   pub device : ReadsDevice image honest may_leave left failed (result ≡ Err Disk) v w

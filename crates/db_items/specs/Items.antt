@@ -16,7 +16,7 @@ use Rattle.vm_blocks.specs.declared.entries.Held.{Held}
 use Rattle.vm_blocks.specs.Blocks.{marked}
 use Rattle.vm_blocks.specs.Bring.{Keeps, LockedMore}
 use Rattle.vm_blocks.specs.DoesRow.{DoesRow}
-use Rattle.vm_blocks.specs.Room.{LacksRoom, NoneIdle}
+use Rattle.vm_blocks.specs.Room.{LacksRoom, NoneIdle, RemainOrNoRoom}
 use Rattle.vm_blocks.specs.Tied.{IsTied}
 use Rattle.vm_blocks.specs.View.{VmState, held_at, vm_slot, with_device, with_held}
 use Rattle.heap_calls.specs.Edits.{Finds}
@@ -42,8 +42,8 @@ listed_after (Err why) v g = v
 
 -- a call changes the chunks of a group, which it brings into memory first and marks behind it; every
 -- other block is as it was, or was discarded. A refusal leaves the marks, the counts and a group that
--- was in memory as they were. A group that was there asks the device nothing, and no block goes unless
--- room is wanted; one that the device refuses is not there
+-- was in memory as they were. A group that was there asks the device nothing, and no block goes where
+-- there is room for what its chunks need; one that the device refuses is not there
 pub record ChangesItem {D A : Type 0} (image : D → List ℕ) (honest : D → Type 0) (may_leave : D → List ℕ → Type 0) (left : D → D → List ℕ → Type 0) (failed : D → ℕ)
     (call : Call A) (edit : List (Option (List ℕ)) → Edit A) (g : ℕ) (result : Result A Refusal) (v w : VmState D) (s t : Store) : Type 0 where
   pub tied : IsTied image honest w t
@@ -51,6 +51,7 @@ pub record ChangesItem {D A : Type 0} (image : D → List ℕ) (honest : D → T
   pub listed : w ≡ with_device (listed_after result v g) w.file.device
   pub no_group : RefusesNoGroup g result v w s t
   pub keeps : Keeps v s t g
+  pub wanted : IsThere s (vm_slot g) → RemainOrNoRoom s t g (need (edit (chunks (bytes_of s (vm_slot g)))).chunks)
   pub locks : locks_of t (vm_slot g) ≡ locks_of s (vm_slot g)
   pub refused : OnErr result (IsThere s (vm_slot g) → block_at t (vm_slot g) ≡ block_at s (vm_slot g))
   pub stays : (result ≡ Err NoRoom → ⊥) → OnErr result (IsThere s (vm_slot g) → t ≡ s)
@@ -66,7 +67,8 @@ refers_to g i (Err why) = Err why
 
 -- a group is locked once more, and an item of it, of n bytes at least, found in its bytes; where
 -- that is refused it is locked as often as it was. A group that was there asks the device nothing, and
--- nothing else changes; one that the device refuses is not there
+-- nothing else changes; no block goes for one that was not where there is room, and one that the device
+-- refuses is not there
 pub record LocksItem {D : Type 0} (image : D → List ℕ) (honest : D → Type 0) (may_leave : D → List ℕ → Type 0) (left : D → D → List ℕ → Type 0) (failed : D → ℕ)
     (g i n : ℕ) (result : Result (ℕ × ℕ) Refusal) (v w : VmState D) (s t : Store) : Type 0 where
   pub tied : IsTied image honest w t
@@ -74,6 +76,7 @@ pub record LocksItem {D : Type 0} (image : D → List ℕ) (honest : D → Type 
   pub same : w ≡ with_device v w.file.device
   pub no_group : RefusesNoGroup g result v w s t
   pub keeps : Keeps v s t g
+  pub wanted : IfSome (held_at v g) (λ e. RemainOrNoRoom s t g e.len)
   pub ok : OnOk result (LockedMore s t g)
   pub locks : OnErr result (locks_of t (vm_slot g) ≡ locks_of s (vm_slot g))
   pub refused : OnErr result (IsThere s (vm_slot g) → t ≡ s)

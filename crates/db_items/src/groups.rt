@@ -1,11 +1,12 @@
 //! Groups: which blocks are groups, new ones, those that go, and those that come into memory.
-ghost use Rattle.std.specs.Prelude.{◌≡◌, ◌⊎◌, ◌<◌, ◌↔◌, Err, IsTrue, IfOk, IfErr, OnOk, OnErr};
+ghost use Rattle.std.specs.Prelude.{◌≡◌, ◌⊎◌, ◌<◌, ◌↔◌, ℕ, Err, IsTrue, IfOk, IfErr, OnOk, OnErr};
 ghost use Rattle.block_handles.specs.Store.{locks_of};
 ghost use Rattle.geos_table.specs.ItemCalls.{gfree, gnew};
 ghost use Rattle.vm_file.specs.Directories.{group_uid};
-ghost use Rattle.vm_blocks.specs.Blocks.{Adds, AllListed, LacksRoomForNew, without_held};
+ghost use Rattle.vm_blocks.specs.Blocks.{Adds, AllListed, IsLowestUnlisted, LacksRoomForNew, without_held};
 ghost use Rattle.vm_blocks.specs.Bring.{Drops};
 ghost use Rattle.vm_blocks.specs.DoesRow.{DoesRow};
+ghost use Rattle.vm_blocks.specs.Room.{RemainOrNoRoom};
 ghost use Rattle.vm_blocks.specs.Tied.{IsTied};
 ghost use Rattle.vm_blocks.specs.View.{vm_slot};
 ghost use Rattle.db_items.specs.Groups.{BringsGroup, IsGroup, RefusesNoGroup};
@@ -70,6 +71,8 @@ pub fn group_new<D: Device + Drop>(
     ensures why { IfErr result (λ why. (why ≡ Refusal.NoHandle) ⊎ (why ≡ Refusal.NoRoom)) }
     ensures no_handle { (result ≡ Err Refusal.NoHandle) ↔ AllListed vm.old }
     ensures no_room { result ≡ Err Refusal.NoRoom → LacksRoomForNew vm.old blocks.old blocks.new }
+    // No block goes where there is room.
+    ensures wanted { (h : ℕ) → IsLowestUnlisted vm.old h → RemainOrNoRoom blocks.old blocks.new h 64 }
     ensures stays { result ≡ Err Refusal.NoHandle → blocks.new ≡ blocks.old }
     ensures err { OnErr result (vm.new ≡ vm.old) }
     ensures file { vm.new.file ≡ vm.old.file }

@@ -47,5 +47,5 @@ returns g c =
     let keeps = subst (KeepsOthers w t u) c.vm.ensures e.ensures.keeps in
     let row = carries-alone d.image d.honest d.failed w (change_edit x) t u (vm h) b.tied (holds-heap d.image d.honest w t h b.tied b.ok.there) (may_grow x) (Ok tt) carries
     (values-of u (vm_slot h) c.region.result.now c.region.ensures.region c.region.ensures.bytes) in
-    item-changed d.image d.honest d.may_leave d.may_have_left d.failed c.args.vm.now h w c.args.blocks.now t (change_row (vm h) x) (changes-on_chunks (may_grow x) (change_edit x) (vm h)) (change_edit x) b u keeps c.vdirty_changed.new.self tt
+    item-changed d.image d.honest d.may_leave d.may_have_left d.failed c.args.vm.now h w c.args.blocks.now t (change_row (vm h) x) (changes-on_chunks (may_grow x) (change_edit x) (vm h)) (change_edit x) b u keeps (may_grow x) c.vdirty_changed.new.self tt carries
     c.vdirty_changed.ensures.tied c.vdirty_changed.ensures.marks c.vdirty_changed.ensures.memory row

@@ -47,5 +47,5 @@ returns g c =
     let keeps = subst (KeepsOthers w t u) c.vm.ensures e.ensures.keeps in
     let row = comes-alone d.image d.honest d.failed w (make_edit x) t u (vm h) b.tied (holds-heap d.image d.honest w t h b.tied b.ok.there) (Ok e.item) comes
     (values-of u (vm_slot h) c.region.result.now c.region.ensures.region c.region.ensures.bytes) in
-    item-changed d.image d.honest d.may_leave d.may_have_left d.failed c.args.vm.now h w c.args.blocks.now t (make_row (vm h) x) (enlarges-on_chunks (make_edit x) (vm h)) (make_edit x) b u keeps c.vdirty_changed.new.self e.item
+    item-changed d.image d.honest d.may_leave d.may_have_left d.failed c.args.vm.now h w c.args.blocks.now t (make_row (vm h) x) (enlarges-on_chunks (make_edit x) (vm h)) (make_edit x) b u keeps true c.vdirty_changed.new.self e.item comes
     c.vdirty_changed.ensures.tied c.vdirty_changed.ensures.marks c.vdirty_changed.ensures.memory row

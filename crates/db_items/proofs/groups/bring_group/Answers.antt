@@ -42,6 +42,7 @@ returns-in-Err g c =
       ok = tt;
       err = e.err;
       keeps = e.keeps;
+      wanted = e.wanted;
       no_room = λ r. (λ there. (let known = e.known there in absurd cc), e.no_room (room-why why r));
       device = record { pair = e.pair; reads = e.reads; cause = λ good fails. e.cause good (disk-why why fails); counted = λ never. e.counted (λ fails. never (disk-so why fails)) };
     } in
@@ -62,6 +63,7 @@ returns-in-Ok g c =
       ok = e.ok;
       err = tt;
       keeps = e.keeps;
+      wanted = e.wanted;
       no_room = λ r. absurd cc;
       device = record { pair = e.pair; reads = e.reads; cause = λ good fails. absurd cc; counted = λ never. e.counted (λ fails. absurd cc) };
     }
