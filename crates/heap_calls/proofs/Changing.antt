@@ -15,8 +15,7 @@ use Rattle.vm_blocks.specs.View.{VmState, held_at, vm_slot}
 use Rattle.vm_blocks.specs.Bring.{KeptOrGoes}
 use Rattle.vm_blocks.specs.Room.{StaysOrGoes, Thins, is_idle_in, own_handle}
 use Rattle.vm_blocks.proofs.Slots.{idle}
-use Rattle.heap_calls.specs.declared.obstacle.Obstacle.{Obstacle}
-use Rattle.heap_calls.specs.Edits.{Tries, Changes, Grows, Comes, Carries}
+use Rattle.heap_calls.specs.Edits.{Changes, Grows, Comes, Carries}
 use Rattle.heap_calls.specs.Heaps.{HoldsHeap, Rechunks, chunks_at, size_at}
 use Rattle.heap_calls.specs.Others.{KeepsBut, KeepsOthers}
 use Rattle.heap_calls.proofs.Regrown.{rechunked-other, rechunked-there, rechunked-locks, rechunked-heap, rechunked-handle}
@@ -82,10 +81,6 @@ module _ {D : Type 0} (v : VmState D) where
     }
 
   module _ {A : Type 0} (edit : List (Option (List ℕ)) → Edit A) (s t : Store) (name : Name) (laid : IsLaidOut s) (holds : HoldsHeap s name) where
-    pub tries-keeps : (r : Result A Obstacle) → Tries edit s t name r → KeepsOthers v s t name
-    tries-keeps (Ok answer) h = rechunked-keeps s t name laid holds (edit (chunks_at s name)).chunks (size_at s name) h.1
-    tries-keeps (Err obstacle) h = same-keeps s t name laid holds h.1
-
     pub changes-keeps : (r : Result A Refusal) → Changes edit s t name r → KeepsOthers v s t name
     changes-keeps (Ok answer) h = rechunked-keeps s t name laid holds (edit (chunks_at s name)).chunks (size_at s name) h.1
     changes-keeps (Err why) h = same-keeps s t name laid holds h.1

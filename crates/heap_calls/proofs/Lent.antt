@@ -1,6 +1,5 @@
 -- A block whose bytes were lent to its heap.
 use Rattle.std.proofs.Common.{◌≡◌, ℕ, zero, suc, ◌<◌, List, [], ◌∷◌, length, set, get_or, Option, Some, None, refl, ap, ◌∙◌, subst, inl, inr}
-use Rattle.std.specs.Prelude.{Result, Ok, Err, OnOk, OnErr, IfOk}
 use Rattle.std.proofs.lemmas.Bool.{cases_lt}
 use Rattle.std.proofs.lemmas.List.{get_or_past}
 use Rattle.lmem_raw.proofs.Parts.{with_whole}
@@ -23,19 +22,6 @@ with_bytes-set (None ∷ bs) zero ws there long = absurd there
 with_bytes-set (Some b ∷ bs) zero ws there long = λ k. Some (record { locks = b.locks; bytes = with_whole b.bytes ws long k }) ∷ bs
 with_bytes-set (None ∷ bs) (suc i) ws there long = ap (λ l. None ∷ l) (with_bytes-set bs i ws there long)
 with_bytes-set (Some b ∷ bs) (suc i) ws there long = ap (λ l. Some b ∷ l) (with_bytes-set bs i ws there long)
-
--- what holds of an answer where it is Ok, carried over
-pub on_ok-map : {A E : Type 0} {P Q : Type 0} (r : Result A E) → (P → Q) → OnOk r P → OnOk r Q
-on_ok-map (Ok x) f p = f p
-on_ok-map (Err e) f p = tt
-
-pub if_ok-map : {A E : Type 0} {P Q : A → Type 0} (r : Result A E) → ((x : A) → P x → Q x) → IfOk r P → IfOk r Q
-if_ok-map (Ok x) f p = f x p
-if_ok-map (Err e) f p = tt
-
-pub on_err-map : {A E : Type 0} {P Q : Type 0} (r : Result A E) → (P → Q) → OnErr r P → OnErr r Q
-on_err-map (Ok x) f p = tt
-on_err-map (Err e) f p = f p
 
 module _ (old : Store) (slot : ℕ) (there : IsThere old slot) (ws : List ℕ) where
   -- a heap that was left in the bytes of a block

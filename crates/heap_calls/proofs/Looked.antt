@@ -1,13 +1,11 @@
 -- The calls that look at chunks.
-use Rattle.std.proofs.Common.{◌≡◌, ℕ, ◌+◌, ◌≤◌, Bool, cond, List, [], ◌∷◌, length, drop, Option, Some, None, refl, sym, ap, ◌∙◌, arith, length-take, length-drop}
-use Rattle.std.specs.Prelude.{Ok, Err, IsSomeAnd, nat_lt, true, false, option_map}
+use Rattle.std.proofs.Common.{◌≡◌, ℕ, Bool, cond, List, [], ◌∷◌, length, drop, Option, Some, None, refl, sym, ap, ◌∙◌, arith, length-take, length-drop}
+use Rattle.std.specs.Prelude.{Ok, Err, nat_lt, true, false, option_map}
 use Rattle.lmem_raw.specs.Bytes.{part}
 use Rattle.geos_model.specs.declared.refusal.Refusal.{Refusal}
-use Rattle.geos_model.specs.declared.refusal.Refusal.TheVariants.{BadChunk, Short}
+use Rattle.geos_model.specs.declared.refusal.Refusal.TheVariants.{Short}
 use Rattle.geos_model.specs.Refusals.{first_refusal}
 use Rattle.geos_model.specs.Block as block
-use Rattle.geos_model.specs.Chunks.{chunk_of}
-use Rattle.geos_model.specs.Edits as edits
 use Rattle.geos_model.specs.Edits.{Edit, Part}
 use Rattle.geos_model.specs.ArrayEdits.{element_of, no_element, refer_element}
 use Rattle.geos_table.proofs.Laws.{first_refusal-passed}
@@ -19,7 +17,7 @@ use Rattle.chunk_array.specs.declared.error.ElementError.TheVariants as element
 use Rattle.chunk_array.specs.ArrayErrors.{IsArrayError}
 use Rattle.chunk_array.specs.ElementErrors.{IsElementError}
 use Rattle.chunk_array.specs.Elements.{HasElement}
-use Rattle.heap_calls.specs.Edits.{Tells, LiesIn, Finds, enough}
+use Rattle.heap_calls.specs.Edits.{LiesIn, Finds, enough}
 use Rattle.heap_calls.specs.Refused.{why_no_array, why_no_element}
 
 -- of tests the first that holds is the error's, as the kernel says it
@@ -32,18 +30,6 @@ element-refuses element.BadChunk tests h = h
 element-refuses element.BadArray tests h = h
 element-refuses element.BadElement tests h = h
 
--- what there is, and what holds of it
-some_of : (o : Option (List ℕ)) (P : List ℕ → Type 0) → IsSomeAnd o P → (bytes : List ℕ) × (o ≡ Some bytes) × P bytes
-some_of None P h = absurd h
-some_of (Some bytes) P h = (bytes, refl, h)
-
--- a length that was found is told, and is refused where there is no chunk
-pub size-tells : (cs : List (Option (List ℕ))) (c n : ℕ) → IsSomeAnd (chunk_of cs c) (λ bytes. length bytes ≡ n) → Tells (edits.size c) cs (Ok n)
-size-tells cs c n h = let found = some_of (chunk_of cs c) (λ bytes. length bytes ≡ n) h in rw found.1 (sym found.2, refl)
-
-pub size-refuses : (cs : List (Option (List ℕ))) (c : ℕ) → chunk_of cs c ≡ None → Tells (edits.size c) cs (Err BadChunk)
-size-refuses cs c none = rw none refl
-
 -- a place that has enough bytes, or not, is what an edit refers to or refuses
 enough-finds : (edit : List (Option (List ℕ)) → Edit Part) (bytes : List ℕ) (place : ℕ × ℕ) (n : ℕ) → (nat_lt place.1 n ≡ true → first_refusal (edit (block.chunks bytes)).refusals ≡ Some Short)
     → (nat_lt place.1 n ≡ false → Finds edit bytes (Ok place)) → Finds edit bytes (enough place n)
@@ -52,18 +38,6 @@ enough-finds edit bytes place n few many = told (nat_lt place.1 n) refl
     told : (b : Bool) → nat_lt place.1 n ≡ b → Finds edit bytes (cond b (Err Short) (Ok place))
     told true is = few is
     told false is = many is
-
-pub chunk-finds : (bytes : List ℕ) (c n at len : ℕ) → at + len ≤ length bytes → chunk_of (block.chunks bytes) c ≡ Some (part bytes at len) → block.IsPlaced bytes c at len → Finds (edits.refer c n) bytes (enough (at, len) n)
-chunk-finds bytes c n at len within found placed =
-    let long : length (part bytes at len) ≡ len = omega (arith, within, length-take len (drop at bytes), length-drop at bytes) in
-    enough-finds (edits.refer c n) bytes (at, len) n
-    (λ less. (let short : nat_lt (length (part bytes at len)) n ≡ true = rw long less in rw (found, short) refl))
-    (λ fits. (
-    let room : nat_lt (length (part bytes at len)) n ≡ false = rw long fits in
-    let tells : edits.length_of (block.chunks bytes) c ≡ length (part bytes at len) = rw found refl in
-    let lies : LiesIn bytes (edits.refer c n (block.chunks bytes)).answer at = record { whole = part bytes at len; chunk = found; fits = omega (arith, tells); place = λ some. rw placed (omega arith) } in
-    (rw (found, room) refl, sym long ∙ sym tells, lies)
-    ))
 
 pub element-finds : (bytes : List ℕ) (c i n at len : ℕ) → first_refusal (no_element (block.chunks bytes) c i) ≡ None → HasElement bytes c i at len → Finds (refer_element c i n) bytes (enough (at, len) n)
 element-finds bytes c i n at len passed h =

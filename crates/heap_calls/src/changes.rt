@@ -1,12 +1,11 @@
 //! Changes of the chunks of a block of the region, which may have to grow for them.
 
-ghost use Rattle.std.specs.Prelude.{◌≡◌, Ok, Err, OnErr, OnOk};
+ghost use Rattle.std.specs.Prelude.{◌≡◌, Ok, Err, OnErr};
 ghost use Rattle.geos_model.specs.Edits.{contract};
 ghost use Rattle.geos_model.specs.Heap.{IsCompact};
 ghost use Rattle.block_handles.specs.Names.{slot_of};
 ghost use Rattle.block_handles.specs.Store.{bytes_of};
 ghost use Rattle.geos_table.specs.ChunkCalls.{change_edit, change_row, may_grow};
-ghost use Rattle.geos_table.specs.Legal.{AreBytes};
 ghost use Rattle.vm_blocks.specs.DoesRow.{DoesRow};
 ghost use Rattle.vm_blocks.specs.Tied.{IsTied};
 ghost use Rattle.heap_calls.specs.Edits.{Carries, Comes, IsOwn, Tries};
@@ -50,15 +49,14 @@ pub fn change<D: Device + Drop>(
     // Its row of the table of calls, in each memory that the model may have before it.
     ensures row { DoesRow D.image D.honest D.failed (change_row name change) result vm.now blocks.old vm.now blocks.new }
 {
-    match try_change(blocks, name, change) {
-        Ok(()) => {
-            // what lies in the region are bytes, as the block is to spell
-            let _ = blocks.region();
-            Ok(())
-        }
+    let done = match try_change(blocks, name, change) {
+        Ok(()) => Ok(()),
         Err(Obstacle::Refused(refusal)) => Err(refusal),
         Err(Obstacle::Room(room)) => grow_and_change(vm, blocks, name, change, room),
-    }
+    };
+    // what lies in the region are bytes, as the block is to spell
+    let _ = blocks.region();
+    done
 }
 
 /// Makes the room that a change wants, and makes the change.
@@ -76,17 +74,13 @@ fn grow_and_change<D: Device + Drop>(
     requires tried { Tries (change_edit change) blocks.old blocks.old name (Err (Room room)) }
     ensures comes { Comes vm.now (change_edit change) blocks.old blocks.new name result }
     ensures refused { (result ≡ Err Refusal.NoRoom → ⊥) → OnErr result (blocks.new ≡ blocks.old) }
-    ensures bytes { OnOk result (AreBytes (bytes_of blocks.new (slot_of name))) }
 {
     match make_room(vm, blocks, name, room) {
         Ok(()) => {}
         Err(refusal) => return Err(refusal),
     }
     match try_change(blocks, name, change) {
-        Ok(()) => {
-            let _ = blocks.region();
-            Ok(())
-        }
+        Ok(()) => Ok(()),
         Err(_) => unreachable!(),
     }
 }

@@ -1,10 +1,7 @@
 //! New chunks in a block of the region, which may have to grow for them.
 
-ghost use Rattle.std.specs.Prelude.{◌≡◌, Err, OnErr, OnOk};
-ghost use Rattle.block_handles.specs.Names.{slot_of};
-ghost use Rattle.block_handles.specs.Store.{bytes_of};
+ghost use Rattle.std.specs.Prelude.{◌≡◌, Err, OnErr};
 ghost use Rattle.geos_table.specs.ChunkCalls.{make_edit, make_row};
-ghost use Rattle.geos_table.specs.Legal.{AreBytes};
 ghost use Rattle.vm_blocks.specs.DoesRow.{DoesRow};
 ghost use Rattle.vm_blocks.specs.Tied.{IsTied};
 ghost use Rattle.heap_calls.specs.Edits.{Comes, Tries};
@@ -41,14 +38,13 @@ pub fn make<D: Device + Drop>(
     // Its row of the table of calls, in each memory that the model may have before it.
     ensures row { DoesRow D.image D.honest D.failed (make_row name make) result vm.now blocks.old vm.now blocks.new }
 {
-    match try_make(blocks, name, make) {
-        Ok(c) => {
-            let _ = blocks.region();
-            Ok(c)
-        }
+    let made = match try_make(blocks, name, make) {
+        Ok(c) => Ok(c),
         Err(Obstacle::Refused(refusal)) => Err(refusal),
         Err(Obstacle::Room(room)) => grow_and_make(vm, blocks, name, make, room),
-    }
+    };
+    let _ = blocks.region();
+    made
 }
 
 /// Makes the room that a chunk wants, and makes the chunk.
@@ -66,17 +62,13 @@ fn grow_and_make<D: Device + Drop>(
     requires tried { Tries (make_edit make) blocks.old blocks.old name (Err (Room room)) }
     ensures comes { Comes vm.now (make_edit make) blocks.old blocks.new name result }
     ensures refused { (result ≡ Err Refusal.NoRoom → ⊥) → OnErr result (blocks.new ≡ blocks.old) }
-    ensures bytes { OnOk result (AreBytes (bytes_of blocks.new (slot_of name))) }
 {
     match make_room(vm, blocks, name, room) {
         Ok(()) => {}
         Err(refusal) => return Err(refusal),
     }
     match try_make(blocks, name, make) {
-        Ok(c) => {
-            let _ = blocks.region();
-            Ok(c)
-        }
+        Ok(c) => Ok(c),
         Err(_) => unreachable!(),
     }
 }

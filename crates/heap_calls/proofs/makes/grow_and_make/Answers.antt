@@ -1,7 +1,5 @@
-use Rattle.block_handles.specs.Names.{slot_of}
 use Rattle.geos_table.specs.ChunkCalls.{make_edit}
 use Rattle.heap_calls.proofs.Coming.{comes-lacking, comes-held, comes-again, comes-once, lacking-stays}
-use Rattle.heap_calls.proofs.Values.{values-of}
 use Rattle.heap_calls.proofs.makes.grow_and_make.Goals as goal
 
 pub try_make-requires : goal.try_make-requires
@@ -28,6 +26,3 @@ returns-clause-comes g c =
     let old = c.args.blocks.now in let q = c.requires in
     comes-again c.args.vm.now (make_edit c.args.make) old c.args.name q.tied.laid c.args.room c.make_room.new.blocks q.tried q.heap.there c.in-Ok.field-0 c.in-Ok.ensures
     c.try_make.new.blocks c.in-Ok-try_make.c c.in-Ok-try_make.ensures
-
-pub returns-clause-bytes : goal.returns-clause-bytes
-returns-clause-bytes g c = values-of c.try_make.new.blocks (slot_of c.args.name) c.region.result.now c.region.ensures.region c.region.ensures.bytes
