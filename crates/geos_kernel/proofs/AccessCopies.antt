@@ -18,8 +18,8 @@ use Rattle.geos_model.proofs.Words.{with_nothing}
 use Rattle.vm_blocks.specs.FileOf.{IsMemoryOf}
 use Rattle.vm_blocks.specs.View.{VmState}
 use Rattle.geos_kernel.specs.declared.span.Span.{Span}
-use Rattle.geos_kernel.specs.View.{KernelState, core_of, MayChange}
-use Rattle.geos_kernel.specs.Spans.{Stands}
+use Rattle.geos_kernel.specs.View.{KernelOn, KernelState, core_of, kernel_of, MayChange}
+use Rattle.geos_kernel.specs.Spans.{IsStanding, IsWritable, Stands}
 use Rattle.geos_kernel.specs.Kernel.{IsKernel, Calls}
 use Rattle.geos_kernel.proofs.AccessReads.{Lies, has-place, lies, stands-there, first-named}
 use Rattle.geos_kernel.proofs.AccessWrites.{written-store, copied-in, stored-kernel, copied-over}
@@ -74,3 +74,19 @@ module _ {D : Type 0} (image : D → List ℕ) (honest : D → Type 0) (failed :
 
   pub copied-calls : Calls (honest v.file.device) (table.copy target source n) (Ok tt) (core s) (core t)
   copied-calls = copied-over image honest failed v s t k to target x 0 to.at taken (omega (arith, long, room)) (omega (arith, long, some)) (omega arith) taken-bytes covered source n is-taken refl
+
+-- A copy between spans that stand, as calls see the kernel
+
+module _ {D : Type 0} (image : D → List ℕ) (honest : D → Type 0) (failed : D → ℕ) (v : VmState D) (s t : Store) (k : KernelOn D) (is : kernel_of image failed v s ≡ k) (kernel : IsKernel image honest v s) (to from : Span)
+    (n : ℕ) (some : 0 < n) (room : n ≤ to.len) (fits : n ≤ from.len) (are : (slot : ℕ) → AreBytes (store.bytes_of s slot)) (copied : CopiesCovered s t from.at to.at n) where
+  -- the blocks still are a kernel's
+  pub span-copied : IsWritable k.core to → IsStanding k.core from → IsKernel image honest v t
+  span-copied writable standing =
+      let x = subst (λ k. IsWritable k.core to) (sym is) writable in
+      let y = subst (λ k. IsStanding k.core from) (sym is) standing in
+      copied-kernel image honest failed v s t kernel to from x.0 y.0 x.1 y.1 n some (omega (arith, room, x.1.len)) (omega (arith, fits, y.1.len)) are copied x.2
+
+  -- and the copy is the row's, whatever the spans stand for
+  pub span-copies : (target source : Reference) → Stands k.core to target → Stands k.core from source → Calls (honest k.device) (table.copy target source n) (Ok tt) k.core (core_of image failed v t)
+  span-copies = subst (λ k. (target source : Reference) → Stands k.core to target → Stands k.core from source → Calls (honest k.device) (table.copy target source n) (Ok tt) k.core (core_of image failed v t)) is
+      (λ target source x y. copied-calls image honest failed v s t kernel to from target source x y n some (omega (arith, room, x.len)) (omega (arith, fits, y.len)) are copied)

@@ -7,7 +7,6 @@ use Rattle.lmem_raw.specs.Bytes.{part}
 use Rattle.block_handles.specs.Names.{slot_of}
 use Rattle.block_handles.specs.Store as store
 use Rattle.block_handles.specs.Store.{Store}
-use Rattle.block_handles.specs.Layout.{IsLaidOut}
 use Rattle.block_handles.specs.Offsets.{Covers, byte_of, ReadsByte, ReadsWord}
 use Rattle.block_handles.proofs.Layouts.{there_of_locks}
 use Rattle.block_handles.proofs.Writes.{part-part}
@@ -22,18 +21,11 @@ use Rattle.geos_table.specs.Effects.{Reference}
 use Rattle.geos_table.specs.Calls as table
 use Rattle.geos_model.proofs.Places.{chunk-place}
 use Rattle.geos_kernel.specs.declared.span.Span.{Span}
-use Rattle.geos_kernel.specs.View.{KernelState, core_of}
+use Rattle.geos_kernel.specs.View.{KernelOn, KernelState, core_of, kernel_of}
 use Rattle.geos_kernel.specs.Spans.{Stands, IsStanding}
 use Rattle.geos_kernel.specs.Kernel.{IsKernel, Calls}
 use Rattle.heap_calls.proofs.Named.{chunks-known}
 use Rattle.geos_kernel.proofs.Rowed.{telling-calls}
-
--- a span stands for some reference, and n bytes at an offset lie in it
-abbrev pub IsGood : KernelState → Span → ℕ → ℕ → Type 0
-IsGood s span i n = (ref : Reference) × Stands s span ref × (i + n ≤ ref.len)
-
-pub good-of : (old s : KernelState) (span : Span) (i n : ℕ) → s ≡ old → IsStanding old span → i + n ≤ span.len → IsGood s span i n
-good-of old s span i n same standing within = subst (λ t. IsGood t span i n) (sym same) (standing.0, standing.1, omega (arith, within, standing.1.len))
 
 -- the place of a reference's chunk in its block
 pub record HasPlace (s : KernelState) (ref : Reference) : Type 0 where
@@ -134,12 +126,21 @@ module _ {D : Type 0} (image : D → List ℕ) (honest : D → Type 0) (failed :
       let index : span.at - store.place_of s (slot_of ref.name) ≡ begin = omega (arith, l.at) in
       ap (λ j. part own_bytes j n) index ∙ sym (ap (take n) (named-is m is l) ∙ take-take n ref.len (drop begin own_bytes) fits)
 
--- bytes of a span lie in the region
-pub good-region : (s : KernelState) (span : Span) (i n : ℕ) → IsLaidOut s.blocks → IsGood s span i n → 0 < n → span.at + i + n ≤ store.region_len s.blocks
-good-region s span i n laid (ref, stands, fits) some =
-    let l = lies s span ref stands (omega (arith, fits, some)) in
-    omega (arith, fits, l.at, l.within, laid.within (slot_of ref.name))
+-- A span that stands, as calls see the kernel
 
--- spans that stand for two references have the length of both
-pub same-length : (s : KernelState) (span : Span) (i n : ℕ) (ref : Reference) → IsGood s span i n → Stands s span ref → i + n ≤ ref.len
-same-length s span i n ref (other, stands, fits) t = omega (arith, fits, stands.len, t.len)
+module _ {D : Type 0} (image : D → List ℕ) (honest : D → Type 0) (failed : D → ℕ) (v : VmState D) (s : Store) (k : KernelOn D) (is : kernel_of image failed v s ≡ k) (kernel : IsKernel image honest v s) (span : Span) where
+  -- bytes of it lie in the region
+  pub span-region : (i n : ℕ) → IsStanding k.core span → i + n ≤ span.len → 0 < n → span.at + i + n ≤ store.region_len s
+  span-region i n standing fits some =
+      let here = subst (λ k. IsStanding k.core span) (sym is) standing in
+      let l = lies (core_of image failed v s) span here.0 here.1 (omega (arith, fits, some, here.1.len)) in
+      omega (arith, fits, here.1.len, l.at, l.within, kernel.laid.within (slot_of here.0.name))
+
+  -- what is read from it answers as the row says, whatever it stands for
+  pub span-byte : (i at byte : ℕ) → i + 1 ≤ span.len → at ≡ span.at + i → ReadsByte s at byte → (ref : Reference) → Stands k.core span ref → Calls (honest k.device) (table.load8 ref i) (Ok byte) k.core k.core
+  span-byte i at byte fits e read = subst (λ k. (ref : Reference) → Stands k.core span ref → Calls (honest k.device) (table.load8 ref i) (Ok byte) k.core k.core) is
+      (λ ref stands. load8-calls image honest failed v s span ref stands kernel i at byte (omega (arith, fits, stands.len)) e read)
+
+  pub span-word : (i at w : ℕ) → i + 2 ≤ span.len → at ≡ span.at + i → ReadsWord s at w → (ref : Reference) → Stands k.core span ref → Calls (honest k.device) (table.load16 ref i) (Ok w) k.core k.core
+  span-word i at w fits e read = subst (λ k. (ref : Reference) → Stands k.core span ref → Calls (honest k.device) (table.load16 ref i) (Ok w) k.core k.core) is
+      (λ ref stands. load16-calls image honest failed v s span ref stands kernel i at w (omega (arith, fits, stands.len)) e read)

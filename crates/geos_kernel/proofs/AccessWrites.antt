@@ -1,8 +1,9 @@
 -- What bytes that are written within a chunk make of the kernel's memory.
-use Rattle.std.proofs.Common.{◌≡◌, ◌≢◌, ℕ, ◌+◌, ◌-◌, ◌<◌, ◌≤◌, List, [], length, set, Option, Some, unwrap_or, refl, sym, ap, ◌∙◌, subst, arith, inl, inr, length-take, length-drop, take, drop}
+use Rattle.std.proofs.Common.{◌≡◌, ◌≢◌, ℕ, ◌+◌, ◌-◌, ◌/◌, ◌%◌, ◌<◌, ◌≤◌, List, [], ◌∷◌, length, set, Option, Some, unwrap_or, refl, sym, ap, ◌∙◌, subst, arith, inl, inr, length-take, length-drop, take, drop}
 use Rattle.std.specs.Prelude.{Ok, max}
 use Rattle.std.specs.Option.{option_map}
 use Rattle.std.proofs.lemmas.Bool.{cases_eq}
+use Rattle.std.proofs.lemmas.List.Elements.{All-cons, All-nil}
 use Rattle.lmem_raw.specs.Bytes.{with_part}
 use Rattle.lmem_raw.proofs.Parts.{length-with_part, with_whole}
 use Rattle.geos_model.specs.declared.name.Owner.TheVariants.{Vm}
@@ -15,6 +16,7 @@ use Rattle.block_handles.specs.Offsets.{WritesCovered}
 use Rattle.block_handles.proofs.Laws.{handle_of_there, laid-with_bytes}
 use Rattle.block_handles.proofs.Writes.{blocks_with_bytes-set}
 use Rattle.geos_model.specs.Block as block
+use Rattle.geos_model.specs.Bytes.{word_bytes}
 use Rattle.geos_model.specs.Chunks as chunks
 use Rattle.geos_model.specs.Heap.{IsHeap}
 use Rattle.geos_table.specs.Blocks.{rechunked_block}
@@ -33,22 +35,22 @@ use Rattle.geos_model.proofs.Writes.{writes-stay}
 use Rattle.vm_blocks.specs.DoesRow.{DoesRow}
 use Rattle.vm_blocks.specs.FileOf.{IsMemoryOf}
 use Rattle.vm_blocks.specs.Spelled.{spelled}
-use Rattle.vm_blocks.specs.Tied.{IsTied}
 use Rattle.vm_blocks.specs.View.{VmState}
 use Rattle.geos_kernel.specs.declared.span.Span.{Span}
-use Rattle.geos_kernel.specs.View.{KernelState, core_of, MayChange}
-use Rattle.geos_kernel.specs.Spans.{Stands, SpansStay}
-use Rattle.geos_kernel.specs.Kernel.{IsKernel, Calls}
+use Rattle.geos_kernel.specs.View.{KernelOn, KernelState, core_of, kernel_of, MayChange}
+use Rattle.geos_kernel.specs.Spans.{IsWritable, Stands, SpansStay}
+use Rattle.geos_kernel.specs.Kernel.{IsKernel, Calls, Stores}
 use Rattle.geos_kernel.proofs.AccessReads.{HasPlace, Lies, chunk-placed, lies, stands-there}
+use Rattle.heap_calls.specs.Heaps.{HoldsHeap}
 use Rattle.heap_calls.specs.Others.{KeepsBut, KeepsOthers}
 use Rattle.heap_calls.proofs.Kept.{named-changed, named-tied}
 use Rattle.heap_calls.proofs.Named.{chunks-known}
 use Rattle.heap_calls.proofs.Rows.{there-is}
 use Rattle.geos_kernel.proofs.Changed.{slot-keeps, slot-other, slot-own}
+use Rattle.geos_kernel.proofs.Chunks.{others-kernel}
 use Rattle.geos_kernel.proofs.Named.{named-legal}
 use Rattle.geos_kernel.proofs.Rowed.{does-willing, row-calls}
-use Rattle.geos_kernel.proofs.Seen.{row-known}
-use Rattle.geos_kernel.proofs.Stays.{kernel-set, stands-same}
+use Rattle.geos_kernel.proofs.Stays.{stands-same}
 
 -- the greater of two numbers
 max-is : (n m k : ℕ) → n ≡ m → k ≤ n → max m k ≡ n
@@ -191,7 +193,7 @@ module _ {D : Type 0} (image : D → List ℕ) (honest : D → Type 0) (failed :
   -- the blocks still are a kernel's
   pub written-kernel : MayChange (sees s) ref.name → IsKernel image honest v written-store
   written-kernel may =
-      let word : block.handle_word written ≡ ref.name.h = changes.handle ∙ k.handles ref.name there in
+      let holds : HoldsHeap s ref.name = record { there = there; heap = k.heaps ref.name there } in
       let others : KeepsOthers v s written-store ref.name = record {
         others = keeps;
         there = subst store.IsBlock (sym block-own) tt;
@@ -199,8 +201,7 @@ module _ {D : Type 0} (image : D → List ℕ) (honest : D → Type 0) (failed :
         heap = subst (λ o. IsHeap (store.bytes_in o)) (sym block-own) changes.heap;
         handle = ap (λ o. block.handle_word (store.bytes_in o)) block-own ∙ changes.handle;
       } in
-      let tied : IsTied image honest v written-store = named-tied image honest v s written-store ref.name k.tied there others may in
-      kernel-set image honest v s written-store k tied (row-known image honest failed (table.store ref i ws) (Ok tt) v s v written-store written-row k.known) refl ref.name own handle blocks-set changes.heap word (k.few ref.name)
+      others-kernel image honest failed v s written-store ref.name k holds others (table.store ref i ws) (Ok tt) (named-tied image honest v s written-store ref.name k.tied there others may) written-row
 
 -- a write that covers bytes of a span is a write to the chunk for which it stands
 module _ {D : Type 0} (image : D → List ℕ) (honest : D → Type 0) (failed : D → ℕ) (v : VmState D) (s t : Store) (k : IsKernel image honest v s) (span : Span) (ref : Reference) (stands : Stands (core_of image failed v s) span ref)
@@ -230,3 +231,24 @@ module _ {D : Type 0} (image : D → List ℕ) (honest : D → Type 0) (failed :
   pub copied-over : (source : Reference) (n : ℕ) → ((m : Memory) → IsMemoryOf image honest v s m → ws ≡ take n (table.named_bytes m source)) → i ≡ 0 → Calls (honest v.file.device) (table.copy ref source n) (Ok tt) (core s) (core t)
   copied-over source n is first =
       subst (λ u. Calls (honest v.file.device) (table.copy ref source n) (Ok tt) (core s) (core u)) (sym stored) (copied-in image honest failed v s k ref is-there place.chunk i ws fits are source n is first)
+
+-- A write through a span that stands, as calls see the kernel
+
+pub byte-bytes : (b : ℕ) → b < 256 → AreBytes (b ∷ [])
+byte-bytes b small = All-cons (λ b. b < 256) b [] small (All-nil (λ b. b < 256))
+
+pub word-bytes : (w : ℕ) → w < 65536 → AreBytes (word_bytes w)
+word-bytes w small = All-cons (λ b. b < 256) (w % 256) (w / 256 ∷ []) (omega arith) (byte-bytes (w / 256) (omega (arith, small)))
+
+module _ {D : Type 0} (image : D → List ℕ) (honest : D → Type 0) (failed : D → ℕ) (v : VmState D) (s t : Store) (k : KernelOn D) (is : kernel_of image failed v s ≡ k) (kernel : IsKernel image honest v s) (span : Span)
+    (i at : ℕ) (ws : List ℕ) (fits : i + length ws ≤ span.len) (some : 0 < length ws) (e : at ≡ span.at + i) (are : AreBytes ws) (covered : WritesCovered s t at ws) where
+  -- the blocks still are a kernel's
+  pub span-written : IsWritable k.core span → IsKernel image honest v t
+  span-written writable =
+      let here = subst (λ k. IsWritable k.core span) (sym is) writable in
+      stored-kernel image honest failed v s t kernel span here.0 here.1 i at ws (omega (arith, fits, here.1.len)) some e are covered here.2
+
+  -- and the write is the row's, whatever the span stands for
+  pub span-stores : Stores (honest k.device) span i ws k.core (core_of image failed v t)
+  span-stores = subst (λ k. Stores (honest k.device) span i ws k.core (core_of image failed v t)) is
+      (λ ref stands. stored-calls image honest failed v s t kernel span ref stands i at ws (omega (arith, fits, stands.len)) some e are covered)

@@ -1,90 +1,55 @@
 -- What calls that change the chunks of a named block make of the kernel.
-use Rattle.std.proofs.Common.{◌≡◌, ◌≢◌, ℕ, ◌<◌, ◌≤◌, Bool, true, false, List, Option, Some, refl, sym, ap, ◌∙◌, arith, subst, inl, inr}
+use Rattle.std.proofs.Common.{◌≡◌, ℕ, Bool, true, false, List, Option, Some, refl, sym, ap, ◌∙◌, arith, subst, inl, inr}
 use Rattle.std.specs.Prelude.{Result, Ok, Err}
-use Rattle.std.proofs.lemmas.Bool.{cases_eq}
 use Rattle.geos_model.specs.declared.name.Name.{Name}
 use Rattle.geos_model.specs.declared.refusal.Refusal.{Refusal}
 use Rattle.geos_model.specs.declared.refusal.Refusal.TheVariants.{NoRoom}
 use Rattle.geos_model.specs.Block as block
 use Rattle.geos_model.specs.Chunks.{need}
-use Rattle.geos_model.specs.Edits.{Edit}
-use Rattle.geos_model.specs.Heap.{IsHeap}
+use Rattle.geos_model.specs.Edits.{Edit, contract}
 use Rattle.geos_model.specs.Refusals.{first_refusal}
+use Rattle.geos_table.specs.Calls.{lcontract}
 use Rattle.geos_table.specs.Effects.{Call, Choice, InBlock, effect_of}
+use Rattle.geos_table.specs.Legal.{AreBytes}
 use Rattle.geos_table.specs.VmFile.{VmFile}
 use Rattle.geos_table.specs.Memory.{Memory}
 use Rattle.block_handles.specs.Names.{slot_of}
-use Rattle.block_handles.specs.Store.{Store, block_at, bytes_in, bytes_of, IsBlock, IsThere, locks_in, locks_of}
+use Rattle.block_handles.specs.Store.{Store, bytes_in, bytes_of}
 use Rattle.block_handles.specs.Stretch.{HasNoRoom}
-use Rattle.block_handles.proofs.Laws.{handle_of_there, same-name}
+use Rattle.block_handles.proofs.Laws.{handle_of_there}
 use Rattle.block_handles.proofs.Layouts.{there_of_locks}
-use Rattle.vm_blocks.specs.Bring.{KeptOrGoes}
 use Rattle.vm_blocks.specs.DoesRow.{DoesRow}
-use Rattle.vm_blocks.specs.Room.{own_handle}
 use Rattle.vm_blocks.specs.Tied.{IsTied}
 use Rattle.vm_blocks.specs.View.{VmState}
 use Rattle.heap_calls.specs.Edits.{Carries, Changes, Comes, Grows}
 use Rattle.heap_calls.specs.Heaps as heaps
 use Rattle.heap_calls.specs.Heaps.{HoldsHeap, chunks_at}
-use Rattle.heap_calls.specs.Others.{KeepsOthers}
+use Rattle.heap_calls.specs.Others.{IsMarkedIfVm, KeepsOthers}
 use Rattle.heap_calls.proofs.Asking.{AsksNoRoom}
-use Rattle.heap_calls.proofs.Changing.{others-locked}
-use Rattle.geos_kernel.specs.View.{core_of, memory_of}
+use Rattle.heap_calls.proofs.Changing.{changes-keeps, others-locked}
+use Rattle.heap_calls.proofs.Kept.{named-tied}
+use Rattle.heap_calls.proofs.Rows.{changes-row}
+use Rattle.geos_kernel.specs.View.{IsLocked, KernelOn, core_of, kernel_of, memory_of}
 use Rattle.geos_kernel.specs.Spans.{SpansStay}
 use Rattle.geos_kernel.specs.Kernel.{Calls, HasNoRoomFor, IsKernel}
 use Rattle.geos_kernel.proofs.Named.{other-slot}
 use Rattle.geos_kernel.proofs.Rowed.{row-calls}
 use Rattle.geos_kernel.proofs.Seen.{row-known}
-use Rattle.geos_kernel.proofs.Stays.{stands-same}
+use Rattle.geos_kernel.proofs.Stays.{kernel-but, stands-same}
 
--- a block that is locked is there, and holds a heap
-pub locked-heap : {D : Type 0} (image : D → List ℕ) (honest : D → Type 0) (v : VmState D) (s : Store) (name : Name) → IsKernel image honest v s → 0 < locks_of s (slot_of name) → HoldsHeap s name
-locked-heap image honest v s name k locked = let there = there_of_locks s (slot_of name) locked in record { there = there; heap = k.heaps name there }
+-- a block that calls see as locked is there, and holds a heap
+pub seen-heap : {D : Type 0} (image : D → List ℕ) (honest : D → Type 0) (failed : D → ℕ) (v : VmState D) (s : Store) (k : KernelOn D) → kernel_of image failed v s ≡ k → (name : Name) → IsKernel image honest v s → IsLocked k.core name → HoldsHeap s name
+seen-heap image honest failed v s k is name kernel locked =
+    let there = there_of_locks s (slot_of name) (subst (λ k. IsLocked k.core name) (sym is) locked) in
+    record { there = there; heap = kernel.heaps name there }
 
 -- One block changed, and others are as they were or were discarded
 
 module _ {D : Type 0} (image : D → List ℕ) (honest : D → Type 0) (failed : D → ℕ) (v : VmState D) (s t : Store) (name : Name) (k : IsKernel image honest v s) (holds : HoldsHeap s name) (keeps : KeepsOthers v s t name) where
   -- the blocks still are a kernel's
   pub others-kernel : {A : Type 0} (call : Call A) (r : Result A Refusal) → IsTied image honest v t → DoesRow image honest failed call r v s v t → IsKernel image honest v t
-  others-kernel call r tied row = record {
-    laid = tied.laid;
-    heaps = heap;
-    handles = handle;
-    few = counts;
-    tied = tied;
-    known = row-known image honest failed call r v s v t row k.known;
-    small = rw keeps.others.len k.small;
-  }
-    where
-      other : (n : Name) → IsThere t (slot_of n) → slot_of n ≢ slot_of name → block_at t (slot_of n) ≡ block_at s (slot_of n)
-      other n there ne = on (keeps.others.each (slot_of n) ne)
-        where
-          on : KeptOrGoes v s t (own_handle name) (slot_of n) → block_at t (slot_of n) ≡ block_at s (slot_of n)
-          on (inl u) = u.0
-          on (inr g) = absurd (subst IsBlock g.gone there)
-
-      heap : (n : Name) → IsThere t (slot_of n) → IsHeap (bytes_of t (slot_of n))
-      heap n there = elim (cases_eq (slot_of n) (slot_of name)) [
-        | inl same ↦ subst (λ j. IsHeap (bytes_of t j)) (sym same) keeps.heap
-        | inr ne ↦ (let is = other n there ne in subst (λ o. IsHeap (bytes_in o)) (sym is) (k.heaps n (subst IsBlock is there)))
-      ]
-
-      handle : (n : Name) → IsThere t (slot_of n) → block.handle_word (bytes_of t (slot_of n)) ≡ n.h
-      handle n there = elim (cases_eq (slot_of n) (slot_of name)) [
-        | inl same ↦ ap (λ j. block.handle_word (bytes_of t j)) same ∙ keeps.handle ∙ k.handles name holds.there
-            ∙ ap (λ m. m.h) (same-name name n (handle_of_there s s name refl k.laid holds.there) (handle_of_there t t n refl tied.laid there) (sym same))
-        | inr ne ↦ (let is = other n there ne in ap (λ o. block.handle_word (bytes_in o)) is ∙ k.handles n (subst IsBlock is there))
-      ]
-
-      counts : (n : Name) → locks_of t (slot_of n) ≤ 65535
-      counts n = elim (cases_eq (slot_of n) (slot_of name)) [
-        | inl same ↦ omega (arith, ap (locks_of t) same, keeps.locks, k.few name)
-        | inr ne ↦ on (keeps.others.each (slot_of n) ne)
-      ]
-        where
-          on : KeptOrGoes v s t (own_handle name) (slot_of n) → locks_of t (slot_of n) ≤ 65535
-          on (inl u) = omega (arith, ap locks_in u.0, k.few n)
-          on (inr g) = omega (arith, ap locks_in g.gone)
+  others-kernel call r tied row =
+      kernel-but image honest v s t name k keeps.others (handle_of_there s s name refl k.laid holds.there) tied (row-known image honest failed call r v s v t row k.known) keeps.heap (keeps.handle ∙ k.handles name holds.there) (omega (arith, keeps.locks, k.few name))
 
   -- spans in other blocks stay
   pub others-stay : (f : VmFile) → SpansStay (core_of image failed v s) (core_of image failed v t) f (InBlock name)
@@ -97,6 +62,15 @@ module _ {D : Type 0} (image : D → List ℕ) (honest : D → Type 0) (failed :
       → Calls (honest v.file.device) call r (core_of image failed v s) (core_of image failed v t)
   others-calls call r stale row = row-calls image honest failed call r v s t row
       (λ f tied choice. subst (SpansStay (core_of image failed v s) (core_of image failed v t) f) (sym (stale choice (memory_of (core_of image failed v s) f))) (others-stay f))
+
+-- the chunks of a block were moved together
+pub contracted : {D : Type 0} (image : D → List ℕ) (honest : D → Type 0) (failed : D → ℕ) (v : VmState D) (s t : Store) (name : Name) (k : IsKernel image honest v s) → HoldsHeap s name → Changes contract s t name (Ok tt) → AreBytes (bytes_of t (slot_of name)) → IsMarkedIfVm v name
+    → IsKernel image honest v t × Calls (honest v.file.device) (lcontract name) (Ok tt) (core_of image failed v s) (core_of image failed v t)
+contracted image honest failed v s t name k holds done are marked =
+    let keeps = changes-keeps v contract s t name k.laid holds (Ok tt) done in
+    let row = changes-row image honest failed v contract s name k.tied holds t (Ok tt) done are in
+    let tied = named-tied image honest v s t name k.tied holds.there keeps marked in
+    (others-kernel image honest failed v s t name k holds keeps (lcontract name) (Ok tt) tied row, others-calls image honest failed v s t name k holds keeps (lcontract name) (Ok tt) (λ choice m. refl) row)
 
 -- Want of room
 

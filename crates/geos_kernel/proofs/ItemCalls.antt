@@ -7,7 +7,7 @@ use Rattle.geos_model.specs.declared.refusal.Refusal.TheVariants as refusal
 use Rattle.geos_model.specs.Edits.{Edit, refer}
 use Rattle.geos_model.specs.Names.{vm}
 use Rattle.geos_table.specs.Calls.{in_block}
-use Rattle.geos_table.specs.Effects.{Call, Choice, InBlock, Reference, effect_of}
+use Rattle.geos_table.specs.Effects.{Call, Choice, InBlock, effect_of}
 use Rattle.geos_table.specs.Given.{given_memory}
 use Rattle.geos_table.specs.ItemCalls.{ilock, in_group}
 use Rattle.geos_table.specs.Memory.{is_group}
@@ -17,16 +17,14 @@ use Rattle.block_handles.specs.Store.{Store, IsThere, locks_of, place_of}
 use Rattle.block_handles.proofs.Laws.{handle_of_there, same-name}
 use Rattle.block_handles.proofs.Layouts.{there_of_locks}
 use Rattle.vm_blocks.specs.Bring.{Keeps, LockedMore}
-use Rattle.vm_blocks.specs.View.{VmState, vm_slot, with_device}
+use Rattle.vm_blocks.specs.View.{VmState, vm_slot}
 use Rattle.heap_calls.proofs.Changing.{goes-free}
 use Rattle.db_items.specs.Groups.{IsGroup, ReadsDevice}
 use Rattle.db_items.specs.Items.{ChangesItem, LocksItem, refers_to}
 use Rattle.db_items.proofs.Told.{group-told, is_group-given}
-use Rattle.geos_kernel.specs.declared.span.Span.{Span}
-use Rattle.geos_kernel.specs.Files.{ReadsFile}
-use Rattle.geos_kernel.specs.Kernel.{Calls, IsKernel, LeadsToSpan, NeverFell}
-use Rattle.geos_kernel.specs.Spans.{IsStanding, SpansStay, Stands}
-use Rattle.geos_kernel.specs.View.{KernelOn, KernelState, core_of, kernel_of, memory_of, IsFileOf}
+use Rattle.geos_kernel.specs.Kernel.{Calls, IsKernel, NeverFell}
+use Rattle.geos_kernel.specs.Spans.{SpansStay, Stands}
+use Rattle.geos_kernel.specs.View.{core_of, memory_of, IsFileOf}
 use Rattle.geos_kernel.proofs.Listed.{Spares, StaysLocked, calls-beside, keeps-spares, more-locked, same-spares}
 use Rattle.geos_kernel.proofs.Looks.{found-stands}
 use Rattle.geos_kernel.proofs.Seen.{memory-known, row-answers}
@@ -35,31 +33,19 @@ use Rattle.geos_kernel.proofs.VmCalls.{stayed-or-rose}
 
 -- the device refused, or it did not
 refused-disk : {A : Type 0} (r : Result A Refusal) → (r ≡ Err refusal.Disk) ⊎ (r ≡ Err refusal.Disk → ⊥)
-refused-disk (Ok answer) = inr (λ e. absurd cc)
-refused-disk (Err refusal.BadHandle) = inr (λ e. absurd cc)
-refused-disk (Err refusal.BadChunk) = inr (λ e. absurd cc)
-refused-disk (Err refusal.Short) = inr (λ e. absurd cc)
-refused-disk (Err refusal.NoRoom) = inr (λ e. absurd cc)
-refused-disk (Err refusal.NoHandle) = inr (λ e. absurd cc)
-refused-disk (Err refusal.TooBig) = inr (λ e. absurd cc)
-refused-disk (Err refusal.Locked) = inr (λ e. absurd cc)
-refused-disk (Err refusal.BadArray) = inr (λ e. absurd cc)
-refused-disk (Err refusal.BadElement) = inr (λ e. absurd cc)
-refused-disk (Err refusal.Full) = inr (λ e. absurd cc)
 refused-disk (Err refusal.Disk) = inl refl
-refused-disk (Err refusal.Unsure) = inr (λ e. absurd cc)
-refused-disk (Err refusal.Memory) = inr (λ e. absurd cc)
-refused-disk (Err refusal.Range) = inr (λ e. absurd cc)
-refused-disk (Err refusal.Reserved) = inr (λ e. absurd cc)
+refused-disk (Ok answer) = inr (λ e. absurd cc)
+refused-disk (Err _) = inr (λ e. absurd cc)
 
 -- a span stands for an item that was found, whose group was locked
-pub ilock-stands : {D : Type 0} (image : D → List ℕ) (honest : D → Type 0) (may_leave : D → List ℕ → Type 0) (left : D → D → List ℕ → Type 0) (failed : D → ℕ) (v w : VmState D) (s t : Store) (g i n at len place : ℕ)
-    → LocksItem image honest may_leave left failed g i n (Ok (at, len)) v w s t → place ≡ place_of t (vm_slot g) → Stands (core_of image failed w t) (record { at = place + at; len = len }) (in_block (vm g) (record { chunk = i; start = 0; len = len }))
-ilock-stands image honest may_leave left failed v w s t g i n at len place locks e =
+pub ilock-stands : {D : Type 0} (image : D → List ℕ) (honest : D → Type 0) (may_leave : D → List ℕ → Type 0) (left : D → D → List ℕ → Type 0) (failed : D → ℕ) (v w : VmState D) (s t : Store) (g i n at len : ℕ)
+    → LocksItem image honest may_leave left failed g i n (Ok (at, len)) v w s t → Stands (core_of image failed w t) (record { at = place_of t (vm_slot g) + at; len = len }) (in_block (vm g) (record { chunk = i; start = 0; len = len }))
+ilock-stands image honest may_leave left failed v w s t g i n at len locks =
     let more = locks.ok in
     let locked : 0 < locks_of t (vm_slot g) = omega (arith, more.locks) in
+    let place = place_of t (vm_slot g) in
     subst (λ l. Stands (core_of image failed w t) (record { at = place + at; len = len }) (in_block (vm g) (record { chunk = i; start = 0; len = l }))) (sym locks.finds.1)
-    (found-stands (core_of image failed w t) (vm g) locked (refer i n) at len place e locks.finds)
+    (found-stands (core_of image failed w t) (vm g) locked (refer i n) at len place refl locks.finds)
 
 module _ {D : Type 0} (image : D → List ℕ) (honest : D → Type 0) (may_leave : D → List ℕ → Type 0) (left : D → D → List ℕ → Type 0) (failed : D → ℕ) (v w : VmState D) (s t : Store) (g : ℕ) (k : IsKernel image honest v s) where
   -- an honest device has failed more often, or as often
@@ -110,43 +96,6 @@ module _ {D : Type 0} (image : D → List ℕ) (honest : D → Type 0) (may_leav
 
     pub ilock-calls : Calls (honest v.file.device) (ilock g i n) (refers_to g i r) (core_of image failed v s) (core_of image failed w t)
     ilock-calls = calls-beside image honest failed v w s t locks.row locks.device.reads.stays (item-lasts r locks.device) ilock-spares
-
-  -- the item was found
-  pub ilock-gives : (i n at len place : ℕ) → LocksItem image honest may_leave left failed g i n (Ok (at, len)) v w s t → place ≡ place_of t (vm_slot g)
-      → LeadsToSpan (honest v.file.device) (ilock g i n) (Ok (record { at = place + at; len = len })) (core_of image failed v s) (core_of image failed w t)
-  ilock-gives i n at len place locks e = (refers_to g i (Ok (at, len)), ilock-calls i n (Ok (at, len)) locks, ilock-stands image honest may_leave left failed v w s t g i n at len place locks e)
-
-  pub ilock-refuses : (i n : ℕ) (why : Refusal) → LocksItem image honest may_leave left failed g i n (Err why) v w s t
-      → LeadsToSpan (honest v.file.device) (ilock g i n) (Err why) (core_of image failed v s) (core_of image failed w t)
-  ilock-refuses i n why locks = (Err why, ilock-calls i n (Err why) locks, refl)
-
--- a span that a call gives stands for some reference
-pub leads-standing : (good : Type 0) (call : Call Reference) (span : Span) (s t : KernelState) → LeadsToSpan good call (Ok span) s t → IsStanding t span
-leads-standing good call span s t (Ok ref, answers, stands) = (ref, stands)
-leads-standing good call span s t (Err refusal, answers, stands) = absurd stands
-
--- What becomes of the file
-
-pub same-why : (why : Refusal) → ◌≡◌ {A = Result Span Refusal} (Err why) (Err refusal.Disk) → ◌≡◌ {A = Result (ℕ × ℕ) Refusal} (Err why) (Err refusal.Disk)
-same-why why e = let same : why ≡ refusal.Disk = cc in ap Err same
-
-why-same : (why : Refusal) → ◌≡◌ {A = Result (ℕ × ℕ) Refusal} (Err why) (Err refusal.Disk) → ◌≡◌ {A = Result Span Refusal} (Err why) (Err refusal.Disk)
-why-same why e = let same : why ≡ refusal.Disk = cc in ap Err same
-
-module _ {D : Type 0} (image : D → List ℕ) (honest : D → Type 0) (may_leave : D → List ℕ → Type 0) (left : D → D → List ℕ → Type 0) (failed : D → ℕ) (v w : VmState D) (s t : Store) (k : KernelOn D) (is : kernel_of image failed v s ≡ k) (g i n : ℕ) where
-  reads-file : {fails ends : Type 0} → (ends → fails) → (fails → ends) → w ≡ with_device v w.file.device → ReadsDevice image honest may_leave left failed fails v w → ReadsFile image honest failed may_leave left ends k (kernel_of image failed w t)
-  reads-file {ends = ends} one other same device = subst (λ x. ReadsFile image honest failed may_leave left ends x (kernel_of image failed w t)) is (record {
-    reads = device.reads;
-    file = ap (λ (x : VmState D). x.file) same;
-    cause = λ good failed. device.cause good (one failed);
-    counted = λ never. device.counted (λ failed. never (other failed));
-  })
-
-  pub ilock-reads : (at len : ℕ) (span : Span) → LocksItem image honest may_leave left failed g i n (Ok (at, len)) v w s t → ReadsFile image honest failed may_leave left (◌≡◌ {A = Result Span Refusal} (Ok span) (Err refusal.Disk)) k (kernel_of image failed w t)
-  ilock-reads at len span locks = reads-file (λ e. absurd cc) (λ e. absurd cc) locks.same locks.device
-
-  pub ilock-failed : (why : Refusal) → LocksItem image honest may_leave left failed g i n (Err why) v w s t → ReadsFile image honest failed may_leave left (◌≡◌ {A = Result Span Refusal} (Err why) (Err refusal.Disk)) k (kernel_of image failed w t)
-  ilock-failed why locks = reads-file (same-why why) (why-same why) locks.same locks.device
 
 -- The map item
 

@@ -22,6 +22,7 @@ pub mod Remaining
 pub mod ListedRows
 pub mod VmCalls
 pub mod ItemCalls
+pub mod ItemLocks
 pub mod There
 pub mod Chosen
 pub mod Turns

@@ -18,11 +18,11 @@ use Rattle.block_handles.proofs.Layouts.{there_of_locks}
 use Rattle.vm_blocks.specs.declared.entries.Held.{Held}
 use Rattle.vm_file.specs.declared.commit.How.{How}
 use Rattle.vm_file.specs.declared.commit.How.TheVariants.{Update, Save, Revert}
-use Rattle.vm_blocks.specs.Bring.{Drops, Keeps, KeptOrGoes, LockedMore, NotBrought}
+use Rattle.vm_blocks.specs.Bring.{Drops, Keeps, LockedMore, NotBrought}
 use Rattle.vm_blocks.specs.DoesRow.{DoesRow}
 use Rattle.vm_blocks.specs.FileOf as vm
 use Rattle.vm_blocks.specs.Listed.{DropsAll, NoneLocked, StoreAfter}
-use Rattle.vm_blocks.specs.Room.{StaysOrGoes, Thins}
+use Rattle.vm_blocks.specs.Room.{Thins}
 use Rattle.vm_blocks.specs.Tied.{IsTied, TiedAt}
 use Rattle.vm_blocks.specs.View.{VmState, held_at, vm_slot}
 use Rattle.vm_blocks.proofs.Slots.{slot-is}
@@ -35,7 +35,7 @@ use Rattle.geos_kernel.specs.View.{core_of, memory_of}
 use Rattle.geos_kernel.specs.Spans.{SpansStay}
 use Rattle.geos_kernel.specs.Kernel.{Calls, IsKernel, NeverFell}
 use Rattle.geos_kernel.proofs.Seen.{row-answers}
-use Rattle.geos_kernel.proofs.Stays.{stands-on, thins-locked}
+use Rattle.geos_kernel.proofs.Stays.{stands-on, stays-kept, thins-locked}
 
 -- a locked slot keeps its bytes and its place, and stays locked
 abbrev pub StaysLocked : Store → Store → ℕ → Type 0
@@ -104,15 +104,11 @@ drops-spares v s t h laid drops free =
 pub thins-spares : {D : Type 0} (v : VmState D) (s t : Store) (but : ℕ) → Thins v s t but → Spares s t
 thins-spares v s t but thins = record {
   beside = record {
-    mem = λ k p. (let low = slot_of-mem k p in let most = p.1 in mem-kept v s t but (slot_of (mem k)) (omega (arith, low, most)) (on (slot_of (mem k)) (thins.each (slot_of (mem k)))));
+    mem = λ k p. (let low = slot_of-mem k p in let most = p.1 in mem-kept v s t but (slot_of (mem k)) (omega (arith, low, most)) (stays-kept v s t but (slot_of (mem k)) (thins.each (slot_of (mem k)))));
     len = thins.len;
   };
   locked = λ slot some. block-stays s t slot (thins-locked v s t but thins slot some) some;
 }
-  where
-    on : (slot : ℕ) → StaysOrGoes v s t but slot → KeptOrGoes v s t but slot
-    on slot (inl same) = inl (same.0, λ some. same.1)
-    on slot (inr goes) = inr goes
 
 -- where all of the file were dropped, none of which was locked
 dropped-spares : (s t : Store) → NoneLocked s → DropsAll s t → Spares s t

@@ -1,8 +1,10 @@
 -- The call that makes a block.
-use Rattle.std.proofs.Common.{◌≡◌, ◌≢◌, ℕ, ◌<◌, List, Option, Some, None, true, refl, sym, ap, arith, subst}
+use Rattle.std.proofs.Common.{◌≡◌, ◌≢◌, ℕ, ◌<◌, List, Option, Some, None, true, refl, sym, ap, ◌∙◌, arith, subst}
 use Rattle.std.specs.Prelude.{Ok, Err}
 use Rattle.geos_model.specs.declared.name.Owner.TheVariants.{Mem}
 use Rattle.geos_model.specs.declared.refusal.Refusal.TheVariants.{NoHandle, NoRoom}
+use Rattle.geos_model.specs.Block as block
+use Rattle.geos_model.specs.Heap.{IsHeap}
 use Rattle.geos_model.specs.Names.{mem}
 use Rattle.geos_table.specs.Memory as model
 use Rattle.geos_table.specs.Memory.{Memory}
@@ -33,7 +35,7 @@ use Rattle.geos_kernel.proofs.Changed.{slot-keeps, slot-other, slot-own}
 use Rattle.geos_kernel.proofs.Lowest.{lowest-some, lowest-none}
 use Rattle.geos_kernel.proofs.Rowed.{does-cramped, does-willing, row-calls}
 use Rattle.geos_kernel.proofs.Rows.{mnew-ok, mnew-full, mnew-tight}
-use Rattle.geos_kernel.proofs.Stays.{kernel-set, kernel-thins, stands-same, thins-stands}
+use Rattle.geos_kernel.proofs.Stays.{kernel-but, kernel-thins, stands-same, thins-stands}
 
 module _ {D : Type 0} (image : D → List ℕ) (honest : D → Type 0) (failed : D → ℕ) (v : VmState D) (s : Store) (k : IsKernel image honest v s) where
   abbrev sees : Store → KernelState
@@ -126,4 +128,5 @@ module _ {D : Type 0} (image : D → List ℕ) (honest : D → Type 0) (failed :
         let now = memory-thins image honest v s makes.mid (memory_of (sees s) f.0) before 0 k.tied makes.thins in
         let after = made-memory (memory_of (sees s) f.0) before in
         let mid = kernel-thins image honest v s makes.mid 0 k makes.thins thin (f.0, now.file) in
-        kernel-set image honest v makes.mid t mid made-tied (f.0, after.file) makes.made.len (mem h) own low.handle makes.made.blocks makes.made.heap makes.made.handle (omega arith)
+        kernel-but image honest v makes.mid t (mem h) mid keeps low.handle made-tied (f.0, after.file) (subst (λ o. IsHeap (store.bytes_in o)) (sym at-own) makes.made.heap)
+        (ap (λ o. block.handle_word (store.bytes_in o)) at-own ∙ makes.made.handle) (omega (arith, ap store.locks_in at-own))

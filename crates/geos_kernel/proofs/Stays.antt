@@ -1,5 +1,5 @@
 -- Spans that stay, and blocks that still are a kernel's.
-use Rattle.std.proofs.Common.{◌≡◌, ◌≢◌, ℕ, ◌<◌, ◌≤◌, List, set, Some, None, refl, ap, ◌∙◌, subst, sym, ◌⊎◌, arith, inl, inr}
+use Rattle.std.proofs.Common.{◌≡◌, ◌≢◌, ℕ, ◌<◌, ◌≤◌, List, None, refl, ap, ◌∙◌, subst, sym, ◌⊎◌, arith, inl, inr}
 use Rattle.std.proofs.lemmas.Bool.{cases_eq}
 use Rattle.geos_model.specs.declared.name.Name.{Name}
 use Rattle.geos_model.specs.Block as block
@@ -7,18 +7,19 @@ use Rattle.geos_table.specs.VmFile.{VmFile}
 use Rattle.geos_table.specs.Effects.{Reference, Staleness}
 use Rattle.geos_model.specs.Heap.{IsHeap}
 use Rattle.block_handles.specs.Names.{IsHandle, slot_of}
-use Rattle.block_handles.specs.Store.{Block, Store, block_at, IsBlock, IsThere, bytes_in, bytes_of, locks_in, locks_of, place_of}
+use Rattle.block_handles.specs.Store.{Store, block_at, IsBlock, IsThere, bytes_in, bytes_of, locks_in, locks_of, place_of}
 use Rattle.block_handles.proofs.Laws.{handle_of_there, same-name}
+use Rattle.vm_blocks.specs.Bring.{KeptOrGoes}
 use Rattle.vm_blocks.specs.FileOf as vm
-use Rattle.vm_blocks.specs.Room.{StaysOrGoes, Thins}
+use Rattle.vm_blocks.specs.Room.{StaysOrGoes, Thins, own_handle}
 use Rattle.vm_blocks.specs.Tied.{IsTied}
-use Rattle.vm_blocks.specs.View.{VmState, held_at, vm_slot}
-use Rattle.vm_blocks.proofs.Slots.{idle}
+use Rattle.vm_blocks.specs.View.{VmState}
+use Rattle.heap_calls.specs.Others.{KeepsBut}
+use Rattle.heap_calls.proofs.Changing.{goes-free}
 use Rattle.geos_kernel.specs.declared.span.Span.{Span}
 use Rattle.geos_kernel.specs.View.{KernelState}
 use Rattle.geos_kernel.specs.Spans.{Stands, SpansStay}
 use Rattle.geos_kernel.specs.Kernel.{IsKernel}
-use Rattle.geos_kernel.proofs.Changed.{slot-own, slot-other}
 
 -- Spans
 
@@ -45,17 +46,15 @@ spans-same old new f stale e span ref s fresh = stands-same old new span ref (ap
 
 -- Blocks that were discarded
 
-module _ {D : Type 0} (v : VmState D) (s t : Store) (but : ℕ) (thins : Thins v s t but) where
+module _ {D : Type 0} (v : VmState D) (s t : Store) (but : ℕ) where
+  -- a block that stays or goes in making room is kept or goes
+  pub stays-kept : (slot : ℕ) → StaysOrGoes v s t but slot → KeptOrGoes v s t but slot
+  stays-kept slot (inl same) = inl (same.0, λ some. same.1)
+  stays-kept slot (inr goes) = inr goes
+
   -- a block that is locked stays
-  pub thins-locked : (slot : ℕ) → 0 < locks_of s slot → (block_at t slot ≡ block_at s slot) × (place_of t slot ≡ place_of s slot)
-  thins-locked slot locked = on (thins.each slot)
-    where
-      on : StaysOrGoes v s t but slot → (block_at t slot ≡ block_at s slot) × (place_of t slot ≡ place_of s slot)
-      on (inl same) = same
-      on (inr g) =
-          let d = idle (held_at v g.h) (block_at s (vm_slot g.h)) g.idle in
-          let none : locks_of s slot ≡ 0 = ap (locks_of s) g.slot_is ∙ ap locks_in d.there ∙ d.free in
-          absurd (omega (arith, locked, none))
+  pub thins-locked : Thins v s t but → (slot : ℕ) → 0 < locks_of s slot → (block_at t slot ≡ block_at s slot) × (place_of t slot ≡ place_of s slot)
+  thins-locked thins slot locked = goes-free v s t but slot locked (stays-kept slot (thins.each slot))
 
 -- spans stand on while blocks are discarded
 pub thins-stands : {D : Type 0} (v : VmState D) (but : ℕ) (old new : KernelState) (span : Span) (ref : Reference) → Thins v old.blocks new.blocks but → Stands old span ref → Stands new span ref
@@ -90,34 +89,36 @@ module _ {D : Type 0} (image : D → List ℕ) (honest : D → Type 0) (v : VmSt
       handle name there (inl none) = absurd (subst IsBlock none there)
       handle name there (inr (bytes, back)) = rw bytes (k.handles name (back there))
 
-  -- and where one slot has another heap under its handle
-  pub kernel-set : (name : Name) (c : Block) → IsHandle name.h → t.blocks ≡ set s.blocks (slot_of name) (Some c) → IsHeap c.bytes → block.handle_word c.bytes ≡ name.h → c.locks ≤ 65535 → IsKernel image honest v t
-  kernel-set name c q blocks holds word few = record { laid = tied.laid; heaps = heap; handles = handle; few = counts; tied = tied; known = known; small = rw len k.small }
-    where
-      own : block_at t (slot_of name) ≡ Some c
-      own = slot-own s t name (Some c) blocks k.laid q
+-- and where those but one are as they were or were discarded, and that one is a heap under its handle
+pub kernel-but : {D : Type 0} (image : D → List ℕ) (honest : D → Type 0) (v : VmState D) (s t : Store) (name : Name) → IsKernel image honest v s → KeepsBut v s t name → IsHandle name.h → IsTied image honest v t → ((f : VmFile) × vm.IsFileOf image honest v t f)
+    → IsHeap (bytes_of t (slot_of name)) → block.handle_word (bytes_of t (slot_of name)) ≡ name.h → locks_of t (slot_of name) ≤ 65535 → IsKernel image honest v t
+kernel-but {D} image honest v s t name k keeps q tied known holds word few = record { laid = tied.laid; heaps = heap; handles = handle; few = counts; tied = tied; known = known; small = rw keeps.len k.small }
+  where
+    other : (n : Name) → IsThere t (slot_of n) → slot_of n ≢ slot_of name → block_at t (slot_of n) ≡ block_at s (slot_of n)
+    other n there ne = on (keeps.each (slot_of n) ne)
+      where
+        on : KeptOrGoes v s t (own_handle name) (slot_of n) → block_at t (slot_of n) ≡ block_at s (slot_of n)
+        on (inl u) = u.0
+        on (inr g) = absurd (subst IsBlock g.gone there)
 
-      other : (slot : ℕ) → slot ≢ slot_of name → block_at t slot ≡ block_at s slot
-      other = slot-other s t name (Some c) blocks
+    heap : (n : Name) → IsThere t (slot_of n) → IsHeap (bytes_of t (slot_of n))
+    heap n there = elim (cases_eq (slot_of n) (slot_of name)) [
+      | inl same ↦ subst (λ j. IsHeap (bytes_of t j)) (sym same) holds
+      | inr ne ↦ (let is = other n there ne in subst (λ o. IsHeap (bytes_in o)) (sym is) (k.heaps n (subst IsBlock is there)))
+    ]
 
-      counts : (n : Name) → locks_of t (slot_of n) ≤ 65535
-      counts n = elim (cases_eq (slot_of n) (slot_of name)) [
-        | inl same ↦ omega (arith, ap (locks_of t) same, ap locks_in own, few)
-        | inr ne ↦ omega (arith, ap locks_in (other (slot_of n) ne), k.few n)
-      ]
+    handle : (n : Name) → IsThere t (slot_of n) → block.handle_word (bytes_of t (slot_of n)) ≡ n.h
+    handle n there = elim (cases_eq (slot_of n) (slot_of name)) [
+      | inl same ↦ ap (λ j. block.handle_word (bytes_of t j)) same ∙ word ∙ ap (λ m. m.h) (same-name name n q (handle_of_there t t n refl tied.laid there) (sym same))
+      | inr ne ↦ (let is = other n there ne in ap (λ o. block.handle_word (bytes_in o)) is ∙ k.handles n (subst IsBlock is there))
+    ]
 
-      heap : (n : Name) → IsThere t (slot_of n) → IsHeap (bytes_of t (slot_of n))
-      heap n there = elim (cases_eq (slot_of n) (slot_of name)) [
-        | inl same ↦ subst IsHeap (sym (ap (bytes_of t) same ∙ ap bytes_in own)) holds
-        | inr ne ↦ subst IsHeap (sym (ap bytes_in (other (slot_of n) ne))) (k.heaps n (subst IsBlock (other (slot_of n) ne) there))
-      ]
-
-      handle : (n : Name) → IsThere t (slot_of n) → block.handle_word (bytes_of t (slot_of n)) ≡ n.h
-      handle n there = elim (cases_eq (slot_of n) (slot_of name)) [
-        | inl same ↦ ap (λ i. block.handle_word (bytes_of t i)) same ∙ ap (λ o. block.handle_word (bytes_in o)) own ∙ word
-            ∙ ap (λ n. n.h) (same-name name n q (handle_of_there t t n refl tied.laid there) (sym same))
-        | inr ne ↦ ap (λ o. block.handle_word (bytes_in o)) (other (slot_of n) ne) ∙ k.handles n (subst IsBlock (other (slot_of n) ne) there)
-      ]
+    counts : (n : Name) → locks_of t (slot_of n) ≤ 65535
+    counts n = elim (cases_eq (slot_of n) (slot_of name)) [ inl same ↦ omega (arith, ap (locks_of t) same, few) | inr ne ↦ on (keeps.each (slot_of n) ne) ]
+      where
+        on : KeptOrGoes v s t (own_handle name) (slot_of n) → locks_of t (slot_of n) ≤ 65535
+        on (inl u) = omega (arith, ap locks_in u.0, k.few n)
+        on (inr g) = omega (arith, ap locks_in g.gone)
 
 -- blocks still are a kernel's where some were discarded
 pub kernel-thins : {D : Type 0} (image : D → List ℕ) (honest : D → Type 0) (v : VmState D) (s t : Store) (but : ℕ) → IsKernel image honest v s → Thins v s t but → IsTied image honest v t

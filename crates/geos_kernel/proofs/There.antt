@@ -3,7 +3,6 @@ use Rattle.std.proofs.Common.{◌≡◌, ◌∙◌, ℕ, ◌<◌, List, refl, ap
 use Rattle.std.specs.Prelude.{MatchResult, OnErr, OnOk, Result, Ok, Err}
 use Rattle.geos_model.specs.declared.refusal.Refusal.{Refusal}
 use Rattle.geos_model.specs.declared.refusal.Refusal.TheVariants as refusal
-use Rattle.block_handles.specs.Change.{with_lock_more}
 use Rattle.block_handles.specs.Store.{Store, IsThere, locks_of}
 use Rattle.block_handles.proofs.Layouts.{there_of_locks}
 use Rattle.vm_file.specs.State.{FileState}
@@ -12,11 +11,8 @@ use Rattle.vm_blocks.specs.declared.error.LockError.TheVariants as lock
 use Rattle.vm_blocks.specs.Refused.{of_lock}
 use Rattle.vm_blocks.specs.View.{VmState, vm_slot}
 use Rattle.db_items.specs.Groups.{IsGroup, RefusesNoGroup}
-use Rattle.db_items.specs.Items.{LocksItem}
-use Rattle.geos_kernel.specs.declared.span.Span.{Span}
 use Rattle.geos_kernel.specs.Files.{InMemory}
 use Rattle.geos_kernel.specs.View.{KernelOn, file_over, kernel_of, seen}
-use Rattle.geos_kernel.proofs.ItemCalls.{same-why}
 
 on-there : {A : Type 0} (r : Result A Refusal) (P Q : Type 0) → OnErr r (P → Q) → P → OnErr r Q
 on-there (Ok answer) P Q stays there = tt
@@ -41,18 +37,14 @@ module _ {D : Type 0} (image : D → List ℕ) (failed : D → ℕ) (v w : VmSta
     IfThere r = IsThere s (vm_slot h) → (w ≡ v) × MatchResult r (λ _. more) (λ why. (why ≡ lock.Locked) × (t ≡ s))
 
     no-disk : (r : Result (Unit {0}) LockError) → MatchResult r (λ _. more) (λ why. (why ≡ lock.Locked) × (t ≡ s)) → of_lock r ≡ Err refusal.Disk → ⊥
-    no-disk (Ok done) m e = absurd cc
-    no-disk (Err lock.BadHandle) m e = absurd cc
-    no-disk (Err lock.Locked) m e = absurd cc
-    no-disk (Err lock.NoRoom) m e = absurd cc
     no-disk (Err lock.Disk) m e = absurd (let other = m.0 in cc)
+    no-disk (Ok done) m e = absurd cc
+    no-disk (Err _) m e = absurd cc
 
     disk-so : (r : Result (Unit {0}) LockError) → of_lock r ≡ Err refusal.Disk → r ≡ Err lock.Disk
-    disk-so (Ok done) e = absurd cc
-    disk-so (Err lock.BadHandle) e = absurd cc
-    disk-so (Err lock.Locked) e = absurd cc
-    disk-so (Err lock.NoRoom) e = absurd cc
     disk-so (Err lock.Disk) e = refl
+    disk-so (Ok done) e = absurd cc
+    disk-so (Err _) e = absurd cc
 
     lock-stays : (r : Result (Unit {0}) LockError) → IfThere r → OnErr (of_lock r) (IsThere s (vm_slot h) → t ≡ s)
     lock-stays (Ok done) there = tt
@@ -81,13 +73,3 @@ module _ {D : Type 0} (image : D → List ℕ) (failed : D → ℕ) (v w : VmSta
 
   pub no_group-same : {A : Type 0} (g : ℕ) (r : Result A Refusal) → RefusesNoGroup g r v w s t → (IsGroup k.core.vm g → ⊥) → kernel_of image failed w t ≡ k
   no_group-same g r no_group none = let refused = no_group (λ group. none (subst (λ (x : KernelOn D). IsGroup x.core.vm g) is group)) in nothing-changed refused.1 refused.2
-
-  module _ (honest : D → Type 0) (may_leave : D → List ℕ → Type 0) (left : D → D → List ℕ → Type 0) (g i n : ℕ) where
-    pub ilock-found : (place : ℕ × ℕ) (span : Span) → LocksItem image honest may_leave left failed g i n (Ok place) v w s t → InMemory g (Ok span) k (kernel_of image failed w t)
-    ilock-found place span locks = in-memory g (Ok span) (λ was. (ap (λ (x : VmState D). x.file) (locks.there was).0, λ e. absurd cc)) (λ other. tt) (λ e. absurd cc)
-
-    pub ilock-not_found : (why : Refusal) → LocksItem image honest may_leave left failed g i n (Err why) v w s t → InMemory {A = Span} g (Err why) k (kernel_of image failed w t)
-    ilock-not_found why locks = in-memory g (Err why) (λ was. (ap (λ (x : VmState D). x.file) (locks.there was).0, λ e. (locks.there was).2 (same-why why e))) (λ other was. locks.refused was) (λ e. locks.absent (same-why why e))
-
-    pub ilock-more : (place : ℕ × ℕ) → LocksItem image honest may_leave left failed g i n (Ok place) v w s t → IsThere k.core.blocks (vm_slot g) → t ≡ with_lock_more k.core.blocks (vm_slot g)
-    ilock-more place locks = subst (λ (x : KernelOn D). IsThere x.core.blocks (vm_slot g) → t ≡ with_lock_more x.core.blocks (vm_slot g)) is (λ was. (locks.there was).1)

@@ -65,11 +65,9 @@ told-calls image honest failed v s k is {call} {r} row = subst (λ k. Calls (hon
 -- Locks
 
 lock-disk : (r : Result (Unit {0}) LockError) → (r ≡ Err lock.Disk) ⊎ (r ≡ Err lock.Disk → ⊥)
-lock-disk (Ok done) = inr (λ e. absurd cc)
-lock-disk (Err lock.BadHandle) = inr (λ e. absurd cc)
-lock-disk (Err lock.Locked) = inr (λ e. absurd cc)
-lock-disk (Err lock.NoRoom) = inr (λ e. absurd cc)
 lock-disk (Err lock.Disk) = inl refl
+lock-disk (Ok done) = inr (λ e. absurd cc)
+lock-disk (Err _) = inr (λ e. absurd cc)
 
 lock-own : (s t : Store) (h : ℕ) (r : Result (Unit {0}) LockError) → OnOk r (LockedMore s t h) → OnErr r (NotBrought s t h) → StaysLocked s t (vm_slot h)
 lock-own s t h (Ok done) ok err = more-locked s t h ok

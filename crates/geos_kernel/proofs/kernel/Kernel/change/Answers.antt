@@ -1,51 +1,40 @@
-use Rattle.std.proofs.Common.{◌<◌, subst, sym}
-use Rattle.block_handles.specs.Names.{slot_of}
-use Rattle.block_handles.specs.Store.{locks_of}
-use Rattle.geos_table.specs.ChunkCalls.{change_edit, change_row, may_grow}
-use Rattle.geos_table.proofs.Laws.{change-shape}
+use Rattle.std.proofs.Common.{subst, sym}
+use Rattle.geos_table.specs.ChunkCalls.{change_edit, change_row}
 use Rattle.geos_table.specs.Given.{given_memory}
-use Rattle.heap_calls.specs.Others.{IsMarkedIfVm}
-use Rattle.heap_calls.proofs.Asking.{change-asks}
-use Rattle.geos_kernel.specs.View.{IsLocked, MayChange, chunks_at, core_of}
-use Rattle.geos_kernel.specs.Kernel.{Calls, HasNoRoomFor, StaysIfRefused, Remain}
-use Rattle.geos_kernel.proofs.Chunks.{locked-heap, others-calls, others-kernel, carries-no_room}
-use Rattle.geos_kernel.proofs.Seen.{blocks-alone}
-use Rattle.geos_kernel.proofs.Remaining.{changes-remain}
+use Rattle.geos_table.proofs.Laws.{change-shape}
 use Rattle.heap_calls.specs.Edits.{Carries}
+use Rattle.heap_calls.proofs.Asking.{change-asks}
+use Rattle.geos_kernel.specs.View.{MayChange, chunks_at, core_of}
+use Rattle.geos_kernel.specs.Kernel.{HasNoRoomFor, StaysIfRefused, Remain}
+use Rattle.geos_kernel.proofs.Chunks.{seen-heap, others-calls, others-kernel, carries-no_room}
+use Rattle.geos_kernel.proofs.Seen.{blocks-alone, calls-seen}
+use Rattle.geos_kernel.proofs.Remaining.{changes-remain}
 use Rattle.geos_kernel.proofs.kernel.Kernel.change.Goals as goal
 
 pub change-requires : goal.change-requires
 change-requires g c =
-    let v = c.self.inside.vm in
-    let old = c.self.inside.blocks in
-    let locked : 0 < locks_of old (slot_of c.args.name) = subst (λ k. IsLocked k.core c.args.name) (sym c.self.view_is) c.requires.locked in
-    let holds = locked-heap g.D.Device.image g.D.Device.honest v old c.args.name c.self.invariant locked in
-    record { tied = c.self.invariant.tied; heap = holds }
+    let d = g.D.Device in
+    record { tied = c.self.invariant.tied; heap = seen-heap d.image d.honest d.failed c.self.inside.vm c.self.inside.blocks c.args.self.now c.self.view_is c.args.name c.self.invariant c.requires.locked }
 
 pub invariant_of-self : goal.invariant_of-self
 invariant_of-self g c =
-    let v = c.self.inside.vm in
-    let old = c.self.inside.blocks in
-    let locked : 0 < locks_of old (slot_of c.args.name) = subst (λ k. IsLocked k.core c.args.name) (sym c.self.view_is) c.requires.locked in
-    let holds = locked-heap g.D.Device.image g.D.Device.honest v old c.args.name c.self.invariant locked in
-    let marked : IsMarkedIfVm v c.args.name = subst (λ k. MayChange k.core c.args.name) (sym c.self.view_is) c.requires.marked in
-    others-kernel g.D.Device.image g.D.Device.honest g.D.Device.failed v old c.change.new.blocks c.args.name c.self.invariant holds c.change.ensures.keeps (change_row c.args.name c.args.change) c.change.result (c.change.ensures.tied marked) c.change.ensures.row
+    let d = g.D.Device in let v = c.self.inside.vm in let s = c.self.inside.blocks in let done = c.change in
+    let holds = seen-heap d.image d.honest d.failed v s c.args.self.now c.self.view_is c.args.name c.self.invariant c.requires.locked in
+    let marked = subst (λ k. MayChange k.core c.args.name) (sym c.self.view_is) c.requires.marked in
+    others-kernel d.image d.honest d.failed v s done.new.blocks c.args.name c.self.invariant holds done.ensures.keeps (change_row c.args.name c.args.change) done.result (done.ensures.tied marked) done.ensures.row
 
 pub returns-clause-calls : goal.returns-clause-calls
 returns-clause-calls g c =
-    let v = c.self.inside.vm in
-    let old = c.self.inside.blocks in
-    let locked : 0 < locks_of old (slot_of c.args.name) = subst (λ k. IsLocked k.core c.args.name) (sym c.self.view_is) c.requires.locked in
-    let holds = locked-heap g.D.Device.image g.D.Device.honest v old c.args.name c.self.invariant locked in
-    let calls = others-calls g.D.Device.image g.D.Device.honest g.D.Device.failed v old c.change.new.blocks c.args.name c.self.invariant holds c.change.ensures.keeps (change_row c.args.name c.args.change) c.change.result (λ choice m. (change-shape c.args.name c.args.change (given_memory choice.given m) choice).1) c.change.ensures.row in
-    subst (λ k. Calls (g.D.Device.honest k.device) (change_row c.args.name c.args.change) c.change.result k.core (core_of g.D.Device.image g.D.Device.failed v c.change.new.blocks)) c.self.view_is calls
+    let d = g.D.Device in let v = c.self.inside.vm in let s = c.self.inside.blocks in let done = c.change in
+    let holds = seen-heap d.image d.honest d.failed v s c.args.self.now c.self.view_is c.args.name c.self.invariant c.requires.locked in
+    calls-seen d.image d.honest d.failed v s c.args.self.now c.self.view_is
+    (others-calls d.image d.honest d.failed v s done.new.blocks c.args.name c.self.invariant holds done.ensures.keeps (change_row c.args.name c.args.change) done.result (λ choice m. (change-shape c.args.name c.args.change (given_memory choice.given m) choice).1) done.ensures.row)
 
 pub returns-clause-no_room : goal.returns-clause-no_room
 returns-clause-no_room g c = λ refused.
-    let v = c.self.inside.vm in
-    let old = c.self.inside.blocks in
-    subst (λ k. HasNoRoomFor (core_of g.D.Device.image g.D.Device.failed v c.change.new.blocks) c.args.name (change_edit c.args.change (chunks_at k.core.blocks c.args.name)).chunks) c.self.view_is
-    (carries-no_room g.D.Device.image g.D.Device.failed v (change_edit c.args.change) old c.change.new.blocks c.args.name (change-asks c.args.change) (may_grow c.args.change) c.change.result c.change.ensures.carries refused)
+    let d = g.D.Device in let v = c.self.inside.vm in let new = c.change.new.blocks in let edit = change_edit c.args.change in
+    subst (λ k. HasNoRoomFor (core_of d.image d.failed v new) c.args.name (edit (chunks_at k.core.blocks c.args.name)).chunks) c.self.view_is
+    (carries-no_room d.image d.failed v edit c.self.inside.blocks new c.args.name (change-asks c.args.change) _ c.change.result c.change.ensures.carries refused)
 
 pub returns-clause-vm : goal.returns-clause-vm
 returns-clause-vm g c = blocks-alone g.D.Device.image g.D.Device.failed c.self.inside.vm c.self.inside.blocks c.change.new.blocks c.args.self.now c.self.view_is
@@ -55,7 +44,7 @@ returns-clause-refused g c = subst (λ k. StaysIfRefused c.change.result k.core.
 
 pub returns-clause-remain : goal.returns-clause-remain
 returns-clause-remain g c = λ stays.
-    let locked : 0 < locks_of c.self.inside.blocks (slot_of c.args.name) = subst (λ k. IsLocked k.core c.args.name) (sym c.self.view_is) c.requires.locked in
-    let holds = locked-heap g.D.Device.image g.D.Device.honest c.self.inside.vm c.self.inside.blocks c.args.name c.self.invariant locked in
-    let carries = subst (λ grows. Carries grows c.self.inside.vm (change_edit c.args.change) c.self.inside.blocks c.change.new.blocks c.args.name c.change.result) stays c.change.ensures.carries in
-    subst (λ k. Remain k.core.blocks c.change.new.blocks 0) c.self.view_is (changes-remain c.self.inside.blocks c.change.new.blocks (change_edit c.args.change) c.args.name c.change.result holds.there carries)
+    let d = g.D.Device in let s = c.self.inside.blocks in let new = c.change.new.blocks in let edit = change_edit c.args.change in
+    let holds = seen-heap d.image d.honest d.failed c.self.inside.vm s c.args.self.now c.self.view_is c.args.name c.self.invariant c.requires.locked in
+    let carries = subst (λ grows. Carries grows c.self.inside.vm edit s new c.args.name c.change.result) stays c.change.ensures.carries in
+    subst (λ k. Remain k.core.blocks new 0) c.self.view_is (changes-remain s new edit c.args.name c.change.result holds.there carries)

@@ -1,55 +1,35 @@
-use Rattle.std.proofs.Common.{◌<◌, Ok, subst, sym, refl}
+use Rattle.std.proofs.Common.{subst, sym}
 use Rattle.block_handles.specs.Names.{slot_of}
-use Rattle.block_handles.specs.Store.{locks_of}
-use Rattle.geos_model.specs.Edits.{contract}
-use Rattle.geos_table.specs.Calls as table
-use Rattle.heap_calls.specs.Others.{IsMarkedIfVm}
-use Rattle.heap_calls.proofs.Changing.{changes-keeps}
-use Rattle.heap_calls.proofs.Kept.{named-tied}
-use Rattle.heap_calls.proofs.Rows.{changes-row}
 use Rattle.heap_calls.proofs.Values.{values-of}
-use Rattle.geos_kernel.specs.View.{IsLocked, MayChange, core_of}
-use Rattle.geos_kernel.specs.Kernel.{Calls, Remain}
-use Rattle.geos_kernel.proofs.Chunks.{locked-heap, others-calls, others-kernel}
+use Rattle.geos_kernel.specs.View.{MayChange}
+use Rattle.geos_kernel.specs.Kernel.{Remain}
+use Rattle.geos_kernel.proofs.Chunks.{contracted, seen-heap}
 use Rattle.geos_kernel.proofs.Remaining.{rechunked-remain}
+use Rattle.geos_kernel.proofs.Seen.{calls-seen}
 use Rattle.geos_kernel.proofs.kernel.Kernel.lcontract.Goals as goal
 
 pub contract-requires : goal.contract-requires
 contract-requires g c =
-    let v = c.self.inside.vm in
-    let old = c.self.inside.blocks in
-    let locked : 0 < locks_of old (slot_of c.args.name) = subst (λ k. IsLocked k.core c.args.name) (sym c.self.view_is) c.requires.locked in
-    let holds = locked-heap g.D.Device.image g.D.Device.honest v old c.args.name c.self.invariant locked in
-    holds
+    let d = g.D.Device in seen-heap d.image d.honest d.failed c.self.inside.vm c.self.inside.blocks c.args.self.now c.self.view_is c.args.name c.self.invariant c.requires.locked
 
 pub invariant_of-self : goal.invariant_of-self
 invariant_of-self g c =
-    let v = c.self.inside.vm in
-    let old = c.self.inside.blocks in
-    let locked : 0 < locks_of old (slot_of c.args.name) = subst (λ k. IsLocked k.core c.args.name) (sym c.self.view_is) c.requires.locked in
-    let holds = locked-heap g.D.Device.image g.D.Device.honest v old c.args.name c.self.invariant locked in
-    let marked : IsMarkedIfVm v c.args.name = subst (λ k. MayChange k.core c.args.name) (sym c.self.view_is) c.requires.marked in
-    let new = c.contract.new.blocks in
-    let keeps = changes-keeps v contract old new c.args.name c.self.invariant.laid holds (Ok tt) c.contract.ensures.tries in
+    let d = g.D.Device in let v = c.self.inside.vm in let s = c.self.inside.blocks in let new = c.contract.new.blocks in
+    let holds = seen-heap d.image d.honest d.failed v s c.args.self.now c.self.view_is c.args.name c.self.invariant c.requires.locked in
     let are = values-of new (slot_of c.args.name) c.region.result.now c.region.ensures.region c.region.ensures.bytes in
-    let row = changes-row g.D.Device.image g.D.Device.honest g.D.Device.failed v contract old c.args.name c.self.invariant.tied holds new (Ok tt) c.contract.ensures.tries are in
-    others-kernel g.D.Device.image g.D.Device.honest g.D.Device.failed v old new c.args.name c.self.invariant holds keeps (table.lcontract c.args.name) (Ok tt) (named-tied g.D.Device.image g.D.Device.honest v old new c.args.name c.self.invariant.tied holds.there keeps marked) row
+    let marked = subst (λ k. MayChange k.core c.args.name) (sym c.self.view_is) c.requires.marked in
+    (contracted d.image d.honest d.failed v s new c.args.name c.self.invariant holds c.contract.ensures.tries are marked).0
 
 pub returns-clause-calls : goal.returns-clause-calls
 returns-clause-calls g c =
-    let v = c.self.inside.vm in
-    let old = c.self.inside.blocks in
-    let locked : 0 < locks_of old (slot_of c.args.name) = subst (λ k. IsLocked k.core c.args.name) (sym c.self.view_is) c.requires.locked in
-    let holds = locked-heap g.D.Device.image g.D.Device.honest v old c.args.name c.self.invariant locked in
-    let new = c.contract.new.blocks in
-    let keeps = changes-keeps v contract old new c.args.name c.self.invariant.laid holds (Ok tt) c.contract.ensures.tries in
+    let d = g.D.Device in let v = c.self.inside.vm in let s = c.self.inside.blocks in let new = c.contract.new.blocks in
+    let holds = seen-heap d.image d.honest d.failed v s c.args.self.now c.self.view_is c.args.name c.self.invariant c.requires.locked in
     let are = values-of new (slot_of c.args.name) c.region.result.now c.region.ensures.region c.region.ensures.bytes in
-    let row = changes-row g.D.Device.image g.D.Device.honest g.D.Device.failed v contract old c.args.name c.self.invariant.tied holds new (Ok tt) c.contract.ensures.tries are in
-    let calls = others-calls g.D.Device.image g.D.Device.honest g.D.Device.failed v old new c.args.name c.self.invariant holds keeps (table.lcontract c.args.name) (Ok tt) (λ choice m. refl) row in
-    subst (λ k. Calls (g.D.Device.honest k.device) (table.lcontract c.args.name) (Ok tt) k.core (core_of g.D.Device.image g.D.Device.failed v new)) c.self.view_is calls
+    let marked = subst (λ k. MayChange k.core c.args.name) (sym c.self.view_is) c.requires.marked in
+    calls-seen d.image d.honest d.failed v s c.args.self.now c.self.view_is (contracted d.image d.honest d.failed v s new c.args.name c.self.invariant holds c.contract.ensures.tries are marked).1
 
 pub returns-clause-remain : goal.returns-clause-remain
 returns-clause-remain g c =
-    let locked : 0 < locks_of c.self.inside.blocks (slot_of c.args.name) = subst (λ k. IsLocked k.core c.args.name) (sym c.self.view_is) c.requires.locked in
-    let holds = locked-heap g.D.Device.image g.D.Device.honest c.self.inside.vm c.self.inside.blocks c.args.name c.self.invariant locked in
-    subst (λ k. Remain k.core.blocks c.contract.new.blocks 0) c.self.view_is (rechunked-remain c.self.inside.blocks c.contract.new.blocks (slot_of c.args.name) _ _ holds.there c.contract.ensures.tries.1)
+    let d = g.D.Device in let s = c.self.inside.blocks in let new = c.contract.new.blocks in
+    let holds = seen-heap d.image d.honest d.failed c.self.inside.vm s c.args.self.now c.self.view_is c.args.name c.self.invariant c.requires.locked in
+    subst (λ k. Remain k.core.blocks new 0) c.self.view_is (rechunked-remain s new (slot_of c.args.name) _ _ holds.there c.contract.ensures.tries.1)

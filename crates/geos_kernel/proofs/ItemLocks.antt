@@ -1,0 +1,75 @@
+-- A group that is locked, with the span of an item of it.
+use Rattle.std.proofs.Common.{◌≡◌, ℕ, ◌+◌, ◌≤◌, List, refl, ap, subst}
+use Rattle.std.specs.Prelude.{IfOk, OnOk, Result, Ok, Err}
+use Rattle.geos_model.specs.declared.refusal.Refusal.{Refusal}
+use Rattle.geos_model.specs.declared.refusal.Refusal.TheVariants.{Disk}
+use Rattle.geos_model.specs.Names.{vm}
+use Rattle.geos_table.specs.Calls.{in_block}
+use Rattle.geos_table.specs.ItemCalls.{ilock}
+use Rattle.block_handles.specs.Change.{with_lock_more}
+use Rattle.block_handles.specs.Store.{Store, IsThere, place_of}
+use Rattle.vm_blocks.specs.View.{VmState, vm_slot, with_device}
+use Rattle.db_items.specs.Groups.{ReadsDevice}
+use Rattle.db_items.specs.Items.{LocksItem, refers_to}
+use Rattle.geos_kernel.specs.declared.span.Span.{Span}
+use Rattle.geos_kernel.specs.Files.{InMemory, ReadsFile}
+use Rattle.geos_kernel.specs.Kernel.{IsKernel, LeadsToSpan}
+use Rattle.geos_kernel.specs.Spans.{IsStanding, IsWritable}
+use Rattle.geos_kernel.specs.View.{IsMarked, KernelOn, kernel_of}
+use Rattle.geos_kernel.proofs.ItemCalls.{ilock-calls, ilock-stands}
+use Rattle.geos_kernel.proofs.There.{in-memory}
+
+-- what the kernel promises of it
+pub record LocksPart {D : Type 0} (image : D → List ℕ) (honest : D → Type 0) (may_leave : D → List ℕ → Type 0) (left : D → D → List ℕ → Type 0) (failed : D → ℕ) (g i n : ℕ) (result : Result Span Refusal) (old new : KernelOn D) : Type 0 where
+  pub gives : LeadsToSpan (honest old.device) (ilock g i n) result old.core new.core
+  pub stands : IfOk result (λ span. IsStanding new.core span × (n ≤ span.len))
+  pub writable : IfOk result (λ span. IsMarked new.core g → IsWritable new.core span)
+  pub locks : IsThere old.core.blocks (vm_slot g) → OnOk result (new.core.blocks ≡ with_lock_more old.core.blocks (vm_slot g))
+  pub in_memory : InMemory g result old new
+  pub device : ReadsFile image honest failed may_leave left (result ≡ Err Disk) old new
+
+-- a refusal of a span and one of its place have one cause
+same-why : {A B : Type 0} (why : Refusal) → ◌≡◌ {A = Result A Refusal} (Err why) (Err Disk) → ◌≡◌ {A = Result B Refusal} (Err why) (Err Disk)
+same-why why e = let same : why ≡ Disk = cc in ap Err same
+
+module _ {D : Type 0} (image : D → List ℕ) (honest : D → Type 0) (may_leave : D → List ℕ → Type 0) (left : D → D → List ℕ → Type 0) (failed : D → ℕ) (v w : VmState D) (s t : Store) (k : KernelOn D) (is : kernel_of image failed v s ≡ k)
+    (kernel : IsKernel image honest v s) (g i n : ℕ) where
+  abbrev old : KernelOn D
+  old = kernel_of image failed v s
+
+  abbrev new : KernelOn D
+  new = kernel_of image failed w t
+
+  reads-file : {fails ends : Type 0} → (ends → fails) → (fails → ends) → w ≡ with_device v w.file.device → ReadsDevice image honest may_leave left failed fails v w → ReadsFile image honest failed may_leave left ends old new
+  reads-file one other same device = record {
+    reads = device.reads;
+    file = ap (λ (x : VmState D). x.file) same;
+    cause = λ good failed. device.cause good (one failed);
+    counted = λ never. device.counted (λ failed. never (other failed));
+  }
+
+  -- the item was found
+  pub part-locked : (at len : ℕ) → LocksItem image honest may_leave left failed g i n (Ok (at, len)) v w s t → LocksPart image honest may_leave left failed g i n (Ok (record { at = place_of t (vm_slot g) + at; len = len })) k new
+  part-locked at len locks =
+      let span : Span = record { at = place_of t (vm_slot g) + at; len = len } in
+      let ref = in_block (vm g) (record { chunk = i; start = 0; len = len }) in
+      let stands = ilock-stands image honest may_leave left failed v w s t g i n at len locks in
+      subst (λ x. LocksPart image honest may_leave left failed g i n (Ok span) x new) is (record {
+        gives = (refers_to g i (Ok (at, len)), ilock-calls image honest may_leave left failed v w s t g kernel i n (Ok (at, len)) locks, stands);
+        stands = ((ref, stands), locks.within.1);
+        writable = λ marked. (ref, stands, λ file. marked);
+        locks = λ was. (locks.there was).1;
+        in_memory = in-memory image failed v w s t old refl g (Ok span) (λ was. (ap (λ (x : VmState D). x.file) (locks.there was).0, λ e. absurd cc)) (λ other. tt) (λ e. absurd cc);
+        device = reads-file (λ e. absurd cc) (λ e. absurd cc) locks.same locks.device;
+      })
+
+  -- it was refused
+  pub part-refused : (why : Refusal) → LocksItem image honest may_leave left failed g i n (Err why) v w s t → LocksPart image honest may_leave left failed g i n (Err why) k new
+  part-refused why locks = subst (λ x. LocksPart image honest may_leave left failed g i n (Err why) x new) is (record {
+    gives = (Err why, ilock-calls image honest may_leave left failed v w s t g kernel i n (Err why) locks, refl);
+    stands = tt;
+    writable = tt;
+    locks = λ was. tt;
+    in_memory = in-memory image failed v w s t old refl g (Err why) (λ was. (ap (λ (x : VmState D). x.file) (locks.there was).0, λ e. (locks.there was).2 (same-why why e))) (λ other was. locks.refused was) (λ e. locks.absent (same-why why e));
+    device = reads-file (same-why why) (same-why why) locks.same locks.device;
+  })
