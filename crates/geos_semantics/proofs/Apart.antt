@@ -103,9 +103,6 @@ pairs-new slots a new test flags empty fresh h =
           | inr second ↦ with_empty pair (inr (eqb-true pair.1 a ((and_parts (pair.1 == a) (test pair.0) second).0)))
         ])
 
-differ-back : (slots : List (Option Held)) (a b : ℕ) → Differ slots a b → Differ slots b a
-differ-back slots a b d name e f = d name f e
-
 -- of a pair that is of two slots, what is known of them in either order
 of-pair : (slots : List (Option Held)) (a b : ℕ) (pair : ℕ × ℕ) → is_pair a b pair ≡ true → Differ slots pair.0 pair.1 → Differ slots a b
 of-pair slots a b pair is d = elim (or-cases (pair.0 == a && pair.1 == b) (pair.0 == b && pair.1 == a) is) [

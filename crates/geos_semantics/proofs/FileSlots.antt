@@ -28,10 +28,10 @@ use Rattle.geos_table.proofs.Passing.{none-behind}
 use Rattle.geos_image.specs.declared.instr.Instr.{Instr}
 use Rattle.geos_image.specs.declared.row.Row.{Row}
 use Rattle.geos_image.specs.declared.row.SlotState.{SlotState}
-use Rattle.geos_image.specs.declared.row.SlotState.TheVariants.{Empty, Mem, Vm, Db}
+use Rattle.geos_image.specs.declared.row.SlotState.TheVariants.{Empty, Vm, Db}
 use Rattle.geos_opcodes.specs.declared.opcode.Opcode.TheVariants as op
 use Rattle.geos_opcodes.specs.declared.uses.Kind.{Kind}
-use Rattle.geos_opcodes.specs.declared.uses.Kind.TheVariants.{MemBlock, VmBlock, DbGroup}
+use Rattle.geos_opcodes.specs.declared.uses.Kind.TheVariants.{VmBlock, DbGroup}
 use Rattle.geos_opcodes.specs.declared.uses.SlotUse.TheVariants.{LocksNew, Locks, Marks}
 use Rattle.geos_verify.specs.Rows.{alike, marked_state, slot_state, slots_after}
 use Rattle.geos_verify.specs.Potentials.{pays}
@@ -76,11 +76,7 @@ locked-some (Some b) h = refl
 listed-held : (m : Memory) (kind other : Kind) (h : ℕ) → owner_of kind ≡ owner.Vm → IsOfKind m other (named (owner_of other) h) → alike (Some other) (Some kind) ≡ true → is_none (listed_at m h) ≡ false
 listed-held m VmBlock VmBlock h of is same = some-listed (listed_at m h) is.0
 listed-held m DbGroup DbGroup h of is same = some-listed (listed_at m h) is.0
-listed-held m MemBlock other h of is same = absurd cc
-listed-held m VmBlock MemBlock h of is same = absurd cc
-listed-held m VmBlock DbGroup h of is same = absurd cc
-listed-held m DbGroup MemBlock h of is same = absurd cc
-listed-held m DbGroup VmBlock h of is same = absurd cc
+listed-held m _ _ h of is same = absurd cc
 
 listed-at : (m : Memory) (kind : Kind) (o : Option Held) → owner_of kind ≡ owner.Vm → SlotIsSound m o → alike (option_map (λ (held : Held). held.kind) o) (Some kind) ≡ true → is_none (listed_at m (name_in o).h) ≡ false
 listed-at m kind None of is same = absurd cc
@@ -94,14 +90,11 @@ marked-owned m owner.Vm h e = ap not e
 
 -- of a slot whose block was marked its mark is known
 slot-marked : (m : Memory) (o : Option Held) (x : SlotState) → SlotMeets m o x → is_marked m (name_in o).h ≡ true → SlotMeets m o (marked_state x)
-slot-marked m None Empty k e = k
-slot-marked m None Mem k e = k
 slot-marked m None (Vm marked) k e = absurd k
 slot-marked m None (Db marked) k e = absurd k
-slot-marked m (Some held) Empty k e = k
-slot-marked m (Some held) Mem k e = k
 slot-marked m (Some held) (Vm marked) k e = (k.0, λ is. marked-owned m (owner_of held.kind) held.handle e)
 slot-marked m (Some held) (Db marked) k e = (k.0, λ is. marked-owned m (owner_of held.kind) held.handle e)
+slot-marked m _ _ k e = k
 
 leaves-marked : (a : ℕ) (m : Memory) (h : ℕ) → IsMemory (with_mark m h true) → Leaves a Nothing m (with_mark m h true)
 leaves-marked a m h legal = record {

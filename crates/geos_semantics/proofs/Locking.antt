@@ -22,11 +22,6 @@ each-set P [] k x h new = tt
 each-set P (y ∷ ys) zero x h new = (new, h.1)
 each-set P (y ∷ ys) (suc k) x h new = (h.0, each-set P ys k x h.1 new)
 
-pub each-at : {X : Type 0} (P : X → Type 0) (xs : List X) (k : ℕ) (d : X) → Each P xs → P d → P (get_or xs k d)
-each-at P [] k d h none = none
-each-at P (y ∷ ys) zero d h none = h.0
-each-at P (y ∷ ys) (suc k) d h none = each-at P ys k d h.1 none
-
 -- how many slots hold a block, once a slot has another content
 pub holds-set : (slots : List (Option Held)) (a : ℕ) (new : Option Held) (name : Name) → a < length slots
     → holds (set slots a new) name + holds_once name (get_or slots a None) ≡ holds slots name + holds_once name new

@@ -15,7 +15,7 @@ use Rattle.geos_table.proofs.Laws.{entry-other}
 use Rattle.geos_table.proofs.LegalGiven.{listed-given, entry-told_given, there-given, is_marked-given}
 use Rattle.geos_table.proofs.NamedBlocks.{changed_in, relisted-changed, marks-mapped, told-mapped}
 use Rattle.geos_image.specs.declared.row.SlotState.{SlotState}
-use Rattle.geos_image.specs.declared.row.SlotState.TheVariants.{Empty, Mem, Vm, Db}
+use Rattle.geos_image.specs.declared.row.SlotState.TheVariants.{Vm, Db}
 use Rattle.geos_opcodes.specs.declared.uses.Kind.{Kind}
 use Rattle.geos_opcodes.specs.declared.uses.Kind.TheVariants as block
 use Rattle.geos_verify.specs.Rows.{held_state}
@@ -156,14 +156,9 @@ slots-sound old new (None ∷ slots) stay h = (tt, slots-sound old new slots (λ
 slots-sound old new (Some held ∷ slots) stay h = ((stay 0 held refl).is h.0, slots-sound old new slots (λ k other e. stay (suc k) other e) h.1)
 
 slot-left : (old new : Memory) (o : Option Held) (x : SlotState) → ((held : Held) → o ≡ Some held → Stays old new held) → SlotMeets old o x → SlotMeets new o x
-slot-left old new None Empty stay k = k
-slot-left old new None Mem stay k = k
-slot-left old new None (Vm marked) stay k = k
-slot-left old new None (Db marked) stay k = k
-slot-left old new (Some held) Empty stay k = k
-slot-left old new (Some held) Mem stay k = k
 slot-left old new (Some held) (Vm marked) stay k = (k.0, λ is. (stay held refl).mark (k.1 is))
 slot-left old new (Some held) (Db marked) stay k = (k.0, λ is. (stay held refl).mark (k.1 is))
+slot-left old new _ _ stay k = k
 
 pub slots-left : (old new : Memory) (slots : List (Option Held)) (states : List SlotState) → HeldStay old new slots → Each2 (SlotMeets old) slots states → Each2 (SlotMeets new) slots states
 slots-left old new [] [] stay h = tt
