@@ -1,12 +1,12 @@
 -- Edits of the bytes that a block has lent, as heaps and arrays tell them.
 use Rattle.std.proofs.Common.{◌≡◌, ℕ, ◌+◌, ◌<◌, ◌≤◌, true, false, List, [], ◌∷◌, length, Option, Some, None, refl, ap, ◌∙◌, arith, subst}
-use Rattle.std.specs.Prelude.{Bool, Result, Ok, Err, IsSome, OnOk, OnErr, IfOk, IfErr, is_none, nat_lt}
+use Rattle.std.specs.Prelude.{Bool, Result, Ok, Err, IsErrAnd, IsSome, MatchResult, OnOk, OnErr, IfOk, IfErr, is_none, nat_lt}
 use Rattle.geos_model.specs.declared.name.Name.{Name}
 use Rattle.geos_model.specs.declared.refusal.Refusal.{Refusal}
 use Rattle.geos_model.specs.declared.refusal.Refusal.TheVariants as refusal
 use Rattle.geos_model.specs.Refusals.{first_refusal}
 use Rattle.geos_model.specs.Block as block
-use Rattle.geos_model.specs.Chunks.{need, chunk_of, without, with_resized, with_inserted, with_deleted}
+use Rattle.geos_model.specs.Chunks.{need, chunk_of}
 use Rattle.geos_model.specs.Chunks.{bytes_of as bytes_in}
 use Rattle.geos_model.specs.Edits as edits
 use Rattle.geos_model.specs.Edits.{Edit}
@@ -15,7 +15,6 @@ use Rattle.block_handles.specs.Change.{with_bytes}
 use Rattle.block_handles.specs.Names.{slot_of}
 use Rattle.block_handles.specs.Store.{Store, IsThere, bytes_of}
 use Rattle.lmem_heap.specs.declared.error.RoomError.{RoomError}
-use Rattle.lmem_block.specs.declared.look.BadChunk as lmem
 use Rattle.lmem_heap.specs.declared.error.ReallocError.{ReallocError}
 use Rattle.lmem_heap.specs.declared.error.ReallocError.TheVariants as realloc
 use Rattle.lmem_heap.specs.declared.error.InsertError.{InsertError}
@@ -27,16 +26,11 @@ use Rattle.chunk_array.specs.declared.error.AppendError.{AppendError}
 use Rattle.chunk_array.specs.declared.error.AppendError.TheVariants as append
 use Rattle.chunk_array.specs.declared.error.GrowthError.{GrowthError}
 use Rattle.chunk_array.specs.declared.error.GrowthError.TheVariants as growth
-use Rattle.chunk_array.specs.declared.error.ArrayError.{ArrayError}
-use Rattle.chunk_array.specs.declared.error.ElementError.{ElementError}
 use Rattle.chunk_array.specs.GrowthErrors.{as_growth_error, IsGrowthError}
-use Rattle.chunk_array.specs.ArrayErrors.{IsArrayError}
-use Rattle.chunk_array.specs.ElementErrors.{IsElementError}
 use Rattle.heap_calls.specs.declared.obstacle.Obstacle.{Obstacle}
 use Rattle.heap_calls.specs.declared.obstacle.Obstacle.TheVariants.{Refused, Room}
 use Rattle.heap_calls.specs.Edits.{IsObstacle, Tries, IsOwn}
-use Rattle.heap_calls.specs.Refused.{of_room, of_free, of_realloc, of_insert, of_delete, of_append, of_growth, of_array, of_element, why_no_array, why_no_element}
-use Rattle.heap_calls.proofs.Looked.{array-refuses, element-refuses}
+use Rattle.heap_calls.specs.Refused.{map_err, why_not_appended, why_not_deleted, why_not_grown, why_not_inserted, why_not_resized}
 use Rattle.heap_calls.proofs.Lent.{lent-heap, lent-same}
 
 below : (n m : ℕ) → n < m → nat_lt n m ≡ true
@@ -90,100 +84,85 @@ module _ {A : Type 0} (edit : List (Option (List ℕ)) → Edit A) (old : Store)
       lent-heap old (slot_of name) there ws was _ value long heap handle (spells ∙ ap (λ bytes. (edit (block.chunks bytes)).chunks) value),
     )
 
-  pub lent-hindered : (o : Obstacle) → IsObstacle o made (length was) → ws ≡ was → Tries edit old new name (Err o)
-  lent-hindered o h same = (subst (λ bytes. IsObstacle o (edit (block.chunks bytes)) (length bytes)) value h, lent-same old (slot_of name) there ws was value same)
+  pub lent-map_err : (o : Obstacle) → IsObstacle o made (length was) → ws ≡ was → Tries edit old new name (Err o)
+  lent-map_err o h same = (subst (λ bytes. IsObstacle o (edit (block.chunks bytes)) (length bytes)) value h, lent-same old (slot_of name) there ws was value same)
 
--- One that answers nothing, as it is told by its errors
-module _ (edit : List (Option (List ℕ)) → Edit (Unit {0})) (old : Store) (name : Name) (there : IsThere old (slot_of name)) (ws was : List ℕ) (value : was ≡ bytes_of old (slot_of name))
-    (long : length ws ≡ length was) (heap : IsHeap ws) (handle : block.handle_word ws ≡ block.handle_word was) where
+-- What heaps and arrays tell
+
+-- what the method makes of a result
+pub mapped : {A E F : Type 0} (why : E → F) (r : Result A E) (s : Result A F) → MatchResult r (λ x. s ≡ Ok x) (λ e. IsErrAnd s (λ o. o ≡ why e)) → s ≡ map_err why r
+mapped why (Ok x) s h = h
+mapped why (Err e) (Ok x) h = absurd h
+mapped why (Err e) (Err o) h = ap Err h
+
+map_err-twice : {A E F G : Type 0} (why : E → F) (later : F → G) (r : Result A E) → map_err later (map_err why r) ≡ map_err (λ e. later (why e)) r
+map_err-twice why later (Ok x) = refl
+map_err-twice why later (Err e) = refl
+
+-- and where it is called twice
+pub mapped-twice : {A E F G : Type 0} (why : E → F) (later : F → G) (r : Result A E) (m : Result A F) (s : Result A G) → MatchResult r (λ x. m ≡ Ok x) (λ e. IsErrAnd m (λ o. o ≡ why e))
+    → MatchResult m (λ x. s ≡ Ok x) (λ e. IsErrAnd s (λ o. o ≡ later e)) → s ≡ map_err (λ e. later (why e)) r
+mapped-twice why later r m s h k = mapped later m s k ∙ ap (map_err later) (mapped why r m h) ∙ map_err-twice why later r
+
+-- what holds of an answer that is Ok, or of an error, carried over
+pub on_ok-map : {A E P Q : Type 0} (r : Result A E) → (P → Q) → OnOk r P → OnOk r Q
+on_ok-map (Ok x) f p = f p
+on_ok-map (Err e) f p = tt
+
+pub if_err-map : {A E : Type 0} {P Q : E → Type 0} (r : Result A E) → ((e : E) → P e → Q e) → IfErr r P → IfErr r Q
+if_err-map (Ok x) f p = tt
+if_err-map (Err e) f p = f e p
+
+module _ {E : Type 0} (edit : List (Option (List ℕ)) → Edit (Unit {0})) (old : Store) (name : Name) (there : IsThere old (slot_of name)) (ws was : List ℕ) (value : was ≡ bytes_of old (slot_of name))
+    (long : length ws ≡ length was) (heap : IsHeap ws) (handle : block.handle_word ws ≡ block.handle_word was) (why : E → Obstacle) where
   abbrev e : Edit (Unit {0})
   e = edit (block.chunks was)
 
-  pub lent-append : (r : Result (Unit {0}) AppendError) → OnOk r ((first_refusal e.refusals ≡ None) × (block.chunks ws ≡ e.chunks)) → IfErr r (λ why. IsGrowthError (as_growth_error why) e.refusals (need e.chunks) (length was))
-      → OnErr r (ws ≡ was) → Tries edit old (with_bytes old (slot_of name) ws) name (of_append r)
-  lent-append (Ok done) ok refused same = lent-tried edit old name there ws was value long heap handle tt refl ok.0 ok.1
-  lent-append (Err append.BadChunk) ok refused same = lent-hindered edit old name there ws was value (Refused refusal.BadChunk) refused same
-  lent-append (Err append.BadArray) ok refused same = lent-hindered edit old name there ws was value (Refused refusal.BadArray) refused same
-  lent-append (Err (append.Room r)) ok refused same = lent-hindered edit old name there ws was value (Room r) refused same
+  -- a change of what they hold, which answers nothing
+  pub lent : (r : Result (Unit {0}) E) → OnOk r ((first_refusal e.refusals ≡ None) × (block.chunks ws ≡ e.chunks)) → IfErr r (λ error. IsObstacle (why error) e (length was)) → OnErr r (ws ≡ was)
+      → Tries edit old (with_bytes old (slot_of name) ws) name (map_err why r)
+  lent (Ok done) ok refused same = lent-tried edit old name there ws was value long heap handle tt refl ok.0 ok.1
+  lent (Err error) ok refused same = lent-map_err edit old name there ws was value (why error) refused same
 
-  pub lent-growth : (r : Result (Unit {0}) GrowthError) → OnOk r ((first_refusal e.refusals ≡ None) × (block.chunks ws ≡ e.chunks)) → IfErr r (λ why. IsGrowthError why e.refusals (need e.chunks) (length was))
-      → OnErr r (ws ≡ was) → Tries edit old (with_bytes old (slot_of name) ws) name (of_growth r)
-  lent-growth (Ok done) ok refused same = lent-tried edit old name there ws was value long heap handle tt refl ok.0 ok.1
-  lent-growth (Err growth.BadChunk) ok refused same = lent-hindered edit old name there ws was value (Refused refusal.BadChunk) refused same
-  lent-growth (Err growth.BadArray) ok refused same = lent-hindered edit old name there ws was value (Refused refusal.BadArray) refused same
-  lent-growth (Err growth.BadElement) ok refused same = lent-hindered edit old name there ws was value (Refused refusal.BadElement) refused same
-  lent-growth (Err (growth.Room r)) ok refused same = lent-hindered edit old name there ws was value (Room r) refused same
-
-  pub lent-array : (r : Result (Unit {0}) ArrayError) → OnOk r ((first_refusal e.refusals ≡ None) × (block.chunks ws ≡ e.chunks)) → IfErr r (λ why. IsArrayError why e.refusals) → OnErr r (ws ≡ was)
-      → Tries edit old (with_bytes old (slot_of name) ws) name (of_array r)
-  lent-array (Ok done) ok refused same = lent-tried edit old name there ws was value long heap handle tt refl ok.0 ok.1
-  lent-array (Err why) ok refused same = lent-hindered edit old name there ws was value (Refused (why_no_array why)) (array-refuses why e.refusals refused) same
-
-  pub lent-element : (r : Result (Unit {0}) ElementError) → OnOk r ((first_refusal e.refusals ≡ None) × (block.chunks ws ≡ e.chunks)) → IfErr r (λ why. IsElementError why e.refusals) → OnErr r (ws ≡ was)
-      → Tries edit old (with_bytes old (slot_of name) ws) name (of_element r)
-  lent-element (Ok done) ok refused same = lent-tried edit old name there ws was value long heap handle tt refl ok.0 ok.1
-  lent-element (Err why) ok refused same = lent-hindered edit old name there ws was value (Refused (why_no_element why)) (element-refuses why e.refusals refused) same
-
--- One of the chunks of a heap, as it is told by its errors
-module _ (old : Store) (name : Name) (there : IsThere old (slot_of name)) (ws was : List ℕ) (value : was ≡ bytes_of old (slot_of name)) (long : length ws ≡ length was) (heap : IsHeap ws)
-    (handle : block.handle_word ws ≡ block.handle_word was) where
-  abbrev cs : List (Option (List ℕ))
-  cs = block.chunks was
-
-  abbrev left : Store
-  left = with_bytes old (slot_of name) ws
-
-  pub lent-free : (c : ℕ) (r : Result (Unit {0}) lmem.BadChunk) → OnOk r (IsSome (chunk_of cs c) × (block.chunks ws ≡ without cs c)) → OnErr r (chunk_of cs c ≡ None) → OnErr r (ws ≡ was) → Tries (edits.free c) old left name (of_free r)
-  lent-free c (Ok done) ok bad same = lent-tried (edits.free c) old name there ws was value long heap handle tt refl (chunk-there cs c ok.0) ok.1
-  lent-free c (Err why) ok bad same = lent-hindered (edits.free c) old name there ws was value (Refused refusal.BadChunk) (chunk-absent cs c [] bad) same
-
-  pub lent-realloc : (c n : ℕ) (r : Result (Unit {0}) ReallocError) → OnOk r (IsSome (chunk_of cs c) × (block.chunks ws ≡ with_resized cs c n)) → IfErr r (λ why. IsReallocError why cs (length was) c n) → OnErr r (ws ≡ was)
-      → Tries (edits.realloc c n) old left name (of_realloc r)
-  lent-realloc c n (Ok done) ok refused same = lent-tried (edits.realloc c n) old name there ws was value long heap handle tt refl (chunk-there cs c ok.0) ok.1
-  lent-realloc c n (Err realloc.BadChunk) ok refused same = lent-hindered (edits.realloc c n) old name there ws was value (Refused refusal.BadChunk) (chunk-absent cs c [] refused) same
-  lent-realloc c n (Err (realloc.Room r)) ok refused same = lent-hindered (edits.realloc c n) old name there ws was value (Room r) (chunk-there cs c refused.0, refused.1) same
-
-  pub lent-insert : (c at n : ℕ) (r : Result (Unit {0}) InsertError) → OnOk r (IsSome (chunk_of cs c) × (at ≤ length (bytes_in cs c)) × (block.chunks ws ≡ with_inserted cs c at n))
-      → IfErr r (λ why. IsInsertError why cs (length was) c at n) → OnErr r (ws ≡ was) → Tries (edits.insert_bytes c at n) old left name (of_insert r)
-  lent-insert c at n (Ok done) ok refused same = lent-tried (edits.insert_bytes c at n) old name there ws was value long heap handle tt refl (offset-within cs c at ok.0 ok.1) ok.2
-  lent-insert c at n (Err insert.BadChunk) ok refused same =
-      lent-hindered (edits.insert_bytes c at n) old name there ws was value (Refused refusal.BadChunk) (chunk-absent cs c ((nat_lt (edits.length_of cs c) at, refusal.Range) ∷ []) refused) same
-  lent-insert c at n (Err insert.Range) ok refused same = lent-hindered (edits.insert_bytes c at n) old name there ws was value (Refused refusal.Range) (offset-past cs c at refused.0 refused.1) same
-  lent-insert c at n (Err (insert.Room r)) ok refused same = lent-hindered (edits.insert_bytes c at n) old name there ws was value (Room r) (offset-within cs c at refused.0 refused.1, refused.2) same
-
-  pub lent-delete : (c at n : ℕ) (r : Result (Unit {0}) DeleteError) → OnOk r (IsSome (chunk_of cs c) × (at + n ≤ length (bytes_in cs c)) × (block.chunks ws ≡ with_deleted cs c at n))
-      → IfErr r (λ why. IsDeleteError why cs c at n) → OnErr r (ws ≡ was) → Tries (edits.delete_bytes c at n) old left name (of_delete r)
-  lent-delete c at n (Ok done) ok refused same = lent-tried (edits.delete_bytes c at n) old name there ws was value long heap handle tt refl (offset-within cs c (at + n) ok.0 ok.1) ok.2
-  lent-delete c at n (Err delete.BadChunk) ok refused same =
-      lent-hindered (edits.delete_bytes c at n) old name there ws was value (Refused refusal.BadChunk) (chunk-absent cs c ((nat_lt (edits.length_of cs c) (at + n), refusal.Range) ∷ []) refused) same
-  lent-delete c at n (Err delete.Range) ok refused same =
-      lent-hindered (edits.delete_bytes c at n) old name there ws was value (Refused refusal.Range) (offset-past cs c (at + n) refused.0 refused.1) same
-
-  pub lent-contract : block.chunks ws ≡ cs → Tries edits.contract old left name (Ok tt)
-  lent-contract spells = lent-tried edits.contract old name there ws was value long heap handle tt refl refl spells
-
--- One that makes a chunk, which is refused room alone
+-- one that makes a chunk, which is refused room alone
 pub lent-made : (edit : List (Option (List ℕ)) → Edit ℕ) (old : Store) (name : Name) → IsThere old (slot_of name) → (ws was : List ℕ) → was ≡ bytes_of old (slot_of name) → length ws ≡ length was → IsHeap ws
     → block.handle_word ws ≡ block.handle_word was → (edit (block.chunks was)).refusals ≡ [] → (r : Result ℕ RoomError) → IfOk r (λ c. (c ≡ (edit (block.chunks was)).answer) × (block.chunks ws ≡ (edit (block.chunks was)).chunks))
-    → IfErr r (λ room. IsRoomError room (need (edit (block.chunks was)).chunks) (length was)) → OnErr r (ws ≡ was) → Tries edit old (with_bytes old (slot_of name) ws) name (of_room r)
+    → IfErr r (λ room. IsRoomError room (need (edit (block.chunks was)).chunks) (length was)) → OnErr r (ws ≡ was) → Tries edit old (with_bytes old (slot_of name) ws) name (map_err Room r)
 lent-made edit old name there ws was value long heap handle none (Ok c) ok refused same = lent-tried edit old name there ws was value long heap handle c ok.0 (ap first_refusal none) ok.1
-lent-made edit old name there ws was value long heap handle none (Err room) ok refused same = lent-hindered edit old name there ws was value (Room room) (ap first_refusal none, refused) same
+lent-made edit old name there ws was value long heap handle none (Err room) ok refused same = lent-map_err edit old name there ws was value (Room room) (ap first_refusal none, refused) same
 
--- What refuses for want of no room
+-- Their errors are the obstacles of the edits
 
-pub own-free : (r : Result (Unit {0}) lmem.BadChunk) → IsOwn false (of_free r)
-own-free (Ok done) = tt
-own-free (Err why) = tt
+pub append-hinders : (e : Edit (Unit {0})) (size : ℕ) (error : AppendError) → IsGrowthError (as_growth_error error) e.refusals (need e.chunks) size → IsObstacle (why_not_appended error) e size
+append-hinders e size append.BadChunk h = h
+append-hinders e size append.BadArray h = h
+append-hinders e size (append.Room r) h = h
 
-pub own-delete : (r : Result (Unit {0}) DeleteError) → IsOwn false (of_delete r)
-own-delete (Ok done) = tt
-own-delete (Err delete.BadChunk) = tt
-own-delete (Err delete.Range) = tt
+pub growth-hinders : (e : Edit (Unit {0})) (size : ℕ) (error : GrowthError) → IsGrowthError error e.refusals (need e.chunks) size → IsObstacle (why_not_grown error) e size
+growth-hinders e size growth.BadChunk h = h
+growth-hinders e size growth.BadArray h = h
+growth-hinders e size growth.BadElement h = h
+growth-hinders e size (growth.Room r) h = h
 
-pub own-array : (r : Result (Unit {0}) ArrayError) → IsOwn false (of_array r)
-own-array (Ok done) = tt
-own-array (Err why) = tt
+module _ (cs : List (Option (List ℕ))) (size c : ℕ) where
+  pub bad-hinders : {E : Type 0} (r : Result (Unit {0}) E) → OnErr r (chunk_of cs c ≡ None) → IfErr r (λ error. IsObstacle (Refused refusal.BadChunk) (edits.free c cs) size)
+  bad-hinders (Ok done) bad = tt
+  bad-hinders (Err error) bad = chunk-absent cs c [] bad
 
-pub own-element : (r : Result (Unit {0}) ElementError) → IsOwn false (of_element r)
-own-element (Ok done) = tt
-own-element (Err why) = tt
+  pub realloc-hinders : (n : ℕ) (error : ReallocError) → IsReallocError error cs size c n → IsObstacle (why_not_resized error) (edits.realloc c n cs) size
+  realloc-hinders n realloc.BadChunk h = chunk-absent cs c [] h
+  realloc-hinders n (realloc.Room r) h = (chunk-there cs c h.0, h.1)
+
+  pub insert-hinders : (at n : ℕ) (error : InsertError) → IsInsertError error cs size c at n → IsObstacle (why_not_inserted error) (edits.insert_bytes c at n cs) size
+  insert-hinders at n insert.BadChunk h = chunk-absent cs c ((nat_lt (edits.length_of cs c) at, refusal.Range) ∷ []) h
+  insert-hinders at n insert.Range h = offset-past cs c at h.0 h.1
+  insert-hinders at n (insert.Room r) h = (offset-within cs c at h.0 h.1, h.2)
+
+  pub delete-hinders : (at n : ℕ) (error : DeleteError) → IsDeleteError error cs c at n → IsObstacle (Refused (why_not_deleted error)) (edits.delete_bytes c at n cs) size
+  delete-hinders at n delete.BadChunk h = chunk-absent cs c ((nat_lt (edits.length_of cs c) (at + n), refusal.Range) ∷ []) h
+  delete-hinders at n delete.Range h = offset-past cs c (at + n) h.0 h.1
+
+-- what only refuses is not for want of room
+pub own-refused : {E : Type 0} (why : E → Refusal) (r : Result (Unit {0}) E) → IsOwn false (map_err (λ error. Refused (why error)) r)
+own-refused why (Ok done) = tt
+own-refused why (Err error) = tt

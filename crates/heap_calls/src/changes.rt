@@ -15,7 +15,8 @@ ghost use Rattle.heap_calls.specs.declared.obstacle.Obstacle.TheVariants.{Room};
 
 use crate::growth::make_room;
 use crate::obstacle::{
-    Obstacle, of_append, of_array, of_delete, of_element, of_free, of_growth, of_insert, of_realloc,
+    Obstacle, why_no_array, why_no_chunk, why_no_element, why_not_appended, why_not_deleted,
+    why_not_grown, why_not_inserted, why_not_resized,
 };
 use block_handles::Blocks;
 use geos_model::{Name, Refusal};
@@ -106,28 +107,36 @@ fn try_change(blocks: &mut Blocks, name: Name, change: Change) -> Result<(), Obs
     ensures own { IsOwn (may_grow change) result }
 {
     match change {
-        Change::Lfree { c } => of_free(lmem_heap::free(blocks.bytes_mut(name), c)),
-        Change::Lrealloc { c, n } => of_realloc(lmem_heap::realloc(blocks.bytes_mut(name), c, n)),
-        Change::Lins { c, at, n } => of_insert(lmem_heap::insert(blocks.bytes_mut(name), c, at, n)),
-        Change::Ldel { c, at, n } => of_delete(lmem_heap::delete(blocks.bytes_mut(name), c, at, n)),
+        Change::Lfree { c } => lmem_heap::free(blocks.bytes_mut(name), c)
+            .map_err(why_no_chunk)
+            .map_err(Obstacle::Refused),
+        Change::Lrealloc { c, n } => {
+            lmem_heap::realloc(blocks.bytes_mut(name), c, n).map_err(why_not_resized)
+        }
+        Change::Lins { c, at, n } => {
+            lmem_heap::insert(blocks.bytes_mut(name), c, at, n).map_err(why_not_inserted)
+        }
+        Change::Ldel { c, at, n } => lmem_heap::delete(blocks.bytes_mut(name), c, at, n)
+            .map_err(why_not_deleted)
+            .map_err(Obstacle::Refused),
         Change::Lcontract => {
             contract(blocks, name);
             Ok(())
         }
-        Change::Caadd { c, n } => of_append(chunk_array::append(blocks.bytes_mut(name), c, n)),
-        Change::Cains { c, i, n } => of_growth(chunk_array::insert(
-            blocks.bytes_mut(name),
-            c,
-            i,
-            n,
-        )),
-        Change::Cadel { c, i } => of_element(chunk_array::remove(blocks.bytes_mut(name), c, i)),
-        Change::Cazero { c } => of_array(chunk_array::clear(blocks.bytes_mut(name), c)),
-        Change::Caresize { c, i, n } => of_growth(chunk_array::resize_element(
-            blocks.bytes_mut(name),
-            c,
-            i,
-            n,
-        )),
+        Change::Caadd { c, n } => {
+            chunk_array::append(blocks.bytes_mut(name), c, n).map_err(why_not_appended)
+        }
+        Change::Cains { c, i, n } => {
+            chunk_array::insert(blocks.bytes_mut(name), c, i, n).map_err(why_not_grown)
+        }
+        Change::Cadel { c, i } => chunk_array::remove(blocks.bytes_mut(name), c, i)
+            .map_err(why_no_element)
+            .map_err(Obstacle::Refused),
+        Change::Cazero { c } => chunk_array::clear(blocks.bytes_mut(name), c)
+            .map_err(why_no_array)
+            .map_err(Obstacle::Refused),
+        Change::Caresize { c, i, n } => {
+            chunk_array::resize_element(blocks.bytes_mut(name), c, i, n).map_err(why_not_grown)
+        }
     }
 }

@@ -6,7 +6,7 @@ ghost use Rattle.geos_model.specs.Heap.{IsHeap};
 ghost use Rattle.geos_table.specs.ChunkCalls.{ask_edit, refer_edit, least};
 ghost use Rattle.heap_calls.specs.Edits.{Tells, Finds, enough};
 
-use crate::obstacle::{why_no_array, why_no_element};
+use crate::obstacle::{why_no_array, why_no_chunk, why_no_element};
 use chunk_array::{count, element};
 use geos_model::Refusal;
 use geos_table::{Ask, Refer};
@@ -18,14 +18,8 @@ pub fn tell(block: &[u8], ask: Ask) -> Result<u16, Refusal>
     ensures { Tells (ask_edit ask) (chunks block.now) result }
 {
     match ask {
-        Ask::Lsize { c } => match size(block, c) {
-            Ok(n) => Ok(n),
-            Err(BadChunk) => Err(Refusal::BadChunk),
-        },
-        Ask::Cacount { c } => match count(block, c) {
-            Ok(n) => Ok(n),
-            Err(why) => Err(why_no_array(why)),
-        },
+        Ask::Lsize { c } => size(block, c).map_err(why_no_chunk),
+        Ask::Cacount { c } => count(block, c).map_err(why_no_array),
     }
 }
 

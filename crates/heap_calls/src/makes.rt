@@ -10,7 +10,7 @@ ghost use Rattle.heap_calls.specs.Others.{IsMarkedIfVm, KeepsOthers};
 ghost use Rattle.heap_calls.specs.declared.obstacle.Obstacle.TheVariants.{Room};
 
 use crate::growth::make_room;
-use crate::obstacle::{Obstacle, of_room};
+use crate::obstacle::Obstacle;
 use block_handles::Blocks;
 use geos_model::{Name, Refusal};
 use geos_table::Make;
@@ -81,10 +81,11 @@ fn try_make(blocks: &mut Blocks, name: Name, make: Make) -> Result<u16, Obstacle
     ensures { Tries (make_edit make) blocks.old blocks.new name result }
 {
     match make {
-        Make::Lalloc { n } => of_room(lmem_heap::alloc(blocks.bytes_mut(name), n)),
-        Make::Canew { element_size } => of_room(chunk_array::create(
-            blocks.bytes_mut(name),
-            element_size,
-        )),
+        Make::Lalloc { n } => {
+            lmem_heap::alloc(blocks.bytes_mut(name), n).map_err(Obstacle::Room)
+        }
+        Make::Canew { element_size } => {
+            chunk_array::create(blocks.bytes_mut(name), element_size).map_err(Obstacle::Room)
+        }
     }
 }

@@ -1,7 +1,7 @@
 //! What stands in the way of a call on the chunks of a block, as heaps and arrays tell it.
 
 ghost use Rattle.std.specs.Prelude.{◌≡◌};
-ghost use Rattle.heap_calls.specs.Refused.{of_free, of_realloc, of_insert, of_delete, of_append, of_growth, of_array, of_element, of_room, why_no_array, why_no_element};
+ghost use Rattle.heap_calls.specs.Refused.{why_no_array, why_no_chunk, why_no_element, why_not_appended, why_not_deleted, why_not_grown, why_not_inserted, why_not_resized};
 
 use chunk_array::{AppendError, ArrayError, ElementError, GrowthError};
 use geos_model::Refusal;
@@ -16,102 +16,65 @@ pub(crate) enum Obstacle {
     Room(RoomError),
 }
 
-/// Why a chunk was not made.
-pub(crate) fn of_room(done: Result<u16, RoomError>) -> Result<u16, Obstacle>
-    ensures { result ≡ of_room done }
+/// Why no chunk was found, as the kernel says it.
+pub(crate) fn why_no_chunk(why: BadChunk) -> Refusal
+    ensures { result ≡ why_no_chunk why }
 {
-    match done {
-        Ok(c) => Ok(c),
-        Err(room) => Err(Obstacle::Room(room)),
-    }
-}
-
-/// Why a chunk was not freed.
-pub(crate) fn of_free(done: Result<(), BadChunk>) -> Result<(), Obstacle>
-    ensures { result ≡ of_free done }
-{
-    match done {
-        Ok(()) => Ok(()),
-        Err(BadChunk) => Err(Obstacle::Refused(Refusal::BadChunk)),
-    }
+    let BadChunk = why;
+    Refusal::BadChunk
 }
 
 /// Why a chunk did not get another length.
-pub(crate) fn of_realloc(done: Result<(), ReallocError>) -> Result<(), Obstacle>
-    ensures { result ≡ of_realloc done }
+pub(crate) fn why_not_resized(why: ReallocError) -> Obstacle
+    ensures { result ≡ why_not_resized why }
 {
-    match done {
-        Ok(()) => Ok(()),
-        Err(ReallocError::BadChunk) => Err(Obstacle::Refused(Refusal::BadChunk)),
-        Err(ReallocError::Room(room)) => Err(Obstacle::Room(room)),
+    match why {
+        ReallocError::BadChunk => Obstacle::Refused(Refusal::BadChunk),
+        ReallocError::Room(room) => Obstacle::Room(room),
     }
 }
 
 /// Why no bytes were inserted.
-pub(crate) fn of_insert(done: Result<(), InsertError>) -> Result<(), Obstacle>
-    ensures { result ≡ of_insert done }
+pub(crate) fn why_not_inserted(why: InsertError) -> Obstacle
+    ensures { result ≡ why_not_inserted why }
 {
-    match done {
-        Ok(()) => Ok(()),
-        Err(InsertError::BadChunk) => Err(Obstacle::Refused(Refusal::BadChunk)),
-        Err(InsertError::Range) => Err(Obstacle::Refused(Refusal::Range)),
-        Err(InsertError::Room(room)) => Err(Obstacle::Room(room)),
+    match why {
+        InsertError::BadChunk => Obstacle::Refused(Refusal::BadChunk),
+        InsertError::Range => Obstacle::Refused(Refusal::Range),
+        InsertError::Room(room) => Obstacle::Room(room),
     }
 }
 
-/// Why no bytes were deleted.
-pub(crate) fn of_delete(done: Result<(), DeleteError>) -> Result<(), Obstacle>
-    ensures { result ≡ of_delete done }
+/// Why no bytes were deleted, as the kernel says it.
+pub(crate) fn why_not_deleted(why: DeleteError) -> Refusal
+    ensures { result ≡ why_not_deleted why }
 {
-    match done {
-        Ok(()) => Ok(()),
-        Err(DeleteError::BadChunk) => Err(Obstacle::Refused(Refusal::BadChunk)),
-        Err(DeleteError::Range) => Err(Obstacle::Refused(Refusal::Range)),
+    match why {
+        DeleteError::BadChunk => Refusal::BadChunk,
+        DeleteError::Range => Refusal::Range,
     }
 }
 
 /// Why no element was appended.
-pub(crate) fn of_append(done: Result<(), AppendError>) -> Result<(), Obstacle>
-    ensures { result ≡ of_append done }
+pub(crate) fn why_not_appended(why: AppendError) -> Obstacle
+    ensures { result ≡ why_not_appended why }
 {
-    match done {
-        Ok(()) => Ok(()),
-        Err(AppendError::BadChunk) => Err(Obstacle::Refused(Refusal::BadChunk)),
-        Err(AppendError::BadArray) => Err(Obstacle::Refused(Refusal::BadArray)),
-        Err(AppendError::Room(room)) => Err(Obstacle::Room(room)),
+    match why {
+        AppendError::BadChunk => Obstacle::Refused(Refusal::BadChunk),
+        AppendError::BadArray => Obstacle::Refused(Refusal::BadArray),
+        AppendError::Room(room) => Obstacle::Room(room),
     }
 }
 
 /// Why no element was inserted, or none got another size.
-pub(crate) fn of_growth(done: Result<(), GrowthError>) -> Result<(), Obstacle>
-    ensures { result ≡ of_growth done }
+pub(crate) fn why_not_grown(why: GrowthError) -> Obstacle
+    ensures { result ≡ why_not_grown why }
 {
-    match done {
-        Ok(()) => Ok(()),
-        Err(GrowthError::BadChunk) => Err(Obstacle::Refused(Refusal::BadChunk)),
-        Err(GrowthError::BadArray) => Err(Obstacle::Refused(Refusal::BadArray)),
-        Err(GrowthError::BadElement) => Err(Obstacle::Refused(Refusal::BadElement)),
-        Err(GrowthError::Room(room)) => Err(Obstacle::Room(room)),
-    }
-}
-
-/// Why an array was not cleared.
-pub(crate) fn of_array(done: Result<(), ArrayError>) -> Result<(), Obstacle>
-    ensures { result ≡ of_array done }
-{
-    match done {
-        Ok(()) => Ok(()),
-        Err(why) => Err(Obstacle::Refused(why_no_array(why))),
-    }
-}
-
-/// Why an element was not taken out.
-pub(crate) fn of_element(done: Result<(), ElementError>) -> Result<(), Obstacle>
-    ensures { result ≡ of_element done }
-{
-    match done {
-        Ok(()) => Ok(()),
-        Err(why) => Err(Obstacle::Refused(why_no_element(why))),
+    match why {
+        GrowthError::BadChunk => Obstacle::Refused(Refusal::BadChunk),
+        GrowthError::BadArray => Obstacle::Refused(Refusal::BadArray),
+        GrowthError::BadElement => Obstacle::Refused(Refusal::BadElement),
+        GrowthError::Room(room) => Obstacle::Room(room),
     }
 }
 
