@@ -4,7 +4,8 @@ use Rattle.std.specs.Prelude.{IfSome}
 use Rattle.geos_image.specs.declared.instr.Instr.{Instr}
 use Rattle.geos_image.specs.Parts.{Parts}
 use Rattle.geos_verify.proofs.Places.{item_at, if_some}
-use Rattle.geos_infer.specs.Code.{ForwardIn, IsPcOf, instrs_of, has_edge, edge_end}
+use Rattle.geos_verify.specs.Rows.{has_edge}
+use Rattle.geos_infer.specs.Code.{ForwardIn, IsPcOf, instrs_of, edge_end}
 use Rattle.geos_infer.proofs.Ends.{code-at}
 
 -- control does not go back

@@ -10,7 +10,8 @@ use Rattle.geos_image.specs.Parts.{Parts, start_of}
 use Rattle.geos_image.proofs.Starts.{start_of-le}
 use Rattle.geos_verify.specs.Rules.{returns}
 use Rattle.geos_verify.proofs.Places.{item_at, if_some}
-use Rattle.geos_infer.specs.Code.{Edge, IsPcOf, ForwardIn, instrs_of, has_edge, edge_end}
+use Rattle.geos_verify.specs.Rows.{has_edge}
+use Rattle.geos_infer.specs.Code.{Edge, IsPcOf, ForwardIn, instrs_of, edge_end}
 use Rattle.geos_infer.specs.Solutions.{StepsHoldIn, call_steps, most_steps}
 use Rattle.geos_infer.specs.Edges.{leads_ahead}
 use Rattle.geos_infer.specs.Numbers.{Numbers, zeros}

@@ -12,13 +12,13 @@ use Rattle.geos_image.specs.declared.point.Point.{Point}
 use Rattle.geos_image.specs.Parts.{Parts, start_of, total_count}
 use Rattle.geos_image.specs.Legal.{is_row, is_instr, is_point, are_routines, is_image}
 use Rattle.geos_image.proofs.Instrs.{image_parts}
-use Rattle.geos_verify.specs.Rows.{fits}
+use Rattle.geos_verify.specs.Rows.{fits, has_edge}
 use Rattle.geos_verify.specs.Rules.{has_place, names_empty_slot, refusal, HasPoint, Accepted, IsChecked}
 use Rattle.geos_verify.proofs.Places.{item_at, place_bounds}
 use Rattle.geos_infer.specs.declared.error.InferError.{InferError}
 use Rattle.geos_infer.specs.declared.error.InferError.TheVariants.{NoRows}
 use Rattle.geos_infer.specs.Joins.{clean}
-use Rattle.geos_infer.specs.Code.{Edge, IsPcOf, Forward, ForwardIn, SameCode, instrs_of, instr_of, has_edge, edge_end, edge_row}
+use Rattle.geos_infer.specs.Code.{Edge, IsPcOf, Forward, ForwardIn, SameCode, instrs_of, instr_of, edge_end, edge_row}
 use Rattle.geos_infer.specs.Solutions.{RowsHoldIn, StepsHoldIn, NoRowsHoldIn, NoStepsHoldIn, call_steps}
 use Rattle.geos_infer.specs.Flow.{row_of, known_at, KnownAt, edge_number, Flowing, HaveFlowed}
 use Rattle.geos_infer.specs.Numbers.{Numbers, zeros}

@@ -7,10 +7,10 @@ use Rattle.geos_image.specs.declared.instr.Instr.{Instr}
 use Rattle.geos_image.specs.declared.row.Row.{Row}
 use Rattle.geos_image.specs.declared.point.Point.{Point}
 use Rattle.geos_image.specs.Parts.{Parts, start_of}
-use Rattle.geos_verify.specs.Rows.{falls_through, branches, at_point, HasEdge, after}
+use Rattle.geos_verify.specs.Rows.{falls_through, branches, at_point, HasEdge, after, has_edge}
 use Rattle.geos_verify.proofs.Places.{item_at, if_some}
 use Rattle.geos_infer.specs.Joins.{clean}
-use Rattle.geos_infer.specs.Code.{Edge, IsPcOf, instrs_of, has_edge, edge_end, edge_row}
+use Rattle.geos_infer.specs.Code.{Edge, IsPcOf, instrs_of, edge_end, edge_row}
 use Rattle.geos_infer.specs.Flow.{known_at, KnownAt, fits_known, edge_number, Flowing}
 use Rattle.geos_infer.specs.Reached.{EdgeFits}
 use Rattle.geos_infer.proofs.Ends.{code-at}

@@ -9,12 +9,12 @@ use Rattle.geos_image.specs.declared.row.Row.{Row}
 use Rattle.geos_image.specs.declared.point.Point.{Point}
 use Rattle.geos_image.specs.declared.routine.Routine.{Routine}
 use Rattle.geos_image.specs.Parts.{Parts, start_of}
-use Rattle.geos_verify.specs.Rows.{fits, after, row_along, row_branching}
+use Rattle.geos_verify.specs.Rows.{fits, after, row_along, row_branching, has_edge}
 use Rattle.geos_image.specs.Legal.{is_image}
 use Rattle.geos_image.proofs.Starts.{start_of-next, start_of-le}
 use Rattle.geos_verify.proofs.Places.{item_at, if_some}
 use Rattle.geos_infer.specs.Joins.{joined, clean}
-use Rattle.geos_infer.specs.Code.{Edge, IsPcOf, ForwardIn, instrs_of, has_edge, edge_end, edge_row}
+use Rattle.geos_infer.specs.Code.{Edge, IsPcOf, ForwardIn, instrs_of, edge_end, edge_row}
 use Rattle.geos_infer.specs.Solutions.{RowsHoldIn}
 use Rattle.geos_infer.specs.declared.flow.Arrival.{Arrival}
 use Rattle.geos_infer.specs.declared.flow.Arrival.TheVariants.{Same, Weaker, Apart}

@@ -11,11 +11,11 @@ use Rattle.geos_image.specs.declared.point.Point.{Point}
 use Rattle.geos_image.specs.Parts.{Parts, start_of}
 use Rattle.geos_image.specs.Legal.{is_image}
 use Rattle.geos_image.proofs.Starts.{start_of-next, start_of-le}
-use Rattle.geos_verify.specs.Rows.{falls_through, branches, at_point, row_along, row_branching, fits}
+use Rattle.geos_verify.specs.Rows.{falls_through, branches, at_point, row_along, row_branching, fits, has_edge}
 use Rattle.geos_verify.specs.Rules.{has_place, names_empty_slot, leaves_routine, misfits_at, edge_misfits, HasPoint}
 use Rattle.geos_verify.proofs.Places.{item_at, place_bounds}
 use Rattle.geos_infer.specs.declared.body.Body.{Body}
-use Rattle.geos_infer.specs.Code.{Edge, IsPcOf, ForwardIn, instr_of, instrs_of, has_edge, edge_end, edge_row}
+use Rattle.geos_infer.specs.Code.{Edge, IsPcOf, ForwardIn, instr_of, instrs_of, edge_end, edge_row}
 use Rattle.geos_infer.specs.Joins.{clean}
 use Rattle.geos_infer.specs.Flow.{row_of, known_at, KnownAt, Flowing, AllKnown, StaysBefore}
 use Rattle.geos_infer.specs.Numbers.{Numbers}

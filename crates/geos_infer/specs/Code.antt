@@ -6,7 +6,7 @@ use Rattle.geos_image.specs.declared.row.Row.{Row}
 use Rattle.geos_image.specs.declared.routine.Routine.{Routine}
 use Rattle.geos_image.specs.declared.point.Point.{Point}
 use Rattle.geos_image.specs.Parts.{Parts, start_of}
-use Rattle.geos_verify.specs.Rows.{falls_through, branches, row_along, row_branching}
+use Rattle.geos_verify.specs.Rows.{has_edge, row_along, row_branching}
 
 -- the instruction of a point
 abbrev pub instr_of : Point → Instr
@@ -23,11 +23,6 @@ pub record SameCode (image other : Parts) : Type 0 where
   pub instrs : instrs_of other ≡ instrs_of image
 
 -- Edges
-
--- the instruction has the edge: to its target, or to the next instruction
-abbrev pub has_edge : Instr → Bool → Bool
-has_edge i true = branches i.opcode
-has_edge i false = falls_through i.opcode
 
 -- the pc that the edge leads to
 abbrev pub edge_end : ℕ → Instr → Bool → ℕ

@@ -2,9 +2,9 @@
 use Rattle.std.specs.Prelude.{◌≡◌, ◌<◌, ℕ, Bool, ◌&&◌, nat_lt, if◌then◌else◌, Option, Some, None, slice_get, IfSome}
 use Rattle.geos_image.specs.declared.instr.Instr.{Instr}
 use Rattle.geos_image.specs.Parts.{Parts}
-use Rattle.geos_verify.specs.Rows.{HasEdge}
+use Rattle.geos_verify.specs.Rows.{HasEdge, has_edge}
 use Rattle.geos_infer.specs.declared.edges.Edge.{Edge}
-use Rattle.geos_infer.specs.Code.{ForwardIn, has_edge, edge_end}
+use Rattle.geos_infer.specs.Code.{ForwardIn, edge_end}
 
 -- the instruction has the edge, and it leads ahead and before the limit
 abbrev pub leads_ahead : ℕ → ℕ → Instr → Bool → Bool

@@ -4,8 +4,8 @@ use Rattle.geos_image.specs.declared.row.Row.{Row}
 use Rattle.geos_image.specs.declared.point.Point.{Point}
 use Rattle.geos_image.specs.declared.routine.Routine.{Routine}
 use Rattle.geos_image.specs.Parts.{Parts, start_of}
-use Rattle.geos_verify.specs.Rows.{after}
-use Rattle.geos_infer.specs.Code.{has_edge, edge_end}
+use Rattle.geos_verify.specs.Rows.{after, has_edge}
+use Rattle.geos_infer.specs.Code.{edge_end}
 use Rattle.geos_infer.specs.Joins.{agree}
 use Rattle.geos_infer.specs.declared.apart.Coming.{Coming}
 use Rattle.geos_infer.specs.declared.apart.Apart.{Apart}

@@ -7,11 +7,11 @@ ghost use Rattle.geos_infer.specs.Why.{LeadsTo, ComesBy, IsUnlike, IsWent, AreAp
 
 use crate::body::Body;
 use crate::common::agree;
-use crate::edges::{edge_end, has_edge};
+use crate::edges::edge_end;
 use crate::known::Known;
 use crate::table::Table;
 use geos_image::Row;
-use geos_verify::after;
+use geos_verify::{after, has_edge};
 use std::alloc::{AllocError, Global};
 
 /// How control comes to a place.

@@ -7,13 +7,13 @@ ghost use Rattle.geos_image.specs.declared.point.Point.{Point};
 use crate::apart::{Apart, find_apart};
 use crate::body::{Body, body_of};
 use crate::cycles::has_unpaid_cycle;
-use crate::edges::{edge_end, has_edge, is_loop};
+use crate::edges::edge_end;
 use crate::spent::{find_touched, touches};
 use crate::table::Table;
 use crate::turns::steps_pass;
 use crate::unpaid::find_round;
 use geos_image::{Image, Instr, Opcode};
-use geos_verify::Touched;
+use geos_verify::{Touched, has_edge};
 use std::alloc::{AllocError, Global};
 
 /// An edge that leads back.

@@ -2,12 +2,12 @@
 
 ghost use Rattle.std.specs.Prelude.{◌≡◌, ◌<◌, None, false, slice_get, IfSome};
 ghost use Rattle.geos_infer.specs.Causes.{is_loop};
-ghost use Rattle.geos_infer.specs.Code.{ForwardIn, has_edge, edge_end};
+ghost use Rattle.geos_infer.specs.Code.{ForwardIn, edge_end};
 ghost use Rattle.geos_infer.specs.Edges.{edge_ahead, IsAheadAlone, IsInside};
 
 use crate::body::Body;
 use geos_image::{Instr, Opcode};
-use geos_verify::{branches, falls_through};
+use geos_verify::has_edge;
 
 /// An edge of the instruction at a pc: to its target where `branch` says so, else to the next
 /// instruction.
@@ -26,17 +26,6 @@ pub(crate) fn is_loop(opcode: Opcode) -> bool
     match opcode {
         Opcode::Loop => true,
         _ => false,
-    }
-}
-
-/// Whether the instruction has the edge: to its target, or to the next instruction.
-pub(crate) fn has_edge(i: &Instr, branch: bool) -> bool
-    ensures { result ≡ has_edge i.now branch }
-{
-    if branch {
-        branches(i.opcode)
-    } else {
-        falls_through(i.opcode)
     }
 }
 

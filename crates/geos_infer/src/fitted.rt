@@ -3,51 +3,15 @@
 ghost use Rattle.std.specs.Prelude.{◌≡◌, ◌<◌, ◌+◌, ◌*◌, ◌↔◌, List, true};
 ghost use Rattle.geos_image.specs.declared.row.Row.{Row};
 ghost use Rattle.geos_image.specs.Parts.{start_of};
-ghost use Rattle.geos_verify.specs.Lists.{all2};
-ghost use Rattle.geos_verify.specs.Rows.{slot_fits, pointer_fits, pair_fits, fits};
 ghost use Rattle.geos_infer.specs.Flow.{Flowing, fits_known};
 ghost use Rattle.geos_infer.specs.Reached.{EdgeFits, AllFit};
 
 use crate::body::Body;
 use crate::common::clean;
-use crate::edges::{edge_end, has_edge};
+use crate::edges::edge_end;
 use crate::known::Known;
-use geos_image::{Pointer, Row, SlotState};
-use geos_verify::{after, pointer_fits, slot_fits, within_bounds};
-
-fn slots_fit(r: &[SlotState; 4], s: &[SlotState; 4]) -> bool
-    ensures { result ≡ all2 slot_fits r.now s.now }
-{
-    let [r0, r1, r2, r3] = *r;
-    let [s0, s1, s2, s3] = *s;
-    slot_fits(r0, s0) & slot_fits(r1, s1) & slot_fits(r2, s2) & slot_fits(r3, s3)
-}
-
-fn pointers_fit(r: &[Option<Pointer>; 4], s: &[Option<Pointer>; 4]) -> bool
-    ensures { result ≡ all2 pointer_fits r.now s.now }
-{
-    let [p0, p1, p2, p3] = *r;
-    let [q0, q1, q2, q3] = *s;
-    pointer_fits(p0, q0) & pointer_fits(p1, q1) & pointer_fits(p2, q2) & pointer_fits(p3, q3)
-}
-
-fn pairs_fit(r: &[bool; 6], s: &[bool; 6]) -> bool
-    ensures { result ≡ all2 pair_fits r.now s.now }
-{
-    let first = (r[0] | !s[0]) & (r[1] | !s[1]) & (r[2] | !s[2]);
-    let last = (r[3] | !s[3]) & (r[4] | !s[4]) & (r[5] | !s[5]);
-    first & last
-}
-
-/// Whether what row r says of the registers is enough for row s.
-fn fits(r: &Row, s: &Row) -> bool
-    ensures { result ≡ fits r.now s.now }
-{
-    within_bounds(&r.bounds, &s.bounds)
-        && slots_fit(&r.slots, &s.slots)
-        && pointers_fit(&r.pointers, &s.pointers)
-        && pairs_fit(&r.pairs, &s.pairs)
-}
+use geos_image::Row;
+use geos_verify::{after, fits, has_edge};
 
 /// Whether something is known at a place that the row fits.
 fn fits_known(known: &Option<Row>, row: &Row) -> bool

@@ -53,6 +53,11 @@ is_label _ = false
 abbrev pub branches : Opcode → Bool
 branches opcode = is_label (operands_of opcode).target
 
+-- the instruction has the edge: to its target, or to the next instruction
+abbrev pub has_edge : Instr → Bool → Bool
+has_edge i true = branches i.opcode
+has_edge i false = falls_through i.opcode
+
 -- the instruction at a pc, if there is one, has the edge: to its target, or else to the next
 -- instruction
 abbrev pub HasEdge : Parts → ℕ → Bool → Type 0

@@ -4,7 +4,7 @@ ghost use Rattle.std.specs.Prelude.{◌≡◌, ◌<◌, length};
 ghost use Rattle.geos_image.specs.Fields.{FieldsFit, CalleeFits};
 ghost use Rattle.geos_opcodes.specs.Facts.{uses_of};
 ghost use Rattle.geos_verify.specs.Uses.{UsesFit};
-ghost use Rattle.geos_verify.specs.Rows.{falls_through, branches, pairs_after, used, row_along, row_branching, after, HasEdge};
+ghost use Rattle.geos_verify.specs.Rows.{falls_through, branches, has_edge, pairs_after, used, row_along, row_branching, after, HasEdge};
 
 use crate::bounds::{bound_result, set_bound};
 use crate::pairs::{with_new, with_pair, without_slot};
@@ -31,6 +31,18 @@ pub fn branches(opcode: Opcode) -> bool
     match opcode.operands().target {
         Operand::Label => true,
         _ => false,
+    }
+}
+
+/// Whether the instruction has the edge: to its target where `branch` says so, else to the next
+/// instruction.
+pub fn has_edge(i: &Instr, branch: bool) -> bool
+    ensures { result ≡ has_edge i.now branch }
+{
+    if branch {
+        branches(i.opcode)
+    } else {
+        falls_through(i.opcode)
     }
 }
 

@@ -6,7 +6,7 @@ ghost use Rattle.geos_opcodes.specs.Facts.{uses_of};
 ghost use Rattle.geos_verify.specs.Uses.{bytes_in, OffsetFits, PointerFits};
 ghost use Rattle.geos_verify.specs.Rules.{reach, least_at, pointed_state, is_unmarked, writes_unmarked, moves_unmarked, stale_pointer, passes_end, changes_unmarked, locks_into_held, wrong_slot, is_of_file, commits_with_held};
 
-use crate::fits::{is_empty, is_stale};
+use crate::enough::{is_empty, is_stale};
 use crate::pointers::pointer_at;
 use crate::slots::{are_alike, holds_kind, slot_state};
 use geos_image::{Instr, Row, SlotState};
@@ -29,7 +29,8 @@ pub(crate) fn stale_pointer(i: &Instr, pointer: PointerUse, row: &Row) -> bool
     }
 }
 
-fn bytes_in(width: Width) -> u32
+/// How many bytes a read or a write is wide.
+pub fn bytes_in(width: Width) -> u16
     ensures { result ≡ bytes_in width }
 {
     match width {
@@ -46,8 +47,8 @@ pub fn reach(i: &Instr, width: Width, offset: Offset, row: &Row) -> u32
     ensures { result ≡ reach i.now width offset row.now }
 {
     match offset {
-        Offset::Fixed => u32::from(i.imm) + bytes_in(width),
-        Offset::Indexed => u32::from(row.bounds[i.c as usize]) + bytes_in(width),
+        Offset::Fixed => u32::from(i.imm) + u32::from(bytes_in(width)),
+        Offset::Indexed => u32::from(row.bounds[i.c as usize]) + u32::from(bytes_in(width)),
         Offset::Tested => 0,
     }
 }

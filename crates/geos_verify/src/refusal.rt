@@ -12,7 +12,7 @@ ghost use Rattle.geos_verify.specs.Uses.{UsesFit};
 
 use crate::body::Body;
 use crate::edges::{branches, falls_through, go_along, go_to_target};
-use crate::fits::{fits, is_plain, names_empty_slot};
+use crate::enough::{fits, is_plain, names_empty_slot};
 use crate::misuse::{
     changes_unmarked, commits_with_held, locks_into_held, passes_end, stale_pointer, wrong_slot,
 };

@@ -12,7 +12,7 @@ use geos_opcodes::CounterUse;
 pub type Touched = [[bool; 4]; 32];
 
 /// Whether the instruction calls a routine.
-pub(crate) fn calls(opcode: Opcode) -> bool
+pub fn calls(opcode: Opcode) -> bool
     ensures { result ≡ calls opcode }
 {
     match opcode {

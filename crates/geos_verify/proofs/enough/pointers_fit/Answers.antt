@@ -2,7 +2,7 @@ use Rattle.std.proofs.Common.{None, rules, arith}
 use Rattle.std.proofs.lemmas.Grind.{common_steps}
 use Rattle.geos_verify.specs.Rows.{pointer_fits}
 use Rattle.geos_verify.proofs.Four.{all2_four}
-use Rattle.geos_verify.proofs.fits.pointers_fit.Goals as goal
+use Rattle.geos_verify.proofs.enough.pointers_fit.Goals as goal
 
 pub returns : goal.returns
 returns c =

@@ -75,7 +75,7 @@ fn pairs_fit(r: &[bool; 6], s: &[bool; 6]) -> bool
 }
 
 /// Whether what row r says of the registers is enough for row s.
-pub(crate) fn fits(r: &Row, s: &Row) -> bool
+pub fn fits(r: &Row, s: &Row) -> bool
     ensures { result ≡ fits r.now s.now }
 {
     within_bounds(&r.bounds, &s.bounds)
