@@ -17,7 +17,7 @@ use Rattle.geos_infer.specs.declared.counters.Counter.{Counter}
 use Rattle.geos_infer.specs.declared.counters.Counter.TheVariants.{Kept, Is, Unknown}
 use Rattle.geos_infer.specs.declared.reach.Reach.{Reach}
 use Rattle.geos_infer.specs.Code.{IsPcOf}
-use Rattle.geos_infer.specs.Reach.{counter_at, all_are, IsSo, AreSo, number_in, unless_changed, counters_after, Begin, begin_at, begin_from, ComesTo, IsReached, GoOn, AreReached, IsTurn, AreTurns}
+use Rattle.geos_infer.specs.Turns.{counter_at, all_are, IsSo, AreSo, number_in, unless_changed, counters_after, Begin, begin_at, begin_from, ComesTo, AlwaysComesTo, GoOn, AreReached, IsTurn, AreTurns}
 use Rattle.geos_infer.specs.Numbers.{zeros}
 use Rattle.geos_infer.specs.Solutions.{call_steps, most_steps}
 use Rattle.geos_infer.specs.Taken.{Place, Counts, Goes, Takes, StepsPass, taken_at}
@@ -187,14 +187,14 @@ module _ (image : Parts) (r pc : ℕ) (turn : Reach) (T : IsTurn image r pc turn
 -- What a table says of ways
 
 -- also where a further way is noted
-pub reached-set : (image : Parts) (r : ℕ) (begin : Begin) (low high : ℕ) (reached : List (Option Reach)) (to : ℕ) (next : Reach) → AreReached image r begin low high reached → IsReached image r begin to next
+pub reached-set : (image : Parts) (r : ℕ) (begin : Begin) (low high : ℕ) (reached : List (Option Reach)) (to : ℕ) (next : Reach) → AreReached image r begin low high reached → AlwaysComesTo image r begin to next
     → AreReached image r begin low high (set reached to (Some next))
 reached-set image r begin low high reached to next all comes pc other above below e = elim (cases_lt to (length reached)) [
   | inl within ↦ elim (cases_eq pc to) [
     | inl same ↦
         let at : get_or (set reached to (Some next)) to None ≡ Some other = ap (λ (n : ℕ). get_or (set reached to (Some next)) n None) (sym same) ∙ e in
         let is : next ≡ other = same_Some next other (sym (get_or-set_same reached to (Some next) None within) ∙ at) in
-        subst (λ (n : ℕ). IsReached image r begin n other) (sym same) (subst (IsReached image r begin to) is comes)
+        subst (λ (n : ℕ). AlwaysComesTo image r begin n other) (sym same) (subst (AlwaysComesTo image r begin to) is comes)
     | inr ne ↦ all pc other above below (sym (get_or-set_other reached to pc (Some next) None ne) ∙ e)
   ]
   | inr past ↦ all pc other above below (ap (λ (l : List (Option Reach)). get_or l pc None) (sym (set_past reached to (Some next) past)) ∙ e)
@@ -249,7 +249,7 @@ begins-from image r low high reached first steps counters all pc reach above bel
     λ now so. at-once image r (begin_from low high) pc reach now above below (ap (λ (x : Reach). x.steps) (sym is) ∙ steps)
     (subst (λ (known : List Counter). AreSo known now now) (sym (ap (λ (x : Reach). x.counters) (sym is) ∙ counters)) so)
 
-pub passes : (image : Parts) (r low high pc : ℕ) (reach : Reach) → IsPcOf image r pc → IsReached image r (begin_from low high) pc reach → most_steps < reach.steps + taken_at image pc → StepsPass image r
+pub passes : (image : Parts) (r low high pc : ℕ) (reach : Reach) → IsPcOf image r pc → AlwaysComesTo image r (begin_from low high) pc reach → most_steps < reach.steps + taken_at image pc → StepsPass image r
 passes image r low high pc reach within reached past =
     let came = reached zeros zeros-so in
     let least = came.least in

@@ -10,5 +10,5 @@ pub mod Points
 pub mod Theorem
 pub mod Why
 pub mod Taken
-pub mod Reach
+pub mod Turns
 pub mod Causes

@@ -3,7 +3,7 @@
 ghost use Rattle.std.specs.Prelude.{◌≡◌, ◌<◌, slice_set};
 ghost use Rattle.geos_image.specs.Fields.{FieldsFit};
 ghost use Rattle.geos_verify.specs.Lists.{zip2};
-ghost use Rattle.geos_infer.specs.Reach.{counter_at, all_are, number_in, unless_changed, loop_after, counters_after};
+ghost use Rattle.geos_infer.specs.Turns.{counter_at, all_are, number_in, unless_changed, loop_after, counters_after};
 
 use geos_image::{Instr, Opcode};
 

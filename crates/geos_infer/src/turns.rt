@@ -3,7 +3,7 @@
 ghost use Rattle.std.specs.Prelude.{◌≡◌, ◌<◌, ◌≤◌, ◌+◌, ℕ, true, length, IfSome, IfOk};
 ghost use Rattle.geos_image.specs.Fields.{CalleeFits};
 ghost use Rattle.geos_infer.specs.declared.counters.Counter.TheVariants.{Kept};
-ghost use Rattle.geos_infer.specs.Reach.{begin_at, begin_from, counter_at, GoOn, AreReached, StayReached, IsTurn, AreTurns};
+ghost use Rattle.geos_infer.specs.Turns.{begin_at, begin_from, counter_at, GoOn, AreReached, StayReached, IsTurn, AreTurns};
 ghost use Rattle.geos_infer.specs.Solutions.{call_steps};
 ghost use Rattle.geos_infer.specs.Taken.{NoneIsAcceptedPast, StepsPass, taken_at};
 

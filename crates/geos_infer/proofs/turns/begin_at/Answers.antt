@@ -1,5 +1,5 @@
 use Rattle.std.proofs.Common.{sym, subst, refl}
-use Rattle.geos_infer.specs.Reach.{begin_at, AreReached}
+use Rattle.geos_infer.specs.Turns.{begin_at, AreReached}
 use Rattle.geos_infer.proofs.Onward.{begins-at}
 use Rattle.geos_infer.proofs.turns.begin_at.Goals as goal
 

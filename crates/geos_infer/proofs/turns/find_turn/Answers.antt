@@ -8,9 +8,8 @@ use Rattle.geos_image.specs.Parts.{Parts}
 use Rattle.geos_verify.proofs.Places.{item_at, if_some}
 use Rattle.geos_infer.specs.declared.counters.Counter.TheVariants.{Kept}
 use Rattle.geos_infer.specs.declared.reach.Reach.{Reach}
-use Rattle.geos_infer.specs.Causes.{is_loop}
 use Rattle.geos_infer.specs.Code.{IsPcOf}
-use Rattle.geos_infer.specs.Reach.{begin_at, counter_at, IsReached, IsTurn}
+use Rattle.geos_infer.specs.Turns.{begin_at, counter_at, AlwaysComesTo, IsTurn}
 use Rattle.geos_infer.proofs.Asks.{loop-only}
 use Rattle.geos_infer.proofs.Bodies.{in-body}
 use Rattle.geos_infer.proofs.turns.find_turn.Goals as goal
@@ -21,7 +20,7 @@ if-kept image r pc a turn None same kept made = tt
 if-kept image r pc a turn (Some x) same kept made = subst (IsTurn image r pc) (sym same) (made kept)
 
 turn-at : (image : Parts) (r pc : ℕ) (i : Instr) (turn : Reach) → IsPcOf image r pc → pc < length image.points → IfSome (slice_get image.points pc) (λ point. i ≡ point.instr) → FieldsFit i.opcode i → i.opcode ≡ Loop
-    → IsReached image r (begin_at i.target) pc turn → counter_at turn.counters i.a ≡ Kept → IsTurn image r pc turn
+    → AlwaysComesTo image r (begin_at i.target) pc turn → counter_at turn.counters i.a ≡ Kept → IsTurn image r pc turn
 turn-at image r pc i turn within lt there fields loops reached kept =
     let found = item_at image.points pc lt in
     let same : i ≡ found.0.instr = if_some (λ point. i ≡ point.instr) (slice_get image.points pc) found.0 found.1 there in
@@ -32,7 +31,7 @@ turn-at image r pc i turn within lt there fields loops reached kept =
       there = found.1;
       loops = ap (λ (x : Instr). x.opcode) (sym same) ∙ loops;
       few = subst (λ (x : Instr). x.a < 4) same few;
-      way = subst (λ (x : Instr). IsReached image r (begin_at x.target) pc turn) same reached;
+      way = subst (λ (x : Instr). AlwaysComesTo image r (begin_at x.target) pc turn) same reached;
       kept = subst (λ (x : Instr). counter_at turn.counters x.a ≡ Kept) same kept;
     }
 

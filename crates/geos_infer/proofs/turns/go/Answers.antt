@@ -1,5 +1,5 @@
 use Rattle.std.proofs.Common.{sym, subst, inl, inr}
-use Rattle.geos_infer.specs.Reach.{AreReached}
+use Rattle.geos_infer.specs.Turns.{AreReached}
 use Rattle.geos_infer.proofs.Onward.{reached-set}
 use Rattle.geos_infer.proofs.turns.go.Goals as goal
 

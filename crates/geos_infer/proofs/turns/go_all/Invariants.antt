@@ -1,4 +1,4 @@
-use Rattle.geos_infer.specs.Reach.{StayReached}
+use Rattle.geos_infer.specs.Turns.{StayReached}
 use Rattle.geos_infer.proofs.turns.go_all.Given as goal
 
 -- so far what the table says of ways stays so

@@ -3,7 +3,7 @@ use Rattle.std.proofs.Math.Nat.{mul-le-mul_left}
 use Rattle.geos_image.specs.declared.instr.Instr.{Instr}
 use Rattle.geos_verify.specs.Lists.{zip2}
 use Rattle.geos_verify.proofs.Places.{if_some}
-use Rattle.geos_infer.specs.Reach.{number_in, unless_changed}
+use Rattle.geos_infer.specs.Turns.{number_in, unless_changed}
 use Rattle.geos_infer.proofs.Onward.{goes-behind}
 use Rattle.geos_infer.proofs.turns.go_on_behind.Goals as goal
 

@@ -1,5 +1,5 @@
 use Rattle.std.proofs.Common.{sym, ◌∙◌, subst}
-use Rattle.geos_infer.specs.Reach.{AreTurns}
+use Rattle.geos_infer.specs.Turns.{AreTurns}
 use Rattle.geos_infer.proofs.Onward.{turns-set}
 use Rattle.geos_infer.proofs.turns.note_turns.Goals as goal
 use Rattle.geos_infer.proofs.turns.note_turns.Goals.{in-Some, in_default}

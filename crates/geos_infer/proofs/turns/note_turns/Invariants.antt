@@ -1,4 +1,4 @@
-use Rattle.geos_infer.specs.Reach.{AreTurns}
+use Rattle.geos_infer.specs.Turns.{AreTurns}
 use Rattle.geos_infer.proofs.turns.note_turns.Given as goal
 
 abbrev pub invariant-loop-pc : goal.invariant-loop-pc

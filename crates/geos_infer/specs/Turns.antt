@@ -1,4 +1,4 @@
--- What is known of the ways to a place: how many steps they take at least, and what counters are there.
+-- What is known of the ways to a place, and of the turns of loops: how many steps they take at least, and what counters are there.
 use Rattle.std.specs.Prelude.{◌≡◌, ◌≤◌, ◌<◌, ◌-◌, ℕ, Bool, true, false, ◌==◌, if◌then◌else◌, List, [], ◌∷◌, Option, Some, None, length, option_map, slice_get, slice_index, slice_index_or, slice_set}
 use Rattle.geos_opcodes.specs.declared.opcode.Opcode.{Opcode}
 use Rattle.geos_opcodes.specs.declared.opcode.Opcode.TheVariants.{Setk, Setkw, Loop, Call}
@@ -86,16 +86,16 @@ pub record ComesTo (image : Parts) (r : ℕ) (begin : Begin) (counters : List �
   pub so : AreSo reach.counters counters now
 
 -- the same whatever the counters are at first
-abbrev pub IsReached : Parts → ℕ → Begin → ℕ → Reach → Type 0
-IsReached image r begin pc reach = (counters : List ℕ) → AreSo begin.known counters counters → ComesTo image r begin counters pc reach
+abbrev pub AlwaysComesTo : Parts → ℕ → Begin → ℕ → Reach → Type 0
+AlwaysComesTo image r begin pc reach = (counters : List ℕ) → AreSo begin.known counters counters → ComesTo image r begin counters pc reach
 
 -- ways that come to a pc go on to another
 abbrev pub GoOn : Parts → ℕ → ℕ → Reach → ℕ → Reach → Type 0
-GoOn image r pc reach to next = (begin : Begin) → IsReached image r begin pc reach → IsReached image r begin to next
+GoOn image r pc reach to next = (begin : Begin) → AlwaysComesTo image r begin pc reach → AlwaysComesTo image r begin to next
 
 -- from a pc up to another, what a table says of ways to places is so
 abbrev pub AreReached : Parts → ℕ → Begin → ℕ → ℕ → List (Option Reach) → Type 0
-AreReached image r begin low high reached = (pc : ℕ) (reach : Reach) → low ≤ pc → pc ≤ high → slice_index_or reached pc None ≡ Some reach → IsReached image r begin pc reach
+AreReached image r begin low high reached = (pc : ℕ) (reach : Reach) → low ≤ pc → pc ≤ high → slice_index_or reached pc None ≡ Some reach → AlwaysComesTo image r begin pc reach
 
 -- what a table says of ways to these places is so next, if it was
 abbrev pub StayReached : Parts → ℕ → ℕ → ℕ → List (Option Reach) → List (Option Reach) → Type 0
@@ -108,7 +108,7 @@ pub record IsTurn (image : Parts) (r pc : ℕ) (turn : Reach) : Type 0 where
   pub there : slice_get image.points pc ≡ Some point
   pub loops : point.instr.opcode ≡ Loop
   pub few : point.instr.a < 4
-  pub way : IsReached image r (begin_at point.instr.target) pc turn
+  pub way : AlwaysComesTo image r (begin_at point.instr.target) pc turn
   pub kept : counter_at turn.counters point.instr.a ≡ Kept
 
 -- what a table says of turns is so
