@@ -1,9 +1,10 @@
 -- Why no rows or no numbers of steps are found, in an author's words.
-use Rattle.std.specs.Prelude.{ℕ, ◌||◌, if◌then◌else◌, List, [], ◌++◌, Some, None, slice_index_or, codes, decimal}
+use Rattle.std.specs.Prelude.{ℕ, ◌==◌, Bool, false, ◌&&◌, ◌||◌, if◌then◌else◌, List, [], ◌++◌, Option, Some, None, slice_index_or, codes, decimal}
 use Rattle.geos_image.specs.declared.row.SlotState.{SlotState}
 use Rattle.geos_image.specs.declared.row.SlotState.TheVariants.{Empty}
 use Rattle.geos_listing.specs.Rows.{texts_below, state_word}
 use Rattle.geos_verify.specs.Rows.{slot_fits, is_empty}
+use Rattle.geos_infer.specs.declared.edges.Edge.{Edge}
 use Rattle.geos_infer.specs.declared.apart.Apart.{Apart}
 use Rattle.geos_infer.specs.declared.apart.Coming.{Coming}
 use Rattle.geos_infer.specs.declared.cause.BackWay.{BackWay}
@@ -24,13 +25,26 @@ differing_item i state other = if slot_fits state other || slot_fits other state
 abbrev pub differing_items : ℕ → List SlotState → List SlotState → List ℕ
 differing_items n slots others = texts_below n (λ i. differing_item i (slice_index_or slots i Empty) (slice_index_or others i Empty))
 
--- where control comes from
-unfoldable pub coming_from : List ℕ → Coming → List ℕ
-coming_from lines coming = elim coming.from [ None ↦ codes " the in line:" | Some pc ↦ pc_text lines pc ++ codes ":" ]
+-- control comes from the instruction at a pc
+abbrev pub is_from : Option Edge → ℕ → Bool
+is_from None pc = false
+is_from (Some edge) pc = edge.pc == pc
+
+-- where an instruction is refused
+unfoldable pub refusal_text : List ℕ → ℕ → List ℕ
+refusal_text lines pc = codes " where" ++ pc_text lines pc ++ codes " is refused:"
+
+-- where an edge comes from; where another comes from the same instruction, which of the two is that of its refusal
+abbrev pub edge_text : List ℕ → Edge → Option Edge → List ℕ
+edge_text lines edge other = if edge.branch && is_from other edge.pc then refusal_text lines edge.pc else pc_text lines edge.pc ++ codes ":"
+
+-- where control comes from, beside another way
+unfoldable pub coming_from : List ℕ → Coming → Coming → List ℕ
+coming_from lines coming other = elim coming.from [ None ↦ codes " the in line:" | Some edge ↦ edge_text lines edge other.from ]
 
 -- how control comes to a place, and the slots that differ from those of another way
 unfoldable pub coming_text : List ℕ → Coming → Coming → List ℕ
-coming_text lines coming other = codes " from" ++ coming_from lines coming ++ differing_items 4 coming.row.slots other.row.slots
+coming_text lines coming other = codes " from" ++ coming_from lines coming other ++ differing_items 4 coming.row.slots other.row.slots
 
 -- the place where ways meet
 unfoldable pub meeting_text : List ℕ → ℕ → List ℕ

@@ -2,11 +2,11 @@
 
 ghost use Rattle.std.specs.Prelude.{◌≡◌, ◌++◌, OnOk, IfOk, codes};
 ghost use Rattle.geos_explain.specs.Numbers.{pc_text};
-ghost use Rattle.geos_causes.specs.Causes.{state_text, differing_item, differing_items, coming_from, coming_text, meeting_text, other_text, set_text, call_text, touched_text, no_loop_text, steps_pass_text, no_steps_text, unknown_text, apart_text, back_text, within_text, cause_words, cause_text};
+ghost use Rattle.geos_causes.specs.Causes.{state_text, differing_item, differing_items, is_from, refusal_text, edge_text, coming_from, coming_text, meeting_text, other_text, set_text, call_text, touched_text, no_loop_text, steps_pass_text, no_steps_text, unknown_text, apart_text, back_text, within_text, cause_words, cause_text};
 
 use geos_explain::{put_numbered, put_pc};
 use geos_image::SlotState;
-use geos_infer::{Apart, BackWay, Cause, Coming, Within};
+use geos_infer::{Apart, BackWay, Cause, Coming, Edge, Within};
 use geos_listing::state_word;
 use geos_verify::{is_empty, slot_fits};
 use std::alloc::{AllocError, Global};
@@ -61,13 +61,53 @@ fn put_pc_and(out: &mut Vec<u8>, lines: &[usize], pc: u16, behind: &str) -> Resu
     out.extend_from_slice(behind.as_bytes())
 }
 
-/// Where control comes from.
+/// Whether control comes from the instruction at a pc.
+fn is_from(edge: Option<Edge>, pc: u16) -> bool
+    ensures { result ≡ is_from edge pc }
+{
+    match edge {
+        Some(edge) => edge.pc == pc,
+        None => false,
+    }
+}
+
+/// Where an instruction is refused.
+#[tactic(auto, unfolding(crate::specs::Causes::refusal_text))]
+fn put_refusal(out: &mut Vec<u8>, lines: &[usize], pc: u16) -> Result<(), AllocError>
+    ensures { OnOk result (out.new.items ≡ out.old.items ++ refusal_text lines.now pc) }
+{
+    out.extend_from_slice(b" where")?;
+    put_pc_and(out, lines, pc, " is refused:")
+}
+
+/// Where an edge comes from; where another comes from the same instruction, which of the two is that of its refusal.
+fn put_edge(
+    out: &mut Vec<u8>,
+    lines: &[usize],
+    edge: Edge,
+    other: Option<Edge>,
+) -> Result<(), AllocError>
+    ensures { OnOk result (out.new.items ≡ out.old.items ++ edge_text lines.now edge other) }
+{
+    if edge.branch && is_from(other, edge.pc) {
+        put_refusal(out, lines, edge.pc)
+    } else {
+        put_pc_and(out, lines, edge.pc, ":")
+    }
+}
+
+/// Where control comes from, beside another way.
 #[tactic(auto, unfolding(crate::specs::Causes::coming_from))]
-fn put_coming_from(out: &mut Vec<u8>, lines: &[usize], coming: &Coming) -> Result<(), AllocError>
-    ensures { OnOk result (out.new.items ≡ out.old.items ++ coming_from lines.now coming.now) }
+fn put_coming_from(
+    out: &mut Vec<u8>,
+    lines: &[usize],
+    coming: &Coming,
+    other: &Coming,
+) -> Result<(), AllocError>
+    ensures { OnOk result (out.new.items ≡ out.old.items ++ coming_from lines.now coming.now other.now) }
 {
     match coming.from {
-        Some(pc) => put_pc_and(out, lines, pc, ":"),
+        Some(edge) => put_edge(out, lines, edge, other.from),
         None => out.extend_from_slice(b" the in line:"),
     }
 }
@@ -83,7 +123,7 @@ fn put_coming(
     ensures { OnOk result (out.new.items ≡ out.old.items ++ coming_text lines.now coming.now other.now) }
 {
     out.extend_from_slice(b" from")?;
-    put_coming_from(out, lines, coming)?;
+    put_coming_from(out, lines, coming, other)?;
     put_all_differing(out, &coming.row.slots, &other.row.slots)
 }
 

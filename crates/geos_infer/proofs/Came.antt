@@ -5,6 +5,7 @@ use Rattle.std.proofs.lemmas.List.{get_or-set_same, get_or-set_other, set_past}
 use Rattle.geos_image.specs.declared.row.Row.{Row}
 use Rattle.geos_image.specs.Parts.{Parts}
 use Rattle.geos_infer.specs.Flow.{known_at}
+use Rattle.geos_infer.specs.declared.edges.Edge.{Edge}
 use Rattle.geos_infer.specs.Why.{Comes, ComesBy, AllCome}
 
 some-row : (x y : Row) → Some x ≡ Some y → x ≡ y
@@ -27,11 +28,11 @@ all_come-set image r known to row all comes = elim (cases_lt to (length known)) 
   | inr past ↦ subst (AllCome image r) (sym (set_past known to (Some row) past)) all
 ]
 
--- what comes to a place by an edge comes there
-pub comes-by : (image : Parts) (r to from : ℕ) (row : Row) → ComesBy image r to from row → Comes image r to row
-comes-by image r to from row by = record {
+-- what comes along an edge comes to where it leads
+pub comes-by : (image : Parts) (r : ℕ) (edge : Edge) (row : Row) → ComesBy image r edge row → Comes image r edge.to row
+comes-by image r edge row by = record {
   routine = by.comes.routine;
   there = by.comes.there;
-  edges = (from, by.branch) ∷ by.comes.edges;
+  edges = (edge.pc, edge.branch) ∷ by.comes.edges;
   way = (by.before, by.comes.way, by.leads, by.row_is);
 }

@@ -7,6 +7,7 @@ use Rattle.geos_image.specs.Parts.{Parts, start_of}
 use Rattle.geos_verify.specs.Rows.{after, has_edge}
 use Rattle.geos_infer.specs.Code.{edge_end}
 use Rattle.geos_infer.specs.Joins.{agree}
+use Rattle.geos_infer.specs.declared.edges.Edge.{Edge}
 use Rattle.geos_infer.specs.declared.apart.Coming.{Coming}
 use Rattle.geos_infer.specs.declared.apart.Apart.{Apart}
 use Rattle.geos_infer.specs.declared.apart.Went.{Went}
@@ -33,17 +34,16 @@ pub record Comes (image : Parts) (r pc : ℕ) (row : Row) : Type 0 where
   pub edges : List (ℕ × Bool)
   pub way : IsWay image (start_of image.routines r) routine.entry edges pc row
 
--- it comes there by an edge of the instruction at another pc
-pub record ComesBy (image : Parts) (r to from : ℕ) (row : Row) : Type 0 where
+-- it comes along an edge
+pub record ComesBy (image : Parts) (r : ℕ) (edge : Edge) (row : Row) : Type 0 where
   pub before : Row
-  pub branch : Bool
-  pub comes : Comes image r from before
-  pub leads : LeadsTo image from branch to
-  pub row_is : row ≡ after image from before branch
+  pub comes : Comes image r edge.pc before
+  pub leads : LeadsTo image edge.pc edge.branch edge.to
+  pub row_is : row ≡ after image edge.pc before edge.branch
 
--- it comes there by an edge, or there the routine begins
+-- it comes to a pc along an edge, or there the routine begins
 abbrev pub IsComing : Parts → ℕ → ℕ → Coming → Type 0
-IsComing image r to coming = elim coming.from [ None ↦ Comes image r to coming.row | Some from ↦ ComesBy image r to from coming.row ]
+IsComing image r to coming = elim coming.from [ None ↦ Comes image r to coming.row | Some edge ↦ (edge.to ≡ to) × ComesBy image r edge coming.row ]
 
 -- control comes to a place on two ways, with slots that differ in more than marks
 pub record AreApart (image : Parts) (r : ℕ) (apart : Apart) : Type 0 where

@@ -7,7 +7,7 @@ ghost use Rattle.geos_infer.specs.Why.{LeadsTo, ComesBy, IsUnlike, IsWent, AreAp
 
 use crate::body::Body;
 use crate::common::agree;
-use crate::edges::edge_end;
+use crate::edges::{Edge, edge_end};
 use crate::known::Known;
 use crate::table::Table;
 use geos_image::Row;
@@ -17,8 +17,8 @@ use std::alloc::{AllocError, Global};
 /// How control comes to a place.
 #[derive(Clone, Copy)]
 pub struct Coming {
-    /// The pc that it comes from; `None` where the routine begins at the place.
-    pub from: Option<u16>,
+    /// The edge that it comes along; `None` where the routine begins at the place.
+    pub from: Option<Edge>,
     /// What is known then, of slots above all.
     pub row: Row,
 }
@@ -51,27 +51,26 @@ pub(crate) fn lead(body: &Body, pc: u16, branch: bool) -> Option<u16>
     }
 }
 
-/// A row that control brings to a place.
+/// A row that control brings along an edge.
 #[derive(Clone, Copy)]
 struct Brought {
-    /// The place.
-    to: u16,
+    edge: Edge,
     row: Row,
 }
 
-/// What control brings along an edge to a place, where something is known at the edge's beginning.
+/// What control brings along an edge, where something is known at the edge's beginning.
 fn bring(body: &Body, known: &Known, pc: u16, branch: bool) -> Option<Brought>
     requires here { pc < body.now.end }
     requires come { AllCome body.now.image.now body.now.r known.now }
-    ensures by { IfSome result (λ brought. ComesBy body.now.image.now body.now.r brought.to pc brought.row) }
-    ensures inside { IfSome result (λ brought. brought.to < 4096) }
+    ensures by { IfSome result (λ brought. ComesBy body.now.image.now body.now.r brought.edge brought.row) }
+    ensures inside { IfSome result (λ brought. brought.edge.to < 4096) }
 {
     let Some(row) = known.at(pc) else {
         return None;
     };
     match lead(body, pc, branch) {
         Some(to) => Some(Brought {
-            to,
+            edge: Edge { pc, branch, to },
             row: after(body.image, pc, &row, branch),
         }),
         None => None,
@@ -80,10 +79,10 @@ fn bring(body: &Body, known: &Known, pc: u16, branch: bool) -> Option<Brought>
 
 /// How the routine's beginning brings its entry row to the same place as another row, with slots that differ.
 fn entry_unlike(body: &Body, other: &Brought) -> Option<Coming>
-    ensures { IfSome result (λ coming. IsUnlike body.now.image.now body.now.r other.now.to other.now.row coming) }
+    ensures { IfSome result (λ coming. IsUnlike body.now.image.now body.now.r other.now.edge.to other.now.row coming) }
 {
     let entry = body.image.routine(body.r).entry;
-    if other.to == body.start && !agree(&entry, &other.row) {
+    if other.edge.to == body.start && !agree(&entry, &other.row) {
         Some(Coming {
             from: None,
             row: entry,
@@ -97,12 +96,12 @@ fn entry_unlike(body: &Body, other: &Brought) -> Option<Coming>
 fn edge_unlike(body: &Body, known: &Known, pc: u16, branch: bool, other: &Brought) -> Option<Coming>
     requires here { pc < body.now.end }
     requires come { AllCome body.now.image.now body.now.r known.now }
-    ensures { IfSome result (λ coming. IsUnlike body.now.image.now body.now.r other.now.to other.now.row coming) }
+    ensures { IfSome result (λ coming. IsUnlike body.now.image.now body.now.r other.now.edge.to other.now.row coming) }
 {
     match bring(body, known, pc, branch) {
-        Some(brought) if brought.to == other.to && !agree(&brought.row, &other.row) => {
+        Some(brought) if brought.edge.to == other.edge.to && !agree(&brought.row, &other.row) => {
             Some(Coming {
-                from: Some(pc),
+                from: Some(brought.edge),
                 row: brought.row,
             })
         }
@@ -113,7 +112,7 @@ fn edge_unlike(body: &Body, known: &Known, pc: u16, branch: bool, other: &Brough
 /// The first way on which control does so.
 fn first_unlike(body: &Body, known: &Known, other: &Brought) -> Option<Coming>
     requires { AllCome body.now.image.now body.now.r known.now }
-    ensures { IfSome result (λ coming. IsUnlike body.now.image.now body.now.r other.now.to other.now.row coming) }
+    ensures { IfSome result (λ coming. IsUnlike body.now.image.now body.now.r other.now.edge.to other.now.row coming) }
 {
     if let Some(coming) = entry_unlike(body, other) {
         return Some(coming);
@@ -138,16 +137,17 @@ enum Went {
 }
 
 /// A row comes to a place: it is known there now, and waits to go on, unless one was; slots may differ.
-fn come(body: &Body, known: &mut Known, waits: &mut Table<bool>, pc: u16, brought: &Brought) -> Went
-    requires by { ComesBy body.now.image.now body.now.r brought.now.to pc brought.now.row }
-    requires inside { brought.now.to < 4096 }
+fn come(body: &Body, known: &mut Known, waits: &mut Table<bool>, brought: &Brought) -> Went
+    requires by { ComesBy body.now.image.now body.now.r brought.now.edge brought.now.row }
+    requires inside { brought.now.edge.to < 4096 }
     requires come { AllCome body.now.image.now body.now.r known.old }
     ensures come { AllCome body.now.image.now body.now.r known.new }
     ensures apart { IsWent body.now.image.now body.now.r result }
 {
-    let Some(old) = known.at(brought.to) else {
-        known.set(brought.to, Some(brought.row));
-        waits.set(brought.to, true);
+    let to = brought.edge.to;
+    let Some(old) = known.at(to) else {
+        known.set(to, Some(brought.row));
+        waits.set(to, true);
         return Went::On(true);
     };
     if agree(&old, &brought.row) {
@@ -155,10 +155,10 @@ fn come(body: &Body, known: &mut Known, waits: &mut Table<bool>, pc: u16, brough
     }
     match first_unlike(body, known, brought) {
         Some(first) => Went::Apart(Apart {
-            to: brought.to,
+            to,
             first,
             second: Coming {
-                from: Some(pc),
+                from: Some(brought.edge),
                 row: brought.row,
             },
         }),
@@ -174,7 +174,7 @@ fn go(body: &Body, known: &mut Known, waits: &mut Table<bool>, pc: u16, branch: 
     ensures apart { IsWent body.now.image.now body.now.r result }
 {
     match bring(body, known, pc, branch) {
-        Some(brought) => come(body, known, waits, pc, &brought),
+        Some(brought) => come(body, known, waits, &brought),
         None => Went::On(false),
     }
 }

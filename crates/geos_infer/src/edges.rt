@@ -12,11 +12,11 @@ use geos_verify::has_edge;
 /// An edge of the instruction at a pc: to its target where `branch` says so, else to the next
 /// instruction.
 #[derive(Clone, Copy)]
-pub(crate) struct Edge {
-    pub(crate) pc: u16,
-    pub(crate) branch: bool,
+pub struct Edge {
+    pub pc: u16,
+    pub branch: bool,
     /// Where it leads.
-    pub(crate) to: u16,
+    pub to: u16,
 }
 
 /// Whether the instruction is a LOOP.

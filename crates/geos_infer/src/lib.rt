@@ -39,6 +39,7 @@ mod widening;
 pub use apart::{Apart, Coming};
 pub use cause::{BackWay, Cause, Within, find_cause};
 pub use common::{clean, join};
+pub use edges::Edge;
 pub use error::InferError;
 pub use inference::{infer, rows_that_hold_pass};
 pub use turns::none_is_accepted_past;

@@ -6,4 +6,4 @@ returns-in_default-clause-come c =
     let image = c.args.body.now.image.now in
     let r = c.args.body.now.r in
     let brought = c.args.brought.now in
-    rw c.set.ensures (all_come-set image r c.args.known.now brought.to brought.row c.requires.come (comes-by image r brought.to c.args.pc brought.row c.requires.by))
+    rw c.set.ensures (all_come-set image r c.args.known.now brought.edge.to brought.row c.requires.come (comes-by image r brought.edge brought.row c.requires.by))
