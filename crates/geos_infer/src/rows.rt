@@ -25,7 +25,6 @@ struct Tables {
     /// The rows of the other places.
     others: Known,
     from: Known,
-    lone: Table<bool>,
     turns: Table<Turn>,
 }
 
@@ -35,7 +34,6 @@ impl Tables {
             found: Known::new(alloc)?,
             others: Known::new(alloc)?,
             from: Known::new(alloc)?,
-            lone: Table::new(alloc, false)?,
             turns: Table::new(alloc, Turn::NONE)?,
         })
     }
@@ -85,7 +83,6 @@ fn find_rows_in(body: &Body, tables: &mut Tables, known: &mut Known) -> bool
         body,
         &tables.found,
         &mut tables.from,
-        &mut tables.lone,
         &mut tables.turns,
         &mut tables.others,
     );

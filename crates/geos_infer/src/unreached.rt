@@ -130,7 +130,7 @@ fn guess(body: &Body, known: &Known, from: &mut Known) {
 fn pass_lone(
     body: &Body,
     pc: u16,
-    lone: &Table<bool>,
+    known: &Known,
     turns: &mut Table<Turn>,
     others: &mut Known,
 ) -> bool
@@ -142,7 +142,7 @@ fn pass_lone(
     let mut changed = false;
     for branch in [false, true] {
         if let Some(edge) = edge_in(body, pc, branch) {
-            if lone.at(edge.to) {
+            if known.at(edge.to).is_none() {
                 if let Arrival::Weaker = pass(body, edge, &row, turns, others) {
                     changed = true;
                 }
@@ -156,8 +156,8 @@ fn pass_lone(
 /// something came of that.
 fn round(
     body: &Body,
+    known: &Known,
     from: &Known,
-    lone: &Table<bool>,
     turns: &mut Table<Turn>,
     others: &mut Known,
 ) -> bool {
@@ -175,7 +175,7 @@ fn round(
             let exit = body.image.routine(body.r).exit;
             let row = others.at(pc).or(from.at(pc)).unwrap_or(exit);
             others.set(pc, Some(clean(&row)));
-            changed |= pass_lone(body, pc, lone, turns, others);
+            changed |= pass_lone(body, pc, known, turns, others);
         }
     }
     changed
@@ -187,7 +187,6 @@ pub(crate) fn fill(
     body: &Body,
     known: &Known,
     from: &mut Known,
-    lone: &mut Table<bool>,
     turns: &mut Table<Turn>,
     others: &mut Known,
 ) {
@@ -196,14 +195,13 @@ pub(crate) fn fill(
     }
     for pc in body.start..body.end {
         let waits = known.at(pc).is_none();
-        lone.set(pc, waits);
         turns.set(pc, Turn { waits, times: 0 });
         others.set(pc, None);
     }
     guess(body, known, from);
     // Each round but the last weakens a row, as in `rounds`.
     for _ in 0..u32::MAX {
-        if !round(body, from, lone, turns, others) {
+        if !round(body, known, from, turns, others) {
             return;
         }
     }
