@@ -37,7 +37,7 @@ pub(crate) struct Arc {
 }
 
 /// The bound of a word; a row has no other word.
-fn bound_of(row: &Row, word: u8) -> u16 {
+pub(crate) fn bound_of(row: &Row, word: u8) -> u16 {
     match row.bounds.get(usize::from(word)) {
         Some(bound) => *bound,
         None => u16::MAX,

@@ -34,6 +34,7 @@ mod units;
 mod unpaid;
 mod unreached;
 mod ways;
+mod weakened;
 mod widening;
 
 pub use apart::{Apart, Coming};

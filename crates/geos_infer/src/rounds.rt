@@ -105,14 +105,9 @@ fn round(body: &Body, turns: &mut Table<Turn>, known: &mut Known) -> Arrival {
     said
 }
 
-/// Where edges of a routine lead back, rows flow until nothing new comes to any place; `false` where
-/// two have no join.
-pub(crate) fn settle(body: &Body, turns: &mut Table<Turn>, known: &mut Known) -> bool
-    ensures { ForwardIn body.now.image.now body.now.r → (result ≡ true) × (known.new ≡ known.old) }
-{
-    if back_edges(body) == 0 {
-        return true;
-    }
+/// Rows of a routine flow on along all its edges until nothing new comes to any place; `false` where two
+/// have no join.
+pub(crate) fn flow_on(body: &Body, turns: &mut Table<Turn>, known: &mut Known) -> bool {
     for pc in body.start..body.end {
         turns.set(
             pc,
@@ -132,4 +127,14 @@ pub(crate) fn settle(body: &Body, turns: &mut Table<Turn>, known: &mut Known) ->
         }
     }
     false
+}
+
+/// The same where edges of the routine lead back; else rows have flowed along all edges already.
+pub(crate) fn settle(body: &Body, turns: &mut Table<Turn>, known: &mut Known) -> bool
+    ensures { ForwardIn body.now.image.now body.now.r → (result ≡ true) × (known.new ≡ known.old) }
+{
+    if back_edges(body) == 0 {
+        return true;
+    }
+    flow_on(body, turns, known)
 }

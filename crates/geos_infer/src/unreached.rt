@@ -1,7 +1,8 @@
 //! Rows at places that nothing reaches: the rules are tried there too.
 
-ghost use Rattle.std.specs.Prelude.{◌<◌};
+ghost use Rattle.std.specs.Prelude.{◌≡◌, ◌<◌, true, false};
 ghost use Rattle.geos_image.specs.Fields.{FieldsFit, CalleeFits};
+ghost use Rattle.geos_infer.specs.Flow.{AllKnown};
 
 use crate::body::Body;
 use crate::common::clean;
@@ -15,7 +16,9 @@ use geos_opcodes::{Kind, SlotUse};
 use geos_verify::uses_at;
 
 /// Whether something is known at each instruction of a routine.
-fn all_known(body: &Body, known: &Known) -> bool {
+fn all_known(body: &Body, known: &Known) -> bool
+    ensures { result ≡ false → AllKnown body.now.image.now body.now.r known.now → ⊥ }
+{
     for pc in body.start..body.end {
         let Some(_row) = known.at(pc) else {
             return false;
@@ -181,17 +184,19 @@ fn round(
     changed
 }
 
-/// Finds rows at the instructions of a routine where nothing is known. Where two rows that come to a
-/// place have no join the first stays.
+/// Finds rows at the instructions of a routine where nothing is known; whether there are such. Where two
+/// rows that come to a place have no join the first stays.
 pub(crate) fn fill(
     body: &Body,
     known: &Known,
     from: &mut Known,
     turns: &mut Table<Turn>,
     others: &mut Known,
-) {
+) -> bool
+    ensures { result ≡ true → AllKnown body.now.image.now body.now.r known.now → ⊥ }
+{
     if all_known(body, known) {
-        return;
+        return false;
     }
     for pc in body.start..body.end {
         let waits = known.at(pc).is_none();
@@ -202,7 +207,8 @@ pub(crate) fn fill(
     // Each round but the last weakens a row, as in `rounds`.
     for _ in 0..u32::MAX {
         if !round(body, known, from, turns, others) {
-            return;
+            break;
         }
     }
+    true
 }

@@ -157,6 +157,10 @@ commits_held _ row = false
 unfoldable pub commits_with_held : Instr → Row → Bool
 commits_with_held i row = commits_held (uses_of i.opcode).slot row
 
+-- one of the rules on what an instruction does with slots and pointers refuses it
+unfoldable pub misuses : Instr → Row → Bool
+misuses i row = stale_pointer i row || passes_end i row || changes_unmarked i row || locks_into_held i row || wrong_slot i row || commits_with_held i row
+
 -- what holds of a routine; of no routine, nothing is asked
 abbrev pub at_routine : Parts → ℕ → (Routine → Bool) → Bool
 at_routine image r test = elim (slice_get image.routines r) [ None ↦ true | Some routine ↦ test routine ]

@@ -23,7 +23,7 @@ pub use asked::{Asked, asked_along, asked_branching};
 pub use checked::{Checked, check};
 pub use edges::{after, branches, falls_through, has_edge};
 pub use enough::{fits, is_empty, leads_nowhere, pointer_fits, slot_fits, within_bounds};
-pub use misuse::{bytes_in, is_of_file, least_at, reach};
+pub use misuse::{bytes_in, is_of_file, least_at, misuses, reach};
 pub use pointers::pointer_at;
 pub use potentials::are_spent;
 pub use refusal::has_place;

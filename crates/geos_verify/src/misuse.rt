@@ -2,13 +2,15 @@
 
 ghost use Rattle.std.specs.Prelude.{◌≡◌, ◌<◌};
 ghost use Rattle.std.specs.List.{list_any};
+ghost use Rattle.geos_image.specs.Fields.{FieldsFit};
 ghost use Rattle.geos_opcodes.specs.Facts.{uses_of};
 ghost use Rattle.geos_verify.specs.Uses.{bytes_in, OffsetFits, PointerFits};
-ghost use Rattle.geos_verify.specs.Rules.{reach, least_at, pointed_state, is_unmarked, writes_unmarked, moves_unmarked, stale_pointer, passes_end, changes_unmarked, locks_into_held, wrong_slot, is_of_file, commits_with_held};
+ghost use Rattle.geos_verify.specs.Rules.{reach, least_at, pointed_state, is_unmarked, writes_unmarked, moves_unmarked, stale_pointer, passes_end, changes_unmarked, locks_into_held, wrong_slot, is_of_file, commits_with_held, misuses};
 
 use crate::enough::{is_empty, is_stale};
 use crate::pointers::pointer_at;
 use crate::slots::{are_alike, holds_kind, slot_state};
+use crate::uses::uses_at;
 use geos_image::{Instr, Row, SlotState};
 use geos_opcodes::{Offset, PointerUse, SlotUse, Uses, Width};
 
@@ -183,4 +185,20 @@ pub(crate) fn commits_with_held(i: &Instr, slot: SlotUse, row: &Row) -> bool
         SlotUse::Commits => any_of_file(&row.slots),
         _ => false,
     }
+}
+
+/// Whether one of the rules on what the instruction does with slots and pointers refuses it, where
+/// the row is known before it.
+#[tactic(auto, unfolding(crate::specs::Rules::misuses))]
+pub fn misuses(i: &Instr, row: &Row) -> bool
+    requires { FieldsFit i.now.opcode i.now }
+    ensures { result ≡ misuses i.now row.now }
+{
+    let uses = uses_at(i);
+    stale_pointer(i, uses.pointer, row)
+        | passes_end(i, uses.pointer, row)
+        | changes_unmarked(i, uses, row)
+        | locks_into_held(i, uses.slot, row)
+        | wrong_slot(i, uses.slot, row)
+        | commits_with_held(i, uses.slot, row)
 }

@@ -17,13 +17,31 @@ returns-clause-flows c = λ want forward holds.
     let routine = item_at image.routines body.r body.there in
     let F = (c.search.ensures.flows want forward holds).1 in
     let all = all-reached image body.r forward routine.0 routine.1 want c.search.new.found F (omega (arith, code-length image, body.ends, body.room)) in
-    let K = kept-in body c.search.new.found c.args.known.now c.keep.new.known c.keep.ensures in
-    (refl, kept-flows image body.r want c.search.new.found c.args.known.now c.keep.new.known K (omega (arith, body.begins, body.ends, body.some)) (omega (arith, code-length image, body.short, c.lengths.ensures)) forward holds all (2 * start_of image.routines (body.r + 1)) F)
+    let K = kept-in body c.search.new.found c.args.known.now c.keep-2.new.known c.keep-2.ensures in
+    (refl, kept-flows image body.r want c.search.new.found c.args.known.now c.keep-2.new.known K (omega (arith, body.begins, body.ends, body.some)) (omega (arith, code-length image, body.short, c.lengths.ensures)) forward holds all (2 * start_of image.routines (body.r + 1)) F)
 
 pub returns-clause-fit : goal.returns-clause-fit
 returns-clause-fit c = λ e.
     let body = c.args.body.now in
     let image = body.image.now in
     let routine = item_at image.routines body.r body.there in
-    let K = kept-in body c.search.new.found c.args.known.now c.keep.new.known c.keep.ensures in
-    kept-fits image body.r (omega (arith, body.begins, body.ends, body.some)) routine.0 routine.1 c.search.new.found (c.search.ensures.fit c.if-not-search.false) c.args.known.now c.keep.new.known K
+    let K = kept-in body c.search.new.found c.args.known.now c.keep-2.new.known c.keep-2.ensures in
+    kept-fits image body.r (omega (arith, body.begins, body.ends, body.some)) routine.0 routine.1 c.search.new.found (c.search.ensures.fit c.if-not-search.false) c.args.known.now c.keep-2.new.known K
+
+-- where something is known at each instruction, nothing is weakened
+pub returns-then-find_others-clause-flows : goal.returns-then-find_others-clause-flows
+returns-then-find_others-clause-flows c = λ want forward holds.
+    let body = c.args.body.now in
+    let image = body.image.now in
+    let routine = item_at image.routines body.r body.there in
+    let F = (c.search.ensures.flows want forward holds).1 in
+    let all = all-reached image body.r forward routine.0 routine.1 want c.search.new.found F (omega (arith, code-length image, body.ends, body.room)) in
+    absurd (c.find_others.ensures.some c.if-find_others.true all)
+
+pub returns-then-find_others-clause-fit : goal.returns-then-find_others-clause-fit
+returns-then-find_others-clause-fit c = λ e.
+    let body = c.args.body.now in
+    let image = body.image.now in
+    let routine = item_at image.routines body.r body.there in
+    let K = kept-in body c.find_others.new.weaker c.args.known.now c.keep.new.known c.keep.ensures in
+    kept-fits image body.r (omega (arith, body.begins, body.ends, body.some)) routine.0 routine.1 c.find_others.new.weaker (c.find_others.ensures.fit c.if-find_others.true) c.args.known.now c.keep.new.known K

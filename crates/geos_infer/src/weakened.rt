@@ -1,0 +1,79 @@
+//! Rows at places that are reached, weakened by what flows into them from places that nothing reaches.
+
+ghost use Rattle.std.specs.Prelude.{◌≡◌, ◌<◌, true};
+ghost use Rattle.geos_image.specs.Fields.{FieldsFit, CalleeFits};
+ghost use Rattle.geos_infer.specs.Reached.{AllFit};
+
+use crate::arcs::bound_of;
+use crate::body::Body;
+use crate::common::clean;
+use crate::fitted::all_fit;
+use crate::flow::row_of;
+use crate::known::Known;
+use crate::rounds::{Turn, flow_on};
+use crate::table::Table;
+use geos_image::{Instr, Opcode, Row};
+use geos_verify::{fits, misuses};
+
+/// Whether the instruction at a pc is refused where the row is known: by a rule on what it does with slots and pointers, on the
+/// routine that it calls, or on its return.
+fn is_refused(body: &Body, pc: u16, row: &Row) -> bool
+    requires { pc < body.now.end }
+{
+    let i = body.image.instr(pc);
+    match i.opcode {
+        Opcode::Call => !fits(row, &body.image.routine(i.imm).entry),
+        Opcode::Ret => !fits(row, &body.image.routine(body.r).exit),
+        _ => misuses(i, row),
+    }
+}
+
+/// Whether what the instruction sets a counter to has one bound in both rows.
+fn counts_alike(i: &Instr, row: &Row, weaker: &Row) -> bool {
+    match i.opcode {
+        Opcode::Setkw => bound_of(row, i.b) == bound_of(weaker, i.b),
+        _ => true,
+    }
+}
+
+/// Whether the weaker row is as good at a pc as the other: what is refused there is refused with both, and a counter is set to as
+/// much.
+fn is_as_good(body: &Body, pc: u16, row: &Row, weaker: &Row) -> bool
+    requires { pc < body.now.end }
+{
+    counts_alike(body.image.instr(pc), row, weaker)
+        && (is_refused(body, pc, row) || !is_refused(body, pc, weaker))
+}
+
+/// Whether that is so at each place that is reached.
+fn all_as_good(body: &Body, found: &Known, weaker: &Known) -> bool {
+    for pc in body.start..body.end {
+        if let Some(row) = found.at(pc) {
+            if !is_as_good(body, pc, &clean(&row), &row_of(&weaker.at(pc))) {
+                return false;
+            }
+        }
+    }
+    true
+}
+
+/// Makes `weaker` the rows of a routine where those of places that nothing reaches have flowed on into the places that are
+/// reached. Whether they fit along all edges, and are as good at each place that is reached: else those that were found are to
+/// stay.
+pub(crate) fn weaken(
+    body: &Body,
+    found: &Known,
+    others: &Known,
+    turns: &mut Table<Turn>,
+    weaker: &mut Known,
+) -> bool
+    ensures { result ≡ true → AllFit body.now.image.now body.now.r weaker.new }
+{
+    for pc in body.start..body.end {
+        weaker.set(pc, found.at(pc).or(others.at(pc)));
+    }
+    if !flow_on(body, turns, weaker) {
+        return false;
+    }
+    all_as_good(body, found, weaker) && all_fit(body, weaker)
+}
