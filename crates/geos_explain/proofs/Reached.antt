@@ -13,9 +13,11 @@ use Rattle.geos_image.specs.Parts.{Parts, start_of}
 use Rattle.geos_image.specs.Legal.{is_image}
 use Rattle.geos_image.proofs.Instrs.{image_parts, instr_fits}
 use Rattle.geos_image.proofs.Starts.{start_of-end}
-use Rattle.geos_verify.specs.Rows.{falls_through, branches, is_label}
+use Rattle.geos_verify.specs.Rows.{is_label}
 use Rattle.geos_verify.proofs.Places.{item_at}
-use Rattle.geos_explain.specs.Led.{no_marks, marked, is_marked, next_marked, target_marked, marked_from, marked_at, marked_round, starts_marked, reached_within, reached, is_reached, has_edge, edge_end, LeadsTo, Lead, IsReached, MarksWhatIsReached}
+use Rattle.geos_explain.specs.declared.edges.Edge.{Edge}
+use Rattle.geos_explain.specs.Edges.{has_edge, end_of, are_in_one, takes}
+use Rattle.geos_explain.specs.Led.{no_marks, marked, is_marked, end_marked, marked_from, marked_at, marked_round, starts_marked, reached_within, reached, is_reached, LeadsTo, Lead, IsReached, MarksWhatIsReached}
 
 -- ---- Marks
 
@@ -93,62 +95,77 @@ is-marked marks pc lt h = rw (lt-ltb pc 4096 lt) h
 
 -- ---- One instruction
 
-from-grows : (marks : List Bool) (from : ℕ) (i : Instr) → Grows marks (marked_from marks from i)
+-- the edge of the instruction at a pc to the next one, and that to its target
+abbrev along : ℕ → Edge
+along from = record { from = from; branch = false }
+
+abbrev aside : ℕ → Edge
+aside from = record { from = from; branch = true }
+
+end-grows : (image : Parts) (marks : List Bool) (edge : Edge) (i : Instr) → Grows marks (end_marked image marks edge i)
+end-grows image marks edge i = step-grows marks (end_of edge i) (takes image edge i)
+
+from-grows : (image : Parts) (marks : List Bool) (from : ℕ) (i : Instr) → Grows marks (marked_from image marks from i)
 unfolding marked_from
-from-grows marks from i = by_test (is_marked marks from)
+from-grows image marks from i = by_test (is_marked marks from)
   where
-    by_test : (b : Bool) → Grows marks (cond b (target_marked (next_marked marks from i) i) marks)
-    by_test true = grows-on marks (next_marked marks from i) (target_marked (next_marked marks from i) i) (step-grows marks (from + 1) (falls_through i.opcode)) (step-grows (next_marked marks from i) i.target (branches i.opcode))
+    by_test : (b : Bool) → Grows marks (cond b (end_marked image (end_marked image marks (along from) i) (aside from) i) marks)
+    by_test true = grows-on marks (end_marked image marks (along from) i) (end_marked image (end_marked image marks (along from) i) (aside from) i) (end-grows image marks (along from) i) (end-grows image (end_marked image marks (along from) i) (aside from) i)
     by_test false = grows-same marks
 
+-- control goes from an instruction to a pc
+abbrev GoesTo : Parts → ℕ → Instr → ℕ → Type 0
+GoesTo image from i to = (branch : Bool) × (takes image (record { from = from; branch = branch }) i ≡ true) × (end_of (record { from = from; branch = branch }) i ≡ to)
+
 -- what is marked from there was marked, or an edge leads to it from what was
-from-was : (marks : List Bool) (from : ℕ) (i : Instr) (k : ℕ) → Has (marked_from marks from i) k → Has marks k ⊎ (Has marks from × ((branch : Bool) × (has_edge i branch ≡ true) × (edge_end from i branch ≡ k)))
+from-was : (image : Parts) (marks : List Bool) (from : ℕ) (i : Instr) (k : ℕ) → Has (marked_from image marks from i) k → Has marks k ⊎ (Has marks from × GoesTo image from i k)
 unfolding marked_from
-from-was marks from i k h = by_test (is_marked marks from) refl h
+from-was image marks from i k h = by_test (is_marked marks from) refl h
   where
-    by_test : (b : Bool) → is_marked marks from ≡ b → Has (cond b (target_marked (next_marked marks from i) i) marks) k
-        → Has marks k ⊎ (Has marks from × ((branch : Bool) × (has_edge i branch ≡ true) × (edge_end from i branch ≡ k)))
+    by_test : (b : Bool) → is_marked marks from ≡ b → Has (cond b (end_marked image (end_marked image marks (along from) i) (aside from) i) marks) k → Has marks k ⊎ (Has marks from × GoesTo image from i k)
     by_test true is e =
         let here = (and_parts (nat_lt from 4096) (get_or marks from false) is).1 in
-        elim (step-was (next_marked marks from i) i.target (branches i.opcode) k e) [
+        elim (step-was (end_marked image marks (along from) i) i.target (takes image (aside from) i) k e) [
           | inl aside ↦ inr (here, (true, aside.1, sym aside.0))
-          | inr before ↦ elim (step-was marks (from + 1) (falls_through i.opcode) k before) [ inl along ↦ inr (here, (false, along.1, sym along.0)) | inr was ↦ inl was ]
+          | inr before ↦ elim (step-was marks (from + 1) (takes image (along from) i) k before) [ inl along ↦ inr (here, (false, along.1, sym along.0)) | inr was ↦ inl was ]
         ]
     by_test false is e = inl e
 
 -- where an edge leads from what is marked is marked
-from-there : (marks : List Bool) (from : ℕ) (i : Instr) (branch : Bool) → length marks ≡ 4096 → from < 4096 → Has marks from → has_edge i branch ≡ true → edge_end from i branch < 4096 → Has (marked_from marks from i) (edge_end from i branch)
+from-there : (image : Parts) (marks : List Bool) (from : ℕ) (i : Instr) (branch : Bool) → length marks ≡ 4096 → from < 4096 → Has marks from → takes image (record { from = from; branch = branch }) i ≡ true
+    → end_of (record { from = from; branch = branch }) i < 4096 → Has (marked_from image marks from i) (end_of (record { from = from; branch = branch }) i)
 unfolding marked_from
-from-there marks from i true full low here has lt =
-    let grows = step-grows marks (from + 1) (falls_through i.opcode) in
-    rw (is-marked marks from low here, marked_from) (step-there (next_marked marks from i) i.target (branches i.opcode) (grows.len ∙ full) lt has)
-from-there marks from i false full low here has lt =
-    let grows = step-grows (next_marked marks from i) i.target (branches i.opcode) in
-    rw (is-marked marks from low here, marked_from) (grows.keeps (from + 1) (step-there marks (from + 1) (falls_through i.opcode) full lt has))
+from-there image marks from i true full low here goes lt =
+    let grows = end-grows image marks (along from) i in
+    rw (is-marked marks from low here, marked_from) (step-there (end_marked image marks (along from) i) i.target (takes image (aside from) i) (grows.len ∙ full) lt goes)
+from-there image marks from i false full low here goes lt =
+    let grows = end-grows image (end_marked image marks (along from) i) (aside from) i in
+    rw (is-marked marks from low here, marked_from) (grows.keeps (from + 1) (step-there marks (from + 1) (takes image (along from) i) full lt goes))
 
 at-grows : (image : Parts) (marks : List Bool) (from : ℕ) → Grows marks (marked_at image marks from)
 unfolding marked_at
 at-grows image marks from = by_point (slice_get image.points from)
   where
-    by_point : (o : Option Point) → Grows marks (elim o [ None ↦ marks | Some point ↦ marked_from marks from point.instr ])
+    by_point : (o : Option Point) → Grows marks (elim o [ None ↦ marks | Some point ↦ marked_from image marks from point.instr ])
     by_point None = grows-same marks
-    by_point (Some point) = from-grows marks from point.instr
+    by_point (Some point) = from-grows image marks from point.instr
 
-at-was : (image : Parts) (marks : List Bool) (from k : ℕ) → Has (marked_at image marks from) k → Has marks k ⊎ (Has marks from × ((branch : Bool) × LeadsTo image from branch k))
+at-was : (image : Parts) (marks : List Bool) (from k : ℕ) → Has (marked_at image marks from) k → Has marks k ⊎ (Has marks from × ((branch : Bool) × LeadsTo image (record { from = from; branch = branch }) k))
 unfolding marked_at
 at-was image marks from k h = by_point (slice_get image.points from) refl h
   where
-    by_point : (o : Option Point) → slice_get image.points from ≡ o → Has (elim o [ None ↦ marks | Some point ↦ marked_from marks from point.instr ]) k → Has marks k ⊎ (Has marks from × ((branch : Bool) × LeadsTo image from branch k))
+    by_point : (o : Option Point) → slice_get image.points from ≡ o → Has (elim o [ None ↦ marks | Some point ↦ marked_from image marks from point.instr ]) k
+        → Has marks k ⊎ (Has marks from × ((branch : Bool) × LeadsTo image (record { from = from; branch = branch }) k))
     by_point None e h = inl h
-    by_point (Some point) e h = elim (from-was marks from point.instr k h) [
+    by_point (Some point) e h = elim (from-was image marks from point.instr k h) [
       | inl was ↦ inl was
-      | inr led ↦ inr (led.0, (led.1.0, record { point = point; there = e; has = led.1.1; leads = led.1.2 }))
+      | inr led ↦ inr (led.0, (led.1.0, record { point = point; there = e; goes = led.1.1; ends = led.1.2 }))
     ]
 
-at-there : (image : Parts) (marks : List Bool) (from : ℕ) (branch : Bool) (to : ℕ) → length marks ≡ 4096 → from < 4096 → Has marks from → LeadsTo image from branch to → to < 4096 → Has (marked_at image marks from) to
+at-there : (image : Parts) (marks : List Bool) (edge : Edge) (to : ℕ) → length marks ≡ 4096 → edge.from < 4096 → Has marks edge.from → LeadsTo image edge to → to < 4096 → Has (marked_at image marks edge.from) to
 unfolding marked_at
-at-there image marks from branch to full low here L lt =
-    rw (L.there, marked_at) (subst (λ (k : ℕ). Has (marked_from marks from L.point.instr) k) L.leads (from-there marks from L.point.instr branch full low here L.has (let is = L.leads in omega arith)))
+at-there image marks edge to full low here L lt =
+    rw (L.there, marked_at) (subst (λ (k : ℕ). Has (marked_from image marks edge.from L.point.instr) k) L.ends (from-there image marks edge.from L.point.instr edge.branch full low here L.goes (let is = L.ends in omega arith)))
 
 -- ---- Rounds
 
@@ -174,26 +191,26 @@ round-more image marks m (suc n) le = elim (cases_lt n m) [
 abbrev AllReached : Parts → List Bool → Type 0
 AllReached image marks = (k : ℕ) → Has marks k → IsReached image k
 
-led-on : (image : Parts) (from : ℕ) (branch : Bool) (to : ℕ) → IsReached image from → LeadsTo image from branch to → IsReached image to
-led-on image from branch to R L = record { r = R.r; within = R.within; edges = (from, branch) ∷ R.edges; lead = (R.lead, L) }
+led-on : (image : Parts) (edge : Edge) (to : ℕ) → IsReached image edge.from → LeadsTo image edge to → IsReached image to
+led-on image edge to R L = record { r = R.r; within = R.within; edges = edge ∷ R.edges; lead = (R.lead, L) }
 
 round-reached : (image : Parts) (marks : List Bool) (n : ℕ) → AllReached image marks → AllReached image (marked_round image marks n)
 unfolding marked_round
 round-reached image marks zero all = all
 round-reached image marks (suc n) all = λ k h. elim (at-was image (marked_round image marks n) n k h) [
   | inl was ↦ round-reached image marks n all k was
-  | inr led ↦ led-on image n led.1.0 k (round-reached image marks n all n led.0) led.1.1
+  | inr led ↦ led-on image (record { from = n; branch = led.1.0 }) k (round-reached image marks n all n led.0) led.1.1
 ]
 
 -- where a round marks no more, an edge from what is marked leads to what is marked
 round-closed : (image : Parts) (marks : List Bool) → length marks ≡ 4096 → length image.points ≤ 4096 → marked_round image marks (length image.points) ≡ marks
-    → (from to : ℕ) (branch : Bool) → Has marks from → LeadsTo image from branch to → to < 4096 → Has marks to
+    → (edge : Edge) (to : ℕ) → Has marks edge.from → LeadsTo image edge to → to < 4096 → Has marks to
 unfolding marked_round
-round-closed image marks full short same from to branch here L lt =
-    let within = slice_get_within image.points from L.point L.there in
-    let before = round-grows image marks from in
-    let this = at-there image (marked_round image marks from) from branch to (before.len ∙ full) (omega arith) (before.keeps from here) L lt in
-    let later = round-more image marks (suc from) (length image.points) (omega arith) in
+round-closed image marks full short same edge to here L lt =
+    let within = slice_get_within image.points edge.from L.point L.there in
+    let before = round-grows image marks edge.from in
+    let this = at-there image (marked_round image marks edge.from) edge to (before.len ∙ full) (omega arith) (before.keeps edge.from here) L lt in
+    let later = round-more image marks (suc edge.from) (length image.points) (omega arith) in
     subst (λ (m : List Bool). Has m to) same (later.keeps to this)
 
 -- ---- First instructions
@@ -286,15 +303,16 @@ abbrev IsStable : Parts → List Bool → Type 0
 IsStable image marks = marked_round image marks (length image.points) ≡ marks
 
 module _ (image : Parts) (legal : is_image image ≡ true) where
-  edge-bound : (from : ℕ) (branch : Bool) (to : ℕ) → LeadsTo image from branch to → to ≤ length image.points
+  edge-bound : (from : ℕ) (branch : Bool) (to : ℕ) → LeadsTo image (record { from = from; branch = branch }) to → to ≤ length image.points
   edge-bound from true to L =
+      let has = and_parts (has_edge L.point.instr true) (are_in_one image from L.point.instr.target (length image.routines)) L.goes in
       let fits = instr_fits image from L.point legal L.there in
-      let below = fits.1 (label-is (operands_of L.point.instr.opcode).target L.has) in
-      let is = L.leads in
+      let below = fits.1 (label-is (operands_of L.point.instr.opcode).target has.0) in
+      let is = L.ends in
       omega arith
   edge-bound from false to L =
       let within = slice_get_within image.points from L.point L.there in
-      let is = L.leads in
+      let is = L.ends in
       omega arith
 
   start-bound : (r : ℕ) → r < length image.routines → start_of image.routines r ≤ length image.points
@@ -304,9 +322,9 @@ module _ (image : Parts) (legal : is_image image ≡ true) where
       let counts = (image_parts image legal).counts in
       omega arith
 
-  lead-bound : (start : ℕ) → start ≤ length image.points → (edges : List (ℕ × Bool)) (pc : ℕ) → Lead image start edges pc → pc ≤ length image.points
+  lead-bound : (start : ℕ) → start ≤ length image.points → (edges : List Edge) (pc : ℕ) → Lead image start edges pc → pc ≤ length image.points
   lead-bound start low [] pc lead = omega arith
-  lead-bound start low (edge ∷ edges) pc lead = edge-bound edge.0 edge.1 pc lead.1
+  lead-bound start low (edge ∷ edges) pc lead = edge-bound edge.from edge.branch pc lead.1
 
   reached-bound : (pc : ℕ) → IsReached image pc → pc ≤ length image.points
   reached-bound pc R = lead-bound (start_of image.routines R.r) (start-bound R.r R.within) R.edges pc R.lead
@@ -353,17 +371,17 @@ module _ (image : Parts) (legal : is_image image ≡ true) where
   short = (image_parts image legal).short
 
   -- what edges lead to is marked
-  lead-marked : (r : ℕ) → r < length image.routines → (edges : List (ℕ × Bool)) (pc : ℕ) → Lead image (start_of image.routines r) edges pc → pc < 4096 → Has (reached image) pc
+  lead-marked : (r : ℕ) → r < length image.routines → (edges : List Edge) (pc : ℕ) → Lead image (start_of image.routines r) edges pc → pc < 4096 → Has (reached image) pc
   unfolding reached
   lead-marked r within [] pc lead low =
       let grows = within-grows image (length image.points) in
       let first = start-there image (length image.routines) r within (omega arith) in
       grows.keeps pc (subst (λ (k : ℕ). Has (starts_marked image (length image.routines)) k) (sym lead) first)
   lead-marked r within (edge ∷ edges) pc lead low =
-      let there = slice_get_within image.points edge.0 lead.1.point lead.1.there in
+      let there = slice_get_within image.points edge.from lead.1.point lead.1.there in
       let all = short in
-      let before = lead-marked r within edges edge.0 lead.0 (omega arith) in
-      round-closed image (reached_within image (length image.points)) (within-full image (length image.points)) short stable edge.0 pc edge.1 before lead.1 low
+      let before = lead-marked r within edges edge.from lead.0 (omega arith) in
+      round-closed image (reached_within image (length image.points)) (within-full image (length image.points)) short stable edge pc before lead.1 low
 
 -- the marks are those of what control reaches
 pub marks-reached : MarksWhatIsReached

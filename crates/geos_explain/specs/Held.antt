@@ -7,7 +7,7 @@ use Rattle.geos_verify.specs.Rows.{after, falls_through, is_empty, slot_state}
 use Rattle.geos_verify.specs.Rules.{has_place, is_of_file}
 use Rattle.geos_explain.specs.Lacks.{lacking, lacking_items}
 use Rattle.geos_explain.specs.Numbers.{is_or_are, are_text, pc_text}
-use Rattle.geos_explain.specs.Places.{Place}
+use Rattle.geos_explain.specs.Places.{Place, comes_alike}
 use Rattle.geos_explain.specs.Uses.{state_item}
 use Rattle.geos_explain.specs.declared.held.HeldAt.{HeldAt}
 use Rattle.geos_explain.specs.declared.held.HeldAt.TheVariants.{Return, Write}
@@ -36,9 +36,9 @@ fills image a from point =
 unfoldable pub fills_at : Parts → ℕ → ℕ → Bool
 fills_at image a from = elim (slice_get image.points from) [ None ↦ false | Some point ↦ fills image a from point ]
 
--- the instruction at a pc is one of the routine's, and the slot is held behind it and not before
+-- the instruction at a pc is one of the routine's from which control comes, and the slot is held behind it and not before
 abbrev pub fills_here : Place → ℕ → ℕ → Bool
-fills_here place a from = has_place (start_of place.image.routines place.r) place.routine.count from && fills_at place.image a from
+fills_here place a from = has_place (start_of place.image.routines place.r) place.routine.count from && comes_alike place from && fills_at place.image a from
 
 -- the later of two pcs, if it stands in front of a third
 abbrev pub later : ℕ → ℕ → ℕ → ℕ

@@ -1,10 +1,11 @@
 -- Which instructions control reaches: a mark for each pc of an image, of which there are at most 4,096.
-use Rattle.std.specs.Prelude.{◌≡◌, ◌<◌, ◌↔◌, ℕ, zero, suc, ◌+◌, replicate, Bool, true, false, ◌&&◌, not, nat_lt, if◌then◌else◌, List, [], ◌∷◌, Some, None, length, slice_get, slice_set, slice_index_or}
+use Rattle.std.specs.Prelude.{◌≡◌, ◌<◌, ◌↔◌, ℕ, zero, suc, replicate, Bool, true, false, ◌&&◌, not, nat_lt, if◌then◌else◌, List, [], ◌∷◌, Some, None, length, slice_get, slice_set, slice_index_or}
 use Rattle.geos_image.specs.declared.instr.Instr.{Instr}
 use Rattle.geos_image.specs.declared.point.Point.{Point}
 use Rattle.geos_image.specs.Parts.{Parts, start_of}
 use Rattle.geos_image.specs.Legal.{is_image}
-use Rattle.geos_verify.specs.Rows.{falls_through, branches}
+use Rattle.geos_explain.specs.declared.edges.Edge.{Edge}
+use Rattle.geos_explain.specs.Edges.{end_of, takes}
 
 -- no pc is marked
 unfoldable pub no_marks : List Bool
@@ -18,21 +19,20 @@ marked marks pc = if nat_lt pc 4096 then slice_set marks pc true else marks
 abbrev pub is_marked : List Bool → ℕ → Bool
 is_marked marks pc = nat_lt pc 4096 && slice_index_or marks pc false
 
--- the next instruction is marked as well, if it is not yet, where one goes on to it
-abbrev pub next_marked : List Bool → ℕ → Instr → List Bool
-next_marked marks from i = if not (is_marked marks (from + 1)) && falls_through i.opcode then marked marks (from + 1) else marks
-
--- an instruction's target is marked as well, if it is not yet
-abbrev pub target_marked : List Bool → Instr → List Bool
-target_marked marks i = if not (is_marked marks i.target) && branches i.opcode then marked marks i.target else marks
+-- where an edge of an instruction leads is marked as well, if it is not yet and control goes along the edge
+abbrev pub end_marked : Parts → List Bool → Edge → Instr → List Bool
+end_marked image marks edge i = if not (is_marked marks (end_of edge i)) && takes image edge i then marked marks (end_of edge i) else marks
 
 -- where an instruction leads is marked as well, if it is marked itself
-unfoldable pub marked_from : List Bool → ℕ → Instr → List Bool
-marked_from marks from i = if is_marked marks from then target_marked (next_marked marks from i) i else marks
+unfoldable pub marked_from : Parts → List Bool → ℕ → Instr → List Bool
+marked_from image marks from i =
+    if is_marked marks from
+    then end_marked image (end_marked image marks (record { from = from; branch = false }) i) (record { from = from; branch = true }) i
+    else marks
 
 -- the same, if there is an instruction
 unfoldable pub marked_at : Parts → List Bool → ℕ → List Bool
-marked_at image marks from = elim (slice_get image.points from) [ None ↦ marks | Some point ↦ marked_from marks from point.instr ]
+marked_at image marks from = elim (slice_get image.points from) [ None ↦ marks | Some point ↦ marked_from image marks from point.instr ]
 
 -- the same of the first n instructions, one after another
 unfoldable pub marked_round : Parts → List Bool → ℕ → List Bool
@@ -54,39 +54,29 @@ reached_within image (suc n) = marked_round image (reached_within image n) (leng
 unfoldable pub reached : Parts → List Bool
 reached image = reached_within image (length image.points)
 
--- control reaches a pc from the first instruction of a routine
+-- control reaches a pc from the first instruction of its routine
 unfoldable pub is_reached : Parts → ℕ → Bool
 is_reached image pc = is_marked (reached image) pc
 
 -- What control reaches, as a relation
 
--- the instruction has the edge: to its target, or to the next instruction
-abbrev pub has_edge : Instr → Bool → Bool
-has_edge i true = branches i.opcode
-has_edge i false = falls_through i.opcode
-
--- the pc that the edge leads to
-abbrev pub edge_end : ℕ → Instr → Bool → ℕ
-edge_end pc i true = i.target
-edge_end pc i false = pc + 1
-
--- an edge of the instruction at a pc leads to another
-pub record LeadsTo (image : Parts) (from : ℕ) (branch : Bool) (to : ℕ) : Type 0 where
+-- control goes along an edge to a pc
+pub record LeadsTo (image : Parts) (edge : Edge) (to : ℕ) : Type 0 where
   pub point : Point
-  pub there : slice_get image.points from ≡ Some point
-  pub has : has_edge point.instr branch ≡ true
-  pub leads : edge_end from point.instr branch ≡ to
+  pub there : slice_get image.points edge.from ≡ Some point
+  pub goes : takes image edge point.instr ≡ true
+  pub ends : end_of edge point.instr ≡ to
 
 -- edges, the last first, lead from one pc to another
-abbrev pub Lead : Parts → ℕ → List (ℕ × Bool) → ℕ → Type 0
+abbrev pub Lead : Parts → ℕ → List Edge → ℕ → Type 0
 Lead image start [] pc = pc ≡ start
-Lead image start (edge ∷ edges) pc = Lead image start edges edge.0 × LeadsTo image edge.0 edge.1 pc
+Lead image start (edge ∷ edges) pc = Lead image start edges edge.from × LeadsTo image edge pc
 
--- edges lead to the pc from the first instruction of a routine
+-- edges lead to the pc from the first instruction of a routine, and none of them leaves it
 pub record IsReached (image : Parts) (pc : ℕ) : Type 0 where
   pub r : ℕ
   pub within : r < length image.routines
-  pub edges : List (ℕ × Bool)
+  pub edges : List Edge
   pub lead : Lead image (start_of image.routines r) edges pc
 
 -- of the instructions of an image that the format allows, those that control reaches are marked, and no other

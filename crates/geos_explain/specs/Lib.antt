@@ -1,4 +1,5 @@
 pub mod Numbers
+pub mod Edges
 pub mod Led
 pub mod Places
 pub mod Notes
@@ -7,6 +8,7 @@ pub mod Lacks
 pub mod Uses
 pub mod Held
 pub mod Ways
+pub mod Arrivals
 pub mod Trace
 pub mod Stale
 pub mod Steps

@@ -7,6 +7,7 @@ use Rattle.geos_listing.specs.Rows.{texts_below, row_items}
 use Rattle.geos_image.specs.declared.routine.Routine.{Routine}
 use Rattle.geos_listing.specs.Instrs.{name_of}
 use Rattle.geos_explain.specs.Numbers.{steps_word, verb}
+use Rattle.geos_explain.specs.Led.{is_reached}
 use Rattle.geos_explain.specs.Places.{Place}
 
 -- the items of a row and a comma; nothing for the open row
@@ -44,7 +45,7 @@ note_head place = elim (slice_get place.lines place.pc) [
 -- what the row of a place knows beyond the open row; where control does not reach it, that nothing leads there, since the row
 -- may then say all that can be said
 unfoldable pub known_here : Place → List ℕ
-known_here place = if place.reached then known_text place.row else codes " nothing leads here,"
+known_here place = if is_reached place.image place.pc then known_text place.row else codes " nothing leads here,"
 
 -- what is known at a place, and its potential
 unfoldable pub note : Place → List ℕ

@@ -1,5 +1,5 @@
 -- An instruction of a routine, with what is known there.
-use Rattle.std.specs.Prelude.{◌≡◌, ◌<◌, ◌≤◌, ℕ, Bool, List, Option, true, length, slice_get, IfSome}
+use Rattle.std.specs.Prelude.{◌≡◌, ◌<◌, ◌≤◌, ℕ, ◌+◌, Bool, not, if◌then◌else◌, List, Option, true, length, slice_get, IfSome}
 use Rattle.geos_image.specs.declared.instr.Instr.{Instr}
 use Rattle.geos_image.specs.declared.row.Row.{Row}
 use Rattle.geos_image.specs.declared.potential.Potential.{Potential}
@@ -14,8 +14,8 @@ use Rattle.geos_explain.specs.Led.{is_reached}
 use Rattle.geos_explain.specs.declared.place.Place as code
 use Rattle.geos_explain.specs.declared.explained.Explained as told
 
--- the instruction at a pc of routine r, its row and its potential, and whether control reaches it; and the line of each
--- instruction in an author's text, or nothing
+-- the instruction at a pc of routine r, its row and its potential; and the line of each instruction in an author's text, or
+-- nothing
 pub record Place : Type 0 where
   pub image : Parts
   pub lines : List ℕ
@@ -25,7 +25,6 @@ pub record Place : Type 0 where
   pub i : Instr
   pub row : Row
   pub potential : Potential
-  pub reached : Bool
 
 -- an image that is explained, with the line of each instruction in an author's text, or nothing, and the refusal, if there is one
 pub record Explained : Type 0 where
@@ -44,7 +43,6 @@ place_at explained r routine pc point = record {
   i = point.instr;
   row = point.row;
   potential = point.potential;
-  reached = is_reached explained.image pc;
 }
 
 -- what the code explains
@@ -62,12 +60,20 @@ place_of place = record {
   i = place.i.now;
   row = place.row.now;
   potential = place.potential.now;
-  reached = place.reached;
 }
 
--- there is a routine r in the image, which is no longer than images may be
-pub record HasRoutine (image : Parts) (r : ℕ) : Type 0 where
+-- something is so where it is wanted, and is not so where it is not
+abbrev pub agrees : Bool → Bool → Bool
+agrees wanted is = if wanted then is else not is
+
+-- control reaches a pc just as it does the place
+abbrev pub comes_alike : Place → ℕ → Bool
+comes_alike place pc = agrees (is_reached place.image place.pc) (is_reached place.image pc)
+
+-- there is a routine r in the image, whose instructions are some of the image's, which is no longer than images may be
+pub record HasRoutine (image : Parts) (r : ℕ) (routine : Routine) : Type 0 where
   pub within : r < length image.routines
+  pub room : start_of image.routines r + routine.count ≤ length image.points
   pub start : start_of image.routines r ≤ 4096
   pub short : length image.points ≤ 4096
   pub legal : is_image image ≡ true
@@ -75,6 +81,7 @@ pub record HasRoutine (image : Parts) (r : ℕ) : Type 0 where
 -- the instruction is the image's, and the routine is one of its routines
 pub record IsPlace (place : Place) : Type 0 where
   pub routine : place.r < length place.image.routines
+  pub room : start_of place.image.routines place.r + place.routine.count ≤ length place.image.points
   pub start : start_of place.image.routines place.r ≤ 4096
   pub there : place.pc < length place.image.points
   pub short : length place.image.points ≤ 4096

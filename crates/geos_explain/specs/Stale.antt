@@ -1,5 +1,5 @@
 -- Which pointers may be stale where they are used, and where and by what they became so.
-use Rattle.std.specs.Prelude.{ℕ, ◌==◌, Bool, false, ◌&&◌, if◌then◌else◌, List, [], ◌++◌, Option, Some, None, length, slice_get, codes, decimal}
+use Rattle.std.specs.Prelude.{ℕ, ◌==◌, Bool, false, ◌&&◌, if◌then◌else◌, List, [], ◌++◌, Option, Some, None, slice_get, codes, decimal}
 use Rattle.std.specs.Option.{option_map_or}
 use Rattle.geos_image.specs.declared.instr.Instr.{Instr}
 use Rattle.geos_image.specs.declared.row.Row.{Row}
@@ -7,7 +7,7 @@ use Rattle.geos_image.specs.declared.point.Point.{Point}
 use Rattle.geos_image.specs.declared.routine.Routine.{Routine}
 use Rattle.geos_image.specs.Parts.{Parts}
 use Rattle.geos_listing.specs.Instrs.{name_of}
-use Rattle.geos_opcodes.specs.Facts.{word_of, uses_of}
+use Rattle.geos_opcodes.specs.Facts.{word_of, uses_of, operands_of}
 use Rattle.geos_opcodes.specs.declared.uses.SlotUse.{SlotUse}
 use Rattle.geos_opcodes.specs.declared.uses.SlotUse.TheVariants.{Moves, Unlocks, MovesGroup}
 use Rattle.geos_opcodes.specs.declared.uses.PointerUse.{PointerUse}
@@ -16,7 +16,7 @@ use Rattle.geos_verify.specs.Rows.{pointer_at, is_stale}
 use Rattle.geos_explain.specs.Numbers.{pc_text}
 use Rattle.geos_explain.specs.Places.{Place}
 use Rattle.geos_explain.specs.Uses.{slot_behind}
-use Rattle.geos_explain.specs.declared.ways.Edge.{Edge}
+use Rattle.geos_explain.specs.declared.edges.Edge.{Edge}
 use Rattle.geos_explain.specs.declared.ways.Followed.{Followed}
 use Rattle.geos_explain.specs.declared.ways.Way.{Way}
 use Rattle.geos_explain.specs.declared.ways.Way.TheVariants.{Entry, Along}
@@ -25,7 +25,7 @@ use Rattle.geos_explain.specs.declared.trace.End.TheVariants.{Unset, Unreached, 
 use Rattle.geos_explain.specs.declared.trace.Meeting.{Meeting}
 use Rattle.geos_explain.specs.declared.trace.Trace.{Trace}
 use Rattle.geos_explain.specs.Ways.{with_hint, forgets, sets}
-use Rattle.geos_explain.specs.Trace.{hint_of, traced}
+use Rattle.geos_explain.specs.Trace.{hint_at, traced}
 
 -- a pointer, where the row knows nothing of it
 abbrev pub if_stale : Row → ℕ → Option ℕ
@@ -41,16 +41,26 @@ abbrev pub pointer_item : Option ℕ → List ℕ
 pointer_item None = []
 pointer_item (Some p) = codes " p" ++ decimal p
 
--- a way comes from the instruction at a pc
-abbrev pub is_from : Way → ℕ → Bool
-is_from Entry from = false
-is_from (Along edge) from = edge.from == from
+-- the instruction at a pc can be refused, and goes to its label then
+unfoldable pub is_refusable : Parts → ℕ → Bool
+is_refusable image from = elim (slice_get image.points from) [ None ↦ false | Some point ↦ (operands_of point.instr.opcode).refusable ]
 
--- where a way comes from; where another comes from the same instruction, which of the two is that of its refusal
-unfoldable pub way_text : List ℕ → Way → Way → List ℕ
-way_text lines Entry other = codes " the in line"
-way_text lines (Along edge) other =
-    if edge.branch && is_from other edge.from then codes " where" ++ pc_text lines edge.from ++ codes " is refused" else pc_text lines edge.from
+-- the pc of the instruction whose refusal a way is, if it is one
+abbrev pub refused_on : Parts → Way → Option ℕ
+refused_on image Entry = None
+refused_on image (Along edge) = if edge.branch && is_refusable image edge.from then Some edge.from else None
+
+-- where a way comes from that is no refusal
+abbrev pub plain_way : List ℕ → Way → List ℕ
+plain_way lines Entry = codes " the in line"
+plain_way lines (Along edge) = pc_text lines edge.from
+
+-- where a way comes from, and whether its instruction is refused there
+unfoldable pub way_text : Place → Way → List ℕ
+way_text place way = elim (refused_on place.image way) [
+  | None ↦ plain_way place.lines way
+  | Some from ↦ codes " where" ++ pc_text place.lines from ++ codes " is refused"
+]
 
 -- where ways meet, unless it is here
 abbrev pub meeting_place : Place → ℕ → List ℕ
@@ -58,11 +68,11 @@ meeting_place place to = if to == place.pc then codes ";" else codes "; at" ++ p
 
 -- of ways that meet one brings a pointer
 unfoldable pub known_from : Place → ℕ → Meeting → List ℕ
-known_from place p m = codes " p" ++ decimal p ++ codes " is known from" ++ way_text place.lines m.known m.lost
+known_from place p m = codes " p" ++ decimal p ++ codes " is known from" ++ way_text place m.known
 
 -- and another does not
 unfoldable pub not_from : Place → Meeting → List ℕ
-not_from place m = codes ", and not from" ++ way_text place.lines m.lost m.known
+not_from place m = codes ", and not from" ++ way_text place m.lost
 
 -- where ways meet, of which one brings a pointer, and another does not
 unfoldable pub meeting_words : Place → ℕ → Meeting → List ℕ
@@ -125,14 +135,26 @@ lost_by place followed edge = elim (slice_get place.image.points edge.from) [ No
 abbrev pub in_wish : Routine → ℕ → List ℕ
 in_wish routine p = if routine.public then [] else codes ", or say p" ++ decimal p ++ codes " in the in line"
 
--- the pointer is not set from the routine's beginning on
-unfoldable pub unset_words : Place → ℕ → List ℕ
-unset_words place p =
-    (codes "; p" ++ decimal p ++ codes " is not set on the way from the start of the routine: fetch it first") ++ in_wish place.routine p
+-- another label, if an instruction is one whose refusal does not bring the pointer
+abbrev pub label_wish : List ℕ → Option ℕ → List ℕ
+label_wish lines None = []
+label_wish lines (Some from) = codes ", or give" ++ pc_text lines from ++ codes " another label"
 
--- no way leads to a pc, which is said of this one elsewhere
+-- whose refusal does not bring the pointer, where ways meet
+abbrev pub refused_at : Parts → Option Meeting → Option ℕ
+refused_at image None = None
+refused_at image (Some m) = refused_on image m.lost
+
+-- the pointer is not set from the routine's beginning on
+unfoldable pub unset_words : Place → ℕ → Option Meeting → List ℕ
+unset_words place p meeting =
+    (codes "; p" ++ decimal p ++ codes " is not set on the way from the start of the routine: fetch it first")
+    ++ label_wish place.lines (refused_at place.image meeting) ++ in_wish place.routine p
+
+-- no way leads to a pc, or here
 unfoldable pub unreached_words : Place → ℕ → List ℕ
-unreached_words place to = if to == place.pc then [] else codes "; nothing leads to" ++ pc_text place.lines to
+unreached_words place to =
+    if to == place.pc then codes "; nothing leads here: take it out" else codes "; nothing leads to" ++ pc_text place.lines to ++ codes ": take it out"
 
 -- each way to a pc brings the pointer, which is not known there
 unfoldable pub merged_words : Place → ℕ → ℕ → List ℕ
@@ -141,15 +163,15 @@ merged_words place p to =
     ++ codes ", and it is not known there, as where it leads into two slots: fetch it again"
 
 -- why a pointer is not known, where no instruction lost it
-abbrev pub end_words : Place → ℕ → Option End → List ℕ
-end_words place p None = codes ": fetch it again"
-end_words place p (Some Unset) = unset_words place p
-end_words place p (Some (Unreached to)) = unreached_words place to
-end_words place p (Some (Merged to)) = merged_words place p to
+abbrev pub end_words : Place → ℕ → Option Meeting → Option End → List ℕ
+end_words place p meeting None = codes ": fetch it again"
+end_words place p meeting (Some Unset) = unset_words place p meeting
+end_words place p meeting (Some (Unreached to)) = unreached_words place to
+end_words place p meeting (Some (Merged to)) = merged_words place p to
 
 -- by what a pointer was lost, or else why it is not known
 abbrev pub loss_words : Place → ℕ → Trace → List ℕ
-loss_words place p t = elim t.lost [ None ↦ end_words place p t.end | Some edge ↦ lost_by place (record { p = p; hint = hint_of t.meeting }) edge ]
+loss_words place p t = elim t.lost [ None ↦ end_words place p t.meeting t.end | Some edge ↦ lost_by place (hint_at t p edge.from) edge ]
 
 -- where a pointer was lost, and by what
 unfoldable pub trace_words : Place → ℕ → Trace → List ℕ
@@ -158,7 +180,7 @@ trace_words place p t = meeting_item place p t.meeting ++ loss_words place p t
 -- the same, if there is a pointer
 abbrev pub trace_item : Place → Option ℕ → List ℕ
 trace_item place None = []
-trace_item place (Some p) = trace_words place p (traced place p (length place.image.points))
+trace_item place (Some p) = trace_words place p (traced place p)
 
 -- a pointer that is used may be stale, and where and by what it became so
 unfoldable pub stale_words : Place → List ℕ

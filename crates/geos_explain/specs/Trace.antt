@@ -1,11 +1,10 @@
 -- How far a pointer that is not known was followed back: which places were passed, where ways met, and where it was lost.
-use Rattle.std.specs.Prelude.{ℕ, zero, suc, ◌+◌, true, false, ◌&&◌, if◌then◌else◌, Bool, Option, Some, None, slice_get, length}
-use Rattle.geos_image.specs.declared.instr.Instr.{Instr}
+use Rattle.std.specs.Prelude.{ℕ, zero, suc, ◌+◌, true, false, ◌&&◌, not, if◌then◌else◌, Bool, Option, Some, None, is_some, is_none, slice_get}
 use Rattle.geos_image.specs.declared.point.Point.{Point}
-use Rattle.geos_image.specs.declared.row.Pointer.{Pointer}
-use Rattle.geos_image.specs.Parts.{Parts}
+use Rattle.geos_image.specs.Parts.{start_of}
 use Rattle.geos_verify.specs.Rows.{pointer_at, is_stale, after}
-use Rattle.geos_explain.specs.declared.ways.Edge.{Edge}
+use Rattle.geos_explain.specs.declared.edges.Edge.{Edge}
+use Rattle.geos_explain.specs.declared.ways.Followed.{Followed}
 use Rattle.geos_explain.specs.declared.ways.Way.{Way}
 use Rattle.geos_explain.specs.declared.ways.Way.TheVariants.{Entry, Along}
 use Rattle.geos_explain.specs.declared.trace.End.{End}
@@ -13,14 +12,16 @@ use Rattle.geos_explain.specs.declared.trace.End.TheVariants.{Unset, Unreached, 
 use Rattle.geos_explain.specs.declared.trace.Meeting.{Meeting}
 use Rattle.geos_explain.specs.declared.trace.Trace.{Trace}
 use Rattle.geos_explain.specs.Led.{no_marks, marked, is_marked}
-use Rattle.geos_explain.specs.Places.{Place}
-use Rattle.geos_explain.specs.Ways.{bringing, losing, brought, has_edge, loses}
+use Rattle.geos_explain.specs.Edges.{has_edge, end_of}
+use Rattle.geos_explain.specs.Places.{Place, comes_alike}
+use Rattle.geos_explain.specs.Ways.{bringing, losing, loses}
+use Rattle.geos_explain.specs.Arrivals.{arrival, all_arrivals}
 
 -- ways to a pc meet: one brings the pointer, and this one does not
 abbrev pub meets : Place → ℕ → ℕ → Way → Option Meeting
 meets place p to lost = elim (bringing place p to) [
   | None ↦ None
-  | Some known ↦ Some (record { to = to; known = known; lost = lost; pointer = brought place p known })
+  | Some known ↦ Some (record { to = to; known = known; lost = lost })
 ]
 
 -- the same, if there is a way that does not bring it
@@ -33,63 +34,65 @@ abbrev pub or_meeting : Option Meeting → Option Meeting → Option Meeting
 or_meeting None other = other
 or_meeting (Some meeting) other = Some meeting
 
--- what is known of the pointer on the way that brings it
-abbrev pub hint_of : Option Meeting → Option Pointer
-hint_of None = None
-hint_of (Some meeting) = meeting.pointer
-
 -- no way to a pc lacks the pointer: each brings it, or there is none
 abbrev pub without_way : ℕ → Option Way → End
 without_way to None = Unreached to
 without_way to (Some way) = Merged to
 
--- no instruction that goes on to a pc can have lost the pointer: no way to it lacks it, or the caller does not bring it
+-- no instruction lost the pointer in front of an edge to which control does not come
+abbrev pub end_along : Place → Edge → Option End
+end_along place edge = if comes_alike place edge.from then None else Some (Unreached edge.from)
+
+-- no instruction that goes on to a pc can have lost the pointer: no way to it lacks it, or the caller does not bring it, or
+-- control does not come from where it is lacking
 abbrev pub end_at : Place → ℕ → ℕ → Option Way → Option End
 end_at place p to None = Some (without_way to (bringing place p to))
 end_at place p to (Some Entry) = Some Unset
-end_at place p to (Some (Along edge)) = None
+end_at place p to (Some (Along edge)) = end_along place edge
 
 -- the end so far, or else this one
 abbrev pub or_end : Option End → Option End → Option End
 or_end None other = other
 or_end (Some end) other = Some end
 
--- one more place is passed, where a way that does not bring the pointer is known, if there is one
+-- ways meet, and did not before
+abbrev pub stops : Option Meeting → Option Meeting → Bool
+stops before meeting = is_none before && is_some meeting
+
+-- one more place is passed, where a way that does not bring the pointer is known, if there is one; where the first ways meet,
+-- nothing counts of what else was passed
 abbrev pub passed_by : Place → ℕ → Trace → ℕ → Option Way → Trace
-passed_by place p trace at lost = record trace {
-  passed = marked trace.passed at;
-  goes_on = true;
-  meeting = or_meeting trace.meeting (meeting_at place p at lost);
-  end = or_end trace.end (end_at place p at lost);
-}
+passed_by place p trace at lost =
+    let meeting = or_meeting trace.meeting (meeting_at place p at lost) in
+    if stops trace.meeting meeting
+    then record trace { passed = marked trace.passed at; goes_on = true; found = true; meeting = meeting; end = end_at place p at lost }
+    else record trace { passed = marked trace.passed at; goes_on = true; meeting = meeting; end = or_end trace.end (end_at place p at lost) }
 
 -- one more place is passed
 unfoldable pub passed : Place → ℕ → Trace → ℕ → Trace
 passed place p trace at = passed_by place p trace at (losing place p at)
 
--- the pc that an edge of an instruction leads to
-abbrev pub end_of : Edge → Instr → ℕ
-end_of edge i = if edge.branch then i.target else edge.from + 1
+-- an edge of an instruction leads to a place that was passed, from where control comes, and does not bring the pointer
+abbrev pub lacks : Place → ℕ → Trace → Edge → Point → Bool
+lacks place p trace edge point =
+    is_marked trace.passed (end_of edge point.instr) && comes_alike place edge.from && has_edge point.instr edge.branch
+    && is_stale (pointer_at (after place.image edge.from point.row edge.branch) p)
 
--- an edge of an instruction leads to a place that was passed, and does not bring the pointer
-abbrev pub lacks : Parts → ℕ → Trace → Edge → Point → Bool
-lacks image p trace edge point =
-    is_marked trace.passed (end_of edge point.instr) && has_edge point.instr edge.branch
-    && is_stale (pointer_at (after image edge.from point.row edge.branch) p)
+-- a pointer, and what is known of it on some way to a pc
+abbrev pub hint_at : Trace → ℕ → ℕ → Followed
+hint_at trace p from = record { p = p; hint = arrival trace.arrivals from }
 
--- a step back along such an edge: the pointer was lost there, or the instruction is passed, if it was not yet
+-- a step back along an edge that does not bring the pointer: it was lost there, or the instruction is passed, if it was not yet
 abbrev pub back_by : Place → ℕ → Trace → Edge → Point → Trace
 back_by place p trace edge point =
-    if loses place.image (record { p = p; hint = hint_of trace.meeting }) edge point then record trace { goes_on = false; lost = Some edge }
+    if loses place.image (hint_at trace p edge.from) edge point then record trace { found = true; lost = Some edge }
     else if is_marked trace.passed edge.from then trace
     else passed place p trace edge.from
 
--- the same of any edge of an instruction, unless the pointer was found to be lost already
+-- the same of any edge of an instruction, unless what is looked for was found already
 unfoldable pub back_along : Place → ℕ → Trace → Edge → Point → Trace
-back_along place p trace edge point = elim trace.lost [
-  | None ↦ if lacks place.image p trace edge point then back_by place p trace edge point else trace
-  | Some lost ↦ trace
-]
+back_along place p trace edge point =
+    if not trace.found && lacks place p trace edge point then back_by place p trace edge point else trace
 
 -- the same of both edges of the instruction at a pc, if there is one
 unfoldable pub back_from : Place → ℕ → Trace → ℕ → Trace
@@ -98,23 +101,58 @@ back_from place p trace from = elim (slice_get place.image.points from) [
   | Some point ↦ back_along place p (back_along place p trace (record { from = from; branch = false }) point) (record { from = from; branch = true }) point
 ]
 
--- the same of the first n instructions, the last of them first
+-- the same of the first n instructions of the routine, the last of them first
 unfoldable pub back_over : Place → ℕ → Trace → ℕ → Trace
 back_over place p trace zero = trace
-back_over place p trace (suc n) = back_over place p (back_from place p trace n) n
+back_over place p trace (suc n) = back_over place p (back_from place p trace (start_of place.image.routines place.r + n)) n
 
--- the same of all instructions, unless the last such round passed no place
+-- the same of all of its instructions, unless the last such round passed no place
 abbrev pub next_round : Place → ℕ → Trace → Trace
 next_round place p trace =
-    if trace.goes_on then back_over place p (record trace { goes_on = false }) (length place.image.points) else trace
+    if trace.goes_on then back_over place p (record trace { goes_on = false }) place.routine.count else trace
+
+-- so many rounds: each but the last passes one place more at least, so as many as the routine has instructions pass all
+-- from which the pointer can be lacking there, unless they find what is looked for
+unfoldable pub rounds : Place → ℕ → Trace → ℕ → Trace
+rounds place p trace zero = trace
+rounds place p trace (suc n) = next_round place p (rounds place p trace n)
 
 -- the place itself is passed
 abbrev pub begun : Place → ℕ → Trace
 begun place p =
-    passed place p (record { passed = no_marks; goes_on = false; meeting = None; end = None; lost = None }) place.pc
+    passed place p (record {
+      arrivals = all_arrivals place p place.routine.count;
+      passed = no_marks;
+      goes_on = false;
+      found = false;
+      meeting = None;
+      end = None;
+      lost = None;
+    }) place.pc
 
--- so many rounds back from a place: each but the last passes one more at least, so as many as there are instructions pass all
--- from which the pointer can be lacking there, unless they find where it was lost
-unfoldable pub traced : Place → ℕ → ℕ → Trace
-traced place p zero = begun place p
-traced place p (suc n) = next_round place p (traced place p n)
+-- a step back along an edge, if there is an instruction
+unfoldable pub aside : Place → ℕ → Trace → Edge → Trace
+aside place p trace edge = elim (slice_get place.image.points edge.from) [ None ↦ trace | Some point ↦ back_by place p trace edge point ]
+
+-- the same along a way that does not bring the pointer
+abbrev pub aside_by : Place → ℕ → Trace → Way → Trace
+aside_by place p trace Entry = trace
+aside_by place p trace (Along edge) = aside place p trace edge
+
+-- the same, unless it is known why not; nothing else was passed before
+abbrev pub along_lost : Place → ℕ → Trace → Way → Trace
+along_lost place p trace lost =
+    let anew = record trace { passed = no_marks; goes_on = false; found = is_some trace.end } in
+    if is_some trace.end then anew else aside_by place p anew lost
+
+-- from a meeting, if there is one, so many rounds back along the way that does not bring the pointer
+abbrev pub traced_by : Place → ℕ → Trace → Option Meeting → Trace
+traced_by place p trace None = trace
+traced_by place p trace (Some meeting) = rounds place p (along_lost place p trace meeting.lost) place.routine.count
+
+-- a pointer is followed back from a place until it was lost or ways meet, and from there along the way that does not bring it
+-- until it was lost
+abbrev pub traced : Place → ℕ → Trace
+traced place p =
+    let first = rounds place p (begun place p) place.routine.count in
+    traced_by place p first first.meeting

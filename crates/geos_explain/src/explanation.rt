@@ -10,7 +10,8 @@ ghost use Rattle.geos_explain.specs.Explanation.{refusal_text, noted, point_text
 use crate::explained::Explained;
 use crate::led::reached;
 use crate::notes::put_note;
-use crate::place::{ExplainedRoutine, Place, place_at};
+use crate::place::Place;
+use crate::routines::{ExplainedRoutine, place_at};
 use crate::words::put_refusal_line;
 use geos_image::{Image, Routine};
 use geos_listing::{Targets, put_code, put_label_line, put_routine_line, put_row, targets_of};

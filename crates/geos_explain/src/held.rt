@@ -9,6 +9,7 @@ use crate::numbers::is_or_are;
 use crate::parts::{Part, put_are, put_parts};
 use crate::place::Place;
 use crate::points::point_at;
+use crate::routines::comes_alike;
 use crate::uses::put_state;
 use geos_image::{Image, Point};
 use geos_listing::put_items;
@@ -94,13 +95,15 @@ fn fills_at(image: &Image, a: u8, from: u16) -> bool
     }
 }
 
-/// Whether the instruction at the pc is one of the routine's, and the slot is held behind it and not before.
+/// Whether the instruction at the pc is one of the routine's from which control comes, and the slot is held behind it and not before.
 fn fills_here(place: &Place, a: u8, from: u16) -> bool
     requires { IsPlace (place_of place.now) }
     ensures { result ≡ fills_here (place_of place.now) a from }
 {
     let start = u32::from(place.image.start(place.r));
-    has_place(start, place.routine, u32::from(from)) && fills_at(place.image, a, from)
+    has_place(start, place.routine, u32::from(from))
+        && comes_alike(place, from)
+        && fills_at(place.image, a, from)
 }
 
 /// The later of two pcs, if it stands in front of a third.

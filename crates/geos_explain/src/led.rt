@@ -1,11 +1,11 @@
 //! Which instructions control reaches.
 
 ghost use Rattle.std.specs.Prelude.{◌≡◌, length};
-ghost use Rattle.geos_explain.specs.Led.{no_marks, marked, is_marked, next_marked, target_marked, marked_from, marked_at, marked_round, starts_marked, reached_within, reached, is_reached, MarksWhatIsReached};
+ghost use Rattle.geos_explain.specs.Led.{no_marks, marked, is_marked, end_marked, marked_from, marked_at, marked_round, starts_marked, reached_within, reached, is_reached, MarksWhatIsReached};
 
+use crate::edges::{Edge, end_of, takes};
 use crate::points::point_at;
 use geos_image::{Image, Instr};
-use geos_verify::{branches, falls_through};
 
 /// For each pc of an image, of which there are at most so many, whether control reaches it.
 pub(crate) type Marks = [bool; 4096];
@@ -34,35 +34,29 @@ pub(crate) fn is_marked(marks: &Marks, pc: usize) -> bool
     pc < 4096 && marks[pc]
 }
 
-/// The next instruction is marked as well, if it is not yet, where this one goes on to it. The mark is tested before the
-/// look into the table of opcodes.
-fn mark_next(marks: &mut Marks, from: u16, i: &Instr)
-    ensures { marks.new ≡ next_marked marks.old from i.now }
+/// Where the edge of the instruction leads is marked as well, if it is not yet and control goes along it. The mark is tested
+/// before the look into the table of opcodes.
+fn mark_end(marks: &mut Marks, image: &Image, edge: Edge, i: &Instr)
+    ensures { marks.new ≡ end_marked image.now marks.old edge i.now }
 {
-    let next = usize::from(from) + 1;
-    if !is_marked(marks, next) && falls_through(i.opcode) {
-        mark(marks, next);
-    }
-}
-
-/// The instruction's target is marked as well, if it is not yet.
-fn mark_target(marks: &mut Marks, i: &Instr)
-    ensures { marks.new ≡ target_marked marks.old i.now }
-{
-    let target = usize::from(i.target);
-    if !is_marked(marks, target) && branches(i.opcode) {
-        mark(marks, target);
+    let end = end_of(edge, i);
+    if !is_marked(marks, end) && takes(image, edge, i) {
+        mark(marks, end);
     }
 }
 
 /// Where the instruction leads is marked as well, if it is marked itself.
 #[tactic(auto, unfolding(crate::specs::Led::marked_from))]
-fn mark_from(marks: &mut Marks, from: u16, i: &Instr)
-    ensures { marks.new ≡ marked_from marks.old from i.now }
+fn mark_from(marks: &mut Marks, image: &Image, from: u16, i: &Instr)
+    ensures { marks.new ≡ marked_from image.now marks.old from i.now }
 {
     if is_marked(marks, usize::from(from)) {
-        mark_next(marks, from, i);
-        mark_target(marks, i);
+        let along = Edge {
+            from,
+            branch: false,
+        };
+        mark_end(marks, image, along, i);
+        mark_end(marks, image, Edge { from, branch: true }, i);
     }
 }
 
@@ -72,7 +66,7 @@ fn mark_at(marks: &mut Marks, image: &Image, from: u16)
     ensures { marks.new ≡ marked_at image.now marks.old from }
 {
     match point_at(image, from) {
-        Some(point) => mark_from(marks, from, &point.instr),
+        Some(point) => mark_from(marks, image, from, &point.instr),
         None => {}
     }
 }
@@ -117,7 +111,7 @@ pub(crate) fn reached(image: &Image) -> Marks
     marks
 }
 
-/// Whether control reaches the pc from the first instruction of a routine.
+/// Whether control reaches the pc from the first instruction of its routine.
 #[tactic(auto, unfolding(crate::specs::Led::is_reached))]
 pub(crate) fn is_reached(image: &Image, marks: &Marks, pc: u16) -> bool
     requires { marks.now ≡ reached image.now }
@@ -127,7 +121,7 @@ pub(crate) fn is_reached(image: &Image, marks: &Marks, pc: u16) -> bool
 }
 
 /// A law: of the instructions of an image those are marked to which edges lead from the first instruction of
-/// a routine, and no other.
+/// a routine within that routine, and no other.
 pub fn marks_what_is_reached()
     ensures { MarksWhatIsReached }
 {}

@@ -4,6 +4,8 @@
 //! docs/FORMATS.md has the form.
 #![tactic(auto)]
 
+mod arrivals;
+mod edges;
 mod explained;
 mod explanation;
 mod held;
@@ -14,6 +16,7 @@ mod numbers;
 mod parts;
 mod place;
 mod points;
+mod routines;
 mod stale;
 mod steps;
 mod texts;

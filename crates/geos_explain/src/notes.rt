@@ -5,6 +5,7 @@ ghost use Rattle.geos_listing.specs.Rows.{row_items};
 ghost use Rattle.geos_explain.specs.Places.{IsPlace, place_of};
 ghost use Rattle.geos_explain.specs.Notes.{known_text, coefficient_text, coefficients_text, is_one, potential_text, where_text, note_head, known_here, note, budget_words};
 
+use crate::led::is_reached;
 use crate::numbers::{put_numbered, steps_word, verb};
 use crate::parts::{Part, put_parts};
 use crate::place::Place;
@@ -105,7 +106,7 @@ fn put_note_head(out: &mut Vec<u8>, place: &Place) -> Result<(), AllocError>
 fn put_known_here(alloc: Global, out: &mut Vec<u8>, place: &Place) -> Result<(), AllocError>
     ensures { OnOk result (out.new.items ≡ out.old.items ++ known_here (place_of place.now)) }
 {
-    if place.reached {
+    if is_reached(place.image, place.marks, place.pc) {
         put_known(alloc, out, place.row)
     } else {
         out.extend_from_slice(b" nothing leads here,")

@@ -3,15 +3,16 @@
 ghost use Rattle.std.specs.Prelude.{◌≡◌, ◌++◌, OnOk};
 ghost use Rattle.geos_explain.specs.Places.{IsPlace, place_of};
 ghost use Rattle.geos_explain.specs.declared.ways.Way.TheVariants.{Along};
-ghost use Rattle.geos_explain.specs.Stale.{if_stale, stale_used, pointer_item, is_from, way_text, meeting_place, known_from, not_from, meeting_words, meeting_item, named, name_at, call_loss, refused_loss, moved_words, use_loss, how_lost, lost_point, lost_by, in_wish, unset_words, unreached_words, merged_words, end_words, loss_words, trace_words, trace_item, stale_words};
+ghost use Rattle.geos_explain.specs.Stale.{if_stale, stale_used, pointer_item, is_refusable, refused_on, plain_way, way_text, meeting_place, known_from, not_from, meeting_words, meeting_item, named, name_at, call_loss, refused_loss, moved_words, use_loss, how_lost, lost_point, lost_by, in_wish, label_wish, refused_at, unset_words, unreached_words, merged_words, end_words, loss_words, trace_words, trace_item, stale_words};
 
+use crate::edges::Edge;
 use crate::numbers::{put_numbered, put_pc};
 use crate::parts::{Part, put_parts};
 use crate::place::Place;
 use crate::points::point_at;
-use crate::trace::{End, Meeting, Trace, hint_of, traced};
+use crate::trace::{End, Meeting, Trace, hint_at, traced};
 use crate::uses::slot_behind;
-use crate::ways::{Edge, Followed, Way, forgets, is_stale, sets, with_hint};
+use crate::ways::{Followed, Way, forgets, is_stale, sets, with_hint};
 use geos_image::{Image, Instr, Point, Routine, Row};
 use geos_opcodes::{PointerUse, SlotUse};
 use geos_verify::{pointer_at, uses_at};
@@ -48,44 +49,52 @@ fn put_pointer(out: &mut Vec<u8>, pointer: Option<u8>) -> Result<(), AllocError>
     }
 }
 
-/// Whether a way comes from the instruction at a pc.
-fn is_from(way: Way, from: u16) -> bool
-    ensures { result ≡ is_from way from }
+/// Whether the instruction at the pc can be refused, and goes to its label then.
+#[tactic(auto, unfolding(crate::specs::Stale::is_refusable))]
+fn is_refusable(image: &Image, from: u16) -> bool
+    ensures { result ≡ is_refusable image.now from }
+{
+    match point_at(image, from) {
+        Some(point) => point.instr.opcode.operands().refusable,
+        None => false,
+    }
+}
+
+/// The pc of the instruction whose refusal the way is, if it is one.
+fn refused_on(image: &Image, way: Way) -> Option<u16>
+    ensures { result ≡ refused_on image.now way }
 {
     match way {
-        Way::Entry => false,
-        Way::Along(edge) => edge.from == from,
+        Way::Along(edge) if edge.branch && is_refusable(image, edge.from) => Some(edge.from),
+        _ => None,
     }
 }
 
-/// Where a way comes from along an edge; where another comes from the same instruction, which of the two is that of its
-/// refusal.
-#[tactic(auto, unfolding(crate::specs::Stale::way_text))]
-fn put_edge(out: &mut Vec<u8>, lines: &[usize], edge: Edge, other: Way) -> Result<(), AllocError>
-    ensures { OnOk result (out.new.items ≡ out.old.items ++ way_text lines.now (Along edge) other) }
-{
-    if edge.branch && is_from(other, edge.from) {
-        put_parts(
-            out,
-            &[
-                Part::Text(" where"),
-                Part::Pc(lines, edge.from),
-                Part::Text(" is refused"),
-            ],
-        )
-    } else {
-        put_pc(out, lines, edge.from)
-    }
-}
-
-/// Where a way comes from, beside another.
-#[tactic(auto, unfolding(crate::specs::Stale::way_text))]
-fn put_way(out: &mut Vec<u8>, lines: &[usize], way: Way, other: Way) -> Result<(), AllocError>
-    ensures { OnOk result (out.new.items ≡ out.old.items ++ way_text lines.now way other) }
+/// Where a way comes from that is no refusal.
+fn put_plain_way(out: &mut Vec<u8>, lines: &[usize], way: Way) -> Result<(), AllocError>
+    ensures { OnOk result (out.new.items ≡ out.old.items ++ plain_way lines.now way) }
 {
     match way {
         Way::Entry => out.extend_from_slice(b" the in line"),
-        Way::Along(edge) => put_edge(out, lines, edge, other),
+        Way::Along(edge) => put_pc(out, lines, edge.from),
+    }
+}
+
+/// Where a way comes from, and whether its instruction is refused there.
+#[tactic(auto, unfolding(crate::specs::Stale::way_text))]
+fn put_way(out: &mut Vec<u8>, place: &Place, way: Way) -> Result<(), AllocError>
+    ensures { OnOk result (out.new.items ≡ out.old.items ++ way_text (place_of place.now) way) }
+{
+    match refused_on(place.image, way) {
+        Some(from) => put_parts(
+            out,
+            &[
+                Part::Text(" where"),
+                Part::Pc(place.lines, from),
+                Part::Text(" is refused"),
+            ],
+        ),
+        None => put_plain_way(out, place.lines, way),
     }
 }
 
@@ -112,7 +121,7 @@ fn put_known_from(out: &mut Vec<u8>, place: &Place, p: u8, m: &Meeting) -> Resul
             Part::Text(" is known from"),
         ],
     )?;
-    put_way(out, place.lines, m.known, m.lost)
+    put_way(out, place, m.known)
 }
 
 /// And another does not.
@@ -121,7 +130,7 @@ fn put_not_from(out: &mut Vec<u8>, place: &Place, m: &Meeting) -> Result<(), All
     ensures { OnOk result (out.new.items ≡ out.old.items ++ not_from (place_of place.now) m.now) }
 {
     put_parts(out, &[Part::Text(", and not from")])?;
-    put_way(out, place.lines, m.lost, m.known)
+    put_way(out, place, m.lost)
 }
 
 /// Where ways meet, of which one brings the pointer, and another does not.
@@ -334,10 +343,42 @@ fn put_in_wish(out: &mut Vec<u8>, routine: &Routine, p: u8) -> Result<(), AllocE
     }
 }
 
+/// Another label, if the instruction is one whose refusal does not bring the pointer.
+fn put_label_wish(out: &mut Vec<u8>, lines: &[usize], from: Option<u16>) -> Result<(), AllocError>
+    ensures { OnOk result (out.new.items ≡ out.old.items ++ label_wish lines.now from) }
+{
+    match from {
+        Some(from) => put_parts(
+            out,
+            &[
+                Part::Text(", or give"),
+                Part::Pc(lines, from),
+                Part::Text(" another label"),
+            ],
+        ),
+        None => Ok(()),
+    }
+}
+
+/// Whose refusal does not bring the pointer, where ways meet.
+fn refused_at(image: &Image, meeting: Option<Meeting>) -> Option<u16>
+    ensures { result ≡ refused_at image.now meeting }
+{
+    match meeting {
+        Some(m) => refused_on(image, m.lost),
+        None => None,
+    }
+}
+
 /// The pointer is not set from the routine's beginning on.
 #[tactic(auto, unfolding(crate::specs::Stale::unset_words))]
-fn put_unset(out: &mut Vec<u8>, place: &Place, p: u8) -> Result<(), AllocError>
-    ensures { OnOk result (out.new.items ≡ out.old.items ++ unset_words (place_of place.now) p) }
+fn put_unset(
+    out: &mut Vec<u8>,
+    place: &Place,
+    p: u8,
+    meeting: Option<Meeting>,
+) -> Result<(), AllocError>
+    ensures { OnOk result (out.new.items ≡ out.old.items ++ unset_words (place_of place.now) p meeting) }
 {
     put_parts(
         out,
@@ -347,22 +388,26 @@ fn put_unset(out: &mut Vec<u8>, place: &Place, p: u8) -> Result<(), AllocError>
             Part::Text(" is not set on the way from the start of the routine: fetch it first"),
         ],
     )?;
+    put_label_wish(out, place.lines, refused_at(place.image, meeting))?;
     put_in_wish(out, place.routine, p)
 }
 
-/// No way leads to a pc, which is said of this one elsewhere.
+/// No way leads to a pc, or here.
 #[tactic(auto, unfolding(crate::specs::Stale::unreached_words))]
 fn put_unreached(out: &mut Vec<u8>, place: &Place, to: u16) -> Result<(), AllocError>
     ensures { OnOk result (out.new.items ≡ out.old.items ++ unreached_words (place_of place.now) to) }
 {
     if to == place.pc {
-        Ok(())
-    } else {
-        put_parts(
-            out,
-            &[Part::Text("; nothing leads to"), Part::Pc(place.lines, to)],
-        )
+        return out.extend_from_slice(b"; nothing leads here: take it out");
     }
+    put_parts(
+        out,
+        &[
+            Part::Text("; nothing leads to"),
+            Part::Pc(place.lines, to),
+            Part::Text(": take it out"),
+        ],
+    )
 }
 
 /// Each way to a pc brings the pointer, which is not known there.
@@ -385,12 +430,12 @@ fn put_merged(out: &mut Vec<u8>, place: &Place, p: u8, to: u16) -> Result<(), Al
 }
 
 /// Why the pointer is not known, where no instruction lost it.
-fn put_end(out: &mut Vec<u8>, place: &Place, p: u8, end: Option<End>) -> Result<(), AllocError>
-    ensures { OnOk result (out.new.items ≡ out.old.items ++ end_words (place_of place.now) p end) }
+fn put_end(out: &mut Vec<u8>, place: &Place, p: u8, t: &Trace) -> Result<(), AllocError>
+    ensures { OnOk result (out.new.items ≡ out.old.items ++ end_words (place_of place.now) p t.now.meeting t.now.end) }
 {
-    match end {
+    match t.end {
         None => out.extend_from_slice(b": fetch it again"),
-        Some(End::Unset) => put_unset(out, place, p),
+        Some(End::Unset) => put_unset(out, place, p, t.meeting),
         Some(End::Unreached(to)) => put_unreached(out, place, to),
         Some(End::Merged(to)) => put_merged(out, place, p, to),
     }
@@ -401,11 +446,8 @@ fn put_loss(out: &mut Vec<u8>, place: &Place, p: u8, t: &Trace) -> Result<(), Al
     ensures { OnOk result (out.new.items ≡ out.old.items ++ loss_words (place_of place.now) p t.now) }
 {
     match t.lost {
-        None => put_end(out, place, p, t.end),
-        Some(edge) => {
-            let hint = hint_of(t.meeting);
-            put_lost_by(out, place, Followed { p, hint }, edge)
-        }
+        None => put_end(out, place, p, t),
+        Some(edge) => put_lost_by(out, place, hint_at(t, p, edge.from), edge),
     }
 }
 

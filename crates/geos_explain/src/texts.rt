@@ -1,6 +1,6 @@
 //! An author's text with what is known at each instruction.
 
-ghost use Rattle.std.specs.Prelude.{◌≡◌, ◌<◌, ◌≤◌, ◌++◌, true, OnOk, IfOk, length, slice_get};
+ghost use Rattle.std.specs.Prelude.{◌≡◌, ◌<◌, ◌++◌, OnOk, IfOk, length};
 ghost use Rattle.geos_explain.specs.Places.{explained_of};
 ghost use Rattle.geos_explain.specs.Texts.{last_begun, noted_in, noted_of, noted_at, is_line_of, numbered, behind_line, line_text, next_pc, text_explanation};
 
@@ -8,7 +8,7 @@ use crate::explained::Explained;
 use crate::explanation::put_noted;
 use crate::led::reached;
 use crate::parts::{Part, put_parts};
-use crate::place::{ExplainedRoutine, place_at};
+use crate::routines::{ExplainedRoutine, place_at};
 use geos_image::Image;
 use geos_text::first_line;
 use geos_verify::Reject;

@@ -1,14 +1,17 @@
 //! How far a pointer that is not known was followed back: which places were passed, where ways met, and where it was lost.
 
-ghost use Rattle.std.specs.Prelude.{◌≡◌, Some, length, slice_get};
+ghost use Rattle.std.specs.Prelude.{◌≡◌, Some, slice_get};
 ghost use Rattle.geos_explain.specs.Places.{IsPlace, place_of};
-ghost use Rattle.geos_explain.specs.Trace.{meets, meeting_at, or_meeting, hint_of, without_way, end_at, or_end, passed_by, passed, end_of, lacks, back_by, back_along, back_from, back_over, next_round, begun, traced};
+ghost use Rattle.geos_explain.specs.Trace.{meets, meeting_at, or_meeting, without_way, end_along, end_at, or_end, stops, passed_by, passed, lacks, hint_at, back_by, back_along, back_from, back_over, next_round, rounds, begun, aside, aside_by, along_lost, traced_by, traced};
 
+use crate::arrivals::{Arrivals, all_arrivals, arrival};
+use crate::edges::{Edge, end_of, has_edge};
 use crate::led::{Marks, is_marked, mark, no_marks};
 use crate::place::Place;
 use crate::points::point_at;
-use crate::ways::{Edge, Followed, Sought, Way, brought, has_edge, is_stale, loses, way_to};
-use geos_image::{Image, Instr, Point, Pointer};
+use crate::routines::comes_alike;
+use crate::ways::{Followed, Way, bringing, is_stale, loses, losing};
+use geos_image::Point;
 use geos_verify::{after, pointer_at};
 
 /// Ways meet, of which one brings a pointer and another does not.
@@ -20,8 +23,6 @@ pub(crate) struct Meeting {
     pub known: Way,
     /// The first that does not.
     pub lost: Way,
-    /// What is known of it on the first.
-    pub pointer: Option<Pointer>,
 }
 
 /// Why a pointer is not known, where no instruction lost it.
@@ -29,7 +30,7 @@ pub(crate) struct Meeting {
 pub(crate) enum End {
     /// It is not set from the beginning of the routine on, whose entry row does not know it.
     Unset,
-    /// No way leads to this pc.
+    /// No way leads to this pc, from where it is lacking.
     Unreached(u16),
     /// Each way to this pc brings it, and the row still does not know it.
     Merged(u16),
@@ -38,13 +39,17 @@ pub(crate) enum End {
 /// How far a pointer that is not known was followed back.
 #[derive(Clone, Copy)]
 pub(crate) struct Trace {
+    /// What is known of it on some way to each pc.
+    pub arrivals: Arrivals,
     /// From where it can be lacking.
     pub passed: Marks,
     /// Whether the last round passed a place.
     pub goes_on: bool,
+    /// Whether what is looked for was found: an instruction that lost it, or a meeting if there was none before.
+    pub found: bool,
     /// The first place that was passed where one way brings the pointer and another does not.
     pub meeting: Option<Meeting>,
-    /// The first such reason that was met.
+    /// The first such reason that was met, on the way that does not bring it.
     pub end: Option<End>,
     /// The edge on which its instruction lost the pointer.
     pub lost: Option<Edge>,
@@ -55,13 +60,8 @@ fn meets(place: &Place, p: u8, to: u16, lost: Way) -> Option<Meeting>
     requires { IsPlace (place_of place.now) }
     ensures { result ≡ meets (place_of place.now) p to lost }
 {
-    match way_to(place, Sought { p, to, known: true }) {
-        Some(known) => Some(Meeting {
-            to,
-            known,
-            lost,
-            pointer: brought(place, p, known),
-        }),
+    match bringing(place, p, to) {
+        Some(known) => Some(Meeting { to, known, lost }),
         None => None,
     }
 }
@@ -87,16 +87,6 @@ fn or_meeting(meeting: Option<Meeting>, other: Option<Meeting>) -> Option<Meetin
     }
 }
 
-/// What is known of the pointer on the way that brings it.
-pub(crate) fn hint_of(meeting: Option<Meeting>) -> Option<Pointer>
-    ensures { result ≡ hint_of meeting }
-{
-    match meeting {
-        Some(meeting) => meeting.pointer,
-        None => None,
-    }
-}
-
 /// No way to a pc lacks the pointer: each brings it, or there is none.
 fn without_way(to: u16, known: Option<Way>) -> End
     ensures { result ≡ without_way to known }
@@ -107,15 +97,27 @@ fn without_way(to: u16, known: Option<Way>) -> End
     }
 }
 
-/// No instruction that goes on to a pc can have lost the pointer: no way to it lacks it, or the caller does not bring it.
+/// No instruction lost the pointer in front of an edge to which control does not come.
+fn end_along(place: &Place, edge: Edge) -> Option<End>
+    ensures { result ≡ end_along (place_of place.now) edge }
+{
+    if comes_alike(place, edge.from) {
+        None
+    } else {
+        Some(End::Unreached(edge.from))
+    }
+}
+
+/// No instruction that goes on to a pc can have lost the pointer: no way to it lacks it, or the caller does not bring it, or
+/// control does not come from where it is lacking.
 fn end_at(place: &Place, p: u8, to: u16, lost: Option<Way>) -> Option<End>
     requires { IsPlace (place_of place.now) }
     ensures { result ≡ end_at (place_of place.now) p to lost }
 {
     match lost {
-        Some(Way::Along(_)) => None,
+        Some(Way::Along(edge)) => end_along(place, edge),
         Some(Way::Entry) => Some(End::Unset),
-        None => Some(without_way(to, way_to(place, Sought { p, to, known: true }))),
+        None => Some(without_way(to, bringing(place, p, to))),
     }
 }
 
@@ -129,15 +131,30 @@ fn or_end(end: Option<End>, other: Option<End>) -> Option<End>
     }
 }
 
-/// One more place is passed, where a way that does not bring the pointer is known, if there is one.
+/// Whether ways meet, and did not before.
+fn stops(before: Option<Meeting>, meeting: Option<Meeting>) -> bool
+    ensures { result ≡ stops before meeting }
+{
+    before.is_none() && meeting.is_some()
+}
+
+/// One more place is passed, where a way that does not bring the pointer is known, if there is one. Where the first ways meet,
+/// nothing counts of what else was passed.
 fn pass_by(trace: &mut Trace, place: &Place, p: u8, at: u16, lost: Option<Way>)
     requires { IsPlace (place_of place.now) }
     ensures { trace.new ≡ passed_by (place_of place.now) p trace.old at lost }
 {
+    let end = end_at(place, p, at, lost);
+    let meeting = or_meeting(trace.meeting, meeting_at(place, p, at, lost));
     mark(&mut trace.passed, usize::from(at));
     trace.goes_on = true;
-    trace.meeting = or_meeting(trace.meeting, meeting_at(place, p, at, lost));
-    trace.end = or_end(trace.end, end_at(place, p, at, lost));
+    if stops(trace.meeting, meeting) {
+        trace.found = true;
+        trace.end = end;
+    } else {
+        trace.end = or_end(trace.end, end);
+    }
+    trace.meeting = meeting;
 }
 
 /// One more place is passed.
@@ -146,59 +163,53 @@ fn pass(trace: &mut Trace, place: &Place, p: u8, at: u16)
     requires { IsPlace (place_of place.now) }
     ensures { trace.new ≡ passed (place_of place.now) p trace.old at }
 {
-    let sought = Sought {
-        p,
-        to: at,
-        known: false,
-    };
-    pass_by(trace, place, p, at, way_to(place, sought));
+    pass_by(trace, place, p, at, losing(place, p, at));
 }
 
-/// The pc that the edge of the instruction leads to.
-fn end_of(edge: Edge, i: &Instr) -> usize
-    ensures { result ≡ end_of edge i.now }
+/// Whether the edge of the instruction leads to a place that was passed, from where control comes, and does not bring the pointer.
+fn lacks(place: &Place, p: u8, trace: &Trace, edge: Edge, point: &Point) -> bool
+    requires { slice_get place.now.image.now.points edge.from ≡ Some point.now }
+    ensures { result ≡ lacks (place_of place.now) p trace.now edge point.now }
 {
-    if edge.branch {
-        usize::from(i.target)
-    } else {
-        usize::from(edge.from) + 1
+    is_marked(&trace.passed, end_of(edge, &point.instr))
+        && comes_alike(place, edge.from)
+        && has_edge(&point.instr, edge.branch)
+        && is_stale(pointer_at(&after(place.image, edge.from, &point.row, edge.branch), p))
+}
+
+/// The pointer, and what is known of it on some way to the pc.
+pub(crate) fn hint_at(trace: &Trace, p: u8, from: u16) -> Followed
+    ensures { result ≡ hint_at trace.now p from }
+{
+    Followed {
+        p,
+        hint: arrival(&trace.arrivals, usize::from(from)),
     }
 }
 
-/// Whether the edge leads to a place that was passed, and does not bring the pointer. The marks are tested before the look
-/// into the table of opcodes.
-fn lacks(image: &Image, p: u8, trace: &Trace, edge: Edge, point: &Point) -> bool
-    requires { slice_get image.now.points edge.from ≡ Some point.now }
-    ensures { result ≡ lacks image.now p trace.now edge point.now }
-{
-    is_marked(&trace.passed, end_of(edge, &point.instr))
-        && has_edge(&point.instr, edge.branch)
-        && is_stale(pointer_at(&after(image, edge.from, &point.row, edge.branch), p))
-}
-
-/// A step back along such an edge: the pointer was lost there, or the instruction is passed, if it was not yet.
+/// A step back along an edge that does not bring the pointer: it was lost there, or the instruction is passed, if it was not yet.
 fn step_by(trace: &mut Trace, place: &Place, p: u8, edge: Edge, point: &Point)
     requires place { IsPlace (place_of place.now) }
     requires there { slice_get place.now.image.now.points edge.from ≡ Some point.now }
     ensures { trace.new ≡ back_by (place_of place.now) p trace.old edge point.now }
 {
-    let hint = hint_of(trace.meeting);
-    if loses(place.image, Followed { p, hint }, edge, point) {
-        trace.goes_on = false;
+    let followed = hint_at(trace, p, edge.from);
+    if loses(place.image, followed, edge, point) {
+        trace.found = true;
         trace.lost = Some(edge);
     } else if !is_marked(&trace.passed, usize::from(edge.from)) {
         pass(trace, place, p, edge.from);
     }
 }
 
-/// The same of any edge of the instruction, unless the pointer was found to be lost already.
+/// The same of any edge of the instruction, unless what is looked for was found already.
 #[tactic(auto, unfolding(crate::specs::Trace::back_along))]
 fn step_along(trace: &mut Trace, place: &Place, p: u8, edge: Edge, point: &Point)
     requires place { IsPlace (place_of place.now) }
     requires there { slice_get place.now.image.now.points edge.from ≡ Some point.now }
     ensures { trace.new ≡ back_along (place_of place.now) p trace.old edge point.now }
 {
-    if trace.lost.is_none() && lacks(place.image, p, trace, edge, point) {
+    if !trace.found && lacks(place, p, trace, edge, point) {
         step_by(trace, place, p, edge, point);
     }
 }
@@ -222,15 +233,16 @@ fn step_from(trace: &mut Trace, place: &Place, p: u8, from: u16)
     }
 }
 
-/// The same of all instructions, the last of them first.
+/// The same of all of the routine's instructions, the last of them first.
 fn step_over(trace: &mut Trace, place: &Place, p: u8)
     requires { IsPlace (place_of place.now) }
-    ensures { trace.new ≡ back_over (place_of place.now) p trace.old (length place.now.image.now.points) }
+    ensures { trace.new ≡ back_over (place_of place.now) p trace.old place.now.routine.now.count }
 {
-    let mut rest = place.image.len();
+    let start = place.image.start(place.r);
+    let mut rest = place.routine.count;
     while rest > 0 {
         rest -= 1;
-        step_from(trace, place, p, rest);
+        step_from(trace, place, p, start + rest);
     }
 }
 
@@ -245,14 +257,27 @@ fn next_round(trace: &mut Trace, place: &Place, p: u8)
     }
 }
 
+/// As many rounds back as the routine has instructions.
+#[tactic(auto, unfolding(crate::specs::Trace::rounds))]
+fn step_rounds(trace: &mut Trace, place: &Place, p: u8)
+    requires { IsPlace (place_of place.now) }
+    ensures { trace.new ≡ rounds (place_of place.now) p trace.old place.now.routine.now.count }
+{
+    for n in 0..place.routine.count {
+        next_round(trace, place, p);
+    }
+}
+
 /// The place itself is passed.
 fn begun(place: &Place, p: u8) -> Trace
     requires { IsPlace (place_of place.now) }
     ensures { result ≡ begun (place_of place.now) p }
 {
     let mut trace = Trace {
+        arrivals: all_arrivals(place, p),
         passed: no_marks(),
         goes_on: false,
+        found: false,
         meeting: None,
         end: None,
         lost: None,
@@ -261,15 +286,63 @@ fn begun(place: &Place, p: u8) -> Trace
     trace
 }
 
-/// As many rounds back from the place as there are instructions.
-#[tactic(auto, unfolding(crate::specs::Trace::traced))]
+/// A step back along the edge, if there is an instruction.
+fn step_aside(trace: &mut Trace, place: &Place, p: u8, edge: Edge)
+    requires { IsPlace (place_of place.now) }
+    ensures { trace.new ≡ aside (place_of place.now) p trace.old edge }
+{
+    match point_at(place.image, edge.from) {
+        Some(point) => step_by(trace, place, p, edge, point),
+        None => {}
+    }
+}
+
+/// The same along a way that does not bring the pointer.
+fn step_by_way(trace: &mut Trace, place: &Place, p: u8, lost: Way)
+    requires { IsPlace (place_of place.now) }
+    ensures { trace.new ≡ aside_by (place_of place.now) p trace.old lost }
+{
+    match lost {
+        Way::Along(edge) => step_aside(trace, place, p, edge),
+        Way::Entry => {}
+    }
+}
+
+/// The same, unless it is known why not; nothing else was passed before.
+fn step_along_lost(trace: &mut Trace, place: &Place, p: u8, lost: Way)
+    requires { IsPlace (place_of place.now) }
+    ensures { trace.new ≡ along_lost (place_of place.now) p trace.old lost }
+{
+    trace.passed = no_marks();
+    trace.goes_on = false;
+    trace.found = trace.end.is_some();
+    if !trace.found {
+        step_by_way(trace, place, p, lost);
+    }
+}
+
+/// From a meeting, if there is one, rounds back along the way that does not bring the pointer.
+fn step_from_meeting(trace: &mut Trace, place: &Place, p: u8)
+    requires { IsPlace (place_of place.now) }
+    ensures { trace.new ≡ traced_by (place_of place.now) p trace.old trace.old.meeting }
+{
+    match trace.meeting {
+        Some(meeting) => {
+            step_along_lost(trace, place, p, meeting.lost);
+            step_rounds(trace, place, p);
+        }
+        None => {}
+    }
+}
+
+/// The pointer is followed back from the place until it was lost or ways meet, and from there along the way that does not
+/// bring it until it was lost.
 pub(crate) fn traced(place: &Place, p: u8) -> Trace
     requires { IsPlace (place_of place.now) }
-    ensures { result ≡ traced (place_of place.now) p (length place.now.image.now.points) }
+    ensures { result ≡ traced (place_of place.now) p }
 {
     let mut trace = begun(place, p);
-    for n in 0..place.image.len() {
-        next_round(&mut trace, place, p);
-    }
+    step_rounds(&mut trace, place, p);
+    step_from_meeting(&mut trace, place, p);
     trace
 }

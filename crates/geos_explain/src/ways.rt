@@ -3,20 +3,16 @@
 ghost use Rattle.std.specs.Prelude.{◌≡◌, ◌<◌, Some, length, slice_get, IfSome};
 ghost use Rattle.geos_verify.specs.Rows.{is_stale};
 ghost use Rattle.geos_explain.specs.Places.{IsPlace, place_of};
-ghost use Rattle.geos_explain.specs.Ways.{is_as, leads_along, leads_branching, way_of, way_at, or_way, first_way, entry_way, way_to, behind, brought, with_hint, goes_stale, makes_stale, behind_point, sets, forgets, has_edge, loses};
+ghost use Rattle.geos_explain.specs.Ways.{is_as, comes_as, is_sought, way_of, way_at, or_way, first_way, entry_way, way_to, bringing, losing, with_hint, goes_stale, makes_stale, sets, forgets, loses};
 
+use crate::edges::{Edge, end_of, has_edge};
+use crate::led::is_reached;
 use crate::place::Place;
 use crate::points::point_at;
+use crate::routines::agrees;
 use geos_image::{Image, Instr, Opcode, Point, Pointer, Row};
 use geos_opcodes::PointerUse;
-use geos_verify::{after, branches, falls_through, pointer_at, uses_at};
-
-/// An edge of the instruction at a pc: to its target, or on to the next instruction.
-#[derive(Clone, Copy)]
-pub(crate) struct Edge {
-    pub from: u16,
-    pub branch: bool,
-}
+use geos_verify::{after, pointer_at};
 
 /// A way to an instruction.
 #[derive(Clone, Copy)]
@@ -36,13 +32,15 @@ pub(crate) struct Sought {
     pub to: u16,
     /// Whether they bring it.
     pub known: bool,
+    /// Whether control reaches where they come from.
+    pub reached: bool,
 }
 
-/// A pointer that is followed back.
+/// A pointer that is followed to an instruction.
 #[derive(Clone, Copy)]
 pub(crate) struct Followed {
     pub p: u8,
-    /// What is known of it on a way that brings it.
+    /// What is known of it on some way there.
     pub hint: Option<Pointer>,
 }
 
@@ -64,45 +62,44 @@ fn is_as(known: bool, pointer: Option<Pointer>) -> bool
     }
 }
 
-/// Whether the instruction stands in front of the place that is sought and goes on to it, and brings the pointer there, or does
-/// not, as is asked. Few instructions pass the test of the numbers, so it comes before the look into the table of opcodes.
-fn leads_along(image: &Image, sought: Sought, from: u16, point: &Point) -> bool
-    requires { slice_get image.now.points from ≡ Some point.now }
-    ensures { result ≡ leads_along image.now sought from point.now }
+/// Whether control reaches where the edge comes from, or does not, as is asked.
+fn comes_as(place: &Place, sought: Sought, from: u16) -> bool
+    ensures { result ≡ comes_as (place_of place.now) sought from }
 {
-    u32::from(from) + 1 == u32::from(sought.to)
-        && falls_through(point.instr.opcode)
-        && is_as(
-            sought.known,
-            pointer_at(&after(image, from, &point.row, false), sought.p),
-        )
+    agrees(sought.reached, is_reached(place.image, place.marks, from))
 }
 
-/// The same of its way to its target.
-fn leads_branching(image: &Image, sought: Sought, from: u16, point: &Point) -> bool
-    requires { slice_get image.now.points from ≡ Some point.now }
-    ensures { result ≡ leads_branching image.now sought from point.now }
+/// Whether the edge of the instruction is a way that is sought. Few edges pass the test of the numbers, so it comes first.
+fn is_sought(place: &Place, sought: Sought, edge: Edge, point: &Point) -> bool
+    requires { slice_get place.now.image.now.points edge.from ≡ Some point.now }
+    ensures { result ≡ is_sought (place_of place.now) sought edge point.now }
 {
-    point.instr.target == sought.to
-        && branches(point.instr.opcode)
+    end_of(edge, &point.instr) == usize::from(sought.to)
+        && comes_as(place, sought, edge.from)
+        && has_edge(&point.instr, edge.branch)
         && is_as(
             sought.known,
-            pointer_at(&after(image, from, &point.row, true), sought.p),
+            pointer_at(
+                &after(place.image, edge.from, &point.row, edge.branch),
+                sought.p,
+            ),
         )
 }
 
 /// The first way of the instruction that is sought.
-fn way_of(image: &Image, sought: Sought, from: u16, point: &Point) -> Option<Way>
-    requires { slice_get image.now.points from ≡ Some point.now }
-    ensures { result ≡ way_of image.now sought from point.now }
+fn way_of(place: &Place, sought: Sought, from: u16, point: &Point) -> Option<Way>
+    requires { slice_get place.now.image.now.points from ≡ Some point.now }
+    ensures { result ≡ way_of (place_of place.now) sought from point.now }
 {
-    if leads_along(image, sought, from, point) {
-        Some(Way::Along(Edge {
-            from,
-            branch: false,
-        }))
-    } else if leads_branching(image, sought, from, point) {
-        Some(Way::Along(Edge { from, branch: true }))
+    let along = Edge {
+        from,
+        branch: false,
+    };
+    let aside = Edge { from, branch: true };
+    if is_sought(place, sought, along, point) {
+        Some(Way::Along(along))
+    } else if is_sought(place, sought, aside, point) {
+        Some(Way::Along(aside))
     } else {
         None
     }
@@ -110,11 +107,11 @@ fn way_of(image: &Image, sought: Sought, from: u16, point: &Point) -> Option<Way
 
 /// The same, if there is an instruction.
 #[tactic(auto, unfolding(crate::specs::Ways::way_at))]
-fn way_at(image: &Image, sought: Sought, from: u16) -> Option<Way>
-    ensures { result ≡ way_at image.now sought from }
+fn way_at(place: &Place, sought: Sought, from: u16) -> Option<Way>
+    ensures { result ≡ way_at (place_of place.now) sought from }
 {
-    match point_at(image, from) {
-        Some(point) => way_of(image, sought, from, point),
+    match point_at(place.image, from) {
+        Some(point) => way_of(place, sought, from, point),
         None => None,
     }
 }
@@ -129,14 +126,16 @@ fn or_way(way: Option<Way>, other: Option<Way>) -> Option<Way>
     }
 }
 
-/// Of all instructions, the first way that is sought.
+/// Of the routine's instructions, the first way that is sought.
 #[tactic(auto, unfolding(crate::specs::Ways::first_way))]
-fn first_way(image: &Image, sought: Sought) -> Option<Way>
-    ensures { result ≡ first_way image.now sought (length image.now.points) }
+fn first_way(place: &Place, sought: Sought) -> Option<Way>
+    requires { IsPlace (place_of place.now) }
+    ensures { result ≡ first_way (place_of place.now) sought place.now.routine.now.count }
 {
+    let start = place.image.start(place.r);
     let mut first = None;
-    for from in 0..image.len() {
-        first = or_way(first, way_at(image, sought, from));
+    for k in 0..place.routine.count {
+        first = or_way(first, way_at(place, sought, start + k));
     }
     first
 }
@@ -157,48 +156,59 @@ fn entry_way(place: &Place, sought: Sought) -> Option<Way>
 
 /// The first way that is sought.
 #[tactic(auto, unfolding(crate::specs::Ways::way_to))]
-pub(crate) fn way_to(place: &Place, sought: Sought) -> Option<Way>
+fn way_to(place: &Place, sought: Sought) -> Option<Way>
     requires { IsPlace (place_of place.now) }
     ensures { result ≡ way_to (place_of place.now) sought }
 {
     let entry = entry_way(place, sought);
-    or_way(entry, first_way(place.image, sought))
+    or_way(entry, first_way(place, sought))
 }
 
-/// What is known of the pointer behind an instruction, on an edge that it has.
-fn behind_point(image: &Image, p: u8, edge: Edge, point: &Point) -> Option<Pointer>
-    requires { slice_get image.now.points edge.from ≡ Some point.now }
-    ensures { result ≡ behind_point image.now p edge point.now }
+/// The first way to a pc that brings the pointer.
+#[tactic(auto, unfolding(crate::specs::Ways::bringing))]
+pub(crate) fn bringing(place: &Place, p: u8, to: u16) -> Option<Way>
+    requires { IsPlace (place_of place.now) }
+    ensures { result ≡ bringing (place_of place.now) p to }
 {
-    if has_edge(&point.instr, edge.branch) {
-        pointer_at(&after(image, edge.from, &point.row, edge.branch), p)
-    } else {
-        None
-    }
+    let reached = is_reached(place.image, place.marks, place.pc);
+    way_to(
+        place,
+        Sought {
+            p,
+            to,
+            known: true,
+            reached,
+        },
+    )
 }
 
-/// The same, if there is an instruction.
-#[tactic(auto, unfolding(crate::specs::Ways::behind))]
-fn behind(image: &Image, p: u8, edge: Edge) -> Option<Pointer>
-    ensures { result ≡ behind image.now p edge }
+/// The first way to a pc that does not; where there is none, the first from where control never is.
+#[tactic(auto, unfolding(crate::specs::Ways::losing))]
+pub(crate) fn losing(place: &Place, p: u8, to: u16) -> Option<Way>
+    requires { IsPlace (place_of place.now) }
+    ensures { result ≡ losing (place_of place.now) p to }
 {
-    match point_at(image, edge.from) {
-        Some(point) => behind_point(image, p, edge, point),
-        None => None,
-    }
+    let reached = is_reached(place.image, place.marks, place.pc);
+    let sought = Sought {
+        p,
+        to,
+        known: false,
+        reached,
+    };
+    let way = way_to(place, sought);
+    or_way(
+        way,
+        way_to(
+            place,
+            Sought {
+                reached: !reached,
+                ..sought
+            },
+        ),
+    )
 }
 
-/// What a way brings of the pointer.
-pub(crate) fn brought(place: &Place, p: u8, way: Way) -> Option<Pointer>
-    ensures { result ≡ brought (place_of place.now) p way }
-{
-    match way {
-        Way::Entry => pointer_at(&place.routine.entry, p),
-        Way::Along(edge) => behind(place.image, p, edge),
-    }
-}
-
-/// The row; where it knows nothing of the pointer, with what is known of it on another way.
+/// The row; where it knows nothing of the pointer, with what is known of it on some way.
 pub(crate) fn with_hint(row: &Row, followed: Followed) -> Row
     ensures { result ≡ with_hint row.now followed }
 {
@@ -233,17 +243,6 @@ pub(crate) fn forgets(opcode: Opcode) -> bool
     match opcode {
         Opcode::Call => true,
         _ => false,
-    }
-}
-
-/// Whether the instruction has the edge.
-pub(crate) fn has_edge(i: &Instr, branch: bool) -> bool
-    ensures { result ≡ has_edge i.now branch }
-{
-    if branch {
-        branches(i.opcode)
-    } else {
-        falls_through(i.opcode)
     }
 }
 

@@ -1,0 +1,7 @@
+use Rattle.std.specs.Prelude.{◌≡◌}
+use Rattle.geos_explain.specs.Places.{place_of}
+use Rattle.geos_explain.specs.Arrivals.{all_arrivals}
+use Rattle.geos_explain.proofs.arrivals.all_arrivals.Given as goal
+
+abbrev pub invariant-loop-n : goal.invariant-loop-n
+invariant-loop-n l = l.found ≡ all_arrivals (place_of l.place) l.p l.n

@@ -1,0 +1,29 @@
+-- The edges along which control goes from an instruction.
+use Rattle.std.specs.Prelude.{ℕ, zero, suc, ◌+◌, Bool, false, ◌&&◌, ◌||◌, if◌then◌else◌, length, slice_get}
+use Rattle.std.specs.Option.{option_map_or}
+use Rattle.geos_image.specs.declared.instr.Instr.{Instr}
+use Rattle.geos_image.specs.Parts.{Parts, start_of}
+use Rattle.geos_verify.specs.Rows.{falls_through, branches}
+use Rattle.geos_verify.specs.Rules.{has_place}
+use Rattle.geos_explain.specs.declared.edges.Edge.{Edge}
+
+-- the instruction has the edge
+abbrev pub has_edge : Instr → Bool → Bool
+has_edge i branch = if branch then branches i.opcode else falls_through i.opcode
+
+-- the pc that an edge of an instruction leads to
+abbrev pub end_of : Edge → Instr → ℕ
+end_of edge i = if edge.branch then i.target else edge.from + 1
+
+-- a pc is that of an instruction of routine r
+abbrev pub lies_in : Parts → ℕ → ℕ → Bool
+lies_in image r pc = option_map_or (λ routine. has_place (start_of image.routines r) routine.count pc) (slice_get image.routines r) false
+
+-- two pcs are those of instructions of one of the first n routines
+unfoldable pub are_in_one : Parts → ℕ → ℕ → ℕ → Bool
+are_in_one image pc other zero = false
+are_in_one image pc other (suc n) = are_in_one image pc other n || (lies_in image n pc && lies_in image n other)
+
+-- control goes along an edge of an instruction: it has the edge, which does not leave its routine
+abbrev pub takes : Parts → Edge → Instr → Bool
+takes image edge i = has_edge i edge.branch && are_in_one image edge.from (end_of edge i) (length image.routines)

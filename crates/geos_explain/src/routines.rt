@@ -1,0 +1,57 @@
+//! A routine of an image that is explained, and its places.
+
+ghost use Rattle.std.specs.Prelude.{◌≡◌, ◌<◌, length, slice_get, IfSome};
+ghost use Rattle.geos_explain.specs.Places.{HasRoutine, IsPlace, agrees, comes_alike, explained_of, place_at, place_of};
+
+use crate::explained::Explained;
+use crate::led::is_reached;
+use crate::place::Place;
+use geos_image::Routine;
+
+/// Routine r of an image that is explained.
+#[derive(Clone, Copy)]
+pub(crate) struct ExplainedRoutine<'a> {
+    pub explained: &'a Explained<'a>,
+    pub r: u16,
+    pub routine: &'a Routine,
+    ghost there: { HasRoutine explained.now.image.now r routine.now },
+}
+
+/// The instruction at a pc.
+pub(crate) fn place_at<'a>(within: &ExplainedRoutine<'a>, pc: u16) -> Place<'a>
+    requires { pc < length within.now.explained.now.image.now.points }
+    ensures place { IsPlace (place_of result) }
+    ensures point { IfSome (slice_get within.now.explained.now.image.now.points pc)
+        (λ point. place_of result ≡ place_at (explained_of within.now.explained.now) within.now.r within.now.routine.now pc point) }
+{
+    let image = within.explained.image;
+    Place {
+        image,
+        lines: within.explained.lines,
+        r: within.r,
+        routine: within.routine,
+        pc,
+        i: image.instr(pc),
+        row: image.row(pc),
+        potential: image.potential(pc),
+        marks: within.explained.marks,
+    }
+}
+
+/// Whether something is so where it is wanted, and is not so where it is not.
+pub(crate) fn agrees(wanted: bool, is: bool) -> bool
+    ensures { result ≡ agrees wanted is }
+{
+    if wanted { is } else { !is }
+}
+
+/// Whether control reaches the pc just as it does the place: a place that it reaches is not one to which it comes from where it
+/// never is.
+pub(crate) fn comes_alike(place: &Place, pc: u16) -> bool
+    ensures { result ≡ comes_alike (place_of place.now) pc }
+{
+    agrees(
+        is_reached(place.image, place.marks, place.pc),
+        is_reached(place.image, place.marks, pc),
+    )
+}
