@@ -1,4 +1,5 @@
 mod Fits
+mod Noted
 mod Places
 mod Reached
 mod Sentences

@@ -17,3 +17,4 @@ pub mod Written
 pub mod Words
 pub mod Explanation
 pub mod Texts
+pub mod Listed

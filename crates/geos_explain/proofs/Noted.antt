@@ -1,0 +1,190 @@
+-- Explanations without their notes are the listing, or the author's text.
+use Rattle.std.proofs.Common.{◌≡◌, ◌<◌, ◌+◌, inl, inr, ℕ, zero, suc, Bool, true, false, cond, List, [], ◌∷◌, ◌++◌, length, Option, Some, None, slice_get, refl, ap, arith, append_assoc}
+use Rattle.std.specs.Prelude.{◌&&◌, nat_le, nat_lt, ◌==◌, codes, decimal, All}
+use Rattle.std.proofs.lemmas.Bool.{and_parts}
+use Rattle.std.proofs.lemmas.List.Elements.{All-nil, All-cons}
+use Rattle.std.proofs.lemmas.Bool.Decides.{nat_tests}
+use Rattle.std.specs.Option.{option_map_or}
+use Rattle.std.specs.Str.Lines.{lines}
+use Rattle.geos_image.specs.declared.point.Point.{Point}
+use Rattle.geos_image.specs.declared.routine.Routine.{Routine}
+use Rattle.geos_image.specs.Parts.{Parts, start_of}
+use Rattle.geos_image.specs.Legal.{is_image}
+use Rattle.geos_image.proofs.Instrs.{image_parts}
+use Rattle.geos_listing.specs.Rows.{texts_below}
+use Rattle.geos_listing.specs.Instrs.{name_of, label_line, instr_code}
+use Rattle.geos_verify.specs.declared.rule.Reject.{Reject}
+use Rattle.geos_verify.specs.declared.rule.Rule.{Rule}
+use Rattle.geos_verify.specs.declared.rule.Rule.TheVariants.{LeavesRoutine, NamesEmptySlot, EntryMisfit, StalePointer, PassesEnd, ChangesUnmarked, LocksIntoHeld, WrongSlot, CommitsHeld, CallMisfit, ExitMisfit, EdgeMisfit, EdgeUnpaid, OverBudget}
+use Rattle.geos_verify.proofs.Places.{item_at}
+use Rattle.geos_explain.specs.Places.{Place, Explained, place_at}
+use Rattle.geos_explain.specs.Notes.{where_text, note_head, known_here, potential_text, note}
+use Rattle.geos_explain.specs.Words.{words, refusal_head, refusal_line}
+use Rattle.geos_explain.specs.Explanation.{refusal_text, noted, point_text, place_text, head_text, routine_text, numbered_routine, explanation}
+use Rattle.geos_explain.specs.Texts.{last_begun, noted_in, noted_of, noted_at, is_line_of, behind_line, line_text, next_pc, lines_text}
+use Rattle.geos_explain.specs.Listed.{IsComment, IsNote, place_with, routine_with, numbered_with, IsListingWithNotes, ExplanationIsListingWithNotes, lines_with, IsBehind, ExplanationIsTextWithNotes}
+
+-- texts that are the same at each number are the same together
+texts_below-same : (n : ℕ) (text other : ℕ → List ℕ) → ((k : ℕ) → text k ≡ other k) → texts_below n text ≡ texts_below n other
+unfolding texts_below
+texts_below-same zero text other same = refl
+texts_below-same (suc n) text other same = rw (texts_below-same n text other same, same n) refl
+
+-- ---- Notes
+
+-- the line of a refusal begins with `;`
+comment-head : (rule : Rule) → (rest : List ℕ) × (refusal_head rule ≡ codes ";" ++ rest)
+comment-head LeavesRoutine = (codes " refused by V1:", refl)
+comment-head NamesEmptySlot = (codes " refused by V2:", refl)
+comment-head EntryMisfit = (codes " refused by V3:", refl)
+comment-head StalePointer = (codes " refused by V4:", refl)
+comment-head PassesEnd = (codes " refused by V5:", refl)
+comment-head ChangesUnmarked = (codes " refused by V6:", refl)
+comment-head LocksIntoHeld = (codes " refused by V7:", refl)
+comment-head WrongSlot = (codes " refused by V8:", refl)
+comment-head CommitsHeld = (codes " refused by V9:", refl)
+comment-head CallMisfit = (codes " refused by V10:", refl)
+comment-head ExitMisfit = (codes " refused by V11:", refl)
+comment-head EdgeMisfit = (codes " refused by V12:", refl)
+comment-head EdgeUnpaid = (codes " refused by V13:", refl)
+comment-head OverBudget = (codes " refused by V14:", refl)
+
+comment-line : (place : Place) (rule : Rule) → IsComment (refusal_line place rule)
+unfolding refusal_line
+comment-line place rule =
+    let head = comment-head rule in
+    inr (head.0 ++ words place rule, rw head.1 (ap (λ text. text ++ codes "\n") (append_assoc (codes ";") head.0 (words place rule))))
+
+comment-refusal : (reject : Option Reject) (place : Place) → IsComment (refusal_text reject place)
+comment-refusal None place = inl refl
+comment-refusal (Some reject) place = by_pc (reject.pc == place.pc)
+  where
+    by_pc : (here : Bool) → IsComment (cond here (refusal_line place reject.rule) [])
+    by_pc true = comment-line place reject.rule
+    by_pc false = inl refl
+
+-- a note begins with ` ;`
+note-head : (place : Place) → (rest : List ℕ) × (note_head place ≡ codes " ;" ++ rest)
+unfolding note_head where_text
+note-head place = by_line (slice_get place.lines place.pc)
+  where
+    by_line : (line : Option ℕ) → (rest : List ℕ) × (elim line [ None ↦ where_text place.routine place.pc | Some number ↦ codes " ;" ] ≡ codes " ;" ++ rest)
+    by_line None = (codes " " ++ name_of place.routine ++ codes " " ++ decimal place.pc ++ codes ":", simp append_assoc)
+    by_line (Some number) = ([], refl)
+
+-- what is said of an instruction is a note
+noted-note : (reject : Option Reject) (place : Place) → IsNote (noted reject place)
+unfolding noted note
+noted-note reject place =
+    let head = note-head place in
+    let known = known_here place in
+    let steps = potential_text place.potential in
+    record {
+      words = head.0 ++ known ++ steps;
+      refusal = refusal_text reject place;
+      is = rw head.1 (simp append_assoc);
+      comment = comment-refusal reject place;
+    }
+
+-- ---- The listing
+
+-- what is said of the instruction of routine r at a pc
+note_at : Explained → ℕ → ℕ → List ℕ
+note_at explained r pc =
+    option_map_or (λ routine. option_map_or (λ point. noted explained.reject (place_at explained r routine pc point)) (slice_get explained.image.points pc) []) (slice_get explained.image.routines r) []
+
+note_at-note : (explained : Explained) (r pc : ℕ) → r < length explained.image.routines → pc < length explained.image.points → IsNote (note_at explained r pc)
+unfolding note_at
+note_at-note explained r pc within there =
+    let routine = item_at explained.image.routines r within in
+    let point = item_at explained.image.points pc there in
+    rw (routine.1, point.1) (noted-note explained.reject (place_at explained r routine.0 pc point.0))
+
+place-with : (explained : Explained) (r pc : ℕ) (routine : Routine) → slice_get explained.image.routines r ≡ Some routine
+    → place_text explained r routine pc ≡ place_with (note_at explained r) explained.image pc
+unfolding place_text point_text note_at
+place-with explained r pc routine is = rw is (by_point (slice_get explained.image.points pc))
+  where
+    by_point : (o : Option Point) → label_line explained.image.points pc ++ option_map_or (λ point. point_text explained.reject (place_at explained r routine pc point)) o []
+        ≡ label_line explained.image.points pc ++ option_map_or (λ point. instr_code explained.image.routines point.instr
+        ++ option_map_or (λ told. noted explained.reject (place_at explained r routine pc told)) o []) o []
+    by_point None = refl
+    by_point (Some point) = refl
+
+routine-with : (explained : Explained) (r : ℕ) → numbered_routine explained r ≡ numbered_with (note_at explained r) explained.image r
+routine-with explained r = by_routine (slice_get explained.image.routines r) refl
+  where
+    by_routine : (o : Option Routine) → slice_get explained.image.routines r ≡ o
+        → option_map_or (routine_text explained r (start_of explained.image.routines r)) o [] ≡ option_map_or (routine_with (note_at explained r) explained.image (start_of explained.image.routines r)) o []
+    by_routine None is = refl
+    by_routine (Some routine) is =
+        let start = start_of explained.image.routines r in
+        let told : ℕ → List ℕ = λ k. place_text explained r routine (start + k) in
+        let listed : ℕ → List ℕ = λ k. place_with (note_at explained r) explained.image (start + k) in
+        ap (λ text. head_text routine ++ text) (texts_below-same routine.count told listed (λ k. place-with explained r (start + k) routine is))
+
+pub explanation-listed : ExplanationIsListingWithNotes
+unfolding head_text
+explanation-listed image reject =
+    let explained : Explained = record { image = image; lines = []; reject = reject } in
+    let listed : IsListingWithNotes image (explanation image reject) = record {
+      note = note_at explained;
+      notes = λ r pc within there. note_at-note explained r pc within there;
+      whole = texts_below-same (length image.routines) (λ r. numbered_routine explained r) (λ r. numbered_with (note_at explained r) image r) (routine-with explained);
+    } in
+    (listed, refl)
+
+-- ---- The author's text
+
+-- the first routine begins at 0
+start-zero : (routines : List Routine) → start_of routines 0 ≡ 0
+start-zero [] = refl
+start-zero (x ∷ routines) = refl
+
+-- where there are routines, one of them begins at a pc or before
+last-begun : (image : Parts) (pc n : ℕ) → 0 < n → (r : ℕ) × (last_begun image pc n ≡ Some r) × (r < n)
+unfolding last_begun
+last-begun image pc zero some = absurd (omega arith)
+last-begun image pc (suc zero) some =
+    let first = start-zero image.routines in
+    let before : nat_le (start_of image.routines 0) pc ≡ true = rw first (grind (arith, nat_tests)) in
+    (0, rw before refl, omega arith)
+last-begun image pc (suc (suc n)) some = by_start (last-begun image pc (suc n) (omega arith)) (nat_le (start_of image.routines (suc n)) pc)
+  where
+    by_start : (r : ℕ) × (last_begun image pc (suc n) ≡ Some r) × (r < suc n) → (before : Bool) → (r : ℕ) × (cond before (Some (suc n)) (last_begun image pc (suc n)) ≡ Some r) × (r < suc (suc n))
+    by_start rest true = (suc n, refl, omega arith)
+    by_start rest false = (rest.0, rest.1, omega (arith, rest.2))
+
+noted_at-note : (explained : Explained) (pc : ℕ) → is_image explained.image ≡ true → pc < length explained.image.points → IsNote (noted_at explained pc)
+unfolding noted_at noted_of noted_in
+noted_at-note explained pc legal there =
+    let image = explained.image in
+    let last = last-begun image pc (length image.routines) ((image_parts image legal).some) in
+    let routine = item_at image.routines last.0 last.2 in
+    let point = item_at image.points pc there in
+    rw (last.1, noted_at, routine.1, noted_of, point.1, noted_in) (noted-note explained.reject (place_at explained last.0 routine.0 pc point.0))
+
+-- behind a line stand its end or a note
+line-behind : (explained : Explained) (pc number : ℕ) → is_image explained.image ≡ true → IsBehind (behind_line explained pc number)
+line-behind explained pc number legal = by_line (is_line_of explained.lines pc number && nat_lt pc (length explained.image.points)) refl
+  where
+    by_line : (here : Bool) → (is_line_of explained.lines pc number && nat_lt pc (length explained.image.points)) ≡ here → IsBehind (cond here (noted_at explained pc) (codes "\n"))
+    by_line true is =
+        let tests = and_parts (is_line_of explained.lines pc number) (nat_lt pc (length explained.image.points)) is in
+        let below = tests.1 in
+        inr (noted_at-note explained pc legal (grind (arith, nat_tests)))
+    by_line false is = inl refl
+
+lines-behind : (explained : Explained) → is_image explained.image ≡ true → (pc number : ℕ) (texts : List (List ℕ))
+    → (behind : List (List ℕ)) × All IsBehind behind × (length behind ≡ length texts) × (lines_text explained pc number texts ≡ lines_with behind number texts)
+unfolding line_text
+lines-behind explained legal pc number [] = ([], All-nil IsBehind, refl, refl)
+lines-behind explained legal pc number (line ∷ texts) =
+    let rest = lines-behind explained legal (next_pc explained.lines pc number) (number + 1) texts in
+    let here = behind_line explained pc number in
+    (here ∷ rest.0, All-cons IsBehind here rest.0 (line-behind explained pc number legal) rest.1, omega (arith, rest.2), rw rest.3 refl)
+
+pub text-listed : ExplanationIsTextWithNotes
+text-listed text table image reject legal =
+    let told = lines-behind (record { image = image; lines = table; reject = reject }) legal 0 1 (lines text) in
+    record { behind = told.0; each = told.1; many = told.2; is = told.3 }
