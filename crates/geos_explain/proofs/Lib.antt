@@ -1,4 +1,5 @@
 mod Fits
+mod Losing
 mod Noted
 mod Places
 mod Reached

@@ -22,7 +22,7 @@ use Rattle.geos_explain.specs.Led.{no_marks, marked, is_marked, end_marked, mark
 -- ---- Marks
 
 -- the pc is marked
-abbrev Has : List Bool → ℕ → Type 0
+abbrev pub Has : List Bool → ℕ → Type 0
 Has marks pc = get_or marks pc false ≡ true
 
 -- what is marked stays so
@@ -55,7 +55,7 @@ mark-grows marks pc = by_test (nat_lt pc 4096)
     by_test true = set-grows marks pc
     by_test false = grows-same marks
 
-mark-was : (marks : List Bool) (pc k : ℕ) → Has (marked marks pc) k → (k ≡ pc) ⊎ Has marks k
+pub mark-was : (marks : List Bool) (pc k : ℕ) → Has (marked marks pc) k → (k ≡ pc) ⊎ Has marks k
 mark-was marks pc k h = by_test (nat_lt pc 4096) h
   where
     by_test : (b : Bool) → Has (cond b (set marks pc true) marks) k → (k ≡ pc) ⊎ Has marks k
@@ -220,7 +220,7 @@ no-mark zero k h = absurd cc
 no-mark (suc n) zero h = absurd cc
 no-mark (suc n) (suc k) h = no-mark n k h
 
-none-marked : (k : ℕ) → Has no_marks k → ⊥
+pub none-marked : (k : ℕ) → Has no_marks k → ⊥
 unfolding no_marks
 none-marked k h = no-mark 4096 k h
 

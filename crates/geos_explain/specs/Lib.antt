@@ -10,6 +10,7 @@ pub mod Held
 pub mod Ways
 pub mod Arrivals
 pub mod Trace
+pub mod Lost
 pub mod Stale
 pub mod Steps
 pub mod Unset

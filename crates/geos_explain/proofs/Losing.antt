@@ -1,0 +1,416 @@
+-- What the search for what lost a pointer names, loses it.
+use Rattle.std.proofs.Common.{◌≡◌, ◌+◌, ℕ, zero, suc, Bool, true, false, not, cond, List, [], ◌∷◌, length, replicate, Option, Some, None, slice_get, get_or, set, refl, sym, ap, ◌∙◌, subst, ◌⊎◌, inl, inr}
+use Rattle.std.specs.Prelude.{◌&&◌, ◌==◌, nat_lt, is_some, is_none}
+use Rattle.std.proofs.lemmas.Bool.{and_parts, cases_eq, cases_lt, eqb-true}
+use Rattle.std.proofs.lemmas.List.{get_or-set_same, get_or-set_other, set_past}
+use Rattle.geos_image.specs.declared.point.Point.{Point}
+use Rattle.geos_image.specs.declared.row.Pointer.{Pointer}
+use Rattle.geos_image.specs.Parts.{start_of}
+use Rattle.geos_verify.specs.Rows.{pointer_at, is_stale, after}
+use Rattle.geos_explain.specs.declared.edges.Edge.{Edge}
+use Rattle.geos_explain.specs.declared.ways.Way.{Way}
+use Rattle.geos_explain.specs.declared.ways.Way.TheVariants.{Entry, Along}
+use Rattle.geos_explain.specs.declared.ways.Sought.{Sought}
+use Rattle.geos_explain.specs.declared.arrivals.Arrivals.{Arrivals}
+use Rattle.geos_explain.specs.declared.trace.End.{End}
+use Rattle.geos_explain.specs.declared.trace.End.TheVariants.{Unreached}
+use Rattle.geos_explain.specs.declared.trace.Meeting.{Meeting}
+use Rattle.geos_explain.specs.declared.trace.Trace.{Trace}
+use Rattle.geos_explain.specs.Edges.{has_edge, end_of}
+use Rattle.geos_explain.specs.Led.{no_marks, marked, is_marked, is_reached}
+use Rattle.geos_explain.specs.Places.{Place, comes_alike}
+use Rattle.geos_explain.specs.Ways.{comes_as, is_sought, way_of, way_at, or_way, first_way, entry_way, way_to, bringing, losing, with_hint, loses}
+use Rattle.geos_explain.specs.Arrivals.{no_arrivals, arrival, arrived, behind, arrived_along, arrived_from, arrived_over, next_arrivals, arrivals_at_entry, all_arrivals}
+use Rattle.geos_explain.specs.Trace.{meeting_at, or_meeting, end_at, or_end, passed, lacks, hint_at, back_by, back_along, back_from, back_over, next_round, rounds, begun, aside, aside_by, along_lost, traced_by, traced}
+use Rattle.geos_explain.specs.Lost.{ComesTo, LacksBehind, LacksAlong, Brings, IsHint, IsLost, NamesWhatLosesIt}
+use Rattle.geos_explain.proofs.Reached.{Has, mark-was, none-marked}
+
+-- what stands in a list behind a change was there, or is the change
+set-was : {X : Type 0} (xs : List X) (i k : ℕ) (x d : X) → (get_or (set xs i x) k d ≡ get_or xs k d) ⊎ ((k ≡ i) × (get_or (set xs i x) k d ≡ x))
+set-was xs i k x d = elim (cases_lt i (length xs)) [
+  | inl within ↦ elim (cases_eq k i) [
+    | inl same ↦ inr (same, ap (λ n. get_or (set xs i x) n d) same ∙ get_or-set_same xs i x d within)
+    | inr ne ↦ inl (get_or-set_other xs i k x d ne)
+  ]
+  | inr past ↦ inl (ap (λ ys. get_or ys k d) (set_past xs i x past))
+]
+
+replicate-there : {X : Type 0} (x : X) (n k : ℕ) → get_or (replicate n x) k x ≡ x
+replicate-there x zero k = refl
+replicate-there x (suc n) zero = refl
+replicate-there x (suc n) (suc k) = replicate-there x n k
+
+-- what a choice gives that is nothing otherwise
+cond-some : {X : Type 0} (b : Bool) (o : Option X) (x : X) → cond b o None ≡ Some x → (b ≡ true) × (o ≡ Some x)
+cond-some true o x e = (refl, e)
+cond-some false o x e = absurd cc
+
+some-same : {X : Type 0} (x y : X) → Some x ≡ Some y → x ≡ y
+some-same x y e = cc
+
+module _ (place : Place) (p : ℕ) where
+  -- ---- What comes to a pc
+
+  abbrev Known : ℕ → Pointer → Type 0
+  Known pc pointer = (edges : List Edge) × Brings place p edges pc pointer
+
+  record Found (arrivals : Arrivals) : Type 0 where
+    brings : (pc : ℕ) (pointer : Pointer) → arrival arrivals pc ≡ Some pointer → Known pc pointer
+
+  hint-known : (arrivals : Arrivals) → Found arrivals → (pc : ℕ) → IsHint place p pc (arrival arrivals pc)
+  hint-known arrivals found pc = by_hint (arrival arrivals pc) refl
+    where
+      by_hint : (o : Option Pointer) → arrival arrivals pc ≡ o → IsHint place p pc o
+      by_hint None e = inl refl
+      by_hint (Some pointer) e = inr (pointer, refl, found.brings pc pointer e)
+
+  arrived-found : (arrivals : Arrivals) → Found arrivals → (pc : ℕ) (pointer : Option Pointer) → ((q : Pointer) → pointer ≡ Some q → Known pc q) → Found (arrived arrivals pc pointer)
+  arrived-found arrivals found pc pointer comes = by_test (nat_lt pc 4096 && not (is_stale pointer))
+    where
+      by_test : (b : Bool) → Found (cond b (record arrivals { at = set arrivals.at pc pointer; goes_on = true }) arrivals)
+      by_test true = record {
+        brings = λ k q e. elim (set-was arrivals.at pc k pointer None) [
+          | inl was ↦ found.brings k q (ap (λ o. cond (nat_lt k 4096) o None) (sym was) ∙ e)
+          | inr here ↦
+              let is = cond-some (nat_lt k 4096) (get_or (set arrivals.at pc pointer) k None) q e in
+              subst (λ n. Known n q) (sym here.0) (comes q (sym here.1 ∙ is.1))
+        ];
+      }
+      by_test false = found
+
+  behind-known : (edge : Edge) (point : Point) (hint : Option Pointer) → slice_get place.image.points edge.from ≡ Some point → comes_alike place edge.from ≡ true → IsHint place p edge.from hint
+      → (q : Pointer) → behind place.image (record { p = p; hint = hint }) edge point ≡ Some q → Known (end_of edge point.instr) q
+  behind-known edge point hint there alike known q e =
+      let row = with_hint point.row (record { p = p; hint = hint }) in
+      let has = cond-some (has_edge point.instr edge.branch) (pointer_at (after place.image edge.from row edge.branch) p) q e in
+      let comes : ComesTo place edge (end_of edge point.instr) = record { point = point; there = there; alike = alike; has = has.0; ends = refl } in
+      elim known [
+        | inl none ↦ (edge ∷ [], (comes, (hint, inl none, e)))
+        | inr some ↦ (edge ∷ some.2.0, (comes, (hint, inr (some.0, some.1, some.2.1), e)))
+      ]
+
+  along-found : (arrivals : Arrivals) → Found arrivals → (edge : Edge) (point : Point) → slice_get place.image.points edge.from ≡ Some point → Found (arrived_along place p arrivals edge point)
+  along-found arrivals found edge point there = by_test (is_stale (arrival arrivals (end_of edge point.instr)) && comes_alike place edge.from) refl
+    where
+      by_test : (b : Bool) → (is_stale (arrival arrivals (end_of edge point.instr)) && comes_alike place edge.from) ≡ b
+          → Found (cond b (arrived arrivals (end_of edge point.instr) (behind place.image (record { p = p; hint = arrival arrivals edge.from }) edge point)) arrivals)
+      by_test true is =
+          let alike = (and_parts (is_stale (arrival arrivals (end_of edge point.instr))) (comes_alike place edge.from) is).1 in
+          arrived-found arrivals found (end_of edge point.instr) (behind place.image (record { p = p; hint = arrival arrivals edge.from }) edge point)
+          (λ q e. behind-known edge point (arrival arrivals edge.from) there alike (hint-known arrivals found edge.from) q e)
+      by_test false is = found
+
+  from-found : (arrivals : Arrivals) → Found arrivals → (from : ℕ) → Found (arrived_from place p arrivals from)
+  unfolding arrived_from
+  from-found arrivals found from = by_point (slice_get place.image.points from) refl
+    where
+      by_point : (o : Option Point) → slice_get place.image.points from ≡ o → Found (elim o [
+        | None ↦ arrivals
+        | Some point ↦ arrived_along place p (arrived_along place p arrivals (record { from = from; branch = false }) point) (record { from = from; branch = true }) point
+      ])
+      by_point None e = found
+      by_point (Some point) e =
+          let first = along-found arrivals found (record { from = from; branch = false }) point e in
+          along-found (arrived_along place p arrivals (record { from = from; branch = false }) point) first (record { from = from; branch = true }) point e
+
+  over-found : (arrivals : Arrivals) → Found arrivals → (n : ℕ) → Found (arrived_over place p arrivals n)
+  unfolding arrived_over
+  over-found arrivals found zero = found
+  over-found arrivals found (suc n) = from-found (arrived_over place p arrivals n) (over-found arrivals found n) (start_of place.image.routines place.r + n)
+
+  next-found : (arrivals : Arrivals) → Found arrivals → Found (next_arrivals place p arrivals)
+  next-found arrivals found = by_test arrivals.goes_on
+    where
+      by_test : (b : Bool) → Found (cond b (arrived_over place p (record arrivals { goes_on = false }) place.routine.count) arrivals)
+      by_test true = over-found (record arrivals { goes_on = false }) (record { brings = found.brings }) place.routine.count
+      by_test false = found
+
+  entry-found : Found (arrivals_at_entry place p)
+  unfolding no_arrivals
+  entry-found =
+      let none : Found (record { at = no_arrivals; goes_on = true }) = record {
+        brings = λ pc q e.
+            (let is = cond-some (nat_lt pc 4096) (get_or no_arrivals pc None) q e in
+            let nothing : get_or no_arrivals pc None ≡ None = replicate-there None 4096 pc in
+            absurd cc);
+      } in
+      arrived-found (record { at = no_arrivals; goes_on = true }) none (start_of place.image.routines place.r) (pointer_at place.routine.entry p) (λ q e. ([], (refl, e)))
+
+  all-found : (n : ℕ) → Found (all_arrivals place p n)
+  unfolding all_arrivals
+  all-found zero = entry-found
+  all-found (suc n) = next-found (all_arrivals place p n) (all-found n)
+
+  -- ---- Ways that do not bring it
+
+  abbrev IsLosing : Way → ℕ → Type 0
+  IsLosing Entry to = Unit {0}
+  IsLosing (Along edge) to = comes_alike place edge.from ≡ true → LacksBehind place p edge to
+
+  abbrev IsAlike : Way → Type 0
+  IsAlike Entry = Unit {0}
+  IsAlike (Along edge) = comes_alike place edge.from ≡ true
+
+  -- what is sought where a way does not bring it
+  abbrev asked : ℕ → Bool → Sought
+  asked to reached = record { p = p; to = to; known = false; reached = reached }
+
+  sought-losing : (to : ℕ) (reached : Bool) (edge : Edge) (point : Point) → slice_get place.image.points edge.from ≡ Some point → is_sought place (asked to reached) edge point ≡ true → IsLosing (Along edge) to
+  sought-losing to reached edge point there is alike =
+      let ends = end_of edge point.instr == to in
+      let comes = comes_as place (asked to reached) edge.from in
+      let has = has_edge point.instr edge.branch in
+      let last = and_parts (ends && comes && has) (is_stale (pointer_at (after place.image edge.from point.row edge.branch) p)) is in
+      let third = and_parts (ends && comes) has last.0 in
+      let first = and_parts ends comes third.0 in
+      record {
+        comes = record { point = point; there = there; alike = alike; has = third.1; ends = eqb-true _ _ first.0 };
+        stale = last.1;
+      }
+
+  -- each way that there may be does not bring it
+  abbrev AllLosing : Option Way → ℕ → Type 0
+  AllLosing o to = (way : Way) → o ≡ Some way → IsLosing way to
+
+  of-losing : (to : ℕ) (reached : Bool) (from : ℕ) (point : Point) → slice_get place.image.points from ≡ Some point → AllLosing (way_of place (asked to reached) from point) to
+  of-losing to reached from point there = by_test (is_sought place (asked to reached) (record { from = from; branch = false }) point) (is_sought place (asked to reached) (record { from = from; branch = true }) point) refl refl
+    where
+      by_test : (a b : Bool) → is_sought place (asked to reached) (record { from = from; branch = false }) point ≡ a → is_sought place (asked to reached) (record { from = from; branch = true }) point ≡ b
+          → AllLosing (cond a (Some (Along (record { from = from; branch = false }))) (cond b (Some (Along (record { from = from; branch = true }))) None)) to
+      by_test true b is_a is_b way e = subst (λ w. IsLosing w to) (some-same _ _ e) (sought-losing to reached (record { from = from; branch = false }) point there is_a)
+      by_test false true is_a is_b way e = subst (λ w. IsLosing w to) (some-same _ _ e) (sought-losing to reached (record { from = from; branch = true }) point there is_b)
+      by_test false false is_a is_b way e = absurd cc
+
+  at-losing : (to : ℕ) (reached : Bool) (from : ℕ) → AllLosing (way_at place (asked to reached) from) to
+  unfolding way_at
+  at-losing to reached from = by_point (slice_get place.image.points from) refl
+    where
+      by_point : (o : Option Point) → slice_get place.image.points from ≡ o → AllLosing (elim o [ None ↦ None | Some point ↦ way_of place (asked to reached) from point ]) to
+      by_point None e way is = absurd cc
+      by_point (Some point) e way is = of-losing to reached from point e way is
+
+  or-losing : (a b : Option Way) (to : ℕ) → AllLosing a to → AllLosing b to → AllLosing (or_way a b) to
+  or-losing None b to left right = right
+  or-losing (Some way) b to left right = left
+
+  first-losing : (to : ℕ) (reached : Bool) (n : ℕ) → AllLosing (first_way place (asked to reached) n) to
+  unfolding first_way
+  first-losing to reached zero = λ way is. absurd cc
+  first-losing to reached (suc n) =
+      let from = start_of place.image.routines place.r + n in
+      or-losing (first_way place (asked to reached) n) (way_at place (asked to reached) from) to (first-losing to reached n) (at-losing to reached from)
+
+  entry-losing : (to : ℕ) (reached : Bool) → AllLosing (entry_way place (asked to reached)) to
+  entry-losing to reached way is =
+      let entry = cond-some _ (Some Entry) way is in
+      subst (λ w. IsLosing w to) (some-same _ _ entry.1) tt
+
+  to-losing : (to : ℕ) (reached : Bool) → AllLosing (way_to place (asked to reached)) to
+  unfolding way_to
+  to-losing to reached = or-losing (entry_way place (asked to reached)) (first_way place (asked to reached) place.routine.count) to (entry-losing to reached) (first-losing to reached place.routine.count)
+
+  losing-losing : (to : ℕ) → AllLosing (losing place p to) to
+  unfolding losing
+  losing-losing to =
+      let reached = is_reached place.image place.pc in
+      or-losing (way_to place (asked to reached)) (way_to place (asked to (not reached))) to (to-losing to reached) (to-losing to (not reached))
+
+  -- ---- The search
+
+  abbrev LacksFrom : ℕ → Type 0
+  LacksFrom pc = (edges : List Edge) × LacksAlong place p pc edges
+
+  -- where ways meet
+  record Meets (trace : Trace) (m : Meeting) : Type 0 where
+    from : LacksFrom m.to
+    losing : IsLosing m.lost m.to
+    alike : trace.end ≡ None → IsAlike m.lost
+
+  record Sound (trace : Trace) : Type 0 where
+    found : Found trace.arrivals
+    passed : (k : ℕ) → Has trace.passed k → LacksFrom k
+    lost : (edge : Edge) → trace.lost ≡ Some edge → IsLost place p edge
+    meeting : (m : Meeting) → trace.meeting ≡ Some m → Meets trace m
+
+  meeting-is : (at : ℕ) (lost : Option Way) (m : Meeting) → meeting_at place p at lost ≡ Some m → (m.to ≡ at) × (lost ≡ Some m.lost)
+  meeting-is at None m e = absurd cc
+  meeting-is at (Some way) m e = by_known (bringing place p at) e
+    where
+      by_known : (o : Option Way) → elim o [ None ↦ None | Some known ↦ Some (record { to = at; known = known; lost = way }) ] ≡ Some m → (m.to ≡ at) × (Some way ≡ Some m.lost)
+      by_known None is = absurd cc
+      by_known (Some known) is =
+          let same = some-same _ _ is in
+          (sym (ap (λ (n : Meeting). n.to) same), sym (ap (λ (n : Meeting). Some n.lost) (sym same)))
+
+  -- where an end is none, control comes along the way
+  end-alike : (at : ℕ) (way : Way) → end_at place p at (Some way) ≡ None → IsAlike way
+  end-alike at Entry e = tt
+  end-alike at (Along edge) e = by_alike (comes_alike place edge.from) refl e
+    where
+      by_alike : (b : Bool) → comes_alike place edge.from ≡ b → cond b None (Some (Unreached edge.from)) ≡ None → comes_alike place edge.from ≡ true
+      by_alike true is none = is
+      by_alike false is none = absurd cc
+
+  or-none : (o other : Option End) → or_end o other ≡ None → o ≡ None
+  or-none None other e = refl
+  or-none (Some end) other e = absurd cc
+
+  pass-sound : (trace : Trace) → Sound trace → (at : ℕ) → LacksFrom at → Sound (passed place p trace at)
+  unfolding passed
+  pass-sound trace sound at from = by_meeting trace.meeting (meeting_at place p at (losing place p at)) refl refl
+    where
+      marks : (k : ℕ) → Has (marked trace.passed at) k → LacksFrom k
+      marks k h = elim (mark-was trace.passed at k h) [ inl same ↦ subst LacksFrom (sym same) from | inr was ↦ sound.passed k was ]
+
+      by_meeting : (before new : Option Meeting) → trace.meeting ≡ before → meeting_at place p at (losing place p at) ≡ new
+          → Sound (cond (is_none before && is_some (or_meeting before new))
+          (record trace { passed = marked trace.passed at; goes_on = true; found = true; meeting = or_meeting before new; end = end_at place p at (losing place p at) })
+          (record trace { passed = marked trace.passed at; goes_on = true; meeting = or_meeting before new; end = or_end trace.end (end_at place p at (losing place p at)) }))
+      by_meeting None None is_before is_new = record { found = sound.found; passed = marks; lost = sound.lost; meeting = λ m e. absurd cc }
+      by_meeting None (Some new) is_before is_new = record {
+        found = sound.found;
+        passed = marks;
+        lost = sound.lost;
+        meeting = λ m e.
+            (let same = some-same new m e in
+            let is = meeting-is at (losing place p at) m (is_new ∙ ap (λ n. Some n) same) in
+            record {
+              from = subst LacksFrom (sym is.0) from;
+              losing = subst (λ to. IsLosing m.lost to) (sym is.0) (losing-losing at m.lost is.1);
+              alike = λ none. end-alike at m.lost (ap (end_at place p at) (sym is.1) ∙ none);
+            });
+      }
+      by_meeting (Some m0) new is_before is_new = record {
+        found = sound.found;
+        passed = marks;
+        lost = sound.lost;
+        meeting = λ m e.
+            (let met = sound.meeting m (is_before ∙ e) in
+            record { from = met.from; losing = met.losing; alike = λ none. met.alike (or-none trace.end (end_at place p at (losing place p at)) none) });
+      }
+
+  by-sound : (trace : Trace) → Sound trace → (edge : Edge) (to : ℕ) (behind : LacksBehind place p edge to) → LacksFrom to → Sound (back_by place p trace edge behind.comes.point)
+  by-sound trace sound edge to behind from = by_loss (loses place.image (hint_at trace p edge.from) edge behind.comes.point) refl
+    where
+      by_loss : (b : Bool) → loses place.image (hint_at trace p edge.from) edge behind.comes.point ≡ b
+          → Sound (cond b (record trace { found = true; lost = Some edge }) (cond (is_marked trace.passed edge.from) trace (passed place p trace edge.from)))
+      by_loss true is = record {
+        found = sound.found;
+        passed = sound.passed;
+        lost = λ e same.
+            (let lost : IsLost place p edge = record {
+              to = to;
+              comes = behind.comes;
+              hint = arrival trace.arrivals edge.from;
+              known = hint-known trace.arrivals sound.found edge.from;
+              loses = is;
+              edges = from.0;
+              way = from.1;
+            } in
+            subst (λ x. IsLost place p x) (some-same edge e same) lost);
+        meeting = λ m e. (let met = sound.meeting m e in record { from = met.from; losing = met.losing; alike = met.alike });
+      }
+      by_loss false is = by_mark (is_marked trace.passed edge.from)
+        where
+          by_mark : (b : Bool) → Sound (cond b trace (passed place p trace edge.from))
+          by_mark true = sound
+          by_mark false = pass-sound trace sound edge.from (edge ∷ from.0, (refl, (to, behind, from.1)))
+
+  along-sound : (trace : Trace) → Sound trace → (edge : Edge) (point : Point) → slice_get place.image.points edge.from ≡ Some point → Sound (back_along place p trace edge point)
+  unfolding back_along
+  along-sound trace sound edge point there = by_test (not trace.found && lacks place p trace edge point) refl
+    where
+      by_test : (b : Bool) → (not trace.found && lacks place p trace edge point) ≡ b → Sound (cond b (back_by place p trace edge point) trace)
+      by_test true is =
+          let to = end_of edge point.instr in
+          let has = has_edge point.instr edge.branch in
+          let alike = comes_alike place edge.from in
+          let tests = and_parts (not trace.found) (lacks place p trace edge point) is in
+          let last = and_parts (is_marked trace.passed to && alike && has) (is_stale (pointer_at (after place.image edge.from point.row edge.branch) p)) tests.1 in
+          let third = and_parts (is_marked trace.passed to && alike) has last.0 in
+          let first = and_parts (is_marked trace.passed to) alike third.0 in
+          let mark = and_parts (nat_lt to 4096) (get_or trace.passed to false) first.0 in
+          let behind : LacksBehind place p edge to = record { comes = record { point = point; there = there; alike = first.1; has = third.1; ends = refl }; stale = last.1 } in
+          by-sound trace sound edge to behind (sound.passed to mark.1)
+      by_test false is = sound
+
+  from-sound : (trace : Trace) → Sound trace → (from : ℕ) → Sound (back_from place p trace from)
+  unfolding back_from
+  from-sound trace sound from = by_point (slice_get place.image.points from) refl
+    where
+      by_point : (o : Option Point) → slice_get place.image.points from ≡ o → Sound (elim o [
+        | None ↦ trace
+        | Some point ↦ back_along place p (back_along place p trace (record { from = from; branch = false }) point) (record { from = from; branch = true }) point
+      ])
+      by_point None e = sound
+      by_point (Some point) e =
+          let first = along-sound trace sound (record { from = from; branch = false }) point e in
+          along-sound (back_along place p trace (record { from = from; branch = false }) point) first (record { from = from; branch = true }) point e
+
+  over-sound : (trace : Trace) → Sound trace → (n : ℕ) → Sound (back_over place p trace n)
+  unfolding back_over
+  over-sound trace sound zero = sound
+  over-sound trace sound (suc n) =
+      let from = start_of place.image.routines place.r + n in
+      over-sound (back_from place p trace from) (from-sound trace sound from) n
+
+  -- what else was noted does not count
+  same-sound : (trace next : Trace) → Sound trace → next.arrivals ≡ trace.arrivals → ((k : ℕ) → Has next.passed k → Has trace.passed k) → next.lost ≡ trace.lost → next.meeting ≡ trace.meeting → next.end ≡ trace.end → Sound next
+  same-sound trace next sound arrivals passed lost meeting end = record {
+    found = subst Found (sym arrivals) sound.found;
+    passed = λ k h. sound.passed k (passed k h);
+    lost = λ edge e. sound.lost edge (sym lost ∙ e);
+    meeting = λ m e. (let met = sound.meeting m (sym meeting ∙ e) in record { from = met.from; losing = met.losing; alike = λ none. met.alike (sym end ∙ none) });
+  }
+
+  next-sound : (trace : Trace) → Sound trace → Sound (next_round place p trace)
+  next-sound trace sound = by_test trace.goes_on
+    where
+      by_test : (b : Bool) → Sound (cond b (back_over place p (record trace { goes_on = false }) place.routine.count) trace)
+      by_test true = over-sound (record trace { goes_on = false }) (same-sound trace (record trace { goes_on = false }) sound refl (λ k h. h) refl refl refl) place.routine.count
+      by_test false = sound
+
+  rounds-sound : (trace : Trace) → Sound trace → (n : ℕ) → Sound (rounds place p trace n)
+  unfolding rounds
+  rounds-sound trace sound zero = sound
+  rounds-sound trace sound (suc n) = next-sound (rounds place p trace n) (rounds-sound trace sound n)
+
+  begun-sound : Sound (begun place p)
+  begun-sound =
+      let start : Trace = record { arrivals = all_arrivals place p place.routine.count; passed = no_marks; goes_on = false; found = false; meeting = None; end = None; lost = None } in
+      let sound : Sound start = record {
+        found = all-found place.routine.count;
+        passed = λ k h. absurd (none-marked k h);
+        lost = λ edge e. absurd cc;
+        meeting = λ m e. absurd cc;
+      } in
+      pass-sound start sound place.pc ([], refl)
+
+  aside-sound : (trace : Trace) → Sound trace → (edge : Edge) (to : ℕ) → LacksBehind place p edge to → LacksFrom to → Sound (aside place p trace edge)
+  unfolding aside
+  aside-sound trace sound edge to behind from = rw (behind.comes.there, aside) (by-sound trace sound edge to behind from)
+
+  -- on from a meeting, where nothing else was passed
+  anew-sound : (trace : Trace) → Sound trace → (o : Option End) (way : Way) (to : ℕ) → (o ≡ None → IsAlike way) → IsLosing way to → LacksFrom to → Sound (cond (is_some o) trace (aside_by place p trace way))
+  anew-sound trace sound (Some end) way to alike losing from = sound
+  anew-sound trace sound None Entry to alike losing from = sound
+  anew-sound trace sound None (Along edge) to alike losing from = aside-sound trace sound edge to (losing (alike refl)) from
+
+  lost-sound : (trace : Trace) → Sound trace → (m : Meeting) → trace.meeting ≡ Some m → Sound (along_lost place p trace m.lost)
+  lost-sound trace sound m is =
+      let next : Trace = record trace { passed = no_marks; goes_on = false; found = is_some trace.end } in
+      let same : Sound next = same-sound trace next sound refl (λ k h. absurd (none-marked k h)) refl refl refl in
+      let met = sound.meeting m is in
+      anew-sound next same trace.end m.lost m.to met.alike met.losing met.from
+
+  traced-sound : Sound (traced place p)
+  traced-sound =
+      let first = rounds place p (begun place p) place.routine.count in
+      by_meeting first (rounds-sound (begun place p) begun-sound place.routine.count) first.meeting refl
+    where
+      by_meeting : (first : Trace) → Sound first → (o : Option Meeting) → first.meeting ≡ o → Sound (traced_by place p first o)
+      by_meeting first sound None e = sound
+      by_meeting first sound (Some m) e = rounds-sound (along_lost place p first m.lost) (lost-sound first sound m e) place.routine.count
+
+pub names-loss : NamesWhatLosesIt
+names-loss place p edge e = let sound = traced-sound place p in sound.lost edge e
