@@ -30,14 +30,14 @@ use std::io::Write;
 use vm_file::{Device, How};
 
 /// A call of a routine, on these words.
-#[derive(Clone, Copy, Debug, PartialEq, Eq)]
+#[derive(Clone, Copy)]
 pub struct Call {
     pub routine: u16,
     pub words: [u16; 8],
 }
 
 /// A command that may be carried out.
-#[derive(Clone, Copy, Debug, PartialEq, Eq)]
+#[derive(Clone, Copy)]
 pub enum Command {
     /// A call that the machine may be asked for.
     Call(Call),

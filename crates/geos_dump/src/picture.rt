@@ -24,7 +24,7 @@ pub const LEAST_WIDTH: u16 = 60;
 const FRONT: u16 = 25;
 
 /// How the bars of blocks are drawn.
-#[derive(Clone, Copy, Debug, PartialEq, Eq)]
+#[derive(Clone, Copy)]
 struct Scale {
     /// The size of the longest block, in bytes.
     longest: u16,

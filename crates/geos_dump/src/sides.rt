@@ -11,7 +11,7 @@ ghost use Rattle.geos_dump.specs.Sides.{IsEntryOf, IsOnlyRead, contents_on, dire
 use vm_file::{Device, Directory, Disk, Entry, MOST_BLOCKS, VmFile};
 
 /// One of the directories of a file.
-#[derive(Clone, Copy, Debug, PartialEq, Eq)]
+#[derive(Clone, Copy)]
 pub(crate) enum Side {
     Current,
     Saved,

@@ -17,7 +17,7 @@ pub struct TextRoutine {
 }
 
 /// Where the next line stands.
-#[derive(Clone, Copy, Debug, PartialEq, Eq)]
+#[derive(Clone, Copy)]
 pub(crate) enum Part {
     /// Before the first routine.
     Outside,
@@ -33,7 +33,7 @@ pub(crate) enum Part {
 }
 
 /// What is known of the lines so far, beside the routines that are complete and the code.
-#[derive(Clone, Copy, Debug, PartialEq, Eq)]
+#[derive(Clone, Copy)]
 pub(crate) struct Progress {
     pub part: Part,
     /// The routine that has begun, where the line that begins it has no fault.
