@@ -2,11 +2,11 @@
 
 ghost use Rattle.geos_shell.specs.Limits.{KeepsLimits};
 
+use crate::files::{draw_file, make_file, print_file};
+use crate::images::{assemble, check, explain, list};
+use crate::request_fault::RequestFault;
 use crate::running::{run, session};
 use geos_dump::Detail;
-use geos_requests::{
-    RequestFault, assemble, check, draw_file, explain, list, make_file, print_file,
-};
 use geos_shell::Request;
 
 /// Does what is asked for.

@@ -2,12 +2,14 @@
 
 ghost use Rattle.geos_shell.specs.Limits.{IsRegion};
 
+use crate::files::{Locked, lock_and_open, opened};
+use crate::request_fault::RequestFault;
 use geos_cli::{Counted, ScriptFault, run_script, run_session};
 use geos_kernel::Kernel;
-use geos_requests::{Locked, RequestFault, lock_and_open, opened};
 use geos_shell::{Sharing, read};
 use std::io;
 use std::io::{BufWriter, Write};
+use vm_file::{FileDevice, VmFile};
 
 /// Runs a session on the standard streams.
 pub(crate) fn session(rt: &HostRuntime) -> Result<(), ScriptFault> {
@@ -16,6 +18,30 @@ pub(crate) fn session(rt: &HostRuntime) -> Result<(), ScriptFault> {
         return Err(ScriptFault::Memory);
     };
     run_session(rt.alloc(), &mut input, &mut Counted::new(writer))
+}
+
+/// Runs a script with an image on an open VM file, with so many bytes for blocks in memory.
+fn run_on(
+    rt: &HostRuntime,
+    image: &[u8],
+    script: &[u8],
+    region: u32,
+    file: VmFile<FileDevice>,
+) -> Result<(), ScriptFault>
+    requires { IsRegion region }
+{
+    let Ok(mut kernel) = Kernel::new(rt.alloc(), region, file) else {
+        return Err(ScriptFault::Memory);
+    };
+    let Ok(writer) = BufWriter::new(rt.alloc(), io::writer(rt)) else {
+        return Err(ScriptFault::Memory);
+    };
+    let mut out = Counted::new(writer);
+    run_script(rt.alloc(), image, script, &mut kernel, &mut out)?;
+    match out.flush() {
+        Ok(()) => Ok(()),
+        Err(_) => Err(ScriptFault::Write),
+    }
 }
 
 /// Runs a script on a VM file, with so many bytes for blocks in memory. The words are gone through
@@ -36,16 +62,5 @@ pub(crate) fn run<'a>(
     } = lock_and_open(rt, file, Sharing::Alone)?;
     let file = opened(rt, device)?;
     let script = read(rt, script)?;
-    let Ok(mut kernel) = Kernel::new(rt.alloc(), region, file) else {
-        return Err(RequestFault::Session(ScriptFault::Memory));
-    };
-    let Ok(writer) = BufWriter::new(rt.alloc(), io::writer(rt)) else {
-        return Err(RequestFault::Session(ScriptFault::Memory));
-    };
-    let mut out = Counted::new(writer);
-    run_script(rt.alloc(), &image, &script, &mut kernel, &mut out)?;
-    match out.flush() {
-        Ok(()) => Ok(()),
-        Err(_) => Err(RequestFault::Session(ScriptFault::Write)),
-    }
+    Ok(run_on(rt, &image, &script, region, file)?)
 }

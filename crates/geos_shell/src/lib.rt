@@ -4,14 +4,18 @@
 //! It knows nothing of images, so that it is proved beside the crates that do, and not after them.
 #![tactic(auto)]
 
+mod answer;
 mod command_line;
 mod help;
 mod locks;
+mod misuse;
 mod numbers;
 mod replace;
 mod request;
 mod streams;
 
+pub use answer::Answer;
+pub use command_line::words;
 pub use locks::{FileLock, Sharing};
 pub use request::{Request, requested};
 pub use streams::{StreamFault, print, read, write};

@@ -1,8 +1,9 @@
 //! The numbers that commands may be given.
 
-ghost use Rattle.std.specs.Prelude.{◌≢◌, IfSome};
+ghost use Rattle.std.specs.Prelude.{◌≢◌, IfOk};
 ghost use Rattle.geos_shell.specs.Limits.{IsWithin};
 
+use crate::misuse::Misuse;
 use clap::ArgMatches;
 
 /// A number behind `--name`: what it is, its limits, and what it is where it is not given.
@@ -49,15 +50,16 @@ pub(crate) const WIDTH: Number = Number {
 
 impl Number {
     /// What the words give for it, if that is within its limits.
-    pub(crate) fn of<'a>(&self, words: &ArgMatches<'a>) -> Option<u32>
+    pub(crate) fn of<'a>(&self, words: &ArgMatches<'a>) -> Result<u32, Misuse>
         requires { self.now.unit ≢ 0 }
-        ensures { IfSome result (IsWithin self.now) }
+        ensures { IfOk result (IsWithin self.now) }
     {
-        let n = words.get_one::<u32>(self.name)?;
-        if self.least <= n && n <= self.most && n % self.unit == 0 {
-            Some(n)
-        } else {
-            None
+        match words.get_one::<u32>(self.name) {
+            Some(n) if self.least <= n && n <= self.most && n % self.unit == 0 => Ok(n),
+            _ => Err(Misuse::NoMultiple {
+                name: self.name,
+                unit: self.unit,
+            }),
         }
     }
 }

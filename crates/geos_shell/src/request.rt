@@ -3,11 +3,12 @@
 ghost use Rattle.std.specs.Prelude.{IfOk};
 ghost use Rattle.geos_shell.specs.Limits.{KeepsLimits};
 
-use crate::command_line::command;
-use crate::numbers::{AREA, Number, REGION, WIDTH};
+use crate::answer::Answer;
+use crate::command_line::matches_of;
+use crate::misuse::Misuse;
+use crate::numbers::{AREA, REGION, WIDTH};
 use crate::streams::is_stream;
-use clap::error::ErrorKind;
-use clap::{ArgMatches, Error};
+use clap::ArgMatches;
 use std::alloc::Global;
 
 /// What the words on the command line ask for. A path of `-` is a standard stream, but that of a VM
@@ -56,28 +57,15 @@ fn word<'a>(words: &ArgMatches<'a>, name: &str) -> &'a str {
     words.get_str(name).unwrap_or("")
 }
 
-/// Why words that `clap` takes ask for nothing.
-#[derive(Drop)]
-enum Misuse {
-    /// A number is not within its limits.
-    Number(Number),
-    /// Two words name the standard input.
-    TwoOfOneStream,
-}
-
-impl Misuse {
-    /// What is wrong, as a text.
-    fn message(&self, alloc: Global) -> Result<String, Error> {
-        Ok(match self {
-            Misuse::Number(number) => {
-                let (name, unit) = (number.name, number.unit);
-                format!(in alloc; "the number of '--{name}' is no multiple of {unit}")?
-            }
-            Misuse::TwoOfOneStream => {
-                String::from_str(alloc, "only one of IMAGE and SCRIPT is the standard input")?
-            }
-        })
-    }
+/// What a `new` asks for.
+fn new_of<'a>(words: &ArgMatches<'a>) -> Result<Request<'a>, Misuse>
+    ensures { IfOk result KeepsLimits }
+{
+    let area = AREA.of(words)?;
+    Ok(Request::New {
+        file: word(words, "FILE"),
+        area,
+    })
 }
 
 /// What a `run` asks for.
@@ -88,12 +76,43 @@ fn run_of<'a>(words: &ArgMatches<'a>) -> Result<Request<'a>, Misuse>
     if is_stream(image) && is_stream(script) {
         return Err(Misuse::TwoOfOneStream);
     }
+    let region = REGION.of(words)?;
     Ok(Request::Run {
         image,
         file: word(words, "FILE"),
         script,
-        region: REGION.of(words).ok_or(Misuse::Number(REGION))?,
+        region,
     })
+}
+
+/// What a `map` asks for.
+fn map_of<'a>(words: &ArgMatches<'a>) -> Result<Request<'a>, Misuse>
+    ensures { IfOk result KeepsLimits }
+{
+    let width = WIDTH.of(words)?;
+    Ok(Request::Map {
+        file: word(words, "FILE"),
+        width,
+    })
+}
+
+/// What a command without a number asks for.
+fn unnumbered_of<'a>(name: &str, words: &ArgMatches<'a>) -> Request<'a>
+    ensures { KeepsLimits result }
+{
+    match name {
+        "asm" => Request::Assemble {
+            text: word(words, "IN"),
+            image: word(words, "OUT"),
+        },
+        "list" => Request::List(word(words, "IMAGE")),
+        "check" => Request::Check(word(words, "IMAGE")),
+        "dump" => Request::Dump {
+            file: word(words, "FILE"),
+            chunks: words.get_flag("chunks"),
+        },
+        _ => Request::Explain(word(words, "IMAGE")),
+    }
 }
 
 /// What the words ask for.
@@ -103,42 +122,24 @@ fn request_of<'a>(matches: &ArgMatches<'a>) -> Result<Request<'a>, Misuse>
     let Some((name, words)) = matches.subcommand() else {
         return Ok(Request::Session);
     };
-    Ok(match name {
-        "asm" => Request::Assemble {
-            text: word(words, "IN"),
-            image: word(words, "OUT"),
-        },
-        "list" => Request::List(word(words, "IMAGE")),
-        "check" => Request::Check(word(words, "IMAGE")),
-        "new" => Request::New {
-            file: word(words, "FILE"),
-            area: AREA.of(words).ok_or(Misuse::Number(AREA))?,
-        },
-        "run" => run_of(words)?,
-        "dump" => Request::Dump {
-            file: word(words, "FILE"),
-            chunks: words.get_flag("chunks"),
-        },
-        "map" => Request::Map {
-            file: word(words, "FILE"),
-            width: WIDTH.of(words).ok_or(Misuse::Number(WIDTH))?,
-        },
-        _ => Request::Explain(word(words, "IMAGE")),
-    })
+    match name {
+        "new" => new_of(words),
+        "run" => run_of(words),
+        "map" => map_of(words),
+        _ => Ok(unnumbered_of(name, words)),
+    }
 }
 
-/// What the words behind the program's name ask for. An error has the help that they ask for, or
-/// says what is wrong with them; its kind is `OutOfMemory` where an allocation is refused.
-pub fn requested<'a>(alloc: Global, words: &'a [String]) -> Result<Request<'a>, Error>
+/// What the words behind the program's name ask for. An error is what they are answered where they
+/// ask for nothing to be done.
+pub fn requested<'a>(alloc: Global, words: &'a [String]) -> Result<Request<'a>, Answer>
     ensures { IfOk result KeepsLimits }
 {
-    let mut program = command(alloc)?;
-    let matches = program.try_get_matches_from_mut(words)?;
-    match request_of(&matches) {
-        Ok(request) => Ok(request),
-        Err(misuse) => {
-            let message = misuse.message(alloc)?;
-            Err(program.error(ErrorKind::ValueValidation, &message)?)
-        }
+    match matches_of(alloc, words) {
+        Ok(matches) => match request_of(&matches) {
+            Ok(request) => Ok(request),
+            Err(misuse) => Err(misuse.answer(alloc)),
+        },
+        Err(error) => Err(Answer::of(alloc, &error)),
     }
 }

@@ -12,7 +12,7 @@ use vm_file::{CreateError, OpenError};
 
 /// Why a request was not carried out.
 #[derive(Debug, Drop, Error)]
-pub enum RequestFault<'a> {
+pub(crate) enum RequestFault<'a> {
     /// What a path names was not read or written.
     #[error(transparent)]
     Stream(#[from] StreamFault<'a>),

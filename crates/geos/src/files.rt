@@ -11,7 +11,11 @@ use vm_file::{Disk, FileDevice, VmFile};
 
 /// Makes a VM file with areas of so many bytes. What is at the path already stays as it is, and
 /// nothing is left there where no file is made.
-pub fn make_file<'a>(rt: &HostRuntime, path: &'a str, area: u32) -> Result<(), RequestFault<'a>>
+pub(crate) fn make_file<'a>(
+    rt: &HostRuntime,
+    path: &'a str,
+    area: u32,
+) -> Result<(), RequestFault<'a>>
     requires { IsArea area }
 {
     let len = 1_024 + 2 * u64::from(area);
@@ -29,16 +33,16 @@ pub fn make_file<'a>(rt: &HostRuntime, path: &'a str, area: u32) -> Result<(), R
 
 /// A device on the file with a path, and the lock on it.
 #[derive(Drop)]
-pub struct Locked {
+pub(crate) struct Locked {
     /// The device.
-    pub device: FileDevice,
+    pub(crate) device: FileDevice,
     /// The lock.
-    pub lock: FileLock,
+    pub(crate) lock: FileLock,
 }
 
 /// Waits for the file's lock and opens it: to work on it alone, or to read it as others may
 /// meanwhile.
-pub fn lock_and_open<'a>(
+pub(crate) fn lock_and_open<'a>(
     rt: &HostRuntime,
     path: &'a str,
     sharing: Sharing,
@@ -55,7 +59,7 @@ pub fn lock_and_open<'a>(
 }
 
 /// Opens the VM file that a device holds.
-pub fn opened<'a>(
+pub(crate) fn opened<'a>(
     rt: &HostRuntime,
     device: FileDevice,
 ) -> Result<VmFile<FileDevice>, RequestFault<'a>>
@@ -68,7 +72,7 @@ pub fn opened<'a>(
 }
 
 /// Prints what a VM file keeps.
-pub fn print_file<'a>(
+pub(crate) fn print_file<'a>(
     rt: &HostRuntime,
     path: &'a str,
     detail: Detail,
@@ -83,7 +87,11 @@ pub fn print_file<'a>(
 }
 
 /// Draws a VM file in so many columns.
-pub fn draw_file<'a>(rt: &HostRuntime, path: &'a str, width: u32) -> Result<(), RequestFault<'a>>
+pub(crate) fn draw_file<'a>(
+    rt: &HostRuntime,
+    path: &'a str,
+    width: u32,
+) -> Result<(), RequestFault<'a>>
     requires { IsWidth width }
 {
     let Locked {

@@ -9,7 +9,7 @@ use geos_asm::AssembleError;
 use geos_shell::{print, read, write};
 
 /// Makes the image of a text.
-pub fn assemble<'a>(
+pub(crate) fn assemble<'a>(
     rt: &HostRuntime,
     text: &'a str,
     image: &'a str,
@@ -20,14 +20,14 @@ pub fn assemble<'a>(
 }
 
 /// Prints the listing of an image.
-pub fn list<'a>(rt: &HostRuntime, path: &'a str) -> Result<(), RequestFault<'a>> {
+pub(crate) fn list<'a>(rt: &HostRuntime, path: &'a str) -> Result<(), RequestFault<'a>> {
     let bytes = read(rt, path)?;
     let text = list_bytes(rt.alloc(), &bytes)?;
     Ok(print(rt, &text)?)
 }
 
 /// Prints `accepted` where the image may run.
-pub fn check<'a>(rt: &HostRuntime, path: &'a str) -> Result<(), RequestFault<'a>> {
+pub(crate) fn check<'a>(rt: &HostRuntime, path: &'a str) -> Result<(), RequestFault<'a>> {
     let bytes = read(rt, path)?;
     check_bytes(rt.alloc(), &bytes)?;
     Ok(print(rt, b"accepted\n")?)
@@ -58,7 +58,7 @@ fn explained<'a>(rt: &HostRuntime, bytes: &[u8]) -> Result<Explained, RequestFau
 
 /// Prints the listing of the image, or the lines of the text, with what is known at each instruction; then says where
 /// the image is refused, if it is.
-pub fn explain<'a>(rt: &HostRuntime, path: &'a str) -> Result<(), RequestFault<'a>> {
+pub(crate) fn explain<'a>(rt: &HostRuntime, path: &'a str) -> Result<(), RequestFault<'a>> {
     let bytes = read(rt, path)?;
     let explained = explained(rt, &bytes)?;
     print(rt, &explained.text)?;

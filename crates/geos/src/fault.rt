@@ -6,7 +6,7 @@ use thiserror::Error;
 
 /// Why the bytes are no image that may run.
 #[derive(Debug, Drop, Error)]
-pub enum CheckFault {
+pub(crate) enum CheckFault {
     /// They are no image: the fault is at this offset.
     #[error("bad image at {0}")]
     BadImage(usize),
@@ -20,7 +20,7 @@ pub enum CheckFault {
 
 impl From<ReadError> for CheckFault {
     ghost use Rattle.std.specs.Prelude.{◌≡◌};
-    ghost use Rattle.geos_requests.specs.Commands.{of_read};
+    ghost use Rattle.geos.specs.Commands.{of_read};
 
     ghost from_gives = { λ error fault. fault ≡ of_read error };
 

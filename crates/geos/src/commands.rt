@@ -3,7 +3,7 @@
 ghost use Rattle.std.specs.Prelude.{◌≡◌, IfOk, IfErr};
 ghost use Rattle.geos_asm.specs.Assembling.{IsWhyNoImage};
 ghost use Rattle.geos_image.specs.Reading.{image_at, Fails};
-ghost use Rattle.geos_requests.specs.Commands.{IsAssembledAs, IsListed, IsAccepted, IsDue, IsExplained, IsExplainedText, IsCauseTold, begins_as_image};
+ghost use Rattle.geos.specs.Commands.{IsAssembledAs, IsListed, IsAccepted, IsDue, IsExplained, IsExplainedText, IsCauseTold, begins_as_image};
 
 use crate::fault::CheckFault;
 use geos_asm::{AssembleError, assemble, list, why_no_rows};
@@ -15,7 +15,7 @@ use geos_verify::{Reject, check};
 use std::alloc::Global;
 
 /// The bytes of the image of an assembly text. Its faults are those of `geos_asm::assemble`.
-pub fn assemble_bytes(alloc: Global, text: &[u8]) -> Result<Vec<u8>, AssembleError>
+pub(crate) fn assemble_bytes(alloc: Global, text: &[u8]) -> Result<Vec<u8>, AssembleError>
     ensures assembled { IfOk result (λ bytes. IsAssembledAs text.now bytes.items) }
     ensures fault { IfErr result (IsWhyNoImage text.now) }
 {
@@ -24,7 +24,7 @@ pub fn assemble_bytes(alloc: Global, text: &[u8]) -> Result<Vec<u8>, AssembleErr
 }
 
 /// The listing of the image that the bytes spell. `ReadError::BadImage` where they spell none.
-pub fn list_bytes(alloc: Global, bytes: &[u8]) -> Result<Vec<u8>, ReadError>
+pub(crate) fn list_bytes(alloc: Global, bytes: &[u8]) -> Result<Vec<u8>, ReadError>
     ensures listed { IfOk result (λ text. IsListed bytes.now text.items) }
     ensures fault { IfErr result (λ fault. Fails fault (image_at bytes.now)) }
 {
@@ -33,7 +33,7 @@ pub fn list_bytes(alloc: Global, bytes: &[u8]) -> Result<Vec<u8>, ReadError>
 }
 
 /// Whether the bytes spell an image that the verifier accepts; if not, why.
-pub fn check_bytes(alloc: Global, bytes: &[u8]) -> Result<(), CheckFault>
+pub(crate) fn check_bytes(alloc: Global, bytes: &[u8]) -> Result<(), CheckFault>
     ensures accepted { IfOk result (λ _. IsAccepted bytes.now) }
     ensures due { IfErr result (IsDue bytes.now) }
 {
@@ -46,17 +46,17 @@ pub fn check_bytes(alloc: Global, bytes: &[u8]) -> Result<(), CheckFault>
 
 /// What there is to say of an image, or of a text.
 #[derive(Drop)]
-pub struct Explained {
+pub(crate) struct Explained {
     /// The listing with what is known at each instruction, and what is wrong where the image is
     /// refused.
-    pub text: Vec<u8>,
+    pub(crate) text: Vec<u8>,
     /// The first refusal, if the verifier refuses the image.
-    pub reject: Option<Reject>,
+    pub(crate) reject: Option<Reject>,
 }
 
 /// The listing of the image that the bytes spell, with what is known at each instruction; and
 /// whether the verifier accepts it. `ReadError::BadImage` where they spell none.
-pub fn explain_bytes(alloc: Global, bytes: &[u8]) -> Result<Explained, ReadError>
+pub(crate) fn explain_bytes(alloc: Global, bytes: &[u8]) -> Result<Explained, ReadError>
     ensures explained { IfOk result (λ explained. IsExplained bytes.now explained.text.items explained.reject) }
     ensures fault { IfErr result (λ fault. Fails fault (image_at bytes.now)) }
 {
@@ -74,7 +74,7 @@ pub fn explain_bytes(alloc: Global, bytes: &[u8]) -> Result<Explained, ReadError
 }
 
 /// Whether bytes are read as an image: they begin as one does.
-pub fn begins_as_image(bytes: &[u8]) -> bool
+pub(crate) fn begins_as_image(bytes: &[u8]) -> bool
     ensures { result ≡ begins_as_image bytes.now }
 {
     bytes.starts_with(b"GRT1")
@@ -82,7 +82,7 @@ pub fn begins_as_image(bytes: &[u8]) -> bool
 
 /// The lines of a text that assembles, with what is known at each instruction; and whether the verifier accepts its
 /// image. The faults are those of `geos_asm::assemble`.
-pub fn explain_text_bytes(alloc: Global, text: &[u8]) -> Result<Explained, AssembleError>
+pub(crate) fn explain_text_bytes(alloc: Global, text: &[u8]) -> Result<Explained, AssembleError>
     ensures explained { IfOk result (λ explained. IsExplainedText text.now explained.text.items explained.reject) }
     ensures fault { IfErr result (IsWhyNoImage text.now) }
 {
@@ -102,7 +102,7 @@ pub fn explain_text_bytes(alloc: Global, text: &[u8]) -> Result<Explained, Assem
 
 /// Why no rows are found for the text, in a line of words, where `assemble` answers `NoRows(line)`; nothing where no
 /// routine begins at the line. The errors are those of `assemble`, but for `NoRows`.
-pub fn cause_bytes(alloc: Global, text: &[u8], line: usize) -> Result<Vec<u8>, AssembleError>
+pub(crate) fn cause_bytes(alloc: Global, text: &[u8], line: usize) -> Result<Vec<u8>, AssembleError>
     ensures { IfOk result (λ told. IsCauseTold text.now line told.items) }
 {
     let lines = lines_of_instrs(alloc, text)?;

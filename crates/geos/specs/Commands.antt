@@ -14,8 +14,8 @@ use Rattle.geos_source.specs.InstrLines.{instr_lines}
 use Rattle.geos_causes.specs.Causes.{cause_text}
 use Rattle.geos_infer.specs.declared.cause.Cause.{Cause}
 use Rattle.geos_asm.specs.Assembling.{IsAssembled, IsTextOf, IsCauseOf}
-use Rattle.geos_requests.specs.declared.fault.CheckFault.{CheckFault}
-use Rattle.geos_requests.specs.declared.fault.CheckFault.TheVariants.{BadImage, Rejected, Memory}
+use Rattle.geos.specs.declared.fault.CheckFault.{CheckFault}
+use Rattle.geos.specs.declared.fault.CheckFault.TheVariants.{BadImage, Rejected, Memory}
 
 -- the bytes spell an image that is one of the text
 abbrev pub IsAssembledAs : List ℕ → List ℕ → Type 0

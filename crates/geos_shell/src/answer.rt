@@ -1,0 +1,60 @@
+//! What words are answered that ask for nothing to be done.
+
+use crate::streams::{StreamFault, print};
+use clap::Error;
+use clap::error::ErrorKind;
+use std::alloc::Global;
+use std::process::ExitCode;
+
+/// The status where the words on the command line are wrong.
+const USAGE: u8 = 2;
+
+/// What words are answered that ask for nothing to be done.
+#[derive(Drop)]
+pub enum Answer {
+    /// The help, or the version, that they ask for.
+    Text(String),
+    /// What is wrong with them.
+    Misuse(String),
+    /// One of them is no text.
+    NotText,
+    /// An allocation was refused.
+    Memory,
+}
+
+impl Answer {
+    /// What `clap` says of the words.
+    pub(crate) fn of(alloc: Global, error: &Error) -> Answer {
+        if error.kind() == ErrorKind::OutOfMemory {
+            return Answer::Memory;
+        }
+        match format!(in alloc; "{error}") {
+            Ok(text) if error.use_stderr() => Answer::Misuse(text),
+            Ok(text) => Answer::Text(text),
+            Err(_) => Answer::Memory,
+        }
+    }
+
+    /// Prints it, on standard error where something is wrong with the words, and gives the program's
+    /// status. An error where the text that was asked for is not printed, and for `Answer::Memory`.
+    pub fn print<'a>(&self, rt: &HostRuntime) -> Result<ExitCode, StreamFault<'a>> {
+        match self {
+            Answer::Text(text) => match print(rt, text.as_bytes()) {
+                Ok(()) => Ok(ExitCode::SUCCESS),
+                Err(fault) => Err(fault),
+            },
+            Answer::Misuse(text) => {
+                // Where standard error fails, the status alone tells.
+                let _ = eprint!(rt; "{text}");
+                Ok(ExitCode::from(USAGE))
+            }
+            Answer::NotText => {
+                let _ = eprintln!(rt;
+                    "error: a word on the command line is no text: it is not UTF-8"
+                );
+                Ok(ExitCode::from(USAGE))
+            }
+            Answer::Memory => Err(StreamFault::Memory),
+        }
+    }
+}
