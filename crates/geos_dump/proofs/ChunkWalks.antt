@@ -7,7 +7,7 @@ use Rattle.std.proofs.lemmas.List.{append-nil}
 use Rattle.geos_model.specs.Chunks.{bytes_of, chunk_of, entry_of}
 use Rattle.geos_model.proofs.ChunkItems.{chunk-known, known-bytes}
 use Rattle.lmem_block.specs.Found.{IsLast, IsNext}
-use Rattle.vm_file.proofs.HeapTests.{both}
+use Rattle.geos_model.proofs.HeapTests.{both}
 use Rattle.vm_file.proofs.ReadLaws.{leb-le}
 use Rattle.std.proofs.lemmas.Bool.{eqb-true}
 use Rattle.geos_dump.specs.DumpText.{Chunk, chunks_from}

@@ -2,6 +2,7 @@ pub mod Parts
 pub mod Words
 pub mod Costs
 pub mod Pieces
+pub mod HeapTests
 pub mod Entries
 pub mod Nexts
 pub mod Sums

@@ -3,6 +3,7 @@ pub mod Bytes
 pub mod Chunks
 pub mod Block
 pub mod Heap
+pub mod HeapTest
 pub mod Writes
 pub mod Refusals
 pub mod Arrays

@@ -24,7 +24,7 @@ use Rattle.vm_file.specs.Reading.{area_of, base_of, pair_at}
 use Rattle.vm_file.specs.Spelling.{empty_contents}
 use Rattle.vm_file.specs.State.{bytes_of_block, pair_of}
 use Rattle.vm_file.proofs.DirectoryLaws.{found_entry, legal_from}
-use Rattle.vm_file.proofs.HeapTests.{both}
+use Rattle.geos_model.proofs.HeapTests.{both}
 use Rattle.vm_file.proofs.ReadLaws.{pair_ok}
 use Rattle.vm_blocks.specs.declared.entries.Held.{Held}
 use Rattle.vm_blocks.specs.View.{VmState, bytes_read, held_at, vm_slot}

@@ -15,7 +15,7 @@ use Rattle.vm_file.specs.Committing.{block_from}
 use Rattle.vm_file.specs.Directories.{are_entries, has_block, has_group, is_directory, is_entry}
 use Rattle.vm_file.specs.State.{HasBlock, bytes_of_block}
 use Rattle.vm_file.proofs.DirectoryLaws.{bytes_found, legal_to}
-use Rattle.vm_file.proofs.HeapTests.{and-true}
+use Rattle.geos_model.proofs.HeapTests.{and-true}
 use Rattle.vm_blocks.specs.declared.entries.Held.{Held}
 use Rattle.vm_blocks.specs.View.{VmState, held_at, vm_slot}
 use Rattle.vm_blocks.specs.Tied.{IsTied, TiedAt}

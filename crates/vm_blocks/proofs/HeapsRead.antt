@@ -12,7 +12,7 @@ use Rattle.geos_table.specs.Legal.{AreBytes, IsChunk, IsLegalHeap}
 use Rattle.geos_table.proofs.LegalBlocks.{new_heap-legal}
 use Rattle.geos_table.proofs.LegalGiven.{can_hold-legal}
 use Rattle.geos_table.proofs.LegalHeaps.{heap-legal}
-use Rattle.vm_file.proofs.HeapTests.{and-true}
+use Rattle.geos_model.proofs.HeapTests.{and-true}
 use Rattle.vm_blocks.specs.Spelled.{heap_in, heap_read, empty_heap}
 
 -- A test of a list holds where it holds of each item

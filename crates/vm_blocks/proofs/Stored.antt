@@ -18,7 +18,7 @@ use Rattle.vm_file.specs.Contents.{Block, Pair, listed}
 use Rattle.vm_file.specs.Directories.{is_directory, directory_length, entries_length, are_entries, is_entry}
 use Rattle.vm_file.specs.State.{bytes_of_block}
 use Rattle.vm_file.proofs.DirectoryLaws.{behind_from, legal_from, none_below, HasNone}
-use Rattle.vm_file.proofs.HeapTests.{both}
+use Rattle.geos_model.proofs.HeapTests.{both}
 use Rattle.vm_blocks.specs.Matches.{IsStoredBlock, IsStoredAs, IsDirectoryOf, IsPairOf, entry_at, stored_block, stored_directory, stored, stored_pair}
 use Rattle.vm_blocks.proofs.HeapsRead.{read-size}
 use Rattle.vm_blocks.proofs.Tables.{table-made, table-same}

@@ -9,7 +9,7 @@ use Rattle.vm_file.specs.declared.directory.Entry.{Entry}
 use Rattle.vm_file.specs.Directories.{are_entries, is_entry}
 use Rattle.geos_model.specs.Heap.{is_block_size}
 use Rattle.vm_file.proofs.DirectoryLaws.{behind_from, find_behind, find_here, none_below}
-use Rattle.vm_file.proofs.HeapTests.{and-true, both}
+use Rattle.geos_model.proofs.HeapTests.{and-true, both}
 use Rattle.vm_blocks.specs.declared.entries.Held.{Held}
 use Rattle.vm_blocks.specs.Listed.{as_held}
 use Rattle.vm_blocks.proofs.Stored.{not-found}

@@ -12,7 +12,7 @@ use Rattle.vm_file.specs.declared.directory.Entry.{Entry}
 use Rattle.vm_file.specs.Committing.{Shows}
 use Rattle.vm_file.specs.Contents.{Block, block_spelling, is_filled}
 use Rattle.vm_file.specs.Directories.{entries_length}
-use Rattle.vm_file.proofs.HeapTests.{both, heap-sound}
+use Rattle.geos_model.proofs.HeapTests.{both, heap-sound}
 use Rattle.vm_file.proofs.Lengths.{entries_length-more}
 
 -- what a source shows is what is resident

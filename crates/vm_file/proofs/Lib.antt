@@ -1,7 +1,6 @@
 pub mod Touches
 pub mod Moments
 pub mod FaultLaws
-pub mod HeapTests
 pub mod FileExamples
 pub mod ReadLaws
 pub mod SpellLaws

@@ -9,7 +9,7 @@ use Rattle.vm_file.specs.Device.{Only, Touched}
 use Rattle.vm_file.specs.Reading.{header_at, pair_at, file_at, is_area, File}
 use Rattle.vm_file.specs.Spelling.{header_spelling, new_file, empty_contents, empty_pair}
 use Rattle.vm_file.specs.State.{FileState, IsSound}
-use Rattle.vm_file.proofs.HeapTests.{both}
+use Rattle.geos_model.proofs.HeapTests.{both}
 use Rattle.vm_file.proofs.ReadLaws.{leb-le}
 use Rattle.vm_file.proofs.SpellLaws.{goes, wanted_is, pair_again}
 use Rattle.vm_file.proofs.StateLaws.{FileParts, file_from}

@@ -10,7 +10,7 @@ use Rattle.vm_file.specs.Directories.{entries_length, may_be_map_block, may_be_m
 use Rattle.geos_model.specs.Heap.{is_block_size}
 use Rattle.vm_file.specs.Laws.{PairsHaveOneSpelling, is_pair}
 use Rattle.vm_file.specs.Reading.{block_at, blocks_at, bytes_at, contents_at, count_at, head_at, maps_at, pair_at, wanted, word_at}
-use Rattle.vm_file.proofs.HeapTests.{and-true, both}
+use Rattle.geos_model.proofs.HeapTests.{and-true, both}
 use Rattle.vm_file.proofs.ReadLaws.{after, blocks_ok, bytes_ok, ok_is, pair_ok, wanted_ok, word_ok}
 use Rattle.vm_file.proofs.SpellLaws.{pair_again}
 

@@ -16,7 +16,7 @@ use Rattle.vm_file.specs.Directories.{is_directory, is_entry, are_entries, direc
 use Rattle.vm_file.specs.Reading.{base_of, area_of}
 use Rattle.vm_file.specs.State.{FileState, IsSound, HasBlock, pair_of, bytes_of_block, place_in}
 use Rattle.vm_file.proofs.BlockLaws.{block_there, current_there, current_heap, saved_there}
-use Rattle.vm_file.proofs.HeapTests.{both, and-true, heap-complete}
+use Rattle.geos_model.proofs.HeapTests.{both, and-true, heap-complete}
 
 -- nothing is resident
 abbrev pub nothing : ℕ → Option (List ℕ)

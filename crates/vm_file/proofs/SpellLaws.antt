@@ -8,11 +8,11 @@ use Rattle.geos_model.specs.Bytes.{word, word_bytes}
 use Rattle.geos_model.specs.Block.{handle_word}
 use Rattle.vm_file.specs.declared.directory.Entry.{Entry}
 use Rattle.geos_model.specs.Heap.{is_block_size}
-use Rattle.vm_file.specs.Heaps.{is_heap}
+use Rattle.geos_model.specs.HeapTest.{is_heap}
 use Rattle.vm_file.specs.Directories.{is_entry, are_entries, entries_length, may_be_map_block, may_be_map_group, may_be_map_item}
 use Rattle.vm_file.specs.Contents.{Block, Contents, Pair, entry_of, is_filled, is_contents, contents_length, block_spelling, contents_spelling, pair_spelling}
 use Rattle.vm_file.specs.Reading.{◌>>=◌, wanted, word_at, head_at, bytes_at, block_at, blocks_at, maps_at, contents_at, pair_at}
-use Rattle.vm_file.proofs.HeapTests.{both, and-true, le-leb, lt-ltb}
+use Rattle.geos_model.proofs.HeapTests.{both, and-true, le-leb, lt-ltb}
 use Rattle.vm_file.proofs.ReadLaws.{leb-le}
 
 -- reading goes on

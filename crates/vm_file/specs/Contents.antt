@@ -6,7 +6,7 @@ use Rattle.geos_model.specs.Bytes.{word_bytes}
 use Rattle.geos_model.specs.Block.{handle_word}
 use Rattle.vm_file.specs.declared.directory.Entry.{Entry}
 use Rattle.vm_file.specs.declared.directory.Directory.{Directory}
-use Rattle.vm_file.specs.Heaps.{is_heap}
+use Rattle.geos_model.specs.HeapTest.{is_heap}
 use Rattle.vm_file.specs.Directories.{is_directory, directory_length}
 
 -- a block: its handle, its user ID and its bytes

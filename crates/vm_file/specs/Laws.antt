@@ -1,9 +1,7 @@
 -- What holds of the definitions, whatever a device holds.
-use Rattle.std.specs.Prelude.{◌≡◌, ◌↔◌, ℕ, ◌&&◌, Bool, true, List, take, Ok}
+use Rattle.std.specs.Prelude.{◌≡◌, ◌↔◌, ℕ, ◌&&◌, Bool, List, take, Ok, true}
 use Rattle.geos_model.specs.Bytes.{AreBytes}
-use Rattle.geos_model.specs.Heap.{IsHeap}
 use Rattle.vm_file.specs.Contents.{Pair, is_contents, pair_length, pair_spelling}
-use Rattle.vm_file.specs.Heaps.{is_heap}
 use Rattle.vm_file.specs.Reading.{pair_at}
 
 -- both directories are legal, and their blocks heaps under their handles
@@ -14,7 +12,3 @@ is_pair p = is_contents p.cur && is_contents p.saved
 abbrev pub PairsHaveOneSpelling : Type 0
 PairsHaveOneSpelling =
     (at : ℕ) (bytes : List ℕ) (p : Pair) → AreBytes bytes → (pair_at at bytes ≡ Ok p) ↔ ((is_pair p ≡ true) × (take (pair_length p) bytes ≡ pair_spelling p))
-
--- the test of reading says yes exactly of a heap
-abbrev pub HeapTestIsExact : Type 0
-HeapTestIsExact = (bytes : List ℕ) → (is_heap bytes ≡ true) ↔ IsHeap bytes

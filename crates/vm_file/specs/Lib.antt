@@ -2,7 +2,6 @@ pub mod Device
 pub mod Memory
 pub mod Faulty
 pub mod DiskFile
-pub mod Heaps
 pub mod Directories
 pub mod Contents
 pub mod Reading

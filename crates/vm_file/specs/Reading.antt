@@ -6,7 +6,7 @@ use Rattle.geos_model.specs.Bytes.{word}
 use Rattle.geos_model.specs.Block.{handle_word}
 use Rattle.vm_file.specs.declared.directory.Entry.{Entry}
 use Rattle.geos_model.specs.Heap.{is_block_size}
-use Rattle.vm_file.specs.Heaps.{is_heap}
+use Rattle.geos_model.specs.HeapTest.{is_heap}
 use Rattle.vm_file.specs.Directories.{most_blocks, may_be_map_block, may_be_map_group, may_be_map_item, entries_length}
 use Rattle.vm_file.specs.Contents.{Block, Contents, Pair, entry_of, contents_length}
 

@@ -30,5 +30,5 @@ pub use disk_file::FileDevice;
 pub use error::{CommitError, CreateError, OpenError};
 pub use faulty::FaultDevice;
 pub use file::VmFile;
-pub use law::{heap_test_is_exact, pairs_have_one_spelling};
+pub use law::pairs_have_one_spelling;
 pub use memory::MemoryDevice;

@@ -10,7 +10,7 @@ use Rattle.geos_model.specs.Block.{entry, entries, table_end, first_free, total_
 use Rattle.geos_model.specs.Bytes.{word}
 use Rattle.geos_model.specs.Chunks.{cost}
 use Rattle.geos_model.specs.Heap.{Piece, Used, Free, Tiles, HasChunk, free_bytes, IsOffset, IsHeader, IsHeap}
-use Rattle.vm_file.specs.Heaps.{is_header, entry_with, piece_at, piece_size, pieces_from, are_tiles, has_chunk, have_chunks, is_heap}
+use Rattle.geos_model.specs.HeapTest.{is_header, entry_with, piece_at, piece_size, pieces_from, are_tiles, has_chunk, have_chunks, is_heap}
 
 -- parts of a test that holds
 pub both : (a b : Bool) → (a && b) ≡ true → (a ≡ true) × (b ≡ true)

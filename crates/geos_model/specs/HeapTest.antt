@@ -1,9 +1,9 @@
 -- Whether bytes are a heap, as a test that computes.
-use Rattle.std.specs.Prelude.{ℕ, zero, suc, ◌+◌, ◌-◌, ◌%◌, Bool, true, false, ◌&&◌, ◌||◌, not, nat_lt, nat_le, ◌==◌, if◌then◌else◌, List, [], ◌∷◌, length, Option, Some, None}
+use Rattle.std.specs.Prelude.{◌≡◌, ◌↔◌, ℕ, zero, suc, ◌+◌, ◌-◌, ◌%◌, Bool, true, false, ◌&&◌, ◌||◌, not, nat_lt, nat_le, ◌==◌, if◌then◌else◌, List, [], ◌∷◌, length, Option, Some, None}
 use Rattle.geos_model.specs.Bytes.{word}
 use Rattle.geos_model.specs.Block.{entries, entry, table_end, first_free, total_free}
 use Rattle.geos_model.specs.Chunks.{cost}
-use Rattle.geos_model.specs.Heap.{Piece, Used, Free, free_bytes, is_block_size}
+use Rattle.geos_model.specs.Heap.{IsHeap, Piece, Used, Free, free_bytes, is_block_size}
 
 -- the header's fixed words, the block's size, and a table that fits
 abbrev pub is_header : List ℕ → Bool
@@ -59,3 +59,7 @@ is_heap block =
     let pieces = pieces_from (length block) block (table_end block) in
     is_header block && are_tiles block (table_end block) (first_free block) pieces
     && have_chunks (entries block) block pieces && (total_free block == free_bytes pieces)
+
+-- the test says yes exactly of a heap
+abbrev pub HeapTestIsExact : Type 0
+HeapTestIsExact = (bytes : List ℕ) → (is_heap bytes ≡ true) ↔ IsHeap bytes
