@@ -20,19 +20,20 @@ one_more : {A : Type 0} (n : ℕ) (x : A) → replicate n x ++ x ∷ [] ≡ repl
 one_more zero x = refl
 one_more (suc n) x = ap (λ xs. x ∷ xs) (one_more n x)
 
-pub nothing-more : (known next : List (Option Row)) (n : ℕ) → known ≡ replicate n None → next ≡ known ++ None ∷ [] → next ≡ replicate (n + 1) None
-nothing-more known next n e more = rw add-one (more ∙ (ap (λ (xs : List (Option Row)). xs ++ None ∷ []) e ∙ one_more n None))
+module _ {A : Type 0} where
+  pub nothing-more : (known next : List (Option A)) (n : ℕ) → known ≡ replicate n None → next ≡ known ++ None ∷ [] → next ≡ replicate (n + 1) None
+  nothing-more known next n e more = rw add-one (more ∙ (ap (λ (xs : List (Option A)). xs ++ None ∷ []) e ∙ one_more n None))
 
-pub nothing-length : (known : List (Option Row)) (n : ℕ) → known ≡ replicate n None → length known ≡ n
-nothing-length known n e = ap length e ∙ length-replicate n None
+  pub nothing-length : (known : List (Option A)) (n : ℕ) → known ≡ replicate n None → length known ≡ n
+  nothing-length known n e = ap length e ∙ length-replicate n None
 
-none_at : (n pc : ℕ) → known_at (replicate n None) pc ≡ None
-none_at zero pc = refl
-none_at (suc n) zero = refl
-none_at (suc n) (suc pc) = none_at n pc
+  none_at : (n pc : ℕ) → (λ (xs : List (Option A)). slice_index_or xs pc None ≡ None) (replicate n None)
+  none_at zero pc = refl
+  none_at (suc n) zero = refl
+  none_at (suc n) (suc pc) = none_at n pc
 
-pub nothing-known : (known : List (Option Row)) (n pc : ℕ) → known ≡ replicate n None → known_at known pc ≡ None
-nothing-known known n pc e = ap (λ (xs : List (Option Row)). known_at xs pc) e ∙ none_at n pc
+  pub nothing-known : (known : List (Option A)) (n pc : ℕ) → known ≡ replicate n None → slice_index_or known pc None ≡ None
+  nothing-known known n pc e = ap (λ (xs : List (Option A)). slice_index_or xs pc None) e ∙ none_at n pc
 
 -- Routines
 

@@ -1,5 +1,5 @@
-use Rattle.std.proofs.Common.{◌≡◌, replicate, length, None}
+use Rattle.std.proofs.Common.{◌≡◌, replicate, None}
 use Rattle.geos_infer.proofs.reach.Reached.new.Given as goal
 
 abbrev pub invariant-loop : goal.invariant-loop
-invariant-loop l = (l.items.items ≡ replicate l.counter None) × (length l.items.items ≡ l.counter)
+invariant-loop l = l.items.items ≡ replicate l.counter None
