@@ -1,23 +1,27 @@
--- A group that is locked, with the span of an item of it.
-use Rattle.std.proofs.Common.{◌≡◌, ℕ, ◌+◌, ◌≤◌, List, refl, ap, subst}
+-- What the kernel promises of calls on items, and of a group that is locked with the span of an item of it.
+use Rattle.std.proofs.Common.{◌≡◌, ℕ, ◌+◌, ◌≤◌, List, Option, refl, ap, subst}
 use Rattle.std.specs.Prelude.{IfOk, OnOk, Result, Ok, Err}
 use Rattle.geos_model.specs.declared.refusal.Refusal.{Refusal}
-use Rattle.geos_model.specs.declared.refusal.Refusal.TheVariants.{Disk}
+use Rattle.geos_model.specs.declared.refusal.Refusal.TheVariants.{Disk, NoRoom}
+use Rattle.geos_model.specs.Edits.{Edit}
 use Rattle.geos_model.specs.Names.{vm}
 use Rattle.geos_table.specs.Calls.{in_block}
-use Rattle.geos_table.specs.ItemCalls.{ilock}
+use Rattle.geos_table.specs.Effects.{Call, Choice, effect_of}
+use Rattle.geos_table.specs.Given.{given_memory}
+use Rattle.geos_table.specs.ItemCalls.{ilock, in_group}
+use Rattle.geos_table.specs.VmFile.{VmFile}
 use Rattle.block_handles.specs.Change.{with_lock_more}
 use Rattle.block_handles.specs.Store.{Store, IsThere, place_of}
 use Rattle.vm_blocks.specs.View.{VmState, vm_slot, with_device}
 use Rattle.db_items.specs.Groups.{ReadsDevice}
-use Rattle.db_items.specs.Items.{LocksItem, refers_to}
+use Rattle.db_items.specs.Items.{ChangesItem, LacksItemRoom, LocksItem, listed_after, refers_to}
 use Rattle.geos_kernel.specs.declared.span.Span.{Span}
-use Rattle.geos_kernel.specs.Files.{InMemory, ReadsFile}
-use Rattle.geos_kernel.specs.Kernel.{IsKernel, LeadsToSpan}
+use Rattle.geos_kernel.specs.Files.{CallsItem, InMemory, ReadsFile}
+use Rattle.geos_kernel.specs.Kernel.{IsKernel, ItemHasNoRoom, LeadsToSpan}
 use Rattle.geos_kernel.specs.Spans.{IsStanding, IsWritable}
-use Rattle.geos_kernel.specs.View.{IsMarked, KernelOn, kernel_of}
-use Rattle.geos_kernel.proofs.ItemCalls.{ilock-calls, ilock-stands}
-use Rattle.geos_kernel.proofs.There.{in-memory}
+use Rattle.geos_kernel.specs.View.{IsMarked, KernelOn, kernel_of, memory_of}
+use Rattle.geos_kernel.proofs.ItemCalls.{ilock-calls, ilock-stands, item-calls}
+use Rattle.geos_kernel.proofs.There.{in-memory, no_group-same}
 
 -- what the kernel promises of it
 pub record LocksPart {D : Type 0} (image : D → List ℕ) (honest : D → Type 0) (may_leave : D → List ℕ → Type 0) (left : D → D → List ℕ → Type 0) (failed : D → ℕ) (g i n : ℕ) (result : Result Span Refusal) (old new : KernelOn D) : Type 0 where
@@ -33,43 +37,66 @@ same-why : {A B : Type 0} (why : Refusal) → ◌≡◌ {A = Result A Refusal} (
 same-why why e = let same : why ≡ Disk = cc in ap Err same
 
 module _ {D : Type 0} (image : D → List ℕ) (honest : D → Type 0) (may_leave : D → List ℕ → Type 0) (left : D → D → List ℕ → Type 0) (failed : D → ℕ) (v w : VmState D) (s t : Store) (k : KernelOn D) (is : kernel_of image failed v s ≡ k)
-    (kernel : IsKernel image honest v s) (g i n : ℕ) where
+    (kernel : IsKernel image honest v s) (g : ℕ) where
   abbrev old : KernelOn D
   old = kernel_of image failed v s
 
   abbrev new : KernelOn D
   new = kernel_of image failed w t
 
-  reads-file : {fails ends : Type 0} → (ends → fails) → (fails → ends) → w ≡ with_device v w.file.device → ReadsDevice image honest may_leave left failed fails v w → ReadsFile image honest failed may_leave left ends old new
+  reads-file : {fails ends : Type 0} → (ends → fails) → (fails → ends) → w.file ≡ (with_device v w.file.device).file → ReadsDevice image honest may_leave left failed fails v w → ReadsFile image honest failed may_leave left ends old new
   reads-file one other same device = record {
     reads = device.reads;
-    file = ap (λ (x : VmState D). x.file) same;
+    file = same;
     cause = λ good failed. device.cause good (one failed);
     counted = λ never. device.counted (λ failed. never (other failed));
   }
 
-  -- the item was found
-  pub part-locked : (at len : ℕ) → LocksItem image honest may_leave left failed g i n (Ok (at, len)) v w s t → LocksPart image honest may_leave left failed g i n (Ok (record { at = place_of t (vm_slot g) + at; len = len })) k new
-  part-locked at len locks =
-      let span : Span = record { at = place_of t (vm_slot g) + at; len = len } in
-      let ref = in_block (vm g) (record { chunk = i; start = 0; len = len }) in
-      let stands = ilock-stands image honest may_leave left failed v w s t g i n at len locks in
-      subst (λ x. LocksPart image honest may_leave left failed g i n (Ok span) x new) is (record {
-        gives = (refers_to g i (Ok (at, len)), ilock-calls image honest may_leave left failed v w s t g kernel i n (Ok (at, len)) locks, stands);
-        stands = ((ref, stands), locks.within.1);
-        writable = λ marked. (ref, stands, λ file. marked);
-        locks = λ was. (locks.there was).1;
-        in_memory = in-memory image failed v w s t old refl g (Ok span) (λ was. (ap (λ (x : VmState D). x.file) (locks.there was).0, λ e. absurd cc)) (λ other. tt) (λ e. absurd cc);
-        device = reads-file (λ e. absurd cc) (λ e. absurd cc) locks.same locks.device;
-      })
+  listed-file : {A : Type 0} (r : Result A Refusal) → w.file ≡ (with_device (listed_after r v g) w.file.device).file → w.file ≡ (with_device v w.file.device).file
+  listed-file (Ok answer) e = e
+  listed-file (Err why) e = e
 
-  -- it was refused
-  pub part-refused : (why : Refusal) → LocksItem image honest may_leave left failed g i n (Err why) v w s t → LocksPart image honest may_leave left failed g i n (Err why) k new
-  part-refused why locks = subst (λ x. LocksPart image honest may_leave left failed g i n (Err why) x new) is (record {
-    gives = (Err why, ilock-calls image honest may_leave left failed v w s t g kernel i n (Err why) locks, refl);
-    stands = tt;
-    writable = tt;
-    locks = λ was. tt;
-    in_memory = in-memory image failed v w s t old refl g (Err why) (λ was. (ap (λ (x : VmState D). x.file) (locks.there was).0, λ e. (locks.there was).2 (same-why why e))) (λ other was. locks.refused was) (λ e. locks.absent (same-why why e));
-    device = reads-file (same-why why) (same-why why) locks.same locks.device;
+  -- a refusal has listed nothing else
+  no-room : {A : Type 0} (edit : List (Option (List ℕ)) → Edit A) (r : Result A Refusal) → w ≡ with_device (listed_after r v g) w.file.device → r ≡ Err NoRoom → LacksItemRoom v t g edit → ItemHasNoRoom new.core g edit
+  no-room edit (Ok answer) same wanting lacks = absurd cc
+  no-room edit (Err why) same wanting lacks =
+      let entries : w.entries ≡ v.entries = ap (λ (x : VmState D). x.entries) same in
+      record { none = rw entries lacks.none; no_room = rw entries lacks.no_room }
+
+  -- a call on items
+  pub item-called : {A : Type 0} (call : Call A) (edit : List (Option (List ℕ)) → Edit A) (r : Result A Refusal) → ChangesItem image honest may_leave left failed call edit g r v w s t
+      → ((choice : Choice) (f : VmFile) → (effect_of call choice (memory_of old.core f)).stale ≡ in_group (given_memory choice.given (memory_of old.core f)) g) → CallsItem image honest failed may_leave left call edit g r k new
+  item-called call edit r changes stale = subst (λ x. CallsItem image honest failed may_leave left call edit g r x new) is (record {
+    calls = item-calls image honest may_leave left failed v w s t g kernel call edit r changes stale;
+    no_room = λ wanting. no-room edit r changes.listed wanting (changes.no_room wanting);
+    in_memory = in-memory image failed v w s t old refl g r changes.there changes.stays changes.absent;
+    no_group = no_group-same image failed v w s t old refl g r changes.no_group;
+    device = reads-file (λ e. e) (λ e. e) (listed-file r (ap (λ (x : VmState D). x.file) changes.listed)) changes.device;
   })
+
+  module _ (i n : ℕ) where
+    -- the item was found
+    pub part-locked : (at len : ℕ) → LocksItem image honest may_leave left failed g i n (Ok (at, len)) v w s t → LocksPart image honest may_leave left failed g i n (Ok (record { at = place_of t (vm_slot g) + at; len = len })) k new
+    part-locked at len locks =
+        let span : Span = record { at = place_of t (vm_slot g) + at; len = len } in
+        let ref = in_block (vm g) (record { chunk = i; start = 0; len = len }) in
+        let stands = ilock-stands image honest may_leave left failed v w s t g i n at len locks in
+        subst (λ x. LocksPart image honest may_leave left failed g i n (Ok span) x new) is (record {
+          gives = (refers_to g i (Ok (at, len)), ilock-calls image honest may_leave left failed v w s t g kernel i n (Ok (at, len)) locks, stands);
+          stands = ((ref, stands), locks.within.1);
+          writable = λ marked. (ref, stands, λ file. marked);
+          locks = λ was. (locks.there was).1;
+          in_memory = in-memory image failed v w s t old refl g (Ok span) (λ was. (ap (λ (x : VmState D). x.file) (locks.there was).0, λ e. absurd cc)) (λ other. tt) (λ e. absurd cc);
+          device = reads-file (λ e. absurd cc) (λ e. absurd cc) (ap (λ (x : VmState D). x.file) locks.same) locks.device;
+        })
+
+    -- it was refused
+    pub part-refused : (why : Refusal) → LocksItem image honest may_leave left failed g i n (Err why) v w s t → LocksPart image honest may_leave left failed g i n (Err why) k new
+    part-refused why locks = subst (λ x. LocksPart image honest may_leave left failed g i n (Err why) x new) is (record {
+      gives = (Err why, ilock-calls image honest may_leave left failed v w s t g kernel i n (Err why) locks, refl);
+      stands = tt;
+      writable = tt;
+      locks = λ was. tt;
+      in_memory = in-memory image failed v w s t old refl g (Err why) (λ was. (ap (λ (x : VmState D). x.file) (locks.there was).0, λ e. (locks.there was).2 (same-why why e))) (λ other was. locks.refused was) (λ e. locks.absent (same-why why e));
+      device = reads-file (same-why why) (same-why why) (ap (λ (x : VmState D). x.file) locks.same) locks.device;
+    })

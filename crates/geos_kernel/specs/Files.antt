@@ -1,7 +1,9 @@
 -- What the kernel's calls make of the VM file on its device.
-use Rattle.std.specs.Prelude.{◌≡◌, ℕ, List, OnErr, OnOk, Result, Err}
+use Rattle.std.specs.Prelude.{◌≡◌, ℕ, List, Option, OnErr, OnOk, Result, Err}
+use Rattle.geos_model.specs.Edits.{Edit}
 use Rattle.geos_model.specs.declared.refusal.Refusal.{Refusal}
-use Rattle.geos_model.specs.declared.refusal.Refusal.TheVariants.{Disk}
+use Rattle.geos_model.specs.declared.refusal.Refusal.TheVariants.{Disk, NoRoom}
+use Rattle.geos_table.specs.Effects.{Call}
 use Rattle.block_handles.specs.Store.{IsThere}
 use Rattle.vm_file.specs.declared.commit.How.{How}
 use Rattle.vm_file.specs.declared.error.CommitError.{CommitError}
@@ -12,7 +14,8 @@ use Rattle.vm_blocks.specs.Commit.{CommitsFile}
 use Rattle.vm_blocks.specs.Listed.{StoreAfter, directory_of, resident_of}
 use Rattle.vm_blocks.specs.Refused.{of_commit}
 use Rattle.vm_blocks.specs.View.{vm_slot}
-use Rattle.geos_kernel.specs.Kernel.{StaysIfRefused}
+use Rattle.db_items.specs.Groups.{IsGroup}
+use Rattle.geos_kernel.specs.Kernel.{Calls, ItemHasNoRoom, StaysIfRefused}
 use Rattle.geos_kernel.specs.View.{KernelOn, file_over}
 
 -- the VM file of a kernel on its device
@@ -38,6 +41,15 @@ pub record InMemory {D A : Type 0} (h : ℕ) (result : Result A Refusal) (old ne
   pub there : IsThere old.core.blocks (vm_slot h) → AsksNothing old new × (result ≡ Err Disk → ⊥)
   pub refused : IsThere old.core.blocks (vm_slot h) → StaysIfRefused result old.core.blocks new.core.blocks
   pub absent : result ≡ Err Disk → IsThere new.core.blocks (vm_slot h) → ⊥
+
+-- a call on the items of a group: it answers as its row says; room is wanting only for what the group
+-- needs by its edit; a group that is in memory asks the device nothing, and of none nothing changes
+pub record CallsItem {D A : Type 0} (image : D → List ℕ) (honest : D → Type 0) (failed : D → ℕ) (may_leave : D → List ℕ → Type 0) (left : D → D → List ℕ → Type 0) (call : Call A) (edit : List (Option (List ℕ)) → Edit A) (g : ℕ) (result : Result A Refusal) (old new : KernelOn D) : Type 0 where
+  pub calls : Calls (honest old.device) call result old.core new.core
+  pub no_room : result ≡ Err NoRoom → ItemHasNoRoom new.core g edit
+  pub in_memory : InMemory g result old new
+  pub no_group : (IsGroup old.core.vm g → ⊥) → new ≡ old
+  pub device : ReadsFile image honest failed may_leave left (result ≡ Err Disk) old new
 
 -- a commit of the current directory, with the blocks as they are in memory or else as the file has
 -- them: what it keeps, what each refusal leaves, in memory too, and what a stop at any moment does

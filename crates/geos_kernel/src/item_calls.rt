@@ -21,8 +21,8 @@ impl<D: Device + Drop> Kernel<D> {
     ghost use Rattle.geos_model.specs.Names.{vm};
     ghost use Rattle.geos_table.specs.ChunkCalls.{change_edit, change_row, make_edit, make_row};
     ghost use Rattle.geos_table.specs.ItemCalls as table;
-    ghost use Rattle.geos_kernel.specs.Files.{AsksNothing, InMemory, ReadsFile};
-    ghost use Rattle.geos_kernel.specs.Kernel.{Calls, ItemHasNoRoom, LeadsToSpan, LeavesVm, ListedHasNoRoom, NewListedHasNoRoom, Remain};
+    ghost use Rattle.geos_kernel.specs.Files.{AsksNothing, CallsItem, InMemory, ReadsFile};
+    ghost use Rattle.geos_kernel.specs.Kernel.{Calls, LeadsToSpan, LeavesVm, ListedHasNoRoom, NewListedHasNoRoom, Remain};
     ghost use Rattle.geos_kernel.specs.Spans.{IsStanding, IsWritable};
     ghost use Rattle.geos_kernel.specs.View.{IsLocked, IsMarked};
 
@@ -52,11 +52,7 @@ impl<D: Device + Drop> Kernel<D> {
     /// memory, as `vlock` says; then refused as `change` is, an item being a chunk of the group. Spans
     /// into the group are stale after it, also where it is refused.
     pub fn item_change(&mut self, g: u16, change: Change) -> Result<(), Refusal>
-        ensures calls { Calls (D.honest self.old.device) (table.on_group g (change_row (vm g) change)) result self.old.core self.new.core }
-        ensures no_room { result ≡ Err Refusal.NoRoom → ItemHasNoRoom self.new.core g (change_edit change) }
-        ensures in_memory { InMemory g result self.old self.new }
-        ensures no_group { (IsGroup self.old.core.vm g → ⊥) → self.new ≡ self.old }
-        ensures device { ReadsFile D.image D.honest D.failed D.may_leave D.may_have_left (result ≡ Err Refusal.Disk) self.old self.new }
+        ensures { CallsItem D.image D.honest D.failed D.may_leave D.may_have_left (table.on_group g (change_row (vm g) change)) (change_edit change) g result self.old self.new }
     {
         item_change(&mut self.vm, &mut self.blocks, g, change)
     }
@@ -64,11 +60,7 @@ impl<D: Device + Drop> Kernel<D> {
     /// Makes an item of a group, as the value says, marks the group, and answers the item's handle: the
     /// lowest one of the group that is free. It is refused, and makes stale, as `item_change`.
     pub fn item_make(&mut self, g: u16, make: Make) -> Result<u16, Refusal>
-        ensures calls { Calls (D.honest self.old.device) (table.on_group g (make_row (vm g) make)) result self.old.core self.new.core }
-        ensures no_room { result ≡ Err Refusal.NoRoom → ItemHasNoRoom self.new.core g (make_edit make) }
-        ensures in_memory { InMemory g result self.old self.new }
-        ensures no_group { (IsGroup self.old.core.vm g → ⊥) → self.new ≡ self.old }
-        ensures device { ReadsFile D.image D.honest D.failed D.may_leave D.may_have_left (result ≡ Err Refusal.Disk) self.old self.new }
+        ensures { CallsItem D.image D.honest D.failed D.may_leave D.may_have_left (table.on_group g (make_row (vm g) make)) (make_edit make) g result self.old self.new }
     {
         item_make(&mut self.vm, &mut self.blocks, g, make)
     }
@@ -76,11 +68,7 @@ impl<D: Device + Drop> Kernel<D> {
     /// Makes an item of `n` zero bytes, and answers its handle. It is refused, and makes stale, as
     /// `item_make`.
     pub fn inew(&mut self, g: u16, n: u16) -> Result<u16, Refusal>
-        ensures calls { Calls (D.honest self.old.device) (table.inew g n) result self.old.core self.new.core }
-        ensures no_room { result ≡ Err Refusal.NoRoom → ItemHasNoRoom self.new.core g (alloc n) }
-        ensures in_memory { InMemory g result self.old self.new }
-        ensures no_group { (IsGroup self.old.core.vm g → ⊥) → self.new ≡ self.old }
-        ensures device { ReadsFile D.image D.honest D.failed D.may_leave D.may_have_left (result ≡ Err Refusal.Disk) self.old self.new }
+        ensures { CallsItem D.image D.honest D.failed D.may_leave D.may_have_left (table.inew g n) (alloc n) g result self.old self.new }
     {
         self.item_make(g, Make::Lalloc { n })
     }
@@ -88,11 +76,7 @@ impl<D: Device + Drop> Kernel<D> {
     /// Frees an item. `BadHandle`, `NoRoom` and `Disk` as `item_change`, `BadChunk` where the group
     /// has no such item.
     pub fn ifree(&mut self, g: u16, i: u16) -> Result<(), Refusal>
-        ensures calls { Calls (D.honest self.old.device) (table.ifree g i) result self.old.core self.new.core }
-        ensures no_room { result ≡ Err Refusal.NoRoom → ItemHasNoRoom self.new.core g (free i) }
-        ensures in_memory { InMemory g result self.old self.new }
-        ensures no_group { (IsGroup self.old.core.vm g → ⊥) → self.new ≡ self.old }
-        ensures device { ReadsFile D.image D.honest D.failed D.may_leave D.may_have_left (result ≡ Err Refusal.Disk) self.old self.new }
+        ensures { CallsItem D.image D.honest D.failed D.may_leave D.may_have_left (table.ifree g i) (free i) g result self.old self.new }
     {
         self.item_change(g, Change::Lfree { c: i })
     }
@@ -101,11 +85,7 @@ impl<D: Device + Drop> Kernel<D> {
     /// `ifree` is; then `TooBig` where the group would need more than 65,520 bytes, `NoRoom` where it
     /// must grow and no stretch of the region has room for it.
     pub fn irealloc(&mut self, g: u16, i: u16, n: u16) -> Result<(), Refusal>
-        ensures calls { Calls (D.honest self.old.device) (table.irealloc g i n) result self.old.core self.new.core }
-        ensures no_room { result ≡ Err Refusal.NoRoom → ItemHasNoRoom self.new.core g (realloc i n) }
-        ensures in_memory { InMemory g result self.old self.new }
-        ensures no_group { (IsGroup self.old.core.vm g → ⊥) → self.new ≡ self.old }
-        ensures device { ReadsFile D.image D.honest D.failed D.may_leave D.may_have_left (result ≡ Err Refusal.Disk) self.old self.new }
+        ensures { CallsItem D.image D.honest D.failed D.may_leave D.may_have_left (table.irealloc g i n) (realloc i n) g result self.old self.new }
     {
         self.item_change(g, Change::Lrealloc { c: i, n })
     }
@@ -113,11 +93,7 @@ impl<D: Device + Drop> Kernel<D> {
     /// Inserts `n` zero bytes at an offset of an item. It is refused as `irealloc` is, with `Range`
     /// behind `BadChunk` where the offset is past the item's length.
     pub fn iins(&mut self, g: u16, i: u16, at: u16, n: u16) -> Result<(), Refusal>
-        ensures calls { Calls (D.honest self.old.device) (table.iins g i at n) result self.old.core self.new.core }
-        ensures no_room { result ≡ Err Refusal.NoRoom → ItemHasNoRoom self.new.core g (insert_bytes i at n) }
-        ensures in_memory { InMemory g result self.old self.new }
-        ensures no_group { (IsGroup self.old.core.vm g → ⊥) → self.new ≡ self.old }
-        ensures device { ReadsFile D.image D.honest D.failed D.may_leave D.may_have_left (result ≡ Err Refusal.Disk) self.old self.new }
+        ensures { CallsItem D.image D.honest D.failed D.may_leave D.may_have_left (table.iins g i at n) (insert_bytes i at n) g result self.old self.new }
     {
         self.item_change(g, Change::Lins { c: i, at, n })
     }
@@ -125,11 +101,7 @@ impl<D: Device + Drop> Kernel<D> {
     /// Deletes `n` bytes at an offset of an item. It is refused as `ifree` is, with `Range` behind
     /// `BadChunk` where they reach past the item's length.
     pub fn idel(&mut self, g: u16, i: u16, at: u16, n: u16) -> Result<(), Refusal>
-        ensures calls { Calls (D.honest self.old.device) (table.idel g i at n) result self.old.core self.new.core }
-        ensures no_room { result ≡ Err Refusal.NoRoom → ItemHasNoRoom self.new.core g (delete_bytes i at n) }
-        ensures in_memory { InMemory g result self.old self.new }
-        ensures no_group { (IsGroup self.old.core.vm g → ⊥) → self.new ≡ self.old }
-        ensures device { ReadsFile D.image D.honest D.failed D.may_leave D.may_have_left (result ≡ Err Refusal.Disk) self.old self.new }
+        ensures { CallsItem D.image D.honest D.failed D.may_leave D.may_have_left (table.idel g i at n) (delete_bytes i at n) g result self.old self.new }
     {
         self.item_change(g, Change::Ldel { c: i, at, n })
     }
