@@ -1,10 +1,10 @@
 //! Instructions on the chunks of a block that a slot holds.
 
-ghost use Rattle.std.specs.Prelude.{◌≡◌, true};
+ghost use Rattle.std.specs.Prelude.{◌≡◌, ◌||◌, slice_index_or, true};
 ghost use Rattle.geos_image.specs.Fields.{FieldsFit};
-ghost use Rattle.geos_semantics.specs.Model.{changing, making, asking};
+ghost use Rattle.geos_semantics.specs.Model.{changing, changing_items, making, asking};
 ghost use Rattle.geos_kernel.specs.Kernel.{LeavesVm};
-ghost use Rattle.geos_machine.specs.Machine.{asks_of_chunks, changes_chunks, Does, HasOperands, IsInstr, makes_chunks, Ready, Works};
+ghost use Rattle.geos_machine.specs.Machine.{asks_of_chunks, changes_chunks, changes_item, Does, HasOperands, IsInstr, makes_chunks, Ready, Works};
 
 use crate::head::{index_a, index_b, index_c};
 use crate::machine::Machine;
@@ -13,26 +13,27 @@ use geos_image::{Instr, Opcode};
 use geos_kernel::{Ask, Change, Kernel, Make, Span};
 use vm_file::Device;
 
-/// The change that an instruction makes.
-fn change_at(m: &Machine, i: &Instr) -> Change
+/// The change that an instruction makes of chunks, or of items.
+pub(crate) fn change_at(m: &Machine, i: &Instr) -> Change
     requires fields { FieldsFit i.now.opcode i.now }
-    requires changes { changes_chunks i.now.opcode ≡ true }
-    ensures { Does i.now m.now (changing result) }
+    requires changes { (changes_chunks i.now.opcode || changes_item i.now.opcode) ≡ true }
+    ensures chunks { changes_chunks i.now.opcode ≡ true → Does i.now m.now (changing result) }
+    ensures items { changes_item i.now.opcode ≡ true → Does i.now m.now (changing_items (slice_index_or m.now.words i.now.a 0) result) }
 {
     match i.opcode {
-        Opcode::Lfree => Change::Lfree {
+        Opcode::Lfree | Opcode::Ifree => Change::Lfree {
             c: m.words[i.b as usize],
         },
-        Opcode::Lrealloc => Change::Lrealloc {
+        Opcode::Lrealloc | Opcode::Irealloc => Change::Lrealloc {
             c: m.words[i.b as usize],
             n: m.words[i.c as usize],
         },
-        Opcode::Lins => Change::Lins {
+        Opcode::Lins | Opcode::Iins => Change::Lins {
             c: m.words[i.b as usize],
             at: m.words[i.c as usize],
             n: m.words[i.d as usize],
         },
-        Opcode::Ldel => Change::Ldel {
+        Opcode::Ldel | Opcode::Idel => Change::Ldel {
             c: m.words[i.b as usize],
             at: m.words[i.c as usize],
             n: m.words[i.d as usize],

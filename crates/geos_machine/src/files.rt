@@ -1,16 +1,17 @@
 //! Instructions on blocks of the VM file, on groups and their items, and on the file.
 
-ghost use Rattle.std.specs.Prelude.{◌≡◌, ◌↔◌, slice_index_or, true};
+ghost use Rattle.std.specs.Prelude.{◌≡◌, ◌↔◌, true};
 ghost use Rattle.geos_image.specs.Fields.{FieldsFit};
 ghost use Rattle.geos_semantics.specs.State.{with_word};
-ghost use Rattle.geos_semantics.specs.Model.{changing_items, nowhere};
+ghost use Rattle.geos_semantics.specs.Model.{nowhere};
 ghost use Rattle.geos_kernel.specs.Kernel.{LeavesVm};
-ghost use Rattle.geos_machine.specs.Machine.{AnswersTo, changes_file, changes_item, Does, IsInstr, marks_block, Ready, tells_of_file, unlocks_block, Works};
+ghost use Rattle.geos_machine.specs.Machine.{AnswersTo, changes_file, changes_item, IsInstr, marks_block, Ready, tells_of_file, unlocks_block, Works};
 
+use crate::chunks::change_at;
 use crate::machine::Machine;
 use crate::step::{Goes, refuse};
 use geos_image::{Instr, Opcode};
-use geos_kernel::{Change, Kernel, Make};
+use geos_kernel::{Kernel, Make};
 use geos_model::{Name, Refusal};
 use vm_file::Device;
 
@@ -163,36 +164,8 @@ fn change_item<D: Device + Drop>(
     ensures answers { AnswersTo (D.honest kernel.old.device) i.now kernel.old.core m.now kernel.new.core nowhere result }
     ensures honest { D.honest kernel.new.device ↔ D.honest kernel.old.device }
 {
-    let change = item_change_at(m, i);
+    let change = change_at(m, i);
     kernel.item_change(m.words[a], change)
-}
-
-/// The change of an item that an instruction makes.
-fn item_change_at(m: &Machine, i: &Instr) -> Change
-    requires fields { FieldsFit i.now.opcode i.now }
-    requires changes { changes_item i.now.opcode ≡ true }
-    ensures { Does i.now m.now (changing_items (slice_index_or m.now.words i.now.a 0) result) }
-{
-    match i.opcode {
-        Opcode::Ifree => Change::Lfree {
-            c: m.words[i.b as usize],
-        },
-        Opcode::Irealloc => Change::Lrealloc {
-            c: m.words[i.b as usize],
-            n: m.words[i.c as usize],
-        },
-        Opcode::Iins => Change::Lins {
-            c: m.words[i.b as usize],
-            at: m.words[i.c as usize],
-            n: m.words[i.d as usize],
-        },
-        Opcode::Idel => Change::Ldel {
-            c: m.words[i.b as usize],
-            at: m.words[i.c as usize],
-            n: m.words[i.d as usize],
-        },
-        _ => unreachable!(),
-    }
 }
 
 /// Changes the file or its items.

@@ -26,7 +26,7 @@ returns-in-Ok-clause-works g c =
     let honest : Type 0 = g.D.Device.honest c.args.kernel.now.device in
     let change = c.change_at-change.result in
     slot-done honest i c.args.kernel.now.core c.change.new.self.core c.args.m.now _ (mem 0) (λ name. change_row name change) nowhere (λ name choice memory. subst IsPlain (sym (change-shape name change memory choice).1) tt)
-    (λ beside pc safe. change-held i _ safe c.requires.changes) (λ image choice beside pc. c.change_at-change.ensures image choice c.args.kernel.now.core beside pc) tt
+    (λ beside pc safe. change-held i _ safe c.requires.changes) (λ image choice beside pc. c.change_at-change.ensures.chunks c.requires.changes image choice c.args.kernel.now.core beside pc) tt
     (rw c.requires.a at c.in-Ok.ensures.calls) (λ beside pc. refl) refl refl
 
 pub returns-in-Err-clause-works : goal.returns-in-Err-clause-works
@@ -35,5 +35,5 @@ returns-in-Err-clause-works g c =
     let honest : Type 0 = g.D.Device.honest c.args.kernel.now.device in
     let change = c.change_at-change.result in
     rw c.refuse.ensures.goes (slot-refused honest i c.args.kernel.now.core c.change.new.self.core c.args.m.now _ (mem 0) (λ name. change_row name change) nowhere (λ name choice memory. subst IsPlain (sym (change-shape name change memory choice).1) tt)
-    (λ beside pc safe. change-held i _ safe c.requires.changes) (λ image choice beside pc. c.change_at-change.ensures image choice c.args.kernel.now.core beside pc) c.in-Err.refusal
+    (λ beside pc safe. change-held i _ safe c.requires.changes) (λ image choice beside pc. c.change_at-change.ensures.chunks c.requires.changes image choice c.args.kernel.now.core beside pc) c.in-Err.refusal
     (rw c.requires.a at c.in-Err.ensures.calls) c.refuse.ensures.registers)
