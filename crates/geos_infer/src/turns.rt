@@ -20,6 +20,16 @@ use geos_image::{Image, Instr, Opcode};
 use geos_verify::Touched;
 use std::alloc::{AllocError, Global};
 
+/// A routine, and what is known of its loops.
+#[derive(Clone, Copy)]
+struct Loops<'body, 'touched, 'turns> {
+    body: Body<'body>,
+    /// The counters that each routine touches.
+    touched: &'touched Touched,
+    /// The turn of each loop, at its LOOP, as far as it is known.
+    turns: &'turns Reached,
+}
+
 /// What a call takes beside its own step.
 fn call_steps(image: &Image, i: &Instr) -> u32
     requires { CalleeFits (length image.now.routines) i.now }
@@ -92,50 +102,36 @@ fn go_on_behind(body: &Body, turns: &Reached, pc: u16, reach: &Reach) -> Option<
 }
 
 /// The same along an edge, where the instruction may be a LOOP.
-fn arrival(
-    body: &Body,
-    touched: &Touched,
-    turns: &Reached,
-    pc: u16,
-    branch: bool,
-    reach: &Reach,
-) -> Option<Arrival>
-    requires above { body.now.start ≤ pc }
-    requires below { pc < body.now.end }
-    requires turns { AreTurns body.now.image.now body.now.r turns.now }
-    ensures goes { IfSome result (λ next. GoOn body.now.image.now body.now.r pc reach.now next.to next.reach) }
+fn arrival(loops: &Loops, pc: u16, branch: bool, reach: &Reach) -> Option<Arrival>
+    requires above { loops.now.body.start ≤ pc }
+    requires below { pc < loops.now.body.end }
+    requires turns { AreTurns loops.now.body.image.now loops.now.body.r loops.now.turns.now }
+    ensures goes { IfSome result (λ next. GoOn loops.now.body.image.now loops.now.body.r pc reach.now next.to next.reach) }
     ensures inside { IfSome result (λ next. next.to < 4096) }
 {
     if !branch {
-        if let Some(next) = go_on_behind(body, turns, pc, reach) {
+        if let Some(next) = go_on_behind(&loops.body, loops.turns, pc, reach) {
             return Some(next);
         }
     }
-    match go_on(body, touched, pc, branch, reach) {
+    match go_on(&loops.body, loops.touched, pc, branch, reach) {
         Some(next) => Some(next),
         None => None,
     }
 }
 
 /// What is known of a way to a pc goes along an edge that leads ahead, no further than to another.
-fn go(
-    body: &Body,
-    touched: &Touched,
-    turns: &Reached,
-    reached: &mut Reached,
-    pc: u16,
-    branch: bool,
-    high: u16,
-)
-    requires above { body.now.start ≤ pc }
-    requires below { pc < body.now.end }
-    requires turns { AreTurns body.now.image.now body.now.r turns.now }
-    ensures { (low : ℕ) → low ≤ pc → pc ≤ high → StayReached body.now.image.now body.now.r low high reached.old reached.new }
+fn go(loops: &Loops, reached: &mut Reached, pc: u16, branch: bool, high: u16)
+    requires above { loops.now.body.start ≤ pc }
+    requires below { pc < loops.now.body.end }
+    requires turns { AreTurns loops.now.body.image.now loops.now.body.r loops.now.turns.now }
+    ensures { (low : ℕ) → low ≤ pc → pc ≤ high
+        → StayReached loops.now.body.image.now loops.now.body.r low high reached.old reached.new }
 {
     let Some(reach) = reached.at(pc) else {
         return;
     };
-    let Some(next) = arrival(body, touched, turns, pc, branch, &reach) else {
+    let Some(next) = arrival(loops, pc, branch, &reach) else {
         return;
     };
     if pc < next.to && next.to <= high {
@@ -144,22 +140,15 @@ fn go(
 }
 
 /// The same along each edge from a pc up to another, in this order.
-fn go_all(
-    body: &Body,
-    touched: &Touched,
-    turns: &Reached,
-    reached: &mut Reached,
-    low: u16,
-    high: u16,
-)
-    requires above { body.now.start ≤ low }
-    requires below { high < body.now.end }
-    requires turns { AreTurns body.now.image.now body.now.r turns.now }
-    ensures { StayReached body.now.image.now body.now.r low high reached.old reached.new }
+fn go_all(loops: &Loops, reached: &mut Reached, low: u16, high: u16)
+    requires above { loops.now.body.start ≤ low }
+    requires below { high < loops.now.body.end }
+    requires turns { AreTurns loops.now.body.image.now loops.now.body.r loops.now.turns.now }
+    ensures { StayReached loops.now.body.image.now loops.now.body.r low high reached.old reached.new }
 {
     for pc in low..high {
-        go(body, touched, turns, reached, pc, false, high);
-        go(body, touched, turns, reached, pc, true, high);
+        go(loops, reached, pc, false, high);
+        go(loops, reached, pc, true, high);
     }
 }
 
@@ -203,24 +192,19 @@ fn if_kept(reach: &Reach, counter: u8) -> Option<Reach>
 }
 
 /// The longest turn that is found of the loop which the LOOP at a pc closes, if its counter is kept.
-fn find_turn(
-    body: &Body,
-    touched: &Touched,
-    turns: &Reached,
-    reached: &mut Reached,
-    pc: u16,
-) -> Option<Reach>
-    requires above { body.now.start ≤ pc }
-    requires below { pc < body.now.end }
-    requires turns { AreTurns body.now.image.now body.now.r turns.now }
-    ensures { IfSome result (IsTurn body.now.image.now body.now.r pc) }
+fn find_turn(loops: &Loops, reached: &mut Reached, pc: u16) -> Option<Reach>
+    requires above { loops.now.body.start ≤ pc }
+    requires below { pc < loops.now.body.end }
+    requires turns { AreTurns loops.now.body.image.now loops.now.body.r loops.now.turns.now }
+    ensures { IfSome result (IsTurn loops.now.body.image.now loops.now.body.r pc) }
 {
+    let body = &loops.body;
     let i = body.image.instr(pc);
     if !is_loop(i.opcode) || i.target < body.start || pc < i.target {
         return None;
     }
     begin_at(body, reached, i.target, pc);
-    go_all(body, touched, turns, reached, i.target, pc);
+    go_all(loops, reached, i.target, pc);
     match reached.at(pc) {
         Some(turn) => if_kept(&turn, i.a),
         None => None,
@@ -233,7 +217,12 @@ fn note_turns(body: &Body, touched: &Touched, turns: &mut Reached, reached: &mut
     ensures { AreTurns body.now.image.now body.now.r turns.new }
 {
     for pc in body.start..body.end {
-        if let Some(turn) = find_turn(body, touched, turns, reached, pc) {
+        let loops = Loops {
+            body: *body,
+            touched,
+            turns,
+        };
+        if let Some(turn) = find_turn(&loops, reached, pc) {
             turns.set(pc, Some(turn));
             reached.note_turn(body.image.instr(pc).a, turn.steps.saturating_add(1));
         }
@@ -264,7 +253,12 @@ pub(crate) fn steps_pass(alloc: Global, body: &Body, touched: &Touched) -> Resul
     note_turns(body, touched, &mut turns, &mut reached);
     let last = body.end - 1;
     begin_from(body, &mut reached, body.start, last);
-    go_all(body, touched, &turns, &mut reached, body.start, last);
+    let loops = Loops {
+        body: *body,
+        touched,
+        turns: &turns,
+    };
+    go_all(&loops, &mut reached, body.start, last);
     for pc in body.start..body.end {
         if passes_at(body, &reached, body.start, last, pc) {
             return Ok(true);

@@ -37,7 +37,7 @@ turn-at image r pc i turn within lt there fields loops reached kept =
 
 pub returns-in-Some : goal.returns-in-Some
 returns-in-Some c =
-    let body = c.args.body.now in
+    let body = c.args.loops.now.body in
     let i = c.instr-i.result.now in
     let pc = c.args.pc in
     let turn = c.in-Some.turn in

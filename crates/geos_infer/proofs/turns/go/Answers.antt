@@ -5,8 +5,8 @@ use Rattle.geos_infer.proofs.turns.go.Goals as goal
 
 pub returns-then-next-high : goal.returns-then-next-high
 returns-then-next-high c = λ low above below begin all.
-    let image = c.args.body.now.image.now in
-    let r = c.args.body.now.r in
+    let image = c.args.loops.now.body.image.now in
+    let r = c.args.loops.now.body.r in
     let next = c.in-Some-arrival.next in
     let comes = c.in-Some-arrival.ensures.goes begin (all c.args.pc c.in-Some.reach above below (sym c.in-Some.ensures)) in
     elim c.note.ensures [
