@@ -98,16 +98,15 @@ fn arc_of(body: &Body, known: &Known, touched: &Touched, pc: u16, branch: bool) 
 /// The edges of a routine, by the pc that they lead from.
 #[derive(Drop)]
 pub(crate) struct Arcs {
-    along: Table<Option<Arc>>,
-    branching: Table<Option<Arc>>,
+    /// The one to the next instruction, and the one to the target.
+    both: Table<[Option<Arc>; 2]>,
 }
 
 impl Arcs {
     /// No edges.
     pub(crate) fn new(alloc: Global) -> Result<Arcs, AllocError> {
         Ok(Arcs {
-            along: Table::new(alloc, None)?,
-            branching: Table::new(alloc, None)?,
+            both: Table::new(alloc, [None, None])?,
         })
     }
 
@@ -115,19 +114,16 @@ impl Arcs {
     pub(crate) fn at(&self, pc: u16, branch: bool) -> Option<Arc>
         requires { pc < 4096 }
     {
-        if branch {
-            self.branching.at(pc)
-        } else {
-            self.along.at(pc)
-        }
+        let [along, branching] = self.both.at(pc);
+        if branch { branching } else { along }
     }
 
     /// Notes the edges of a routine.
     pub(crate) fn note(&mut self, body: &Body, known: &Known, touched: &Touched) {
         for pc in body.start..body.end {
-            self.along.set(pc, arc_of(body, known, touched, pc, false));
-            self.branching
-                .set(pc, arc_of(body, known, touched, pc, true));
+            let along = arc_of(body, known, touched, pc, false);
+            let branching = arc_of(body, known, touched, pc, true);
+            self.both.set(pc, [along, branching]);
         }
     }
 }

@@ -5,7 +5,7 @@ ghost use Rattle.std.specs.Prelude.{◌<◌};
 use crate::arcs::{Arc, Counting};
 use crate::body::Body;
 use crate::paid::back_edges;
-use crate::ways::Ways;
+use crate::ways::{Costs, Ways};
 use geos_image::Opcode;
 
 /// The counters, with what is said of one of them in the place of that.
@@ -39,10 +39,10 @@ fn go_along(ways: &mut Ways, pc: u16, branch: bool) -> bool
     let Some(arc) = ways.arcs.at(pc, branch) else {
         return false;
     };
-    let old = ways.costly.at(arc.to);
-    let new = either(&old, &costly_behind(&arc, &ways.costly.at(pc)));
-    ways.costly.set(arc.to, new);
-    new != old
+    let Costs { costly: old, free } = ways.costs.at(arc.to);
+    let costly = either(&old, &costly_behind(&arc, &ways.costs.at(pc).costly));
+    ways.costs.set(arc.to, Costs { costly, free });
+    costly != old
 }
 
 /// The same over each edge of a routine.
@@ -61,7 +61,7 @@ fn is_free(body: &Body, ways: &Ways, pc: u16) -> bool
 {
     let i = body.image.instr(pc);
     match i.opcode {
-        Opcode::Loop => match ways.costly.at(pc).get(usize::from(i.a)) {
+        Opcode::Loop => match ways.costs.at(pc).costly.get(usize::from(i.a)) {
             Some(costs) => !*costs,
             None => false,
         },
@@ -73,7 +73,13 @@ fn is_free(body: &Body, ways: &Ways, pc: u16) -> bool
 /// counters where the routine begins.
 pub(crate) fn note_costly(body: &Body, ways: &mut Ways) {
     for pc in body.start..body.end {
-        ways.costly.set(pc, [pc == body.start; 4]);
+        ways.costs.set(
+            pc,
+            Costs {
+                costly: [pc == body.start; 4],
+                free: false,
+            },
+        );
     }
     // A way that passes no place twice goes along each edge back once at most.
     for _ in 0..back_edges(body) + 2 {
@@ -82,7 +88,8 @@ pub(crate) fn note_costly(body: &Body, ways: &mut Ways) {
         }
     }
     for pc in body.start..body.end {
+        let costly = ways.costs.at(pc).costly;
         let free = is_free(body, ways, pc);
-        ways.free.set(pc, free);
+        ways.costs.set(pc, Costs { costly, free });
     }
 }

@@ -81,14 +81,15 @@ impl Tables {
 /// what a potential can say.
 fn put_ways(body: &Body, ways: &Ways, potentials: &mut Potentials) -> bool {
     for pc in body.start..body.end {
-        let Ok(constant) = u32::try_from(ways.steps.at(pc)) else {
+        let Ok(constant) = u32::try_from(ways.longest.at(pc).steps) else {
             return false;
         };
+        let coefficients = ways.units.at(pc).pay;
         potentials.set(
             pc,
             Potential {
                 constant,
-                coefficients: ways.units.at(pc),
+                coefficients,
             },
         );
     }

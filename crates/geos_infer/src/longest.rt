@@ -6,7 +6,7 @@ use crate::arcs::Arc;
 use crate::asked::return_steps;
 use crate::body::Body;
 use crate::paid::back_edges;
-use crate::ways::{Ways, cost};
+use crate::ways::{Longest, Ways, cost};
 use geos_image::MOST_INSTRS;
 
 /// What came of going over edges.
@@ -22,8 +22,13 @@ enum Growth {
 /// Each way ends where it begins: a return takes a step.
 fn begin(body: &Body, ways: &mut Ways) {
     for pc in body.start..body.end {
-        ways.steps.set(pc, return_steps(body.image.instr(pc)));
-        ways.first.set(pc, None);
+        ways.longest.set(
+            pc,
+            Longest {
+                steps: return_steps(body.image.instr(pc)),
+                first: None,
+            },
+        );
     }
 }
 
@@ -31,17 +36,14 @@ fn begin(body: &Body, ways: &mut Ways) {
 fn lengthen(ways: &mut Ways, pc: u16, branch: bool, arc: &Arc) -> bool
     requires { pc < 4096 }
 {
-    let (costs, paid) = cost(arc, &ways.units.at(pc), &ways.units.at(arc.to));
-    let steps = ways
-        .steps
-        .at(arc.to)
-        .saturating_add(costs)
-        .saturating_sub(paid);
-    if steps <= ways.steps.at(pc) {
+    let (costs, paid) = cost(arc, &ways.units.at(pc).pay, &ways.units.at(arc.to).pay);
+    let behind = ways.longest.at(arc.to).steps;
+    let steps = behind.saturating_add(costs).saturating_sub(paid);
+    if steps <= ways.longest.at(pc).steps {
         return false;
     }
-    ways.steps.set(pc, steps);
-    ways.first.set(pc, Some(branch));
+    let first = Some(branch);
+    ways.longest.set(pc, Longest { steps, first });
     true
 }
 

@@ -7,7 +7,7 @@ use crate::asked::coefficients_join;
 use crate::body::Body;
 use crate::longest::find_longest;
 use crate::paid::back_edges;
-use crate::ways::{Ways, cost, unit_of};
+use crate::ways::{Units, Ways, cost};
 use geos_image::{MOST_INSTRS, Opcode};
 
 /// What a way round costs, what the units of counters pay of that, how many it takes of each counter, and which it sets.
@@ -32,7 +32,7 @@ impl Round {
 fn with_arc(round: &Round, ways: &Ways, pc: u16, arc: &Arc) -> Round
     requires { pc < 4096 }
 {
-    let (costs, paid) = cost(arc, &ways.units.at(pc), &ways.units.at(arc.to));
+    let (costs, paid) = cost(arc, &ways.units.at(pc).pay, &ways.units.at(arc.to).pay);
     let mut next = *round;
     next.costs = next.costs.saturating_add(costs);
     next.paid = next.paid.saturating_add(paid);
@@ -122,13 +122,12 @@ fn raise_at(ways: &mut Ways, pc: u16, arc: &Arc, raise: &Raise) -> bool
         return true;
     }
     let mut units = ways.units.at(pc);
-    let raised = ways.raised.at(pc);
-    let Some(unit) = raised_unit(units[usize::from(counter)], raised, raise) else {
+    let Some(unit) = raised_unit(units.pay[usize::from(counter)], units.raised, raise) else {
         return false;
     };
-    units[usize::from(counter)] = unit;
+    units.pay[usize::from(counter)] = unit;
+    units.raised = units.raised.saturating_add(1);
     ways.units.set(pc, units);
-    ways.raised.set(pc, raised.saturating_add(1));
     true
 }
 
@@ -169,10 +168,10 @@ fn carry_over(ways: &mut Ways, pc: u16, branch: bool) -> bool
     let Some(arc) = ways.arcs.at(pc, branch) else {
         return false;
     };
-    let old = ways.units.at(pc);
-    let new = coefficients_join(&old, &asked_units(&arc, &ways.units.at(arc.to)));
-    ways.units.set(pc, new);
-    new != old
+    let Units { pay: old, raised } = ways.units.at(pc);
+    let pay = coefficients_join(&old, &asked_units(&arc, &ways.units.at(arc.to).pay));
+    ways.units.set(pc, Units { pay, raised });
+    pay != old
 }
 
 /// The same over each edge of a routine, from the last to the first.
@@ -252,8 +251,8 @@ fn free_unit(ways: &Ways, pc: u16) -> Option<u32>
 {
     match ways.arcs.at(pc, true) {
         Some(arc) => {
-            let asked = ways.steps.at(arc.to).saturating_add(arc.steps);
-            u32::try_from(asked.saturating_sub(ways.steps.at(pc))).ok()
+            let asked = ways.longest.at(arc.to).steps.saturating_add(arc.steps);
+            u32::try_from(asked.saturating_sub(ways.longest.at(pc).steps)).ok()
         }
         None => Some(0),
     }
@@ -264,14 +263,14 @@ fn pay_free_at(body: &Body, ways: &mut Ways, pc: u16) -> bool
     requires { pc < body.now.end }
 {
     let counter = body.image.instr(pc).a;
-    if !ways.free.at(pc) || 4 <= counter {
+    if !ways.costs.at(pc).free || 4 <= counter {
         return true;
     }
     let Some(unit) = free_unit(ways, pc) else {
         return false;
     };
     let mut units = ways.units.at(pc);
-    units[usize::from(counter)] = unit.max(units[usize::from(counter)]);
+    units.pay[usize::from(counter)] = unit.max(units.pay[usize::from(counter)]);
     ways.units.set(pc, units);
     true
 }
@@ -291,8 +290,7 @@ fn pay_free(body: &Body, ways: &mut Ways) -> bool {
 /// a way round can't be paid for.
 pub(crate) fn find_units(body: &Body, ways: &mut Ways) -> bool {
     for pc in body.start..body.end {
-        ways.units.set(pc, [0; 4]);
-        ways.raised.set(pc, 0);
+        ways.units.set(pc, Units::NOTHING);
     }
     pay_all(body, ways) && pay_free(body, ways)
 }

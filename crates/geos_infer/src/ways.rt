@@ -6,66 +6,68 @@ use crate::arcs::{Arc, Arcs, Counting};
 use crate::table::Table;
 use std::alloc::{AllocError, Global};
 
+/// What units of counters cost at a place.
+#[derive(Clone, Copy)]
+pub(crate) struct Costs {
+    /// Whether a unit of each counter costs something there.
+    pub(crate) costly: [bool; 4],
+    /// Whether the way to its target is left out: a LOOP whose counter costs nothing.
+    pub(crate) free: bool,
+}
+
+/// What units of counters pay for at a place.
+#[derive(Clone, Copy)]
+pub(crate) struct Units {
+    /// What a unit of each counter pays for.
+    pub(crate) pay: [u32; 4],
+    /// How many times a LOOP's unit was raised.
+    pub(crate) raised: u16,
+}
+
+impl Units {
+    /// They pay for nothing.
+    pub(crate) const NOTHING: Units = Units {
+        pay: [0; 4],
+        raised: 0,
+    };
+}
+
+/// The longest way from a place that is known.
+#[derive(Clone, Copy)]
+pub(crate) struct Longest {
+    pub(crate) steps: u64,
+    /// Which edge it takes first, to the target where `true`; none where it has none.
+    pub(crate) first: Option<bool>,
+}
+
 /// What is found of the ways from each pc.
 #[derive(Drop)]
 pub(crate) struct Ways {
     pub(crate) arcs: Arcs,
-    /// Whether a unit of each counter costs something there.
-    pub(crate) costly: Table<[bool; 4]>,
-    /// Whether the way to its target is left out: a LOOP whose counter costs nothing.
-    pub(crate) free: Table<bool>,
-    /// What a unit of each counter pays for.
-    pub(crate) units: Table<[u32; 4]>,
-    /// How many times a LOOP's unit was raised.
-    pub(crate) raised: Table<u16>,
-    /// The steps of the longest way that is known.
-    pub(crate) steps: Table<u64>,
-    /// Which edge it takes first, to the target where `true`; none where it has none.
-    pub(crate) first: Table<Option<bool>>,
+    pub(crate) costs: Table<Costs>,
+    pub(crate) units: Table<Units>,
+    pub(crate) longest: Table<Longest>,
     /// From where a way was followed that came by.
     pub(crate) passed: Table<u16>,
 }
 
-/// No unit costs anything, and no way is left out.
-fn tables_of_costs(alloc: Global) -> Result<(Table<[bool; 4]>, Table<bool>), AllocError> {
-    let costly = Table::new(alloc, [false; 4])?;
-    let free = Table::new(alloc, false)?;
-    Ok((costly, free))
-}
-
-/// No unit pays for anything, and none was raised.
-fn tables_of_units(alloc: Global) -> Result<(Table<[u32; 4]>, Table<u16>), AllocError> {
-    let units = Table::new(alloc, [0; 4])?;
-    let raised = Table::new(alloc, 0)?;
-    Ok((units, raised))
-}
-
-/// No steps, no ways, and none followed.
-fn tables_of_steps(
-    alloc: Global,
-) -> Result<(Table<u64>, Table<Option<bool>>, Table<u16>), AllocError> {
-    let steps = Table::new(alloc, 0)?;
-    let first = Table::new(alloc, None)?;
-    let passed = Table::new(alloc, 0)?;
-    Ok((steps, first, passed))
-}
-
 impl Ways {
-    /// No edges, and nothing found.
+    /// No edges: no unit costs anything or pays for anything, no way is left out, and none takes a step.
     pub(crate) fn new(alloc: Global) -> Result<Ways, AllocError> {
-        let arcs = Arcs::new(alloc)?;
-        let (costly, free) = tables_of_costs(alloc)?;
-        let (units, raised) = tables_of_units(alloc)?;
-        let (steps, first, passed) = tables_of_steps(alloc)?;
+        let costs = Costs {
+            costly: [false; 4],
+            free: false,
+        };
+        let longest = Longest {
+            steps: 0,
+            first: None,
+        };
         Ok(Ways {
-            arcs,
-            costly,
-            free,
-            units,
-            raised,
-            steps,
-            first,
-            passed,
+            arcs: Arcs::new(alloc)?,
+            costs: Table::new(alloc, costs)?,
+            units: Table::new(alloc, Units::NOTHING)?,
+            longest: Table::new(alloc, longest)?,
+            passed: Table::new(alloc, 0)?,
         })
     }
 
@@ -73,7 +75,7 @@ impl Ways {
     pub(crate) fn counted(&self, pc: u16, branch: bool) -> Option<Arc>
         requires { pc < 4096 }
     {
-        if branch && self.free.at(pc) {
+        if branch && self.costs.at(pc).free {
             None
         } else {
             self.arcs.at(pc, branch)
@@ -84,7 +86,7 @@ impl Ways {
     pub(crate) fn next(&self, pc: u16) -> Option<Arc>
         requires { pc < 4096 }
     {
-        let branch = self.first.at(pc)?;
+        let branch = self.longest.at(pc).first?;
         self.arcs.at(pc, branch)
     }
 }
