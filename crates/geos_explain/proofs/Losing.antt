@@ -1,4 +1,4 @@
--- What the search for what lost a pointer names, loses it.
+-- What the search for why a pointer is not known finds is so.
 use Rattle.std.proofs.Common.{◌≡◌, ◌+◌, ℕ, zero, suc, Bool, true, false, not, cond, List, [], ◌∷◌, length, replicate, Option, Some, None, slice_get, get_or, set, refl, sym, ap, ◌∙◌, subst, ◌⊎◌, inl, inr}
 use Rattle.std.specs.Prelude.{◌&&◌, ◌==◌, nat_lt, is_some, is_none}
 use Rattle.std.proofs.lemmas.Bool.{and_parts, cases_eq, cases_lt, eqb-true}
@@ -13,16 +13,16 @@ use Rattle.geos_explain.specs.declared.ways.Way.TheVariants.{Entry, Along}
 use Rattle.geos_explain.specs.declared.ways.Sought.{Sought}
 use Rattle.geos_explain.specs.declared.arrivals.Arrivals.{Arrivals}
 use Rattle.geos_explain.specs.declared.trace.End.{End}
-use Rattle.geos_explain.specs.declared.trace.End.TheVariants.{Unreached}
+use Rattle.geos_explain.specs.declared.trace.End.TheVariants.{Unset, Unreached}
 use Rattle.geos_explain.specs.declared.trace.Meeting.{Meeting}
 use Rattle.geos_explain.specs.declared.trace.Trace.{Trace}
 use Rattle.geos_explain.specs.Edges.{has_edge, end_of}
 use Rattle.geos_explain.specs.Led.{no_marks, marked, is_marked, is_reached}
-use Rattle.geos_explain.specs.Places.{Place, comes_alike}
-use Rattle.geos_explain.specs.Ways.{comes_as, is_sought, way_of, way_at, or_way, first_way, entry_way, way_to, bringing, losing, with_hint, loses}
+use Rattle.geos_explain.specs.Places.{Place, agrees, comes_alike}
+use Rattle.geos_explain.specs.Ways.{is_as, comes_as, is_sought, way_of, way_at, or_way, first_way, entry_way, way_to, bringing, losing, with_hint, loses}
 use Rattle.geos_explain.specs.Arrivals.{no_arrivals, arrival, arrived, behind, arrived_along, arrived_from, arrived_over, next_arrivals, arrivals_at_entry, all_arrivals}
-use Rattle.geos_explain.specs.Trace.{meeting_at, or_meeting, end_at, or_end, passed, lacks, hint_at, back_by, back_along, back_from, back_over, next_round, rounds, begun, aside, aside_by, along_lost, traced_by, traced}
-use Rattle.geos_explain.specs.Lost.{ComesTo, LacksBehind, LacksAlong, Brings, IsHint, IsLost, NamesWhatLosesIt}
+use Rattle.geos_explain.specs.Trace.{without_way, meeting_at, or_meeting, end_at, or_end, passed, lacks, hint_at, back_by, back_along, back_from, back_over, next_round, rounds, begun, aside, aside_by, along_lost, traced_by, traced}
+use Rattle.geos_explain.specs.Lost.{ComesTo, LacksBehind, LacksAlong, Brings, IsHint, IsLost, LeadsBy, IsWay, IsAlike, IsMeeting, IsUnset, WhatIsSaidHolds}
 use Rattle.geos_explain.proofs.Reached.{Has, mark-was, none-marked}
 
 -- what stands in a list behind a change was there, or is the change
@@ -141,79 +141,92 @@ module _ (place : Place) (p : ℕ) where
   all-found zero = entry-found
   all-found (suc n) = next-found (all_arrivals place p n) (all-found n)
 
-  -- ---- Ways that do not bring it
+  -- ---- Ways
 
-  abbrev IsLosing : Way → ℕ → Type 0
-  IsLosing Entry to = Unit {0}
-  IsLosing (Along edge) to = comes_alike place edge.from ≡ true → LacksBehind place p edge to
+  -- what is sought
+  abbrev asked : Bool → ℕ → Bool → Sought
+  asked known to reached = record { p = p; to = to; known = known; reached = reached }
 
-  abbrev IsAlike : Way → Type 0
-  IsAlike Entry = Unit {0}
-  IsAlike (Along edge) = comes_alike place edge.from ≡ true
+  -- a way that was sought, from where control comes or does not
+  abbrev IsFound : Bool → Bool → Way → ℕ → Type 0
+  IsFound known reached Entry to = IsWay place p known Entry to
+  IsFound known reached (Along edge) to = LeadsBy place p known edge to × (agrees reached (is_reached place.image edge.from) ≡ true)
 
-  -- what is sought where a way does not bring it
-  abbrev asked : ℕ → Bool → Sought
-  asked to reached = record { p = p; to = to; known = false; reached = reached }
+  found-way : (known reached : Bool) (way : Way) (to : ℕ) → IsFound known reached way to → IsWay place p known way to
+  found-way known reached Entry to found = found
+  found-way known reached (Along edge) to found = found.0
 
-  sought-losing : (to : ℕ) (reached : Bool) (edge : Edge) (point : Point) → slice_get place.image.points edge.from ≡ Some point → is_sought place (asked to reached) edge point ≡ true → IsLosing (Along edge) to
-  sought-losing to reached edge point there is alike =
+  sought-found : (known : Bool) (to : ℕ) (reached : Bool) (edge : Edge) (point : Point) → slice_get place.image.points edge.from ≡ Some point → is_sought place (asked known to reached) edge point ≡ true → IsFound known reached (Along edge) to
+  sought-found known to reached edge point there is =
       let ends = end_of edge point.instr == to in
-      let comes = comes_as place (asked to reached) edge.from in
+      let comes = comes_as place (asked known to reached) edge.from in
       let has = has_edge point.instr edge.branch in
-      let last = and_parts (ends && comes && has) (is_stale (pointer_at (after place.image edge.from point.row edge.branch) p)) is in
+      let last = and_parts (ends && comes && has) (is_as known (pointer_at (after place.image edge.from point.row edge.branch) p)) is in
       let third = and_parts (ends && comes) has last.0 in
       let first = and_parts ends comes third.0 in
-      record {
-        comes = record { point = point; there = there; alike = alike; has = third.1; ends = eqb-true _ _ first.0 };
-        stale = last.1;
-      }
+      (record { point = point; there = there; has = third.1; ends = eqb-true _ _ first.0; is = last.1 }, first.1)
 
-  -- each way that there may be does not bring it
-  abbrev AllLosing : Option Way → ℕ → Type 0
-  AllLosing o to = (way : Way) → o ≡ Some way → IsLosing way to
+  -- each way that there may be is such a one
+  abbrev AllFound : Bool → Bool → Option Way → ℕ → Type 0
+  AllFound known reached o to = (way : Way) → o ≡ Some way → IsFound known reached way to
 
-  of-losing : (to : ℕ) (reached : Bool) (from : ℕ) (point : Point) → slice_get place.image.points from ≡ Some point → AllLosing (way_of place (asked to reached) from point) to
-  of-losing to reached from point there = by_test (is_sought place (asked to reached) (record { from = from; branch = false }) point) (is_sought place (asked to reached) (record { from = from; branch = true }) point) refl refl
+  of-found : (known : Bool) (to : ℕ) (reached : Bool) (from : ℕ) (point : Point) → slice_get place.image.points from ≡ Some point → AllFound known reached (way_of place (asked known to reached) from point) to
+  of-found known to reached from point there =
+      by_test (is_sought place (asked known to reached) (record { from = from; branch = false }) point) (is_sought place (asked known to reached) (record { from = from; branch = true }) point) refl refl
     where
-      by_test : (a b : Bool) → is_sought place (asked to reached) (record { from = from; branch = false }) point ≡ a → is_sought place (asked to reached) (record { from = from; branch = true }) point ≡ b
-          → AllLosing (cond a (Some (Along (record { from = from; branch = false }))) (cond b (Some (Along (record { from = from; branch = true }))) None)) to
-      by_test true b is_a is_b way e = subst (λ w. IsLosing w to) (some-same _ _ e) (sought-losing to reached (record { from = from; branch = false }) point there is_a)
-      by_test false true is_a is_b way e = subst (λ w. IsLosing w to) (some-same _ _ e) (sought-losing to reached (record { from = from; branch = true }) point there is_b)
+      by_test : (a b : Bool) → is_sought place (asked known to reached) (record { from = from; branch = false }) point ≡ a → is_sought place (asked known to reached) (record { from = from; branch = true }) point ≡ b
+          → AllFound known reached (cond a (Some (Along (record { from = from; branch = false }))) (cond b (Some (Along (record { from = from; branch = true }))) None)) to
+      by_test true b is_a is_b way e = subst (λ w. IsFound known reached w to) (some-same _ _ e) (sought-found known to reached (record { from = from; branch = false }) point there is_a)
+      by_test false true is_a is_b way e = subst (λ w. IsFound known reached w to) (some-same _ _ e) (sought-found known to reached (record { from = from; branch = true }) point there is_b)
       by_test false false is_a is_b way e = absurd cc
 
-  at-losing : (to : ℕ) (reached : Bool) (from : ℕ) → AllLosing (way_at place (asked to reached) from) to
+  at-found : (known : Bool) (to : ℕ) (reached : Bool) (from : ℕ) → AllFound known reached (way_at place (asked known to reached) from) to
   unfolding way_at
-  at-losing to reached from = by_point (slice_get place.image.points from) refl
+  at-found known to reached from = by_point (slice_get place.image.points from) refl
     where
-      by_point : (o : Option Point) → slice_get place.image.points from ≡ o → AllLosing (elim o [ None ↦ None | Some point ↦ way_of place (asked to reached) from point ]) to
+      by_point : (o : Option Point) → slice_get place.image.points from ≡ o → AllFound known reached (elim o [ None ↦ None | Some point ↦ way_of place (asked known to reached) from point ]) to
       by_point None e way is = absurd cc
-      by_point (Some point) e way is = of-losing to reached from point e way is
+      by_point (Some point) e way is = of-found known to reached from point e way is
 
-  or-losing : (a b : Option Way) (to : ℕ) → AllLosing a to → AllLosing b to → AllLosing (or_way a b) to
-  or-losing None b to left right = right
-  or-losing (Some way) b to left right = left
+  -- of two ways the first, if there is one
+  or-all : (P : Way → Type 0) (a b : Option Way) → ((way : Way) → a ≡ Some way → P way) → ((way : Way) → b ≡ Some way → P way) → (way : Way) → or_way a b ≡ Some way → P way
+  or-all P None b left right = right
+  or-all P (Some way) b left right = left
 
-  first-losing : (to : ℕ) (reached : Bool) (n : ℕ) → AllLosing (first_way place (asked to reached) n) to
+  first-found : (known : Bool) (to : ℕ) (reached : Bool) (n : ℕ) → AllFound known reached (first_way place (asked known to reached) n) to
   unfolding first_way
-  first-losing to reached zero = λ way is. absurd cc
-  first-losing to reached (suc n) =
+  first-found known to reached zero = λ way is. absurd cc
+  first-found known to reached (suc n) =
       let from = start_of place.image.routines place.r + n in
-      or-losing (first_way place (asked to reached) n) (way_at place (asked to reached) from) to (first-losing to reached n) (at-losing to reached from)
+      or-all (λ way. IsFound known reached way to) (first_way place (asked known to reached) n) (way_at place (asked known to reached) from) (first-found known to reached n) (at-found known to reached from)
 
-  entry-losing : (to : ℕ) (reached : Bool) → AllLosing (entry_way place (asked to reached)) to
-  entry-losing to reached way is =
-      let entry = cond-some _ (Some Entry) way is in
-      subst (λ w. IsLosing w to) (some-same _ _ entry.1) tt
+  entry-way : (known : Bool) (to : ℕ) (reached : Bool) → AllFound known reached (entry_way place (asked known to reached)) to
+  entry-way known to reached way is =
+      let start = start_of place.image.routines place.r in
+      let entry = cond-some (to == start && is_as known (pointer_at place.routine.entry p)) (Some Entry) way is in
+      let tests = and_parts (to == start) (is_as known (pointer_at place.routine.entry p)) entry.0 in
+      subst (λ w. IsFound known reached w to) (some-same _ _ entry.1) (eqb-true _ _ tests.0, tests.1)
 
-  to-losing : (to : ℕ) (reached : Bool) → AllLosing (way_to place (asked to reached)) to
+  to-found : (known : Bool) (to : ℕ) (reached : Bool) → AllFound known reached (way_to place (asked known to reached)) to
   unfolding way_to
-  to-losing to reached = or-losing (entry_way place (asked to reached)) (first_way place (asked to reached) place.routine.count) to (entry-losing to reached) (first-losing to reached place.routine.count)
+  to-found known to reached =
+      or-all (λ way. IsFound known reached way to) (entry_way place (asked known to reached)) (first_way place (asked known to reached) place.routine.count) (entry-way known to reached) (first-found known to reached place.routine.count)
 
-  losing-losing : (to : ℕ) → AllLosing (losing place p to) to
+  bringing-way : (to : ℕ) (way : Way) → bringing place p to ≡ Some way → IsWay place p true way to × IsAlike place way
+  unfolding bringing
+  bringing-way to way is = by_way way (to-found true to (is_reached place.image place.pc) way is)
+    where
+      by_way : (w : Way) → IsFound true (is_reached place.image place.pc) w to → IsWay place p true w to × IsAlike place w
+      by_way Entry found = (found, tt)
+      by_way (Along edge) found = (found.0, found.1)
+
+  losing-way : (to : ℕ) (way : Way) → losing place p to ≡ Some way → IsWay place p false way to
   unfolding losing
-  losing-losing to =
+  losing-way to =
       let reached = is_reached place.image place.pc in
-      or-losing (way_to place (asked to reached)) (way_to place (asked to (not reached))) to (to-losing to reached) (to-losing to (not reached))
+      or-all (λ way. IsWay place p false way to) (way_to place (asked false to reached)) (way_to place (asked false to (not reached)))
+      (λ way is. found-way false reached way to (to-found false to reached way is))
+      (λ way is. found-way false (not reached) way to (to-found false to (not reached) way is))
 
   -- ---- The search
 
@@ -221,35 +234,69 @@ module _ (place : Place) (p : ℕ) where
   LacksFrom pc = (edges : List Edge) × LacksAlong place p pc edges
 
   -- where ways meet
-  record Meets (trace : Trace) (m : Meeting) : Type 0 where
-    from : LacksFrom m.to
-    losing : IsLosing m.lost m.to
-    alike : trace.end ≡ None → IsAlike m.lost
+  record Meets (end : Option End) (m : Meeting) : Type 0 where
+    is : IsMeeting place p m
+    alike : end ≡ None → IsAlike place m.lost
 
   record Sound (trace : Trace) : Type 0 where
     found : Found trace.arrivals
     passed : (k : ℕ) → Has trace.passed k → LacksFrom k
     lost : (edge : Edge) → trace.lost ≡ Some edge → IsLost place p edge
-    meeting : (m : Meeting) → trace.meeting ≡ Some m → Meets trace m
+    meeting : (m : Meeting) → trace.meeting ≡ Some m → Meets trace.end m
+    unset : trace.end ≡ Some Unset → IsUnset place p
 
-  meeting-is : (at : ℕ) (lost : Option Way) (m : Meeting) → meeting_at place p at lost ≡ Some m → (m.to ≡ at) × (lost ≡ Some m.lost)
+  -- what is known of a meeting at a pc
+  record IsAt (at : ℕ) (losing : Option Way) (m : Meeting) : Type 0 where
+    to : m.to ≡ at
+    known : bringing place p at ≡ Some m.known
+    lost : losing ≡ Some m.lost
+
+  meeting-is : (at : ℕ) (lost : Option Way) (m : Meeting) → meeting_at place p at lost ≡ Some m → IsAt at lost m
   meeting-is at None m e = absurd cc
-  meeting-is at (Some way) m e = by_known (bringing place p at) e
+  meeting-is at (Some way) m e = by_known (bringing place p at) refl e
     where
-      by_known : (o : Option Way) → elim o [ None ↦ None | Some known ↦ Some (record { to = at; known = known; lost = way }) ] ≡ Some m → (m.to ≡ at) × (Some way ≡ Some m.lost)
-      by_known None is = absurd cc
-      by_known (Some known) is =
-          let same = some-same _ _ is in
-          (sym (ap (λ (n : Meeting). n.to) same), sym (ap (λ (n : Meeting). Some n.lost) (sym same)))
+      by_known : (o : Option Way) → bringing place p at ≡ o → elim o [ None ↦ None | Some known ↦ Some (record { to = at; known = known; lost = way }) ] ≡ Some m → IsAt at (Some way) m
+      by_known None brings is = absurd cc
+      by_known (Some known) brings is =
+          let same = some-same (record { to = at; known = known; lost = way }) m is in
+          record {
+            to = sym (ap (λ (n : Meeting). n.to) same);
+            known = brings ∙ ap (λ (n : Meeting). Some n.known) same;
+            lost = ap (λ (n : Meeting). Some n.lost) same;
+          }
 
   -- where an end is none, control comes along the way
-  end-alike : (at : ℕ) (way : Way) → end_at place p at (Some way) ≡ None → IsAlike way
+  end-alike : (at : ℕ) (way : Way) → end_at place p at (Some way) ≡ None → IsAlike place way
   end-alike at Entry e = tt
   end-alike at (Along edge) e = by_alike (comes_alike place edge.from) refl e
     where
       by_alike : (b : Bool) → comes_alike place edge.from ≡ b → cond b None (Some (Unreached edge.from)) ≡ None → comes_alike place edge.from ≡ true
       by_alike true is none = is
       by_alike false is none = absurd cc
+
+  -- that it is not set is said only at the routine's beginning
+  end-unset : (at : ℕ) (lost : Option Way) → end_at place p at lost ≡ Some Unset → lost ≡ Some Entry
+  end-unset at None e = by_known (bringing place p at) e
+    where
+      by_known : (o : Option Way) → Some (without_way at o) ≡ Some Unset → None ≡ Some Entry
+      by_known None is = absurd cc
+      by_known (Some way) is = absurd cc
+  end-unset at (Some Entry) e = refl
+  end-unset at (Some (Along edge)) e = by_alike (comes_alike place edge.from) e
+    where
+      by_alike : (b : Bool) → cond b None (Some (Unreached edge.from)) ≡ Some Unset → Some (Along edge) ≡ Some Entry
+      by_alike true is = absurd cc
+      by_alike false is = absurd cc
+
+  at-unset : (at : ℕ) → LacksFrom at → end_at place p at (losing place p at) ≡ Some Unset → IsUnset place p
+  at-unset at from e =
+      let way = losing-way at Entry (end-unset at (losing place p at) e) in
+      let start = subst LacksFrom way.0 from in
+      record { entry = way.1; edges = start.0; way = start.1 }
+
+  or-unset : (o other : Option End) → or_end o other ≡ Some Unset → (o ≡ Some Unset) ⊎ (other ≡ Some Unset)
+  or-unset None other e = inr e
+  or-unset (Some end) other e = inl e
 
   or-none : (o other : Option End) → or_end o other ≡ None → o ≡ None
   or-none None other e = refl
@@ -262,23 +309,35 @@ module _ (place : Place) (p : ℕ) where
       marks : (k : ℕ) → Has (marked trace.passed at) k → LacksFrom k
       marks k h = elim (mark-was trace.passed at k h) [ inl same ↦ subst LacksFrom (sym same) from | inr was ↦ sound.passed k was ]
 
+      later : or_end trace.end (end_at place p at (losing place p at)) ≡ Some Unset → IsUnset place p
+      later e = elim (or-unset trace.end (end_at place p at (losing place p at)) e) [ inl was ↦ sound.unset was | inr here ↦ at-unset at from here ]
+
+      met-here : (m : Meeting) → IsAt at (losing place p at) m → Meets (end_at place p at (losing place p at)) m
+      met-here m is =
+          let here = subst LacksFrom (sym is.to) from in
+          let known = bringing-way at m.known is.known in
+          record {
+            is = record {
+              edges = here.0;
+              way = here.1;
+              known = subst (λ to. IsWay place p true m.known to) (sym is.to) known.0;
+              taken = known.1;
+              lost = subst (λ to. IsWay place p false m.lost to) (sym is.to) (losing-way at m.lost is.lost);
+            };
+            alike = λ none. end-alike at m.lost (ap (end_at place p at) (sym is.lost) ∙ none);
+          }
+
       by_meeting : (before new : Option Meeting) → trace.meeting ≡ before → meeting_at place p at (losing place p at) ≡ new
           → Sound (cond (is_none before && is_some (or_meeting before new))
           (record trace { passed = marked trace.passed at; goes_on = true; found = true; meeting = or_meeting before new; end = end_at place p at (losing place p at) })
           (record trace { passed = marked trace.passed at; goes_on = true; meeting = or_meeting before new; end = or_end trace.end (end_at place p at (losing place p at)) }))
-      by_meeting None None is_before is_new = record { found = sound.found; passed = marks; lost = sound.lost; meeting = λ m e. absurd cc }
+      by_meeting None None is_before is_new = record { found = sound.found; passed = marks; lost = sound.lost; meeting = λ m e. absurd cc; unset = later }
       by_meeting None (Some new) is_before is_new = record {
         found = sound.found;
         passed = marks;
         lost = sound.lost;
-        meeting = λ m e.
-            (let same = some-same new m e in
-            let is = meeting-is at (losing place p at) m (is_new ∙ ap (λ n. Some n) same) in
-            record {
-              from = subst LacksFrom (sym is.0) from;
-              losing = subst (λ to. IsLosing m.lost to) (sym is.0) (losing-losing at m.lost is.1);
-              alike = λ none. end-alike at m.lost (ap (end_at place p at) (sym is.1) ∙ none);
-            });
+        meeting = λ m e. met-here m (meeting-is at (losing place p at) m (is_new ∙ e));
+        unset = at-unset at from;
       }
       by_meeting (Some m0) new is_before is_new = record {
         found = sound.found;
@@ -286,7 +345,8 @@ module _ (place : Place) (p : ℕ) where
         lost = sound.lost;
         meeting = λ m e.
             (let met = sound.meeting m (is_before ∙ e) in
-            record { from = met.from; losing = met.losing; alike = λ none. met.alike (or-none trace.end (end_at place p at (losing place p at)) none) });
+            record { is = met.is; alike = λ none. met.alike (or-none trace.end (end_at place p at (losing place p at)) none) });
+        unset = later;
       }
 
   by-sound : (trace : Trace) → Sound trace → (edge : Edge) (to : ℕ) (behind : LacksBehind place p edge to) → LacksFrom to → Sound (back_by place p trace edge behind.comes.point)
@@ -308,7 +368,8 @@ module _ (place : Place) (p : ℕ) where
               way = from.1;
             } in
             subst (λ x. IsLost place p x) (some-same edge e same) lost);
-        meeting = λ m e. (let met = sound.meeting m e in record { from = met.from; losing = met.losing; alike = met.alike });
+        meeting = λ m e. (let met = sound.meeting m e in record { is = met.is; alike = met.alike });
+        unset = sound.unset;
       }
       by_loss false is = by_mark (is_marked trace.passed edge.from)
         where
@@ -360,7 +421,8 @@ module _ (place : Place) (p : ℕ) where
     found = subst Found (sym arrivals) sound.found;
     passed = λ k h. sound.passed k (passed k h);
     lost = λ edge e. sound.lost edge (sym lost ∙ e);
-    meeting = λ m e. (let met = sound.meeting m (sym meeting ∙ e) in record { from = met.from; losing = met.losing; alike = λ none. met.alike (sym end ∙ none) });
+    meeting = λ m e. (let met = sound.meeting m (sym meeting ∙ e) in record { is = met.is; alike = λ none. met.alike (sym end ∙ none) });
+    unset = λ e. sound.unset (sym end ∙ e);
   }
 
   next-sound : (trace : Trace) → Sound trace → Sound (next_round place p trace)
@@ -383,6 +445,7 @@ module _ (place : Place) (p : ℕ) where
         passed = λ k h. absurd (none-marked k h);
         lost = λ edge e. absurd cc;
         meeting = λ m e. absurd cc;
+        unset = λ e. absurd cc;
       } in
       pass-sound start sound place.pc ([], refl)
 
@@ -391,17 +454,19 @@ module _ (place : Place) (p : ℕ) where
   aside-sound trace sound edge to behind from = rw (behind.comes.there, aside) (by-sound trace sound edge to behind from)
 
   -- on from a meeting, where nothing else was passed
-  anew-sound : (trace : Trace) → Sound trace → (o : Option End) (way : Way) (to : ℕ) → (o ≡ None → IsAlike way) → IsLosing way to → LacksFrom to → Sound (cond (is_some o) trace (aside_by place p trace way))
+  anew-sound : (trace : Trace) → Sound trace → (o : Option End) (way : Way) (to : ℕ) → (o ≡ None → IsAlike place way) → IsWay place p false way to → LacksFrom to → Sound (cond (is_some o) trace (aside_by place p trace way))
   anew-sound trace sound (Some end) way to alike losing from = sound
   anew-sound trace sound None Entry to alike losing from = sound
-  anew-sound trace sound None (Along edge) to alike losing from = aside-sound trace sound edge to (losing (alike refl)) from
+  anew-sound trace sound None (Along edge) to alike losing from =
+      let behind : LacksBehind place p edge to = record { comes = record { point = losing.point; there = losing.there; alike = alike refl; has = losing.has; ends = losing.ends }; stale = losing.is } in
+      aside-sound trace sound edge to behind from
 
   lost-sound : (trace : Trace) → Sound trace → (m : Meeting) → trace.meeting ≡ Some m → Sound (along_lost place p trace m.lost)
   lost-sound trace sound m is =
       let next : Trace = record trace { passed = no_marks; goes_on = false; found = is_some trace.end } in
       let same : Sound next = same-sound trace next sound refl (λ k h. absurd (none-marked k h)) refl refl refl in
       let met = sound.meeting m is in
-      anew-sound next same trace.end m.lost m.to met.alike met.losing met.from
+      anew-sound next same trace.end m.lost m.to met.alike met.is.lost (met.is.edges, met.is.way)
 
   traced-sound : Sound (traced place p)
   traced-sound =
@@ -412,5 +477,7 @@ module _ (place : Place) (p : ℕ) where
       by_meeting first sound None e = sound
       by_meeting first sound (Some m) e = rounds-sound (along_lost place p first m.lost) (lost-sound first sound m e) place.routine.count
 
-pub names-loss : NamesWhatLosesIt
-names-loss place p edge e = let sound = traced-sound place p in sound.lost edge e
+pub said-holds : WhatIsSaidHolds
+said-holds place p =
+    let sound = traced-sound place p in
+    record { lost = sound.lost; meeting = λ m e. (let met = sound.meeting m e in met.is); unset = sound.unset }

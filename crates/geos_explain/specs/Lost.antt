@@ -1,14 +1,18 @@
--- Where a pointer was lost: on some way it is known, an instruction loses it there, and from there a way leads to the place that
--- does not bring it.
-use Rattle.std.specs.Prelude.{◌≡◌, ◌⊎◌, ℕ, true, List, [], ◌∷◌, Option, Some, None, slice_get}
+-- What is said of a pointer that is not known: where it was lost, where ways meet, and that it is not set.
+use Rattle.std.specs.Prelude.{◌≡◌, ◌⊎◌, ℕ, Bool, true, false, List, [], ◌∷◌, Option, Some, None, slice_get}
 use Rattle.geos_image.specs.declared.point.Point.{Point}
 use Rattle.geos_image.specs.declared.row.Pointer.{Pointer}
 use Rattle.geos_image.specs.Parts.{start_of}
 use Rattle.geos_verify.specs.Rows.{pointer_at, is_stale, after}
 use Rattle.geos_explain.specs.declared.edges.Edge.{Edge}
+use Rattle.geos_explain.specs.declared.ways.Way.{Way}
+use Rattle.geos_explain.specs.declared.ways.Way.TheVariants.{Entry, Along}
+use Rattle.geos_explain.specs.declared.trace.End.TheVariants.{Unset}
+use Rattle.geos_explain.specs.declared.trace.Meeting.{Meeting}
+use Rattle.geos_explain.specs.declared.trace.Trace.{Trace}
 use Rattle.geos_explain.specs.Edges.{has_edge, end_of}
 use Rattle.geos_explain.specs.Places.{Place, comes_alike}
-use Rattle.geos_explain.specs.Ways.{loses}
+use Rattle.geos_explain.specs.Ways.{is_as, loses}
 use Rattle.geos_explain.specs.Arrivals.{behind}
 use Rattle.geos_explain.specs.Trace.{traced}
 
@@ -53,6 +57,45 @@ pub record IsLost (place : Place) (p : ℕ) (edge : Edge) : Type 0 where
   pub edges : List Edge
   pub way : LacksAlong place p to edges
 
--- where an instruction is named that loses a pointer, it does
-abbrev pub NamesWhatLosesIt : Type 0
-NamesWhatLosesIt = (place : Place) (p : ℕ) (edge : Edge) → (traced place p).lost ≡ Some edge → IsLost place p edge
+-- an edge leads to a pc, and behind it the row knows the pointer, or does not, as is said
+pub record LeadsBy (place : Place) (p : ℕ) (known : Bool) (edge : Edge) (to : ℕ) : Type 0 where
+  pub point : Point
+  pub there : slice_get place.image.points edge.from ≡ Some point
+  pub has : has_edge point.instr edge.branch ≡ true
+  pub ends : end_of edge point.instr ≡ to
+  pub is : is_as known (pointer_at (after place.image edge.from point.row edge.branch) p) ≡ true
+
+-- a way leads to a pc and brings the pointer, or does not, as is said; the caller's leads to the routine's beginning
+abbrev pub IsWay : Place → ℕ → Bool → Way → ℕ → Type 0
+IsWay place p known Entry to = (to ≡ start_of place.image.routines place.r) × (is_as known (pointer_at place.routine.entry p) ≡ true)
+IsWay place p known (Along edge) to = LeadsBy place p known edge to
+
+-- control comes along a way as it comes to the place
+abbrev pub IsAlike : Place → Way → Type 0
+IsAlike place Entry = Unit {0}
+IsAlike place (Along edge) = comes_alike place edge.from ≡ true
+
+-- ways meet from where the pointer can be lacking at the place: one that control takes brings it, and another does not
+pub record IsMeeting (place : Place) (p : ℕ) (m : Meeting) : Type 0 where
+  pub edges : List Edge
+  pub way : LacksAlong place p m.to edges
+  pub known : IsWay place p true m.known m.to
+  pub taken : IsAlike place m.known
+  pub lost : IsWay place p false m.lost m.to
+
+-- the caller does not bring the pointer, and from the routine's beginning a way leads to the place that does not bring it
+pub record IsUnset (place : Place) (p : ℕ) : Type 0 where
+  pub entry : is_stale (pointer_at place.routine.entry p) ≡ true
+  pub edges : List Edge
+  pub way : LacksAlong place p (start_of place.image.routines place.r) edges
+
+-- what is said of a pointer holds: where an instruction is named that lost it, it did; where ways are named that meet, they do;
+-- and where it is said that it is not set, it is not
+pub record Holds (place : Place) (p : ℕ) (trace : Trace) : Type 0 where
+  pub lost : (edge : Edge) → trace.lost ≡ Some edge → IsLost place p edge
+  pub meeting : (m : Meeting) → trace.meeting ≡ Some m → IsMeeting place p m
+  pub unset : trace.end ≡ Some Unset → IsUnset place p
+
+-- what is said of a pointer holds, at each place
+abbrev pub WhatIsSaidHolds : Type 0
+WhatIsSaidHolds = (place : Place) (p : ℕ) → Holds place p (traced place p)

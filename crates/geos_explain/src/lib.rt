@@ -34,4 +34,4 @@ pub use led::marks_what_is_reached;
 pub use listed::{explanation_is_listing_with_notes, explanation_is_text_with_notes};
 pub use numbers::{put_numbered, put_pc};
 pub use texts::explain_text;
-pub use trace::what_is_named_loses_the_pointer;
+pub use trace::what_is_said_of_a_pointer_holds;

@@ -2,7 +2,7 @@
 
 ghost use Rattle.std.specs.Prelude.{◌≡◌, Some, slice_get};
 ghost use Rattle.geos_explain.specs.Places.{IsPlace, place_of};
-ghost use Rattle.geos_explain.specs.Lost.{NamesWhatLosesIt};
+ghost use Rattle.geos_explain.specs.Lost.{WhatIsSaidHolds};
 ghost use Rattle.geos_explain.specs.Trace.{meets, meeting_at, or_meeting, without_way, end_along, end_at, or_end, stops, passed_by, passed, lacks, hint_at, back_by, back_along, back_from, back_over, next_round, rounds, begun, aside, aside_by, along_lost, traced_by, traced};
 
 use crate::arrivals::{Arrivals, all_arrivals, arrival};
@@ -349,7 +349,8 @@ pub(crate) fn traced(place: &Place, p: u8) -> Trace
 }
 
 /// A law: the instruction that is named as the one that lost a pointer loses it, where on some way it is known, and from there
-/// a way leads to the place along which no row knows it.
-pub fn what_is_named_loses_the_pointer()
-    ensures { NamesWhatLosesIt }
+/// a way leads to the place along which no row knows it; of ways that are named where they meet, one brings it and another does
+/// not; and where it is said that it is not set, such a way leads there from the routine's beginning.
+pub fn what_is_said_of_a_pointer_holds()
+    ensures { WhatIsSaidHolds }
 {}
