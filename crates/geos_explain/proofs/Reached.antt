@@ -13,10 +13,10 @@ use Rattle.geos_image.specs.Parts.{Parts, start_of}
 use Rattle.geos_image.specs.Legal.{is_image}
 use Rattle.geos_image.proofs.Instrs.{image_parts, instr_fits}
 use Rattle.geos_image.proofs.Starts.{start_of-end}
-use Rattle.geos_verify.specs.Rows.{is_label}
+use Rattle.geos_verify.specs.Rows.{is_label, has_edge}
 use Rattle.geos_verify.proofs.Places.{item_at}
 use Rattle.geos_explain.specs.declared.edges.Edge.{Edge}
-use Rattle.geos_explain.specs.Edges.{has_edge, end_of, are_in_one, takes}
+use Rattle.geos_explain.specs.Edges.{end_of, are_in_one, takes}
 use Rattle.geos_explain.specs.Led.{no_marks, marked, is_marked, end_marked, marked_from, marked_at, marked_round, starts_marked, reached_within, reached, is_reached, LeadsTo, Lead, IsReached, MarksWhatIsReached}
 
 -- ---- Marks

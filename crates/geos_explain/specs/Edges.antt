@@ -3,13 +3,9 @@ use Rattle.std.specs.Prelude.{ℕ, zero, suc, ◌+◌, Bool, false, ◌&&◌, �
 use Rattle.std.specs.Option.{option_map_or}
 use Rattle.geos_image.specs.declared.instr.Instr.{Instr}
 use Rattle.geos_image.specs.Parts.{Parts, start_of}
-use Rattle.geos_verify.specs.Rows.{falls_through, branches}
+use Rattle.geos_verify.specs.Rows.{has_edge}
 use Rattle.geos_verify.specs.Rules.{has_place}
 use Rattle.geos_explain.specs.declared.edges.Edge.{Edge}
-
--- the instruction has the edge
-abbrev pub has_edge : Instr → Bool → Bool
-has_edge i branch = if branch then branches i.opcode else falls_through i.opcode
 
 -- the pc that an edge of an instruction leads to
 abbrev pub end_of : Edge → Instr → ℕ

@@ -2,7 +2,7 @@
 use Rattle.std.specs.Prelude.{ℕ, zero, suc, ◌+◌, true, false, ◌&&◌, not, if◌then◌else◌, Bool, Option, Some, None, is_some, is_none, slice_get}
 use Rattle.geos_image.specs.declared.point.Point.{Point}
 use Rattle.geos_image.specs.Parts.{start_of}
-use Rattle.geos_verify.specs.Rows.{pointer_at, is_stale, after}
+use Rattle.geos_verify.specs.Rows.{pointer_at, is_stale, after, has_edge}
 use Rattle.geos_explain.specs.declared.edges.Edge.{Edge}
 use Rattle.geos_explain.specs.declared.ways.Followed.{Followed}
 use Rattle.geos_explain.specs.declared.ways.Way.{Way}
@@ -12,7 +12,7 @@ use Rattle.geos_explain.specs.declared.trace.End.TheVariants.{Unset, Unreached, 
 use Rattle.geos_explain.specs.declared.trace.Meeting.{Meeting}
 use Rattle.geos_explain.specs.declared.trace.Trace.{Trace}
 use Rattle.geos_explain.specs.Led.{no_marks, marked, is_marked}
-use Rattle.geos_explain.specs.Edges.{has_edge, end_of}
+use Rattle.geos_explain.specs.Edges.{end_of}
 use Rattle.geos_explain.specs.Places.{Place, comes_alike}
 use Rattle.geos_explain.specs.Ways.{bringing, losing, loses}
 use Rattle.geos_explain.specs.Arrivals.{arrival, all_arrivals}

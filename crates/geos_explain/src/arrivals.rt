@@ -4,13 +4,13 @@ ghost use Rattle.std.specs.Prelude.{◌≡◌, Some, slice_get};
 ghost use Rattle.geos_explain.specs.Places.{IsPlace, place_of};
 ghost use Rattle.geos_explain.specs.Arrivals.{no_arrivals, arrival, arrived, behind, arrived_along, arrived_from, arrived_over, next_arrivals, arrivals_at_entry, all_arrivals};
 
-use crate::edges::{Edge, end_of, has_edge};
+use crate::edges::{Edge, end_of};
 use crate::place::Place;
 use crate::points::point_at;
 use crate::routines::comes_alike;
 use crate::ways::{Followed, is_stale, with_hint};
 use geos_image::{Image, Point, Pointer};
-use geos_verify::{after, pointer_at};
+use geos_verify::{after, has_edge, pointer_at};
 
 /// What is known of a pointer on some way to each pc.
 #[derive(Clone, Copy)]

@@ -1,27 +1,16 @@
 //! The edges along which control goes from an instruction.
 
 ghost use Rattle.std.specs.Prelude.{◌≡◌, ◌<◌, length};
-ghost use Rattle.geos_explain.specs.Edges.{has_edge, end_of, lies_in, are_in_one, takes};
+ghost use Rattle.geos_explain.specs.Edges.{end_of, lies_in, are_in_one, takes};
 
 use geos_image::{Image, Instr};
-use geos_verify::{branches, falls_through};
+use geos_verify::has_edge;
 
 /// An edge of the instruction at a pc: to its target, or on to the next instruction.
 #[derive(Clone, Copy)]
 pub(crate) struct Edge {
     pub from: u16,
     pub branch: bool,
-}
-
-/// Whether the instruction has the edge.
-pub(crate) fn has_edge(i: &Instr, branch: bool) -> bool
-    ensures { result ≡ has_edge i.now branch }
-{
-    if branch {
-        branches(i.opcode)
-    } else {
-        falls_through(i.opcode)
-    }
 }
 
 /// The pc that the edge of the instruction leads to.

@@ -6,14 +6,14 @@ ghost use Rattle.geos_explain.specs.Lost.{WhatIsSaidHolds};
 ghost use Rattle.geos_explain.specs.Trace.{meets, meeting_at, or_meeting, without_way, end_along, end_at, or_end, stops, passed_by, passed, lacks, hint_at, back_by, back_along, back_from, back_over, next_round, rounds, begun, aside, aside_by, along_lost, traced_by, traced};
 
 use crate::arrivals::{Arrivals, all_arrivals, arrival};
-use crate::edges::{Edge, end_of, has_edge};
+use crate::edges::{Edge, end_of};
 use crate::led::{Marks, is_marked, mark, no_marks};
 use crate::place::Place;
 use crate::points::point_at;
 use crate::routines::comes_alike;
 use crate::ways::{Followed, Way, bringing, is_stale, loses, losing};
 use geos_image::Point;
-use geos_verify::{after, pointer_at};
+use geos_verify::{after, has_edge, pointer_at};
 
 /// Ways meet, of which one brings a pointer and another does not.
 #[derive(Clone, Copy)]

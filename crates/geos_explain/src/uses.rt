@@ -1,7 +1,7 @@
 //! What is wrong with the slots and pointers that an instruction uses.
 
 ghost use Rattle.std.specs.Prelude.{◌≡◌, ◌<◌, ◌++◌, OnOk, map};
-ghost use Rattle.geos_verify.specs.Uses.{bytes_in, OffsetFits, PointerFits};
+ghost use Rattle.geos_verify.specs.Uses.{OffsetFits, PointerFits};
 ghost use Rattle.geos_explain.specs.Uses.{state_item, nowhere_only, leading_nowhere, nowhere_tail, nowhere_items, nowhere_words, short_words, is_any, index_known, index_wanted, known_bytes, index_words, reach_words, past_words, slot_behind, changed_slot, mark_word, unmarked_words, held_words, kind_wish, slot_wish, unlocks_text, marks_text, serving, other_item, slot_words};
 
 use crate::numbers::{bytes_word, is_one_item, verb};
@@ -9,7 +9,7 @@ use crate::parts::{Part, put_parts};
 use geos_image::{Instr, Pointer, Row, SlotState};
 use geos_listing::{put_items, state_word};
 use geos_opcodes::{Kind, Offset, PointerUse, SlotUse, Width};
-use geos_verify::{leads_nowhere, least_at, pointer_at, reach, slot_state};
+use geos_verify::{bytes_in, leads_nowhere, least_at, pointer_at, reach, slot_state};
 use std::alloc::{AllocError, Global};
 
 /// A slot, and what the row says that it holds.
@@ -106,16 +106,6 @@ fn put_short(out: &mut Vec<u8>, p: u8, wanted: u32, row: &Row) -> Result<(), All
             Part::Text(" known there"),
         ],
     )
-}
-
-/// How many bytes a read or a write is wide.
-fn bytes_in(width: Width) -> u16
-    ensures { result ≡ bytes_in width }
-{
-    match width {
-        Width::Byte => 1,
-        Width::Both => 2,
-    }
 }
 
 /// Whether a word may be any number.

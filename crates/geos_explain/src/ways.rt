@@ -5,14 +5,14 @@ ghost use Rattle.geos_verify.specs.Rows.{is_stale};
 ghost use Rattle.geos_explain.specs.Places.{IsPlace, place_of};
 ghost use Rattle.geos_explain.specs.Ways.{is_as, comes_as, is_sought, way_of, way_at, or_way, first_way, entry_way, way_to, bringing, losing, with_hint, goes_stale, makes_stale, sets, forgets, loses};
 
-use crate::edges::{Edge, end_of, has_edge};
+use crate::edges::{Edge, end_of};
 use crate::led::is_reached;
 use crate::place::Place;
 use crate::points::point_at;
 use crate::routines::agrees;
 use geos_image::{Image, Instr, Opcode, Point, Pointer, Row};
 use geos_opcodes::PointerUse;
-use geos_verify::{after, pointer_at};
+use geos_verify::{after, has_edge, pointer_at};
 
 /// A way to an instruction.
 #[derive(Clone, Copy)]
