@@ -1,8 +1,8 @@
 -- Texts that are written piece by piece.
-use Rattle.std.proofs.Common.{◌≡◌, ◌<◌, ℕ, zero, suc, ◌+◌, ◌-◌, List, [], ◌∷◌, ◌++◌, length, get_or, take, drop, inl, inr, length-drop, sym, ap, ◌∙◌, append_assoc, arith}
+use Rattle.std.proofs.Common.{◌≡◌, ◌<◌, ℕ, zero, suc, ◌+◌, ◌-◌, List, [], ◌∷◌, ◌++◌, length, get_or, map, take, drop, inl, inr, length-drop, sym, ap, ◌∙◌, append_assoc, arith}
 use Rattle.std.specs.Prelude.{min}
 use Rattle.std.specs.List.{flat_map, range_with_len}
-use Rattle.std.proofs.lemmas.List.{take_all, take_more, append-nil}
+use Rattle.std.proofs.lemmas.List.{take_all, take_more, map_more, append-nil}
 use Rattle.std.proofs.lemmas.Bool.{cases_lt}
 use Rattle.std.proofs.lemmas.Grind.{flat_map-append}
 
@@ -31,6 +31,12 @@ pub take-step : {X : Type 0} (start middle after piece : List ℕ) (f : X → Li
     → middle ≡ start ++ flat_map f (take k xs) → after ≡ middle ++ piece → piece ≡ f (get_or xs k d) → after ≡ start ++ flat_map f (take (k + 1) xs)
 take-step start middle after piece f xs k d lt so_far written is =
     said start middle after piece f (take k xs) (take (k + 1) xs) (get_or xs k d) (take_more xs k d lt) so_far written is
+
+-- a list that is made item by item has one more
+pub map-step : (start middle after : List ℕ) (f : ℕ → ℕ) (xs : List ℕ) (k y : ℕ) → k < length xs
+    → middle ≡ start ++ map f (take k xs) → after ≡ middle ++ y ∷ [] → y ≡ f (get_or xs k 0) → after ≡ start ++ map f (take (k + 1) xs)
+map-step start middle after f xs k y lt so_far pushed is =
+    pushed ∙ ap (λ t. t ++ y ∷ []) so_far ∙ append_assoc start (map f (take k xs)) (y ∷ []) ∙ ap (λ t. start ++ t) (ap (λ x. map f (take k xs) ++ x ∷ []) is ∙ sym (map_more f xs k 0 lt))
 
 -- a text behind another one
 pub both-texts : (empty first second x y z : List ℕ) → empty ≡ [] → first ≡ empty ++ x → second ≡ first ++ y → y ≡ z → second ≡ x ++ z

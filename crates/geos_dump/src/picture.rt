@@ -49,22 +49,24 @@ fn longest<D: Device + Drop>(file: &VmFile<D>, side: Side) -> u16 {
     sizes.max().unwrap_or(0)
 }
 
-/// The areas, which one is read, and how much of it the pair takes.
-fn put_areas<D: Device + Drop>(
-    out: &mut Vec<u8>,
-    file: &VmFile<D>,
-    areas: Areas,
-    width: u16,
-) -> Result<(), AllocError> {
-    let name = if areas.second { "B" } else { "A" };
-    let pair = taken(file, Side::Current) + taken(file, Side::Saved);
-    let columns = usize::from(width.saturating_sub(2));
+/// The name of the area that is read.
+fn name_of(areas: Areas) -> &'static str {
+    if areas.second { "B" } else { "A" }
+}
+
+/// The line of the areas: which one is read, and how much of it the pair takes.
+fn put_areas(out: &mut Vec<u8>, areas: Areas, pair: u32) -> Result<(), AllocError> {
     put_numbered(out, "areas of ", areas.size as usize)?;
     out.extend_from_slice(b" bytes, ")?;
-    out.extend_from_slice(name.as_bytes())?;
+    out.extend_from_slice(name_of(areas).as_bytes())?;
     put_numbered(out, " is read, ", pair as usize)?;
-    out.extend_from_slice(b" taken\n")?;
-    out.extend_from_slice(name.as_bytes())?;
+    out.extend_from_slice(b" taken\n")
+}
+
+/// The bar of the area that is read, of which the pair takes so many bytes.
+fn put_area(out: &mut Vec<u8>, areas: Areas, pair: u32, width: u16) -> Result<(), AllocError> {
+    let columns = usize::from(width.saturating_sub(2));
+    out.extend_from_slice(name_of(areas).as_bytes())?;
     out.extend_from_slice(b" ")?;
     put_bar(out, columns_of(pair, areas.size, columns), columns)?;
     out.extend_from_slice(b"\n")
@@ -182,7 +184,9 @@ pub fn map<D: Device + Drop>(
     };
     let mut buffer = vec![in alloc; 0u8; MOST_BLOCK_BYTES]?;
     let mut out = Vec::new(alloc);
-    put_areas(&mut out, file, areas, width)?;
+    let pair = taken(file, Side::Current) + taken(file, Side::Saved);
+    put_areas(&mut out, areas, pair)?;
+    put_area(&mut out, areas, pair, width)?;
     put_directory(&mut out, file, Side::Current, scale, &mut buffer)?;
     put_directory(&mut out, file, Side::Saved, scale, &mut buffer)?;
     Ok(out)
