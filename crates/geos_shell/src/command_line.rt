@@ -4,7 +4,6 @@ use crate::answer::Answer;
 use crate::help::{ABOUT, DUMPED, EXPLAINED, FAULTS, MADE, MAPPED, RULES, RUNS, SESSION, USAGES};
 use crate::numbers::{AREA, Number, REGION, WIDTH};
 use clap::builder::ValueParser;
-use clap::error::ErrorKind;
 use clap::{Arg, ArgAction, ArgMatches, Command, Error};
 use std::alloc::{AllocError, Global};
 use std::{env, io};
@@ -166,7 +165,10 @@ fn with_command<'a>(
     program: Command<'a>,
     text: &CommandText,
 ) -> Result<Command<'a>, AllocError> {
-    program.subcommand(command_of(alloc, text)?)
+    match command_of(alloc, text) {
+        Ok(command) => program.subcommand(command),
+        Err(error) => Err(error),
+    }
 }
 
 /// What the program says of itself.
@@ -183,7 +185,10 @@ fn bare_program<'a>(alloc: Global) -> Command<'a> {
 fn program<'a>(alloc: Global) -> Result<Command<'a>, AllocError> {
     let mut program = bare_program(alloc);
     for text in &COMMANDS {
-        program = with_command(alloc, program, text)?;
+        match with_command(alloc, program, text) {
+            Ok(more) => program = more,
+            Err(error) => return Err(error),
+        }
     }
     program.bin_name("geos")
 }
@@ -204,11 +209,8 @@ pub fn words(rt: &HostRuntime) -> Result<Vec<String>, Answer> {
 
 /// What `clap` finds in the words behind the program's name.
 pub(crate) fn matches_of<'a>(alloc: Global, words: &'a [String]) -> Result<ArgMatches<'a>, Error> {
-    program(alloc)?.try_get_matches_from(words)
-}
-
-/// An error of words that `clap` takes, with the program's usage.
-pub(crate) fn error_of(alloc: Global, message: &str) -> Result<Error, AllocError> {
-    let mut program = program(alloc)?;
-    program.error(ErrorKind::ValueValidation, message)
+    match program(alloc) {
+        Ok(program) => program.try_get_matches_from(words),
+        Err(error) => Err(Error::from(error)),
+    }
 }

@@ -1,8 +1,7 @@
 //! Why words that `clap` takes ask for nothing.
 
 use crate::answer::Answer;
-use crate::command_line::error_of;
-use clap::Error;
+use crate::help::USAGES;
 use std::alloc::{AllocError, Global};
 
 /// Why words that `clap` takes ask for nothing.
@@ -15,7 +14,7 @@ pub(crate) enum Misuse {
 }
 
 impl Misuse {
-    /// What is wrong, as a text.
+    /// What is wrong.
     fn message(&self, alloc: Global) -> Result<String, AllocError> {
         match self {
             Misuse::NoMultiple { name, unit } => {
@@ -27,16 +26,18 @@ impl Misuse {
         }
     }
 
-    /// What is wrong, with the program's usage, as `clap` says it.
-    fn error(&self, alloc: Global) -> Result<Error, AllocError> {
+    /// What is wrong, in the form of what `clap` says.
+    fn text(&self, alloc: Global) -> Result<String, AllocError> {
         let message = self.message(alloc)?;
-        error_of(alloc, &message)
+        format!(in alloc;
+            "error: {message}\n\nUsage: {USAGES}\n\nFor more information, try '--help'.\n"
+        )
     }
 
     /// What the words are answered.
     pub(crate) fn answer(&self, alloc: Global) -> Answer {
-        match self.error(alloc) {
-            Ok(error) => Answer::of(alloc, &error),
+        match self.text(alloc) {
+            Ok(text) => Answer::Misuse(text),
             Err(_) => Answer::Memory,
         }
     }
