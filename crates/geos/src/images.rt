@@ -6,7 +6,11 @@ use crate::commands::{
 };
 use crate::request_fault::RequestFault;
 use geos_asm::AssembleError;
+use geos_cli::MOST_BYTES;
 use geos_shell::{print, read, write};
+
+/// The most bytes that are read of a file: one more than a text may have, and more than any image has.
+pub(crate) const MOST_READ: u64 = MOST_BYTES as u64 + 1;
 
 /// Makes the image of a text.
 pub(crate) fn assemble<'a>(
@@ -14,21 +18,21 @@ pub(crate) fn assemble<'a>(
     text: &'a str,
     image: &'a str,
 ) -> Result<(), RequestFault<'a>> {
-    let bytes = read(rt, text)?;
+    let bytes = read(rt, text, MOST_READ)?;
     let bytes = assemble_bytes(rt.alloc(), &bytes)?;
     Ok(write(rt, image, &bytes)?)
 }
 
 /// Prints the listing of an image.
 pub(crate) fn list<'a>(rt: &HostRuntime, path: &'a str) -> Result<(), RequestFault<'a>> {
-    let bytes = read(rt, path)?;
+    let bytes = read(rt, path, MOST_READ)?;
     let text = list_bytes(rt.alloc(), &bytes)?;
     Ok(print(rt, &text)?)
 }
 
 /// Prints `accepted` where the image may run.
 pub(crate) fn check<'a>(rt: &HostRuntime, path: &'a str) -> Result<(), RequestFault<'a>> {
-    let bytes = read(rt, path)?;
+    let bytes = read(rt, path, MOST_READ)?;
     check_bytes(rt.alloc(), &bytes)?;
     Ok(print(rt, b"accepted\n")?)
 }
@@ -59,7 +63,7 @@ fn explained<'a>(rt: &HostRuntime, bytes: &[u8]) -> Result<Explained, RequestFau
 /// Prints the listing of the image, or the lines of the text, with what is known at each instruction; then says where
 /// the image is refused, if it is.
 pub(crate) fn explain<'a>(rt: &HostRuntime, path: &'a str) -> Result<(), RequestFault<'a>> {
-    let bytes = read(rt, path)?;
+    let bytes = read(rt, path, MOST_READ)?;
     let explained = explained(rt, &bytes)?;
     print(rt, &explained.text)?;
     match explained.reject {

@@ -3,6 +3,7 @@
 ghost use Rattle.geos_shell.specs.Limits.{IsRegion};
 
 use crate::files::{Locked, lock_and_open, opened};
+use crate::images::MOST_READ;
 use crate::request_fault::RequestFault;
 use geos_cli::{Counted, ScriptFault, run_script, run_session};
 use geos_kernel::Kernel;
@@ -55,12 +56,12 @@ pub(crate) fn run<'a>(
 ) -> Result<(), RequestFault<'a>>
     requires { IsRegion region }
 {
-    let image = read(rt, image)?;
+    let image = read(rt, image, MOST_READ)?;
     let Locked {
         device,
         lock: _lock,
     } = lock_and_open(rt, file, Sharing::Alone)?;
     let file = opened(rt, device)?;
-    let script = read(rt, script)?;
+    let script = read(rt, script, MOST_READ)?;
     Ok(run_on(rt, &image, &script, region, file)?)
 }

@@ -14,9 +14,6 @@ pub(crate) fn is_stream(path: &str) -> bool {
     path == STANDARD
 }
 
-/// The most bytes that are read: one more than a text may have, and more than any image has.
-const MOST_READ: u64 = 1_048_577;
-
 /// Why bytes were not read, or not written.
 #[derive(Debug, Drop, Error)]
 pub enum StreamFault<'a> {
@@ -28,25 +25,24 @@ pub enum StreamFault<'a> {
     Memory,
 }
 
-/// The first bytes, at most `MOST_READ`.
-fn bytes_of<R: Read + Drop>(alloc: Global, input: R) -> io::Result<Vec<u8>> {
+/// The first bytes, at most so many.
+fn bytes_of<R: Read + Drop>(alloc: Global, input: R, most: u64) -> io::Result<Vec<u8>> {
     let mut bytes = Vec::new(alloc);
-    input.take(MOST_READ).read_to_end(&mut bytes)?;
+    input.take(most).read_to_end(&mut bytes)?;
     Ok(bytes)
 }
 
-fn bytes_at(rt: &HostRuntime, path: &str) -> io::Result<Vec<u8>> {
+fn bytes_at(rt: &HostRuntime, path: &str, most: u64) -> io::Result<Vec<u8>> {
     if is_stream(path) {
-        bytes_of(rt.alloc(), rt.stdin())
+        bytes_of(rt.alloc(), rt.stdin(), most)
     } else {
-        bytes_of(rt.alloc(), fs::open(rt, path)?)
+        bytes_of(rt.alloc(), fs::open(rt, path)?, most)
     }
 }
 
-/// The first bytes of the file with the path, at most `MOST_READ`; of the standard input where it is
-/// `-`.
-pub fn read<'a>(rt: &HostRuntime, path: &'a str) -> Result<Vec<u8>, StreamFault<'a>> {
-    match bytes_at(rt, path) {
+/// The first bytes of the file with the path, at most so many; of the standard input where it is `-`.
+pub fn read<'a>(rt: &HostRuntime, path: &'a str, most: u64) -> Result<Vec<u8>, StreamFault<'a>> {
+    match bytes_at(rt, path, most) {
         Ok(bytes) => Ok(bytes),
         Err(error) if error.kind() == ErrorKind::OutOfMemory => Err(StreamFault::Memory),
         Err(_) => Err(StreamFault::Read(path)),
