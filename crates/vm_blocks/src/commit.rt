@@ -53,7 +53,7 @@ fn free_all(blocks: &mut Blocks)
     requires { NoneLocked blocks.old }
     ensures { DropsAll blocks.old blocks.new }
 {
-    for h in 1..1025 {
+    for h in 1..Name::HANDLES + 1 {
         let _ = blocks.free(Name::vm(h));
     }
 }
@@ -79,7 +79,7 @@ impl<D: Device + Drop> VmBlocks<D> {
         ensures { result ≡ directory_of self.now blocks.now }
     {
         let mut entries = ArrayVec::new();
-        for i in 0..1024 {
+        for i in 0..Name::HANDLES {
             let h = i + 1;
             if let Some(held) = self.held(h) {
                 let len = len_now(blocks, h, held);

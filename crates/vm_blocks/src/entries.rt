@@ -7,12 +7,13 @@ ghost use Rattle.vm_blocks.specs.Groups.{is_group};
 ghost use Rattle.vm_blocks.specs.Listed.{held_in};
 ghost use Rattle.vm_blocks.specs.Opened.{AreWords};
 
+use geos_model::Name;
 use std::alloc::{AllocError, Global};
 use std::marker::Model;
 use vm_file::{Directory, GROUP_UID};
 
 /// How many handles there are.
-const HANDLES: usize = 1024;
+const HANDLES: usize = Name::HANDLES as usize;
 
 /// A block of the current directory.
 #[derive(Clone, Copy, Debug, PartialEq, Eq)]
@@ -104,7 +105,7 @@ pub(crate) fn list(table: &mut Table, directory: &Directory)
 {
     let entries = directory.entries.as_slice();
     let mut next = 0;
-    for i in 0..1024 {
+    for i in 0..HANDLES {
         table.put(i, None);
         if next < entries.len() && entries[next].h as usize == i + 1 {
             let entry = entries[next];

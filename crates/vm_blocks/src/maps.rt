@@ -10,6 +10,7 @@ ghost use Rattle.vm_blocks.specs.Tied.{IsTied};
 ghost use Rattle.vm_blocks.specs.View.{held_at};
 
 use crate::blocks::VmBlocks;
+use geos_model::Name;
 use vm_file::Device;
 
 impl<D: Device + Drop> VmBlocks<D> {
@@ -19,7 +20,7 @@ impl<D: Device + Drop> VmBlocks<D> {
         ensures found { IfSome result (IsLowestUnlisted self.now) }
         ensures none { IfNone result (AllListed self.now) }
     {
-        for h in 1..1025 {
+        for h in 1..Name::HANDLES + 1 {
             if self.held(h).is_none() {
                 return Some(h);
             }
@@ -46,7 +47,7 @@ impl<D: Device + Drop> VmBlocks<D> {
             → DoesRow D.image D.honest D.failed (vfind start uid) (Ok result) self.now s self.now s }
     {
         let _ = &self.entries;
-        for h in 1..1025 {
+        for h in 1..Name::HANDLES + 1 {
             if h > start && self.has_uid(h, uid) {
                 return h;
             }

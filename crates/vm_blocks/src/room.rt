@@ -62,7 +62,7 @@ impl<D: Device + Drop> VmBlocks<D> {
         if let Some(h) = self.idle_behind_gap(blocks, but) {
             return Some(h);
         }
-        for h in 1..1025 {
+        for h in 1..Name::HANDLES + 1 {
             if h != but && self.is_idle(blocks, h) {
                 return Some(h);
             }
