@@ -95,7 +95,8 @@ fn fills_at(image: &Image, a: u8, from: u16) -> bool
     }
 }
 
-/// Whether the instruction at the pc is one of the routine's from which control comes, and the slot is held behind it and not before.
+/// Whether the instruction at the pc is one of the routine's from which control comes, and the slot is held behind it and not
+/// before.
 fn fills_here(place: &Place, a: u8, from: u16) -> bool
     requires { IsPlace (place_of place.now) }
     ensures { result ≡ fills_here (place_of place.now) a from }

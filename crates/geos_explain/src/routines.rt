@@ -45,8 +45,8 @@ pub(crate) fn agrees(wanted: bool, is: bool) -> bool
     if wanted { is } else { !is }
 }
 
-/// Whether control reaches the pc just as it does the place: a place that it reaches is not one to which it comes from where it
-/// never is.
+/// Whether control reaches both the pc and the place, or neither: to a place that it reaches it comes only from such as it
+/// reaches.
 pub(crate) fn comes_alike(place: &Place, pc: u16) -> bool
     ensures { result ≡ comes_alike (place_of place.now) pc }
 {
