@@ -1,5 +1,5 @@
 -- Which lines of a text have an instruction.
-use Rattle.std.specs.Prelude.{ℕ, ◌+◌, Bool, true, false, ◌||◌, not, if◌then◌else◌, List, [], ◌∷◌, codes, bytes_eq}
+use Rattle.std.specs.Prelude.{ℕ, ◌+◌, Bool, false, ◌||◌, not, if◌then◌else◌, List, [], ◌∷◌, codes, bytes_eq}
 use Rattle.std.specs.Str.Lines.{lines}
 use Rattle.geos_source.specs.Lines.{parted, said}
 
