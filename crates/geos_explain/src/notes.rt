@@ -1,7 +1,6 @@
 //! What stands behind an instruction.
 
 ghost use Rattle.std.specs.Prelude.{◌≡◌, ◌++◌, OnOk};
-ghost use Rattle.geos_listing.specs.Rows.{row_items};
 ghost use Rattle.geos_explain.specs.Places.{IsPlace, place_of};
 ghost use Rattle.geos_explain.specs.Notes.{known_text, coefficient_text, coefficients_text, is_one, potential_text, where_text, note_head, known_here, note, budget_words};
 

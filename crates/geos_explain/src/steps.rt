@@ -2,7 +2,7 @@
 
 ghost use Rattle.std.specs.Prelude.{◌≡◌, ◌<◌, ◌++◌, OnOk, length};
 ghost use Rattle.geos_explain.specs.Places.{IsPlace, place_of};
-ghost use Rattle.geos_explain.specs.Steps.{whole_words, owed_words, asked_words, asks_along, asks_branching, paying_item, paying_items, touched_words, touched_here, last_words, unpaid_words};
+ghost use Rattle.geos_explain.specs.Steps.{whole_words, asked_words, asks_along, asks_branching, paying_item, paying_items, touched_words, touched_here, last_words, unpaid_words};
 
 use crate::numbers::{put_numbered, steps_word, verb};
 use crate::parts::{Part, put_parts};

@@ -1,6 +1,6 @@
 //! What is wrong with the slots and pointers that an instruction uses.
 
-ghost use Rattle.std.specs.Prelude.{◌≡◌, ◌<◌, ◌++◌, OnOk, map};
+ghost use Rattle.std.specs.Prelude.{◌≡◌, ◌<◌, ◌++◌, OnOk};
 ghost use Rattle.geos_verify.specs.Uses.{OffsetFits, PointerFits};
 ghost use Rattle.geos_explain.specs.Uses.{state_item, nowhere_only, leading_nowhere, nowhere_tail, nowhere_items, nowhere_words, short_words, is_any, index_known, index_wanted, known_bytes, index_words, reach_words, past_words, slot_behind, changed_slot, mark_word, unmarked_words, held_words, kind_wish, slot_wish, unlocks_text, marks_text, serving, other_item, slot_words};
 
