@@ -29,12 +29,15 @@ is_as false pointer = is_stale pointer
 abbrev pub comes_as : Place → Sought → ℕ → Bool
 comes_as place sought from = agrees sought.reached (is_reached place.image from)
 
--- an edge of an instruction is a way that is sought: it leads there, control reaches the instruction, and the pointer is known
--- behind it, or neither is so, as is asked
-abbrev pub is_sought : Place → Sought → Edge → Point → Bool
-is_sought place sought edge point =
-    end_of edge point.instr == sought.to && comes_as place sought edge.from && has_edge point.instr edge.branch
+-- control comes along the edge of the instruction, and behind it the pointer is known, as is asked
+abbrev pub is_as_sought : Place → Sought → Edge → Point → Bool
+is_as_sought place sought edge point =
+    comes_as place sought edge.from && has_edge point.instr edge.branch
     && is_as sought.known (pointer_at (after place.image edge.from point.row edge.branch) sought.p)
+
+-- the edge of the instruction is a way that is sought
+abbrev pub is_sought : Place → Sought → Edge → Point → Bool
+is_sought place sought edge point = end_of edge point.instr == sought.to && is_as_sought place sought edge point
 
 -- the first way of the instruction at a pc that is sought
 abbrev pub way_of : Place → Sought → ℕ → Point → Option Way

@@ -3,7 +3,7 @@
 ghost use Rattle.std.specs.Prelude.{◌≡◌, ◌<◌, Some, length, slice_get, IfSome};
 ghost use Rattle.geos_verify.specs.Rows.{is_stale};
 ghost use Rattle.geos_explain.specs.Places.{IsPlace, place_of};
-ghost use Rattle.geos_explain.specs.Ways.{is_as, comes_as, is_sought, way_of, way_at, or_way, first_way, entry_way, way_to, bringing, losing, with_hint, goes_stale, makes_stale, sets, forgets, loses};
+ghost use Rattle.geos_explain.specs.Ways.{is_as, comes_as, is_as_sought, is_sought, way_of, way_at, or_way, first_way, entry_way, way_to, bringing, losing, with_hint, goes_stale, makes_stale, sets, forgets, loses};
 
 use crate::edges::{Edge, end_of};
 use crate::led::is_reached;
@@ -69,13 +69,12 @@ fn comes_as(place: &Place, sought: Sought, from: u16) -> bool
     agrees(sought.reached, is_reached(place.image, place.marks, from))
 }
 
-/// Whether the edge of the instruction is a way that is sought. Few edges pass the test of the numbers, so it comes first.
-fn is_sought(place: &Place, sought: Sought, edge: Edge, point: &Point) -> bool
+/// Whether control comes along the edge of the instruction, and behind it the pointer is known, as is asked.
+fn is_as_sought(place: &Place, sought: Sought, edge: Edge, point: &Point) -> bool
     requires { slice_get place.now.image.now.points edge.from ≡ Some point.now }
-    ensures { result ≡ is_sought (place_of place.now) sought edge point.now }
+    ensures { result ≡ is_as_sought (place_of place.now) sought edge point.now }
 {
-    end_of(edge, &point.instr) == usize::from(sought.to)
-        && comes_as(place, sought, edge.from)
+    comes_as(place, sought, edge.from)
         && has_edge(&point.instr, edge.branch)
         && is_as(
             sought.known,
@@ -84,6 +83,14 @@ fn is_sought(place: &Place, sought: Sought, edge: Edge, point: &Point) -> bool
                 sought.p,
             ),
         )
+}
+
+/// Whether the edge of the instruction is a way that is sought. Few edges pass the test of the numbers, so it comes first.
+fn is_sought(place: &Place, sought: Sought, edge: Edge, point: &Point) -> bool
+    requires { slice_get place.now.image.now.points edge.from ≡ Some point.now }
+    ensures { result ≡ is_sought (place_of place.now) sought edge point.now }
+{
+    end_of(edge, &point.instr) == usize::from(sought.to) && is_as_sought(place, sought, edge, point)
 }
 
 /// The first way of the instruction that is sought.
@@ -195,17 +202,16 @@ pub(crate) fn losing(place: &Place, p: u8, to: u16) -> Option<Way>
         known: false,
         reached,
     };
-    let way = way_to(place, sought);
-    or_way(
-        way,
-        way_to(
+    match way_to(place, sought) {
+        Some(way) => Some(way),
+        None => way_to(
             place,
             Sought {
                 reached: !reached,
                 ..sought
             },
         ),
-    )
+    }
 }
 
 /// The row; where it knows nothing of the pointer, with what is known of it on some way.
