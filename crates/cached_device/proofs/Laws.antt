@@ -7,7 +7,7 @@ use Rattle.vm_file.proofs.Touches.{touched_not}
 use Rattle.cached_device.specs.declared.device.CachedDevice.{CachedDevice}
 use Rattle.cached_device.specs.declared.event.Event.{Event}
 use Rattle.cached_device.specs.declared.event.Event.TheVariants.{Written, Synced}
-use Rattle.cached_device.specs.History.{IsHonest, Leaves, LeavesSince, MayHaveLeft, MayLeave, bytes_of, events_of}
+use Rattle.cached_device.specs.History.{Leaves, LeavesSince, MayHaveLeft, MayLeave, bytes_of, events_of, medium}
 
 -- where one event more was, it was before it or after it
 left_more : (start : List ℕ) (had : ℕ) (e : Event) (before : List Event) (c : List ℕ) → LeavesSince start (suc (length before) - had) (e ∷ before) c → LeavesSince start (length before - had) before c ⊎ Leaves start (e ∷ before) c
@@ -37,7 +37,7 @@ module _ (old new : CachedDevice) (still : IsStill old new) where
   left_still s c (inl now) = inl (now ∙ still.bytes)
   left_still s c (inr past) = inr (subst (λ es. LeavesSince old.start.items (length es - length (events_of s)) es c) still.events (subst (λ xs. LeavesSince xs (length (events_of new) - length (events_of s)) (events_of new) c) still.start past))
 
-  pub reads_still : ReadsOnly bytes_of IsHonest MayLeave MayHaveLeft old new
+  pub reads_still : ReadsOnly medium old new
   reads_still = record {
     same = still.bytes;
     stays = (λ _. tt);
@@ -47,7 +47,7 @@ module _ (old new : CachedDevice) (still : IsStill old new) where
   }
 
   -- a write that did nothing
-  pub writes_still : (at n : ℕ) → WritesOnly bytes_of IsHonest MayLeave MayHaveLeft at n old new
+  pub writes_still : (at n : ℕ) → WritesOnly medium at n old new
   writes_still at n = record {
     long = ap length still.bytes;
     stays = (λ _. tt);
@@ -71,7 +71,7 @@ module _ (old new : CachedDevice) (at n : ℕ) (torn : Touched at n (bytes_of ol
       let a = subst (λ es. LeavesSince old.start.items (length es - length (events_of s)) es c) events (subst (λ xs. LeavesSince xs (length (events_of new) - length (events_of s)) (events_of new) c) start past) in
       elim (left_more old.start.items (length (events_of s)) (Written at n) (events_of old) c a) [ inl before ↦ inl (inr before) | inr now ↦ inr (now.0, inr now.1, now.2) ]
 
-  pub writes_happened : WritesOnly bytes_of IsHonest MayLeave MayHaveLeft at n old new
+  pub writes_happened : WritesOnly medium at n old new
   writes_happened = record {
     long = torn.long;
     stays = (λ _. tt);
@@ -96,7 +96,7 @@ module _ (old new : CachedDevice) (bytes : Vec ℕ Global) (same : bytes_of new 
       let a = subst (λ es. LeavesSince old.start.items (length es - length (events_of s)) es c) events (subst (λ xs. LeavesSince xs (length (events_of new) - length (events_of s)) (events_of new) c) start past) in
       elim (left_more old.start.items (length (events_of s)) (Synced bytes) (events_of old) c a) [ inl before ↦ inl (inr before) | inr now ↦ inr (inl (now ∙ kept)) ]
 
-  pub reads_synced : ReadsOnly bytes_of IsHonest MayLeave MayHaveLeft old new
+  pub reads_synced : ReadsOnly medium old new
   reads_synced = record {
     same = same;
     stays = (λ _. tt);

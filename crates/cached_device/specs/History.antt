@@ -2,7 +2,7 @@
 use Rattle.std.specs.Prelude.{◌≡◌, ◌⊎◌, ℕ, zero, suc, ◌-◌, List, [], ◌∷◌, length, reverse, refl}
 use Rattle.std.proofs.Common.{inl, inr, subst}
 use Rattle.std.proofs.Math.Nat.{sub_self}
-use Rattle.vm_file.specs.Device.{AfterWrite}
+use Rattle.vm_file.specs.Device.{AfterWrite, Medium}
 use Rattle.vm_file.specs.Memory as memory
 use Rattle.cached_device.specs.declared.device.CachedDevice.{CachedDevice}
 use Rattle.cached_device.specs.declared.event.Event.{Event}
@@ -43,6 +43,10 @@ MayLeave device c = (c ≡ bytes_of device) ⊎ Leaves device.start.items (event
 abbrev pub MayHaveLeft : CachedDevice → CachedDevice → List ℕ → Type 0
 MayHaveLeft start device c =
     (c ≡ bytes_of device) ⊎ LeavesSince device.start.items (length (events_of device) - length (events_of start)) (events_of device) c
+
+-- such a device
+abbrev pub medium : Medium CachedDevice
+medium = record { image = bytes_of; honest = IsHonest; failed = failures_of; may_leave = MayLeave; may_have_left = MayHaveLeft }
 
 -- what reads give is what a stop may leave
 pub reads_now : (device : CachedDevice) → MayLeave device (bytes_of device)

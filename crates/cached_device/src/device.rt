@@ -63,17 +63,9 @@ fn fail(failures: &mut u64) -> Result<(), Disk>
 }
 
 impl Device for CachedDevice {
-    ghost use Rattle.cached_device.specs.History.{IsHonest, MayHaveLeft, MayLeave, at_once, by_now, bytes_of, failures_of, reads_now};
+    ghost use Rattle.cached_device.specs.History.{at_once, by_now, medium, reads_now};
 
-    ghost image = { bytes_of };
-
-    ghost honest = { IsHonest };
-
-    ghost failed = { failures_of };
-
-    ghost may_leave = { MayLeave };
-
-    ghost may_have_left = { MayHaveLeft };
+    ghost medium = { medium };
 
     fn len(&self) -> u64 {
         self.cache.len()

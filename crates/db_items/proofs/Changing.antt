@@ -16,6 +16,7 @@ use Rattle.block_handles.specs.Names.{IsHandle}
 use Rattle.block_handles.specs.Store.{Block, Store, IsBlock, IsThere, block_at, bytes_in, bytes_of, locks_in, locks_of}
 use Rattle.block_handles.specs.Stretch.{HasNoRoom}
 use Rattle.block_handles.proofs.Laws.{handle_of_there}
+use Rattle.vm_file.specs.Device.{Medium}
 use Rattle.vm_file.specs.Directories.{group_uid}
 use Rattle.vm_file.specs.Outcomes.{ReadsOnly}
 use Rattle.vm_file.specs.State.{FileState, pair_of}
@@ -99,23 +100,23 @@ module _ {A : Type 0} (edit : List (Option (List ℕ)) → Edit A) where
 
 -- The device was only read
 
-module _ {D : Type 0} (image : D → List ℕ) (honest : D → Type 0) (may_leave : D → List ℕ → Type 0) (left : D → D → List ℕ → Type 0) (failed : D → ℕ) (v : VmState D) where
-  -- it failed in the same cases
-  pub reads-as : {P Q : Type 0} (w : VmState D) → (Q → P) → (P → Q) → ReadsDevice image honest may_leave left failed P v w → ReadsDevice image honest may_leave left failed Q v w
+module _ {D : Type 0} (medium : Medium D) (v : VmState D) where
+  -- it medium.failed in the same cases
+  pub reads-as : {P Q : Type 0} (w : VmState D) → (Q → P) → (P → Q) → ReadsDevice medium P v w → ReadsDevice medium Q v w
   reads-as w back forth r = record { pair = r.pair; reads = r.reads; cause = λ good fails. r.cause good (back fails); counted = λ never. r.counted (λ p. never (forth p)) }
 
   -- it did not fail, and the file went on as it was
-  pub reads-on : {P Q : Type 0} (w x : VmState D) → x.file ≡ w.file → (P → ⊥) → (Q → ⊥) → ReadsDevice image honest may_leave left failed P v w → ReadsDevice image honest may_leave left failed Q v x
+  pub reads-on : {P Q : Type 0} (w x : VmState D) → x.file ≡ w.file → (P → ⊥) → (Q → ⊥) → ReadsDevice medium P v w → ReadsDevice medium Q v x
   reads-on w x same passed never r = record {
-    pair = ap (pair_of image) same ∙ r.pair;
-    reads = subst (λ (f : FileState D). ReadsOnly image honest may_leave left v.file.device f.device) (sym same) r.reads;
+    pair = ap (pair_of medium.image) same ∙ r.pair;
+    reads = subst (λ (f : FileState D). ReadsOnly medium v.file.device f.device) (sym same) r.reads;
     cause = λ good fails. absurd (never fails);
-    counted = λ q. ap (λ (f : FileState D). failed f.device) same ∙ r.counted passed;
+    counted = λ q. ap (λ (f : FileState D). medium.failed f.device) same ∙ r.counted passed;
   }
 
   module _ (g : ℕ) (w : VmState D) (s t : Store) where
     abbrev Brings : Result (Unit {0}) Refusal → Type 0
-    Brings r = BringsGroup image honest may_leave left failed g r v w s t
+    Brings r = BringsGroup medium g r v w s t
 
     -- a group is one still
     pub still-group : w ≡ with_device v w.file.device → IsGroup v g → IsGroup w g
@@ -123,7 +124,7 @@ module _ {D : Type 0} (image : D → List ℕ) (honest : D → Type 0) (may_leav
 
     module _ {A : Type 0} (call : Call A) (on : IsOnChunks call) (edit : List (Option (List ℕ)) → Edit A) where
       -- the group was not brought
-      pub item-not_brought : (why : Refusal) → IsTied image honest v s → Brings (Err why) → ChangesItem image honest may_leave left failed (on_group g call) edit g (Err why) v w s t
+      pub item-not_brought : (why : Refusal) → IsTied medium v s → Brings (Err why) → ChangesItem medium (on_group g call) edit g (Err why) v w s t
       item-not_brought why tied b = record {
         tied = b.tied;
         row = row (group-or v g);
@@ -140,14 +141,14 @@ module _ {D : Type 0} (image : D → List ℕ) (honest : D → Type 0) (may_leav
         device = reads-as w (refused-so why refusal.Disk) (refused-so why refusal.Disk) b.device;
       }
         where
-          row : IsGroup v g ⊎ (IsGroup v g → ⊥) → DoesRow image honest failed (on_group g call) (Err why) v s w t
-          row (inl group) = not_brought-row image honest failed v w s t g b.tied (still-group b.same group) call on why (b.row group)
+          row : IsGroup v g ⊎ (IsGroup v g → ⊥) → DoesRow medium (on_group g call) (Err why) v s w t
+          row (inl group) = not_brought-row medium v w s t g b.tied (still-group b.same group) call on why (b.row group)
           row (inr none) =
               let n = b.no_group none in
               let is : why ≡ refusal.BadHandle = (let x = n.0 in cc) in
-              subst (λ r. DoesRow image honest failed (on_group g call) (Err r) v s w t) (sym is)
-              (subst (λ x. DoesRow image honest failed (on_group g call) (Err refusal.BadHandle) v s x t) (sym n.1)
-              (subst (DoesRow image honest failed (on_group g call) (Err refusal.BadHandle) v s v) (sym n.2) (no_group-row image honest failed v s g tied none call on)))
+              subst (λ r. DoesRow medium (on_group g call) (Err r) v s w t) (sym is)
+              (subst (λ x. DoesRow medium (on_group g call) (Err refusal.BadHandle) v s x t) (sym n.1)
+              (subst (DoesRow medium (on_group g call) (Err refusal.BadHandle) v s v) (sym n.2) (no_group-row medium v s g tied none call on)))
 
           room : (IsThere s (vm_slot g) → ⊥) × IfSome (held_at v g) (λ e. LacksRoom v s t (vm g) e.len) → IsGroup v g ⊎ (IsGroup v g → ⊥) → ◌≡◌ {A = Result A Refusal} (Err why) (Err refusal.NoRoom) → LacksItemRoom v t g edit
           room n (inl group) e = record { none = none (held_at v g) group n.1; no_room = wanted-away edit (HasNoRoom t (vm_slot g)) (held_at v g) (block_at t (vm_slot g)) (b.err.absent n.0) group (lacks (held_at v g) n.1) }
@@ -178,8 +179,8 @@ module _ {D : Type 0} (image : D → List ℕ) (honest : D → Type 0) (may_leav
         same-file there = ap (λ (x : VmState D). x.file) (b.there there).0
 
         -- its chunks have changed, and it is marked
-        pub item-changed : (grows : Bool) (x : VmState D) (a : A) → Carries grows w edit t u (vm g) (Ok a) → IsTied image honest x u → x ≡ with_held w g (option_map marked (held_at w g)) → ((n : Memory) → IsMemoryOf image honest w u n → IsMemoryOf image honest x u (with_mark n g true))
-            → DoesRowAlone image honest call (Ok a) w t w u → ChangesItem image honest may_leave left failed (on_group g call) edit g (Ok a) v x s u
+        pub item-changed : (grows : Bool) (x : VmState D) (a : A) → Carries grows w edit t u (vm g) (Ok a) → IsTied medium x u → x ≡ with_held w g (option_map marked (held_at w g)) → ((n : Memory) → IsMemoryOf medium w u n → IsMemoryOf medium x u (with_mark n g true))
+            → DoesRowAlone medium call (Ok a) w t w u → ChangesItem medium (on_group g call) edit g (Ok a) v x s u
         item-changed grows x a carries tied marks memory row =
             let file : x.file ≡ w.file = ap (λ (y : VmState D). y.file) marks in
             let device : x.file.device ≡ w.file.device = ap (λ (f : FileState D). f.device) file in
@@ -187,7 +188,7 @@ module _ {D : Type 0} (image : D → List ℕ) (honest : D → Type 0) (may_leav
             let was : x ≡ with_device now w.file.device = marks ∙ ap (λ (y : VmState D). with_held y g (option_map marked (held_at y g))) b.same in
             record {
               tied = tied;
-              row = on_group-ok image honest failed v w s t g b.tied (still-group b.same group) call on (b.row group) u x a device row memory;
+              row = on_group-ok medium v w s t g b.tied (still-group b.same group) call on (b.row group) u x a device row memory;
               listed = was ∙ ap (with_device now) (sym device);
               no_group = λ none. absurd (none group);
               keeps = keeps-then v w s t u g others b.keeps (vm-keeps w t u g keeps.others);
@@ -203,11 +204,11 @@ module _ {D : Type 0} (image : D → List ℕ) (honest : D → Type 0) (may_leav
 
         -- they have not
         pub item-refused : (grows : Bool) (why : Refusal) → AsksInside edit → Carries grows w edit t u (vm g) (Err why) → ((◌≡◌ {A = Result A Refusal} (Err why) (Err refusal.NoRoom) → ⊥) → u ≡ t)
-            → DoesRowAlone image honest call (Err why) w t w u
-            → ChangesItem image honest may_leave left failed (on_group g call) edit g (Err why) v w s u
+            → DoesRowAlone medium call (Err why) w t w u
+            → ChangesItem medium (on_group g call) edit g (Err why) v w s u
         item-refused grows why asks carries stays row = record {
           tied = tied grows carries;
-          row = on_group-err image honest failed v w s t g b.tied (still-group b.same group) call on (b.row group) u why row;
+          row = on_group-err medium v w s t g b.tied (still-group b.same group) call on (b.row group) u why row;
           listed = b.same;
           no_group = λ none. absurd (none group);
           keeps = keeps-then v w s t u g others b.keeps (vm-keeps w t u g keeps.others);
@@ -224,9 +225,9 @@ module _ {D : Type 0} (image : D → List ℕ) (honest : D → Type 0) (may_leav
             no_disk : ◌≡◌ {A = Result A Refusal} (Err why) (Err refusal.Disk) → ⊥
             no_disk e = let is : why ≡ refusal.Disk = cc in carries-no_disk edit w t u (vm g) grows why asks carries is
 
-            tied : (x : Bool) → Carries x w edit t u (vm g) (Err why) → IsTied image honest w u
-            tied true c = subst (IsTied image honest w) (sym c.grows.1) (tied-thins image honest w t c.mid g b.tied c.thins)
-            tied false c = subst (IsTied image honest w) (sym c.1) b.tied
+            tied : (x : Bool) → Carries x w edit t u (vm g) (Err why) → IsTied medium w u
+            tied true c = subst (IsTied medium w) (sym c.grows.1) (tied-thins medium w t c.mid g b.tied c.thins)
+            tied false c = subst (IsTied medium w) (sym c.1) b.tied
 
             own : (x : Bool) → Carries x w edit t u (vm g) (Err why) → block_at u (vm_slot g) ≡ block_at t (vm_slot g)
             own true c = ap (λ x. block_at x (vm_slot g)) c.grows.1 ∙ c.own
@@ -249,7 +250,7 @@ module _ {D : Type 0} (image : D → List ℕ) (honest : D → Type 0) (may_leav
             room false c e = let is : why ≡ refusal.NoRoom = cc in absurd (asks (heaps.chunks_at t (vm g)) refusal.NoRoom refl (c.0 ∙ ap Some is))
 
         -- they have changed, and it is not yet marked
-        pub item-unmarked : IsChanged image honest w u g
+        pub item-unmarked : IsChanged medium w u g
         item-unmarked = record {
           before = t;
           tied = b.tied;
@@ -257,9 +258,9 @@ module _ {D : Type 0} (image : D → List ℕ) (honest : D → Type 0) (may_leav
           keeps = vm-keeps w t u g keeps.others;
           there = keeps.there;
           heap = keeps.heap;
-          word = keeps.handle ∙ (stays-changed image honest w t g b.tied b.ok.there).word;
+          word = keeps.handle ∙ (stays-changed medium w t g b.tied b.ok.there).word;
         }
 
 -- a group that was brought holds a heap
-pub holds-heap : {D : Type 0} (image : D → List ℕ) (honest : D → Type 0) (w : VmState D) (t : Store) (g : ℕ) → IsTied image honest w t → IsThere t (vm_slot g) → heaps.HoldsHeap t (vm g)
-holds-heap image honest w t g tied there = record { there = there; heap = (stays-changed image honest w t g tied there).heap }
+pub holds-heap : {D : Type 0} (medium : Medium D) (w : VmState D) (t : Store) (g : ℕ) → IsTied medium w t → IsThere t (vm_slot g) → heaps.HoldsHeap t (vm g)
+holds-heap medium w t g tied there = record { there = there; heap = (stays-changed medium w t g tied there).heap }

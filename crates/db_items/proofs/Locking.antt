@@ -14,6 +14,7 @@ use Rattle.block_handles.specs.Names.{IsHandle}
 use Rattle.block_handles.specs.Store.{Store, bytes_in, bytes_of, locks_of}
 use Rattle.block_handles.proofs.Laws.{handle_of_there, with_locks-same}
 use Rattle.block_handles.proofs.Layouts.{there_small}
+use Rattle.vm_file.specs.Device.{Medium}
 use Rattle.vm_blocks.specs.DoesRow.{DoesRow}
 use Rattle.vm_blocks.specs.Tied.{IsTied}
 use Rattle.vm_blocks.specs.Room.{RemainOrNoRoom}
@@ -41,15 +42,15 @@ short-wanted i zero cs e = absurd (tests (is_none (chunk_of cs i)) (nat_lt (leng
     tests false false none e = absurd (let y : ◌≡◌ {A = Option Refusal} None (Some refusal.Short) = e in cc)
 short-wanted i (suc n) cs e = omega arith
 
-module _ {D : Type 0} (image : D → List ℕ) (honest : D → Type 0) (may_leave : D → List ℕ → Type 0) (left : D → D → List ℕ → Type 0) (failed : D → ℕ) (v : VmState D) (g i n : ℕ) (s : Store) where
+module _ {D : Type 0} (medium : Medium D) (v : VmState D) (g i n : ℕ) (s : Store) where
   abbrev Locks : Result (ℕ × ℕ) Refusal → VmState D → Store → Type 0
-  Locks r w t = LocksItem image honest may_leave left failed g i n r v w s t
+  Locks r w t = LocksItem medium g i n r v w s t
 
   -- the count is full
-  pub lock-full : IsTied image honest v s → IsGroup v g → locks_of s (vm_slot g) ≡ 65535 → ReadsDevice image honest may_leave left failed (◌≡◌ {A = Result (ℕ × ℕ) Refusal} (Err refusal.Locked) (Err refusal.Disk)) v v → Locks (Err refusal.Locked) v s
+  pub lock-full : IsTied medium v s → IsGroup v g → locks_of s (vm_slot g) ≡ 65535 → ReadsDevice medium (◌≡◌ {A = Result (ℕ × ℕ) Refusal} (Err refusal.Locked) (Err refusal.Disk)) v v → Locks (Err refusal.Locked) v s
   lock-full tied group many device = record {
     tied = tied;
-    row = lock_full-row image honest failed v s g i n tied group many;
+    row = lock_full-row medium v s g i n tied group many;
     same = refl;
     no_group = λ none. absurd (none group);
     keeps = record { each = λ slot ne. inl (refl, λ some. refl); laid = tied.laid; len = refl };
@@ -71,7 +72,7 @@ module _ {D : Type 0} (image : D → List ℕ) (honest : D → Type 0) (may_leav
     still-group same group = subst (λ (x : VmState D). IsGroup x g) (sym same) group
 
     -- the group was not brought
-    pub lock-not_brought : (why : Refusal) → IsTied image honest v s → BringsGroup image honest may_leave left failed g (Err why) v w s t → Locks (Err why) w t
+    pub lock-not_brought : (why : Refusal) → IsTied medium v s → BringsGroup medium g (Err why) v w s t → Locks (Err why) w t
     lock-not_brought why tied b = record {
       tied = b.tied;
       row = row (group-or v g);
@@ -88,20 +89,20 @@ module _ {D : Type 0} (image : D → List ℕ) (honest : D → Type 0) (may_leav
       finds = tt;
       within = tt;
       no_room = λ e. (b.no_room (refused-so why refusal.NoRoom e)).1;
-      device = reads-as image honest may_leave left failed v w (refused-so why refusal.Disk) (refused-so why refusal.Disk) b.device;
+      device = reads-as medium v w (refused-so why refusal.Disk) (refused-so why refusal.Disk) b.device;
     }
       where
-        row : IsGroup v g ⊎ (IsGroup v g → ⊥) → DoesRow image honest failed (ilock g i n) (Err why) v s w t
-        row (inl group) = lock_not_brought-row image honest failed v w s t g i n b.tied (still-group b.same group) (not-brought-few s t g b.err (few group)) why (b.row group)
+        row : IsGroup v g ⊎ (IsGroup v g → ⊥) → DoesRow medium (ilock g i n) (Err why) v s w t
+        row (inl group) = lock_not_brought-row medium v w s t g i n b.tied (still-group b.same group) (not-brought-few s t g b.err (few group)) why (b.row group)
         row (inr none) =
             let x = b.no_group none in
             let is : why ≡ refusal.BadHandle = (let first = x.0 in cc) in
-            subst (λ r. DoesRow image honest failed (ilock g i n) (Err r) v s w t) (sym is)
-            (subst (λ y. DoesRow image honest failed (ilock g i n) (Err refusal.BadHandle) v s y t) (sym x.1)
-            (subst (DoesRow image honest failed (ilock g i n) (Err refusal.BadHandle) v s v) (sym x.2) (lock_no_group-row image honest failed v s g i n tied none)))
+            subst (λ r. DoesRow medium (ilock g i n) (Err r) v s w t) (sym is)
+            (subst (λ y. DoesRow medium (ilock g i n) (Err refusal.BadHandle) v s y t) (sym x.1)
+            (subst (DoesRow medium (ilock g i n) (Err refusal.BadHandle) v s v) (sym x.2) (lock_no_group-row medium v s g i n tied none)))
 
     -- it was
-    module _ (b : BringsGroup image honest may_leave left failed g (Ok tt) v w s t) where
+    module _ (b : BringsGroup medium g (Ok tt) v w s t) where
       group : IsGroup v g
       group = b.known
 
@@ -112,7 +113,7 @@ module _ {D : Type 0} (image : D → List ℕ) (honest : D → Type 0) (may_leav
       pub lock-refused : (why : Refusal) → Finds (refer i n) (bytes_of t (vm_slot g)) (Err why) → Locks (Err why) w t
       lock-refused why finds = record {
         tied = b.tied;
-        row = lock_refused-row image honest failed v w s t g i n b.tied (still-group b.same group) still-few (b.row group) b.ok.there why finds;
+        row = lock_refused-row medium v w s t g i n b.tied (still-group b.same group) still-few (b.row group) b.ok.there why finds;
         same = b.same;
         no_group = λ none. absurd (none group);
         keeps = b.keeps;
@@ -126,7 +127,7 @@ module _ {D : Type 0} (image : D → List ℕ) (honest : D → Type 0) (may_leav
         finds = tt;
         within = tt;
         no_room = λ e. absurd (let is : why ≡ refusal.NoRoom = cc in refer-inside i n (chunks (bytes_of t (vm_slot g))) refusal.NoRoom refl (finds ∙ ap Some is));
-        device = reads-on image honest may_leave left failed v w w refl (λ e. absurd cc) no_disk b.device;
+        device = reads-on medium v w w refl (λ e. absurd cc) no_disk b.device;
       }
         where
           no_disk : ◌≡◌ {A = Result (ℕ × ℕ) Refusal} (Err why) (Err refusal.Disk) → ⊥
@@ -140,8 +141,8 @@ module _ {D : Type 0} (image : D → List ℕ) (honest : D → Type 0) (may_leav
           let small : vm_slot g < length t.blocks = omega (arith, there_small t (vm_slot g) b.tied.laid b.ok.there, b.tied.laid.slots) in
           let bytes : bytes_of u (vm_slot g) ≡ bytes_of t (vm_slot g) = ap (λ x. bytes_of x (vm_slot g)) is_u ∙ ap bytes_in (with_locks-same t (vm_slot g) count small) in
           record {
-            tied = locked-tied image honest w t u g count p b.tied b.ok.there is_u;
-            row = lock_found-row image honest failed v w s t g i n b.tied (still-group b.same group) still-few (b.row group) b.ok.there u place is_u finds;
+            tied = locked-tied medium w t u g count p b.tied b.ok.there is_u;
+            row = lock_found-row medium v w s t g i n b.tied (still-group b.same group) still-few (b.row group) b.ok.there u place is_u finds;
             same = b.same;
             no_group = λ none. absurd (none group);
             keeps = keeps-locked v s t u g count b.keeps b.ok.there is_u;
@@ -155,5 +156,5 @@ module _ {D : Type 0} (image : D → List ℕ) (honest : D → Type 0) (may_leav
             finds = subst (λ xs. Finds (refer i n) xs (Ok place)) (sym bytes) finds;
             within = subst (λ xs. (place.0 + place.1 ≤ length xs) × (n ≤ place.1)) (sym bytes) within;
             no_room = λ e. absurd cc;
-            device = reads-on image honest may_leave left failed v w w refl (λ e. absurd cc) (λ e. absurd cc) b.device;
+            device = reads-on medium v w w refl (λ e. absurd cc) (λ e. absurd cc) b.device;
           }

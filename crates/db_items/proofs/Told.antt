@@ -7,6 +7,7 @@ use Rattle.geos_table.specs.Given.{given_memory}
 use Rattle.geos_table.specs.Memory.{Memory, at_handle, is_group, listed_at}
 use Rattle.geos_table.proofs.LegalGiven.{entry-told_given, listed-given}
 use Rattle.block_handles.specs.Store.{Store}
+use Rattle.vm_file.specs.Device.{Medium}
 use Rattle.vm_blocks.specs.FileOf.{IsMemoryOf}
 use Rattle.vm_blocks.specs.Tied.{IsTied}
 use Rattle.vm_blocks.specs.View.{VmState}
@@ -30,12 +31,12 @@ some-listed (Some l) is = refl
 pub group-listed : (m : Memory) (g : ℕ) → is_group m g ≡ true → is_none (listed_at m g) ≡ false
 group-listed m g is = some-listed (listed_at m g) is
 
-module _ {D : Type 0} (image : D → List ℕ) (honest : D → Type 0) (v : VmState D) (s : Store) (tied : IsTied image honest v s) (m : Memory) (is : IsMemoryOf image honest v s m) (g : ℕ) where
+module _ {D : Type 0} (medium : Medium D) (v : VmState D) (s : Store) (tied : IsTied medium v s) (m : Memory) (is : IsMemoryOf medium v s m) (g : ℕ) where
   pub group-told : IsGroup v g → is_group m g ≡ true
-  group-told group = has-group_uid (listed_at m g) (uid-some image honest v s tied m is (λ u. u ≡ group_uid) g group)
+  group-told group = has-group_uid (listed_at m g) (uid-some medium v s tied m is (λ u. u ≡ group_uid) g group)
 
   pub no_group-told : (IsGroup v g → ⊥) → is_group m g ≡ false
-  no_group-told none = hasnt-group_uid (listed_at m g) (λ some. none (some-uid image honest v s tied m is (λ u. u ≡ group_uid) g some))
+  no_group-told none = hasnt-group_uid (listed_at m g) (λ some. none (some-uid medium v s tied m is (λ u. u ≡ group_uid) g some))
 
 -- no gift changes which handles do
 same-uids : (k l : Option VmBlock) → option_map (λ (x : VmBlock). x.uid) k ≡ option_map (λ (x : VmBlock). x.uid) l → uid_in k ≡ uid_in l

@@ -5,7 +5,7 @@ use Rattle.geos_model.specs.declared.refusal.Refusal.{Refusal}
 use Rattle.geos_model.specs.declared.refusal.Refusal.TheVariants.{BadHandle, Disk, NoRoom, Short}
 use Rattle.geos_table.specs.VmCalls.{bring}
 use Rattle.block_handles.specs.Store.{Store, IsThere}
-use Rattle.vm_file.specs.Device.{Rose}
+use Rattle.vm_file.specs.Device.{Medium, Rose}
 use Rattle.vm_file.specs.Directories.{group_uid}
 use Rattle.vm_file.specs.Outcomes.{ReadsOnly}
 use Rattle.vm_file.specs.State.{pair_of}
@@ -21,11 +21,11 @@ IsGroup v g = IsSomeAnd (held_at v g) (λ e. e.uid ≡ group_uid)
 
 -- a call reads the device at most: it writes nothing, the pair that the file keeps is the same, and
 -- it fails, on an honest device, only where the count of failures rose, which it does nowhere else
-pub record ReadsDevice {D : Type 0} (image : D → List ℕ) (honest : D → Type 0) (may_leave : D → List ℕ → Type 0) (left : D → D → List ℕ → Type 0) (failed : D → ℕ) (fails : Type 0) (v w : VmState D) : Type 0 where
-  pub pair : pair_of image w.file ≡ pair_of image v.file
-  pub reads : ReadsOnly image honest may_leave left v.file.device w.file.device
-  pub cause : honest v.file.device → fails → Rose (failed v.file.device) (failed w.file.device)
-  pub counted : (fails → ⊥) → failed w.file.device ≡ failed v.file.device
+pub record ReadsDevice {D : Type 0} (medium : Medium D) (fails : Type 0) (v w : VmState D) : Type 0 where
+  pub pair : pair_of medium.image w.file ≡ pair_of medium.image v.file
+  pub reads : ReadsOnly medium v.file.device w.file.device
+  pub cause : medium.honest v.file.device → fails → Rose (medium.failed v.file.device) (medium.failed w.file.device)
+  pub counted : (fails → ⊥) → medium.failed w.file.device ≡ medium.failed v.file.device
 
 -- a handle of no group is refused, and nothing changes
 abbrev pub RefusesNoGroup : {D A : Type 0} → ℕ → Result A Refusal → VmState D → VmState D → Store → Store → Type 0
@@ -33,18 +33,18 @@ RefusesNoGroup g result v w s t = (IsGroup v g → ⊥) → (result ≡ Err BadH
 
 -- a group is brought into memory, or refused; a handle of no group is. One that is there asks the device nothing, and no block
 -- goes for one that is not where there is room
-pub record BringsGroup {D : Type 0} (image : D → List ℕ) (honest : D → Type 0) (may_leave : D → List ℕ → Type 0) (left : D → D → List ℕ → Type 0) (failed : D → ℕ)
+pub record BringsGroup {D : Type 0} (medium : Medium D)
     (g : ℕ) (result : Result (Unit {0}) Refusal) (v w : VmState D) (s t : Store) : Type 0 where
-  pub tied : IsTied image honest w t
+  pub tied : IsTied medium w t
   pub same : w ≡ with_device v w.file.device
   pub no_group : RefusesNoGroup g result v w s t
   pub known : OnOk result (IsGroup v g)
   pub not_short : result ≡ Err Short → ⊥
   pub there : IsThere s (vm_slot g) → (w ≡ v) × (result ≡ Err Disk → ⊥)
-  pub row : IsGroup v g → DoesRow image honest failed (bring g) result v s w t
+  pub row : IsGroup v g → DoesRow medium (bring g) result v s w t
   pub ok : OnOk result (Brought s t g)
   pub err : OnErr result (NotBrought s t g)
   pub keeps : Keeps v s t g
   pub wanted : IfSome (held_at v g) (λ e. RemainOrNoRoom s t g e.len)
   pub no_room : result ≡ Err NoRoom → (IsThere s (vm_slot g) → ⊥) × IfSome (held_at v g) (λ e. LacksRoom v s t (vm g) e.len)
-  pub device : ReadsDevice image honest may_leave left failed (result ≡ Err Disk) v w
+  pub device : ReadsDevice medium (result ≡ Err Disk) v w

@@ -12,6 +12,7 @@ use Rattle.geos_table.specs.ItemCalls.{ilock}
 use Rattle.block_handles.specs.Change.{with_lock_more}
 use Rattle.block_handles.specs.Store.{Block, Store, IsThere, block_at, bytes_of, locks_of}
 use Rattle.block_handles.specs.Stretch.{HasNoRoom}
+use Rattle.vm_file.specs.Device.{Medium}
 use Rattle.vm_blocks.specs.declared.entries.Held.{Held}
 use Rattle.vm_blocks.specs.Blocks.{marked}
 use Rattle.vm_blocks.specs.Bring.{Keeps, LockedMore}
@@ -44,10 +45,10 @@ listed_after (Err why) v g = v
 -- other block is as it was, or was discarded. A refusal leaves the marks, the counts and a group that
 -- was in memory as they were. A group that was there asks the device nothing, and no block goes where
 -- there is room for what its chunks need; one that the device refuses is not there
-pub record ChangesItem {D A : Type 0} (image : D → List ℕ) (honest : D → Type 0) (may_leave : D → List ℕ → Type 0) (left : D → D → List ℕ → Type 0) (failed : D → ℕ)
+pub record ChangesItem {D A : Type 0} (medium : Medium D)
     (call : Call A) (edit : List (Option (List ℕ)) → Edit A) (g : ℕ) (result : Result A Refusal) (v w : VmState D) (s t : Store) : Type 0 where
-  pub tied : IsTied image honest w t
-  pub row : DoesRow image honest failed call result v s w t
+  pub tied : IsTied medium w t
+  pub row : DoesRow medium call result v s w t
   pub listed : w ≡ with_device (listed_after result v g) w.file.device
   pub no_group : RefusesNoGroup g result v w s t
   pub keeps : Keeps v s t g
@@ -58,7 +59,7 @@ pub record ChangesItem {D A : Type 0} (image : D → List ℕ) (honest : D → T
   pub there : IsThere s (vm_slot g) → (w.file ≡ v.file) × (result ≡ Err Disk → ⊥)
   pub absent : result ≡ Err Disk → IsThere t (vm_slot g) → ⊥
   pub no_room : result ≡ Err NoRoom → LacksItemRoom v t g edit
-  pub device : ReadsDevice image honest may_leave left failed (result ≡ Err Disk) v w
+  pub device : ReadsDevice medium (result ≡ Err Disk) v w
 
 -- the reference to an item that was found: the whole of it
 abbrev pub refers_to : ℕ → ℕ → Result (ℕ × ℕ) Refusal → Result Reference Refusal
@@ -69,10 +70,10 @@ refers_to g i (Err why) = Err why
 -- that is refused it is locked as often as it was. A group that was there asks the device nothing, and
 -- nothing else changes; no block goes for one that was not where there is room, and one that the device
 -- refuses is not there
-pub record LocksItem {D : Type 0} (image : D → List ℕ) (honest : D → Type 0) (may_leave : D → List ℕ → Type 0) (left : D → D → List ℕ → Type 0) (failed : D → ℕ)
+pub record LocksItem {D : Type 0} (medium : Medium D)
     (g i n : ℕ) (result : Result (ℕ × ℕ) Refusal) (v w : VmState D) (s t : Store) : Type 0 where
-  pub tied : IsTied image honest w t
-  pub row : DoesRow image honest failed (ilock g i n) (refers_to g i result) v s w t
+  pub tied : IsTied medium w t
+  pub row : DoesRow medium (ilock g i n) (refers_to g i result) v s w t
   pub same : w ≡ with_device v w.file.device
   pub no_group : RefusesNoGroup g result v w s t
   pub keeps : Keeps v s t g
@@ -86,4 +87,4 @@ pub record LocksItem {D : Type 0} (image : D → List ℕ) (honest : D → Type 
   pub finds : OnOk result (Finds (refer i n) (bytes_of t (vm_slot g)) result)
   pub within : IfOk result (λ place. (place.0 + place.1 ≤ length (bytes_of t (vm_slot g))) × (n ≤ place.1))
   pub no_room : result ≡ Err NoRoom → IfSome (held_at v g) (λ e. LacksRoom v s t (vm g) e.len)
-  pub device : ReadsDevice image honest may_leave left failed (result ≡ Err Disk) v w
+  pub device : ReadsDevice medium (result ≡ Err Disk) v w

@@ -22,8 +22,8 @@ pub fn item_change<D: Device + Drop>(
     g: u16,
     change: Change,
 ) -> Result<(), Refusal>
-    requires { IsTied D.image D.honest vm.old blocks.old }
-    ensures { ChangesItem D.image D.honest D.may_leave D.may_have_left D.failed (on_group g (change_row (vm_name g) change)) (change_edit change)
+    requires { IsTied D.medium vm.old blocks.old }
+    ensures { ChangesItem D.medium (on_group g (change_row (vm_name g) change)) (change_edit change)
         g result vm.old vm.new blocks.old blocks.new }
 {
     match bring_group(vm, blocks, g) {
@@ -48,8 +48,8 @@ pub fn item_make<D: Device + Drop>(
     g: u16,
     make: Make,
 ) -> Result<u16, Refusal>
-    requires { IsTied D.image D.honest vm.old blocks.old }
-    ensures { ChangesItem D.image D.honest D.may_leave D.may_have_left D.failed (on_group g (make_row (vm_name g) make)) (make_edit make)
+    requires { IsTied D.medium vm.old blocks.old }
+    ensures { ChangesItem D.medium (on_group g (make_row (vm_name g) make)) (make_edit make)
         g result vm.old vm.new blocks.old blocks.new }
 {
     match bring_group(vm, blocks, g) {

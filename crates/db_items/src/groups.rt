@@ -63,10 +63,10 @@ pub fn group_new<D: Device + Drop>(
     vm: &mut VmBlocks<D>,
     blocks: &mut Blocks,
 ) -> Result<u16, Refusal>
-    requires { IsTied D.image D.honest vm.old blocks.old }
-    ensures tied { IsTied D.image D.honest vm.new blocks.new }
+    requires { IsTied D.medium vm.old blocks.old }
+    ensures tied { IsTied D.medium vm.new blocks.new }
     // Its row of the table of calls, in each memory that the model may have before it.
-    ensures row { DoesRow D.image D.honest D.failed gnew result vm.old blocks.old vm.new blocks.new }
+    ensures row { DoesRow D.medium gnew result vm.old blocks.old vm.new blocks.new }
     ensures ok { IfOk result (Adds vm.old vm.new blocks.old blocks.new group_uid 0) }
     ensures why { IfErr result (λ why. (why ≡ Refusal.NoHandle) ⊎ (why ≡ Refusal.NoRoom)) }
     ensures no_handle { (result ≡ Err Refusal.NoHandle) ↔ AllListed vm.old }
@@ -91,10 +91,10 @@ pub fn group_free<D: Device + Drop>(
     blocks: &mut Blocks,
     g: u16,
 ) -> Result<(), Refusal>
-    requires { IsTied D.image D.honest vm.old blocks.old }
-    ensures tied { IsTied D.image D.honest vm.new blocks.new }
+    requires { IsTied D.medium vm.old blocks.old }
+    ensures tied { IsTied D.medium vm.new blocks.new }
     // Its row of the table of calls, in each memory that the model may have before it.
-    ensures row { DoesRow D.image D.honest D.failed (gfree g) result vm.old blocks.old vm.new blocks.new }
+    ensures row { DoesRow D.medium (gfree g) result vm.old blocks.old vm.new blocks.new }
     ensures no_group { RefusesNoGroup g result vm.old vm.new blocks.old blocks.new }
     ensures locked { IsGroup vm.old g → (result ≡ Err Refusal.Locked) ↔ (0 < locks_of blocks.old (vm_slot g)) }
     ensures state { OnOk result (vm.new ≡ without_held vm.old g) }
@@ -118,8 +118,8 @@ pub(crate) fn bring_group<D: Device + Drop>(
     blocks: &mut Blocks,
     g: u16,
 ) -> Result<(), Refusal>
-    requires { IsTied D.image D.honest vm.old blocks.old }
-    ensures { BringsGroup D.image D.honest D.may_leave D.may_have_left D.failed g result vm.old vm.new blocks.old blocks.new }
+    requires { IsTied D.medium vm.old blocks.old }
+    ensures { BringsGroup D.medium g result vm.old vm.new blocks.old blocks.new }
 {
     if !is_group(vm, g) {
         return Err(Refusal::BadHandle);

@@ -21,8 +21,8 @@ pub fn item_new<D: Device + Drop>(
     g: u16,
     n: u16,
 ) -> Result<u16, Refusal>
-    requires { IsTied D.image D.honest vm.old blocks.old }
-    ensures { ChangesItem D.image D.honest D.may_leave D.may_have_left D.failed (inew g n) (alloc n) g result vm.old vm.new blocks.old blocks.new }
+    requires { IsTied D.medium vm.old blocks.old }
+    ensures { ChangesItem D.medium (inew g n) (alloc n) g result vm.old vm.new blocks.old blocks.new }
 {
     item_make(vm, blocks, g, Make::Lalloc { n })
 }
@@ -35,8 +35,8 @@ pub fn item_free<D: Device + Drop>(
     g: u16,
     i: u16,
 ) -> Result<(), Refusal>
-    requires { IsTied D.image D.honest vm.old blocks.old }
-    ensures { ChangesItem D.image D.honest D.may_leave D.may_have_left D.failed (ifree g i) (free i) g result vm.old vm.new blocks.old blocks.new }
+    requires { IsTied D.medium vm.old blocks.old }
+    ensures { ChangesItem D.medium (ifree g i) (free i) g result vm.old vm.new blocks.old blocks.new }
 {
     item_change(vm, blocks, g, Change::Lfree { c: i })
 }
@@ -50,8 +50,8 @@ pub fn item_realloc<D: Device + Drop>(
     i: u16,
     n: u16,
 ) -> Result<(), Refusal>
-    requires { IsTied D.image D.honest vm.old blocks.old }
-    ensures { ChangesItem D.image D.honest D.may_leave D.may_have_left D.failed (irealloc g i n) (realloc i n) g result vm.old vm.new blocks.old blocks.new }
+    requires { IsTied D.medium vm.old blocks.old }
+    ensures { ChangesItem D.medium (irealloc g i n) (realloc i n) g result vm.old vm.new blocks.old blocks.new }
 {
     item_change(vm, blocks, g, Change::Lrealloc { c: i, n })
 }
@@ -66,8 +66,8 @@ pub fn item_insert<D: Device + Drop>(
     at: u16,
     n: u16,
 ) -> Result<(), Refusal>
-    requires { IsTied D.image D.honest vm.old blocks.old }
-    ensures { ChangesItem D.image D.honest D.may_leave D.may_have_left D.failed (iins g i at n) (insert_bytes i at n)
+    requires { IsTied D.medium vm.old blocks.old }
+    ensures { ChangesItem D.medium (iins g i at n) (insert_bytes i at n)
         g result vm.old vm.new blocks.old blocks.new }
 {
     item_change(vm, blocks, g, Change::Lins { c: i, at, n })
@@ -83,8 +83,8 @@ pub fn item_delete<D: Device + Drop>(
     at: u16,
     n: u16,
 ) -> Result<(), Refusal>
-    requires { IsTied D.image D.honest vm.old blocks.old }
-    ensures { ChangesItem D.image D.honest D.may_leave D.may_have_left D.failed (idel g i at n) (delete_bytes i at n)
+    requires { IsTied D.medium vm.old blocks.old }
+    ensures { ChangesItem D.medium (idel g i at n) (delete_bytes i at n)
         g result vm.old vm.new blocks.old blocks.new }
 {
     item_change(vm, blocks, g, Change::Ldel { c: i, at, n })

@@ -36,8 +36,8 @@ pub fn item_lock_part<D: Device + Drop>(
     i: u16,
     n: u16,
 ) -> Result<(usize, u16), Refusal>
-    requires { IsTied D.image D.honest vm.old blocks.old }
-    ensures { LocksItem D.image D.honest D.may_leave D.may_have_left D.failed g i n result vm.old vm.new blocks.old blocks.new }
+    requires { IsTied D.medium vm.old blocks.old }
+    ensures { LocksItem D.medium g i n result vm.old vm.new blocks.old blocks.new }
 {
     if is_full(vm, blocks, g) {
         return Err(Refusal::Locked);
@@ -62,33 +62,33 @@ pub fn item_lock<D: Device + Drop>(
     g: u16,
     i: u16,
 ) -> Result<(usize, u16), Refusal>
-    requires { IsTied D.image D.honest vm.old blocks.old }
+    requires { IsTied D.medium vm.old blocks.old }
     ensures not_short { result ≡ Err Refusal.Short → ⊥ }
-    ensures locks { LocksItem D.image D.honest D.may_leave D.may_have_left D.failed g i 0 result vm.old vm.new blocks.old blocks.new }
+    ensures locks { LocksItem D.medium g i 0 result vm.old vm.new blocks.old blocks.new }
 {
     item_lock_part(vm, blocks, g, i, 0)
 }
 
 /// Marks a group that is in memory as changed.
 pub fn item_dirty<D: Device + Drop>(vm: &mut VmBlocks<D>, blocks: &Blocks, g: u16)
-    requires tied { IsTied D.image D.honest vm.old blocks.now }
+    requires tied { IsTied D.medium vm.old blocks.now }
     requires there { IsThere blocks.now (vm_slot g) }
-    ensures tied { IsTied D.image D.honest vm.new blocks.now }
+    ensures tied { IsTied D.medium vm.new blocks.now }
     ensures marks { vm.new ≡ with_held vm.old g (option_map marked (held_at vm.old g)) }
     // Its row of the table of calls, in each memory that the model may have before it.
-    ensures row { DoesRow D.image D.honest D.failed (idirty g) (Ok tt) vm.old blocks.now vm.new blocks.now }
+    ensures row { DoesRow D.medium (idirty g) (Ok tt) vm.old blocks.now vm.new blocks.now }
 {
     vm.vdirty(blocks, g);
 }
 
 /// Takes back one lock of a group. It stays in memory.
 pub fn item_unlock<D: Device + Drop>(vm: &VmBlocks<D>, blocks: &mut Blocks, g: u16)
-    requires tied { IsTied D.image D.honest vm.now blocks.old }
+    requires tied { IsTied D.medium vm.now blocks.old }
     requires locked { 0 < locks_of blocks.old (vm_slot g) }
-    ensures tied { IsTied D.image D.honest vm.now blocks.new }
+    ensures tied { IsTied D.medium vm.now blocks.new }
     ensures less { blocks.new ≡ with_lock_less blocks.old (vm_slot g) }
     // Its row of the table of calls, in each memory that the model may have before it.
-    ensures row { DoesRow D.image D.honest D.failed (iunlock g) (Ok tt) vm.now blocks.old vm.now blocks.new }
+    ensures row { DoesRow D.medium (iunlock g) (Ok tt) vm.now blocks.old vm.now blocks.new }
 {
     vm.vunlock(blocks, g);
 }

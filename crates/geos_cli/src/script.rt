@@ -187,8 +187,8 @@ fn print_refusal<W: Write>(refusal: Refusal, out: &mut Counted<W>) -> Result<(),
 /// The VM file keeps one of its pairs of directories; no block of it is locked then, as before.
 fn keep<D: Device + Drop>(kernel: &mut Kernel<D>, how: How) -> Result<(), Refusal>
     requires { NoneLocked kernel.old.core.blocks }
-    ensures calls { Calls (D.honest kernel.old.device) (commit (keeper_of how)) result kernel.old.core kernel.new.core }
-    ensures honest { D.honest kernel.new.device ↔ D.honest kernel.old.device }
+    ensures calls { Calls (D.medium.honest kernel.old.device) (commit (keeper_of how)) result kernel.old.core kernel.new.core }
+    ensures honest { D.medium.honest kernel.new.device ↔ D.medium.honest kernel.old.device }
     ensures unlocked { NoneLocked kernel.new.core.blocks }
 {
     kernel.memory_is_legal();
@@ -207,11 +207,11 @@ fn carry_out<W: Write, D: Device + Drop>(
 ) -> Result<(), ScriptFault>
     requires admitted { IsAdmitted checked.now command.now }
     requires unlocked { NoneLocked kernel.old.core.blocks }
-    ensures ok { IfOk result (λ _. RanCommand (D.honest kernel.old.device) checked.now command.now kernel.old.core kernel.new.core
+    ensures ok { IfOk result (λ _. RanCommand (D.medium.honest kernel.old.device) checked.now command.now kernel.old.core kernel.new.core
         (W.contents out.old.stream) (W.contents out.new.stream)) }
-    ensures stopped { IfErr result (λ _. StoppedCommand (D.honest kernel.old.device) checked.now command.now kernel.old.core kernel.new.core
+    ensures stopped { IfErr result (λ _. StoppedCommand (D.medium.honest kernel.old.device) checked.now command.now kernel.old.core kernel.new.core
         (W.contents out.old.stream) (W.contents out.new.stream)) }
-    ensures honest { D.honest kernel.new.device ↔ D.honest kernel.old.device }
+    ensures honest { D.medium.honest kernel.new.device ↔ D.medium.honest kernel.old.device }
     ensures unlocked { NoneLocked kernel.new.core.blocks }
     ensures kept { IfOk result (λ _. out.new.failures ≡ out.old.failures) }
     ensures failed { IfErr result (λ fault. (fault ≡ Write) × Rose out.old.failures out.new.failures) }
@@ -237,11 +237,11 @@ fn carry_out_all<W: Write, D: Device + Drop>(
 ) -> Result<(), ScriptFault>
     requires admitted { All (IsAdmitted checked.now) commands.now }
     requires unlocked { NoneLocked kernel.old.core.blocks }
-    ensures ok { IfOk result (λ _. RanCommands (D.honest kernel.old.device) checked.now commands.now kernel.old.core kernel.new.core
+    ensures ok { IfOk result (λ _. RanCommands (D.medium.honest kernel.old.device) checked.now commands.now kernel.old.core kernel.new.core
         (W.contents out.old.stream) (W.contents out.new.stream)) }
-    ensures stopped { IfErr result (λ _. StoppedCommands (D.honest kernel.old.device) checked.now commands.now kernel.old.core kernel.new.core
+    ensures stopped { IfErr result (λ _. StoppedCommands (D.medium.honest kernel.old.device) checked.now commands.now kernel.old.core kernel.new.core
         (W.contents out.old.stream) (W.contents out.new.stream)) }
-    ensures honest { D.honest kernel.new.device ↔ D.honest kernel.old.device }
+    ensures honest { D.medium.honest kernel.new.device ↔ D.medium.honest kernel.old.device }
     ensures unlocked { NoneLocked kernel.new.core.blocks }
     ensures kept { IfOk result (λ _. out.new.failures ≡ out.old.failures) }
     ensures failed { IfErr result (λ fault. (fault ≡ Write) × Rose out.old.failures out.new.failures) }
@@ -285,15 +285,15 @@ pub fn run_script<W: Write, D: Device + Drop>(
 ) -> Result<(), ScriptFault>
     // No block of the file is locked by others: `Kernel::vm_unlocked` tells it.
     requires unlocked { NoneLocked kernel.old.core.blocks }
-    ensures ran { IfOk result (λ _. RanScript (D.honest kernel.old.device) image.now script.now kernel.old.core kernel.new.core
+    ensures ran { IfOk result (λ _. RanScript (D.medium.honest kernel.old.device) image.now script.now kernel.old.core kernel.new.core
         (W.contents out.old.stream) (W.contents out.new.stream)) }
     ensures due { IfErr result (ScriptEndsBy image.now script.now) }
     ensures stopped { IfErr result (λ fault. fault ≡ Write →
-        StoppedScript (D.honest kernel.old.device) image.now script.now kernel.old.core kernel.new.core
+        StoppedScript (D.medium.honest kernel.old.device) image.now script.now kernel.old.core kernel.new.core
         (W.contents out.old.stream) (W.contents out.new.stream)) }
 
     // The device is as honest as it was, and no block of the file is locked again.
-    ensures honest { D.honest kernel.new.device ↔ D.honest kernel.old.device }
+    ensures honest { D.medium.honest kernel.new.device ↔ D.medium.honest kernel.old.device }
     ensures unlocked { NoneLocked kernel.new.core.blocks }
 
     // Nothing runs before a fault other than `Write`.

@@ -1,22 +1,22 @@
 -- Calls that only read a file, one after the other.
 use Rattle.std.proofs.Common.{◌≡◌, ◌∙◌, ℕ, List, Result, Ok, Err, refl, ap, sym, subst}
 use Rattle.std.specs.Prelude.{IsErrAnd}
-use Rattle.vm_file.specs.Device.{Rose}
+use Rattle.vm_file.specs.Device.{Medium, Rose}
 use Rattle.vm_file.specs.State.{FileState}
 use Rattle.vm_file.proofs.Moments.{reads_none, reads_then}
 use Rattle.geos_dump.specs.declared.error.DumpError.{DumpError}
 use Rattle.geos_dump.specs.declared.error.DumpError.TheVariants.{Disk, Memory}
 use Rattle.geos_dump.specs.Sides.{Causes, IsOnlyRead}
 
-module _ {D : Type 0} (image : D → List ℕ) (honest : D → Type 0) (may_leave : D → List ℕ → Type 0) (left : D → D → List ℕ → Type 0) where
-  pub look_none : (f : FileState D) → IsOnlyRead image honest may_leave left f f
-  look_none f = record { same = refl; pair = refl; reads = reads_none image honest may_leave left f.device }
+module _ {D : Type 0} (medium : Medium D) where
+  pub look_none : (f : FileState D) → IsOnlyRead medium f f
+  look_none f = record { same = refl; pair = refl; reads = reads_none medium f.device }
 
-  pub look_then : (a b c : FileState D) → IsOnlyRead image honest may_leave left a b → IsOnlyRead image honest may_leave left b c → IsOnlyRead image honest may_leave left a c
+  pub look_then : (a b c : FileState D) → IsOnlyRead medium a b → IsOnlyRead medium b c → IsOnlyRead medium a c
   look_then a b c r s = record {
     same = s.same ∙ ap (λ (f : FileState D). let g : FileState D = record f { device = c.device } in g) r.same;
     pair = s.pair ∙ r.pair;
-    reads = reads_then image honest may_leave left a.device b.device c.device r.reads s.reads;
+    reads = reads_then medium a.device b.device c.device r.reads s.reads;
   }
 
 -- a call behind others of which no failure was counted

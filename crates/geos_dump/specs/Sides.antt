@@ -4,7 +4,7 @@ use Rattle.geos_model.specs.Heap.{most_block_bytes}
 use Rattle.vm_file.specs.declared.directory.Directory.{Directory}
 use Rattle.vm_file.specs.declared.directory.Entry.{Entry}
 use Rattle.vm_file.specs.Contents.{Block, Contents, Pair}
-use Rattle.vm_file.specs.Device.{Rose}
+use Rattle.vm_file.specs.Device.{Medium, Rose}
 use Rattle.vm_file.specs.Outcomes.{ReadsOnly}
 use Rattle.vm_file.specs.State.{FileState, HasBlock, bytes_of_block, pair_of}
 use Rattle.geos_dump.specs.declared.error.DumpError.{DumpError}
@@ -42,11 +42,10 @@ pub record IsEntryOf (d : Directory) (blocks : List Block) (i : ℕ) (e : Entry)
   pub is : block_of e blocks ≡ slice_index_or blocks i no_block
 
 -- a file that was only read: it is what it was but for its device, keeps the same pair, and nothing was written
-pub record IsOnlyRead {D : Type 0} (image : D → List ℕ) (honest : D → Type 0) (may_leave : D → List ℕ → Type 0)
-    (left : D → D → List ℕ → Type 0) (old new : FileState D) : Type 0 where
+pub record IsOnlyRead {D : Type 0} (medium : Medium D) (old new : FileState D) : Type 0 where
   pub same : new ≡ record old { device = new.device }
-  pub pair : pair_of image new ≡ pair_of image old
-  pub reads : ReadsOnly image honest may_leave left old.device new.device
+  pub pair : pair_of medium.image new ≡ pair_of medium.image old
+  pub reads : ReadsOnly medium old.device new.device
 
 -- on an honest device `Disk` comes only where a failure was counted; with any other answer none was
 abbrev pub Causes : {X : Type 0} → Type 0 → ℕ → ℕ → Result X DumpError → Type 0

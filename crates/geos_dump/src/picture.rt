@@ -107,8 +107,8 @@ fn put_block<D: Device + Drop>(
 ) -> Result<(), DumpError>
     requires listed { HasBlock (directory_on block.side file.old) block.entry.h block.entry.len }
     requires room { block.entry.len ≤ length buffer.old }
-    ensures looks { IsOnlyRead D.image D.honest D.may_leave D.may_have_left file.old file.new }
-    ensures cause { Causes (D.honest file.old.device) (D.failed file.old.device) (D.failed file.new.device) result }
+    ensures looks { IsOnlyRead D.medium file.old file.new }
+    ensures cause { Causes (D.medium.honest file.old.device) (D.medium.failed file.old.device) (D.medium.failed file.new.device) result }
 {
     let Listed { side, entry } = block;
     let bytes = &mut buffer[..usize::from(entry.len)];
@@ -126,8 +126,8 @@ fn put_blocks<D: Device + Drop>(
     buffer: &mut [u8],
 ) -> Result<(), DumpError>
     requires room { length buffer.old ≡ most_block_bytes }
-    ensures looks { IsOnlyRead D.image D.honest D.may_leave D.may_have_left file.old file.new }
-    ensures cause { Causes (D.honest file.old.device) (D.failed file.old.device) (D.failed file.new.device) result }
+    ensures looks { IsOnlyRead D.medium file.old file.new }
+    ensures cause { Causes (D.medium.honest file.old.device) (D.medium.failed file.old.device) (D.medium.failed file.new.device) result }
 {
     for i in 0..count(file, side) {
         let entry = entry_at(file, side, i);
@@ -145,8 +145,8 @@ fn put_directory<D: Device + Drop>(
     buffer: &mut [u8],
 ) -> Result<(), DumpError>
     requires room { length buffer.old ≡ most_block_bytes }
-    ensures looks { IsOnlyRead D.image D.honest D.may_leave D.may_have_left file.old file.new }
-    ensures cause { Causes (D.honest file.old.device) (D.failed file.old.device) (D.failed file.new.device) result }
+    ensures looks { IsOnlyRead D.medium file.old file.new }
+    ensures cause { Causes (D.medium.honest file.old.device) (D.medium.failed file.old.device) (D.medium.failed file.new.device) result }
 {
     out.extend_from_slice(b"\n")?;
     put_directory_line(out, side, directory(file, side))?;
@@ -172,10 +172,10 @@ pub fn map<D: Device + Drop>(
     width: u16,
 ) -> Result<Vec<u8>, DumpError>
     ensures same { file.new ≡ record file.old { device = file.new.device } }
-    ensures pair { pair_of D.image file.new ≡ pair_of D.image file.old }
+    ensures pair { pair_of D.medium.image file.new ≡ pair_of D.medium.image file.old }
     // Nothing is written, so a stop meanwhile leaves what it might have left before.
-    ensures reads { ReadsOnly D.image D.honest D.may_leave D.may_have_left file.old.device file.new.device }
-    ensures cause { Causes (D.honest file.old.device) (D.failed file.old.device) (D.failed file.new.device) result }
+    ensures reads { ReadsOnly D.medium file.old.device file.new.device }
+    ensures cause { Causes (D.medium.honest file.old.device) (D.medium.failed file.old.device) (D.medium.failed file.new.device) result }
 {
     let width = width.max(LEAST_WIDTH);
     let scale = Scale {

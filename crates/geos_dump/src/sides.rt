@@ -37,7 +37,7 @@ pub(crate) struct Listed {
 /// The directory on a side.
 pub(crate) fn directory<D: Device + Drop>(file: &VmFile<D>, side: Side) -> &Directory
     ensures same { result.now ≡ directory_on side file.now }
-    ensures lists { listed (contents_on side (pair_of D.image file.now)) ≡ result.now }
+    ensures lists { listed (contents_on side (pair_of D.medium.image file.now)) ≡ result.now }
     ensures legal { is_directory result.now ≡ true }
 {
     match side {
@@ -48,7 +48,7 @@ pub(crate) fn directory<D: Device + Drop>(file: &VmFile<D>, side: Side) -> &Dire
 
 /// The number of blocks on a side.
 pub(crate) fn count<D: Device + Drop>(file: &VmFile<D>, side: Side) -> usize
-    ensures blocks { result ≡ length (contents_on side (pair_of D.image file.now)).blocks }
+    ensures blocks { result ≡ length (contents_on side (pair_of D.medium.image file.now)).blocks }
     ensures few { result ≤ MOST_BLOCKS }
 {
     directory(file, side).entries.len()
@@ -56,8 +56,8 @@ pub(crate) fn count<D: Device + Drop>(file: &VmFile<D>, side: Side) -> usize
 
 /// The entry of the block with a number on a side.
 pub(crate) fn entry_at<D: Device + Drop>(file: &VmFile<D>, side: Side, i: usize) -> Entry
-    requires { i < length (contents_on side (pair_of D.image file.now)).blocks }
-    ensures { IsEntryOf (directory_on side file.now) (contents_on side (pair_of D.image file.now)).blocks i result }
+    requires { i < length (contents_on side (pair_of D.medium.image file.now)).blocks }
+    ensures { IsEntryOf (directory_on side file.now) (contents_on side (pair_of D.medium.image file.now)).blocks i result }
 {
     directory(file, side).entries[i]
 }
@@ -71,11 +71,11 @@ pub(crate) fn read_block<D: Device + Drop>(
     into: &mut [u8],
 ) -> Result<(), Disk>
     requires { HasBlock (directory_on side file.old) h (length into.old) }
-    ensures bytes { D.honest file.old.device → OnOk result (into.new ≡ bytes_of_block (contents_on side (pair_of D.image file.old)).blocks h) }
+    ensures bytes { D.medium.honest file.old.device → OnOk result (into.new ≡ bytes_of_block (contents_on side (pair_of D.medium.image file.old)).blocks h) }
     ensures heap { OnOk result (IsHeap into.new) }
-    ensures looks { IsOnlyRead D.image D.honest D.may_leave D.may_have_left file.old file.new }
-    ensures ok { OnOk result (D.failed file.new.device ≡ D.failed file.old.device) }
-    ensures cause { D.honest file.old.device → OnErr result (Rose (D.failed file.old.device) (D.failed file.new.device)) }
+    ensures looks { IsOnlyRead D.medium file.old file.new }
+    ensures ok { OnOk result (D.medium.failed file.new.device ≡ D.medium.failed file.old.device) }
+    ensures cause { D.medium.honest file.old.device → OnErr result (Rose (D.medium.failed file.old.device) (D.medium.failed file.new.device)) }
 {
     match side {
         Side::Current => file.block(h, into),

@@ -65,10 +65,10 @@ fn put_block<D: Device + Drop>(
 ) -> Result<(), DumpError>
     requires listed { HasBlock (directory_on block.side file.old) block.entry.h block.entry.len }
     requires room { block.entry.len ≤ length buffer.old }
-    ensures text { D.honest file.old.device → OnOk result (out.new.items
-        ≡ out.old.items ++ block_text detail (block_of block.entry (contents_on block.side (pair_of D.image file.old)).blocks)) }
-    ensures looks { IsOnlyRead D.image D.honest D.may_leave D.may_have_left file.old file.new }
-    ensures cause { Causes (D.honest file.old.device) (D.failed file.old.device) (D.failed file.new.device) result }
+    ensures text { D.medium.honest file.old.device → OnOk result (out.new.items
+        ≡ out.old.items ++ block_text detail (block_of block.entry (contents_on block.side (pair_of D.medium.image file.old)).blocks)) }
+    ensures looks { IsOnlyRead D.medium file.old file.new }
+    ensures cause { Causes (D.medium.honest file.old.device) (D.medium.failed file.old.device) (D.medium.failed file.new.device) result }
 {
     let Listed { side, entry } = block;
     let bytes = &mut buffer[..usize::from(entry.len)];
@@ -102,10 +102,10 @@ fn put_blocks<D: Device + Drop>(
     buffer: &mut [u8],
 ) -> Result<(), DumpError>
     requires room { length buffer.old ≡ most_block_bytes }
-    ensures text { D.honest file.old.device → OnOk result (out.new.items ≡ out.old.items
-        ++ flat_map (block_text detail) (contents_on side (pair_of D.image file.old)).blocks) }
-    ensures looks { IsOnlyRead D.image D.honest D.may_leave D.may_have_left file.old file.new }
-    ensures cause { Causes (D.honest file.old.device) (D.failed file.old.device) (D.failed file.new.device) result }
+    ensures text { D.medium.honest file.old.device → OnOk result (out.new.items ≡ out.old.items
+        ++ flat_map (block_text detail) (contents_on side (pair_of D.medium.image file.old)).blocks) }
+    ensures looks { IsOnlyRead D.medium file.old file.new }
+    ensures cause { Causes (D.medium.honest file.old.device) (D.medium.failed file.old.device) (D.medium.failed file.new.device) result }
 {
     for i in 0..count(file, side) {
         let entry = entry_at(file, side, i);
@@ -123,10 +123,10 @@ fn put_directory<D: Device + Drop>(
     buffer: &mut [u8],
 ) -> Result<(), DumpError>
     requires room { length buffer.old ≡ most_block_bytes }
-    ensures text { D.honest file.old.device → OnOk result (out.new.items ≡ out.old.items
-        ++ directory_text detail (side_word side) (contents_on side (pair_of D.image file.old))) }
-    ensures looks { IsOnlyRead D.image D.honest D.may_leave D.may_have_left file.old file.new }
-    ensures cause { Causes (D.honest file.old.device) (D.failed file.old.device) (D.failed file.new.device) result }
+    ensures text { D.medium.honest file.old.device → OnOk result (out.new.items ≡ out.old.items
+        ++ directory_text detail (side_word side) (contents_on side (pair_of D.medium.image file.old))) }
+    ensures looks { IsOnlyRead D.medium file.old file.new }
+    ensures cause { Causes (D.medium.honest file.old.device) (D.medium.failed file.old.device) (D.medium.failed file.new.device) result }
 {
     put_directory_line(out, side, directory(file, side))?;
     put_blocks(out, detail, file, side, buffer)
@@ -145,12 +145,12 @@ pub fn dump<D: Device + Drop>(
     file: &mut VmFile<D>,
     detail: Detail,
 ) -> Result<Vec<u8>, DumpError>
-    ensures text { D.honest file.old.device → IfOk result (λ text. text.items ≡ dump_text detail (pair_of D.image file.old)) }
+    ensures text { D.medium.honest file.old.device → IfOk result (λ text. text.items ≡ dump_text detail (pair_of D.medium.image file.old)) }
     ensures same { file.new ≡ record file.old { device = file.new.device } }
-    ensures pair { pair_of D.image file.new ≡ pair_of D.image file.old }
+    ensures pair { pair_of D.medium.image file.new ≡ pair_of D.medium.image file.old }
     // Nothing is written, so a stop meanwhile leaves what it might have left before.
-    ensures reads { ReadsOnly D.image D.honest D.may_leave D.may_have_left file.old.device file.new.device }
-    ensures cause { Causes (D.honest file.old.device) (D.failed file.old.device) (D.failed file.new.device) result }
+    ensures reads { ReadsOnly D.medium file.old.device file.new.device }
+    ensures cause { Causes (D.medium.honest file.old.device) (D.medium.failed file.old.device) (D.medium.failed file.new.device) result }
 {
     let mut buffer = vec![in alloc; 0u8; MOST_BLOCK_BYTES]?;
     let mut out = Vec::new(alloc);

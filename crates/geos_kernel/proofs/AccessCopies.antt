@@ -15,6 +15,7 @@ use Rattle.geos_table.specs.Effects.{Reference}
 use Rattle.geos_table.specs.Calls as table
 use Rattle.geos_table.proofs.LegalBytes.{bytes-part}
 use Rattle.geos_model.proofs.Words.{with_nothing}
+use Rattle.vm_file.specs.Device.{Medium}
 use Rattle.vm_blocks.specs.FileOf.{IsMemoryOf}
 use Rattle.vm_blocks.specs.View.{VmState}
 use Rattle.geos_kernel.specs.declared.span.Span.{Span}
@@ -25,25 +26,25 @@ use Rattle.geos_kernel.proofs.AccessReads.{Lies, has-place, lies, stands-there, 
 use Rattle.geos_kernel.proofs.AccessWrites.{written-store, copied-in, stored-kernel, copied-over}
 
 -- a copy of no byte changes nothing
-pub nothing-copied : {D : Type 0} (image : D → List ℕ) (honest : D → Type 0) (failed : D → ℕ) (v : VmState D) (s : Store) (to : Span) (target source : Reference) (n : ℕ) → IsKernel image honest v s → n ≡ 0 → Stands (core_of image failed v s) to target
-    → Calls (honest v.file.device) (table.copy target source n) (Ok tt) (core_of image failed v s) (core_of image failed v s)
-nothing-copied image honest failed v s to target source n k none t =
-    let old = core_of image failed v s in
-    let there = stands-there image honest failed v s to target t k in
+pub nothing-copied : {D : Type 0} (medium : Medium D) (v : VmState D) (s : Store) (to : Span) (target source : Reference) (n : ℕ) → IsKernel medium v s → n ≡ 0 → Stands (core_of medium v s) to target
+    → Calls (medium.honest v.file.device) (table.copy target source n) (Ok tt) (core_of medium v s) (core_of medium v s)
+nothing-copied medium v s to target source n k none t =
+    let old = core_of medium v s in
+    let there = stands-there medium v s to target t k in
     let place = has-place old to target t in
     let slot = slot_of target.name in
     let fits : 0 + length {A = ℕ} [] ≤ target.len = omega arith in
     let are : AreBytes [] = All-nil (λ b. b < 256) in
-    let same : written-store image honest failed v s k target there place 0 [] fits are ≡ s = ap (with_bytes s slot) (with_nothing (store.bytes_of s slot) (place.place.at + (target.start + 0))) ∙ with_own s slot in
-    let calls : Calls (honest v.file.device) (table.copy target source 0) (Ok tt) old old =
-    subst (λ u. Calls (honest v.file.device) (table.copy target source 0) (Ok tt) old (core_of image failed v u)) same (copied-in image honest failed v s k target there place 0 [] fits are source 0 (λ m is. refl) refl) in
-    subst (λ n. Calls (honest v.file.device) (table.copy target source n) (Ok tt) old old) (sym none) calls
+    let same : written-store medium v s k target there place 0 [] fits are ≡ s = ap (with_bytes s slot) (with_nothing (store.bytes_of s slot) (place.place.at + (target.start + 0))) ∙ with_own s slot in
+    let calls : Calls (medium.honest v.file.device) (table.copy target source 0) (Ok tt) old old =
+    subst (λ u. Calls (medium.honest v.file.device) (table.copy target source 0) (Ok tt) old (core_of medium v u)) same (copied-in medium v s k target there place 0 [] fits are source 0 (λ m is. refl) refl) in
+    subst (λ n. Calls (medium.honest v.file.device) (table.copy target source n) (Ok tt) old old) (sym none) calls
 
-module _ {D : Type 0} (image : D → List ℕ) (honest : D → Type 0) (failed : D → ℕ) (v : VmState D) (s t : Store) (k : IsKernel image honest v s) (to from : Span) (target source : Reference)
-    (x : Stands (core_of image failed v s) to target) (y : Stands (core_of image failed v s) from source) (n : ℕ) (some : 0 < n) (room : n ≤ target.len) (fits : n ≤ source.len) (are : (slot : ℕ) → AreBytes (store.bytes_of s slot))
+module _ {D : Type 0} (medium : Medium D) (v : VmState D) (s t : Store) (k : IsKernel medium v s) (to from : Span) (target source : Reference)
+    (x : Stands (core_of medium v s) to target) (y : Stands (core_of medium v s) from source) (n : ℕ) (some : 0 < n) (room : n ≤ target.len) (fits : n ≤ source.len) (are : (slot : ℕ) → AreBytes (store.bytes_of s slot))
     (copied : CopiesCovered s t from.at to.at n) where
   abbrev core : Store → KernelState
-  core u = core_of image failed v u
+  core u = core_of medium v u
 
   abbrev taken : List ℕ
   taken = part (store.bytes_of s (slot_of source.name)) (from.at - store.place_of s (slot_of source.name)) n
@@ -51,8 +52,8 @@ module _ {D : Type 0} (image : D → List ℕ) (honest : D → Type 0) (failed :
   source-lies : Lies (core s) from source
   source-lies = lies (core s) from source y (omega (arith, some, fits))
 
-  is-taken : (m : Memory) → IsMemoryOf image honest v s m → taken ≡ take n (table.named_bytes m source)
-  is-taken m is = first-named image honest failed v s from source y k m is source-lies n fits
+  is-taken : (m : Memory) → IsMemoryOf medium v s m → taken ≡ take n (table.named_bytes m source)
+  is-taken m is = first-named medium v s from source y k m is source-lies n fits
 
   covered : WritesCovered s t to.at taken
   covered =
@@ -69,24 +70,24 @@ module _ {D : Type 0} (image : D → List ℕ) (honest : D → Type 0) (failed :
   taken-bytes : AreBytes taken
   taken-bytes = bytes-part (store.bytes_of s (slot_of source.name)) (from.at - store.place_of s (slot_of source.name)) n (are (slot_of source.name))
 
-  pub copied-kernel : MayChange (core s) target.name → IsKernel image honest v t
-  copied-kernel = stored-kernel image honest failed v s t k to target x 0 to.at taken (omega (arith, long, room)) (omega (arith, long, some)) (omega arith) taken-bytes covered
+  pub copied-kernel : MayChange (core s) target.name → IsKernel medium v t
+  copied-kernel = stored-kernel medium v s t k to target x 0 to.at taken (omega (arith, long, room)) (omega (arith, long, some)) (omega arith) taken-bytes covered
 
-  pub copied-calls : Calls (honest v.file.device) (table.copy target source n) (Ok tt) (core s) (core t)
-  copied-calls = copied-over image honest failed v s t k to target x 0 to.at taken (omega (arith, long, room)) (omega (arith, long, some)) (omega arith) taken-bytes covered source n is-taken refl
+  pub copied-calls : Calls (medium.honest v.file.device) (table.copy target source n) (Ok tt) (core s) (core t)
+  copied-calls = copied-over medium v s t k to target x 0 to.at taken (omega (arith, long, room)) (omega (arith, long, some)) (omega arith) taken-bytes covered source n is-taken refl
 
 -- A copy between spans that stand, as calls see the kernel
 
-module _ {D : Type 0} (image : D → List ℕ) (honest : D → Type 0) (failed : D → ℕ) (v : VmState D) (s t : Store) (k : KernelOn D) (is : kernel_of image failed v s ≡ k) (kernel : IsKernel image honest v s) (to from : Span)
+module _ {D : Type 0} (medium : Medium D) (v : VmState D) (s t : Store) (k : KernelOn D) (is : kernel_of medium v s ≡ k) (kernel : IsKernel medium v s) (to from : Span)
     (n : ℕ) (some : 0 < n) (room : n ≤ to.len) (fits : n ≤ from.len) (are : (slot : ℕ) → AreBytes (store.bytes_of s slot)) (copied : CopiesCovered s t from.at to.at n) where
   -- the blocks still are a kernel's
-  pub span-copied : IsWritable k.core to → IsStanding k.core from → IsKernel image honest v t
+  pub span-copied : IsWritable k.core to → IsStanding k.core from → IsKernel medium v t
   span-copied writable standing =
       let x = subst (λ k. IsWritable k.core to) (sym is) writable in
       let y = subst (λ k. IsStanding k.core from) (sym is) standing in
-      copied-kernel image honest failed v s t kernel to from x.0 y.0 x.1 y.1 n some (omega (arith, room, x.1.len)) (omega (arith, fits, y.1.len)) are copied x.2
+      copied-kernel medium v s t kernel to from x.0 y.0 x.1 y.1 n some (omega (arith, room, x.1.len)) (omega (arith, fits, y.1.len)) are copied x.2
 
   -- and the copy is the row's, whatever the spans stand for
-  pub span-copies : (target source : Reference) → Stands k.core to target → Stands k.core from source → Calls (honest k.device) (table.copy target source n) (Ok tt) k.core (core_of image failed v t)
-  span-copies = subst (λ k. (target source : Reference) → Stands k.core to target → Stands k.core from source → Calls (honest k.device) (table.copy target source n) (Ok tt) k.core (core_of image failed v t)) is
-      (λ target source x y. copied-calls image honest failed v s t kernel to from target source x y n some (omega (arith, room, x.len)) (omega (arith, fits, y.len)) are copied)
+  pub span-copies : (target source : Reference) → Stands k.core to target → Stands k.core from source → Calls (medium.honest k.device) (table.copy target source n) (Ok tt) k.core (core_of medium v t)
+  span-copies = subst (λ k. (target source : Reference) → Stands k.core to target → Stands k.core from source → Calls (medium.honest k.device) (table.copy target source n) (Ok tt) k.core (core_of medium v t)) is
+      (λ target source x y. copied-calls medium v s t kernel to from target source x y n some (omega (arith, room, x.len)) (omega (arith, fits, y.len)) are copied)

@@ -32,6 +32,7 @@ use Rattle.geos_model.specs.Writes.{ChangesChunk}
 use Rattle.geos_model.proofs.Fits.{need-fits}
 use Rattle.geos_model.proofs.Places.{chunk-place}
 use Rattle.geos_model.proofs.Writes.{writes-stay}
+use Rattle.vm_file.specs.Device.{Medium}
 use Rattle.vm_blocks.specs.DoesRow.{DoesRow}
 use Rattle.vm_blocks.specs.FileOf.{IsMemoryOf}
 use Rattle.vm_blocks.specs.Spelled.{spelled}
@@ -67,7 +68,7 @@ chunk-kept b d c bytes long places is =
       omega (arith, long, ap length q.2, length-take p.len (drop p.at d), length-drop p.at d, length-take p.len (drop p.at b), length-drop p.at b),
     )
 
-module _ {D : Type 0} (image : D → List ℕ) (honest : D → Type 0) (failed : D → ℕ) (v : VmState D) (s : Store) (k : IsKernel image honest v s) (ref : Reference) (there : store.IsThere s (slot_of ref.name)) (place : HasPlace (core_of image failed v s) ref)
+module _ {D : Type 0} (medium : Medium D) (v : VmState D) (s : Store) (k : IsKernel medium v s) (ref : Reference) (there : store.IsThere s (slot_of ref.name)) (place : HasPlace (core_of medium v s) ref)
     (i : ℕ) (ws : List ℕ) (fits : i + length ws ≤ ref.len) (are : AreBytes ws) where
   abbrev slot : ℕ
   slot = slot_of ref.name
@@ -83,7 +84,7 @@ module _ {D : Type 0} (image : D → List ℕ) (honest : D → Type 0) (failed :
   written-store = with_bytes s slot written
 
   abbrev sees : Store → KernelState
-  sees t = core_of image failed v t
+  sees t = core_of medium v t
 
   abbrev own : Block
   own = record { locks = store.locks_of s slot; bytes = written }
@@ -160,38 +161,38 @@ module _ {D : Type 0} (image : D → List ℕ) (honest : D → Type 0) (failed :
   same-block = λ j. record { locks = store.locks_of s slot; heap = record { chunks = sym spells j; size = size j } }
 
   -- a block of the file is a legal one then
-  written-legal : (m : Memory) → IsMemoryOf image honest v s m → ref.name.owner ≡ Vm → IsLegalBlock (spelled (store.locks_of s slot) written)
+  written-legal : (m : Memory) → IsMemoryOf medium v s m → ref.name.owner ≡ Vm → IsLegalBlock (spelled (store.locks_of s slot) written)
   written-legal m is of_file =
       let b : Block = record { locks = store.locks_of s slot; bytes = before } in
-      let legal = named-legal image honest v s m k.tied is ref.name of_file b (there-is (store.block_at s slot) there) in
+      let legal = named-legal medium v s m k.tied is ref.name of_file b (there-is (store.block_at s slot) there) in
       subst IsLegalBlock same-block
       (rechunked-legal row_chunks (spelled (store.locks_of s slot) before) (with_written-legal (block.chunks before) ref.chunk (ref.start + i) ws are legal.heap.chunks) (omega (arith, needs, long, legal.heap.most)) legal)
 
   -- memory is as the row says
-  pub written-memory : (m : Memory) → IsMemoryOf image honest v s m → IsMemoryOf image honest v written-store (table.written m ref i ws)
+  pub written-memory : (m : Memory) → IsMemoryOf medium v s m → IsMemoryOf medium v written-store (table.written m ref i ws)
   written-memory m is =
       let b : Block = record { locks = store.locks_of s slot; bytes = before } in
-      let after = named-changed image honest v s written-store ref.name k.tied keeps m is b own (there-is (store.block_at s slot) there) block-own (rechunked_block row_chunks) same-block (written-legal m is) in
-      subst (λ cs. IsMemoryOf image honest v written-store (model.with_chunks m ref.name (chunks.with_bytes cs ref.chunk (with_part (chunks.bytes_of cs ref.chunk) (ref.start + i) ws)))) (sym (chunks-known image honest v s k.tied m is ref.name there)) after
+      let after = named-changed medium v s written-store ref.name k.tied keeps m is b own (there-is (store.block_at s slot) there) block-own (rechunked_block row_chunks) same-block (written-legal m is) in
+      subst (λ cs. IsMemoryOf medium v written-store (model.with_chunks m ref.name (chunks.with_bytes cs ref.chunk (with_part (chunks.bytes_of cs ref.chunk) (ref.start + i) ws)))) (sym (chunks-known medium v s k.tied m is ref.name there)) after
 
-  written-row : DoesRow image honest failed (table.store ref i ws) (Ok tt) v s v written-store
-  written-row = does-willing image honest failed (table.store ref i ws) (Ok tt) v s written-store (λ m is. (table.written m ref i ws, written-memory m is, refl))
+  written-row : DoesRow medium (table.store ref i ws) (Ok tt) v s v written-store
+  written-row = does-willing medium (table.store ref i ws) (Ok tt) v s written-store (λ m is. (table.written m ref i ws, written-memory m is, refl))
 
-  pub written-calls : Calls (honest v.file.device) (table.store ref i ws) (Ok tt) (sees s) (sees written-store)
-  written-calls = row-calls image honest failed (table.store ref i ws) (Ok tt) v s written-store written-row (λ f tied choice. written-spans f)
+  pub written-calls : Calls (medium.honest v.file.device) (table.store ref i ws) (Ok tt) (sees s) (sees written-store)
+  written-calls = row-calls medium (table.store ref i ws) (Ok tt) v s written-store written-row (λ f tied choice. written-spans f)
 
   -- a copy of these bytes is this call
-  pub copied-in : (source : Reference) (n : ℕ) → ((m : Memory) → IsMemoryOf image honest v s m → ws ≡ take n (table.named_bytes m source)) → i ≡ 0 → Calls (honest v.file.device) (table.copy ref source n) (Ok tt) (sees s) (sees written-store)
-  copied-in source n same first = row-calls image honest failed (table.copy ref source n) (Ok tt) v s written-store
-      (does-willing image honest failed (table.copy ref source n) (Ok tt) v s written-store (λ m is. (
+  pub copied-in : (source : Reference) (n : ℕ) → ((m : Memory) → IsMemoryOf medium v s m → ws ≡ take n (table.named_bytes m source)) → i ≡ 0 → Calls (medium.honest v.file.device) (table.copy ref source n) (Ok tt) (sees s) (sees written-store)
+  copied-in source n same first = row-calls medium (table.copy ref source n) (Ok tt) v s written-store
+      (does-willing medium (table.copy ref source n) (Ok tt) v s written-store (λ m is. (
         table.written m ref 0 (take n (table.named_bytes m source)),
-        subst (λ bs. IsMemoryOf image honest v written-store (table.written m ref 0 bs)) (same m is) (subst (λ j. IsMemoryOf image honest v written-store (table.written m ref j ws)) first (written-memory m is)),
+        subst (λ bs. IsMemoryOf medium v written-store (table.written m ref 0 bs)) (same m is) (subst (λ j. IsMemoryOf medium v written-store (table.written m ref j ws)) first (written-memory m is)),
         refl,
       )))
       (λ f tied choice. written-spans f)
 
   -- the blocks still are a kernel's
-  pub written-kernel : MayChange (sees s) ref.name → IsKernel image honest v written-store
+  pub written-kernel : MayChange (sees s) ref.name → IsKernel medium v written-store
   written-kernel may =
       let holds : HoldsHeap s ref.name = record { there = there; heap = k.heaps ref.name there } in
       let others : KeepsOthers v s written-store ref.name = record {
@@ -201,36 +202,36 @@ module _ {D : Type 0} (image : D → List ℕ) (honest : D → Type 0) (failed :
         heap = subst (λ o. IsHeap (store.bytes_in o)) (sym block-own) changes.heap;
         handle = ap (λ o. block.handle_word (store.bytes_in o)) block-own ∙ changes.handle;
       } in
-      others-kernel image honest failed v s written-store ref.name k holds others (table.store ref i ws) (Ok tt) (named-tied image honest v s written-store ref.name k.tied there others may) written-row
+      others-kernel medium v s written-store ref.name k holds others (table.store ref i ws) (Ok tt) (named-tied medium v s written-store ref.name k.tied there others may) written-row
 
 -- a write that covers bytes of a span is a write to the chunk for which it stands
-module _ {D : Type 0} (image : D → List ℕ) (honest : D → Type 0) (failed : D → ℕ) (v : VmState D) (s t : Store) (k : IsKernel image honest v s) (span : Span) (ref : Reference) (stands : Stands (core_of image failed v s) span ref)
+module _ {D : Type 0} (medium : Medium D) (v : VmState D) (s t : Store) (k : IsKernel medium v s) (span : Span) (ref : Reference) (stands : Stands (core_of medium v s) span ref)
     (i at : ℕ) (ws : List ℕ) (fits : i + length ws ≤ ref.len) (some : 0 < length ws) (e : at ≡ span.at + i) (are : AreBytes ws) (covered : WritesCovered s t at ws) where
   abbrev core : Store → KernelState
-  core u = core_of image failed v u
+  core u = core_of medium v u
 
   abbrev is-there : store.IsThere s (slot_of ref.name)
-  is-there = stands-there image honest failed v s span ref stands k
+  is-there = stands-there medium v s span ref stands k
 
   abbrev place : Lies (core s) span ref
   place = lies (core s) span ref stands (omega (arith, fits, some))
 
-  stored : t ≡ written-store image honest failed v s k ref is-there place.chunk i ws fits are
+  stored : t ≡ written-store medium v s k ref is-there place.chunk i ws fits are
   stored =
       let slot = slot_of ref.name in
       let before = store.bytes_of s slot in
       let index : at - store.place_of s slot ≡ place.chunk.place.at + (ref.start + i) = omega (arith, e, place.at) in
       covered slot some (omega (arith, e, place.at), omega (arith, e, fits, place.at, place.within)) ∙ ap (λ j. with_bytes s slot (with_part before j ws)) index
 
-  pub stored-kernel : MayChange (core s) ref.name → IsKernel image honest v t
-  stored-kernel may = subst (IsKernel image honest v) (sym stored) (written-kernel image honest failed v s k ref is-there place.chunk i ws fits are may)
+  pub stored-kernel : MayChange (core s) ref.name → IsKernel medium v t
+  stored-kernel may = subst (IsKernel medium v) (sym stored) (written-kernel medium v s k ref is-there place.chunk i ws fits are may)
 
-  pub stored-calls : Calls (honest v.file.device) (table.store ref i ws) (Ok tt) (core s) (core t)
-  stored-calls = subst (λ u. Calls (honest v.file.device) (table.store ref i ws) (Ok tt) (core s) (core u)) (sym stored) (written-calls image honest failed v s k ref is-there place.chunk i ws fits are)
+  pub stored-calls : Calls (medium.honest v.file.device) (table.store ref i ws) (Ok tt) (core s) (core t)
+  stored-calls = subst (λ u. Calls (medium.honest v.file.device) (table.store ref i ws) (Ok tt) (core s) (core u)) (sym stored) (written-calls medium v s k ref is-there place.chunk i ws fits are)
 
-  pub copied-over : (source : Reference) (n : ℕ) → ((m : Memory) → IsMemoryOf image honest v s m → ws ≡ take n (table.named_bytes m source)) → i ≡ 0 → Calls (honest v.file.device) (table.copy ref source n) (Ok tt) (core s) (core t)
+  pub copied-over : (source : Reference) (n : ℕ) → ((m : Memory) → IsMemoryOf medium v s m → ws ≡ take n (table.named_bytes m source)) → i ≡ 0 → Calls (medium.honest v.file.device) (table.copy ref source n) (Ok tt) (core s) (core t)
   copied-over source n is first =
-      subst (λ u. Calls (honest v.file.device) (table.copy ref source n) (Ok tt) (core s) (core u)) (sym stored) (copied-in image honest failed v s k ref is-there place.chunk i ws fits are source n is first)
+      subst (λ u. Calls (medium.honest v.file.device) (table.copy ref source n) (Ok tt) (core s) (core u)) (sym stored) (copied-in medium v s k ref is-there place.chunk i ws fits are source n is first)
 
 -- A write through a span that stands, as calls see the kernel
 
@@ -240,15 +241,15 @@ byte-bytes b small = All-cons (λ b. b < 256) b [] small (All-nil (λ b. b < 256
 pub word-bytes : (w : ℕ) → w < 65536 → AreBytes (word_bytes w)
 word-bytes w small = All-cons (λ b. b < 256) (w % 256) (w / 256 ∷ []) (omega arith) (byte-bytes (w / 256) (omega (arith, small)))
 
-module _ {D : Type 0} (image : D → List ℕ) (honest : D → Type 0) (failed : D → ℕ) (v : VmState D) (s t : Store) (k : KernelOn D) (is : kernel_of image failed v s ≡ k) (kernel : IsKernel image honest v s) (span : Span)
+module _ {D : Type 0} (medium : Medium D) (v : VmState D) (s t : Store) (k : KernelOn D) (is : kernel_of medium v s ≡ k) (kernel : IsKernel medium v s) (span : Span)
     (i at : ℕ) (ws : List ℕ) (fits : i + length ws ≤ span.len) (some : 0 < length ws) (e : at ≡ span.at + i) (are : AreBytes ws) (covered : WritesCovered s t at ws) where
   -- the blocks still are a kernel's
-  pub span-written : IsWritable k.core span → IsKernel image honest v t
+  pub span-written : IsWritable k.core span → IsKernel medium v t
   span-written writable =
       let here = subst (λ k. IsWritable k.core span) (sym is) writable in
-      stored-kernel image honest failed v s t kernel span here.0 here.1 i at ws (omega (arith, fits, here.1.len)) some e are covered here.2
+      stored-kernel medium v s t kernel span here.0 here.1 i at ws (omega (arith, fits, here.1.len)) some e are covered here.2
 
   -- and the write is the row's, whatever the span stands for
-  pub span-stores : Stores (honest k.device) span i ws k.core (core_of image failed v t)
-  span-stores = subst (λ k. Stores (honest k.device) span i ws k.core (core_of image failed v t)) is
-      (λ ref stands. stored-calls image honest failed v s t kernel span ref stands i at ws (omega (arith, fits, stands.len)) some e are covered)
+  pub span-stores : Stores (medium.honest k.device) span i ws k.core (core_of medium v t)
+  span-stores = subst (λ k. Stores (medium.honest k.device) span i ws k.core (core_of medium v t)) is
+      (λ ref stands. stored-calls medium v s t kernel span ref stands i at ws (omega (arith, fits, stands.len)) some e are covered)

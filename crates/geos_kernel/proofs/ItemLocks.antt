@@ -12,6 +12,7 @@ use Rattle.geos_table.specs.ItemCalls.{ilock, in_group}
 use Rattle.geos_table.specs.VmFile.{VmFile}
 use Rattle.block_handles.specs.Change.{with_lock_more}
 use Rattle.block_handles.specs.Store.{Store, IsThere, place_of}
+use Rattle.vm_file.specs.Device.{Medium}
 use Rattle.vm_blocks.specs.View.{VmState, vm_slot, with_device}
 use Rattle.db_items.specs.Groups.{ReadsDevice}
 use Rattle.db_items.specs.Items.{ChangesItem, LacksItemRoom, LocksItem, listed_after, refers_to}
@@ -24,27 +25,27 @@ use Rattle.geos_kernel.proofs.ItemCalls.{ilock-calls, ilock-stands, item-calls}
 use Rattle.geos_kernel.proofs.There.{in-memory, no_group-same}
 
 -- what the kernel promises of it
-pub record LocksPart {D : Type 0} (image : D → List ℕ) (honest : D → Type 0) (may_leave : D → List ℕ → Type 0) (left : D → D → List ℕ → Type 0) (failed : D → ℕ) (g i n : ℕ) (result : Result Span Refusal) (old new : KernelOn D) : Type 0 where
-  pub gives : LeadsToSpan (honest old.device) (ilock g i n) result old.core new.core
+pub record LocksPart {D : Type 0} (medium : Medium D) (g i n : ℕ) (result : Result Span Refusal) (old new : KernelOn D) : Type 0 where
+  pub gives : LeadsToSpan (medium.honest old.device) (ilock g i n) result old.core new.core
   pub stands : IfOk result (λ span. IsStanding new.core span × (n ≤ span.len))
   pub writable : IfOk result (λ span. IsMarked new.core g → IsWritable new.core span)
   pub locks : IsThere old.core.blocks (vm_slot g) → OnOk result (new.core.blocks ≡ with_lock_more old.core.blocks (vm_slot g))
   pub in_memory : InMemory g result old new
-  pub device : ReadsFile image honest failed may_leave left (result ≡ Err Disk) old new
+  pub device : ReadsFile medium (result ≡ Err Disk) old new
 
 -- a refusal of a span and one of its place have one cause
 same-why : {A B : Type 0} (why : Refusal) → ◌≡◌ {A = Result A Refusal} (Err why) (Err Disk) → ◌≡◌ {A = Result B Refusal} (Err why) (Err Disk)
 same-why why e = let same : why ≡ Disk = cc in ap Err same
 
-module _ {D : Type 0} (image : D → List ℕ) (honest : D → Type 0) (may_leave : D → List ℕ → Type 0) (left : D → D → List ℕ → Type 0) (failed : D → ℕ) (v w : VmState D) (s t : Store) (k : KernelOn D) (is : kernel_of image failed v s ≡ k)
-    (kernel : IsKernel image honest v s) (g : ℕ) where
+module _ {D : Type 0} (medium : Medium D) (v w : VmState D) (s t : Store) (k : KernelOn D) (is : kernel_of medium v s ≡ k)
+    (kernel : IsKernel medium v s) (g : ℕ) where
   abbrev old : KernelOn D
-  old = kernel_of image failed v s
+  old = kernel_of medium v s
 
   abbrev new : KernelOn D
-  new = kernel_of image failed w t
+  new = kernel_of medium w t
 
-  reads-file : {fails ends : Type 0} → (ends → fails) → (fails → ends) → w.file ≡ (with_device v w.file.device).file → ReadsDevice image honest may_leave left failed fails v w → ReadsFile image honest failed may_leave left ends old new
+  reads-file : {fails ends : Type 0} → (ends → fails) → (fails → ends) → w.file ≡ (with_device v w.file.device).file → ReadsDevice medium fails v w → ReadsFile medium ends old new
   reads-file one other same device = record {
     reads = device.reads;
     file = same;
@@ -64,39 +65,39 @@ module _ {D : Type 0} (image : D → List ℕ) (honest : D → Type 0) (may_leav
       record { none = rw entries lacks.none; no_room = rw entries lacks.no_room }
 
   -- a call on items
-  pub item-called : {A : Type 0} (call : Call A) (edit : List (Option (List ℕ)) → Edit A) (r : Result A Refusal) → ChangesItem image honest may_leave left failed call edit g r v w s t
-      → ((choice : Choice) (f : VmFile) → (effect_of call choice (memory_of old.core f)).stale ≡ in_group (given_memory choice.given (memory_of old.core f)) g) → CallsItem image honest failed may_leave left call edit g r k new
-  item-called call edit r changes stale = subst (λ x. CallsItem image honest failed may_leave left call edit g r x new) is (record {
-    calls = item-calls image honest may_leave left failed v w s t g kernel call edit r changes stale;
+  pub item-called : {A : Type 0} (call : Call A) (edit : List (Option (List ℕ)) → Edit A) (r : Result A Refusal) → ChangesItem medium call edit g r v w s t
+      → ((choice : Choice) (f : VmFile) → (effect_of call choice (memory_of old.core f)).stale ≡ in_group (given_memory choice.given (memory_of old.core f)) g) → CallsItem medium call edit g r k new
+  item-called call edit r changes stale = subst (λ x. CallsItem medium call edit g r x new) is (record {
+    calls = item-calls medium v w s t g kernel call edit r changes stale;
     no_room = λ wanting. no-room edit r changes.listed wanting (changes.no_room wanting);
-    in_memory = in-memory image failed v w s t old refl g r changes.there changes.stays changes.absent;
-    no_group = no_group-same image failed v w s t old refl g r changes.no_group;
+    in_memory = in-memory medium v w s t old refl g r changes.there changes.stays changes.absent;
+    no_group = no_group-same medium v w s t old refl g r changes.no_group;
     device = reads-file (λ e. e) (λ e. e) (listed-file r (ap (λ (x : VmState D). x.file) changes.listed)) changes.device;
   })
 
   module _ (i n : ℕ) where
     -- the item was found
-    pub part-locked : (at len : ℕ) → LocksItem image honest may_leave left failed g i n (Ok (at, len)) v w s t → LocksPart image honest may_leave left failed g i n (Ok (record { at = place_of t (vm_slot g) + at; len = len })) k new
+    pub part-locked : (at len : ℕ) → LocksItem medium g i n (Ok (at, len)) v w s t → LocksPart medium g i n (Ok (record { at = place_of t (vm_slot g) + at; len = len })) k new
     part-locked at len locks =
         let span : Span = record { at = place_of t (vm_slot g) + at; len = len } in
         let ref = in_block (vm g) (record { chunk = i; start = 0; len = len }) in
-        let stands = ilock-stands image honest may_leave left failed v w s t g i n at len locks in
-        subst (λ x. LocksPart image honest may_leave left failed g i n (Ok span) x new) is (record {
-          gives = (refers_to g i (Ok (at, len)), ilock-calls image honest may_leave left failed v w s t g kernel i n (Ok (at, len)) locks, stands);
+        let stands = ilock-stands medium v w s t g i n at len locks in
+        subst (λ x. LocksPart medium g i n (Ok span) x new) is (record {
+          gives = (refers_to g i (Ok (at, len)), ilock-calls medium v w s t g kernel i n (Ok (at, len)) locks, stands);
           stands = ((ref, stands), locks.within.1);
           writable = λ marked. (ref, stands, λ file. marked);
           locks = λ was. (locks.there was).1;
-          in_memory = in-memory image failed v w s t old refl g (Ok span) (λ was. (ap (λ (x : VmState D). x.file) (locks.there was).0, λ e. absurd cc)) (λ other. tt) (λ e. absurd cc);
+          in_memory = in-memory medium v w s t old refl g (Ok span) (λ was. (ap (λ (x : VmState D). x.file) (locks.there was).0, λ e. absurd cc)) (λ other. tt) (λ e. absurd cc);
           device = reads-file (λ e. absurd cc) (λ e. absurd cc) (ap (λ (x : VmState D). x.file) locks.same) locks.device;
         })
 
     -- it was refused
-    pub part-refused : (why : Refusal) → LocksItem image honest may_leave left failed g i n (Err why) v w s t → LocksPart image honest may_leave left failed g i n (Err why) k new
-    part-refused why locks = subst (λ x. LocksPart image honest may_leave left failed g i n (Err why) x new) is (record {
-      gives = (Err why, ilock-calls image honest may_leave left failed v w s t g kernel i n (Err why) locks, refl);
+    pub part-refused : (why : Refusal) → LocksItem medium g i n (Err why) v w s t → LocksPart medium g i n (Err why) k new
+    part-refused why locks = subst (λ x. LocksPart medium g i n (Err why) x new) is (record {
+      gives = (Err why, ilock-calls medium v w s t g kernel i n (Err why) locks, refl);
       stands = tt;
       writable = tt;
       locks = λ was. tt;
-      in_memory = in-memory image failed v w s t old refl g (Err why) (λ was. (ap (λ (x : VmState D). x.file) (locks.there was).0, λ e. (locks.there was).2 (same-why why e))) (λ other was. locks.refused was) (λ e. locks.absent (same-why why e));
+      in_memory = in-memory medium v w s t old refl g (Err why) (λ was. (ap (λ (x : VmState D). x.file) (locks.there was).0, λ e. (locks.there was).2 (same-why why e))) (λ other was. locks.refused was) (λ e. locks.absent (same-why why e));
       device = reads-file (same-why why) (same-why why) (ap (λ (x : VmState D). x.file) locks.same) locks.device;
     })

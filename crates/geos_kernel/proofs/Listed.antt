@@ -16,6 +16,7 @@ use Rattle.block_handles.specs.Store.{Block, Store, block_at, bytes_in, bytes_of
 use Rattle.block_handles.proofs.Laws.{handle_of_there}
 use Rattle.block_handles.proofs.Layouts.{there_of_locks}
 use Rattle.vm_blocks.specs.declared.entries.Held.{Held}
+use Rattle.vm_file.specs.Device.{Medium}
 use Rattle.vm_file.specs.declared.commit.How.{How}
 use Rattle.vm_file.specs.declared.commit.How.TheVariants.{Update, Save, Revert}
 use Rattle.vm_blocks.specs.Bring.{Drops, Keeps, LockedMore, NotBrought}
@@ -129,19 +130,19 @@ commit-spares Revert s t none after = dropped-spares s t none after
 -- Blocks of a kernel
 
 -- a block of the file in memory is a heap under its handle
-tied-heap : {D : Type 0} (image : D → List ℕ) (honest : D → Type 0) (w : VmState D) (h : ℕ) (e : Option Held) (b : Option Block) → TiedAt image honest w.file h e b → IsBlock b → IsHeap (bytes_in b) × (block.handle_word (bytes_in b) ≡ h)
-tied-heap image honest w h None None t there = absurd there
-tied-heap image honest w h None (Some b) t there = absurd t
-tied-heap image honest w h (Some e) None t there = absurd there
-tied-heap image honest w h (Some e) (Some b) t there = (t.heap, t.handle)
+tied-heap : {D : Type 0} (medium : Medium D) (w : VmState D) (h : ℕ) (e : Option Held) (b : Option Block) → TiedAt medium w.file h e b → IsBlock b → IsHeap (bytes_in b) × (block.handle_word (bytes_in b) ≡ h)
+tied-heap medium w h None None t there = absurd there
+tied-heap medium w h None (Some b) t there = absurd t
+tied-heap medium w h (Some e) None t there = absurd there
+tied-heap medium w h (Some e) (Some b) t there = (t.heap, t.handle)
 
 no-locks : (o : Option Block) → (IsBlock o → locks_in o ≤ 65535) → locks_in o ≤ 65535
 no-locks None few = omega arith
 no-locks (Some b) few = few tt
 
-module _ {D : Type 0} (image : D → List ℕ) (honest : D → Type 0) (failed : D → ℕ) (v w : VmState D) (s t : Store) where
+module _ {D : Type 0} (medium : Medium D) (v w : VmState D) (s t : Store) where
   -- they still are one's where those of global memory are spared
-  pub kernel-beside : IsKernel image honest v s → IsTied image honest w t → SparesMem s t → ((f : VmFile) × vm.IsFileOf image honest w t f) → IsKernel image honest w t
+  pub kernel-beside : IsKernel medium v s → IsTied medium w t → SparesMem s t → ((f : VmFile) × vm.IsFileOf medium.image medium.honest w t f) → IsKernel medium w t
   kernel-beside k tied spares known = record {
     laid = tied.laid;
     heaps = λ n there. (both n.owner n.h there).0;
@@ -160,23 +161,23 @@ module _ {D : Type 0} (image : D → List ℕ) (honest : D → Type 0) (failed :
           let is = spares.mem h (handle Mem h there) in
           let before = subst IsBlock is there in
           (subst (λ o. IsHeap (bytes_in o)) (sym is) (k.heaps (mem h) before), ap (λ o. block.handle_word (bytes_in o)) is ∙ k.handles (mem h) before)
-      both Vm h there = tied-heap image honest w h (held_at w h) (block_at t (vm_slot h)) (tied.each h (handle Vm h there)) there
+      both Vm h there = tied-heap medium w h (held_at w h) (block_at t (vm_slot h)) (tied.each h (handle Vm h there)) there
 
       counts : (owner : Owner) (h : ℕ) → locks_of t (slot_of (named owner h)) ≤ 65535
       counts Mem h = no-locks (block_at t (slot_of (mem h))) (λ there. (let is = spares.mem h (handle Mem h there) in subst (λ o. locks_in o ≤ 65535) (sym is) (k.few (mem h))))
       counts Vm h =
-          no-locks (block_at t (vm_slot h)) (λ there. few-named image honest w t tied (memory_of (core_of image failed w t) known.0) (record { blocks = refl; file = known.1; region = refl }) (vm_name h) there refl)
+          no-locks (block_at t (vm_slot h)) (λ there. few-named medium w t tied (memory_of (core_of medium w t) known.0) (record { blocks = refl; file = known.1; region = refl }) (vm_name h) there refl)
 
   -- spans stay where the locked blocks do
-  pub spans-beside : Spares s t → (f : VmFile) (stale : Staleness) → SpansStay (core_of image failed v s) (core_of image failed w t) f stale
+  pub spans-beside : Spares s t → (f : VmFile) (stale : Staleness) → SpansStay (core_of medium v s) (core_of medium w t) f stale
   spans-beside spares f stale span ref stands fresh =
       let own = spares.locked (slot_of ref.name) stands.locked in
-      stands-on (core_of image failed v s) (core_of image failed w t) span ref own.0 own.1 own.2 stands
+      stands-on (core_of medium v s) (core_of medium w t) span ref own.0 own.1 own.2 stands
 
   -- a call that does its row
-  pub calls-beside : {A : Type 0} {call : Call A} {result : Result A Refusal} → DoesRow image honest failed call result v s w t → (honest v.file.device → honest w.file.device)
-      → NeverFell (honest v.file.device) (core_of image failed v s) (core_of image failed w t) → Spares s t → Calls (honest v.file.device) call result (core_of image failed v s) (core_of image failed w t)
+  pub calls-beside : {A : Type 0} {call : Call A} {result : Result A Refusal} → DoesRow medium call result v s w t → (medium.honest v.file.device → medium.honest w.file.device)
+      → NeverFell (medium.honest v.file.device) (core_of medium v s) (core_of medium w t) → Spares s t → Calls (medium.honest v.file.device) call result (core_of medium v s) (core_of medium w t)
   calls-beside {call} {result} row still lasts spares = record {
-    answers = row-answers image honest failed call result v s w t row still lasts;
-    spans = λ f tied choice. spans-beside spares f (effect_of call choice (memory_of (core_of image failed v s) f)).stale;
+    answers = row-answers medium call result v s w t row still lasts;
+    spans = λ f tied choice. spans-beside spares f (effect_of call choice (memory_of (core_of medium v s) f)).stale;
   }

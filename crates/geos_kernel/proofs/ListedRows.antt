@@ -14,6 +14,7 @@ use Rattle.geos_table.specs.Given.{given_memory}
 use Rattle.geos_table.specs.Memory.{Memory, is_group, listed_at, locks_of, lowest_handle, with_listed, with_locks}
 use Rattle.geos_table.specs.VmCalls.{does, free_listed, is_reserved, lock_listed, names_group, new_listed, no_listed, vfind, vfree, vlock, vnew, vsetmap, without_listed}
 use Rattle.block_handles.specs.Store.{Store}
+use Rattle.vm_file.specs.Device.{Medium}
 use Rattle.vm_file.specs.Directories.{group_uid}
 use Rattle.vm_blocks.specs.declared.entries.Held.{Held}
 use Rattle.vm_blocks.specs.Blocks.{uid_of}
@@ -62,41 +63,41 @@ on_ungrouped refusals after h choice m = does m (no_listed m h ∷ names_group m
 abbrev lock-refusals : ℕ → Choice → Memory → List (Bool × Refusal)
 lock-refusals h choice m = locks_full m (vm h) ∷ bringing choice m h
 
-module _ {D : Type 0} (image : D → List ℕ) (honest : D → Type 0) (failed : D → ℕ) (v : VmState D) (s : Store) (tied : IsTied image honest v s) where
+module _ {D : Type 0} (medium : Medium D) (v : VmState D) (s : Store) (tied : IsTied medium v s) where
   -- Blocks that are no groups
 
   module _ (refusals : Choice → Memory → List (Bool × Refusal)) (after : Memory → Memory) (h : ℕ) where
     -- on what is no group, such a call is the one that takes groups too
-    no_group-row : (IsGroup v h → ⊥) → (w : VmState D) (t : Store) (r : Result (Unit {0}) Refusal) → DoesRow image honest failed (on_listed refusals after h) r v s w t → DoesRow image honest failed (on_ungrouped refusals after h) r v s w t
+    no_group-row : (IsGroup v h → ⊥) → (w : VmState D) (t : Store) (r : Result (Unit {0}) Refusal) → DoesRow medium (on_listed refusals after h) r v s w t → DoesRow medium (on_ungrouped refusals after h) r v s w t
     no_group-row none w t r row m is =
         let b = row m is in
         let n = given_memory b.0.given m in
-        let test : is_group n h ≡ false = is_group-given b.0.given m h ∙ no_group-told image honest v s tied m is h none in
+        let test : is_group n h ≡ false = is_group-given b.0.given m h ∙ no_group-told medium v s tied m is h none in
         let tests : first_refusal (no_listed n h ∷ names_group n h ∷ refusals b.0 n) ≡ first_refusal (no_listed n h ∷ refusals b.0 n) = rw test refl in
         (b.0, b.1, b.2, b.3, ap (λ o. come_to {A = Unit {0}} o (unchanged n) tt (after n)) tests ∙ b.4)
 
     -- a group it refuses
-    group-row : IsGroup v h → DoesRow image honest failed (on_ungrouped refusals after h) (Err refusal.Reserved) v s v s
+    group-row : IsGroup v h → DoesRow medium (on_ungrouped refusals after h) (Err refusal.Reserved) v s v s
     group-row group m is =
-        let one = group-told image honest v s tied m is h group in
+        let one = group-told medium v s tied m is h group in
         let listed = group-listed m h one in
         (chosen false false [], record { given = λ good. refl; device = λ good fails. absurd cc }, m, is, rw (one, listed) refl)
 
-  pub lock-row : (h : ℕ) → (IsGroup v h → ⊥) → (w : VmState D) (t : Store) (r : Result (Unit {0}) Refusal) → DoesRow image honest failed (lock_listed h) r v s w t → DoesRow image honest failed (vlock h) r v s w t
+  pub lock-row : (h : ℕ) → (IsGroup v h → ⊥) → (w : VmState D) (t : Store) (r : Result (Unit {0}) Refusal) → DoesRow medium (lock_listed h) r v s w t → DoesRow medium (vlock h) r v s w t
   lock-row h = no_group-row (lock-refusals h) (λ m. with_locks m (vm h) (locks_of m (vm h) + 1)) h
 
-  pub lock-group-row : (h : ℕ) → IsGroup v h → DoesRow image honest failed (vlock h) (Err refusal.Reserved) v s v s
+  pub lock-group-row : (h : ℕ) → IsGroup v h → DoesRow medium (vlock h) (Err refusal.Reserved) v s v s
   lock-group-row h = group-row (lock-refusals h) (λ m. with_locks m (vm h) (locks_of m (vm h) + 1)) h
 
-  pub free-row : (h : ℕ) → (IsGroup v h → ⊥) → (w : VmState D) (t : Store) (r : Result (Unit {0}) Refusal) → DoesRow image honest failed (free_listed h) r v s w t → DoesRow image honest failed (vfree h) r v s w t
+  pub free-row : (h : ℕ) → (IsGroup v h → ⊥) → (w : VmState D) (t : Store) (r : Result (Unit {0}) Refusal) → DoesRow medium (free_listed h) r v s w t → DoesRow medium (vfree h) r v s w t
   free-row h = no_group-row (λ choice m. is_in_use m (vm h) ∷ []) (λ m. without_listed m h) h
 
-  pub free-group-row : (h : ℕ) → IsGroup v h → DoesRow image honest failed (vfree h) (Err refusal.Reserved) v s v s
+  pub free-group-row : (h : ℕ) → IsGroup v h → DoesRow medium (vfree h) (Err refusal.Reserved) v s v s
   free-group-row h = group-row (λ choice m. is_in_use m (vm h) ∷ []) (λ m. without_listed m h) h
 
   -- New blocks, and the user ID of groups
 
-  pub vnew-row : (uid : ℕ) → uid ≢ group_uid → (w : VmState D) (t : Store) (r : Result ℕ Refusal) → DoesRow image honest failed (make_listed uid 1) r v s w t → DoesRow image honest failed (vnew uid) r v s w t
+  pub vnew-row : (uid : ℕ) → uid ≢ group_uid → (w : VmState D) (t : Store) (r : Result ℕ Refusal) → DoesRow medium (make_listed uid 1) r v s w t → DoesRow medium (vnew uid) r v s w t
   vnew-row uid ne w t r row m is =
       let b = row m is in
       let n = given_memory b.0.given m in
@@ -106,25 +107,25 @@ module _ {D : Type 0} (image : D → List ℕ) (honest : D → Type 0) (failed :
       let tests : first_refusal (is_reserved uid ∷ own) ≡ first_refusal own = rw test refl in
       (b.0, b.1, b.2, b.3, ap (λ o. come_to o (unchanged n) h (with_listed n h (Some (new_listed uid 1)))) tests ∙ b.4)
 
-  pub vnew-reserved-row : (uid : ℕ) → uid ≡ group_uid → DoesRow image honest failed (vnew uid) (Err refusal.Reserved) v s v s
+  pub vnew-reserved-row : (uid : ℕ) → uid ≡ group_uid → DoesRow medium (vnew uid) (Err refusal.Reserved) v s v s
   vnew-reserved-row uid same m is =
       let test = same-uid uid same in
       (chosen false false [], record { given = λ good. refl; device = λ good fails. absurd cc }, m, is, rw test refl)
 
-  pub vfind-reserved-row : (start uid : ℕ) → uid ≡ group_uid → DoesRow image honest failed (vfind start uid) (Err refusal.Reserved) v s v s
+  pub vfind-reserved-row : (start uid : ℕ) → uid ≡ group_uid → DoesRow medium (vfind start uid) (Err refusal.Reserved) v s v s
   vfind-reserved-row start uid same m is =
       let test = same-uid uid same in
       (chosen false false [], record { given = λ good. refl; device = λ good fails. absurd cc }, m, is, rw test refl)
 
   -- The map block
 
-  pub vsetmap-unlisted-row : (h : ℕ) → h ≢ 0 → held_at v h ≡ None → DoesRow image honest failed (vsetmap h) (Err refusal.BadHandle) v s v s
+  pub vsetmap-unlisted-row : (h : ℕ) → h ≢ 0 → held_at v h ≡ None → DoesRow medium (vsetmap h) (Err refusal.BadHandle) v s v s
   vsetmap-unlisted-row h some none m is =
-      let test = zero-test h some in let absent = no-uid (held_at v h) (listed_at m h) none (uid-told image honest v s tied m is h) in
+      let test = zero-test h some in let absent = no-uid (held_at v h) (listed_at m h) none (uid-told medium v s tied m is h) in
       (chosen false false [], record { given = λ good. refl; device = λ good fails. absurd cc }, m, is, rw (test, absent) refl)
 
-  pub vsetmap-group-row : (h : ℕ) → IsGroup v h → DoesRow image honest failed (vsetmap h) (Err refusal.Reserved) v s v s
+  pub vsetmap-group-row : (h : ℕ) → IsGroup v h → DoesRow medium (vsetmap h) (Err refusal.Reserved) v s v s
   vsetmap-group-row h group m is =
-      let one = group-told image honest v s tied m is h group in
+      let one = group-told medium v s tied m is h group in
       let first : (not (h == 0) && is_none (listed_at m h)) ≡ false = ap (λ b. not (h == 0) && b) (group-listed m h one) ∙ never (not (h == 0)) in
       (chosen false false [], record { given = λ good. refl; device = λ good fails. absurd cc }, m, is, rw (first, one) refl)

@@ -11,6 +11,7 @@ use Rattle.geos_table.specs.Effects.{Call, Reference}
 use Rattle.block_handles.specs.Names.{slot_of}
 use Rattle.block_handles.specs.Store as store
 use Rattle.block_handles.specs.Store.{Store}
+use Rattle.vm_file.specs.Device.{Medium}
 use Rattle.vm_blocks.specs.View.{VmState}
 use Rattle.heap_calls.specs.Edits.{Finds, Tells}
 use Rattle.heap_calls.specs.Heaps.{HoldsHeap}
@@ -47,28 +48,28 @@ found-stands s name locked edit at len place e h =
     moved None h = tt
     moved (Some q) h = omega (arith, e, h)
 
-module _ {D : Type 0} (image : D → List ℕ) (honest : D → Type 0) (failed : D → ℕ) (v : VmState D) (s : Store) (name : Name) (k : IsKernel image honest v s) (holds : HoldsHeap s name) where
+module _ {D : Type 0} (medium : Medium D) (v : VmState D) (s : Store) (name : Name) (k : IsKernel medium v s) (holds : HoldsHeap s name) where
   abbrev sees : KernelState
-  sees = core_of image failed v s
+  sees = core_of medium v s
 
   -- a call that tells something of the chunks
-  pub told : {A : Type 0} (edit : List (Option (List ℕ)) → Edit A) (r : Result A Refusal) → Tells edit (chunks_at s name) r → Calls (honest v.file.device) (table.reads edit name) r sees sees
+  pub told : {A : Type 0} (edit : List (Option (List ℕ)) → Edit A) (r : Result A Refusal) → Tells edit (chunks_at s name) r → Calls (medium.honest v.file.device) (table.reads edit name) r sees sees
   told edit r h =
-      row-calls image honest failed (table.reads edit name) r v s s (tells-row image honest failed v edit s name k.tied holds r h) (λ f tied choice span ref stands fresh. stands)
+      row-calls medium (table.reads edit name) r v s s (tells-row medium v edit s name k.tied holds r h) (λ f tied choice span ref stands fresh. stands)
 
   -- a call that gives a reference, or refuses it
-  pub refers-not : (edit : List (Option (List ℕ)) → Edit Part) (why : Refusal) → first_refusal (edit (chunks_at s name)).refusals ≡ Some why → GivesSpan (honest v.file.device) (table.refers edit name) (Err why) sees
+  pub refers-not : (edit : List (Option (List ℕ)) → Edit Part) (why : Refusal) → first_refusal (edit (chunks_at s name)).refusals ≡ Some why → GivesSpan (medium.honest v.file.device) (table.refers edit name) (Err why) sees
   refers-not edit why came = (
     Err why,
-    row-calls image honest failed (table.refers edit name) (Err why) v s s (refers-not-row image honest failed v edit s name k.tied holds why came) (λ f tied choice span ref stands fresh. stands),
+    row-calls medium (table.refers edit name) (Err why) v s s (refers-not-row medium v edit s name k.tied holds why came) (λ f tied choice span ref stands fresh. stands),
     refl,
   )
 
   -- bytes that were found
   pub found : 0 < store.locks_of s (slot_of name) → (edit : List (Option (List ℕ)) → Edit Part) (at len place : ℕ) → place ≡ store.place_of s (slot_of name) → Finds edit (store.bytes_of s (slot_of name)) (Ok (at, len))
-      → GivesSpan (honest v.file.device) (table.refers edit name) (Ok (record { at = place + at; len = len })) sees
+      → GivesSpan (medium.honest v.file.device) (table.refers edit name) (Ok (record { at = place + at; len = len })) sees
   found locked edit at len place e h = (
     Ok (table.in_block name (edit (chunks_at s name)).answer),
-    row-calls image honest failed (table.refers edit name) (Ok (table.in_block name (edit (chunks_at s name)).answer)) v s s (refers-row image honest failed v edit s name k.tied holds h.0) (λ f tied choice span ref stands fresh. stands),
+    row-calls medium (table.refers edit name) (Ok (table.in_block name (edit (chunks_at s name)).answer)) v s s (refers-row medium v edit s name k.tied holds h.0) (λ f tied choice span ref stands fresh. stands),
     found-stands sees name locked edit at len place e h,
   )

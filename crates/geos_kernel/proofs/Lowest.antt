@@ -10,6 +10,7 @@ use Rattle.geos_table.specs.Memory.{Memory, lowest_handle}
 use Rattle.block_handles.specs.Names.{slot_of}
 use Rattle.block_handles.specs.Store.{Store, block_at, IsThere}
 use Rattle.block_handles.specs.Used.{IsLowest, AllInUse}
+use Rattle.vm_file.specs.Device.{Medium}
 use Rattle.vm_blocks.specs.FileOf.{IsMemoryOf}
 use Rattle.vm_blocks.specs.Spelled.{block_in}
 use Rattle.vm_blocks.specs.Tied.{IsTied}
@@ -17,15 +18,15 @@ use Rattle.vm_blocks.specs.View.{VmState}
 use Rattle.heap_calls.proofs.Named.{mem-known}
 use Rattle.geos_kernel.proofs.Named.{view-there, view-absent}
 
-module _ {D : Type 0} (image : D → List ℕ) (honest : D → Type 0) (v : VmState D) (s : Store) (m : Memory) (tied : IsTied image honest v s) (is : IsMemoryOf image honest v s m) where
+module _ {D : Type 0} (medium : Medium D) (v : VmState D) (s : Store) (m : Memory) (tied : IsTied medium v s) (is : IsMemoryOf medium v s m) where
   pub count : length m.blocks ≡ 1024
   count = ap length is.blocks ∙ omega (arith, length-map (take 1024 s.blocks) block_in, length-take 1024 s.blocks, tied.laid.slots)
 
   used : (i : ℕ) → IsThere s (slot_of (mem (suc i))) → is_none (get_or m.blocks i None) ≡ false
-  used i there = ap is_none (mem-known image honest v s tied m is (suc i) ∙ view-there (block_at s (slot_of (mem (suc i)))) there)
+  used i there = ap is_none (mem-known medium v s tied m is (suc i) ∙ view-there (block_at s (slot_of (mem (suc i)))) there)
 
   unused : (i : ℕ) → (IsThere s (slot_of (mem (suc i))) → ⊥) → is_none (get_or m.blocks i None) ≡ true
-  unused i absent = ap is_none (mem-known image honest v s tied m is (suc i) ∙ view-absent (block_at s (slot_of (mem (suc i)))) absent)
+  unused i absent = ap is_none (mem-known medium v s tied m is (suc i) ∙ view-absent (block_at s (slot_of (mem (suc i)))) absent)
 
   pub lowest-some : (h : ℕ) → IsLowest s Mem h → lowest_handle m Mem ≡ Some h
   lowest-some zero l = absurd (omega (arith, l.handle.0))

@@ -11,6 +11,7 @@ use Rattle.block_handles.specs.Layout.{IsLaidOut}
 use Rattle.block_handles.specs.Names.{slot_of}
 use Rattle.block_handles.specs.Store.{Block, Store, block_at, bytes_in, IsBlock, IsThere, locks_in}
 use Rattle.block_handles.proofs.Laws.{handle_of_there, same-name}
+use Rattle.vm_file.specs.Device.{Medium}
 use Rattle.vm_blocks.specs.FileOf.{IsMemoryOf}
 use Rattle.vm_blocks.specs.Bring.{Keeps}
 use Rattle.vm_blocks.specs.Spelled.{block_in, spelled}
@@ -34,10 +35,10 @@ pub view-there : (o : Option Block) → IsBlock o → block_in o ≡ Some (spell
 view-there None there = absurd there
 view-there (Some b) there = refl
 
-module _ {D : Type 0} (image : D → List ℕ) (honest : D → Type 0) (v : VmState D) (s : Store) (m : Memory) (tied : IsTied image honest v s) (is : IsMemoryOf image honest v s m) where
+module _ {D : Type 0} (medium : Medium D) (v : VmState D) (s : Store) (m : Memory) (tied : IsTied medium v s) (is : IsMemoryOf medium v s m) where
   -- one of global memory that is not
   pub block-absent : (h : ℕ) → (IsThere s (slot_of (mem h)) → ⊥) → memory.block_of m (mem h) ≡ None
-  block-absent h absent = mem-known image honest v s tied m is h ∙ view-absent (block_at s (slot_of (mem h))) absent
+  block-absent h absent = mem-known medium v s tied m is h ∙ view-absent (block_at s (slot_of (mem h))) absent
 
   -- a block of the file that is there is a legal one
   pub named-legal : (name : Name) → name.owner ≡ Vm → (b : Block) → block_at s (slot_of name) ≡ Some b → IsLegalBlock (spelled b.locks b.bytes)
@@ -46,6 +47,6 @@ module _ {D : Type 0} (image : D → List ℕ) (honest : D → Type 0) (v : VmSt
       on : (owner : Owner) (h : ℕ) → owner ≡ Vm → block_at s (slot_of (named owner h)) ≡ Some b → IsLegalBlock (spelled b.locks b.bytes)
       on Mem h e th = absurd cc
       on Vm h e th =
-          let k = known image honest v s h tied (subst IsBlock (sym th) tt) in
+          let k = known medium v s h tied (subst IsBlock (sym th) tt) in
           let keeps : Keeps v s s h = record { each = λ slot ne. inl (refl, λ some. refl); laid = tied.laid; len = refl } in
-          (own-legal image honest v s s m is h k.handle tied keeps k.held k.listed b th).block
+          (own-legal medium v s s m is h k.handle tied keeps k.held k.listed b th).block

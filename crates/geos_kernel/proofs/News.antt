@@ -17,6 +17,7 @@ use Rattle.block_handles.specs.Store as store
 use Rattle.block_handles.specs.Store.{Block, Store}
 use Rattle.block_handles.specs.Stretch.{IsCrowded}
 use Rattle.block_handles.specs.Used.{IsLowest, AllInUse}
+use Rattle.vm_file.specs.Device.{Medium}
 use Rattle.vm_blocks.specs.FileOf.{IsMemoryOf}
 use Rattle.vm_blocks.specs.Room as room
 use Rattle.vm_blocks.specs.Spelled.{block_in, spelled}
@@ -37,37 +38,37 @@ use Rattle.geos_kernel.proofs.Rowed.{does-cramped, does-willing, row-calls}
 use Rattle.geos_kernel.proofs.Rows.{mnew-ok, mnew-full, mnew-tight}
 use Rattle.geos_kernel.proofs.Stays.{kernel-but, kernel-thins, stands-same, thins-stands}
 
-module _ {D : Type 0} (image : D → List ℕ) (honest : D → Type 0) (failed : D → ℕ) (v : VmState D) (s : Store) (k : IsKernel image honest v s) where
+module _ {D : Type 0} (medium : Medium D) (v : VmState D) (s : Store) (k : IsKernel medium v s) where
   abbrev sees : Store → KernelState
-  sees t = core_of image failed v t
+  sees t = core_of medium v t
 
   -- Each handle is in use
 
-  pub mnew-full-calls : AllInUse s Mem → Calls (honest v.file.device) table.mnew (Err NoHandle) (sees s) (sees s)
-  mnew-full-calls all = row-calls image honest failed table.mnew (Err NoHandle) v s s
-      (does-willing image honest failed table.mnew (Err NoHandle) v s s (λ m is. (m, is, mnew-full m (lowest-none image honest v s m k.tied is all))))
+  pub mnew-full-calls : AllInUse s Mem → Calls (medium.honest v.file.device) table.mnew (Err NoHandle) (sees s) (sees s)
+  mnew-full-calls all = row-calls medium table.mnew (Err NoHandle) v s s
+      (does-willing medium table.mnew (Err NoHandle) v s s (λ m is. (m, is, mnew-full m (lowest-none medium v s m k.tied is all))))
       (λ f tied choice span ref st fresh. st)
 
   -- No stretch of the region has room
 
   module _ (t : Store) (h : ℕ) (low : IsLowest s Mem h) (lacks : room.LacksRoom v s t (mem h) 64) where
-    crowded-tied : IsTied image honest v t
-    crowded-tied = tied-thins image honest v s t 0 k.tied lacks.thins
+    crowded-tied : IsTied medium v t
+    crowded-tied = tied-thins medium v s t 0 k.tied lacks.thins
 
-    pub mnew-tight-calls : Calls (honest v.file.device) table.mnew (Err NoRoom) (sees s) (sees t)
-    mnew-tight-calls = row-calls image honest failed table.mnew (Err NoRoom) v s t
-        (does-cramped image honest failed table.mnew (Err NoRoom) v s t (λ m is.
-        let now = memory-thins image honest v s t m is 0 k.tied lacks.thins in
+    pub mnew-tight-calls : Calls (medium.honest v.file.device) table.mnew (Err NoRoom) (sees s) (sees t)
+    mnew-tight-calls = row-calls medium table.mnew (Err NoRoom) v s t
+        (does-cramped medium table.mnew (Err NoRoom) v s t (λ m is.
+        let now = memory-thins medium v s t m is 0 k.tied lacks.thins in
         let crowded = subst (λ slot. IsCrowded t slot 64) (slot_of-mem h low.handle) lacks.no_room.crowded in
-        let tight : is_tight m (mem h) 64 ≡ true = tight-mem image honest v t m crowded-tied now h 64 low.handle lacks.none crowded in
-        (m, now, mnew-tight m m h (lowest-some image honest v s m k.tied is h low) tight refl)))
+        let tight : is_tight m (mem h) 64 ≡ true = tight-mem medium v t m crowded-tied now h 64 low.handle lacks.none crowded in
+        (m, now, mnew-tight m m h (lowest-some medium v s m k.tied is h low) tight refl)))
         (λ f tied choice span ref st fresh. thins-stands v 0 (sees s) (sees t) span ref lacks.thins st)
 
-    pub kernel-crowded : IsKernel image honest v t
+    pub kernel-crowded : IsKernel medium v t
     kernel-crowded =
         let f = k.known in
-        let now = memory-thins image honest v s t (memory_of (sees s) f.0) (record { blocks = refl; file = f.1; region = refl }) 0 k.tied lacks.thins in
-        kernel-thins image honest v s t 0 k lacks.thins crowded-tied (f.0, now.file)
+        let now = memory-thins medium v s t (memory_of (sees s) f.0) (record { blocks = refl; file = f.1; region = refl }) 0 k.tied lacks.thins in
+        kernel-thins medium v s t 0 k lacks.thins crowded-tied (f.0, now.file)
 
   -- It was made
 
@@ -78,8 +79,8 @@ module _ {D : Type 0} (image : D → List ℕ) (honest : D → Type 0) (failed :
     abbrev own : Block
     own = record { locks = 1; bytes = makes.made.bytes }
 
-    thin : IsTied image honest v makes.mid
-    thin = tied-thins image honest v s makes.mid 0 k.tied makes.thins
+    thin : IsTied medium v makes.mid
+    thin = tied-thins medium v s makes.mid 0 k.tied makes.thins
 
     keeps : KeepsBut v makes.mid t (mem h)
     keeps = slot-keeps makes.mid t (mem h) (Some own) makes.made.blocks v makes.made.stay makes.made.laid makes.made.len
@@ -87,17 +88,17 @@ module _ {D : Type 0} (image : D → List ℕ) (honest : D → Type 0) (failed :
     at-own : store.block_at t slot ≡ Some own
     at-own = slot-own makes.mid t (mem h) (Some own) makes.made.blocks thin.laid low.handle
 
-    made-tied : IsTied image honest v t
-    made-tied = mem-tied image honest v makes.mid t h low.handle thin keeps
+    made-tied : IsTied medium v t
+    made-tied = mem-tied medium v makes.mid t h low.handle thin keeps
 
     fresh-block : spelled 1 makes.made.bytes ≡ record { locks = 1; heap = model.new_heap }
     fresh-block = let made = makes.made in let chunks = made.chunks in let long = made.long in λ i. record { locks = 1; heap = record { chunks = chunks i; size = long i } }
 
-    made-memory : (m : Memory) → IsMemoryOf image honest v s m → IsMemoryOf image honest v t (model.with_block m (mem h) (Some (record { locks = 1; heap = model.new_heap })))
+    made-memory : (m : Memory) → IsMemoryOf medium v s m → IsMemoryOf medium v t (model.with_block m (mem h) (Some (record { locks = 1; heap = model.new_heap })))
     made-memory m is =
-        let now = memory-thins image honest v s makes.mid m is 0 k.tied makes.thins in
-        subst (λ b. IsMemoryOf image honest v t (model.with_block m (mem h) (Some b))) fresh-block
-        (mem-changed image honest v makes.mid t h low.handle thin keeps m now (Some (spelled 1 makes.made.bytes)) (sym (ap block_in at-own)))
+        let now = memory-thins medium v s makes.mid m is 0 k.tied makes.thins in
+        subst (λ b. IsMemoryOf medium v t (model.with_block m (mem h) (Some b))) fresh-block
+        (mem-changed medium v makes.mid t h low.handle thin keeps m now (Some (spelled 1 makes.made.bytes)) (sym (ap block_in at-own)))
 
     -- a span stands in another block, which is locked and stays
     made-spans : (f : VmFile) → SpansStay (sees s) (sees t) f Nothing
@@ -112,21 +113,21 @@ module _ {D : Type 0} (image : D → List ℕ) (honest : D → Type 0) (failed :
         locked-there None some = absurd (omega (arith, some))
         locked-there (Some b) some = tt
 
-    pub mnew-calls : Calls (honest v.file.device) table.mnew (Ok h) (sees s) (sees t)
-    mnew-calls = row-calls image honest failed table.mnew (Ok h) v s t
-        (does-willing image honest failed table.mnew (Ok h) v s t (λ m is. (
+    pub mnew-calls : Calls (medium.honest v.file.device) table.mnew (Ok h) (sees s) (sees t)
+    mnew-calls = row-calls medium table.mnew (Ok h) v s t
+        (does-willing medium table.mnew (Ok h) v s t (λ m is. (
           model.with_block m (mem h) (Some (record { locks = 1; heap = model.new_heap })),
           made-memory m is,
-          mnew-ok m (model.with_block m (mem h) (Some (record { locks = 1; heap = model.new_heap }))) h (lowest-some image honest v s m k.tied is h low) refl,
+          mnew-ok m (model.with_block m (mem h) (Some (record { locks = 1; heap = model.new_heap }))) h (lowest-some medium v s m k.tied is h low) refl,
         )))
         (λ f tied choice. made-spans f)
 
-    pub kernel-made : IsKernel image honest v t
+    pub kernel-made : IsKernel medium v t
     kernel-made =
         let f = k.known in
-        let before : IsMemoryOf image honest v s (memory_of (sees s) f.0) = record { blocks = refl; file = f.1; region = refl } in
-        let now = memory-thins image honest v s makes.mid (memory_of (sees s) f.0) before 0 k.tied makes.thins in
+        let before : IsMemoryOf medium v s (memory_of (sees s) f.0) = record { blocks = refl; file = f.1; region = refl } in
+        let now = memory-thins medium v s makes.mid (memory_of (sees s) f.0) before 0 k.tied makes.thins in
         let after = made-memory (memory_of (sees s) f.0) before in
-        let mid = kernel-thins image honest v s makes.mid 0 k makes.thins thin (f.0, now.file) in
-        kernel-but image honest v makes.mid t (mem h) mid keeps low.handle made-tied (f.0, after.file) (subst (λ o. IsHeap (store.bytes_in o)) (sym at-own) makes.made.heap)
+        let mid = kernel-thins medium v s makes.mid 0 k makes.thins thin (f.0, now.file) in
+        kernel-but medium v makes.mid t (mem h) mid keeps low.handle made-tied (f.0, after.file) (subst (λ o. IsHeap (store.bytes_in o)) (sym at-own) makes.made.heap)
         (ap (λ o. block.handle_word (store.bytes_in o)) at-own ∙ makes.made.handle) (omega (arith, ap store.locks_in at-own))

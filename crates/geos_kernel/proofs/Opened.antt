@@ -10,6 +10,7 @@ use Rattle.geos_table.proofs.LegalDirectories.{empty_file-legal, none-listed}
 use Rattle.block_handles.specs.Layout.{IsEmpty}
 use Rattle.block_handles.specs.Names.{slot_of}
 use Rattle.block_handles.specs.Store.{Store, block_at, IsBlock, locks_in}
+use Rattle.vm_file.specs.Device.{Medium}
 use Rattle.vm_file.specs.declared.directory.Directory.{Directory}
 use Rattle.vm_file.specs.Contents.{Block, listed}
 use Rattle.vm_file.specs.Spelling.{empty_contents}
@@ -42,8 +43,8 @@ module _ (s : Store) (len : ℕ) (empty : IsEmpty s len) where
       λ k. record { blocks = blocks k; file = f; region = region k }
 
   -- a kernel begins, and the model knows the file as the device holds it
-  pub kernel-opened : {D : Type 0} (image : D → List ℕ) (honest : D → Type 0) (v : VmState D) (m : Memory) → len ≤ 16777216 → IsTied image honest v s → IsMemoryOf image honest v s m → IsKernel image honest v s
-  kernel-opened image honest v m most tied begun = record {
+  pub kernel-opened : {D : Type 0} (medium : Medium D) (v : VmState D) (m : Memory) → len ≤ 16777216 → IsTied medium v s → IsMemoryOf medium v s m → IsKernel medium v s
+  kernel-opened medium v m most tied begun = record {
     laid = empty.laid;
     heaps = λ name there. absurd (subst IsBlock (empty.none (slot_of name)) there);
     handles = λ name there. absurd (subst IsBlock (empty.none (slot_of name)) there);

@@ -8,7 +8,7 @@ use Rattle.geos_table.specs.Handles.{at_handle}
 use Rattle.geos_table.specs.Memory.{Memory}
 use Rattle.geos_table.specs.VmFile.{VmFile, Kept, Sure, Unsure}
 use Rattle.block_handles.specs.Store.{Store, block_at}
-use Rattle.vm_file.specs.Device.{Rose}
+use Rattle.vm_file.specs.Device.{Medium, Rose}
 use Rattle.vm_file.specs.State.{pair_of}
 use Rattle.vm_blocks.specs.DoesRow.{DoesRow}
 use Rattle.vm_blocks.specs.FileOf as vm
@@ -20,24 +20,24 @@ use Rattle.geos_kernel.specs.Kernel.{AnswersWith, Calls, HasRisen, LeavesVm, Nev
 
 -- What is tied to the device is tied to what is seen of it
 
-module _ {D : Type 0} (image : D → List ℕ) (honest : D → Type 0) (failed : D → ℕ) (v : VmState D) (s : Store) where
-  -- the device is honest
+module _ {D : Type 0} (medium : Medium D) (v : VmState D) (s : Store) where
+  -- the device is medium.honest
   abbrev good : Type 0
-  good = honest v.file.device
+  good = medium.honest v.file.device
 
   -- what calls see
   abbrev core : KernelState
-  core = core_of image failed v s
+  core = core_of medium v s
 
-  kept-seen : (kept : Kept) → IsKeptOf image honest v.file kept → IsKeptOf image_seen (λ d. good) core.vm.file kept
+  kept-seen : (kept : Kept) → IsKeptOf medium.image medium.honest v.file kept → IsKeptOf image_seen (λ d. good) core.vm.file kept
   kept-seen (Sure p) k = k
   kept-seen (Unsure p q) k = k
 
-  kept-known : (kept : Kept) → IsKeptOf image_seen (λ d. good) core.vm.file kept → IsKeptOf image honest v.file kept
+  kept-known : (kept : Kept) → IsKeptOf image_seen (λ d. good) core.vm.file kept → IsKeptOf medium.image medium.honest v.file kept
   kept-known (Sure p) k = k
   kept-known (Unsure p q) k = k
 
-  pub file-seen : (f : VmFile) → vm.IsFileOf image honest v s f → IsFileOf good core f
+  pub file-seen : (f : VmFile) → vm.IsFileOf medium.image medium.honest v s f → IsFileOf good core f
   file-seen f is = record {
     area = is.area;
     cur = record { handles = is.cur.handles; each = is.cur.each; map_block = is.cur.map_block; map_group = is.cur.map_group; map_item = is.cur.map_item };
@@ -46,7 +46,7 @@ module _ {D : Type 0} (image : D → List ℕ) (honest : D → Type 0) (failed :
     legal = is.legal;
   }
 
-  pub file-known : (f : VmFile) → IsFileOf good core f → vm.IsFileOf image honest v s f
+  pub file-known : (f : VmFile) → IsFileOf good core f → vm.IsFileOf medium.image medium.honest v s f
   file-known f is = record {
     area = is.area;
     cur = record { handles = is.cur.handles; each = is.cur.each; map_block = is.cur.map_block; map_group = is.cur.map_group; map_item = is.cur.map_item };
@@ -56,7 +56,7 @@ module _ {D : Type 0} (image : D → List ℕ) (honest : D → Type 0) (failed :
   }
 
   -- the model's memory, where the model knows such a file
-  pub memory-known : (f : VmFile) → IsFileOf good core f → IsMemoryOf image honest v s (memory_of core f)
+  pub memory-known : (f : VmFile) → IsFileOf good core f → IsMemoryOf medium v s (memory_of core f)
   memory-known f is = record { blocks = refl; file = file-known f is; region = refl }
 
 -- Where no more is said to be honest than was
@@ -89,41 +89,41 @@ risen a b (inr most) = inr (omega (arith, most))
 
 -- Calls
 
-module _ {D : Type 0} (image : D → List ℕ) (honest : D → Type 0) (failed : D → ℕ) {A : Type 0} (call : Call A) (result : Result A Refusal) (v : VmState D) (s : Store) (w : VmState D) (t : Store) where
+module _ {D : Type 0} (medium : Medium D) {A : Type 0} (call : Call A) (result : Result A Refusal) (v : VmState D) (s : Store) (w : VmState D) (t : Store) where
   abbrev old : KernelState
-  old = core_of image failed v s
+  old = core_of medium v s
 
   abbrev new : KernelState
-  new = core_of image failed w t
+  new = core_of medium w t
 
-  same-memory : (n : Memory) → IsMemoryOf image honest w t n → n ≡ memory_of new n.file
+  same-memory : (n : Memory) → IsMemoryOf medium w t n → n ≡ memory_of new n.file
   same-memory n is = (let blocks = is.blocks in let region = is.region in λ k. record { blocks = blocks k; file = n.file; region = region k })
 
   -- a call that does its row answers as the row says
-  pub row-answers : DoesRow image honest failed call result v s w t → (honest v.file.device → honest w.file.device) → NeverFell (honest v.file.device) old new
-      → (f : VmFile) → IsFileOf (honest v.file.device) old f → AnswersWith (honest v.file.device) call result old new f
+  pub row-answers : DoesRow medium call result v s w t → (medium.honest v.file.device → medium.honest w.file.device) → NeverFell (medium.honest v.file.device) old new
+      → (f : VmFile) → IsFileOf (medium.honest v.file.device) old f → AnswersWith (medium.honest v.file.device) call result old new f
   row-answers row still lasts f tied =
-      let b = row (memory_of old f) (memory-known image honest failed v s f tied) in
+      let b = row (memory_of old f) (memory-known medium v s f tied) in
       record {
         choice = b.0;
-        chosen = record { given = b.1.given; device = λ g t. risen (failed v.file.device) (failed w.file.device) (b.1.device g t) };
+        chosen = record { given = b.1.given; device = λ g t. risen (medium.failed v.file.device) (medium.failed w.file.device) (b.1.device g t) };
         lasts = lasts;
         file = b.2.file;
-        tied = file-on (honest w.file.device) (honest v.file.device) still new b.2.file (file-seen image honest failed w t b.2.file b.3.file);
+        tied = file-on (medium.honest w.file.device) (medium.honest v.file.device) still new b.2.file (file-seen medium w t b.2.file b.3.file);
         comes = b.4 ∙ ap (λ m. (result, m)) (same-memory b.2 b.3);
       }
 
   -- and the model knows a file afterwards
-  pub row-known : DoesRow image honest failed call result v s w t → (f : VmFile) × vm.IsFileOf image honest v s f → (f : VmFile) × vm.IsFileOf image honest w t f
+  pub row-known : DoesRow medium call result v s w t → (f : VmFile) × vm.IsFileOf medium.image medium.honest v s f → (f : VmFile) × vm.IsFileOf medium.image medium.honest w t f
   row-known does (f, is) =
       let b = does (memory_of old f) (record { blocks = refl; file = is; region = refl }) in
       (b.2.file, b.3.file)
 
 -- a call on what is in a kernel is one on the kernel
-pub calls-seen : {D A : Type 0} (image : D → List ℕ) (honest : D → Type 0) (failed : D → ℕ) (v : VmState D) (s : Store) (k : KernelOn D) → kernel_of image failed v s ≡ k → {call : Call A} {r : Result A Refusal} {new : KernelState}
-    → Calls (honest v.file.device) call r (core_of image failed v s) new → Calls (honest k.device) call r k.core new
-calls-seen image honest failed v s k is {call} {r} {new} calls = subst (λ k. Calls (honest k.device) call r k.core new) is calls
+pub calls-seen : {D A : Type 0} (medium : Medium D) (v : VmState D) (s : Store) (k : KernelOn D) → kernel_of medium v s ≡ k → {call : Call A} {r : Result A Refusal} {new : KernelState}
+    → Calls (medium.honest v.file.device) call r (core_of medium v s) new → Calls (medium.honest k.device) call r k.core new
+calls-seen medium v s k is {call} {r} {new} calls = subst (λ k. Calls (medium.honest k.device) call r k.core new) is calls
 
 -- a call that changes blocks alone
-pub blocks-alone : {D : Type 0} (image : D → List ℕ) (failed : D → ℕ) (v : VmState D) (s t : Store) (k : KernelOn D) → kernel_of image failed v s ≡ k → LeavesVm k (kernel_of image failed v t)
-blocks-alone image failed v s t k is = record { device = ap (λ k. k.device) is; vm = ap (λ k. k.core.vm) is }
+pub blocks-alone : {D : Type 0} (medium : Medium D) (v : VmState D) (s t : Store) (k : KernelOn D) → kernel_of medium v s ≡ k → LeavesVm k (kernel_of medium v t)
+blocks-alone medium v s t k is = record { device = ap (λ k. k.device) is; vm = ap (λ k. k.core.vm) is }

@@ -9,6 +9,7 @@ use Rattle.geos_model.specs.Heap.{IsHeap}
 use Rattle.block_handles.specs.Names.{IsHandle, slot_of}
 use Rattle.block_handles.specs.Store.{Store, block_at, IsBlock, IsThere, bytes_in, bytes_of, locks_in, locks_of, place_of}
 use Rattle.block_handles.proofs.Laws.{handle_of_there, same-name}
+use Rattle.vm_file.specs.Device.{Medium}
 use Rattle.vm_blocks.specs.Bring.{KeptOrGoes}
 use Rattle.vm_blocks.specs.FileOf as vm
 use Rattle.vm_blocks.specs.Room.{StaysOrGoes, Thins, own_handle}
@@ -68,9 +69,9 @@ thins-stands v but old new span ref thins s =
 abbrev pub Same : Store → Store → ℕ → Type 0
 Same s t slot = (block_at t slot ≡ None) ⊎ ((bytes_of t slot ≡ bytes_of s slot) × (IsThere t slot → IsThere s slot))
 
-module _ {D : Type 0} (image : D → List ℕ) (honest : D → Type 0) (v : VmState D) (s t : Store) (k : IsKernel image honest v s) (tied : IsTied image honest v t) (known : (f : VmFile) × vm.IsFileOf image honest v t f) (len : t.len ≡ s.len) where
+module _ {D : Type 0} (medium : Medium D) (v : VmState D) (s t : Store) (k : IsKernel medium v s) (tied : IsTied medium v t) (known : (f : VmFile) × vm.IsFileOf medium.image medium.honest v t f) (len : t.len ≡ s.len) where
   -- blocks still are a kernel's where each slot has the bytes that it had, or none
-  pub kernel-on : ((slot : ℕ) → Same s t slot) → ((name : Name) → locks_of t (slot_of name) ≤ 65535) → IsKernel image honest v t
+  pub kernel-on : ((slot : ℕ) → Same s t slot) → ((name : Name) → locks_of t (slot_of name) ≤ 65535) → IsKernel medium v t
   kernel-on same few = record {
     laid = tied.laid;
     few = few;
@@ -90,9 +91,9 @@ module _ {D : Type 0} (image : D → List ℕ) (honest : D → Type 0) (v : VmSt
       handle name there (inr (bytes, back)) = rw bytes (k.handles name (back there))
 
 -- and where those but one are as they were or were discarded, and that one is a heap under its handle
-pub kernel-but : {D : Type 0} (image : D → List ℕ) (honest : D → Type 0) (v : VmState D) (s t : Store) (name : Name) → IsKernel image honest v s → KeepsBut v s t name → IsHandle name.h → IsTied image honest v t → ((f : VmFile) × vm.IsFileOf image honest v t f)
-    → IsHeap (bytes_of t (slot_of name)) → block.handle_word (bytes_of t (slot_of name)) ≡ name.h → locks_of t (slot_of name) ≤ 65535 → IsKernel image honest v t
-kernel-but {D} image honest v s t name k keeps q tied known holds word few = record { laid = tied.laid; heaps = heap; handles = handle; few = counts; tied = tied; known = known; small = rw keeps.len k.small }
+pub kernel-but : {D : Type 0} (medium : Medium D) (v : VmState D) (s t : Store) (name : Name) → IsKernel medium v s → KeepsBut v s t name → IsHandle name.h → IsTied medium v t → ((f : VmFile) × vm.IsFileOf medium.image medium.honest v t f)
+    → IsHeap (bytes_of t (slot_of name)) → block.handle_word (bytes_of t (slot_of name)) ≡ name.h → locks_of t (slot_of name) ≤ 65535 → IsKernel medium v t
+kernel-but {D} medium v s t name k keeps q tied known holds word few = record { laid = tied.laid; heaps = heap; handles = handle; few = counts; tied = tied; known = known; small = rw keeps.len k.small }
   where
     other : (n : Name) → IsThere t (slot_of n) → slot_of n ≢ slot_of name → block_at t (slot_of n) ≡ block_at s (slot_of n)
     other n there ne = on (keeps.each (slot_of n) ne)
@@ -121,9 +122,9 @@ kernel-but {D} image honest v s t name k keeps q tied known holds word few = rec
         on (inr g) = omega (arith, ap locks_in g.gone)
 
 -- blocks still are a kernel's where some were discarded
-pub kernel-thins : {D : Type 0} (image : D → List ℕ) (honest : D → Type 0) (v : VmState D) (s t : Store) (but : ℕ) → IsKernel image honest v s → Thins v s t but → IsTied image honest v t
-    → ((f : VmFile) × vm.IsFileOf image honest v t f) → IsKernel image honest v t
-kernel-thins {D} image honest v s t but k thins tied known = kernel-on image honest v s t k tied known thins.len same counts
+pub kernel-thins : {D : Type 0} (medium : Medium D) (v : VmState D) (s t : Store) (but : ℕ) → IsKernel medium v s → Thins v s t but → IsTied medium v t
+    → ((f : VmFile) × vm.IsFileOf medium.image medium.honest v t f) → IsKernel medium v t
+kernel-thins {D} medium v s t but k thins tied known = kernel-on medium v s t k tied known thins.len same counts
   where
     same : (slot : ℕ) → Same s t slot
     same slot = on (thins.each slot)

@@ -5,6 +5,7 @@ use Rattle.geos_model.specs.declared.refusal.Refusal.{Refusal}
 use Rattle.geos_model.specs.declared.refusal.Refusal.TheVariants as refusal
 use Rattle.block_handles.specs.Store.{Store, IsThere, locks_of}
 use Rattle.block_handles.proofs.Layouts.{there_of_locks}
+use Rattle.vm_file.specs.Device.{Medium}
 use Rattle.vm_file.specs.State.{FileState}
 use Rattle.vm_blocks.specs.declared.error.LockError.{LockError}
 use Rattle.vm_blocks.specs.declared.error.LockError.TheVariants as lock
@@ -18,17 +19,17 @@ on-there : {A : Type 0} (r : Result A Refusal) (P Q : Type 0) → OnErr r (P →
 on-there (Ok answer) P Q stays there = tt
 on-there (Err why) P Q stays there = stays there
 
-module _ {D : Type 0} (image : D → List ℕ) (failed : D → ℕ) (v w : VmState D) (s t : Store) (k : KernelOn D) (is : kernel_of image failed v s ≡ k) where
+module _ {D : Type 0} (medium : Medium D) (v w : VmState D) (s t : Store) (k : KernelOn D) (is : kernel_of medium v s ≡ k) where
   pub in-memory : {A : Type 0} (h : ℕ) (r : Result A Refusal) → (IsThere s (vm_slot h) → (w.file ≡ v.file) × (r ≡ Err refusal.Disk → ⊥)) → ((r ≡ Err refusal.NoRoom → ⊥) → OnErr r (IsThere s (vm_slot h) → t ≡ s))
-      → (r ≡ Err refusal.Disk → IsThere t (vm_slot h) → ⊥) → InMemory h r k (kernel_of image failed w t)
-  in-memory h r there stays absent = subst (λ x. InMemory h r x (kernel_of image failed w t)) is (record {
-    there = λ was. (let file = (there was).0 in (record { device = ap (λ (f : FileState D). f.device) file; file = ap (λ (f : FileState D). file_over (seen image failed f.device) f) file }, (there was).1));
+      → (r ≡ Err refusal.Disk → IsThere t (vm_slot h) → ⊥) → InMemory h r k (kernel_of medium w t)
+  in-memory h r there stays absent = subst (λ x. InMemory h r x (kernel_of medium w t)) is (record {
+    there = λ was. (let file = (there was).0 in (record { device = ap (λ (f : FileState D). f.device) file; file = ap (λ (f : FileState D). file_over (seen medium f.device) f) file }, (there was).1));
     refused = λ was other. on-there r (IsThere s (vm_slot h)) (t ≡ s) (stays other) was;
     absent = absent;
   })
 
-  pub nothing-changed : w ≡ v → t ≡ s → kernel_of image failed w t ≡ k
-  nothing-changed vm blocks = ap (λ x. kernel_of image failed x t) vm ∙ ap (kernel_of image failed v) blocks ∙ is
+  pub nothing-changed : w ≡ v → t ≡ s → kernel_of medium w t ≡ k
+  nothing-changed vm blocks = ap (λ x. kernel_of medium x t) vm ∙ ap (kernel_of medium v) blocks ∙ is
 
   -- A lock
 
@@ -50,7 +51,7 @@ module _ {D : Type 0} (image : D → List ℕ) (failed : D → ℕ) (v w : VmSta
     lock-stays (Ok done) there = tt
     lock-stays (Err why) there = λ was. (there was).1.1
 
-    pub lock-in_memory : (r : Result (Unit {0}) LockError) → IfThere r → (r ≡ Err lock.Disk → IsThere t (vm_slot h) → ⊥) → InMemory h (of_lock r) k (kernel_of image failed w t)
+    pub lock-in_memory : (r : Result (Unit {0}) LockError) → IfThere r → (r ≡ Err lock.Disk → IsThere t (vm_slot h) → ⊥) → InMemory h (of_lock r) k (kernel_of medium w t)
     lock-in_memory r there absent = in-memory h (of_lock r) (λ was. (ap (λ (x : VmState D). x.file) (there was).0, no-disk r (there was).1)) (λ other. lock-stays r there) (λ e. absent (disk-so r e))
 
     pub lock-more : (r : Result (Unit {0}) LockError) → IfThere r → IsThere s (vm_slot h) → OnOk (of_lock r) more
@@ -59,7 +60,7 @@ module _ {D : Type 0} (image : D → List ℕ) (failed : D → ℕ) (v w : VmSta
 
     -- a refusal but for room or the device
     pub lock-refused : (r : Result (Unit {0}) LockError) → IfThere r → (r ≡ Err lock.BadHandle → (w ≡ v) × (t ≡ s)) → (r ≡ Err lock.Locked → locks_of s (vm_slot h) ≡ 65535)
-        → (of_lock r ≡ Err refusal.NoRoom → ⊥) → (of_lock r ≡ Err refusal.Disk → ⊥) → OnErr (of_lock r) (kernel_of image failed w t ≡ k)
+        → (of_lock r ≡ Err refusal.NoRoom → ⊥) → (of_lock r ≡ Err refusal.Disk → ⊥) → OnErr (of_lock r) (kernel_of medium w t ≡ k)
     lock-refused (Ok done) there bad full room disk = tt
     lock-refused (Err lock.BadHandle) there bad full room disk = nothing-changed (bad refl).0 (bad refl).1
     lock-refused (Err lock.Locked) there bad full room disk =
@@ -71,5 +72,5 @@ module _ {D : Type 0} (image : D → List ℕ) (failed : D → ℕ) (v w : VmSta
 
   -- A group
 
-  pub no_group-same : {A : Type 0} (g : ℕ) (r : Result A Refusal) → RefusesNoGroup g r v w s t → (IsGroup k.core.vm g → ⊥) → kernel_of image failed w t ≡ k
+  pub no_group-same : {A : Type 0} (g : ℕ) (r : Result A Refusal) → RefusesNoGroup g r v w s t → (IsGroup k.core.vm g → ⊥) → kernel_of medium w t ≡ k
   no_group-same g r no_group none = let refused = no_group (λ group. none (subst (λ (x : KernelOn D). IsGroup x.core.vm g) is group)) in nothing-changed refused.1 refused.2

@@ -5,6 +5,7 @@ use Rattle.geos_model.specs.Names.{vm}
 use Rattle.geos_table.specs.Directories.{VmBlock}
 use Rattle.geos_table.specs.Memory.{Memory, locks_in, locks_of}
 use Rattle.block_handles.specs.Store.{Store}
+use Rattle.vm_file.specs.Device.{Medium}
 use Rattle.vm_blocks.specs.FileOf.{IsMemoryOf}
 use Rattle.vm_blocks.specs.Listed.{NoneLocked}
 use Rattle.vm_blocks.specs.Tied.{IsTied}
@@ -12,15 +13,15 @@ use Rattle.vm_blocks.specs.View.{VmState}
 use Rattle.vm_blocks.proofs.Tables.{handle-or, table-past}
 use Rattle.heap_calls.proofs.Named.{locks-known}
 
-module _ {D : Type 0} (image : D → List ℕ) (honest : D → Type 0) (v : VmState D) (s : Store) (m : Memory) (tied : IsTied image honest v s) (is : IsMemoryOf image honest v s m) where
+module _ {D : Type 0} (medium : Medium D) (v : VmState D) (s : Store) (m : Memory) (tied : IsTied medium v s) (is : IsMemoryOf medium v s m) where
   -- no block of the file is locked where the model has none locked
   pub none-known : NoneLocked s ↔ ((h : ℕ) → locks_of m (vm h) ≡ 0)
   none-known = (
     λ none h. elim (handle-or {X = ℕ} 0 h) [
-      | inl p ↦ locks-known image honest v s tied m is (vm h) ∙ none h p
+      | inl p ↦ locks-known medium v s tied m is (vm h) ∙ none h p
       | inr past ↦ ap (λ l. locks_in (option_map (λ (x : VmBlock). x.block) l)) (table-past None m.file.cur.blocks h is.file.cur.handles past)
     ],
-    λ none h p. sym (locks-known image honest v s tied m is (vm h)) ∙ none h,
+    λ none h p. sym (locks-known medium v s tied m is (vm h)) ∙ none h,
   )
 
   -- and so where this is told

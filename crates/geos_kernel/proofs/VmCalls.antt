@@ -14,7 +14,7 @@ use Rattle.vm_file.specs.declared.commit.How.{How}
 use Rattle.vm_file.specs.declared.error.CommitError.{CommitError}
 use Rattle.vm_file.specs.declared.error.CommitError.TheVariants as commit
 use Rattle.vm_file.specs.Committing.{IsAfter}
-use Rattle.vm_file.specs.Device.{Rose}
+use Rattle.vm_file.specs.Device.{Medium, Rose}
 use Rattle.vm_file.specs.State.{FileState}
 use Rattle.vm_blocks.specs.declared.entries.Held.{Held}
 use Rattle.vm_blocks.specs.declared.error.LockError.{LockError}
@@ -44,23 +44,23 @@ pub stayed-or-rose : (good fails : Type 0) (a b : ℕ) → fails ⊎ (fails → 
 stayed-or-rose good fails a b (inl failed) cause counted g = inr (risen a b (cause g failed))
 stayed-or-rose good fails a b (inr never) cause counted g = inl (counted never)
 
-module _ {D : Type 0} (image : D → List ℕ) (honest : D → Type 0) (failed : D → ℕ) (v w : VmState D) (s t : Store) (k : IsKernel image honest v s) (spares : SparesMem s t) where
+module _ {D : Type 0} (medium : Medium D) (v w : VmState D) (s t : Store) (k : IsKernel medium v s) (spares : SparesMem s t) where
   -- a call that spares blocks of global memory leaves a kernel
-  pub spared-kernel : {A : Type 0} (call : Call A) (r : Result A Refusal) → IsTied image honest w t → DoesRow image honest failed call r v s w t → IsKernel image honest w t
-  spared-kernel call r tied row = kernel-beside image honest failed v w s t k tied spares (row-known image honest failed call r v s w t row k.known)
+  pub spared-kernel : {A : Type 0} (call : Call A) (r : Result A Refusal) → IsTied medium w t → DoesRow medium call r v s w t → IsKernel medium w t
+  spared-kernel call r tied row = kernel-beside medium v w s t k tied spares (row-known medium call r v s w t row k.known)
 
 -- Calls that ask the device nothing
 
-module _ {D : Type 0} (image : D → List ℕ) (honest : D → Type 0) (failed : D → ℕ) (v w : VmState D) (s t : Store) (file : w.file ≡ v.file) where
-  pub quiet-calls : {A : Type 0} {call : Call A} {r : Result A Refusal} → DoesRow image honest failed call r v s w t → Spares s t → Calls (honest v.file.device) call r (core_of image failed v s) (core_of image failed w t)
+module _ {D : Type 0} (medium : Medium D) (v w : VmState D) (s t : Store) (file : w.file ≡ v.file) where
+  pub quiet-calls : {A : Type 0} {call : Call A} {r : Result A Refusal} → DoesRow medium call r v s w t → Spares s t → Calls (medium.honest v.file.device) call r (core_of medium v s) (core_of medium w t)
   quiet-calls row spares =
       let device : w.file.device ≡ v.file.device = ap (λ (f : FileState D). f.device) file in
-      calls-beside image honest failed v w s t row (λ good. subst honest (sym device) good) (λ good. inl (ap failed device)) spares
+      calls-beside medium v w s t row (λ good. subst medium.honest (sym device) good) (λ good. inl (ap medium.failed device)) spares
 
 -- and change nothing
-pub told-calls : {D A : Type 0} (image : D → List ℕ) (honest : D → Type 0) (failed : D → ℕ) (v : VmState D) (s : Store) (k : KernelOn D) → kernel_of image failed v s ≡ k → {call : Call A} {r : Result A Refusal}
-    → DoesRow image honest failed call r v s v s → Calls (honest k.device) call r k.core k.core
-told-calls image honest failed v s k is {call} {r} row = subst (λ k. Calls (honest k.device) call r k.core k.core) is (quiet-calls image honest failed v v s s refl row (same-spares s s refl))
+pub told-calls : {D A : Type 0} (medium : Medium D) (v : VmState D) (s : Store) (k : KernelOn D) → kernel_of medium v s ≡ k → {call : Call A} {r : Result A Refusal}
+    → DoesRow medium call r v s v s → Calls (medium.honest k.device) call r k.core k.core
+told-calls medium v s k is {call} {r} row = subst (λ k. Calls (medium.honest k.device) call r k.core k.core) is (quiet-calls medium v v s s refl row (same-spares s s refl))
 
 -- Locks
 
@@ -82,10 +82,10 @@ lock-lasts good a b r cause counted = stayed-or-rose good (r ≡ Err lock.Disk) 
 -- New blocks
 
 -- a block that is not listed is not locked
-unlisted-free : {D : Type 0} (image : D → List ℕ) (honest : D → Type 0) (v : VmState D) (s : Store) (h : ℕ) → IsTied image honest v s → IsHandle h → held_at v h ≡ None → locks_of s (vm_slot h) ≡ 0
-unlisted-free image honest v s h tied p none = on (held_at v h) (block_at s (vm_slot h)) none (tied.each h p)
+unlisted-free : {D : Type 0} (medium : Medium D) (v : VmState D) (s : Store) (h : ℕ) → IsTied medium v s → IsHandle h → held_at v h ≡ None → locks_of s (vm_slot h) ≡ 0
+unlisted-free medium v s h tied p none = on (held_at v h) (block_at s (vm_slot h)) none (tied.each h p)
   where
-    on : (e : Option Held) (b : Option Block) → e ≡ None → TiedAt image honest v.file h e b → locks_in b ≡ 0
+    on : (e : Option Held) (b : Option Block) → e ≡ None → TiedAt medium v.file h e b → locks_in b ≡ 0
     on None None none t = refl
     on None (Some b) none t = absurd t
     on (Some e) b none t = absurd cc
@@ -96,10 +96,10 @@ pub data Made {D : Type 0} (v w : VmState D) (s t : Store) (uid n : ℕ) : Type 
   HasNoRoom : LacksRoomForNew v s t → w ≡ v → Made v w s t uid n
   HasNoHandle : t ≡ s → w ≡ v → Made v w s t uid n
 
-module _ {D : Type 0} (image : D → List ℕ) (honest : D → Type 0) (v w : VmState D) (s t : Store) (uid n : ℕ) (k : IsKernel image honest v s) where
+module _ {D : Type 0} (medium : Medium D) (v w : VmState D) (s t : Store) (uid n : ℕ) (k : IsKernel medium v s) where
   pub made-spares : Made v w s t uid n → Spares s t
   made-spares (IsMade h adds) =
-      keeps-spares v s t h adds.keeps (λ some. (let none = unlisted-free image honest v s h k.tied adds.lowest.handle adds.lowest.free in absurd (omega (arith, some, none))))
+      keeps-spares v s t h adds.keeps (λ some. (let none = unlisted-free medium v s h k.tied adds.lowest.handle adds.lowest.free in absurd (omega (arith, some, none))))
   made-spares (HasNoRoom lacks same) = thins-spares v s t lacks.h lacks.lacks.thins
   made-spares (HasNoHandle blocks same) = same-spares s t blocks
 
@@ -151,10 +151,10 @@ module _ {D : Type 0} (v w : VmState D) where
   committed-spares how s t none (Err why) store refused = same-spares s t refused.1
 
   -- a refusal leaves the table, and all blocks, as they were
-  pub committed-refused : (image : D → List ℕ) (failed : D → ℕ) (s t : Store) (r : Result (Unit {0}) CommitError) → OnErr r ((w ≡ record v { file = w.file }) × (t ≡ s))
-      → OnErr r (((core_of image failed w t).vm ≡ record (core_of image failed v s).vm { file = (core_of image failed w t).vm.file }) × (t ≡ s))
-  committed-refused image failed s t (Ok done) refused = tt
-  committed-refused image failed s t (Err why) refused = (ap (vm_over (seen image failed w.file.device)) refused.0, refused.1)
+  pub committed-refused : (medium : Medium D) (s t : Store) (r : Result (Unit {0}) CommitError) → OnErr r ((w ≡ record v { file = w.file }) × (t ≡ s))
+      → OnErr r (((core_of medium w t).vm ≡ record (core_of medium v s).vm { file = (core_of medium w t).vm.file }) × (t ≡ s))
+  committed-refused medium s t (Ok done) refused = tt
+  committed-refused medium s t (Err why) refused = (ap (vm_over (seen medium w.file.device)) refused.0, refused.1)
 
   pub committed-lasts : (failed : D → ℕ) (r : Result (Unit {0}) CommitError) → OnOk r (failed w.file.device ≡ failed v.file.device) → IfErr r (λ e. IsAfter e v.file w.file) → (r ≡ Err commit.Disk → Rose (failed v.file.device) (failed w.file.device))
       → (failed w.file.device ≡ failed v.file.device) ⊎ HasRisen (failed v.file.device) (failed w.file.device)

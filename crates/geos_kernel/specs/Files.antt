@@ -7,7 +7,7 @@ use Rattle.geos_table.specs.Effects.{Call}
 use Rattle.block_handles.specs.Store.{IsThere}
 use Rattle.vm_file.specs.declared.commit.How.{How}
 use Rattle.vm_file.specs.declared.error.CommitError.{CommitError}
-use Rattle.vm_file.specs.Device.{Rose}
+use Rattle.vm_file.specs.Device.{Medium, Rose}
 use Rattle.vm_file.specs.Outcomes.{ReadsOnly}
 use Rattle.vm_file.specs.State.{FileState}
 use Rattle.vm_blocks.specs.Commit.{CommitsFile}
@@ -29,11 +29,11 @@ pub record AsksNothing {D : Type 0} (old new : KernelOn D) : Type 0 where
 
 -- a call that reads the device at most: it writes nothing, and what the file keeps is the same; on
 -- an honest device it fails only where the count of failures rose, which it does nowhere else
-pub record ReadsFile {D : Type 0} (image : D → List ℕ) (honest : D → Type 0) (failed : D → ℕ) (may_leave : D → List ℕ → Type 0) (left : D → D → List ℕ → Type 0) (fails : Type 0) (old new : KernelOn D) : Type 0 where
-  pub reads : ReadsOnly image honest may_leave left old.device new.device
+pub record ReadsFile {D : Type 0} (medium : Medium D) (fails : Type 0) (old new : KernelOn D) : Type 0 where
+  pub reads : ReadsOnly medium old.device new.device
   pub file : vm_file_of new ≡ file_over new.device old.core.vm.file
-  pub cause : honest old.device → fails → Rose (failed old.device) (failed new.device)
-  pub counted : (fails → ⊥) → failed new.device ≡ failed old.device
+  pub cause : medium.honest old.device → fails → Rose (medium.failed old.device) (medium.failed new.device)
+  pub counted : (fails → ⊥) → medium.failed new.device ≡ medium.failed old.device
 
 -- a call on a block of the file, where that is in memory: it asks the device nothing, and a refusal for
 -- another reason than room leaves all blocks as they were. A block that the device refuses is not there
@@ -44,18 +44,18 @@ pub record InMemory {D A : Type 0} (h : ℕ) (result : Result A Refusal) (old ne
 
 -- a call on the items of a group: it answers as its row says; room is wanting only for what the group
 -- needs by its edit; a group that is in memory asks the device nothing, and of none nothing changes
-pub record CallsItem {D A : Type 0} (image : D → List ℕ) (honest : D → Type 0) (failed : D → ℕ) (may_leave : D → List ℕ → Type 0) (left : D → D → List ℕ → Type 0) (call : Call A) (edit : List (Option (List ℕ)) → Edit A) (g : ℕ) (result : Result A Refusal) (old new : KernelOn D) : Type 0 where
-  pub calls : Calls (honest old.device) call result old.core new.core
+pub record CallsItem {D A : Type 0} (medium : Medium D) (call : Call A) (edit : List (Option (List ℕ)) → Edit A) (g : ℕ) (result : Result A Refusal) (old new : KernelOn D) : Type 0 where
+  pub calls : Calls (medium.honest old.device) call result old.core new.core
   pub no_room : result ≡ Err NoRoom → ItemHasNoRoom new.core g edit
   pub in_memory : InMemory g result old new
   pub no_group : (IsGroup old.core.vm g → ⊥) → new ≡ old
-  pub device : ReadsFile image honest failed may_leave left (result ≡ Err Disk) old new
+  pub device : ReadsFile medium (result ≡ Err Disk) old new
 
 -- a commit of the current directory, with the blocks as they are in memory or else as the file has
 -- them: what it keeps, what each refusal leaves, in memory too, and what a stop at any moment does
-pub record Commits {D : Type 0} (image : D → List ℕ) (honest : D → Type 0) (failed : D → ℕ) (may_leave : D → List ℕ → Type 0) (left : D → D → List ℕ → Type 0) (how : How) (old new : KernelOn D) (result : Result (Unit {0}) Refusal) : Type 0 where
+pub record Commits {D : Type 0} (medium : Medium D) (how : How) (old new : KernelOn D) (result : Result (Unit {0}) Refusal) : Type 0 where
   pub answer : Result (Unit {0}) CommitError
   pub same : result ≡ of_commit answer
-  pub file : CommitsFile image honest failed may_leave left how (resident_of old.core.blocks) (directory_of old.core.vm old.core.blocks) (vm_file_of old) (vm_file_of new) answer
+  pub file : CommitsFile medium how (resident_of old.core.blocks) (directory_of old.core.vm old.core.blocks) (vm_file_of old) (vm_file_of new) answer
   pub store : OnOk answer (StoreAfter how old.core.blocks new.core.blocks)
   pub refused : OnErr answer ((new.core.vm ≡ record old.core.vm { file = new.core.vm.file }) × (new.core.blocks ≡ old.core.blocks))

@@ -15,6 +15,7 @@ use Rattle.geos_model.specs.Edits.{Edit}
 use Rattle.geos_model.specs.Heap.{IsHeap}
 use Rattle.geos_model.specs.declared.refusal.Refusal.{Refusal}
 use Rattle.geos_model.specs.declared.refusal.Refusal.TheVariants.{NoRoom}
+use Rattle.vm_file.specs.Device.{Medium}
 use Rattle.geos_table.specs.VmFile.{VmFile}
 use Rattle.geos_table.specs.Calls.{store}
 use Rattle.geos_table.specs.Effects.{Choice, Call, Reference, outcome, effect_of}
@@ -32,13 +33,13 @@ use Rattle.geos_kernel.specs.Spans.{Stands, SpansStay}
 -- blocks lie in the region, and no two overlap; each named block holds a heap, which begins
 -- with the block's handle, and is locked no more often than it can be; those of the VM file are
 -- tied to it; the model knows some VM file; and offsets are small numbers
-pub record IsKernel {D : Type 0} (image : D → List ℕ) (honest : D → Type 0) (v : VmState D) (s : Store) : Type 0 where
+pub record IsKernel {D : Type 0} (medium : Medium D) (v : VmState D) (s : Store) : Type 0 where
   pub laid : IsLaidOut s
   pub heaps : (name : Name) → IsThere s (slot_of name) → IsHeap (bytes_of s (slot_of name))
   pub handles : (name : Name) → IsThere s (slot_of name) → block.handle_word (bytes_of s (slot_of name)) ≡ name.h
   pub few : (name : Name) → locks_of s (slot_of name) ≤ 65535
-  pub tied : IsTied image honest v s
-  pub known : (f : VmFile) × vm.IsFileOf image honest v s f
+  pub tied : IsTied medium v s
+  pub known : (f : VmFile) × vm.IsFileOf medium.image medium.honest v s f
   pub small : region_len s ≤ 16777216
 
 -- a count of failures rose; from the greatest number on it counts as risen, and so stays risen over later calls, as `Rose` need not

@@ -6,6 +6,7 @@ use Rattle.block_handles.specs.Names.{slot_of}
 use Rattle.block_handles.specs.Store as store
 use Rattle.geos_table.specs.Memory as model
 use Rattle.geos_table.specs.VmFile.{VmFile}
+use Rattle.vm_file.specs.Device.{Medium}
 use Rattle.vm_file.specs.State.{FileState}
 use Rattle.vm_blocks.specs.View.{VmState, held_at}
 use Rattle.vm_blocks.specs.Blocks.{is_marked_in}
@@ -30,8 +31,8 @@ pub record KernelOn (D : Type 0) : Type 0 where
   pub device : D
 
 -- what is seen of a device
-abbrev pub seen : {D : Type 0} → (D → List ℕ) → (D → ℕ) → D → Seen
-seen image failed d = record { image = image d; failed = failed d }
+abbrev pub seen : {D : Type 0} → Medium D → D → Seen
+seen medium d = record { image = medium.image d; failed = medium.failed d }
 
 -- a file over another state of a device, or over what is seen of it
 abbrev pub file_over : {D E : Type 0} → E → FileState D → FileState E
@@ -49,12 +50,12 @@ abbrev pub vm_over : {D E : Type 0} → E → VmState D → VmState E
 vm_over device v = record { file = file_over device v.file; entries = v.entries; map_block = v.map_block; map_item = v.map_item }
 
 -- a kernel of these blocks, as its calls see it
-abbrev pub core_of : {D : Type 0} → (D → List ℕ) → (D → ℕ) → VmState D → store.Store → KernelState
-core_of image failed v s = record { blocks = s; vm = vm_over (seen image failed v.file.device) v }
+abbrev pub core_of : {D : Type 0} → Medium D → VmState D → store.Store → KernelState
+core_of medium v s = record { blocks = s; vm = vm_over (seen medium v.file.device) v }
 
 -- a kernel of these blocks on its device
-abbrev pub kernel_of : {D : Type 0} → (D → List ℕ) → (D → ℕ) → VmState D → store.Store → KernelOn D
-kernel_of image failed v s = record { core = core_of image failed v s; device = v.file.device }
+abbrev pub kernel_of : {D : Type 0} → Medium D → VmState D → store.Store → KernelOn D
+kernel_of medium v s = record { core = core_of medium v s; device = v.file.device }
 
 -- the bytes that are seen
 abbrev pub image_seen : Seen → List ℕ

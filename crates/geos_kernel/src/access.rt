@@ -23,7 +23,7 @@ impl<D: Device + Drop> Kernel<D> {
         requires stands { IsStanding self.now.core span }
         requires within { i < span.len }
         ensures { (ref : Reference) → Stands self.now.core span ref
-            → Calls (D.honest self.now.device) (table.load8 ref i) (Ok result) self.now.core self.now.core }
+            → Calls (D.medium.honest self.now.device) (table.load8 ref i) (Ok result) self.now.core self.now.core }
     {
         self.blocks.read8(span.at + u32::from(i))
     }
@@ -33,7 +33,7 @@ impl<D: Device + Drop> Kernel<D> {
         requires stands { IsStanding self.now.core span }
         requires within { i + 2 ≤ span.len }
         ensures { (ref : Reference) → Stands self.now.core span ref
-            → Calls (D.honest self.now.device) (table.load16 ref i) (Ok result) self.now.core self.now.core }
+            → Calls (D.medium.honest self.now.device) (table.load16 ref i) (Ok result) self.now.core self.now.core }
     {
         self.blocks.read16(span.at + u32::from(i))
     }
@@ -43,8 +43,8 @@ impl<D: Device + Drop> Kernel<D> {
     pub fn store8(&mut self, span: Span, i: u16, byte: u8)
         requires stands { IsWritable self.old.core span }
         requires within { i < span.len }
-        ensures row { Stores (D.honest self.old.device) span i (byte ∷ []) self.old.core self.new.core }
-        ensures spans { (f : VmFile) → IsFileOf (D.honest self.old.device) self.old.core f → SpansStay self.old.core self.new.core f Nothing }
+        ensures row { Stores (D.medium.honest self.old.device) span i (byte ∷ []) self.old.core self.new.core }
+        ensures spans { (f : VmFile) → IsFileOf (D.medium.honest self.old.device) self.old.core f → SpansStay self.old.core self.new.core f Nothing }
         ensures vm { LeavesVm self.old self.new }
         ensures remain { Remain self.old.core.blocks self.new.core.blocks 0 }
     {
@@ -56,8 +56,8 @@ impl<D: Device + Drop> Kernel<D> {
     pub fn store16(&mut self, span: Span, i: u16, word: u16)
         requires stands { IsWritable self.old.core span }
         requires within { i + 2 ≤ span.len }
-        ensures row { Stores (D.honest self.old.device) span i (word_bytes word) self.old.core self.new.core }
-        ensures spans { (f : VmFile) → IsFileOf (D.honest self.old.device) self.old.core f → SpansStay self.old.core self.new.core f Nothing }
+        ensures row { Stores (D.medium.honest self.old.device) span i (word_bytes word) self.old.core self.new.core }
+        ensures spans { (f : VmFile) → IsFileOf (D.medium.honest self.old.device) self.old.core f → SpansStay self.old.core self.new.core f Nothing }
         ensures vm { LeavesVm self.old self.new }
         ensures remain { Remain self.old.core.blocks self.new.core.blocks 0 }
     {
@@ -71,8 +71,8 @@ impl<D: Device + Drop> Kernel<D> {
         requires to { IsWritable self.old.core to × (n ≤ to.len) }
         requires from { IsStanding self.old.core from × (n ≤ from.len) }
         ensures row { (target source : Reference) → Stands self.old.core to target → Stands self.old.core from source →
-            Calls (D.honest self.old.device) (table.copy target source n) (Ok tt) self.old.core self.new.core }
-        ensures spans { (f : VmFile) → IsFileOf (D.honest self.old.device) self.old.core f → SpansStay self.old.core self.new.core f Nothing }
+            Calls (D.medium.honest self.old.device) (table.copy target source n) (Ok tt) self.old.core self.new.core }
+        ensures spans { (f : VmFile) → IsFileOf (D.medium.honest self.old.device) self.old.core f → SpansStay self.old.core self.new.core f Nothing }
         ensures vm { LeavesVm self.old self.new }
         ensures remain { Remain self.old.core.blocks self.new.core.blocks 0 }
     {

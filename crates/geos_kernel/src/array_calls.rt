@@ -23,7 +23,7 @@ impl<D: Device + Drop> Kernel<D> {
     pub fn canew(&mut self, name: Name, element_size: u16) -> Result<u16, Refusal>
         requires locked { IsLocked self.old.core name }
         requires marked { MayChange self.old.core name }
-        ensures calls { Calls (D.honest self.old.device) (table.canew name element_size) result self.old.core self.new.core }
+        ensures calls { Calls (D.medium.honest self.old.device) (table.canew name element_size) result self.old.core self.new.core }
         ensures no_room { result ≡ Err NoRoom → HasNoRoomFor self.new.core name (create_array element_size (chunks_at self.old.core.blocks name)).chunks }
         ensures refused { StaysIfRefused result self.old.core.blocks self.new.core.blocks }
         ensures vm { LeavesVm self.old self.new }
@@ -38,7 +38,7 @@ impl<D: Device + Drop> Kernel<D> {
     pub fn caadd(&mut self, name: Name, c: u16, n: u16) -> Result<(), Refusal>
         requires locked { IsLocked self.old.core name }
         requires marked { MayChange self.old.core name }
-        ensures calls { Calls (D.honest self.old.device) (table.caadd name c n) result self.old.core self.new.core }
+        ensures calls { Calls (D.medium.honest self.old.device) (table.caadd name c n) result self.old.core self.new.core }
         ensures no_room { result ≡ Err NoRoom → HasNoRoomFor self.new.core name (append_element c n (chunks_at self.old.core.blocks name)).chunks }
         ensures refused { StaysIfRefused result self.old.core.blocks self.new.core.blocks }
         ensures vm { LeavesVm self.old self.new }
@@ -52,7 +52,7 @@ impl<D: Device + Drop> Kernel<D> {
     pub fn cains(&mut self, name: Name, c: u16, i: u16, n: u16) -> Result<(), Refusal>
         requires locked { IsLocked self.old.core name }
         requires marked { MayChange self.old.core name }
-        ensures calls { Calls (D.honest self.old.device) (table.cains name c i n) result self.old.core self.new.core }
+        ensures calls { Calls (D.medium.honest self.old.device) (table.cains name c i n) result self.old.core self.new.core }
         ensures no_room { result ≡ Err NoRoom → HasNoRoomFor self.new.core name (insert_element c i n (chunks_at self.old.core.blocks name)).chunks }
         ensures refused { StaysIfRefused result self.old.core.blocks self.new.core.blocks }
         ensures vm { LeavesVm self.old self.new }
@@ -65,7 +65,7 @@ impl<D: Device + Drop> Kernel<D> {
     pub fn cadel(&mut self, name: Name, c: u16, i: u16) -> Result<(), Refusal>
         requires locked { IsLocked self.old.core name }
         requires marked { MayChange self.old.core name }
-        ensures calls { Calls (D.honest self.old.device) (table.cadel name c i) result self.old.core self.new.core }
+        ensures calls { Calls (D.medium.honest self.old.device) (table.cadel name c i) result self.old.core self.new.core }
         ensures refused { StaysIfRefused result self.old.core.blocks self.new.core.blocks }
         ensures vm { LeavesVm self.old self.new }
         ensures remain { Remain self.old.core.blocks self.new.core.blocks 0 }
@@ -77,7 +77,7 @@ impl<D: Device + Drop> Kernel<D> {
     /// handle, `BadArray` where its bytes are no array.
     pub fn cacount(&self, name: Name, c: u16) -> Result<u16, Refusal>
         requires { IsLocked self.now.core name }
-        ensures { Calls (D.honest self.now.device) (table.cacount name c) result self.now.core self.now.core }
+        ensures { Calls (D.medium.honest self.now.device) (table.cacount name c) result self.now.core self.now.core }
     {
         self.ask(name, Ask::Cacount { c })
     }
@@ -88,7 +88,7 @@ impl<D: Device + Drop> Kernel<D> {
     /// stands until a call makes the chunk's references stale.
     pub fn caelt(&self, name: Name, c: u16, i: u16, n: u16) -> Result<Span, Refusal>
         requires { IsLocked self.now.core name }
-        ensures gives { GivesSpan (D.honest self.now.device) (table.caelt name c i n) result self.now.core }
+        ensures gives { GivesSpan (D.medium.honest self.now.device) (table.caelt name c i n) result self.now.core }
         ensures stands { IfOk result (λ span. IsStanding self.now.core span × (n ≤ span.len)) }
         ensures writable { IfOk result (λ span. MayChange self.now.core name → IsWritable self.now.core span) }
     {
@@ -100,7 +100,7 @@ impl<D: Device + Drop> Kernel<D> {
     pub fn cazero(&mut self, name: Name, c: u16) -> Result<(), Refusal>
         requires locked { IsLocked self.old.core name }
         requires marked { MayChange self.old.core name }
-        ensures calls { Calls (D.honest self.old.device) (table.cazero name c) result self.old.core self.new.core }
+        ensures calls { Calls (D.medium.honest self.old.device) (table.cazero name c) result self.old.core self.new.core }
         ensures refused { StaysIfRefused result self.old.core.blocks self.new.core.blocks }
         ensures vm { LeavesVm self.old self.new }
         ensures remain { Remain self.old.core.blocks self.new.core.blocks 0 }
@@ -115,7 +115,7 @@ impl<D: Device + Drop> Kernel<D> {
     pub fn caresize(&mut self, name: Name, c: u16, i: u16, n: u16) -> Result<(), Refusal>
         requires locked { IsLocked self.old.core name }
         requires marked { MayChange self.old.core name }
-        ensures calls { Calls (D.honest self.old.device) (table.caresize name c i n) result self.old.core self.new.core }
+        ensures calls { Calls (D.medium.honest self.old.device) (table.caresize name c i n) result self.old.core self.new.core }
         ensures no_room { result ≡ Err NoRoom → HasNoRoomFor self.new.core name (resize_element c i n (chunks_at self.old.core.blocks name)).chunks }
         ensures refused { StaysIfRefused result self.old.core.blocks self.new.core.blocks }
         ensures vm { LeavesVm self.old self.new }

@@ -23,7 +23,7 @@ impl<D: Device + Drop> Kernel<D> {
     pub fn lalloc(&mut self, name: Name, n: u16) -> Result<u16, Refusal>
         requires locked { IsLocked self.old.core name }
         requires marked { MayChange self.old.core name }
-        ensures calls { Calls (D.honest self.old.device) (table.lalloc name n) result self.old.core self.new.core }
+        ensures calls { Calls (D.medium.honest self.old.device) (table.lalloc name n) result self.old.core self.new.core }
         ensures no_room { result ≡ Err NoRoom → HasNoRoomFor self.new.core name (with_new (chunks_at self.old.core.blocks name) n) }
         ensures refused { StaysIfRefused result self.old.core.blocks self.new.core.blocks }
         ensures vm { LeavesVm self.old self.new }
@@ -36,7 +36,7 @@ impl<D: Device + Drop> Kernel<D> {
     pub fn lfree(&mut self, name: Name, c: u16) -> Result<(), Refusal>
         requires locked { IsLocked self.old.core name }
         requires marked { MayChange self.old.core name }
-        ensures calls { Calls (D.honest self.old.device) (table.lfree name c) result self.old.core self.new.core }
+        ensures calls { Calls (D.medium.honest self.old.device) (table.lfree name c) result self.old.core self.new.core }
         ensures refused { StaysIfRefused result self.old.core.blocks self.new.core.blocks }
         ensures vm { LeavesVm self.old self.new }
         ensures remain { Remain self.old.core.blocks self.new.core.blocks 0 }
@@ -50,7 +50,7 @@ impl<D: Device + Drop> Kernel<D> {
     pub fn lrealloc(&mut self, name: Name, c: u16, n: u16) -> Result<(), Refusal>
         requires locked { IsLocked self.old.core name }
         requires marked { MayChange self.old.core name }
-        ensures calls { Calls (D.honest self.old.device) (table.lrealloc name c n) result self.old.core self.new.core }
+        ensures calls { Calls (D.medium.honest self.old.device) (table.lrealloc name c n) result self.old.core self.new.core }
         ensures no_room { result ≡ Err NoRoom → HasNoRoomFor self.new.core name (with_resized (chunks_at self.old.core.blocks name) c n) }
         ensures refused { StaysIfRefused result self.old.core.blocks self.new.core.blocks }
         ensures vm { LeavesVm self.old self.new }
@@ -64,7 +64,7 @@ impl<D: Device + Drop> Kernel<D> {
     pub fn lins(&mut self, name: Name, c: u16, at: u16, n: u16) -> Result<(), Refusal>
         requires locked { IsLocked self.old.core name }
         requires marked { MayChange self.old.core name }
-        ensures calls { Calls (D.honest self.old.device) (table.lins name c at n) result self.old.core self.new.core }
+        ensures calls { Calls (D.medium.honest self.old.device) (table.lins name c at n) result self.old.core self.new.core }
         ensures no_room { result ≡ Err NoRoom → HasNoRoomFor self.new.core name (with_inserted (chunks_at self.old.core.blocks name) c at n) }
         ensures refused { StaysIfRefused result self.old.core.blocks self.new.core.blocks }
         ensures vm { LeavesVm self.old self.new }
@@ -78,7 +78,7 @@ impl<D: Device + Drop> Kernel<D> {
     pub fn ldel(&mut self, name: Name, c: u16, at: u16, n: u16) -> Result<(), Refusal>
         requires locked { IsLocked self.old.core name }
         requires marked { MayChange self.old.core name }
-        ensures calls { Calls (D.honest self.old.device) (table.ldel name c at n) result self.old.core self.new.core }
+        ensures calls { Calls (D.medium.honest self.old.device) (table.ldel name c at n) result self.old.core self.new.core }
         ensures refused { StaysIfRefused result self.old.core.blocks self.new.core.blocks }
         ensures vm { LeavesVm self.old self.new }
         ensures remain { Remain self.old.core.blocks self.new.core.blocks 0 }
@@ -89,7 +89,7 @@ impl<D: Device + Drop> Kernel<D> {
     /// The length of a chunk in bytes. `BadChunk` where no chunk of the block has this handle.
     pub fn lsize(&self, name: Name, c: u16) -> Result<u16, Refusal>
         requires { IsLocked self.now.core name }
-        ensures { Calls (D.honest self.now.device) (table.lsize name c) result self.now.core self.now.core }
+        ensures { Calls (D.medium.honest self.now.device) (table.lsize name c) result self.now.core self.now.core }
     {
         self.ask(name, Ask::Lsize { c })
     }
@@ -99,7 +99,7 @@ impl<D: Device + Drop> Kernel<D> {
     /// makes the chunk's references stale.
     pub fn deref(&self, name: Name, c: u16, n: u16) -> Result<Span, Refusal>
         requires { IsLocked self.now.core name }
-        ensures gives { GivesSpan (D.honest self.now.device) (table.deref name c n) result self.now.core }
+        ensures gives { GivesSpan (D.medium.honest self.now.device) (table.deref name c n) result self.now.core }
         ensures stands { IfOk result (λ span. IsStanding self.now.core span × (n ≤ span.len)) }
         ensures writable { IfOk result (λ span. MayChange self.now.core name → IsWritable self.now.core span) }
     {

@@ -18,7 +18,7 @@ const DEVICE: u64 = 1_024 + 2 * 65_536;
 
 /// What calls see of how often the device has failed is what the device says.
 fn see_device<D: Device + Drop>(kernel: &Kernel<D>)
-    ensures { failed_in kernel.now.core ≡ D.failed kernel.now.device }
+    ensures { failed_in kernel.now.core ≡ D.medium.failed kernel.now.device }
 {
     let _region = kernel.blocks.region();
 }

@@ -30,7 +30,7 @@ impl<D: Device + Drop> Kernel<D> {
     /// marks it; it is not locked. `NoHandle` where all 1,024 handles are listed, `NoRoom` where no
     /// stretch of the region has room for it, though no block is left that could be discarded.
     pub fn gnew(&mut self) -> Result<u16, Refusal>
-        ensures calls { Calls (D.honest self.old.device) table.gnew result self.old.core self.new.core }
+        ensures calls { Calls (D.medium.honest self.old.device) table.gnew result self.old.core self.new.core }
         ensures no_room { result ≡ Err Refusal.NoRoom → NewListedHasNoRoom self.old.core self.new.core }
         ensures device { AsksNothing self.old self.new }
     {
@@ -40,7 +40,7 @@ impl<D: Device + Drop> Kernel<D> {
     /// Frees a group, and its items with it; the map item is none then if it was of this group.
     /// `BadHandle` where there is no such group, `Locked` where it is locked.
     pub fn gfree(&mut self, g: u16) -> Result<(), Refusal>
-        ensures calls { Calls (D.honest self.old.device) (table.gfree g) result self.old.core self.new.core }
+        ensures calls { Calls (D.medium.honest self.old.device) (table.gfree g) result self.old.core self.new.core }
         ensures device { AsksNothing self.old self.new }
         ensures remain { Remain self.old.core.blocks self.new.core.blocks g }
     {
@@ -52,7 +52,7 @@ impl<D: Device + Drop> Kernel<D> {
     /// memory, as `vlock` says; then refused as `change` is, an item being a chunk of the group. Spans
     /// into the group are stale after it, also where it is refused.
     pub fn item_change(&mut self, g: u16, change: Change) -> Result<(), Refusal>
-        ensures { CallsItem D.image D.honest D.failed D.may_leave D.may_have_left (table.on_group g (change_row (vm g) change)) (change_edit change) g result self.old self.new }
+        ensures { CallsItem D.medium (table.on_group g (change_row (vm g) change)) (change_edit change) g result self.old self.new }
     {
         item_change(&mut self.vm, &mut self.blocks, g, change)
     }
@@ -60,7 +60,7 @@ impl<D: Device + Drop> Kernel<D> {
     /// Makes an item of a group, as the value says, marks the group, and answers the item's handle: the
     /// lowest one of the group that is free. It is refused, and makes stale, as `item_change`.
     pub fn item_make(&mut self, g: u16, make: Make) -> Result<u16, Refusal>
-        ensures { CallsItem D.image D.honest D.failed D.may_leave D.may_have_left (table.on_group g (make_row (vm g) make)) (make_edit make) g result self.old self.new }
+        ensures { CallsItem D.medium (table.on_group g (make_row (vm g) make)) (make_edit make) g result self.old self.new }
     {
         item_make(&mut self.vm, &mut self.blocks, g, make)
     }
@@ -68,7 +68,7 @@ impl<D: Device + Drop> Kernel<D> {
     /// Makes an item of `n` zero bytes, and answers its handle. It is refused, and makes stale, as
     /// `item_make`.
     pub fn inew(&mut self, g: u16, n: u16) -> Result<u16, Refusal>
-        ensures { CallsItem D.image D.honest D.failed D.may_leave D.may_have_left (table.inew g n) (alloc n) g result self.old self.new }
+        ensures { CallsItem D.medium (table.inew g n) (alloc n) g result self.old self.new }
     {
         self.item_make(g, Make::Lalloc { n })
     }
@@ -76,7 +76,7 @@ impl<D: Device + Drop> Kernel<D> {
     /// Frees an item. `BadHandle`, `NoRoom` and `Disk` as `item_change`, `BadChunk` where the group
     /// has no such item.
     pub fn ifree(&mut self, g: u16, i: u16) -> Result<(), Refusal>
-        ensures { CallsItem D.image D.honest D.failed D.may_leave D.may_have_left (table.ifree g i) (free i) g result self.old self.new }
+        ensures { CallsItem D.medium (table.ifree g i) (free i) g result self.old self.new }
     {
         self.item_change(g, Change::Lfree { c: i })
     }
@@ -85,7 +85,7 @@ impl<D: Device + Drop> Kernel<D> {
     /// `ifree` is; then `TooBig` where the group would need more than 65,520 bytes, `NoRoom` where it
     /// must grow and no stretch of the region has room for it.
     pub fn irealloc(&mut self, g: u16, i: u16, n: u16) -> Result<(), Refusal>
-        ensures { CallsItem D.image D.honest D.failed D.may_leave D.may_have_left (table.irealloc g i n) (realloc i n) g result self.old self.new }
+        ensures { CallsItem D.medium (table.irealloc g i n) (realloc i n) g result self.old self.new }
     {
         self.item_change(g, Change::Lrealloc { c: i, n })
     }
@@ -93,7 +93,7 @@ impl<D: Device + Drop> Kernel<D> {
     /// Inserts `n` zero bytes at an offset of an item. It is refused as `irealloc` is, with `Range`
     /// behind `BadChunk` where the offset is past the item's length.
     pub fn iins(&mut self, g: u16, i: u16, at: u16, n: u16) -> Result<(), Refusal>
-        ensures { CallsItem D.image D.honest D.failed D.may_leave D.may_have_left (table.iins g i at n) (insert_bytes i at n) g result self.old self.new }
+        ensures { CallsItem D.medium (table.iins g i at n) (insert_bytes i at n) g result self.old self.new }
     {
         self.item_change(g, Change::Lins { c: i, at, n })
     }
@@ -101,7 +101,7 @@ impl<D: Device + Drop> Kernel<D> {
     /// Deletes `n` bytes at an offset of an item. It is refused as `ifree` is, with `Range` behind
     /// `BadChunk` where they reach past the item's length.
     pub fn idel(&mut self, g: u16, i: u16, at: u16, n: u16) -> Result<(), Refusal>
-        ensures { CallsItem D.image D.honest D.failed D.may_leave D.may_have_left (table.idel g i at n) (delete_bytes i at n) g result self.old self.new }
+        ensures { CallsItem D.medium (table.idel g i at n) (delete_bytes i at n) g result self.old self.new }
     {
         self.item_change(g, Change::Ldel { c: i, at, n })
     }
@@ -113,14 +113,14 @@ impl<D: Device + Drop> Kernel<D> {
     /// where none of these comes. The span stands until a call on an item of the group makes it stale, or
     /// the last lock is given back.
     pub fn ilock(&mut self, g: u16, i: u16, n: u16) -> Result<Span, Refusal>
-        ensures gives { LeadsToSpan (D.honest self.old.device) (table.ilock g i n) result self.old.core self.new.core }
+        ensures gives { LeadsToSpan (D.medium.honest self.old.device) (table.ilock g i n) result self.old.core self.new.core }
         ensures stands { IfOk result (λ span. IsStanding self.new.core span × (n ≤ span.len)) }
         ensures writable { IfOk result (λ span. IsMarked self.new.core g → IsWritable self.new.core span) }
         ensures no_room { result ≡ Err Refusal.NoRoom → ListedHasNoRoom self.new.core g }
         ensures locks { IsThere self.old.core.blocks (vm_slot g) → OnOk result (self.new.core.blocks ≡ with_lock_more self.old.core.blocks (vm_slot g)) }
         ensures in_memory { InMemory g result self.old self.new }
         ensures no_group { (IsGroup self.old.core.vm g → ⊥) → self.new ≡ self.old }
-        ensures device { ReadsFile D.image D.honest D.failed D.may_leave D.may_have_left (result ≡ Err Refusal.Disk) self.old self.new }
+        ensures device { ReadsFile D.medium (result ≡ Err Refusal.Disk) self.old self.new }
     {
         match item_lock_part(&mut self.vm, &mut self.blocks, g, i, n) {
             Ok((at, len)) => Ok(Span {
@@ -135,7 +135,7 @@ impl<D: Device + Drop> Kernel<D> {
     pub fn idirty(&mut self, name: Name)
         requires kind { name.owner ≡ owner.Vm }
         requires locked { IsLocked self.old.core name }
-        ensures calls { Calls (D.honest self.old.device) (table.idirty name.h) (Ok tt) self.old.core self.new.core }
+        ensures calls { Calls (D.medium.honest self.old.device) (table.idirty name.h) (Ok tt) self.old.core self.new.core }
         ensures marked { IsMarked self.new.core name.h }
         ensures device { AsksNothing self.old self.new }
         ensures remain { Remain self.old.core.blocks self.new.core.blocks 0 }
@@ -147,7 +147,7 @@ impl<D: Device + Drop> Kernel<D> {
     pub fn iunlock(&mut self, name: Name)
         requires kind { name.owner ≡ owner.Vm }
         requires locked { IsLocked self.old.core name }
-        ensures calls { Calls (D.honest self.old.device) (table.iunlock name.h) (Ok tt) self.old.core self.new.core }
+        ensures calls { Calls (D.medium.honest self.old.device) (table.iunlock name.h) (Ok tt) self.old.core self.new.core }
         ensures vm { LeavesVm self.old self.new }
         ensures remain { Remain self.old.core.blocks self.new.core.blocks 0 }
     {
@@ -156,7 +156,7 @@ impl<D: Device + Drop> Kernel<D> {
 
     /// The map item: its group, 0 for none, and the item.
     pub fn igetmap(&self) -> (u16, u16)
-        ensures { Calls (D.honest self.now.device) table.igetmap (Ok result) self.now.core self.now.core }
+        ensures { Calls (D.medium.honest self.now.device) table.igetmap (Ok result) self.now.core self.now.core }
     {
         map_item(&self.vm)
     }
@@ -164,7 +164,7 @@ impl<D: Device + Drop> Kernel<D> {
     /// Names the map item: a group, and any number for an item of it; or 0 and 0 for none. `BadHandle`
     /// where the group is neither 0 nor a group, `Range` where it is 0 and the item is not.
     pub fn isetmap(&mut self, g: u16, i: u16) -> Result<(), Refusal>
-        ensures calls { Calls (D.honest self.old.device) (table.isetmap g i) result self.old.core self.new.core }
+        ensures calls { Calls (D.medium.honest self.old.device) (table.isetmap g i) result self.old.core self.new.core }
         ensures device { AsksNothing self.old self.new }
         ensures remain { Remain self.old.core.blocks self.new.core.blocks 0 }
     {

@@ -41,9 +41,9 @@ impl<D: Device + Drop> Model for Kernel<D> {
     ghost use Rattle.geos_kernel.specs.View.{kernel_of};
     ghost use Rattle.geos_kernel.specs.Kernel.{IsKernel};
 
-    ghost view = { λ k. kernel_of D.image D.failed k.vm k.blocks };
+    ghost view = { λ k. kernel_of D.medium k.vm k.blocks };
 
-    ghost invariant = { λ k. IsKernel D.image D.honest k.vm k.blocks };
+    ghost invariant = { λ k. IsKernel D.medium k.vm k.blocks };
 }
 
 impl<D: Device + Drop> Kernel<D> {
@@ -80,7 +80,7 @@ impl<D: Device + Drop> Kernel<D> {
         ensures file { IfOk result (λ kernel. file_over kernel.device kernel.core.vm.file ≡ file) }
         ensures lists { IfOk result (λ kernel. IsListOf kernel.core.vm file.current) }
         // The model begins with the file as the device holds it.
-        ensures tied { IfOk result (λ kernel. IsFileOf (D.honest kernel.device) kernel.core (opened_file D.image file)) }
+        ensures tied { IfOk result (λ kernel. IsFileOf (D.medium.honest kernel.device) kernel.core (opened_file D.medium.image file)) }
         ensures memory { IfOk result (λ kernel. (f : model_file.VmFile)
             → memory_of kernel.core f ≡ record { blocks = replicate 1024 None; file = f; region = region }) }
         ensures back { IfErr result (λ e. e.0 ≡ file) }
@@ -106,7 +106,7 @@ impl<D: Device + Drop> Kernel<D> {
     /// How often a block is locked; 0 where there is none.
     pub fn locks(&self, name: Name) -> u16
         ensures count { result ≡ store.locks_of self.now.core.blocks (slot_of name) }
-        ensures model { (f : model_file.VmFile) → IsFileOf (D.honest self.now.device) self.now.core f
+        ensures model { (f : model_file.VmFile) → IsFileOf (D.medium.honest self.now.device) self.now.core f
             → result ≡ model.locks_of (memory_of self.now.core f) name }
     {
         self.blocks.locks(name)
@@ -115,7 +115,7 @@ impl<D: Device + Drop> Kernel<D> {
     /// Whether a block of the VM file is marked as changed; `false` where there is none.
     pub fn marked(&self, h: u16) -> bool
         ensures mark { result ≡ is_marked_in (held_at self.now.core.vm h) }
-        ensures model { (f : model_file.VmFile) → IsFileOf (D.honest self.now.device) self.now.core f
+        ensures model { (f : model_file.VmFile) → IsFileOf (D.medium.honest self.now.device) self.now.core f
             → result ≡ model.is_marked (memory_of self.now.core f) h }
     {
         self.vm.marked(h)
@@ -124,7 +124,7 @@ impl<D: Device + Drop> Kernel<D> {
     /// Whether no block of the VM file is locked.
     pub fn vm_unlocked(&self) -> bool
         ensures locks { IsTrue result ↔ NoneLocked self.now.core.blocks }
-        ensures model { (f : model_file.VmFile) → IsFileOf (D.honest self.now.device) self.now.core f
+        ensures model { (f : model_file.VmFile) → IsFileOf (D.medium.honest self.now.device) self.now.core f
             → IsTrue result ↔ ((h : ℕ) → model.locks_of (memory_of self.now.core f) (vm h) ≡ 0) }
     {
         none_locked(&self.blocks)
@@ -136,10 +136,10 @@ impl<D: Device + Drop> Kernel<D> {
     /// locked more often than it can be; and no block of the VM file is locked exactly where the
     /// model has none locked.
     pub fn memory_is_legal(&self)
-        ensures file { (f : model_file.VmFile) × IsFileOf (D.honest self.now.device) self.now.core f }
-        ensures legal { (f : model_file.VmFile) → IsFileOf (D.honest self.now.device) self.now.core f → IsMemory (memory_of self.now.core f) }
+        ensures file { (f : model_file.VmFile) × IsFileOf (D.medium.honest self.now.device) self.now.core f }
+        ensures legal { (f : model_file.VmFile) → IsFileOf (D.medium.honest self.now.device) self.now.core f → IsMemory (memory_of self.now.core f) }
         ensures heaps { (name : Name) → IsThere self.now.core.blocks (slot_of name) → IsHeapUnder name.h (bytes_of self.now.core.blocks (slot_of name)) }
-        ensures unlocked { (f : model_file.VmFile) → IsFileOf (D.honest self.now.device) self.now.core f
+        ensures unlocked { (f : model_file.VmFile) → IsFileOf (D.medium.honest self.now.device) self.now.core f
             → NoneLocked self.now.core.blocks ↔ ((h : ℕ) → model.locks_of (memory_of self.now.core f) (vm h) ≡ 0) }
     {
         let _region = self.blocks.region();
@@ -149,7 +149,7 @@ impl<D: Device + Drop> Kernel<D> {
     /// locks it. `NoHandle` where all 1,024 are in use, `NoRoom` where no stretch of the
     /// region has room for it, though no block is left that could be discarded.
     pub fn mnew(&mut self) -> Result<u16, Refusal>
-        ensures calls { Calls (D.honest self.old.device) table.mnew result self.old.core self.new.core }
+        ensures calls { Calls (D.medium.honest self.old.device) table.mnew result self.old.core self.new.core }
         ensures no_room { result ≡ Err Refusal.NoRoom → NewHasNoRoom self.old.core self.new.core }
         ensures locked { IfOk result (λ h. store.locks_of self.new.core.blocks (slot_of (mem h)) ≡ 1) }
         ensures vm { LeavesVm self.old self.new }
@@ -166,7 +166,7 @@ impl<D: Device + Drop> Kernel<D> {
     /// Locks a block of global memory once more. `BadHandle` where there is none, `Locked` where
     /// its count is 65,535.
     pub fn mlock(&mut self, h: u16) -> Result<(), Refusal>
-        ensures calls { Calls (D.honest self.old.device) (table.mlock h) result self.old.core self.new.core }
+        ensures calls { Calls (D.medium.honest self.old.device) (table.mlock h) result self.old.core self.new.core }
         ensures vm { LeavesVm self.old self.new }
         ensures remain { Remain self.old.core.blocks self.new.core.blocks 0 }
     {
@@ -177,7 +177,7 @@ impl<D: Device + Drop> Kernel<D> {
     /// Unlocks a block once. When it is locked no more, references into it are stale.
     pub fn munlock(&mut self, name: Name)
         requires { IsLocked self.old.core name }
-        ensures calls { Calls (D.honest self.old.device) (table.unlock name) (Ok tt) self.old.core self.new.core }
+        ensures calls { Calls (D.medium.honest self.old.device) (table.unlock name) (Ok tt) self.old.core self.new.core }
         ensures vm { LeavesVm self.old self.new }
         ensures remain { Remain self.old.core.blocks self.new.core.blocks 0 }
     {
@@ -186,7 +186,7 @@ impl<D: Device + Drop> Kernel<D> {
 
     /// Frees a block of global memory. `BadHandle` where there is none, `Locked` where it is locked.
     pub fn mfree(&mut self, h: u16) -> Result<(), Refusal>
-        ensures calls { Calls (D.honest self.old.device) (table.mfree h) result self.old.core self.new.core }
+        ensures calls { Calls (D.medium.honest self.old.device) (table.mfree h) result self.old.core self.new.core }
         ensures vm { LeavesVm self.old self.new }
         ensures remain { Remain self.old.core.blocks self.new.core.blocks 0 }
     {
@@ -202,7 +202,7 @@ impl<D: Device + Drop> Kernel<D> {
     pub fn change(&mut self, name: Name, change: Change) -> Result<(), Refusal>
         requires locked { IsLocked self.old.core name }
         requires marked { MayChange self.old.core name }
-        ensures calls { Calls (D.honest self.old.device) (change_row name change) result self.old.core self.new.core }
+        ensures calls { Calls (D.medium.honest self.old.device) (change_row name change) result self.old.core self.new.core }
         ensures no_room { result ≡ Err Refusal.NoRoom → HasNoRoomFor self.new.core name (change_edit change (chunks_at self.old.core.blocks name)).chunks }
         ensures refused { StaysIfRefused result self.old.core.blocks self.new.core.blocks }
         ensures vm { LeavesVm self.old self.new }
@@ -217,7 +217,7 @@ impl<D: Device + Drop> Kernel<D> {
     pub fn make(&mut self, name: Name, make: Make) -> Result<u16, Refusal>
         requires locked { IsLocked self.old.core name }
         requires marked { MayChange self.old.core name }
-        ensures calls { Calls (D.honest self.old.device) (make_row name make) result self.old.core self.new.core }
+        ensures calls { Calls (D.medium.honest self.old.device) (make_row name make) result self.old.core self.new.core }
         ensures no_room { result ≡ Err Refusal.NoRoom → HasNoRoomFor self.new.core name (make_edit make (chunks_at self.old.core.blocks name)).chunks }
         ensures refused { StaysIfRefused result self.old.core.blocks self.new.core.blocks }
         ensures vm { LeavesVm self.old self.new }
@@ -229,7 +229,7 @@ impl<D: Device + Drop> Kernel<D> {
     /// chunk of the block has this handle, `BadArray` where its bytes are no array.
     pub fn ask(&self, name: Name, ask: Ask) -> Result<u16, Refusal>
         requires { IsLocked self.now.core name }
-        ensures { Calls (D.honest self.now.device) (ask_row name ask) result self.now.core self.now.core }
+        ensures { Calls (D.medium.honest self.now.device) (ask_row name ask) result self.now.core self.now.core }
     {
         tell(self.blocks.bytes(name), ask)
     }
@@ -240,7 +240,7 @@ impl<D: Device + Drop> Kernel<D> {
     #[inline(always)]
     pub fn refer(&self, name: Name, refer: Refer) -> Result<Span, Refusal>
         requires { IsLocked self.now.core name }
-        ensures gives { GivesSpan (D.honest self.now.device) (refer_row name refer) result self.now.core }
+        ensures gives { GivesSpan (D.medium.honest self.now.device) (refer_row name refer) result self.now.core }
         ensures stands { IfOk result (λ span. IsStanding self.now.core span × (least refer ≤ span.len)) }
         ensures writable { IfOk result (λ span. MayChange self.now.core name → IsWritable self.now.core span) }
     {
@@ -259,7 +259,7 @@ impl<D: Device + Drop> Kernel<D> {
     pub fn lcontract(&mut self, name: Name)
         requires locked { IsLocked self.old.core name }
         requires marked { MayChange self.old.core name }
-        ensures calls { Calls (D.honest self.old.device) (table.lcontract name) (Ok tt) self.old.core self.new.core }
+        ensures calls { Calls (D.medium.honest self.old.device) (table.lcontract name) (Ok tt) self.old.core self.new.core }
         ensures compact { IsCompact (bytes_of self.new.core.blocks (slot_of name)) }
         ensures vm { LeavesVm self.old self.new }
         ensures remain { Remain self.old.core.blocks self.new.core.blocks 0 }
@@ -288,7 +288,7 @@ fn make_heap<D: Device + Drop>(
     blocks: &mut Blocks,
     name: Name,
 ) -> Result<(), NoRoom>
-    requires tied { IsTied D.image D.honest vm.now blocks.old }
+    requires tied { IsTied D.medium vm.now blocks.old }
     requires handle { IsHandle name.h }
     requires free { IsThere blocks.old (slot_of name) → ⊥ }
     ensures ok { OnOk result (MakesRoomFor vm.now blocks.old blocks.new name) }

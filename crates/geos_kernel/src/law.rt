@@ -12,7 +12,7 @@ use vm_file::Device;
 /// calls of the kernel, loads and stores through spans among them, since each promises `Calls`
 /// of its row, `GivesSpan` or `LeadsToSpan`. The device is the kernel's before the calls.
 pub fn calls_answer_in_turn<D: Device>(device: &D)
-    ensures { CallsAnswerInTurn (D.honest device.now) }
+    ensures { CallsAnswerInTurn (D.medium.honest device.now) }
 {
     let _ = device;
 }
@@ -21,7 +21,7 @@ pub fn calls_answer_in_turn<D: Device>(device: &D)
 /// the one is honest exactly if the other is: a call that asks a device leaves it so (`ReadsFile`,
 /// `Commits`). Thus calls that ask the device stand in the lists of the law above, too.
 pub fn later_calls_answer_alike<D: Device>(earlier: &D, later: &D)
-    ensures { (D.honest later.now ↔ D.honest earlier.now) → AnswersAlike (D.honest later.now) (D.honest earlier.now) }
+    ensures { (D.medium.honest later.now ↔ D.medium.honest earlier.now) → AnswersAlike (D.medium.honest later.now) (D.medium.honest earlier.now) }
 {
     let _ = earlier;
     let _ = later;

@@ -28,10 +28,10 @@ impl<D: Device + Drop> Kernel<D> {
     pub fn is_sure(&self) -> bool
         ensures sure { result ≡ self.now.core.vm.file.sure }
         // What `open` would find after a stop now.
-        ensures stop { D.honest self.now.device → (c : List ℕ) → D.may_leave self.now.device c → Finds D.image (vm_file_of self.now) c }
+        ensures stop { D.medium.honest self.now.device → (c : List ℕ) → D.medium.may_leave self.now.device c → Finds D.medium.image (vm_file_of self.now) c }
         // That is what the model has as kept.
-        ensures kept { (f : VmFile) → IsFileOf (D.honest self.now.device) self.now.core f → D.honest self.now.device
-            → (c : List ℕ) → D.may_leave self.now.device c → OpensAsKept f.kept c }
+        ensures kept { (f : VmFile) → IsFileOf (D.medium.honest self.now.device) self.now.core f → D.medium.honest self.now.device
+            → (c : List ℕ) → D.medium.may_leave self.now.device c → OpensAsKept f.kept c }
     {
         self.vm.is_sure()
     }
@@ -41,7 +41,7 @@ impl<D: Device + Drop> Kernel<D> {
     /// `NoHandle` where all 1,024 handles are listed, `NoRoom` where no stretch of the region has
     /// room for it, though no block is left that could be discarded.
     pub fn vnew(&mut self, uid: u16) -> Result<u16, Refusal>
-        ensures calls { Calls (D.honest self.old.device) (table.vnew uid) result self.old.core self.new.core }
+        ensures calls { Calls (D.medium.honest self.old.device) (table.vnew uid) result self.old.core self.new.core }
         ensures no_room { result ≡ Err Refusal.NoRoom → NewListedHasNoRoom self.old.core self.new.core }
         ensures ready { IfOk result (λ h. IsLocked self.new.core (vm h) × IsMarked self.new.core h) }
         ensures device { AsksNothing self.old self.new }
@@ -60,13 +60,13 @@ impl<D: Device + Drop> Kernel<D> {
     /// stretch of the region has room for it, though no other block is left that could be discarded,
     /// `Disk` where the device fails, or gives bytes that are no heap under the handle.
     pub fn vlock(&mut self, h: u16) -> Result<(), Refusal>
-        ensures calls { Calls (D.honest self.old.device) (table.vlock h) result self.old.core self.new.core }
+        ensures calls { Calls (D.medium.honest self.old.device) (table.vlock h) result self.old.core self.new.core }
         ensures no_room { result ≡ Err Refusal.NoRoom → ListedHasNoRoom self.new.core h }
         // A block that is in memory is locked without the device; a refusal but for room or the device changes nothing.
         ensures in_memory { InMemory h result self.old self.new }
         ensures locks { IsThere self.old.core.blocks (vm_slot h) → OnOk result (self.new.core.blocks ≡ with_lock_more self.old.core.blocks (vm_slot h)) }
         ensures refused { (result ≡ Err Refusal.NoRoom → ⊥) → (result ≡ Err Refusal.Disk → ⊥) → OnErr result (self.new ≡ self.old) }
-        ensures device { ReadsFile D.image D.honest D.failed D.may_leave D.may_have_left (result ≡ Err Refusal.Disk) self.old self.new }
+        ensures device { ReadsFile D.medium (result ≡ Err Refusal.Disk) self.old self.new }
     {
         if is_group(&self.vm, h) {
             return Err(Refusal::Reserved);
@@ -79,7 +79,7 @@ impl<D: Device + Drop> Kernel<D> {
     pub fn vdirty(&mut self, name: Name)
         requires kind { name.owner ≡ owner.Vm }
         requires locked { IsLocked self.old.core name }
-        ensures calls { Calls (D.honest self.old.device) (table.vdirty name.h) (Ok tt) self.old.core self.new.core }
+        ensures calls { Calls (D.medium.honest self.old.device) (table.vdirty name.h) (Ok tt) self.old.core self.new.core }
         ensures marked { IsMarked self.new.core name.h }
         ensures device { AsksNothing self.old self.new }
         ensures remain { Remain self.old.core.blocks self.new.core.blocks 0 }
@@ -91,7 +91,7 @@ impl<D: Device + Drop> Kernel<D> {
     pub fn vunlock(&mut self, name: Name)
         requires kind { name.owner ≡ owner.Vm }
         requires locked { IsLocked self.old.core name }
-        ensures calls { Calls (D.honest self.old.device) (table.vunlock name.h) (Ok tt) self.old.core self.new.core }
+        ensures calls { Calls (D.medium.honest self.old.device) (table.vunlock name.h) (Ok tt) self.old.core self.new.core }
         ensures vm { LeavesVm self.old self.new }
         ensures remain { Remain self.old.core.blocks self.new.core.blocks 0 }
     {
@@ -101,7 +101,7 @@ impl<D: Device + Drop> Kernel<D> {
     /// Frees a block of the file: it is mapped no more. `BadHandle` where there is none, `Reserved`
     /// where it is a group, `Locked` where it is locked.
     pub fn vfree(&mut self, h: u16) -> Result<(), Refusal>
-        ensures calls { Calls (D.honest self.old.device) (table.vfree h) result self.old.core self.new.core }
+        ensures calls { Calls (D.medium.honest self.old.device) (table.vfree h) result self.old.core self.new.core }
         ensures device { AsksNothing self.old self.new }
         ensures remain { Remain self.old.core.blocks self.new.core.blocks h }
     {
@@ -115,7 +115,7 @@ impl<D: Device + Drop> Kernel<D> {
     /// The lowest handle above `start` of a block of the file with this user ID; 0 where there is
     /// none. `Reserved` where the user ID is that of groups.
     pub fn vfind(&self, start: u16, uid: u16) -> Result<u16, Refusal>
-        ensures { Calls (D.honest self.now.device) (table.vfind start uid) result self.now.core self.now.core }
+        ensures { Calls (D.medium.honest self.now.device) (table.vfind start uid) result self.now.core self.now.core }
     {
         // as in `vnew`
         let _ = &self.vm;
@@ -127,14 +127,14 @@ impl<D: Device + Drop> Kernel<D> {
 
     /// The user ID of a block or group. `BadHandle` where there is none.
     pub fn vuid(&self, h: u16) -> Result<u16, Refusal>
-        ensures { Calls (D.honest self.now.device) (table.vuid h) result self.now.core self.now.core }
+        ensures { Calls (D.medium.honest self.now.device) (table.vuid h) result self.now.core self.now.core }
     {
         of_uid(self.vm.uid(h))
     }
 
     /// The map block; 0 for none.
     pub fn vgetmap(&self) -> u16
-        ensures { Calls (D.honest self.now.device) table.vgetmap (Ok result) self.now.core self.now.core }
+        ensures { Calls (D.medium.honest self.now.device) table.vgetmap (Ok result) self.now.core self.now.core }
     {
         self.vm.map()
     }
@@ -142,7 +142,7 @@ impl<D: Device + Drop> Kernel<D> {
     /// Names the map block; 0 is for none. `BadHandle` where there is no such block, `Reserved` where
     /// it is a group.
     pub fn vsetmap(&mut self, h: u16) -> Result<(), Refusal>
-        ensures calls { Calls (D.honest self.old.device) (table.vsetmap h) result self.old.core self.new.core }
+        ensures calls { Calls (D.medium.honest self.old.device) (table.vsetmap h) result self.old.core self.new.core }
         ensures device { AsksNothing self.old self.new }
         ensures remain { Remain self.old.core.blocks self.new.core.blocks 0 }
     {
@@ -163,8 +163,8 @@ impl<D: Device + Drop> Kernel<D> {
     /// file may be unsure after `Disk`.
     pub fn vupdate(&mut self) -> Result<(), Refusal>
         requires { NoneLocked self.old.core.blocks }
-        ensures calls { Calls (D.honest self.old.device) table.vupdate result self.old.core self.new.core }
-        ensures commits { Commits D.image D.honest D.failed D.may_leave D.may_have_left How.Update self.old self.new result }
+        ensures calls { Calls (D.medium.honest self.old.device) table.vupdate result self.old.core self.new.core }
+        ensures commits { Commits D.medium How.Update self.old self.new result }
     {
         self.commit(How::Update)
     }
@@ -173,8 +173,8 @@ impl<D: Device + Drop> Kernel<D> {
     /// `vupdate` is.
     pub fn vsave(&mut self) -> Result<(), Refusal>
         requires { NoneLocked self.old.core.blocks }
-        ensures calls { Calls (D.honest self.old.device) table.vsave result self.old.core self.new.core }
-        ensures commits { Commits D.image D.honest D.failed D.may_leave D.may_have_left How.Save self.old self.new result }
+        ensures calls { Calls (D.medium.honest self.old.device) table.vsave result self.old.core self.new.core }
+        ensures commits { Commits D.medium How.Save self.old self.new result }
     {
         self.commit(How::Save)
     }
@@ -183,8 +183,8 @@ impl<D: Device + Drop> Kernel<D> {
     /// `vupdate` is.
     pub fn vrevert(&mut self) -> Result<(), Refusal>
         requires { NoneLocked self.old.core.blocks }
-        ensures calls { Calls (D.honest self.old.device) table.vrevert result self.old.core self.new.core }
-        ensures commits { Commits D.image D.honest D.failed D.may_leave D.may_have_left How.Revert self.old self.new result }
+        ensures calls { Calls (D.medium.honest self.old.device) table.vrevert result self.old.core self.new.core }
+        ensures commits { Commits D.medium How.Revert self.old self.new result }
     {
         self.commit(How::Revert)
     }
@@ -192,8 +192,8 @@ impl<D: Device + Drop> Kernel<D> {
     /// Keeps one of the pairs of directories that `How` names. It is refused as `vupdate` is.
     pub fn commit(&mut self, how: How) -> Result<(), Refusal>
         requires { NoneLocked self.old.core.blocks }
-        ensures calls { Calls (D.honest self.old.device) (table.commit (keeper_of how)) result self.old.core self.new.core }
-        ensures commits { Commits D.image D.honest D.failed D.may_leave D.may_have_left how self.old self.new result }
+        ensures calls { Calls (D.medium.honest self.old.device) (table.commit (keeper_of how)) result self.old.core self.new.core }
+        ensures commits { Commits D.medium how self.old self.new result }
     {
         let done = self.vm.commit(&mut self.blocks, how);
         of_commit(done)

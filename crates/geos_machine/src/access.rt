@@ -27,8 +27,8 @@ pub(crate) fn ldb<D: Device + Drop>(
     a: usize,
 ) -> Goes
     requires instr { IsInstr Opcode.Ldb i.now a }
-    requires ready { Ready (D.honest kernel.now.device) i.now kernel.now.core m.old }
-    ensures { Works (D.honest kernel.now.device) i.now kernel.now.core m.old kernel.now.core m.new result }
+    requires ready { Ready (D.medium.honest kernel.now.device) i.now kernel.now.core m.old }
+    ensures { Works (D.medium.honest kernel.now.device) i.now kernel.now.core m.old kernel.now.core m.new result }
 {
     let (span, at) = (m.pointers[i.b as usize], i.imm);
     m.words[a] = u16::from(kernel.load8(span, at));
@@ -43,8 +43,8 @@ pub(crate) fn ldw<D: Device + Drop>(
     operands: usize,
 ) -> Goes
     requires instr { HasOperands Opcode.Ldw i.now operands }
-    requires ready { Ready (D.honest kernel.now.device) i.now kernel.now.core m.old }
-    ensures { Works (D.honest kernel.now.device) i.now kernel.now.core m.old kernel.now.core m.new result }
+    requires ready { Ready (D.medium.honest kernel.now.device) i.now kernel.now.core m.old }
+    ensures { Works (D.medium.honest kernel.now.device) i.now kernel.now.core m.old kernel.now.core m.new result }
 {
     let (a, b) = (index_a(i, operands), index_b(i, operands));
     let (span, at) = (m.pointers[b], i.imm);
@@ -60,8 +60,8 @@ pub(crate) fn stb<D: Device + Drop>(
     a: usize,
 ) -> Goes
     requires instr { IsInstr Opcode.Stb i.now a }
-    requires ready { Ready (D.honest kernel.old.device) i.now kernel.old.core m.now }
-    ensures works { Works (D.honest kernel.old.device) i.now kernel.old.core m.now kernel.new.core m.now result }
+    requires ready { Ready (D.medium.honest kernel.old.device) i.now kernel.old.core m.now }
+    ensures works { Works (D.medium.honest kernel.old.device) i.now kernel.old.core m.now kernel.new.core m.now result }
     ensures vm { LeavesVm kernel.old kernel.new }
 {
     let (span, at) = (m.pointers[i.b as usize], i.imm);
@@ -77,8 +77,8 @@ pub(crate) fn stw<D: Device + Drop>(
     operands: usize,
 ) -> Goes
     requires instr { HasOperands Opcode.Stw i.now operands }
-    requires ready { Ready (D.honest kernel.old.device) i.now kernel.old.core m.now }
-    ensures works { Works (D.honest kernel.old.device) i.now kernel.old.core m.now kernel.new.core m.now result }
+    requires ready { Ready (D.medium.honest kernel.old.device) i.now kernel.old.core m.now }
+    ensures works { Works (D.medium.honest kernel.old.device) i.now kernel.old.core m.now kernel.new.core m.now result }
     ensures vm { LeavesVm kernel.old kernel.new }
 {
     let (a, b) = (index_a(i, operands), index_b(i, operands));
@@ -95,8 +95,8 @@ pub(crate) fn ldxb<D: Device + Drop>(
     a: usize,
 ) -> Goes
     requires instr { IsInstr Opcode.Ldxb i.now a }
-    requires ready { Ready (D.honest kernel.now.device) i.now kernel.now.core m.old }
-    ensures { Works (D.honest kernel.now.device) i.now kernel.now.core m.old kernel.now.core m.new result }
+    requires ready { Ready (D.medium.honest kernel.now.device) i.now kernel.now.core m.old }
+    ensures { Works (D.medium.honest kernel.now.device) i.now kernel.now.core m.old kernel.now.core m.new result }
 {
     let (span, at) = (m.pointers[i.b as usize], m.words[i.c as usize]);
     m.words[a] = u16::from(kernel.load8(span, at));
@@ -111,8 +111,8 @@ pub(crate) fn ldxw<D: Device + Drop>(
     operands: usize,
 ) -> Goes
     requires instr { HasOperands Opcode.Ldxw i.now operands }
-    requires ready { Ready (D.honest kernel.now.device) i.now kernel.now.core m.old }
-    ensures { Works (D.honest kernel.now.device) i.now kernel.now.core m.old kernel.now.core m.new result }
+    requires ready { Ready (D.medium.honest kernel.now.device) i.now kernel.now.core m.old }
+    ensures { Works (D.medium.honest kernel.now.device) i.now kernel.now.core m.old kernel.now.core m.new result }
 {
     let (a, b, c) = (
         index_a(i, operands),
@@ -132,8 +132,8 @@ pub(crate) fn stxb<D: Device + Drop>(
     a: usize,
 ) -> Goes
     requires instr { IsInstr Opcode.Stxb i.now a }
-    requires ready { Ready (D.honest kernel.old.device) i.now kernel.old.core m.now }
-    ensures works { Works (D.honest kernel.old.device) i.now kernel.old.core m.now kernel.new.core m.now result }
+    requires ready { Ready (D.medium.honest kernel.old.device) i.now kernel.old.core m.now }
+    ensures works { Works (D.medium.honest kernel.old.device) i.now kernel.old.core m.now kernel.new.core m.now result }
     ensures vm { LeavesVm kernel.old kernel.new }
 {
     let (span, at) = (m.pointers[i.b as usize], m.words[i.c as usize]);
@@ -149,8 +149,8 @@ pub(crate) fn stxw<D: Device + Drop>(
     operands: usize,
 ) -> Goes
     requires instr { HasOperands Opcode.Stxw i.now operands }
-    requires ready { Ready (D.honest kernel.old.device) i.now kernel.old.core m.now }
-    ensures works { Works (D.honest kernel.old.device) i.now kernel.old.core m.now kernel.new.core m.now result }
+    requires ready { Ready (D.medium.honest kernel.old.device) i.now kernel.old.core m.now }
+    ensures works { Works (D.medium.honest kernel.old.device) i.now kernel.old.core m.now kernel.new.core m.now result }
     ensures vm { LeavesVm kernel.old kernel.new }
 {
     let (a, b, c) = (
@@ -179,8 +179,8 @@ pub(crate) fn ldcb<D: Device + Drop>(
     a: usize,
 ) -> Goes
     requires instr { IsInstr Opcode.Ldcb i.now a }
-    requires ready { Ready (D.honest kernel.now.device) i.now kernel.now.core m.old }
-    ensures { Works (D.honest kernel.now.device) i.now kernel.now.core m.old kernel.now.core m.new result }
+    requires ready { Ready (D.medium.honest kernel.now.device) i.now kernel.now.core m.old }
+    ensures { Works (D.medium.honest kernel.now.device) i.now kernel.now.core m.old kernel.now.core m.new result }
 {
     let (span, at) = (m.pointers[i.b as usize], m.words[i.c as usize]);
     if !reaches(span, at, 1) {
@@ -198,8 +198,8 @@ pub(crate) fn ldcw<D: Device + Drop>(
     a: usize,
 ) -> Goes
     requires instr { IsInstr Opcode.Ldcw i.now a }
-    requires ready { Ready (D.honest kernel.now.device) i.now kernel.now.core m.old }
-    ensures { Works (D.honest kernel.now.device) i.now kernel.now.core m.old kernel.now.core m.new result }
+    requires ready { Ready (D.medium.honest kernel.now.device) i.now kernel.now.core m.old }
+    ensures { Works (D.medium.honest kernel.now.device) i.now kernel.now.core m.old kernel.now.core m.new result }
 {
     let (span, at) = (m.pointers[i.b as usize], m.words[i.c as usize]);
     if !reaches(span, at, 2) {
@@ -217,8 +217,8 @@ pub(crate) fn stcb<D: Device + Drop>(
     a: usize,
 ) -> Goes
     requires instr { IsInstr Opcode.Stcb i.now a }
-    requires ready { Ready (D.honest kernel.old.device) i.now kernel.old.core m.old }
-    ensures works { Works (D.honest kernel.old.device) i.now kernel.old.core m.old kernel.new.core m.new result }
+    requires ready { Ready (D.medium.honest kernel.old.device) i.now kernel.old.core m.old }
+    ensures works { Works (D.medium.honest kernel.old.device) i.now kernel.old.core m.old kernel.new.core m.new result }
     ensures vm { LeavesVm kernel.old kernel.new }
 {
     let (span, at) = (m.pointers[i.b as usize], m.words[i.c as usize]);
@@ -237,8 +237,8 @@ pub(crate) fn stcw<D: Device + Drop>(
     a: usize,
 ) -> Goes
     requires instr { IsInstr Opcode.Stcw i.now a }
-    requires ready { Ready (D.honest kernel.old.device) i.now kernel.old.core m.old }
-    ensures works { Works (D.honest kernel.old.device) i.now kernel.old.core m.old kernel.new.core m.new result }
+    requires ready { Ready (D.medium.honest kernel.old.device) i.now kernel.old.core m.old }
+    ensures works { Works (D.medium.honest kernel.old.device) i.now kernel.old.core m.old kernel.new.core m.new result }
     ensures vm { LeavesVm kernel.old kernel.new }
 {
     let (span, at) = (m.pointers[i.b as usize], m.words[i.c as usize]);
@@ -257,8 +257,8 @@ pub(crate) fn movp<D: Device + Drop>(
     a: usize,
 ) -> Goes
     requires instr { IsInstr Opcode.Movp i.now a }
-    requires ready { Ready (D.honest kernel.now.device) i.now kernel.now.core m.old }
-    ensures { Works (D.honest kernel.now.device) i.now kernel.now.core m.old kernel.now.core m.new result }
+    requires ready { Ready (D.medium.honest kernel.now.device) i.now kernel.now.core m.old }
+    ensures { Works (D.medium.honest kernel.now.device) i.now kernel.now.core m.old kernel.now.core m.new result }
 {
     m.pointers[a] = m.pointers[i.b as usize];
     Goes::Along
@@ -273,8 +273,8 @@ pub(crate) fn copy<D: Device + Drop>(
     a: usize,
 ) -> Goes
     requires instr { IsInstr Opcode.Copy i.now a }
-    requires ready { Ready (D.honest kernel.old.device) i.now kernel.old.core m.now }
-    ensures works { Works (D.honest kernel.old.device) i.now kernel.old.core m.now kernel.new.core m.now result }
+    requires ready { Ready (D.medium.honest kernel.old.device) i.now kernel.old.core m.now }
+    ensures works { Works (D.medium.honest kernel.old.device) i.now kernel.old.core m.now kernel.new.core m.now result }
     ensures vm { LeavesVm kernel.old kernel.new }
 {
     kernel.copy(m.pointers[a], m.pointers[i.b as usize], i.imm);
@@ -289,8 +289,8 @@ pub(crate) fn plen<D: Device + Drop>(
     a: usize,
 ) -> Goes
     requires instr { IsInstr Opcode.Plen i.now a }
-    requires ready { Ready (D.honest kernel.now.device) i.now kernel.now.core m.old }
-    ensures { Works (D.honest kernel.now.device) i.now kernel.now.core m.old kernel.now.core m.new result }
+    requires ready { Ready (D.medium.honest kernel.now.device) i.now kernel.now.core m.old }
+    ensures { Works (D.medium.honest kernel.now.device) i.now kernel.now.core m.old kernel.now.core m.new result }
 {
     m.words[a] = m.pointers[i.b as usize].len;
     Goes::Along

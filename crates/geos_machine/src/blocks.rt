@@ -22,8 +22,8 @@ pub(crate) fn mnew<D: Device + Drop>(
     a: usize,
 ) -> Goes
     requires instr { IsInstr Opcode.Mnew i.now a }
-    requires ready { Ready (D.honest kernel.old.device) i.now kernel.old.core m.old }
-    ensures works { Works (D.honest kernel.old.device) i.now kernel.old.core m.old kernel.new.core m.new result }
+    requires ready { Ready (D.medium.honest kernel.old.device) i.now kernel.old.core m.old }
+    ensures works { Works (D.medium.honest kernel.old.device) i.now kernel.old.core m.old kernel.new.core m.new result }
     ensures vm { LeavesVm kernel.old kernel.new }
 {
     match kernel.mnew() {
@@ -45,8 +45,8 @@ pub(crate) fn mlock<D: Device + Drop>(
     operands: usize,
 ) -> Goes
     requires instr { HasOperands Opcode.Mlock i.now operands }
-    requires ready { Ready (D.honest kernel.old.device) i.now kernel.old.core m.old }
-    ensures works { Works (D.honest kernel.old.device) i.now kernel.old.core m.old kernel.new.core m.new result }
+    requires ready { Ready (D.medium.honest kernel.old.device) i.now kernel.old.core m.old }
+    ensures works { Works (D.medium.honest kernel.old.device) i.now kernel.old.core m.old kernel.new.core m.new result }
     ensures vm { LeavesVm kernel.old kernel.new }
 {
     let (a, b) = (index_a(i, operands), index_b(i, operands));
@@ -69,8 +69,8 @@ pub(crate) fn munlock<D: Device + Drop>(
     a: usize,
 ) -> Goes
     requires instr { IsInstr Opcode.Munlock i.now a }
-    requires ready { Ready (D.honest kernel.old.device) i.now kernel.old.core m.now }
-    ensures works { Works (D.honest kernel.old.device) i.now kernel.old.core m.now kernel.new.core m.now result }
+    requires ready { Ready (D.medium.honest kernel.old.device) i.now kernel.old.core m.now }
+    ensures works { Works (D.medium.honest kernel.old.device) i.now kernel.old.core m.now kernel.new.core m.now result }
     ensures vm { LeavesVm kernel.old kernel.new }
 {
     kernel.munlock(m.slots[a]);
@@ -86,8 +86,8 @@ pub(crate) fn mfree<D: Device + Drop>(
     a: usize,
 ) -> Goes
     requires instr { IsInstr Opcode.Mfree i.now a }
-    requires ready { Ready (D.honest kernel.old.device) i.now kernel.old.core m.old }
-    ensures works { Works (D.honest kernel.old.device) i.now kernel.old.core m.old kernel.new.core m.new result }
+    requires ready { Ready (D.medium.honest kernel.old.device) i.now kernel.old.core m.old }
+    ensures works { Works (D.medium.honest kernel.old.device) i.now kernel.old.core m.old kernel.new.core m.new result }
     ensures vm { LeavesVm kernel.old kernel.new }
 {
     match kernel.mfree(m.words[a]) {
@@ -107,8 +107,8 @@ fn are_same(name: Name, other: Name) -> bool
 #[inline(never)]
 pub(crate) fn sne<D: Device + Drop>(m: &Machine, kernel: &Kernel<D>, i: &Instr, a: usize) -> Goes
     requires instr { IsInstr Opcode.Sne i.now a }
-    requires ready { Ready (D.honest kernel.now.device) i.now kernel.now.core m.now }
-    ensures { Works (D.honest kernel.now.device) i.now kernel.now.core m.now kernel.now.core m.now result }
+    requires ready { Ready (D.medium.honest kernel.now.device) i.now kernel.now.core m.now }
+    ensures { Works (D.medium.honest kernel.now.device) i.now kernel.now.core m.now kernel.now.core m.now result }
 {
     let (name, other) = (m.slots[a], m.slots[i.b as usize]);
     to_if(are_same(name, other), i)

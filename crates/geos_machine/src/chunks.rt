@@ -109,8 +109,8 @@ pub(crate) fn change<D: Device + Drop>(
     requires fields { FieldsFit i.now.opcode i.now }
     requires a { a ≡ i.now.a }
     requires changes { changes_chunks i.now.opcode ≡ true }
-    requires ready { Ready (D.honest kernel.old.device) i.now kernel.old.core m.old }
-    ensures works { Works (D.honest kernel.old.device) i.now kernel.old.core m.old kernel.new.core m.new result }
+    requires ready { Ready (D.medium.honest kernel.old.device) i.now kernel.old.core m.old }
+    ensures works { Works (D.medium.honest kernel.old.device) i.now kernel.old.core m.old kernel.new.core m.new result }
     ensures vm { LeavesVm kernel.old kernel.new }
 {
     let change = change_at(m, i);
@@ -131,8 +131,8 @@ pub(crate) fn make<D: Device + Drop>(
     requires fields { FieldsFit i.now.opcode i.now }
     requires a { a ≡ i.now.a }
     requires makes { makes_chunks i.now.opcode ≡ true }
-    requires ready { Ready (D.honest kernel.old.device) i.now kernel.old.core m.old }
-    ensures works { Works (D.honest kernel.old.device) i.now kernel.old.core m.old kernel.new.core m.new result }
+    requires ready { Ready (D.medium.honest kernel.old.device) i.now kernel.old.core m.old }
+    ensures works { Works (D.medium.honest kernel.old.device) i.now kernel.old.core m.old kernel.new.core m.new result }
     ensures vm { LeavesVm kernel.old kernel.new }
 {
     let make = make_at(m, i);
@@ -156,8 +156,8 @@ pub(crate) fn ask<D: Device + Drop>(
     requires fields { FieldsFit i.now.opcode i.now }
     requires a { a ≡ i.now.a }
     requires asks { asks_of_chunks i.now.opcode ≡ true }
-    requires ready { Ready (D.honest kernel.now.device) i.now kernel.now.core m.old }
-    ensures { Works (D.honest kernel.now.device) i.now kernel.now.core m.old kernel.now.core m.new result }
+    requires ready { Ready (D.medium.honest kernel.now.device) i.now kernel.now.core m.old }
+    ensures { Works (D.medium.honest kernel.now.device) i.now kernel.now.core m.old kernel.now.core m.new result }
 {
     let ask = ask_at(m, i);
     match kernel.ask(m.slots[a], ask) {
@@ -178,8 +178,8 @@ pub(crate) fn deref<D: Device + Drop>(
     operands: usize,
 ) -> Goes
     requires instr { HasOperands Opcode.Deref i.now operands }
-    requires ready { Ready (D.honest kernel.now.device) i.now kernel.now.core m.old }
-    ensures { Works (D.honest kernel.now.device) i.now kernel.now.core m.old kernel.now.core m.new result }
+    requires ready { Ready (D.medium.honest kernel.now.device) i.now kernel.now.core m.old }
+    ensures { Works (D.medium.honest kernel.now.device) i.now kernel.now.core m.old kernel.now.core m.new result }
 {
     let (a, b, c) = (
         index_a(i, operands),
@@ -205,8 +205,8 @@ pub(crate) fn caelt<D: Device + Drop>(
     a: usize,
 ) -> Goes
     requires instr { IsInstr Opcode.Caelt i.now a }
-    requires ready { Ready (D.honest kernel.now.device) i.now kernel.now.core m.old }
-    ensures { Works (D.honest kernel.now.device) i.now kernel.now.core m.old kernel.now.core m.new result }
+    requires ready { Ready (D.medium.honest kernel.now.device) i.now kernel.now.core m.old }
+    ensures { Works (D.medium.honest kernel.now.device) i.now kernel.now.core m.old kernel.now.core m.new result }
 {
     let (c, index) = (m.words[i.c as usize], m.words[i.d as usize]);
     match kernel.caelt(m.slots[a], c, index, i.imm) {

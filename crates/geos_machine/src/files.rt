@@ -24,9 +24,9 @@ pub(crate) fn vnew<D: Device + Drop>(
     a: usize,
 ) -> Goes
     requires instr { IsInstr Opcode.Vnew i.now a }
-    requires ready { Ready (D.honest kernel.old.device) i.now kernel.old.core m.old }
-    ensures works { Works (D.honest kernel.old.device) i.now kernel.old.core m.old kernel.new.core m.new result }
-    ensures honest { D.honest kernel.new.device ↔ D.honest kernel.old.device }
+    requires ready { Ready (D.medium.honest kernel.old.device) i.now kernel.old.core m.old }
+    ensures works { Works (D.medium.honest kernel.old.device) i.now kernel.old.core m.old kernel.new.core m.new result }
+    ensures honest { D.medium.honest kernel.new.device ↔ D.medium.honest kernel.old.device }
 {
     match kernel.vnew(m.words[i.c as usize]) {
         Ok(h) => {
@@ -47,9 +47,9 @@ pub(crate) fn vlock<D: Device + Drop>(
     a: usize,
 ) -> Goes
     requires instr { IsInstr Opcode.Vlock i.now a }
-    requires ready { Ready (D.honest kernel.old.device) i.now kernel.old.core m.old }
-    ensures works { Works (D.honest kernel.old.device) i.now kernel.old.core m.old kernel.new.core m.new result }
-    ensures honest { D.honest kernel.new.device ↔ D.honest kernel.old.device }
+    requires ready { Ready (D.medium.honest kernel.old.device) i.now kernel.old.core m.old }
+    ensures works { Works (D.medium.honest kernel.old.device) i.now kernel.old.core m.old kernel.new.core m.new result }
+    ensures honest { D.medium.honest kernel.new.device ↔ D.medium.honest kernel.old.device }
 {
     let h = m.words[i.b as usize];
     match kernel.vlock(h) {
@@ -70,9 +70,9 @@ pub(crate) fn ilock<D: Device + Drop>(
     a: usize,
 ) -> Goes
     requires instr { IsInstr Opcode.Ilock i.now a }
-    requires ready { Ready (D.honest kernel.old.device) i.now kernel.old.core m.old }
-    ensures works { Works (D.honest kernel.old.device) i.now kernel.old.core m.old kernel.new.core m.new result }
-    ensures honest { D.honest kernel.new.device ↔ D.honest kernel.old.device }
+    requires ready { Ready (D.medium.honest kernel.old.device) i.now kernel.old.core m.old }
+    ensures works { Works (D.medium.honest kernel.old.device) i.now kernel.old.core m.old kernel.new.core m.new result }
+    ensures honest { D.medium.honest kernel.new.device ↔ D.medium.honest kernel.old.device }
 {
     let g = m.words[i.c as usize];
     match kernel.ilock(g, m.words[i.d as usize], i.imm) {
@@ -96,8 +96,8 @@ pub(crate) fn unlock<D: Device + Drop>(
     requires a { a ≡ i.now.a }
     requires fields { FieldsFit i.now.opcode i.now }
     requires unlocks { unlocks_block i.now.opcode ≡ true }
-    requires ready { Ready (D.honest kernel.old.device) i.now kernel.old.core m.now }
-    ensures works { Works (D.honest kernel.old.device) i.now kernel.old.core m.now kernel.new.core m.now result }
+    requires ready { Ready (D.medium.honest kernel.old.device) i.now kernel.old.core m.now }
+    ensures works { Works (D.medium.honest kernel.old.device) i.now kernel.old.core m.now kernel.new.core m.now result }
     ensures vm { LeavesVm kernel.old kernel.new }
 {
     kernel.munlock(m.slots[a]);
@@ -115,9 +115,9 @@ pub(crate) fn mark<D: Device + Drop>(
     requires a { a ≡ i.now.a }
     requires fields { FieldsFit i.now.opcode i.now }
     requires marks { marks_block i.now.opcode ≡ true }
-    requires ready { Ready (D.honest kernel.old.device) i.now kernel.old.core m.now }
-    ensures works { Works (D.honest kernel.old.device) i.now kernel.old.core m.now kernel.new.core m.now result }
-    ensures honest { D.honest kernel.new.device ↔ D.honest kernel.old.device }
+    requires ready { Ready (D.medium.honest kernel.old.device) i.now kernel.old.core m.now }
+    ensures works { Works (D.medium.honest kernel.old.device) i.now kernel.old.core m.now kernel.new.core m.now result }
+    ensures honest { D.medium.honest kernel.new.device ↔ D.medium.honest kernel.old.device }
 {
     kernel.vdirty(m.slots[a]);
     Goes::Along
@@ -133,9 +133,9 @@ fn carry_out<D: Device + Drop>(
     requires a { a ≡ i.now.a }
     requires fields { FieldsFit i.now.opcode i.now }
     requires changes { changes_file i.now.opcode ≡ true }
-    requires ready { Ready (D.honest kernel.old.device) i.now kernel.old.core m.now }
-    ensures answers { AnswersTo (D.honest kernel.old.device) i.now kernel.old.core m.now kernel.new.core nowhere result }
-    ensures honest { D.honest kernel.new.device ↔ D.honest kernel.old.device }
+    requires ready { Ready (D.medium.honest kernel.old.device) i.now kernel.old.core m.now }
+    ensures answers { AnswersTo (D.medium.honest kernel.old.device) i.now kernel.old.core m.now kernel.new.core nowhere result }
+    ensures honest { D.medium.honest kernel.new.device ↔ D.medium.honest kernel.old.device }
 {
     // that no block of the file is locked where the model has none locked
     kernel.memory_is_legal();
@@ -161,8 +161,8 @@ fn change_item<D: Device + Drop>(
     requires a { a ≡ i.now.a }
     requires fields { FieldsFit i.now.opcode i.now }
     requires changes { changes_item i.now.opcode ≡ true }
-    ensures answers { AnswersTo (D.honest kernel.old.device) i.now kernel.old.core m.now kernel.new.core nowhere result }
-    ensures honest { D.honest kernel.new.device ↔ D.honest kernel.old.device }
+    ensures answers { AnswersTo (D.medium.honest kernel.old.device) i.now kernel.old.core m.now kernel.new.core nowhere result }
+    ensures honest { D.medium.honest kernel.new.device ↔ D.medium.honest kernel.old.device }
 {
     let change = change_at(m, i);
     kernel.item_change(m.words[a], change)
@@ -179,9 +179,9 @@ pub(crate) fn settle<D: Device + Drop>(
     requires a { a ≡ i.now.a }
     requires fields { FieldsFit i.now.opcode i.now }
     requires changes { changes_file i.now.opcode ≡ true }
-    requires ready { Ready (D.honest kernel.old.device) i.now kernel.old.core m.old }
-    ensures works { Works (D.honest kernel.old.device) i.now kernel.old.core m.old kernel.new.core m.new result }
-    ensures honest { D.honest kernel.new.device ↔ D.honest kernel.old.device }
+    requires ready { Ready (D.medium.honest kernel.old.device) i.now kernel.old.core m.old }
+    ensures works { Works (D.medium.honest kernel.old.device) i.now kernel.old.core m.old kernel.new.core m.new result }
+    ensures honest { D.medium.honest kernel.new.device ↔ D.medium.honest kernel.old.device }
 {
     match carry_out(m, kernel, i, a) {
         Ok(()) => Goes::Along,
@@ -193,8 +193,8 @@ pub(crate) fn settle<D: Device + Drop>(
 fn told<D: Device + Drop>(m: &Machine, kernel: &mut Kernel<D>, i: &Instr) -> Result<u16, Refusal>
     requires fields { FieldsFit i.now.opcode i.now }
     requires tells { tells_of_file i.now.opcode ≡ true }
-    ensures answers { AnswersTo (D.honest kernel.old.device) i.now kernel.old.core m.now kernel.new.core (with_word i.now.a) result }
-    ensures honest { D.honest kernel.new.device ↔ D.honest kernel.old.device }
+    ensures answers { AnswersTo (D.medium.honest kernel.old.device) i.now kernel.old.core m.now kernel.new.core (with_word i.now.a) result }
+    ensures honest { D.medium.honest kernel.new.device ↔ D.medium.honest kernel.old.device }
 {
     match i.opcode {
         Opcode::Vfind => kernel.vfind(m.words[i.b as usize], m.words[i.c as usize]),
@@ -222,8 +222,8 @@ pub(crate) fn tell<D: Device + Drop>(
     requires a { a ≡ i.now.a }
     requires fields { FieldsFit i.now.opcode i.now }
     requires tells { tells_of_file i.now.opcode ≡ true }
-    ensures works { Works (D.honest kernel.old.device) i.now kernel.old.core m.old kernel.new.core m.new result }
-    ensures honest { D.honest kernel.new.device ↔ D.honest kernel.old.device }
+    ensures works { Works (D.medium.honest kernel.old.device) i.now kernel.old.core m.old kernel.new.core m.new result }
+    ensures honest { D.medium.honest kernel.new.device ↔ D.medium.honest kernel.old.device }
 {
     match told(m, kernel, i) {
         Ok(n) => {
@@ -243,7 +243,7 @@ pub(crate) fn igetmap<D: Device + Drop>(
     a: usize,
 ) -> Goes
     requires instr { IsInstr Opcode.Igetmap i.now a }
-    ensures { Works (D.honest kernel.now.device) i.now kernel.now.core m.old kernel.now.core m.new result }
+    ensures { Works (D.medium.honest kernel.now.device) i.now kernel.now.core m.old kernel.now.core m.new result }
 {
     let (g, item) = kernel.igetmap();
     m.words[a] = g;

@@ -15,6 +15,7 @@ use Rattle.block_handles.specs.Names.{IsHandle, slot_of}
 use Rattle.block_handles.specs.Store as store
 use Rattle.block_handles.specs.Store.{Block, Store, block_at, IsThere}
 use Rattle.block_handles.proofs.Laws.{slot_of-handle}
+use Rattle.vm_file.specs.Device.{Medium}
 use Rattle.vm_blocks.specs.View.{VmState}
 use Rattle.vm_blocks.specs.Tied.{IsTied}
 use Rattle.vm_blocks.specs.Bring.{Keeps}
@@ -59,7 +60,7 @@ pub locks-spelled : (o : Option Block) → model.locks_in (block_in o) ≡ store
 locks-spelled None = refl
 locks-spelled (Some b) = refl
 
-module _ {D : Type 0} (image : D → List ℕ) (honest : D → Type 0) (v : VmState D) (s : Store) (tied : IsTied image honest v s) (m : Memory) (is : IsMemoryOf image honest v s m) where
+module _ {D : Type 0} (medium : Medium D) (v : VmState D) (s : Store) (tied : IsTied medium v s) (m : Memory) (is : IsMemoryOf medium v s m) where
   -- of a handle of global memory it has what the slot spells, or nothing
   pub mem-known : (h : ℕ) → model.block_of m (mem h) ≡ block_in (block_at s (slot_of (mem h)))
   mem-known h = ap (λ bs. model.at_handle None bs h) is.blocks ∙ slots-told s tied.laid h
@@ -70,7 +71,7 @@ module _ {D : Type 0} (image : D → List ℕ) (honest : D → Type 0) (v : VmSt
     where
       at : (owner : Owner) (h : ℕ) → model.locks_in (model.owned_block m owner h) ≡ store.locks_of s (slot_of (named owner h))
       at Mem h = ap model.locks_in (mem-known h) ∙ locks-spelled (block_at s (slot_of (mem h)))
-      at Vm h = locks-told image honest v s h tied m is
+      at Vm h = locks-told medium v s h tied m is
 
   -- what a block in memory spells
   pub block-known : (name : Name) (b : Block) → block_at s (slot_of name) ≡ Some b → model.block_of m name ≡ Some (spelled b.locks b.bytes)
@@ -79,9 +80,9 @@ module _ {D : Type 0} (image : D → List ℕ) (honest : D → Type 0) (v : VmSt
       at : (owner : Owner) (h : ℕ) → block_at s (slot_of (named owner h)) ≡ Some b → model.owned_block m owner h ≡ Some (spelled b.locks b.bytes)
       at Mem h there = mem-known h ∙ ap block_in there
       at Vm h there =
-          let k = known image honest v s h tied (subst store.IsBlock (sym there) tt) in
+          let k = known medium v s h tied (subst store.IsBlock (sym there) tt) in
           let keeps : Keeps v s s h = record { each = λ slot ne. inl (refl, λ some. refl); laid = tied.laid; len = refl } in
-          ap (option_map (λ (l : VmBlock). l.block)) (listed-there image honest v s s m is h k.handle tied keeps k.held k.listed b there)
+          ap (option_map (λ (l : VmBlock). l.block)) (listed-there medium v s s m is h k.handle tied keeps k.held k.listed b there)
 
   module _ (name : Name) (there : IsThere s (slot_of name)) where
     pub there-known : model.block_of m name ≡ Some (spelled (store.locks_of s (slot_of name)) (store.bytes_of s (slot_of name)))

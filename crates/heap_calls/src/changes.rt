@@ -39,16 +39,16 @@ pub fn change<D: Device + Drop>(
     name: Name,
     change: Change,
 ) -> Result<(), Refusal>
-    requires tied { IsTied D.image D.honest vm.now blocks.old }
+    requires tied { IsTied D.medium vm.now blocks.old }
     requires heap { HoldsHeap blocks.old name }
     ensures carries { Carries (may_grow change) vm.now (change_edit change) blocks.old blocks.new name result }
     // Only a lack of room is refused after others were discarded.
     ensures refused { (result ≡ Err Refusal.NoRoom → ⊥) → OnErr result (blocks.new ≡ blocks.old) }
     // Other blocks are as they were, or were discarded; and table, region and file stay tied.
     ensures keeps { KeepsOthers vm.now blocks.old blocks.new name }
-    ensures tied { IsMarkedIfVm vm.now name → IsTied D.image D.honest vm.now blocks.new }
+    ensures tied { IsMarkedIfVm vm.now name → IsTied D.medium vm.now blocks.new }
     // Its row of the table of calls, in each memory that the model may have before it.
-    ensures row { DoesRow D.image D.honest D.failed (change_row name change) result vm.now blocks.old vm.now blocks.new }
+    ensures row { DoesRow D.medium (change_row name change) result vm.now blocks.old vm.now blocks.new }
 {
     let done = match try_change(blocks, name, change) {
         Ok(()) => Ok(()),
@@ -70,7 +70,7 @@ fn grow_and_change<D: Device + Drop>(
     change: Change,
     room: RoomError,
 ) -> Result<(), Refusal>
-    requires tied { IsTied D.image D.honest vm.now blocks.old }
+    requires tied { IsTied D.medium vm.now blocks.old }
     requires heap { HoldsHeap blocks.old name }
     requires tried { Tries (change_edit change) blocks.old blocks.old name (Err (Room room)) }
     ensures comes { Comes vm.now (change_edit change) blocks.old blocks.new name result }

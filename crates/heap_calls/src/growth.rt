@@ -19,7 +19,7 @@ fn enlarge<D: Device + Drop>(
     name: Name,
     size: u16,
 ) -> Result<(), Refusal>
-    requires tied { IsTied D.image D.honest vm.now blocks.old }
+    requires tied { IsTied D.medium vm.now blocks.old }
     requires heap { HoldsHeap blocks.old name }
     requires larger { size_at blocks.old name < size }
     requires legal { (size ≤ most_block_bytes) × (size % 16 ≡ 0) }
@@ -41,7 +41,7 @@ pub(crate) fn make_room<D: Device + Drop>(
     name: Name,
     room: RoomError,
 ) -> Result<(), Refusal>
-    requires tied { IsTied D.image D.honest vm.now blocks.old }
+    requires tied { IsTied D.medium vm.now blocks.old }
     requires heap { HoldsHeap blocks.old name }
     requires asks { AsksFor room (size_at blocks.old name) }
     ensures { MakesRoom vm.now room result blocks.old blocks.new name }

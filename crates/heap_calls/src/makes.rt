@@ -27,16 +27,16 @@ pub fn make<D: Device + Drop>(
     name: Name,
     make: Make,
 ) -> Result<u16, Refusal>
-    requires tied { IsTied D.image D.honest vm.now blocks.old }
+    requires tied { IsTied D.medium vm.now blocks.old }
     requires heap { HoldsHeap blocks.old name }
     ensures comes { Comes vm.now (make_edit make) blocks.old blocks.new name result }
     // Only a lack of room is refused after others were discarded.
     ensures refused { (result ≡ Err Refusal.NoRoom → ⊥) → OnErr result (blocks.new ≡ blocks.old) }
     // Other blocks are as they were, or were discarded; and table, region and file stay tied.
     ensures keeps { KeepsOthers vm.now blocks.old blocks.new name }
-    ensures tied { IsMarkedIfVm vm.now name → IsTied D.image D.honest vm.now blocks.new }
+    ensures tied { IsMarkedIfVm vm.now name → IsTied D.medium vm.now blocks.new }
     // Its row of the table of calls, in each memory that the model may have before it.
-    ensures row { DoesRow D.image D.honest D.failed (make_row name make) result vm.now blocks.old vm.now blocks.new }
+    ensures row { DoesRow D.medium (make_row name make) result vm.now blocks.old vm.now blocks.new }
 {
     let made = match try_make(blocks, name, make) {
         Ok(c) => Ok(c),
@@ -57,7 +57,7 @@ fn grow_and_make<D: Device + Drop>(
     make: Make,
     room: RoomError,
 ) -> Result<u16, Refusal>
-    requires tied { IsTied D.image D.honest vm.now blocks.old }
+    requires tied { IsTied D.medium vm.now blocks.old }
     requires heap { HoldsHeap blocks.old name }
     requires tried { Tries (make_edit make) blocks.old blocks.old name (Err (Room room)) }
     ensures comes { Comes vm.now (make_edit make) blocks.old blocks.new name result }

@@ -15,6 +15,7 @@ use Rattle.geos_table.proofs.HandleLists.{entry-each}
 use Rattle.geos_table.proofs.LegalDirectories.{loaded-legal}
 use Rattle.block_handles.specs.Names.{IsHandle}
 use Rattle.block_handles.specs.Store.{Store, block_at}
+use Rattle.vm_file.specs.Device.{Medium}
 use Rattle.vm_file.specs.declared.directory.Directory.{Directory}
 use Rattle.vm_file.specs.declared.directory.Entry.{Entry}
 use Rattle.vm_file.specs.Contents.{Block, Pair, listed}
@@ -118,47 +119,47 @@ module _ {D : Type 0} (image : D → List ℕ) (v : VmState D) where
       read-legal-pair base area (pair_at base area) (All-take (λ b. b < 256) v.file.area _ (All-drop (λ b. b < 256) base (image v.file.device) each)) refl
 
 -- the file, as the device holds it
-module _ {D : Type 0} (image : D → List ℕ) (honest : D → Type 0) (v : VmState D) (s : Store) (lists : IsListOf v v.file.current) (none : NoneResident s) (bytes : AreBytes (image v.file.device))
+module _ {D : Type 0} (medium : Medium D) (v : VmState D) (s : Store) (lists : IsListOf v v.file.current) (none : NoneResident s) (bytes : AreBytes (medium.image v.file.device))
     (cur_legal : is_directory v.file.current ≡ true) (saved_legal : is_directory v.file.saved ≡ true) (cur_words : AreWords v.file.current) (saved_words : AreWords v.file.saved) where
   abbrev cur : model.Directory KeptBlock
-  cur = stored_directory v.file.current (pair_of image v.file).cur.blocks
+  cur = stored_directory v.file.current (pair_of medium.image v.file).cur.blocks
 
   abbrev saved : model.Directory KeptBlock
-  saved = stored_directory v.file.saved (pair_of image v.file).saved.blocks
+  saved = stored_directory v.file.saved (pair_of medium.image v.file).saved.blocks
 
-  one : IsDirectoryOf (honest v.file.device) v.file.current (pair_of image v.file).cur.blocks cur
-  one = directory-is (honest v.file.device) v.file.current (pair_of image v.file).cur.blocks
+  one : IsDirectoryOf (medium.honest v.file.device) v.file.current (pair_of medium.image v.file).cur.blocks cur
+  one = directory-is (medium.honest v.file.device) v.file.current (pair_of medium.image v.file).cur.blocks
 
-  two : IsDirectoryOf (honest v.file.device) v.file.saved (pair_of image v.file).saved.blocks saved
-  two = directory-is (honest v.file.device) v.file.saved (pair_of image v.file).saved.blocks
+  two : IsDirectoryOf (medium.honest v.file.device) v.file.saved (pair_of medium.image v.file).saved.blocks saved
+  two = directory-is (medium.honest v.file.device) v.file.saved (pair_of medium.image v.file).saved.blocks
 
   cur-is : IsStored cur
-  cur-is = stored-legal v v.file.current (pair_of image v.file).cur.blocks cur_legal cur_words
+  cur-is = stored-legal v v.file.current (pair_of medium.image v.file).cur.blocks cur_legal cur_words
 
   saved-is : IsStored saved
-  saved-is = stored-legal v v.file.saved (pair_of image v.file).saved.blocks saved_legal saved_words
+  saved-is = stored-legal v v.file.saved (pair_of medium.image v.file).saved.blocks saved_legal saved_words
 
   -- what it keeps
   abbrev kept-if : Bool → Kept
-  kept-if b = if b then Sure (opened_pair image v.file) else Unsure (opened_pair image v.file) (stored_pair (other_pair image v.file))
+  kept-if b = if b then Sure (opened_pair medium.image v.file) else Unsure (opened_pair medium.image v.file) (stored_pair (other_pair medium.image v.file))
 
-  kept-opened : (b : Bool) → v.file.sure ≡ b → IsKeptOf image honest v.file (kept-if b)
+  kept-opened : (b : Bool) → v.file.sure ≡ b → IsKeptOf medium.image medium.honest v.file (kept-if b)
   kept-opened true is = (is, record { cur = one; saved = two })
   kept-opened false is = (is, record { cur = one; saved = two }, λ _. refl)
 
   kept-legal : (b : Bool) → ArePairs (kept-if b)
   kept-legal true = (cur-is, saved-is)
-  kept-legal false = ((cur-is, saved-is), other-legal image v bytes)
+  kept-legal false = ((cur-is, saved-is), other-legal medium.image v bytes)
 
   -- it is the model's memory
-  pub memory-opened : IsMemoryOf image honest v s (opened_memory image v.file s)
+  pub memory-opened : IsMemoryOf medium v s (opened_memory medium.image v.file s)
   memory-opened =
-      let fair = honest v.file.device in
-      let each : (h : ℕ) → IsHandle h → IsListedAs fair (bytes_read image v.file h) (held_at v h) (block_at s (vm_slot h)) (at_handle None (with_each idle_block cur).blocks h) =
-      (λ h p. subst (λ x. IsListedAs fair (bytes_read image v.file h) x (block_at s (vm_slot h)) (at_handle None (with_each idle_block cur).blocks h)) (sym (lists.each h p))
-      (subst (λ x. IsListedAs fair (bytes_read image v.file h) (held_in v.file.current h) x (at_handle None (with_each idle_block cur).blocks h)) (sym (none h p))
-      (subst (IsListedAs fair (bytes_read image v.file h) (held_in v.file.current h) None) (sym (entry-each idle_block cur.blocks h))
-      (idle-away fair (bytes_read image v.file h) (entry_at v.file.current h) (at_handle None cur.blocks h) (one.each h p))))) in
+      let fair = medium.honest v.file.device in
+      let each : (h : ℕ) → IsHandle h → IsListedAs fair (bytes_read medium.image v.file h) (held_at v h) (block_at s (vm_slot h)) (at_handle None (with_each idle_block cur).blocks h) =
+      (λ h p. subst (λ x. IsListedAs fair (bytes_read medium.image v.file h) x (block_at s (vm_slot h)) (at_handle None (with_each idle_block cur).blocks h)) (sym (lists.each h p))
+      (subst (λ x. IsListedAs fair (bytes_read medium.image v.file h) (held_in v.file.current h) x (at_handle None (with_each idle_block cur).blocks h)) (sym (none h p))
+      (subst (IsListedAs fair (bytes_read medium.image v.file h) (held_in v.file.current h) None) (sym (entry-each idle_block cur.blocks h))
+      (idle-away fair (bytes_read medium.image v.file h) (entry_at v.file.current h) (at_handle None cur.blocks h) (one.each h p))))) in
       record {
         blocks = refl;
         file = record {

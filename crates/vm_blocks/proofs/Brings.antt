@@ -12,6 +12,7 @@ use Rattle.block_handles.specs.Layout.{IsLaidOut}
 use Rattle.block_handles.specs.Names.{IsHandle, slot_of}
 use Rattle.block_handles.specs.Store.{Block, Store, block_at, bytes_in, bytes_of, IsBlock, IsThere, locks_in, locks_of, place_of, size_of}
 use Rattle.block_handles.proofs.Laws.{laid-without, laid-with_bytes, others-same, with_block-same, with_block-other}
+use Rattle.vm_file.specs.Device.{Medium}
 use Rattle.vm_file.specs.State.{FileState, HasBlock, bytes_of_block, pair_of}
 use Rattle.vm_blocks.specs.declared.entries.Held.{Held}
 use Rattle.geos_model.specs.Names.{vm}
@@ -37,32 +38,32 @@ drops old mid new h ws there m n =
       len = ap (λ (t : Store). t.len) n ∙ ap (λ (t : Store). t.len) m;
     }
 
-module _ {D : Type 0} (image : D → List ℕ) (honest : D → Type 0) (v : VmState D) where
+module _ {D : Type 0} (medium : Medium D) (v : VmState D) where
   -- what is kept stays tied
-  pub kept-tied : (s t : Store) (h k : ℕ) → IsHandle k → IsTied image honest v s → KeptOrGoes v s t h (vm_slot k) → TiedAt image honest v.file k (held_at v k) (block_at t (vm_slot k))
-  kept-tied s t h k p tied (inl u) = subst (TiedAt image honest v.file k (held_at v k)) (sym u.0) (tied.each k p)
+  pub kept-tied : (s t : Store) (h k : ℕ) → IsHandle k → IsTied medium v s → KeptOrGoes v s t h (vm_slot k) → TiedAt medium v.file k (held_at v k) (block_at t (vm_slot k))
+  kept-tied s t h k p tied (inl u) = subst (TiedAt medium v.file k (held_at v k)) (sym u.0) (tied.each k p)
   kept-tied s t h k p tied (inr g) =
       let one : k ≡ g.h = slot-one k g.h p g.handle g.slot_is in
       let i : is_idle v s k ≡ true = subst (λ j. is_idle v s j ≡ true) (sym one) g.idle in
-      subst (TiedAt image honest v.file k (held_at v k)) (sym g.gone) (gone-tied image honest v k (held_at v k) (block_at s (vm_slot k)) i (tied.each k p))
+      subst (TiedAt medium v.file k (held_at v k)) (sym g.gone) (gone-tied medium v k (held_at v k) (block_at s (vm_slot k)) i (tied.each k p))
 
   -- and so is all, where the one is
-  pub tied-keeps : (s t : Store) (h : ℕ) → IsHandle h → IsTied image honest v s → Keeps v s t h → TiedAt image honest v.file h (held_at v h) (block_at t (vm_slot h)) → IsTied image honest v t
+  pub tied-keeps : (s t : Store) (h : ℕ) → IsHandle h → IsTied medium v s → Keeps v s t h → TiedAt medium v.file h (held_at v h) (block_at t (vm_slot h)) → IsTied medium v t
   tied-keeps s t h q tied keeps own = record {
     laid = keeps.laid;
     long = tied.long;
     maps = tied.maps;
     each = λ k p. elim (cases_eq k h) [
-      | inl same ↦ subst (λ j. TiedAt image honest v.file j (held_at v j) (block_at t (vm_slot j))) (sym same) own
+      | inl same ↦ subst (λ j. TiedAt medium v.file j (held_at v j) (block_at t (vm_slot j))) (sym same) own
       | inr other ↦ kept-tied s t h k p tied (keeps.each (vm_slot k) (λ e. other (slot-one k h p q e)))
     ];
   }
 
   -- another file that keeps the same current pair and lists it
-  pub tied-file : (s : Store) (f : FileState D) → f.current ≡ v.file.current → (honest f.device → honest v.file.device) → (honest v.file.device → pair_of image f ≡ pair_of image v.file) → IsTied image honest v s → IsTied image honest (record v { file = f }) s
+  pub tied-file : (s : Store) (f : FileState D) → f.current ≡ v.file.current → (medium.honest f.device → medium.honest v.file.device) → (medium.honest v.file.device → pair_of medium.image f ≡ pair_of medium.image v.file) → IsTied medium v s → IsTied medium (record v { file = f }) s
   tied-file s f listed was pair tied = record { laid = tied.laid; long = tied.long; each = λ h p. on h (held_at v h) (block_at s (vm_slot h)) (tied.each h p); maps = record { block = tied.maps.block; group = tied.maps.group; no_item = tied.maps.no_item } }
     where
-      on : (h : ℕ) (e : Option Held) (b : Option Block) → TiedAt image honest v.file h e b → TiedAt image honest f h e b
+      on : (h : ℕ) (e : Option Held) (b : Option Block) → TiedAt medium v.file h e b → TiedAt medium f h e b
       on h None None t = t
       on h None (Some b) t = t
       on h (Some e) None t = record { size = t.size; clean = t.clean; kept = subst (λ d. HasBlock d h e.len) (sym listed) t.kept }
@@ -141,15 +142,15 @@ pub fills-others : (old new : Store) (h : ℕ) → Fills old new h → (slot : �
 fills-others old new h fills slot ne = ap (λ u. block_at u slot) fills.is ∙ others-same old (vm_slot h) slot fills.bytes (λ e. ne (sym e))
 
 -- a listed block that is not in memory
-module _ {D : Type 0} (image : D → List ℕ) (honest : D → Type 0) (v : VmState D) (s : Store) (h : ℕ) (e : Held) (q : IsHandle h) (tied : IsTied image honest v s) (listed : held_at v h ≡ Some e) (absent : IsThere s (vm_slot h) → ⊥) where
+module _ {D : Type 0} (medium : Medium D) (v : VmState D) (s : Store) (h : ℕ) (e : Held) (q : IsHandle h) (tied : IsTied medium v s) (listed : held_at v h ≡ Some e) (absent : IsThere s (vm_slot h) → ⊥) where
   none-there : block_at s (vm_slot h) ≡ None
   none-there = no-block (block_at s (vm_slot h)) absent
 
   pub absent-is : IsAbsent v.file h e
-  absent-is = subst (λ o. TiedAt image honest v.file h o None) listed (subst (TiedAt image honest v.file h (held_at v h)) none-there (tied.each h q))
+  absent-is = subst (λ o. TiedAt medium v.file h o None) listed (subst (TiedAt medium v.file h (held_at v h)) none-there (tied.each h q))
 
-  own-none : (t : Store) → block_at t (vm_slot h) ≡ None → TiedAt image honest v.file h (held_at v h) (block_at t (vm_slot h))
-  own-none t gone = subst (TiedAt image honest v.file h (held_at v h)) (sym gone) (subst (λ o. TiedAt image honest v.file h o None) (sym listed) absent-is)
+  own-none : (t : Store) → block_at t (vm_slot h) ≡ None → TiedAt medium v.file h (held_at v h) (block_at t (vm_slot h))
+  own-none t gone = subst (TiedAt medium v.file h (held_at v h)) (sym gone) (subst (λ o. TiedAt medium v.file h o None) (sym listed) absent-is)
 
   -- it was made, and read
   module _ (m t : Store) (made : MakesRoom v s m (vm h) e.len) where
@@ -176,8 +177,8 @@ module _ {D : Type 0} (image : D → List ℕ) (honest : D → Type 0) (v : VmSt
       pub filled-there : IsThere t (vm_slot h)
       filled-there = subst IsBlock (sym filled-is) tt
 
-      module _ (read : honest v.file.device → bytes_of t (vm_slot h) ≡ bytes_read image v.file h) where
-        own-tied : TiedAt image honest v.file h (Some e) (Some own)
+      module _ (read : medium.honest v.file.device → bytes_of t (vm_slot h) ≡ bytes_read medium.image v.file h) where
+        own-tied : TiedAt medium v.file h (Some e) (Some own)
         own-tied = record {
           size = absent-is.size;
           heap = fills.heap;
@@ -186,17 +187,17 @@ module _ {D : Type 0} (image : D → List ℕ) (honest : D → Type 0) (v : VmSt
           clean = λ c. record { long = fills.long ∙ made-size; same = λ good. sym (ap bytes_in filled-is) ∙ read good };
         }
 
-        filled-tied : IsTied image honest v t
-        filled-tied = tied-keeps image honest v s t h q tied filled-keeps (subst (TiedAt image honest v.file h (held_at v h)) (sym filled-is) (subst (λ o. TiedAt image honest v.file h o (Some own)) (sym listed) own-tied))
+        filled-tied : IsTied medium v t
+        filled-tied = tied-keeps medium v s t h q tied filled-keeps (subst (TiedAt medium v.file h (held_at v h)) (sym filled-is) (subst (λ o. TiedAt medium v.file h o (Some own)) (sym listed) own-tied))
 
-        module _ (f : FileState D) (same : f ≡ record v.file { device = f.device }) (pair : pair_of image f ≡ pair_of image v.file) (was : honest f.device → honest v.file.device) where
-          pub read-tied : IsTied image honest (record v { file = f }) t
-          read-tied = tied-file image honest v t f (ap (λ (g : FileState D). g.current) same) was (λ good. pair) filled-tied
+        module _ (f : FileState D) (same : f ≡ record v.file { device = f.device }) (pair : pair_of medium.image f ≡ pair_of medium.image v.file) (was : medium.honest f.device → medium.honest v.file.device) where
+          pub read-tied : IsTied medium (record v { file = f }) t
+          read-tied = tied-file medium v t f (ap (λ (g : FileState D). g.current) same) was (λ good. pair) filled-tied
 
     -- it was made, and is gone again
     module _ (drops : Drops m t h) where
       pub dropped-keeps : Keeps v s t h
       dropped-keeps = keeps-more v s m t h (made-keeps v s m h e.len q made) drops.others drops.places (drops.laid made.makes.laid) drops.len
 
-      pub dropped-tied : (f : FileState D) → f ≡ record v.file { device = f.device } → pair_of image f ≡ pair_of image v.file → (honest f.device → honest v.file.device) → IsTied image honest (record v { file = f }) t
-      dropped-tied f same pair was = tied-file image honest v t f (ap (λ (g : FileState D). g.current) same) was (λ good. pair) (tied-keeps image honest v s t h q tied dropped-keeps (own-none t drops.gone))
+      pub dropped-tied : (f : FileState D) → f ≡ record v.file { device = f.device } → pair_of medium.image f ≡ pair_of medium.image v.file → (medium.honest f.device → medium.honest v.file.device) → IsTied medium (record v { file = f }) t
+      dropped-tied f same pair was = tied-file medium v t f (ap (λ (g : FileState D). g.current) same) was (λ good. pair) (tied-keeps medium v s t h q tied dropped-keeps (own-none t drops.gone))

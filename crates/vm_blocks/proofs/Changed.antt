@@ -12,6 +12,7 @@ use Rattle.geos_table.proofs.LegalDirectories.{entry-legal}
 use Rattle.geos_table.proofs.NamedBlocks.{changed_in, relisted-changed}
 use Rattle.block_handles.specs.Names.{IsHandle}
 use Rattle.block_handles.specs.Store.{Block, Store, block_at}
+use Rattle.vm_file.specs.Device.{Medium}
 use Rattle.vm_file.specs.State.{FileState}
 use Rattle.vm_blocks.specs.declared.entries.Held.{Held}
 use Rattle.vm_blocks.specs.View.{VmState, bytes_read, held_at, vm_slot, with_device}
@@ -47,22 +48,22 @@ mem-thinned {D} v s t but slot thins l = on (thins.each slot)
 
 -- Memory
 
-module _ {D : Type 0} (image : D → List ℕ) (honest : D → Type 0) (v : VmState D) (s t : Store) (m : Memory) (is : IsMemoryOf image honest v s m) where
+module _ {D : Type 0} (medium : Medium D) (v : VmState D) (s t : Store) (m : Memory) (is : IsMemoryOf medium v s m) where
   -- blocks were discarded
-  pub memory-thins : (but : ℕ) → IsTied image honest v s → Thins v s t but → IsMemoryOf image honest v t m
+  pub memory-thins : (but : ℕ) → IsTied medium v s → Thins v s t but → IsMemoryOf medium v t m
   memory-thins but tied thins = record {
     blocks = is.blocks ∙ sym (slots-same s t tied.laid thins.laid (λ slot l. mem-thinned v s t but slot thins l));
-    file = file-thins image honest v s t but m.file tied thins is.file;
+    file = file-thins medium v s t but m.file tied thins is.file;
     region = is.region ∙ sym thins.len;
   }
 
   -- the device was read
-  pub memory-device : (d : D) → image d ≡ image v.file.device → (honest d → honest v.file.device) → IsMemoryOf image honest (with_device v d) s m
-  memory-device d same was = record { blocks = is.blocks; file = file-device image honest v d same was s m.file is.file; region = is.region }
+  pub memory-device : (d : D) → medium.image d ≡ medium.image v.file.device → (medium.honest d → medium.honest v.file.device) → IsMemoryOf medium (with_device v d) s m
+  memory-device d same was = record { blocks = is.blocks; file = file-device medium v d same was s m.file is.file; region = is.region }
 
-  module _ (h : ℕ) (p : IsHandle h) (tied : IsTied image honest v s) (keeps : Keeps v s t h) where
+  module _ (h : ℕ) (p : IsHandle h) (tied : IsTied medium v s) (keeps : Keeps v s t h) where
     -- something was given for one block
-    pub memory-given : (g : GivesFile image honest v s t h p m.file tied keeps is.file) → IsMemoryOf image honest v t (given_memory g.given m)
+    pub memory-given : (g : GivesFile medium v s t h p m.file tied keeps is.file) → IsMemoryOf medium v t (given_memory g.given m)
     memory-given g = record {
       blocks = is.blocks ∙ sym (slots-same s t tied.laid keeps.laid (λ slot l. mem-kept v s t h slot p keeps l));
       file = g.file;
@@ -71,21 +72,21 @@ module _ {D : Type 0} (image : D → List ℕ) (honest : D → Type 0) (v : VmSt
 
     -- something else is listed under a handle
     module _ (w : VmState D) (file : w.file ≡ v.file) (others : (k : ℕ) → k ≢ h → held_at w k ≡ held_at v k) where
-      other : (k : ℕ) → IsHandle k → k ≢ h → IsListedIn image honest w t k (at_handle None m.file.cur.blocks k)
+      other : (k : ℕ) → IsHandle k → k ≢ h → IsListedIn medium w t k (at_handle None m.file.cur.blocks k)
       other k q ne =
-          let was = others-listed image honest v s t h k (at_handle None m.file.cur.blocks k) p q ne tied keeps (is.file.legal.cur.blocks k) (is.file.cur.each k q) in
-          subst (λ (x : FileState D). IsListedAs (honest x.device) (bytes_read image x k) (held_at w k) (block_at t (vm_slot k)) (at_handle None m.file.cur.blocks k)) (sym file)
-          (subst (λ e. IsListedAs (honest v.file.device) (bytes_read image v.file k) e (block_at t (vm_slot k)) (at_handle None m.file.cur.blocks k)) (sym (others k ne)) was)
+          let was = others-listed medium v s t h k (at_handle None m.file.cur.blocks k) p q ne tied keeps (is.file.legal.cur.blocks k) (is.file.cur.each k q) in
+          subst (λ (x : FileState D). IsListedAs (medium.honest x.device) (bytes_read medium.image x k) (held_at w k) (block_at t (vm_slot k)) (at_handle None m.file.cur.blocks k)) (sym file)
+          (subst (λ e. IsListedAs (medium.honest v.file.device) (bytes_read medium.image v.file k) e (block_at t (vm_slot k)) (at_handle None m.file.cur.blocks k)) (sym (others k ne)) was)
 
-      pub memory-entry : (a b c : ℕ) (x : Option VmBlock) → (a ≡ w.map_block) × (b ≡ w.map_item.0) × (c ≡ w.map_item.1) → IsListedIn image honest w t h x
+      pub memory-entry : (a b c : ℕ) (x : Option VmBlock) → (a ≡ w.map_block) × (b ≡ w.map_item.0) × (c ≡ w.map_item.1) → IsListedIn medium w t h x
           → IsCurrent (record { blocks = with_entry_at m.file.cur.blocks h x; map_block = a; map_group = b; map_item = c })
-          → IsMemoryOf image honest w t (with_cur m (record { blocks = with_entry_at m.file.cur.blocks h x; map_block = a; map_group = b; map_item = c }))
+          → IsMemoryOf medium w t (with_cur m (record { blocks = with_entry_at m.file.cur.blocks h x; map_block = a; map_group = b; map_item = c }))
       memory-entry a b c x maps own legal =
           let cur : Directory VmBlock = record { blocks = m.file.cur.blocks; map_block = a; map_group = b; map_item = c } in
           let now : Directory VmBlock = record { blocks = with_entry_at m.file.cur.blocks h x; map_block = a; map_group = b; map_item = c } in
           record {
             blocks = is.blocks ∙ sym (slots-same s t tied.laid keeps.laid (λ slot l. mem-kept v s t h slot p keeps l));
-            file = file-cur image honest v w s t m.file now file (current-entry image honest w t cur h p x is.file.cur.handles maps own other) legal is.file;
+            file = file-cur medium v w s t m.file now file (current-entry medium w t cur h p x is.file.cur.handles maps own other) legal is.file;
             region = is.region ∙ sym keeps.len;
           }
 
@@ -96,23 +97,23 @@ module _ {D : Type 0} (image : D → List ℕ) (honest : D → Type 0) (v : VmSt
       own_listed = record { uid = e.uid; marked = e.marked; block = spelled b.locks b.bytes }
 
       pub listed-there : listed_at m h ≡ Some own_listed
-      listed-there = subst (λ o. IsListedAs (honest v.file.device) (bytes_read image v.file h) o (Some b) (listed_at m h)) listed
-          (subst (λ o. IsListedAs (honest v.file.device) (bytes_read image v.file h) (held_at v h) o (listed_at m h)) there (is.file.cur.each h p))
+      listed-there = subst (λ o. IsListedAs (medium.honest v.file.device) (bytes_read medium.image v.file h) o (Some b) (listed_at m h)) listed
+          (subst (λ o. IsListedAs (medium.honest v.file.device) (bytes_read medium.image v.file h) (held_at v h) o (listed_at m h)) there (is.file.cur.each h p))
 
       pub own-legal : IsLegalListed own_listed
       own-legal = subst (λ o. IfSome o IsLegalListed) listed-there (is.file.legal.cur.blocks h)
 
       -- it has other bytes, or is locked so often
       pub memory-changed : (change : ModelBlock → ModelBlock) (c : Block) → block_at t (vm_slot h) ≡ Some c → change (spelled b.locks b.bytes) ≡ spelled c.locks c.bytes → IsLegalBlock (spelled c.locks c.bytes)
-          → IsMemoryOf image honest v t (with_block m (vm h) (option_map change (block_of m (vm h))))
+          → IsMemoryOf medium v t (with_block m (vm h) (option_map change (block_of m (vm h))))
       memory-changed change c now same legal =
           let cur = m.file.cur in
           let x : Option VmBlock = option_map (relisted (listed_at m h)) (option_map change (block_of m (vm h))) in
           let after : VmBlock = record { uid = e.uid; marked = e.marked; block = spelled c.locks c.bytes } in
           let x_is : x ≡ Some after = relisted-changed change (listed_at m h) ∙ ap (option_map (changed_in change)) listed-there ∙ (λ k. Some (record { uid = e.uid; marked = e.marked; block = same k })) in
-          let own : IsListedIn image honest v t h x =
-          subst (λ o. IsListedAs (honest v.file.device) (bytes_read image v.file h) o (block_at t (vm_slot h)) x) (sym listed)
-          (subst (λ o. IsListedAs (honest v.file.device) (bytes_read image v.file h) (Some e) o x) (sym now) x_is) in
+          let own : IsListedIn medium v t h x =
+          subst (λ o. IsListedAs (medium.honest v.file.device) (bytes_read medium.image v.file h) o (block_at t (vm_slot h)) x) (sym listed)
+          (subst (λ o. IsListedAs (medium.honest v.file.device) (bytes_read medium.image v.file h) (Some e) o x) (sym now) x_is) in
           let good : IfSome x IsLegalListed = subst (λ o. IfSome o IsLegalListed) (sym x_is) (let l : IsLegalListed after = record { uid = own-legal.uid; block = legal } in l) in
           let uid : option_map (λ (l : VmBlock). l.uid) x ≡ option_map (λ (l : VmBlock). l.uid) (listed_at m h) = ap (option_map (λ (l : VmBlock). l.uid)) x_is ∙ sym (ap (option_map (λ (l : VmBlock). l.uid)) listed-there) in
           memory-entry v refl (λ k ne. refl) cur.map_block cur.map_group cur.map_item x (is.file.cur.map_block, is.file.cur.map_group, is.file.cur.map_item) own
@@ -120,15 +121,15 @@ module _ {D : Type 0} (image : D → List ℕ) (honest : D → Type 0) (v : VmSt
 
       -- it is marked, or not, and else as it was
       pub memory-marked : (w : VmState D) (marked : Bool) → w.file ≡ v.file → ((k : ℕ) → k ≢ h → held_at w k ≡ held_at v k) → (w.map_block ≡ v.map_block) → (w.map_item ≡ v.map_item)
-          → held_at w h ≡ Some (record e { marked = marked }) → block_at t (vm_slot h) ≡ Some b → IsMemoryOf image honest w t (with_mark m h marked)
+          → held_at w h ≡ Some (record e { marked = marked }) → block_at t (vm_slot h) ≡ Some b → IsMemoryOf medium w t (with_mark m h marked)
       memory-marked w marked file others map_block map_item held now =
           let cur = m.file.cur in
           let x : Option VmBlock = option_map (marked_block marked) (listed_at m h) in
           let after : VmBlock = record own_listed { marked = marked } in
           let x_is : x ≡ Some after = ap (option_map (marked_block marked)) listed-there in
-          let own : IsListedIn image honest w t h x =
-          subst (λ o. IsListedAs (honest w.file.device) (bytes_read image w.file h) o (block_at t (vm_slot h)) x) (sym held)
-          (subst (λ o. IsListedAs (honest w.file.device) (bytes_read image w.file h) (Some (record e { marked = marked })) o x) (sym now) x_is) in
+          let own : IsListedIn medium w t h x =
+          subst (λ o. IsListedAs (medium.honest w.file.device) (bytes_read medium.image w.file h) o (block_at t (vm_slot h)) x) (sym held)
+          (subst (λ o. IsListedAs (medium.honest w.file.device) (bytes_read medium.image w.file h) (Some (record e { marked = marked })) o x) (sym now) x_is) in
           let good : IfSome x IsLegalListed = subst (λ o. IfSome o IsLegalListed) (sym x_is) (let l : IsLegalListed after = record { uid = own-legal.uid; block = own-legal.block } in l) in
           let uid : option_map (λ (l : VmBlock). l.uid) x ≡ option_map (λ (l : VmBlock). l.uid) (listed_at m h) = ap (option_map (λ (l : VmBlock). l.uid)) x_is ∙ sym (ap (option_map (λ (l : VmBlock). l.uid)) listed-there) in
           memory-entry w file others cur.map_block cur.map_group cur.map_item x

@@ -11,6 +11,7 @@ use Rattle.geos_table.specs.VmFile as model_file
 use Rattle.geos_table.proofs.LegalDirectories.{doubted-legal}
 use Rattle.geos_table.specs.VmFile.{Kept, Sure, Unsure, VmFile, doubted}
 use Rattle.block_handles.specs.Store.{Store, block_at}
+use Rattle.vm_file.specs.Device.{Medium}
 use Rattle.vm_file.specs.declared.commit.How.{How}
 use Rattle.vm_file.specs.declared.error.CommitError.{CommitError}
 use Rattle.vm_file.specs.declared.error.CommitError.TheVariants as error
@@ -59,28 +60,28 @@ module _ (m : Memory) (how : How) where
 
 -- A state of which nothing but the device and its doubt changed
 
-module _ {D : Type 0} (image : D → List ℕ) (honest : D → Type 0) (v w : VmState D) (s : Store) (m : Memory) (is : IsMemoryOf image honest v s m)
-    (state : w ≡ record v { file = record v.file { device = w.file.device; sure = w.file.sure } }) (was : honest w.file.device → honest v.file.device) (same : honest w.file.device → pair_of image w.file ≡ pair_of image v.file) where
+module _ {D : Type 0} (medium : Medium D) (v w : VmState D) (s : Store) (m : Memory) (is : IsMemoryOf medium v s m)
+    (state : w ≡ record v { file = record v.file { device = w.file.device; sure = w.file.sure } }) (was : medium.honest w.file.device → medium.honest v.file.device) (same : medium.honest w.file.device → pair_of medium.image w.file ≡ pair_of medium.image v.file) where
   abbrev now : VmState D
   now = record v { file = record v.file { device = w.file.device; sure = w.file.sure } }
 
-  pair-same : honest now.file.device → pair_of image now.file ≡ pair_of image v.file
-  pair-same g = ap (λ (x : VmState D). pair_of image x.file) (sym state) ∙ same g
+  pair-same : medium.honest now.file.device → pair_of medium.image now.file ≡ pair_of medium.image v.file
+  pair-same g = ap (λ (x : VmState D). pair_of medium.image x.file) (sym state) ∙ same g
 
-  memory-doubted : (kept : Kept) → IsKeptOf image honest now.file kept → ArePairs kept → IsMemoryOf image honest w s (record m { file = record m.file { kept = kept } })
-  memory-doubted kept k legal = subst (λ x. IsMemoryOf image honest x s (record m { file = record m.file { kept = kept } })) (sym state) (record {
+  memory-doubted : (kept : Kept) → IsKeptOf medium.image medium.honest now.file kept → ArePairs kept → IsMemoryOf medium w s (record m { file = record m.file { kept = kept } })
+  memory-doubted kept k legal = subst (λ x. IsMemoryOf medium x s (record m { file = record m.file { kept = kept } })) (sym state) (record {
     blocks = is.blocks;
     file = record {
       area = is.file.area;
       cur = record {
         handles = is.file.cur.handles;
-        each = λ h p. listed-on (honest v.file.device) (honest now.file.device) was (bytes_read image v.file h) (bytes_read image now.file h) (held_at v h) (block_at s (vm_slot h)) (at_handle None m.file.cur.blocks h)
+        each = λ h p. listed-on (medium.honest v.file.device) (medium.honest now.file.device) was (bytes_read medium.image v.file h) (bytes_read medium.image now.file h) (held_at v h) (block_at s (vm_slot h)) (at_handle None m.file.cur.blocks h)
             (λ g. ap (λ (q : Pair). bytes_of_block q.cur.blocks h) (pair-same g)) (is.file.cur.each h p);
         map_block = is.file.cur.map_block;
         map_group = is.file.cur.map_group;
         map_item = is.file.cur.map_item;
       };
-      saved = directory-on (honest v.file.device) (honest now.file.device) was v.file.saved (pair_of image v.file).saved.blocks (pair_of image now.file).saved.blocks m.file.saved (λ g. ap (λ (q : Pair). q.saved.blocks) (pair-same g)) is.file.saved;
+      saved = directory-on (medium.honest v.file.device) (medium.honest now.file.device) was v.file.saved (pair_of medium.image v.file).saved.blocks (pair_of medium.image now.file).saved.blocks m.file.saved (λ g. ap (λ (q : Pair). q.saved.blocks) (pair-same g)) is.file.saved;
       kept = k;
       legal = record { cur = is.file.legal.cur; saved = is.file.legal.saved; kept = legal };
     };
@@ -89,15 +90,15 @@ module _ {D : Type 0} (image : D → List ℕ) (honest : D → Type 0) (v w : Vm
 
 -- The call
 
-module _ {D : Type 0} (image : D → List ℕ) (honest : D → Type 0) (failed : D → ℕ) (may_leave : D → List ℕ → Type 0) (left : D → D → List ℕ → Type 0) (v w : VmState D) (s t : Store) (how : How)
-    (tied : IsTied image honest v s) (now_tied : IsTied image honest w t) (free : NoneLocked s) (cur_legal : is_directory (directory_of v s) ≡ true) (old_legal : is_directory v.file.saved ≡ true)
-    (whole : honest v.file.device → (listed (kept_after image (resident_of s) how (directory_of v s) v.file).cur ≡ current_after how (directory_of v s) v.file.saved)
-    × (listed (kept_after image (resident_of s) how (directory_of v s) v.file).saved ≡ saved_after how (directory_of v s) v.file.saved)) where
+module _ {D : Type 0} (medium : Medium D) (v w : VmState D) (s t : Store) (how : How)
+    (tied : IsTied medium v s) (now_tied : IsTied medium w t) (free : NoneLocked s) (cur_legal : is_directory (directory_of v s) ≡ true) (old_legal : is_directory v.file.saved ≡ true)
+    (whole : medium.honest v.file.device → (listed (kept_after medium.image (resident_of s) how (directory_of v s) v.file).cur ≡ current_after how (directory_of v s) v.file.saved)
+    × (listed (kept_after medium.image (resident_of s) how (directory_of v s) v.file).saved ≡ saved_after how (directory_of v s) v.file.saved)) where
   abbrev Commits : Result (Unit {0}) CommitError → Type 0
-  Commits r = CommitsFile image honest failed may_leave left how (resident_of s) (directory_of v s) v.file w.file r
+  Commits r = CommitsFile medium how (resident_of s) (directory_of v s) v.file w.file r
 
   abbrev Row : Result (Unit {0}) CommitError → Type 0
-  Row r = DoesRow image honest failed (commit (keeper_of how)) (of_commit r) v s w t
+  Row r = DoesRow medium (commit (keeper_of how)) (of_commit r) v s w t
 
   same-state : w ≡ record v { file = w.file } → w.file ≡ v.file → w ≡ v
   same-state state file = state ∙ ap (λ (x : FileState D). let y : VmState D = record v { file = x } in y) file
@@ -105,8 +106,8 @@ module _ {D : Type 0} (image : D → List ℕ) (honest : D → Type 0) (failed :
   done-row : (done : Unit {0}) → Commits (Ok done) → IsListOf w w.file.current → StoreAfter how s t → Row (Ok done)
   done-row done c lists store m is =
       let sure : v.file.sure ≡ true = true-or v.file.sure (λ f. (let x = c.unsure.1 f in cc)) in
-      let fits = area-test image honest v s m is how cur_legal old_legal (λ big. (let x = c.too_big.1 (sure, big) in cc)) in
-      let d : IsDone image honest how v w s t = record {
+      let fits = area-test medium v s m is how cur_legal old_legal (λ big. (let x = c.too_big.1 (sure, big) in cc)) in
+      let d : IsDone medium how v w s t = record {
         area = ap (λ (x : FileState D). x.area) c.done;
         sure = ap (λ (x : FileState D). x.sure) c.done;
         current = ap (λ (x : FileState D). x.current) c.done;
@@ -121,12 +122,12 @@ module _ {D : Type 0} (image : D → List ℕ) (honest : D → Type 0) (failed :
         offered false false false,
         record { given = λ g. refl; device = λ g x. absurd cc },
         committed m (pair m how),
-        memory-committed image honest v w s t m tied is how d,
-        went m how (sure-test image honest v s m is how cur_legal old_legal sure) fits,
+        memory-committed medium v w s t m tied is how d,
+        went m how (sure-test medium v s m is how cur_legal old_legal sure) fits,
       )
 
-  unmoved : w ≡ v → t ≡ s → (m : Memory) → IsMemoryOf image honest v s m → IsMemoryOf image honest w t m
-  unmoved state store m is = subst (λ x. IsMemoryOf image honest x t m) (sym state) (subst (λ u. IsMemoryOf image honest v u m) (sym store) is)
+  unmoved : w ≡ v → t ≡ s → (m : Memory) → IsMemoryOf medium v s m → IsMemoryOf medium w t m
+  unmoved state store m is = subst (λ x. IsMemoryOf medium x t m) (sym state) (subst (λ u. IsMemoryOf medium v u m) (sym store) is)
 
   unsure-row : Commits (Err error.Unsure) → w ≡ record v { file = w.file } → t ≡ s → Row (Err error.Unsure)
   unsure-row c state store m is = (
@@ -134,7 +135,7 @@ module _ {D : Type 0} (image : D → List ℕ) (honest : D → Type 0) (failed :
     record { given = λ g. refl; device = λ g x. absurd cc },
     m,
     unmoved (same-state state c.refused) store m is,
-    doubtful m how (unsure-test image honest v s m is how cur_legal old_legal (c.unsure.0 refl)),
+    doubtful m how (unsure-test medium v s m is how cur_legal old_legal (c.unsure.0 refl)),
   )
 
   big-row : Commits (Err error.TooBig) → w ≡ record v { file = w.file } → t ≡ s → Row (Err error.TooBig)
@@ -144,82 +145,82 @@ module _ {D : Type 0} (image : D → List ℕ) (honest : D → Type 0) (failed :
         record { given = λ g. refl; device = λ g x. absurd cc },
         m,
         unmoved (same-state state c.refused) store m is,
-        too-big m how (sure-test image honest v s m is how cur_legal old_legal big.0) (big-test image honest v s m is how cur_legal old_legal big.1),
+        too-big m how (sure-test medium v s m is how cur_legal old_legal big.0) (big-test medium v s m is how cur_legal old_legal big.1),
       )
 
   memory-row : Commits (Err error.Memory) → w ≡ record v { file = w.file } → t ≡ s → Row (Err error.Memory)
   memory-row c state store m is =
       let sure : v.file.sure ≡ true = true-or v.file.sure (λ f. (let x = c.unsure.1 f in cc)) in
-      let fits = area-test image honest v s m is how cur_legal old_legal (λ big. (let x = c.too_big.1 (sure, big) in cc)) in (
+      let fits = area-test medium v s m is how cur_legal old_legal (λ big. (let x = c.too_big.1 (sure, big) in cc)) in (
         offered true false false,
         record { given = λ g. refl; device = λ g x. absurd cc },
         m,
         unmoved (same-state state c.refused) store m is,
-        no-memory m how (sure-test image honest v s m is how cur_legal old_legal sure) fits,
+        no-memory m how (sure-test medium v s m is how cur_legal old_legal sure) fits,
       )
 
   -- what is in doubt after a fault
-  other-told : v.file.sure ≡ true → w.file.sure ≡ false → (after : Pair) → KeepsAfter error.Disk after (kept_of image v.file) (kept_of image w.file) → other_pair image w.file ≡ after
+  other-told : v.file.sure ≡ true → w.file.sure ≡ false → (after : Pair) → KeepsAfter error.Disk after (kept_of medium.image v.file) (kept_of medium.image w.file) → other_pair medium.image w.file ≡ after
   other-told sure doubt after keeps = on keeps
     where
-      old : kept_of image v.file ≡ SureOf (pair_of image v.file)
+      old : kept_of medium.image v.file ≡ SureOf (pair_of medium.image v.file)
       old = rw sure refl
 
-      new : kept_of image w.file ≡ UnsureBetween (pair_of image w.file) (other_pair image w.file)
+      new : kept_of medium.image w.file ≡ UnsureBetween (pair_of medium.image w.file) (other_pair medium.image w.file)
       new = rw doubt refl
 
-      on : KeepsAfter error.Disk after (kept_of image v.file) (kept_of image w.file) → other_pair image w.file ≡ after
-      on (inl e) = absurd (let x : UnsureBetween (pair_of image w.file) (other_pair image w.file) ≡ SureOf (pair_of image v.file) = sym new ∙ e ∙ old in cc)
-      on (inr x) = let y : UnsureBetween (pair_of image w.file) (other_pair image w.file) ≡ UnsureBetween x.0 after = sym new ∙ x.2 in ap second y
+      on : KeepsAfter error.Disk after (kept_of medium.image v.file) (kept_of medium.image w.file) → other_pair medium.image w.file ≡ after
+      on (inl e) = absurd (let x : UnsureBetween (pair_of medium.image w.file) (other_pair medium.image w.file) ≡ SureOf (pair_of medium.image v.file) = sym new ∙ e ∙ old in cc)
+      on (inr x) = let y : UnsureBetween (pair_of medium.image w.file) (other_pair medium.image w.file) ≡ UnsureBetween x.0 after = sym new ∙ x.2 in ap second y
         where
           second : file.Kept → Pair
           second (SureOf p) = p
           second (UnsureBetween p q) = q
 
-  module _ (c : Commits (Err error.Disk)) (state : w ≡ record v { file = w.file }) (store : t ≡ s) (m : Memory) (is : IsMemoryOf image honest v s m) where
+  module _ (c : Commits (Err error.Disk)) (state : w ≡ record v { file = w.file }) (store : t ≡ s) (m : Memory) (is : IsMemoryOf medium v s m) where
     sure-then : v.file.sure ≡ true
     sure-then = true-or v.file.sure (λ f. (let x = c.unsure.1 f in cc))
 
     whole-state : w ≡ record v { file = record v.file { device = w.file.device; sure = w.file.sure } }
     whole-state = state ∙ ap (λ (x : FileState D). let y : VmState D = record v { file = x } in y) c.refused
 
-    old-pair : (p : model_file.Pair) → IsPairOf (honest v.file.device) v.file.current v.file.saved (pair_of image v.file) p → IsPairOf (honest w.file.device) v.file.current v.file.saved (pair_of image (now image honest v w s m is whole-state c.was (λ g. c.pair (c.was g))).file) p
-    old-pair p is_p = pair-on (honest v.file.device) (honest w.file.device) c.was v.file.current v.file.saved (pair_of image v.file) (pair_of image (now image honest v w s m is whole-state c.was (λ g. c.pair (c.was g))).file) p
-        (pair-same image honest v w s m is whole-state c.was (λ g. c.pair (c.was g))) is_p
+    old-pair : (p : model_file.Pair) → IsPairOf (medium.honest v.file.device) v.file.current v.file.saved (pair_of medium.image v.file) p → IsPairOf (medium.honest w.file.device) v.file.current v.file.saved (pair_of medium.image (now medium v w s m is whole-state c.was (λ g. c.pair (c.was g))).file) p
+    old-pair p is_p = pair-on (medium.honest v.file.device) (medium.honest w.file.device) c.was v.file.current v.file.saved (pair_of medium.image v.file) (pair_of medium.image (now medium v w s m is whole-state c.was (λ g. c.pair (c.was g))).file) p
+        (pair-same medium v w s m is whole-state c.was (λ g. c.pair (c.was g))) is_p
 
     -- what is kept where it is still sure, and where it is not
-    kept-sure : w.file.sure ≡ true → (k : Kept) → IsKeptOf image honest v.file k → IsKeptOf image honest (now image honest v w s m is whole-state c.was (λ g. c.pair (c.was g))).file k
+    kept-sure : w.file.sure ≡ true → (k : Kept) → IsKeptOf medium.image medium.honest v.file k → IsKeptOf medium.image medium.honest (now medium v w s m is whole-state c.was (λ g. c.pair (c.was g))).file k
     kept-sure sure (Sure p) k = (sure, old-pair p k.1)
     kept-sure sure (Unsure p q) k = absurd (let x : true ≡ false = sym sure-then ∙ k.0 in cc)
 
-    new-pair : w.file.sure ≡ false → honest w.file.device → pair m how ≡ stored_pair (other_pair image w.file)
+    new-pair : w.file.sure ≡ false → medium.honest w.file.device → pair m how ≡ stored_pair (other_pair medium.image w.file)
     new-pair doubt g =
         let fair = c.was g in
         let cur = current_after how (directory_of v s) v.file.saved in let saved = saved_after how (directory_of v s) v.file.saved in
-        let after = kept_after image (resident_of s) how (directory_of v s) v.file in
-        let from : IsPairOf (Unit {0}) cur saved after (pair m how) = pair-on (honest v.file.device) (Unit {0}) (λ u. fair) cur saved after after (pair m how) (λ u. refl) (kept-is image honest v s m is how) in
+        let after = kept_after medium.image (resident_of s) how (directory_of v s) v.file in
+        let from : IsPairOf (Unit {0}) cur saved after (pair m how) = pair-on (medium.honest v.file.device) (Unit {0}) (λ u. fair) cur saved after after (pair m how) (λ u. refl) (kept-is medium v s m is how) in
         let e = whole fair in
         pair-one cur saved after (pair m how) e.0 e.1 from ∙ sym (ap stored_pair (other-told sure-then doubt after (c.kept fair)))
 
-    kept-doubted : w.file.sure ≡ false → (k : Kept) → IsKeptOf image honest v.file k → IsKeptOf image honest (now image honest v w s m is whole-state c.was (λ g. c.pair (c.was g))).file (doubted k (pair m how))
-    kept-doubted doubt (Sure p) k = (doubt, old-pair p k.1, λ g. new-pair doubt g ∙ ap (λ (x : VmState D). stored_pair (other_pair image x.file)) whole-state)
+    kept-doubted : w.file.sure ≡ false → (k : Kept) → IsKeptOf medium.image medium.honest v.file k → IsKeptOf medium.image medium.honest (now medium v w s m is whole-state c.was (λ g. c.pair (c.was g))).file (doubted k (pair m how))
+    kept-doubted doubt (Sure p) k = (doubt, old-pair p k.1, λ g. new-pair doubt g ∙ ap (λ (x : VmState D). stored_pair (other_pair medium.image x.file)) whole-state)
     kept-doubted doubt (Unsure p q) k = absurd (let x : true ≡ false = sym sure-then ∙ k.0 in cc)
 
-    disk-memory : (b : Bool) → w.file.sure ≡ b → IsMemoryOf image honest w t (faulted (offered false true (not b)) m (pair m how))
-    disk-memory true sure = subst (λ u. IsMemoryOf image honest w u m) (sym store)
-        (memory-doubted image honest v w s m is whole-state c.was (λ g. c.pair (c.was g)) m.file.kept (kept-sure sure m.file.kept is.file.kept) is.file.legal.kept)
-    disk-memory false doubt = subst (λ u. IsMemoryOf image honest w u (record m { file = record m.file { kept = doubted m.file.kept (pair m how) } })) (sym store)
-        (memory-doubted image honest v w s m is whole-state c.was (λ g. c.pair (c.was g)) (doubted m.file.kept (pair m how)) (kept-doubted doubt m.file.kept is.file.kept)
-        (doubted-legal m.file.kept (pair m how) is.file.legal.kept (kept-legal image honest v s m is how)))
+    disk-memory : (b : Bool) → w.file.sure ≡ b → IsMemoryOf medium w t (faulted (offered false true (not b)) m (pair m how))
+    disk-memory true sure = subst (λ u. IsMemoryOf medium w u m) (sym store)
+        (memory-doubted medium v w s m is whole-state c.was (λ g. c.pair (c.was g)) m.file.kept (kept-sure sure m.file.kept is.file.kept) is.file.legal.kept)
+    disk-memory false doubt = subst (λ u. IsMemoryOf medium w u (record m { file = record m.file { kept = doubted m.file.kept (pair m how) } })) (sym store)
+        (memory-doubted medium v w s m is whole-state c.was (λ g. c.pair (c.was g)) (doubted m.file.kept (pair m how)) (kept-doubted doubt m.file.kept is.file.kept)
+        (doubted-legal m.file.kept (pair m how) is.file.legal.kept (kept-legal medium v s m is how)))
 
   disk-row : Commits (Err error.Disk) → w ≡ record v { file = w.file } → t ≡ s → Row (Err error.Disk)
   disk-row c state store m is =
-      let fits = area-test image honest v s m is how cur_legal old_legal (λ big. (let x = c.too_big.1 (sure-then c state store m is, big) in cc)) in (
+      let fits = area-test medium v s m is how cur_legal old_legal (λ big. (let x = c.too_big.1 (sure-then c state store m is, big) in cc)) in (
         offered false true (not w.file.sure),
         record { given = λ g. refl; device = λ g x. c.cause g refl },
         faulted (offered false true (not w.file.sure)) m (pair m how),
         disk-memory c state store m is w.file.sure refl,
-        failed-row m how (not w.file.sure) (sure-test image honest v s m is how cur_legal old_legal (sure-then c state store m is)) fits,
+        failed-row m how (not w.file.sure) (sure-test medium v s m is how cur_legal old_legal (sure-then c state store m is)) fits,
       )
 
   -- whatever it answers

@@ -14,6 +14,7 @@ use Rattle.geos_table.proofs.LegalDirectories.{written-legal}
 use Rattle.std.proofs.lemmas.List.{length-map}
 use Rattle.block_handles.specs.Names.{IsHandle}
 use Rattle.block_handles.specs.Store.{Block, Store, block_at}
+use Rattle.vm_file.specs.Device.{Medium}
 use Rattle.vm_file.specs.declared.commit.How.{How}
 use Rattle.vm_file.specs.declared.commit.How.TheVariants.{Update, Save, Revert}
 use Rattle.vm_file.specs.declared.directory.Entry.{Entry}
@@ -64,21 +65,21 @@ module _ {D : Type 0} (v : VmState D) (s : Store) where
 
 -- The current directory as a commit writes it
 
-module _ {D : Type 0} (image : D → List ℕ) (honest : D → Type 0) (v : VmState D) (s : Store) (m : Memory) (is : IsMemoryOf image honest v s m) where
+module _ {D : Type 0} (medium : Medium D) (v : VmState D) (s : Store) (m : Memory) (is : IsMemoryOf medium v s m) where
   abbrev pub blocks_now : List file.Block
-  blocks_now = (contents_from (resident_of s) (pair_of image v.file).cur.blocks (directory_of v s)).blocks
+  blocks_now = (contents_from (resident_of s) (pair_of medium.image v.file).cur.blocks (directory_of v s)).blocks
 
   -- what is read of the contents that are to be kept
-  pub bytes-now : (h : ℕ) (e : Held) (b : Option Block) → IsHandle h → held_at v h ≡ Some e → block_at s (vm_slot h) ≡ b → bytes_of_block blocks_now h ≡ unwrap_or (option_map (λ (x : Block). x.bytes) b) (bytes_read image v.file h)
+  pub bytes-now : (h : ℕ) (e : Held) (b : Option Block) → IsHandle h → held_at v h ≡ Some e → block_at s (vm_slot h) ≡ b → bytes_of_block blocks_now h ≡ unwrap_or (option_map (λ (x : Block). x.bytes) b) (bytes_read medium.image v.file h)
   bytes-now h e b p listed there =
       let at_h : entry_at (directory_of v s) h ≡ Some (record { h = h; uid = e.uid; len = len_now e b }) = found-entry v s h p ∙ ap (λ o. entry_for h o (block_at s (vm_slot h))) listed ∙ ap (entry_for h (Some e)) there in
-      bytes_found (resident_of s) (pair_of image v.file).cur.blocks (directory_of v s).entries.items h (record { h = h; uid = e.uid; len = len_now e b }) at_h
-      ∙ ap (λ o. unwrap_or (option_map (λ (x : Block). x.bytes) o) (bytes_read image v.file h)) there
+      bytes_found (resident_of s) (pair_of medium.image v.file).cur.blocks (directory_of v s).entries.items h (record { h = h; uid = e.uid; len = len_now e b }) at_h
+      ∙ ap (λ o. unwrap_or (option_map (λ (x : Block). x.bytes) o) (bytes_read medium.image v.file h)) there
 
   abbrev good : Type 0
-  good = honest v.file.device
+  good = medium.honest v.file.device
 
-  written-at : (h : ℕ) (o : Option Held) (b : Option Block) (l : Option VmBlock) → IsHandle h → held_at v h ≡ o → block_at s (vm_slot h) ≡ b → IfSome l IsLegalListed → IsListedAs good (bytes_read image v.file h) o b l
+  written-at : (h : ℕ) (o : Option Held) (b : Option Block) (l : Option VmBlock) → IsHandle h → held_at v h ≡ o → block_at s (vm_slot h) ≡ b → IfSome l IsLegalListed → IsListedAs good (bytes_read medium.image v.file h) o b l
       → IsStoredAs good (bytes_of_block blocks_now h) (entry_for h o b) (option_map kept_block l)
   written-at h None b l p listed there legal tells = ap (option_map kept_block) tells
   written-at h (Some e) None None p listed there legal tells = absurd tells
@@ -107,7 +108,7 @@ module _ {D : Type 0} (image : D → List ℕ) (honest : D → Type 0) (v : VmSt
   }
 
   -- the pair that is to be kept
-  pub kept-is : (how : How) → IsPairOf good (current_after how (directory_of v s) v.file.saved) (saved_after how (directory_of v s) v.file.saved) (kept_after image (resident_of s) how (directory_of v s) v.file) (pair_to_keep (keeper_of how) m)
+  pub kept-is : (how : How) → IsPairOf good (current_after how (directory_of v s) v.file.saved) (saved_after how (directory_of v s) v.file.saved) (kept_after medium.image (resident_of s) how (directory_of v s) v.file) (pair_to_keep (keeper_of how) m)
   kept-is Update = record { cur = written-is; saved = is.file.saved }
   kept-is Save = record { cur = written-is; saved = written-is }
   kept-is Revert = record { cur = is.file.saved; saved = is.file.saved }

@@ -12,6 +12,7 @@ use Rattle.std.proofs.lemmas.List.{length-map}
 use Rattle.block_handles.specs.Names.{IsHandle}
 use Rattle.block_handles.specs.Layout.{IsLaidOut}
 use Rattle.block_handles.specs.Store.{Block, Store, block_at, locks_in}
+use Rattle.vm_file.specs.Device.{Medium}
 use Rattle.vm_file.specs.declared.commit.How.{How}
 use Rattle.vm_file.specs.declared.commit.How.TheVariants.{Update, Save, Revert}
 use Rattle.vm_file.specs.declared.directory.Entry.{Entry}
@@ -51,57 +52,57 @@ idle-kept fair well read now h (Some e) (Some b) l was same free tells =
     ap (λ x. option_map idle_block (option_map kept_block x)) tells ∙ (let back = sym free in λ k. Some (record { uid = e.uid; marked = false; block = record { locks = back k; heap = heap_in b.bytes } }))
 
 -- a file after a commit that succeeded
-pub record IsDone {D : Type 0} (image : D → List ℕ) (honest : D → Type 0) (how : How) (v w : VmState D) (s t : Store) : Type 0 where
+pub record IsDone {D : Type 0} (medium : Medium D) (how : How) (v w : VmState D) (s t : Store) : Type 0 where
   pub area : w.file.area ≡ v.file.area
   pub sure : w.file.sure ≡ true
   pub current : w.file.current ≡ current_after how (directory_of v s) v.file.saved
   pub saved : w.file.saved ≡ saved_after how (directory_of v s) v.file.saved
-  pub was : honest w.file.device → honest v.file.device
-  pub pair : honest w.file.device → pair_of image w.file ≡ kept_after image (resident_of s) how (directory_of v s) v.file
+  pub was : medium.honest w.file.device → medium.honest v.file.device
+  pub pair : medium.honest w.file.device → pair_of medium.image w.file ≡ kept_after medium.image (resident_of s) how (directory_of v s) v.file
   pub lists : IsListOf w w.file.current
   pub store : StoreAfter how s t
   pub laid : IsLaidOut t
   pub free : NoneLocked s
 
-module _ {D : Type 0} (image : D → List ℕ) (honest : D → Type 0) (v w : VmState D) (s t : Store) (m : Memory) (tied : IsTied image honest v s) (is : IsMemoryOf image honest v s m) where
+module _ {D : Type 0} (medium : Medium D) (v w : VmState D) (s t : Store) (m : Memory) (tied : IsTied medium v s) (is : IsMemoryOf medium v s m) where
   abbrev well : Type 0
-  well = honest w.file.device
+  well = medium.honest w.file.device
 
-  module _ (how : How) (d : IsDone image honest how v w s t) where
+  module _ (how : How) (d : IsDone medium how v w s t) where
     -- what is kept now
-    now-pair : IsPairOf well w.file.current w.file.saved (pair_of image w.file) (pair_to_keep (keeper_of how) m)
+    now-pair : IsPairOf well w.file.current w.file.saved (pair_of medium.image w.file) (pair_to_keep (keeper_of how) m)
     now-pair =
-        let old = kept-is image honest v s m is how in
+        let old = kept-is medium v s m is how in
         let p = pair_to_keep (keeper_of how) m in
-        let next = pair-on (honest v.file.device) well d.was (current_after how (directory_of v s) v.file.saved) (saved_after how (directory_of v s) v.file.saved) (kept_after image (resident_of s) how (directory_of v s) v.file) (pair_of image w.file) p d.pair old in
-        subst (λ x. IsPairOf well x w.file.saved (pair_of image w.file) p) (sym d.current)
-        (subst (λ x. IsPairOf well (current_after how (directory_of v s) v.file.saved) x (pair_of image w.file) p) (sym d.saved) next)
+        let next = pair-on (medium.honest v.file.device) well d.was (current_after how (directory_of v s) v.file.saved) (saved_after how (directory_of v s) v.file.saved) (kept_after medium.image (resident_of s) how (directory_of v s) v.file) (pair_of medium.image w.file) p d.pair old in
+        subst (λ x. IsPairOf well x w.file.saved (pair_of medium.image w.file) p) (sym d.current)
+        (subst (λ x. IsPairOf well (current_after how (directory_of v s) v.file.saved) x (pair_of medium.image w.file) p) (sym d.saved) next)
 
   -- the current directory goes on: what is in memory stays there
-  goes-on : (how : How) (d : IsDone image honest how v w s t) → t ≡ s → w.file.current ≡ directory_of v s
-      → (well → (h : ℕ) → bytes_read image w.file h ≡ bytes_of_block (blocks_now image honest v s m is) h)
-      → (h : ℕ) → IsHandle h → IsListedAs well (bytes_read image w.file h) (held_at w h) (block_at t (vm_slot h)) (at_handle None (with_each idle_block (written_directory m)).blocks h)
+  goes-on : (how : How) (d : IsDone medium how v w s t) → t ≡ s → w.file.current ≡ directory_of v s
+      → (well → (h : ℕ) → bytes_read medium.image w.file h ≡ bytes_of_block (blocks_now medium v s m is) h)
+      → (h : ℕ) → IsHandle h → IsListedAs well (bytes_read medium.image w.file h) (held_at w h) (block_at t (vm_slot h)) (at_handle None (with_each idle_block (written_directory m)).blocks h)
   goes-on how d same current read h p =
       let held : held_at w h ≡ option_map as_held (entry_for h (held_at v h) (block_at s (vm_slot h))) = d.lists.each h p ∙ ap (λ x. option_map as_held (entry_at x h)) current ∙ ap (option_map as_held) (found-entry v s h p) in
       let at_h : at_handle None (with_each idle_block (written_directory m)).blocks h ≡ option_map idle_block (option_map kept_block (listed_at m h)) = entry-each idle_block (written_directory m).blocks h ∙ ap (option_map idle_block) (entry-each kept_block m.file.cur.blocks h) in
       let block : block_at t (vm_slot h) ≡ block_at s (vm_slot h) = ap (λ u. block_at u (vm_slot h)) same in
-      let listed = idle-kept (honest v.file.device) well (bytes_read image v.file h) (bytes_read image w.file h) h (held_at v h) (block_at s (vm_slot h)) (listed_at m h) d.was (λ e l none g. read g h ∙ bytes-now image honest v s m is h e None p l none) (d.free h p) (is.file.cur.each h p) in
-      subst (λ x. IsListedAs well (bytes_read image w.file h) x (block_at t (vm_slot h)) (at_handle None (with_each idle_block (written_directory m)).blocks h)) (sym held)
-      (subst (λ x. IsListedAs well (bytes_read image w.file h) (option_map as_held (entry_for h (held_at v h) (block_at s (vm_slot h)))) x (at_handle None (with_each idle_block (written_directory m)).blocks h)) (sym block)
-      (subst (IsListedAs well (bytes_read image w.file h) (option_map as_held (entry_for h (held_at v h) (block_at s (vm_slot h)))) (block_at s (vm_slot h))) (sym at_h) listed))
+      let listed = idle-kept (medium.honest v.file.device) well (bytes_read medium.image v.file h) (bytes_read medium.image w.file h) h (held_at v h) (block_at s (vm_slot h)) (listed_at m h) d.was (λ e l none g. read g h ∙ bytes-now medium v s m is h e None p l none) (d.free h p) (is.file.cur.each h p) in
+      subst (λ x. IsListedAs well (bytes_read medium.image w.file h) x (block_at t (vm_slot h)) (at_handle None (with_each idle_block (written_directory m)).blocks h)) (sym held)
+      (subst (λ x. IsListedAs well (bytes_read medium.image w.file h) (option_map as_held (entry_for h (held_at v h) (block_at s (vm_slot h)))) x (at_handle None (with_each idle_block (written_directory m)).blocks h)) (sym block)
+      (subst (IsListedAs well (bytes_read medium.image w.file h) (option_map as_held (entry_for h (held_at v h) (block_at s (vm_slot h)))) (block_at s (vm_slot h))) (sym at_h) listed))
 
   -- what the model lists after it
-  now-listed : (how : How) → IsDone image honest how v w s t → (h : ℕ) → IsHandle h
-      → IsListedAs well (bytes_read image w.file h) (held_at w h) (block_at t (vm_slot h)) (at_handle None (with_each idle_block (pair_to_keep (keeper_of how) m).cur).blocks h)
+  now-listed : (how : How) → IsDone medium how v w s t → (h : ℕ) → IsHandle h
+      → IsListedAs well (bytes_read medium.image w.file h) (held_at w h) (block_at t (vm_slot h)) (at_handle None (with_each idle_block (pair_to_keep (keeper_of how) m).cur).blocks h)
   now-listed Update d h p = goes-on Update d d.store d.current (λ g k. ap (λ (q : Pair). bytes_of_block q.cur.blocks k) (d.pair g)) h p
   now-listed Save d h p = goes-on Save d d.store d.current (λ g k. ap (λ (q : Pair). bytes_of_block q.cur.blocks k) (d.pair g)) h p
   now-listed Revert d h p =
       let entries = (with_each idle_block m.file.saved).blocks in
       let stored = (now-pair Revert d).cur.each h p in
-      let listed = idle-away well (bytes_read image w.file h) (entry_at w.file.current h) (at_handle None m.file.saved.blocks h) stored in
-      subst (λ x. IsListedAs well (bytes_read image w.file h) x (block_at t (vm_slot h)) (at_handle None entries h)) (sym (d.lists.each h p))
-      (subst (λ x. IsListedAs well (bytes_read image w.file h) (option_map as_held (entry_at w.file.current h)) x (at_handle None entries h)) (sym (d.store.none h p))
-      (subst (IsListedAs well (bytes_read image w.file h) (option_map as_held (entry_at w.file.current h)) None) (sym (entry-each idle_block m.file.saved.blocks h)) listed))
+      let listed = idle-away well (bytes_read medium.image w.file h) (entry_at w.file.current h) (at_handle None m.file.saved.blocks h) stored in
+      subst (λ x. IsListedAs well (bytes_read medium.image w.file h) x (block_at t (vm_slot h)) (at_handle None entries h)) (sym (d.lists.each h p))
+      (subst (λ x. IsListedAs well (bytes_read medium.image w.file h) (option_map as_held (entry_at w.file.current h)) x (at_handle None entries h)) (sym (d.store.none h p))
+      (subst (IsListedAs well (bytes_read medium.image w.file h) (option_map as_held (entry_at w.file.current h)) None) (sym (entry-each idle_block m.file.saved.blocks h)) listed))
 
   -- blocks of global memory are as they were
   store-mem : (how : How) → StoreAfter how s t → (slot : ℕ) → slot < 1024 → block_at t slot ≡ block_at s slot
@@ -114,14 +115,14 @@ module _ {D : Type 0} (image : D → List ℕ) (honest : D → Type 0) (v w : Vm
   store-len Save same = ap (λ (u : Store). u.len) same
   store-len Revert drops = drops.len
 
-  module _ (how : How) (d : IsDone image honest how v w s t) where
+  module _ (how : How) (d : IsDone medium how v w s t) where
     abbrev pair_now : model_file.Pair
     pair_now = pair_to_keep (keeper_of how) m
 
-    pub memory-committed : IsMemoryOf image honest w t (committed m pair_now)
+    pub memory-committed : IsMemoryOf medium w t (committed m pair_now)
     memory-committed =
-        let now = now-pair how d in let legal = kept-legal image honest v s m is how in
-        let cur : IsCurrentOf image honest w t (with_each idle_block pair_now.cur) = record {
+        let now = now-pair how d in let legal = kept-legal medium v s m is how in
+        let cur : IsCurrentOf medium.image medium.honest w t (with_each idle_block pair_now.cur) = record {
           handles = length-map pair_now.cur.blocks (option_map idle_block) ∙ now.cur.handles;
           each = now-listed how d;
           map_block = now.cur.map_block ∙ sym d.lists.map_block;

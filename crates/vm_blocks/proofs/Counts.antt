@@ -10,6 +10,7 @@ use Rattle.block_handles.specs.Names.{IsHandle}
 use Rattle.block_handles.specs.Store.{Block, Store, block_at, bytes_in, bytes_of, IsBlock, IsThere, locks_in, locks_of, place_of}
 use Rattle.block_handles.proofs.Laws.{laid-with_locks, with_locks-same, with_locks-other}
 use Rattle.block_handles.proofs.Layouts.{there_small}
+use Rattle.vm_file.specs.Device.{Medium}
 use Rattle.vm_blocks.specs.declared.entries.Held.{Held}
 use Rattle.vm_blocks.specs.View.{VmState, held_at, vm_slot, with_held}
 use Rattle.vm_blocks.specs.Tied.{IsTied, IsResident, TiedAt}
@@ -20,7 +21,7 @@ use Rattle.vm_blocks.proofs.Table.{maps-alike, length-with, held-other, held-sam
 use Rattle.vm_blocks.proofs.Brings.{keeps-more}
 
 -- another count of locks of a block that is there
-module _ {D : Type 0} (image : D → List ℕ) (honest : D → Type 0) (v : VmState D) (s t : Store) (h n : ℕ) (q : IsHandle h) (tied : IsTied image honest v s) (there : IsThere s (vm_slot h)) (is : t ≡ with_locks s (vm_slot h) n) where
+module _ {D : Type 0} (medium : Medium D) (v : VmState D) (s t : Store) (h n : ℕ) (q : IsHandle h) (tied : IsTied medium v s) (there : IsThere s (vm_slot h)) (is : t ≡ with_locks s (vm_slot h) n) where
   small : vm_slot h < length s.blocks
   small = omega (arith, there_small s (vm_slot h) tied.laid there, tied.laid.slots)
 
@@ -30,33 +31,33 @@ module _ {D : Type 0} (image : D → List ℕ) (honest : D → Type 0) (v : VmSt
   other-is : (k : ℕ) → IsHandle k → k ≢ h → block_at t (vm_slot k) ≡ block_at s (vm_slot k)
   other-is k p ne = ap (λ u. block_at u (vm_slot k)) is ∙ with_locks-other s (vm_slot h) n (vm_slot k) (λ e. ne (slot-one k h p q e))
 
-  one-tied : (e : Option Held) (b c : Block) → c.bytes ≡ b.bytes → TiedAt image honest v.file h e (Some b) → TiedAt image honest v.file h e (Some c)
+  one-tied : (e : Option Held) (b c : Block) → c.bytes ≡ b.bytes → TiedAt medium v.file h e (Some b) → TiedAt medium v.file h e (Some c)
   one-tied None b c x u = u
-  one-tied (Some e) b c x u = subst (IsResident image honest v.file h e) (sym x) u
+  one-tied (Some e) b c x u = subst (IsResident medium v.file h e) (sym x) u
 
-  pub locked-tied : IsTied image honest v t
+  pub locked-tied : IsTied medium v t
   locked-tied = record {
     laid = subst IsLaidOut (sym is) (laid-with_locks s tied.laid (vm_slot h) there n);
     long = tied.long;
     maps = tied.maps;
     each = λ k p. elim (cases_eq k h) [
-      | inl same ↦ subst (λ j. TiedAt image honest v.file j (held_at v j) (block_at t (vm_slot j))) (sym same) here
-      | inr other ↦ subst (TiedAt image honest v.file k (held_at v k)) (sym (other-is k p other)) (tied.each k p)
+      | inl same ↦ subst (λ j. TiedAt medium v.file j (held_at v j) (block_at t (vm_slot j))) (sym same) here
+      | inr other ↦ subst (TiedAt medium v.file k (held_at v k)) (sym (other-is k p other)) (tied.each k p)
     ];
   }
     where
-      here : TiedAt image honest v.file h (held_at v h) (block_at t (vm_slot h))
+      here : TiedAt medium v.file h (held_at v h) (block_at t (vm_slot h))
       here =
           let b = some-block (block_at s (vm_slot h)) there in
           let c : Block = record { locks = n; bytes = b.0.bytes } in
-          subst (TiedAt image honest v.file h (held_at v h)) (sym (own-is b.0 b.1)) (one-tied (held_at v h) b.0 c refl (subst (TiedAt image honest v.file h (held_at v h)) b.1 (tied.each h q)))
+          subst (TiedAt medium v.file h (held_at v h)) (sym (own-is b.0 b.1)) (one-tied (held_at v h) b.0 c refl (subst (TiedAt medium v.file h (held_at v h)) b.1 (tied.each h q)))
 
 -- a mark on a block that is there
-module _ {D : Type 0} (image : D → List ℕ) (honest : D → Type 0) (v : VmState D) (s : Store) (h : ℕ) (e : Held) (q : IsHandle h) (tied : IsTied image honest v s) (there : IsThere s (vm_slot h)) (listed : held_at v h ≡ Some e) where
+module _ {D : Type 0} (medium : Medium D) (v : VmState D) (s : Store) (h : ℕ) (e : Held) (q : IsHandle h) (tied : IsTied medium v s) (there : IsThere s (vm_slot h)) (listed : held_at v h ≡ Some e) where
   abbrev w : VmState D
   w = with_held v h (Some (marked e))
 
-  with-mark : (k : ℕ) (b : Option Block) → IsBlock b → TiedAt image honest v.file k (Some e) b → TiedAt image honest v.file k (Some (marked e)) b
+  with-mark : (k : ℕ) (b : Option Block) → IsBlock b → TiedAt medium v.file k (Some e) b → TiedAt medium v.file k (Some (marked e)) b
   with-mark k None x t = absurd x
   with-mark k (Some b) x t = record { size = t.size; heap = t.heap; handle = t.handle; kept = λ m. absurd cc; clean = λ m. absurd cc }
 
@@ -70,16 +71,16 @@ module _ {D : Type 0} (image : D → List ℕ) (honest : D → Type 0) (v : VmSt
     | inr other ↦ ap (option_map (λ (x : Held). x.uid)) (held-other v.entries h k (Some (marked e)) other)
   ]
 
-  pub marked-tied : IsTied image honest w s
+  pub marked-tied : IsTied medium w s
   marked-tied = record {
     laid = tied.laid;
     long = length-with v.entries h (Some (marked e)) ∙ tied.long;
     maps = maps-alike v w uids refl refl tied.maps;
     each = λ k p. elim (cases_eq k h) [
-      | inl same ↦ subst (λ j. TiedAt image honest v.file j (held_at w j) (block_at s (vm_slot j))) (sym same)
-          (subst (λ o. TiedAt image honest v.file h o (block_at s (vm_slot h))) (sym own)
-          (with-mark h (block_at s (vm_slot h)) there (subst (λ o. TiedAt image honest v.file h o (block_at s (vm_slot h))) listed (tied.each h q))))
-      | inr other ↦ subst (λ o. TiedAt image honest v.file k o (block_at s (vm_slot k))) (sym (held-other v.entries h k (Some (marked e)) other)) (tied.each k p)
+      | inl same ↦ subst (λ j. TiedAt medium v.file j (held_at w j) (block_at s (vm_slot j))) (sym same)
+          (subst (λ o. TiedAt medium v.file h o (block_at s (vm_slot h))) (sym own)
+          (with-mark h (block_at s (vm_slot h)) there (subst (λ o. TiedAt medium v.file h o (block_at s (vm_slot h))) listed (tied.each h q))))
+      | inr other ↦ subst (λ o. TiedAt medium v.file k o (block_at s (vm_slot k))) (sym (held-other v.entries h k (Some (marked e)) other)) (tied.each k p)
     ];
   }
 

@@ -9,6 +9,7 @@ use Rattle.geos_table.specs.Handles.{at_handle}
 use Rattle.geos_model.specs.Heap.{IsBlockSize, is_block_size}
 use Rattle.block_handles.specs.Names.{IsHandle}
 use Rattle.block_handles.specs.Store.{Block, Store, block_at, bytes_in, IsBlock}
+use Rattle.vm_file.specs.Device.{Medium}
 use Rattle.vm_file.specs.declared.directory.Entry.{Entry}
 use Rattle.vm_file.specs.Contents as file
 use Rattle.vm_file.specs.Committing.{block_from}
@@ -84,8 +85,8 @@ module _ {D : Type 0} (v : VmState D) (s : Store) where
   pub bytes-held : (kept : List file.Block) (h : ℕ) (e : Held) → IsHandle h → held_at v h ≡ Some e → bytes_of_block (map (block_from (resident_of s) kept) (entries_to v s 1024)) h ≡ unwrap_or (resident_of s h) (bytes_of_block kept h)
   bytes-held kept h e p is = bytes_found (resident_of s) kept (entries_to v s 1024) h (record { h = h; uid = e.uid; len = len_now e (block_at s (vm_slot h)) }) (found-some h e p is)
 
-  module _ (image : D → List ℕ) (honest : D → Type 0) (tied : IsTied image honest v s) where
-    sized : (h : ℕ) (e : Held) (b : Option Block) → block_at s (vm_slot h) ≡ b → TiedAt image honest v.file h (Some e) b → IsBlockSize (len_now e b)
+  module _ (medium : Medium D) (tied : IsTied medium v s) where
+    sized : (h : ℕ) (e : Held) (b : Option Block) → block_at s (vm_slot h) ≡ b → TiedAt medium v.file h (Some e) b → IsBlockSize (len_now e b)
     sized h e None at t = t.size
     sized h e (Some b) at t = subst (λ o. IsBlockSize (length (bytes_in o))) at (tied.laid.sized (vm_slot h) (subst IsBlock (sym at) tt))
 
@@ -93,7 +94,7 @@ module _ {D : Type 0} (v : VmState D) (s : Store) where
     ascend a zero last low some high = refl
     ascend a (suc n) last low some high = on (held_at v a) (tied.each a (some, omega (arith, high))) (ascend (a + 1) n a (omega arith) (omega arith) (omega (arith, high))) (ascend (a + 1) n last (omega (arith, low)) (omega arith) (omega (arith, high)))
       where
-        on : (o : Option Held) → TiedAt image honest v.file a o (block_at s (vm_slot a)) → are_entries a (flat_map (entries_of v s) (range_with_len (a + 1) n)) ≡ true → are_entries last (flat_map (entries_of v s) (range_with_len (a + 1) n)) ≡ true
+        on : (o : Option Held) → TiedAt medium v.file a o (block_at s (vm_slot a)) → are_entries a (flat_map (entries_of v s) (range_with_len (a + 1) n)) ≡ true → are_entries last (flat_map (entries_of v s) (range_with_len (a + 1) n)) ≡ true
             → are_entries last (entries_in a o (block_at s (vm_slot a)) ++ flat_map (entries_of v s) (range_with_len (a + 1) n)) ≡ true
         on None t behind more = more
         on (Some e) t behind more =

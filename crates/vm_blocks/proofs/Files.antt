@@ -13,6 +13,7 @@ use Rattle.block_handles.specs.Layout.{IsLaidOut}
 use Rattle.block_handles.specs.Names.{IsHandle}
 use Rattle.block_handles.specs.Store.{Block, Store, block_at}
 use Rattle.vm_file.specs.Contents.{Pair, pair_in}
+use Rattle.vm_file.specs.Device.{Medium}
 use Rattle.vm_file.specs.Reading.{area_of, base_of, pair_at}
 use Rattle.vm_file.specs.State.{FileState, bytes_of_block, pair_of}
 use Rattle.vm_file.specs.Kept.{or_empty, other_pair}
@@ -31,12 +32,12 @@ use Rattle.vm_blocks.proofs.Tables.{table-own}
 
 -- One block
 
-module _ {D : Type 0} (image : D → List ℕ) (honest : D → Type 0) (f : FileState D) (h : ℕ) where
+module _ {D : Type 0} (medium : Medium D) (f : FileState D) (h : ℕ) where
   abbrev IsListed : Option Held → Option Block → Option VmBlock → Type 0
-  IsListed e b listed = IsListedAs (honest f.device) (bytes_read image f h) e b listed
+  IsListed e b listed = IsListedAs (medium.honest f.device) (bytes_read medium.image f h) e b listed
 
   -- a block that may be discarded matches when it was
-  pub gone-listed : (e : Option Held) (b : Option Block) (listed : Option VmBlock) → is_idle_in e b ≡ true → TiedAt image honest f h e b → IfSome listed IsLegalListed → IsListed e b listed → IsListed e None listed
+  pub gone-listed : (e : Option Held) (b : Option Block) (listed : Option VmBlock) → is_idle_in e b ≡ true → TiedAt medium f h e b → IfSome listed IsLegalListed → IsListed e b listed → IsListed e None listed
   gone-listed None b listed i t legal is = absurd cc
   gone-listed (Some e) None listed i t legal is = absurd cc
   gone-listed (Some e) (Some b) listed i t legal is =
@@ -44,7 +45,7 @@ module _ {D : Type 0} (image : D → List ℕ) (honest : D → Type 0) (f : File
       let parts = idle-parts e b i in
       let clean = t.clean parts.0 in
       let l : IsLegalListed own = subst (λ o. IfSome o IsLegalListed) is legal in
-      let away : IsAway (honest f.device) (bytes_read image f h) e own = record {
+      let away : IsAway (medium.honest f.device) (bytes_read medium.image f h) e own = record {
         uid = refl;
         marked = parts.0;
         locks = parts.1;
@@ -55,110 +56,110 @@ module _ {D : Type 0} (image : D → List ℕ) (honest : D → Type 0) (f : File
 -- The file
 
 -- where the file of the device is the same, another current directory may stand
-pub file-cur : {D : Type 0} (image : D → List ℕ) (honest : D → Type 0) (v w : VmState D) (s t : Store) (f : VmFile) (cur : Directory VmBlock) → w.file ≡ v.file → IsCurrentOf image honest w t cur → IsCurrent cur
-    → IsFileOf image honest v s f → IsFileOf image honest w t (record f { cur = cur })
-file-cur {D} image honest v w s t f cur same now legal is = record {
+pub file-cur : {D : Type 0} (medium : Medium D) (v w : VmState D) (s t : Store) (f : VmFile) (cur : Directory VmBlock) → w.file ≡ v.file → IsCurrentOf medium.image medium.honest w t cur → IsCurrent cur
+    → IsFileOf medium.image medium.honest v s f → IsFileOf medium.image medium.honest w t (record f { cur = cur })
+file-cur {D} medium v w s t f cur same now legal is = record {
   area = is.area ∙ sym (ap (λ (x : FileState D). x.area) same);
   cur = now;
-  saved = subst (λ (x : FileState D). IsDirectoryOf (honest x.device) x.saved (pair_of image x).saved.blocks f.saved) (sym same) is.saved;
-  kept = subst (λ (x : FileState D). IsKeptOf image honest x f.kept) (sym same) is.kept;
+  saved = subst (λ (x : FileState D). IsDirectoryOf (medium.honest x.device) x.saved (pair_of medium.image x).saved.blocks f.saved) (sym same) is.saved;
+  kept = subst (λ (x : FileState D). IsKeptOf medium.image medium.honest x f.kept) (sym same) is.kept;
   legal = record { cur = legal; saved = is.legal.saved; kept = is.legal.kept };
 }
 
-module _ {D : Type 0} (image : D → List ℕ) (honest : D → Type 0) (v : VmState D) where
+module _ {D : Type 0} (medium : Medium D) (v : VmState D) where
   -- what is listed under a handle matches a block of the model
   abbrev pub IsListedIn : Store → ℕ → Option VmBlock → Type 0
-  IsListedIn s h listed = IsListedAs (honest v.file.device) (bytes_read image v.file h) (held_at v h) (block_at s (vm_slot h)) listed
+  IsListedIn s h listed = IsListedAs (medium.honest v.file.device) (bytes_read medium.image v.file h) (held_at v h) (block_at s (vm_slot h)) listed
 
   -- in another store, in which the blocks of the file are the same
-  pub file-same : (s t : Store) (f : VmFile) → ((h : ℕ) → IsHandle h → block_at t (vm_slot h) ≡ block_at s (vm_slot h)) → IsFileOf image honest v s f → IsFileOf image honest v t f
+  pub file-same : (s t : Store) (f : VmFile) → ((h : ℕ) → IsHandle h → block_at t (vm_slot h) ≡ block_at s (vm_slot h)) → IsFileOf medium.image medium.honest v s f → IsFileOf medium.image medium.honest v t f
   file-same s t f same is =
-      let cur : IsCurrentOf image honest v t f.cur = record {
+      let cur : IsCurrentOf medium.image medium.honest v t f.cur = record {
         handles = is.cur.handles;
-        each = λ h p. subst (λ b. IsListedAs (honest v.file.device) (bytes_read image v.file h) (held_at v h) b (at_handle None f.cur.blocks h)) (sym (same h p)) (is.cur.each h p);
+        each = λ h p. subst (λ b. IsListedAs (medium.honest v.file.device) (bytes_read medium.image v.file h) (held_at v h) b (at_handle None f.cur.blocks h)) (sym (same h p)) (is.cur.each h p);
         map_block = is.cur.map_block;
         map_group = is.cur.map_group;
         map_item = is.cur.map_item;
       } in
-      file-cur image honest v v s t f f.cur refl cur is.legal.cur is
+      file-cur medium v v s t f f.cur refl cur is.legal.cur is
 
   -- a block that kept its place in the model, or was discarded
-  pub stays-listed : (s t : Store) (but h : ℕ) (listed : Option VmBlock) → IsHandle h → IsTied image honest v s → IfSome listed IsLegalListed → IsListedIn s h listed → Goes v s t but (vm_slot h) → IsListedIn t h listed
+  pub stays-listed : (s t : Store) (but h : ℕ) (listed : Option VmBlock) → IsHandle h → IsTied medium v s → IfSome listed IsLegalListed → IsListedIn s h listed → Goes v s t but (vm_slot h) → IsListedIn t h listed
   stays-listed s t but h listed p tied legal is g =
       let one : h ≡ g.h = slot-one h g.h p g.handle g.slot_is in
       let i : is_idle v s h ≡ true = subst (λ k. is_idle v s k ≡ true) (sym one) g.idle in
-      subst (λ b. IsListedAs (honest v.file.device) (bytes_read image v.file h) (held_at v h) b listed) (sym g.gone)
-      (gone-listed image honest v.file h (held_at v h) (block_at s (vm_slot h)) listed i (tied.each h p) legal is)
+      subst (λ b. IsListedAs (medium.honest v.file.device) (bytes_read medium.image v.file h) (held_at v h) b listed) (sym g.gone)
+      (gone-listed medium v.file h (held_at v h) (block_at s (vm_slot h)) listed i (tied.each h p) legal is)
 
   -- blocks that were discarded
-  pub file-thins : (s t : Store) (but : ℕ) (f : VmFile) → IsTied image honest v s → Thins v s t but → IsFileOf image honest v s f → IsFileOf image honest v t f
+  pub file-thins : (s t : Store) (but : ℕ) (f : VmFile) → IsTied medium v s → Thins v s t but → IsFileOf medium.image medium.honest v s f → IsFileOf medium.image medium.honest v t f
   file-thins s t but f tied thins is =
-      let cur : IsCurrentOf image honest v t f.cur = record {
+      let cur : IsCurrentOf medium.image medium.honest v t f.cur = record {
         handles = is.cur.handles;
         each = λ h p. on h p (thins.each (vm_slot h));
         map_block = is.cur.map_block;
         map_group = is.cur.map_group;
         map_item = is.cur.map_item;
       } in
-      file-cur image honest v v s t f f.cur refl cur is.legal.cur is
+      file-cur medium v v s t f f.cur refl cur is.legal.cur is
     where
       on : (h : ℕ) → IsHandle h → StaysOrGoes v s t but (vm_slot h) → IsListedIn t h (at_handle None f.cur.blocks h)
-      on h p (inl q) = subst (λ b. IsListedAs (honest v.file.device) (bytes_read image v.file h) (held_at v h) b (at_handle None f.cur.blocks h)) (sym q.0) (is.cur.each h p)
+      on h p (inl q) = subst (λ b. IsListedAs (medium.honest v.file.device) (bytes_read medium.image v.file h) (held_at v h) b (at_handle None f.cur.blocks h)) (sym q.0) (is.cur.each h p)
       on h p (inr g) = stays-listed s t but h (at_handle None f.cur.blocks h) p tied (is.legal.cur.blocks h) (is.cur.each h p) g
 
   -- the others, where every block but that of a handle is as it was or was discarded
-  pub others-listed : (s t : Store) (h k : ℕ) (listed : Option VmBlock) → IsHandle h → IsHandle k → k ≢ h → IsTied image honest v s → Keeps v s t h → IfSome listed IsLegalListed → IsListedIn s k listed → IsListedIn t k listed
+  pub others-listed : (s t : Store) (h k : ℕ) (listed : Option VmBlock) → IsHandle h → IsHandle k → k ≢ h → IsTied medium v s → Keeps v s t h → IfSome listed IsLegalListed → IsListedIn s k listed → IsListedIn t k listed
   others-listed s t h k listed q p ne tied keeps legal is = on (keeps.each (vm_slot k) (λ e. ne (slot-one k h p q e)))
     where
       on : KeptOrGoes v s t h (vm_slot k) → IsListedIn t k listed
-      on (inl u) = subst (λ b. IsListedAs (honest v.file.device) (bytes_read image v.file k) (held_at v k) b listed) (sym u.0) is
+      on (inl u) = subst (λ b. IsListedAs (medium.honest v.file.device) (bytes_read medium.image v.file k) (held_at v k) b listed) (sym u.0) is
       on (inr g) = stays-listed s t h k listed p tied legal is g
 
 -- The device was read
 
-module _ {D : Type 0} (image : D → List ℕ) (honest : D → Type 0) (v : VmState D) (d : D) (same : image d ≡ image v.file.device) (was : honest d → honest v.file.device) where
+module _ {D : Type 0} (medium : Medium D) (v : VmState D) (d : D) (same : medium.image d ≡ medium.image v.file.device) (was : medium.honest d → medium.honest v.file.device) where
   abbrev now : VmState D
   now = with_device v d
 
-  pair : pair_of image now.file ≡ pair_of image v.file
+  pair : pair_of medium.image now.file ≡ pair_of medium.image v.file
   pair = ap (λ bytes. pair_in v.file.current v.file.saved (area_of bytes v.file.area v.file.second)) same
 
-  other : other_pair image now.file ≡ other_pair image v.file
+  other : other_pair medium.image now.file ≡ other_pair medium.image v.file
   other = ap (λ bytes. or_empty (pair_at (base_of v.file.area (not v.file.second)) (area_of bytes v.file.area (not v.file.second)))) same
 
-  pub kept-device : (kept : Kept) → IsKeptOf image honest v.file kept → IsKeptOf image honest now.file kept
-  kept-device (Sure p) k = (k.0, pair-on (honest v.file.device) (honest d) was v.file.current v.file.saved (pair_of image v.file) (pair_of image now.file) p (λ w. pair) k.1)
+  pub kept-device : (kept : Kept) → IsKeptOf medium.image medium.honest v.file kept → IsKeptOf medium.image medium.honest now.file kept
+  kept-device (Sure p) k = (k.0, pair-on (medium.honest v.file.device) (medium.honest d) was v.file.current v.file.saved (pair_of medium.image v.file) (pair_of medium.image now.file) p (λ w. pair) k.1)
   kept-device (Unsure p q) k =
-      (k.0, pair-on (honest v.file.device) (honest d) was v.file.current v.file.saved (pair_of image v.file) (pair_of image now.file) p (λ w. pair) k.1, λ w. k.2 (was w) ∙ sym (ap stored_pair other))
+      (k.0, pair-on (medium.honest v.file.device) (medium.honest d) was v.file.current v.file.saved (pair_of medium.image v.file) (pair_of medium.image now.file) p (λ w. pair) k.1, λ w. k.2 (was w) ∙ sym (ap stored_pair other))
 
-  pub file-device : (s : Store) (f : VmFile) → IsFileOf image honest v s f → IsFileOf image honest now s f
+  pub file-device : (s : Store) (f : VmFile) → IsFileOf medium.image medium.honest v s f → IsFileOf medium.image medium.honest now s f
   file-device s f is = record {
     area = is.area;
     cur = record {
       handles = is.cur.handles;
-      each = λ h p. listed-on (honest v.file.device) (honest d) was (bytes_read image v.file h) (bytes_read image now.file h) (held_at v h) (block_at s (vm_slot h)) (at_handle None f.cur.blocks h)
+      each = λ h p. listed-on (medium.honest v.file.device) (medium.honest d) was (bytes_read medium.image v.file h) (bytes_read medium.image now.file h) (held_at v h) (block_at s (vm_slot h)) (at_handle None f.cur.blocks h)
           (λ w. ap (λ (q : Pair). bytes_of_block q.cur.blocks h) pair) (is.cur.each h p);
       map_block = is.cur.map_block;
       map_group = is.cur.map_group;
       map_item = is.cur.map_item;
     };
-    saved = directory-on (honest v.file.device) (honest d) was v.file.saved (pair_of image v.file).saved.blocks (pair_of image now.file).saved.blocks f.saved (λ w. ap (λ (q : Pair). q.saved.blocks) pair) is.saved;
+    saved = directory-on (medium.honest v.file.device) (medium.honest d) was v.file.saved (pair_of medium.image v.file).saved.blocks (pair_of medium.image now.file).saved.blocks f.saved (λ w. ap (λ (q : Pair). q.saved.blocks) pair) is.saved;
     kept = kept-device f.kept is.kept;
     legal = is.legal;
   }
 
 -- Another block under a handle
 
-module _ {D : Type 0} (image : D → List ℕ) (honest : D → Type 0) (w : VmState D) (t : Store) (cur : Directory VmBlock) (h : ℕ) (p : IsHandle h) (x : Option VmBlock) where
+module _ {D : Type 0} (medium : Medium D) (w : VmState D) (t : Store) (cur : Directory VmBlock) (h : ℕ) (p : IsHandle h) (x : Option VmBlock) where
   -- what is written under a handle stands there, and all else as it did
-  pub current-entry : length cur.blocks ≡ 1024 → (cur.map_block ≡ w.map_block) × (cur.map_group ≡ w.map_item.0) × (cur.map_item ≡ w.map_item.1) → IsListedIn image honest w t h x
-      → ((k : ℕ) → IsHandle k → k ≢ h → IsListedIn image honest w t k (at_handle None cur.blocks k)) → IsCurrentOf image honest w t (record cur { blocks = with_entry_at cur.blocks h x })
+  pub current-entry : length cur.blocks ≡ 1024 → (cur.map_block ≡ w.map_block) × (cur.map_group ≡ w.map_item.0) × (cur.map_item ≡ w.map_item.1) → IsListedIn medium w t h x
+      → ((k : ℕ) → IsHandle k → k ≢ h → IsListedIn medium w t k (at_handle None cur.blocks k)) → IsCurrentOf medium.image medium.honest w t (record cur { blocks = with_entry_at cur.blocks h x })
   current-entry long maps own others = record {
     handles = length-with_entry_at cur.blocks h x ∙ long;
     each = λ k q. elim (cases_eq k h) [
-      | inl same ↦ subst (λ j. IsListedIn image honest w t j (at_handle None (with_entry_at cur.blocks h x) j)) (sym same)
-          (subst (IsListedIn image honest w t h) (sym (table-own None x cur.blocks h long p)) own)
-      | inr ne ↦ subst (IsListedIn image honest w t k) (sym (entry-other None x cur.blocks h k ne)) (others k q ne)
+      | inl same ↦ subst (λ j. IsListedIn medium w t j (at_handle None (with_entry_at cur.blocks h x) j)) (sym same)
+          (subst (IsListedIn medium w t h) (sym (table-own None x cur.blocks h long p)) own)
+      | inr ne ↦ subst (IsListedIn medium w t k) (sym (entry-other None x cur.blocks h k ne)) (others k q ne)
     ];
     map_block = maps.0;
     map_group = maps.1;

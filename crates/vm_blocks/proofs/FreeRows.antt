@@ -13,6 +13,7 @@ use Rattle.geos_table.proofs.Laws.{entry-other}
 use Rattle.block_handles.specs.Layout.{IsLaidOut}
 use Rattle.block_handles.specs.Names.{IsHandle}
 use Rattle.block_handles.specs.Store.{Store, block_at, locks_of}
+use Rattle.vm_file.specs.Device.{Medium}
 use Rattle.vm_blocks.specs.declared.entries.Held.{Held}
 use Rattle.vm_blocks.specs.View.{VmState, bytes_read, held_at, vm_slot}
 use Rattle.vm_blocks.specs.Blocks.{without_held}
@@ -43,41 +44,41 @@ item-gone g i h item same one = on (item.0 == h) (ap (λ k. k == h) same)
     on true e = rw e refl
     on false e = rw e one
 
-module _ {D : Type 0} (image : D → List ℕ) (honest : D → Type 0) (failed : D → ℕ) (v : VmState D) (s : Store) (h : ℕ) (tied : IsTied image honest v s) where
+module _ {D : Type 0} (medium : Medium D) (v : VmState D) (s : Store) (h : ℕ) (tied : IsTied medium v s) where
   -- no block has the handle
-  pub free-unknown : held_at v h ≡ None → DoesRow image honest failed (free_listed h) (Err refusal.BadHandle) v s v s
-  free-unknown none m is = (chosen false false [], record { given = λ g. refl; device = λ g t. absurd cc }, m, is, rw (unlisted-told image honest failed v s h tied none m is) refl)
+  pub free-unknown : held_at v h ≡ None → DoesRow medium (free_listed h) (Err refusal.BadHandle) v s v s
+  free-unknown none m is = (chosen false false [], record { given = λ g. refl; device = λ g t. absurd cc }, m, is, rw (unlisted-told medium v s h tied none m is) refl)
 
   module _ (p : IsHandle h) (e : Held) (listed : held_at v h ≡ Some e) where
-    locks-test : (m : Memory) → IsMemoryOf image honest v s m → (b : Bool) → nat_lt 0 (locks_of s (vm_slot h)) ≡ b → nat_lt 0 (memory.locks_of m (vm h)) ≡ b
-    locks-test m is b same = ap (nat_lt 0) (locks-told image honest v s h tied m is) ∙ same
+    locks-test : (m : Memory) → IsMemoryOf medium v s m → (b : Bool) → nat_lt 0 (locks_of s (vm_slot h)) ≡ b → nat_lt 0 (memory.locks_of m (vm h)) ≡ b
+    locks-test m is b same = ap (nat_lt 0) (locks-told medium v s h tied m is) ∙ same
 
     -- the block is locked
-    pub free-locked : nat_lt 0 (locks_of s (vm_slot h)) ≡ true → DoesRow image honest failed (free_listed h) (Err refusal.Locked) v s v s
+    pub free-locked : nat_lt 0 (locks_of s (vm_slot h)) ≡ true → DoesRow medium (free_listed h) (Err refusal.Locked) v s v s
     free-locked some m is =
-        let there = listed-told image honest failed v s h tied p e listed m is in
+        let there = listed-told medium v s h tied p e listed m is in
         let locked = locks-test m is true some in
         (chosen false false [], record { given = λ g. refl; device = λ g t. absurd cc }, m, is, rw (there, locked) refl)
 
     -- it is not listed any more
     module _ (t : Store) (keeps : Keeps v s t h) where
-      memory-without : (m : Memory) → IsMemoryOf image honest v s m → IsMemoryOf image honest (without_held v h) t (without_listed m h)
+      memory-without : (m : Memory) → IsMemoryOf medium v s m → IsMemoryOf medium (without_held v h) t (without_listed m h)
       memory-without m is =
           let w : VmState D = without_held v h in
           let gone : held_at w h ≡ None = table-own None None v.entries h tied.long p in
-          let own : IsListedIn image honest w t h None = subst (λ o. IsListedAs (honest w.file.device) (bytes_read image w.file h) o (block_at t (vm_slot h)) None) (sym gone) refl in
+          let own : IsListedIn medium w t h None = subst (λ o. IsListedAs (medium.honest w.file.device) (bytes_read medium.image w.file h) o (block_at t (vm_slot h)) None) (sym gone) refl in
           let cur = m.file.cur in
           let maps = is.file.cur in
-          memory-entry image honest v s t m is h p tied keeps w refl (λ k ne. entry-other None None v.entries h k ne)
+          memory-entry medium v s t m is h p tied keeps w refl (λ k ne. entry-other None None v.entries h k ne)
           (if cur.map_block == h then 0 else cur.map_block) (if cur.map_group == h then 0 else cur.map_group) (if cur.map_group == h then 0 else cur.map_item) None
           (ap (λ k. if k == h then 0 else k) maps.map_block, group-gone cur.map_group h v.map_item maps.map_group, item-gone cur.map_group cur.map_item h v.map_item maps.map_group maps.map_item) own
           (removed-legal IsLegalListed (λ (l : VmBlock). l.uid) cur is.file.legal.cur h)
 
-      pub free-done : (w : VmState D) → nat_lt 0 (locks_of s (vm_slot h)) ≡ false → w ≡ without_held v h → DoesRow image honest failed (free_listed h) (Ok tt) v s w t
+      pub free-done : (w : VmState D) → nat_lt 0 (locks_of s (vm_slot h)) ≡ false → w ≡ without_held v h → DoesRow medium (free_listed h) (Ok tt) v s w t
       free-done w free same m is =
-          let there = listed-told image honest failed v s h tied p e listed m is in
+          let there = listed-told medium v s h tied p e listed m is in
           let unlocked = locks-test m is false free in
-          (chosen false false [], record { given = λ g. refl; device = λ g t. absurd cc }, without_listed m h, subst (λ x. IsMemoryOf image honest x t (without_listed m h)) (sym same) (memory-without m is), rw (there, unlocked) refl)
+          (chosen false false [], record { given = λ g. refl; device = λ g t. absurd cc }, without_listed m h, subst (λ x. IsMemoryOf medium x t (without_listed m h)) (sym same) (memory-without m is), rw (there, unlocked) refl)
 
 -- the same of what a call ensures
 pub drops-keeps : {D : Type 0} (v : VmState D) (s t : Store) (h : ℕ) → IsLaidOut s → Drops s t h → Keeps v s t h

@@ -4,6 +4,7 @@ use Rattle.std.specs.Prelude.{IsSomeAnd}
 use Rattle.std.proofs.lemmas.Bool.{cases_eq, eq-eqb, ne_eqb}
 use Rattle.block_handles.specs.Names.{IsHandle}
 use Rattle.block_handles.specs.Store.{Store, block_at}
+use Rattle.vm_file.specs.Device.{Medium}
 use Rattle.vm_blocks.specs.declared.entries.Held.{Held}
 use Rattle.vm_blocks.specs.View.{VmState, held_at, vm_slot, with_held}
 use Rattle.vm_blocks.specs.Tied.{AreMapped, IsTied, TiedAt}
@@ -52,16 +53,16 @@ module _ {D : Type 0} (v : VmState D) (h : ℕ) where
   }
 
 -- without a block the others are tied
-pub freed-tied : {D : Type 0} (image : D → List ℕ) (honest : D → Type 0) (v : VmState D) (s t : Store) (h : ℕ) → IsHandle h → IsTied image honest v s → Drops s t h → IsTied image honest (without_held v h) t
-freed-tied image honest v s t h q tied drops = record {
+pub freed-tied : {D : Type 0} (medium : Medium D) (v : VmState D) (s t : Store) (h : ℕ) → IsHandle h → IsTied medium v s → Drops s t h → IsTied medium (without_held v h) t
+freed-tied medium v s t h q tied drops = record {
   laid = drops.laid tied.laid;
   long = length-with v.entries h None ∙ tied.long;
   maps = maps-less v h tied.maps;
   each = λ k p. elim (cases_eq k h) [
-    | inl same ↦ subst (λ j. TiedAt image honest v.file j (held_at (with_held v h None) j) (block_at t (vm_slot j))) (sym same)
-        (subst (TiedAt image honest v.file h (held_at (with_held v h None) h)) (sym drops.gone)
-        (subst (λ o. TiedAt image honest v.file h o None) (sym (held-same v.entries h None q tied.long)) tt))
-    | inr other ↦ subst (λ o. TiedAt image honest v.file k o (block_at t (vm_slot k))) (sym (held-other v.entries h k None other))
-        (subst (TiedAt image honest v.file k (held_at v k)) (sym (drops.others (vm_slot k) (λ e. other (slot-one k h p q e)))) (tied.each k p))
+    | inl same ↦ subst (λ j. TiedAt medium v.file j (held_at (with_held v h None) j) (block_at t (vm_slot j))) (sym same)
+        (subst (TiedAt medium v.file h (held_at (with_held v h None) h)) (sym drops.gone)
+        (subst (λ o. TiedAt medium v.file h o None) (sym (held-same v.entries h None q tied.long)) tt))
+    | inr other ↦ subst (λ o. TiedAt medium v.file k o (block_at t (vm_slot k))) (sym (held-other v.entries h k None other))
+        (subst (TiedAt medium v.file k (held_at v k)) (sym (drops.others (vm_slot k) (λ e. other (slot-one k h p q e)))) (tied.each k p))
   ];
 }

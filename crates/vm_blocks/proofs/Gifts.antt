@@ -19,6 +19,7 @@ use Rattle.geos_table.proofs.LegalGiven.{listed-given, directory-given}
 use Rattle.geos_table.proofs.Laws.{entry-other}
 use Rattle.block_handles.specs.Names.{IsHandle}
 use Rattle.block_handles.specs.Store.{Block, Store, block_at}
+use Rattle.vm_file.specs.Device.{Medium}
 use Rattle.vm_blocks.specs.declared.entries.Held.{Held}
 use Rattle.vm_blocks.specs.View.{VmState, bytes_read, held_at, vm_slot}
 use Rattle.vm_blocks.specs.Tied.{IsTied}
@@ -123,57 +124,57 @@ module _ (good : Type 0) (read : List ℕ) (e : Held) (l : VmBlock) (away : IsAw
 abbrev pub given_file : List (Option (List (Option (List ℕ)))) → VmFile → VmFile
 given_file given f = record f { cur = record f.cur { blocks = given_entries given f.cur.blocks } }
 
-module _ {D : Type 0} (image : D → List ℕ) (honest : D → Type 0) (v : VmState D) (s t : Store) (h : ℕ) (p : IsHandle h) (f : VmFile) (tied : IsTied image honest v s) (keeps : Keeps v s t h) (is : IsFileOf image honest v s f) where
+module _ {D : Type 0} (medium : Medium D) (v : VmState D) (s t : Store) (h : ℕ) (p : IsHandle h) (f : VmFile) (tied : IsTied medium v s) (keeps : Keeps v s t h) (is : IsFileOf medium.image medium.honest v s f) where
   -- the file with something given for one block, which then matches
   pub file-given : (given : List (Option (List (Option (List ℕ))))) → ((k : ℕ) → k ≢ h → at_handle None given k ≡ None)
-      → IsListedIn image honest v t h (given_entry (at_handle None given h) (at_handle None f.cur.blocks h)) → IsFileOf image honest v t (given_file given f)
+      → IsListedIn medium v t h (given_entry (at_handle None given h) (at_handle None f.cur.blocks h)) → IsFileOf medium.image medium.honest v t (given_file given f)
   file-given given others own =
       let legal = directory-given given f.cur is.legal.cur in
-      let cur : IsCurrentOf image honest v t (record f.cur { blocks = given_entries given f.cur.blocks }) = record {
+      let cur : IsCurrentOf medium.image medium.honest v t (record f.cur { blocks = given_entries given f.cur.blocks }) = record {
         handles = legal.handles;
-        each = λ k q. subst (IsListedIn image honest v t k) (sym (listed-given given f.cur.blocks k)) (elim (cases_eq k h) [
-          | inl same ↦ subst (λ j. IsListedIn image honest v t j (given_entry (at_handle None given j) (at_handle None f.cur.blocks j))) (sym same) own
-          | inr ne ↦ subst (λ g. IsListedIn image honest v t k (given_entry g (at_handle None f.cur.blocks k))) (sym (others k ne))
-              (others-listed image honest v s t h k (at_handle None f.cur.blocks k) p q ne tied keeps (is.legal.cur.blocks k) (is.cur.each k q))
+        each = λ k q. subst (IsListedIn medium v t k) (sym (listed-given given f.cur.blocks k)) (elim (cases_eq k h) [
+          | inl same ↦ subst (λ j. IsListedIn medium v t j (given_entry (at_handle None given j) (at_handle None f.cur.blocks j))) (sym same) own
+          | inr ne ↦ subst (λ g. IsListedIn medium v t k (given_entry g (at_handle None f.cur.blocks k))) (sym (others k ne))
+              (others-listed medium v s t h k (at_handle None f.cur.blocks k) p q ne tied keeps (is.legal.cur.blocks k) (is.cur.each k q))
         ]);
         map_block = is.cur.map_block;
         map_group = is.cur.map_group;
         map_item = is.cur.map_item;
       } in
-      file-cur image honest v v s t f (record f.cur { blocks = given_entries given f.cur.blocks }) refl cur legal is
+      file-cur medium v v s t f (record f.cur { blocks = given_entries given f.cur.blocks }) refl cur legal is
 
-  -- a file and what is given, nothing on an honest device
+  -- a file and what is given, nothing on an medium.honest device
   pub record GivesFile : Type 0 where
     pub given : List (Option (List (Option (List ℕ))))
-    pub nothing : honest v.file.device → given ≡ []
-    pub file : IsFileOf image honest v t (given_file given f)
+    pub nothing : medium.honest v.file.device → given ≡ []
+    pub file : IsFileOf medium.image medium.honest v t (given_file given f)
 
   -- nothing where the block is as it was
   pub gives-nothing : block_at t (vm_slot h) ≡ block_at s (vm_slot h) → GivesFile
   gives-nothing same = record {
     given = [];
     nothing = λ g. refl;
-    file = file-given [] (λ k ne. nothing-at k) (subst (λ g. IsListedIn image honest v t h (given_entry g (at_handle None f.cur.blocks h))) (sym (nothing-at h))
-        (subst (λ b. IsListedAs (honest v.file.device) (bytes_read image v.file h) (held_at v h) b (at_handle None f.cur.blocks h)) (sym same) (is.cur.each h p)));
+    file = file-given [] (λ k ne. nothing-at k) (subst (λ g. IsListedIn medium v t h (given_entry g (at_handle None f.cur.blocks h))) (sym (nothing-at h))
+        (subst (λ b. IsListedAs (medium.honest v.file.device) (bytes_read medium.image v.file h) (held_at v h) b (at_handle None f.cur.blocks h)) (sym same) (is.cur.each h p)));
   }
 
   -- the chunks of a block that came
   module _ (e : Held) (listed : held_at v h ≡ Some e) (absent : block_at s (vm_slot h) ≡ None) (clean : e.marked ≡ false) (bytes : List ℕ)
-      (there : block_at t (vm_slot h) ≡ Some (let b : Block = record { locks = 0; bytes = bytes } in b)) (long : length bytes ≡ e.len) (legal : IsLegalHeap (heap_in bytes)) (same : honest v.file.device → bytes ≡ bytes_read image v.file h) where
+      (there : block_at t (vm_slot h) ≡ Some (let b : Block = record { locks = 0; bytes = bytes } in b)) (long : length bytes ≡ e.len) (legal : IsLegalHeap (heap_in bytes)) (same : medium.honest v.file.device → bytes ≡ bytes_read medium.image v.file h) where
     -- what is listed in the model was away
-    on : (o : Option VmBlock) → at_handle None f.cur.blocks h ≡ o → IsListedAs (honest v.file.device) (bytes_read image v.file h) (Some e) None o → GivesFile
+    on : (o : Option VmBlock) → at_handle None f.cur.blocks h ≡ o → IsListedAs (medium.honest v.file.device) (bytes_read medium.image v.file h) (Some e) None o → GivesFile
     on None at away = absurd away
     on (Some l) at away =
-        let g = gift-is (honest v.file.device) (bytes_read image v.file h) e l away clean bytes long legal h p same in
-        let own : IsListedIn image honest v t h (given_entry (at_handle None g.given h) (at_handle None f.cur.blocks h)) =
-        subst (λ x. IsListedIn image honest v t h (given_entry (at_handle None g.given h) x)) (sym at)
-        (subst (λ x. IsListedAs (honest v.file.device) (bytes_read image v.file h) x (block_at t (vm_slot h)) (given_entry (at_handle None g.given h) (Some l))) (sym listed)
-        (subst (λ b. IsListedAs (honest v.file.device) (bytes_read image v.file h) (Some e) b (given_entry (at_handle None g.given h) (Some l))) (sym there) g.own)) in
+        let g = gift-is (medium.honest v.file.device) (bytes_read medium.image v.file h) e l away clean bytes long legal h p same in
+        let own : IsListedIn medium v t h (given_entry (at_handle None g.given h) (at_handle None f.cur.blocks h)) =
+        subst (λ x. IsListedIn medium v t h (given_entry (at_handle None g.given h) x)) (sym at)
+        (subst (λ x. IsListedAs (medium.honest v.file.device) (bytes_read medium.image v.file h) x (block_at t (vm_slot h)) (given_entry (at_handle None g.given h) (Some l))) (sym listed)
+        (subst (λ b. IsListedAs (medium.honest v.file.device) (bytes_read medium.image v.file h) (Some e) b (given_entry (at_handle None g.given h) (Some l))) (sym there) g.own)) in
         record { given = g.given; nothing = g.nothing; file = file-given g.given g.others own }
 
     pub gives-came : GivesFile
     gives-came =
-        let at_h : IsListedAs (honest v.file.device) (bytes_read image v.file h) (Some e) None (at_handle None f.cur.blocks h) =
-        subst (λ x. IsListedAs (honest v.file.device) (bytes_read image v.file h) x None (at_handle None f.cur.blocks h)) listed
-        (subst (λ b. IsListedAs (honest v.file.device) (bytes_read image v.file h) (held_at v h) b (at_handle None f.cur.blocks h)) absent (is.cur.each h p)) in
+        let at_h : IsListedAs (medium.honest v.file.device) (bytes_read medium.image v.file h) (Some e) None (at_handle None f.cur.blocks h) =
+        subst (λ x. IsListedAs (medium.honest v.file.device) (bytes_read medium.image v.file h) x None (at_handle None f.cur.blocks h)) listed
+        (subst (λ b. IsListedAs (medium.honest v.file.device) (bytes_read medium.image v.file h) (held_at v h) b (at_handle None f.cur.blocks h)) absent (is.cur.each h p)) in
         on (at_handle None f.cur.blocks h) refl at_h

@@ -3,6 +3,7 @@ use Rattle.std.proofs.Common.{◌≡◌, ℕ, zero, suc, ◌+◌, ◌≤◌, ◌
 use Rattle.std.proofs.lemmas.List.Elements.{All-nil, All-cons, All-append}
 use Rattle.std.specs.List.{flat_map, range_with_len}
 use Rattle.block_handles.specs.Store.{Block, Store, block_at}
+use Rattle.vm_file.specs.Device.{Medium}
 use Rattle.vm_file.specs.declared.directory.Entry.{Entry}
 use Rattle.vm_file.specs.Committing.{IsThere, MayCommit}
 use Rattle.vm_file.specs.Directories.{is_directory}
@@ -23,13 +24,13 @@ all-flat P f a zero each = All-nil P
 all-flat P f a (suc n) each = All-append P (f a) (flat_map f (range_with_len (a + 1) n)) (each a (omega arith) (omega arith)) (all-flat P f (a + 1) n (λ h low high. each h (omega (arith, low)) (omega (arith, high))))
 
 -- what is tied may be committed
-pub may-commit : {D : Type 0} (image : D → List ℕ) (honest : D → Type 0) (v : VmState D) (s : Store) → IsTied image honest v s → is_directory (directory_of v s) ≡ true → MayCommit (resident_of s) v.file.current (directory_of v s)
-may-commit image honest v s tied legal = record { legal = legal; there = all-flat (IsThere (resident_of s) v.file.current) (entries_of v s) 1 1024 (λ h low high. on h (held_at v h) (block_at s (vm_slot h)) refl (tied.each h (low, omega (arith, high)))) }
+pub may-commit : {D : Type 0} (medium : Medium D) (v : VmState D) (s : Store) → IsTied medium v s → is_directory (directory_of v s) ≡ true → MayCommit (resident_of s) v.file.current (directory_of v s)
+may-commit medium v s tied legal = record { legal = legal; there = all-flat (IsThere (resident_of s) v.file.current) (entries_of v s) 1 1024 (λ h low high. on h (held_at v h) (block_at s (vm_slot h)) refl (tied.each h (low, omega (arith, high)))) }
   where
     one : (e : Entry) → IsThere (resident_of s) v.file.current e → All (IsThere (resident_of s) v.file.current) (e ∷ [])
     one e there = All-cons (IsThere (resident_of s) v.file.current) e [] there (All-nil (IsThere (resident_of s) v.file.current))
 
-    on : (h : ℕ) (e : Option Held) (b : Option Block) → block_at s (vm_slot h) ≡ b → TiedAt image honest v.file h e b → All (IsThere (resident_of s) v.file.current) (entries_in h e b)
+    on : (h : ℕ) (e : Option Held) (b : Option Block) → block_at s (vm_slot h) ≡ b → TiedAt medium v.file h e b → All (IsThere (resident_of s) v.file.current) (entries_in h e b)
     on h None b is t = All-nil (IsThere (resident_of s) v.file.current)
     on h (Some e) None is t = one (record { h = h; uid = e.uid; len = e.len }) (rw is t.kept)
     on h (Some e) (Some b) is t = one (record { h = h; uid = e.uid; len = length b.bytes }) (rw is (t.heap, t.handle, refl))

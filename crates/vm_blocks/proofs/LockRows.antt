@@ -22,6 +22,7 @@ use Rattle.block_handles.specs.Names.{IsHandle}
 use Rattle.block_handles.specs.Store.{Block, Store, block_at, bytes_in, IsBlock, IsThere, locks_in, locks_of}
 use Rattle.block_handles.proofs.Laws.{handle_of_there, laid-with_locks, with_locks-same, with_locks-other}
 use Rattle.block_handles.proofs.Layouts.{there_small}
+use Rattle.vm_file.specs.Device.{Medium}
 use Rattle.vm_file.specs.State.{FileState}
 use Rattle.vm_blocks.specs.declared.entries.Held.{Held}
 use Rattle.vm_blocks.specs.View.{VmState, bytes_read, held_at, vm_slot, with_held}
@@ -48,10 +49,10 @@ locked-there : (o : Option Block) → 0 < locks_in o → IsBlock o
 locked-there None some = absurd (omega (arith, some))
 locked-there (Some b) some = tt
 
-listed-some : {D : Type 0} (image : D → List ℕ) (honest : D → Type 0) (x : FileState D) (h : ℕ) (o : Option Held) (b : Option Block) → IsBlock b → TiedAt image honest x h o b → (e : Held) × (o ≡ Some e)
-listed-some image honest x h None None there t = absurd there
-listed-some image honest x h None (Some b) there t = absurd t
-listed-some image honest x h (Some e) b there t = (e, refl)
+listed-some : {D : Type 0} (medium : Medium D) (x : FileState D) (h : ℕ) (o : Option Held) (b : Option Block) → IsBlock b → TiedAt medium x h o b → (e : Held) × (o ≡ Some e)
+listed-some medium x h None None there t = absurd there
+listed-some medium x h None (Some b) there t = absurd t
+listed-some medium x h (Some e) b there t = (e, refl)
 
 -- what a block in memory is, as it is listed and as it lies there
 pub record Known {D : Type 0} (v : VmState D) (s : Store) (h : ℕ) : Type 0 where
@@ -61,11 +62,11 @@ pub record Known {D : Type 0} (v : VmState D) (s : Store) (h : ℕ) : Type 0 whe
   pub block : Block
   pub there : block_at s (vm_slot h) ≡ Some block
 
-pub known : {D : Type 0} (image : D → List ℕ) (honest : D → Type 0) (v : VmState D) (s : Store) (h : ℕ) → IsTied image honest v s → IsThere s (vm_slot h) → Known v s h
-known image honest v s h tied there =
+pub known : {D : Type 0} (medium : Medium D) (v : VmState D) (s : Store) (h : ℕ) → IsTied medium v s → IsThere s (vm_slot h) → Known v s h
+known medium v s h tied there =
     let p : IsHandle h = handle_of_there s s (vm h) refl tied.laid there in
     let b = some-block (block_at s (vm_slot h)) there in
-    let e = listed-some image honest v.file h (held_at v h) (block_at s (vm_slot h)) there (tied.each h p) in
+    let e = listed-some medium v.file h (held_at v h) (block_at s (vm_slot h)) there (tied.each h p) in
     record { handle = p; held = e.0; listed = e.1; block = b.0; there = b.1 }
 
 -- How often it is locked
@@ -76,19 +77,19 @@ counted good read (Some e) (Some b) l absent is = ap (λ x. model.locks_in (opti
 counted good read (Some e) None None absent is = absurd is
 counted good read (Some e) None (Some l) absent is = is.locks
 
-unlisted-absent : {D : Type 0} (image : D → List ℕ) (honest : D → Type 0) (x : FileState D) (h : ℕ) (e : Option Held) (b : Option Block) → TiedAt image honest x h e b → e ≡ None → b ≡ None
-unlisted-absent image honest x h None None t none = refl
-unlisted-absent image honest x h None (Some b) t none = absurd t
-unlisted-absent image honest x h (Some e) b t none = absurd cc
+unlisted-absent : {D : Type 0} (medium : Medium D) (x : FileState D) (h : ℕ) (e : Option Held) (b : Option Block) → TiedAt medium x h e b → e ≡ None → b ≡ None
+unlisted-absent medium x h None None t none = refl
+unlisted-absent medium x h None (Some b) t none = absurd t
+unlisted-absent medium x h (Some e) b t none = absurd cc
 
 free-or : (n : ℕ) → (n ≡ 0) ⊎ (0 < n)
 free-or n = elim (cases_lt 0 n) [ inl l ↦ inr l | inr l ↦ inl (omega (arith, l)) ]
 
-module _ {D : Type 0} (image : D → List ℕ) (honest : D → Type 0) (v : VmState D) (s : Store) (h : ℕ) (tied : IsTied image honest v s) (m : Memory) (is : IsMemoryOf image honest v s m) where
+module _ {D : Type 0} (medium : Medium D) (v : VmState D) (s : Store) (h : ℕ) (tied : IsTied medium v s) (m : Memory) (is : IsMemoryOf medium v s m) where
   -- the model knows how often
   pub locks-told : memory.locks_of m (vm h) ≡ locks_of s (vm_slot h)
   locks-told = elim (handle-or {X = ℕ} 0 h) [
-    | inl p ↦ counted (honest v.file.device) (bytes_read image v.file h) (held_at v h) (block_at s (vm_slot h)) (listed_at m h) (unlisted-absent image honest v.file h (held_at v h) (block_at s (vm_slot h)) (tied.each h p)) (is.file.cur.each h p)
+    | inl p ↦ counted (medium.honest v.file.device) (bytes_read medium.image v.file h) (held_at v h) (block_at s (vm_slot h)) (listed_at m h) (unlisted-absent medium v.file h (held_at v h) (block_at s (vm_slot h)) (tied.each h p)) (is.file.cur.each h p)
     | inr past ↦ (
         let none : memory.locks_of m (vm h) ≡ 0 = ap (λ x. model.locks_in (option_map (λ (x : VmBlock). x.block) x)) (table-past None m.file.cur.blocks h is.file.cur.handles past) in
         none ∙ sym (no-lock past (free-or (locks_of s (vm_slot h))))
@@ -111,18 +112,18 @@ module _ {D : Type 0} (image : D → List ℕ) (honest : D → Type 0) (v : VmSt
     keeps : Keeps v s (with_locks s (vm_slot h) n) h
     keeps = record { each = λ slot ne. inl (with_locks-other s (vm_slot h) n slot ne, λ some. refl); laid = laid-with_locks s tied.laid (vm_slot h) there n; len = refl }
 
-    pub memory-locked : IsMemoryOf image honest v (with_locks s (vm_slot h) n) (memory.with_locks m (vm h) n)
+    pub memory-locked : IsMemoryOf medium v (with_locks s (vm_slot h) n) (memory.with_locks m (vm h) n)
     memory-locked =
-        let k = known image honest v s h tied there in
+        let k = known medium v s h tied there in
         let c : Block = record { locks = n; bytes = k.block.bytes } in
         let now : block_at (with_locks s (vm_slot h) n) (vm_slot h) ≡ Some c = with_locks-same s (vm_slot h) n small ∙ ap (λ o. Some (record { locks = n; bytes = bytes_in o })) k.there in
-        let legal : IsLegalBlock (spelled n k.block.bytes) = record { heap = (own-legal image honest v s (with_locks s (vm_slot h) n) m is h k.handle tied keeps k.held k.listed k.block k.there).block.heap; few = few } in
-        memory-changed image honest v s (with_locks s (vm_slot h) n) m is h k.handle tied keeps k.held k.listed k.block k.there (locked_block n) c now refl legal
+        let legal : IsLegalBlock (spelled n k.block.bytes) = record { heap = (own-legal medium v s (with_locks s (vm_slot h) n) m is h k.handle tied keeps k.held k.listed k.block k.there).block.heap; few = few } in
+        memory-changed medium v s (with_locks s (vm_slot h) n) m is h k.handle tied keeps k.held k.listed k.block k.there (locked_block n) c now refl legal
 
     pub few-locks : locks_of s (vm_slot h) ≤ 65535
     few-locks =
-        let k = known image honest v s h tied there in
-        let few = (own-legal image honest v s (with_locks s (vm_slot h) n) m is h k.handle tied keeps k.held k.listed k.block k.there).block.few in
+        let k = known medium v s h tied there in
+        let few = (own-legal medium v s (with_locks s (vm_slot h) n) m is h k.handle tied keeps k.held k.listed k.block k.there).block.few in
         subst (λ o. locks_in o ≤ 65535) (sym k.there) few
 
 -- Unlocking and marking
@@ -130,30 +131,30 @@ module _ {D : Type 0} (image : D → List ℕ) (honest : D → Type 0) (v : VmSt
 quiet : Choice
 quiet = chosen false false []
 
-module _ {D : Type 0} (image : D → List ℕ) (honest : D → Type 0) (failed : D → ℕ) (v : VmState D) (s : Store) (h : ℕ) (tied : IsTied image honest v s) where
-  pub unlock-row : (t : Store) → 0 < locks_of s (vm_slot h) → t ≡ with_lock_less s (vm_slot h) → DoesRow image honest failed (unlock (vm h)) (Ok tt) v s v t
+module _ {D : Type 0} (medium : Medium D) (v : VmState D) (s : Store) (h : ℕ) (tied : IsTied medium v s) where
+  pub unlock-row : (t : Store) → 0 < locks_of s (vm_slot h) → t ≡ with_lock_less s (vm_slot h) → DoesRow medium (unlock (vm h)) (Ok tt) v s v t
   unlock-row t some is_t m is =
       let there = locked-there (block_at s (vm_slot h)) some in
       let n : ℕ = locks_of s (vm_slot h) - 1 in
-      let few = few-locks image honest v s h tied m is there 0 (omega arith) in
-      let told = locks-told image honest v s h tied m is in
-      let after = memory-locked image honest v s h tied m is there n (omega (arith, few)) in
+      let few = few-locks medium v s h tied m is there 0 (omega arith) in
+      let told = locks-told medium v s h tied m is in
+      let after = memory-locked medium v s h tied m is there n (omega (arith, few)) in
       let same : memory.with_locks m (vm h) n ≡ memory.with_locks m (vm h) (memory.locks_of m (vm h) - 1) = ap (λ k. memory.with_locks m (vm h) (k - 1)) (sym told) in (
         chosen false false [],
         record { given = λ g. refl; device = λ g t. absurd cc },
         memory.with_locks m (vm h) (memory.locks_of m (vm h) - 1),
-        subst (λ u. IsMemoryOf image honest v u (memory.with_locks m (vm h) (memory.locks_of m (vm h) - 1))) (sym is_t) (subst (IsMemoryOf image honest v (with_lock_less s (vm_slot h))) same after),
+        subst (λ u. IsMemoryOf medium v u (memory.with_locks m (vm h) (memory.locks_of m (vm h) - 1))) (sym is_t) (subst (IsMemoryOf medium v (with_lock_less s (vm_slot h))) same after),
         refl,
       )
 
-  pub dirty-row : (w : VmState D) → IsThere s (vm_slot h) → w ≡ with_held v h (option_map marked (held_at v h)) → DoesRow image honest failed (vdirty h) (Ok tt) v s w s
+  pub dirty-row : (w : VmState D) → IsThere s (vm_slot h) → w ≡ with_held v h (option_map marked (held_at v h)) → DoesRow medium (vdirty h) (Ok tt) v s w s
   dirty-row w there same m is =
-      let k = known image honest v s h tied there in
+      let k = known medium v s h tied there in
       let x : VmState D = with_held v h (option_map marked (held_at v h)) in
       let keeps : Keeps v s s h = record { each = λ slot ne. inl (refl, λ some. refl); laid = tied.laid; len = refl } in
       let held : held_at x h ≡ Some (record k.held { marked = true }) = table-own None (option_map marked (held_at v h)) v.entries h tied.long k.handle ∙ ap (option_map marked) k.listed in
-      let after = memory-marked image honest v s s m is h k.handle tied keeps k.held k.listed k.block k.there x true refl (λ j ne. entry-other None (option_map marked (held_at v h)) v.entries h j ne) refl refl held k.there in
-      (chosen false false [], record { given = λ g. refl; device = λ g t. absurd cc }, memory.with_mark m h true, subst (λ y. IsMemoryOf image honest y s (memory.with_mark m h true)) (sym same) after, refl)
+      let after = memory-marked medium v s s m is h k.handle tied keeps k.held k.listed k.block k.there x true refl (λ j ne. entry-other None (option_map marked (held_at v h)) v.entries h j ne) refl refl held k.there in
+      (chosen false false [], record { given = λ g. refl; device = λ g t. absurd cc }, memory.with_mark m h true, subst (λ y. IsMemoryOf medium y s (memory.with_mark m h true)) (sym same) after, refl)
 
 -- Locking
 
@@ -182,55 +183,55 @@ come-err : (o : Option Refusal) (m : Memory) (r : Refusal) → (come_to {A = Uni
 come-err None m r e = absurd cc
 come-err (Some x) m r e = cc
 
-module _ {D : Type 0} (image : D → List ℕ) (honest : D → Type 0) (failed : D → ℕ) (v w : VmState D) (s t : Store) (h : ℕ) (now : IsTied image honest w t) (few : locks_of t (vm_slot h) ≢ 65535) where
+module _ {D : Type 0} (medium : Medium D) (v w : VmState D) (s t : Store) (h : ℕ) (now : IsTied medium w t) (few : locks_of t (vm_slot h) ≢ 65535) where
   -- the tests of the row are those of bringing the block
-  lock-tests : (choice : Choice) (m : Memory) → IsMemoryOf image honest w t (given_memory choice.given m)
+  lock-tests : (choice : Choice) (m : Memory) → IsMemoryOf medium w t (given_memory choice.given m)
       → first_refusal (effect_of (lock_listed h) choice m).refusals ≡ first_refusal (effect_of (bring h) choice m).refusals
   lock-tests choice m is =
       let n = given_memory choice.given m in
       same-tests (is_none (listed_at n h)) (memory.locks_of n (vm h) == 65535) refusal.BadHandle refusal.Locked (bringing choice n h)
-      (not-full (memory.locks_of n (vm h)) (λ e. few (sym (locks-told image honest w t h now n is) ∙ e)))
+      (not-full (memory.locks_of n (vm h)) (λ e. few (sym (locks-told medium w t h now n is) ∙ e)))
 
   -- the block was not brought
-  pub lock-refused : (r : Refusal) → DoesRow image honest failed (bring h) (Err r) v s w t → DoesRow image honest failed (lock_listed h) (Err r) v s w t
+  pub lock-refused : (r : Refusal) → DoesRow medium (bring h) (Err r) v s w t → DoesRow medium (lock_listed h) (Err r) v s w t
   lock-refused r row m is =
       let b = row m is in
       let n = given_memory b.0.given m in
       let o = first_refusal (effect_of (bring h) b.0 m).refusals in
       let same : n ≡ b.2 = sym (come-same o n) ∙ ap (λ x. x.1) b.4 in
-      let n_is : IsMemoryOf image honest w t n = subst (IsMemoryOf image honest w t) (sym same) b.3 in
+      let n_is : IsMemoryOf medium w t n = subst (IsMemoryOf medium w t) (sym same) b.3 in
       let came : first_refusal (effect_of (lock_listed h) b.0 m).refusals ≡ Some r = lock-tests b.0 m n_is ∙ come-err o n r (ap (λ x. x.0) b.4) in
       (b.0, b.1, n, n_is, ap (λ x. come_to {A = Unit {0}} x (unchanged n) tt (memory.with_locks n (vm h) (memory.locks_of n (vm h) + 1))) came)
 
   -- it was, and is locked once more
-  pub lock-done : (u : Store) → IsThere t (vm_slot h) → u ≡ with_locks t (vm_slot h) (locks_of t (vm_slot h) + 1) → DoesRow image honest failed (bring h) (Ok tt) v s w t → DoesRow image honest failed (lock_listed h) (Ok tt) v s w u
+  pub lock-done : (u : Store) → IsThere t (vm_slot h) → u ≡ with_locks t (vm_slot h) (locks_of t (vm_slot h) + 1) → DoesRow medium (bring h) (Ok tt) v s w t → DoesRow medium (lock_listed h) (Ok tt) v s w u
   lock-done u there is_u row m is =
       let b = row m is in
       let n = given_memory b.0.given m in
       let o = first_refusal (effect_of (bring h) b.0 m).refusals in
       let same : n ≡ b.2 = sym (come-same o n) ∙ ap (λ x. x.1) b.4 in
-      let n_is : IsMemoryOf image honest w t n = subst (IsMemoryOf image honest w t) (sym same) b.3 in
+      let n_is : IsMemoryOf medium w t n = subst (IsMemoryOf medium w t) (sym same) b.3 in
       let none : first_refusal (effect_of (lock_listed h) b.0 m).refusals ≡ None = lock-tests b.0 m n_is ∙ come-ok o n (ap (λ x. x.0) b.4) in
-      let most = few-locks image honest w t h now n n_is there 0 (omega arith) in
+      let most = few-locks medium w t h now n n_is there 0 (omega arith) in
       let more : locks_of t (vm_slot h) + 1 ≤ 65535 = omega (arith, most, few) in
-      let after = memory-locked image honest w t h now n n_is there (locks_of t (vm_slot h) + 1) more in
-      let locks : memory.with_locks n (vm h) (locks_of t (vm_slot h) + 1) ≡ memory.with_locks n (vm h) (memory.locks_of n (vm h) + 1) = ap (λ k. memory.with_locks n (vm h) (k + 1)) (sym (locks-told image honest w t h now n n_is)) in (
+      let after = memory-locked medium w t h now n n_is there (locks_of t (vm_slot h) + 1) more in
+      let locks : memory.with_locks n (vm h) (locks_of t (vm_slot h) + 1) ≡ memory.with_locks n (vm h) (memory.locks_of n (vm h) + 1) = ap (λ k. memory.with_locks n (vm h) (k + 1)) (sym (locks-told medium w t h now n n_is)) in (
         b.0,
         b.1,
         memory.with_locks n (vm h) (memory.locks_of n (vm h) + 1),
-        subst (λ x. IsMemoryOf image honest w x (memory.with_locks n (vm h) (memory.locks_of n (vm h) + 1))) (sym is_u) (subst (IsMemoryOf image honest w (with_locks t (vm_slot h) (locks_of t (vm_slot h) + 1))) locks after),
+        subst (λ x. IsMemoryOf medium w x (memory.with_locks n (vm h) (memory.locks_of n (vm h) + 1))) (sym is_u) (subst (IsMemoryOf medium w (with_locks t (vm_slot h) (locks_of t (vm_slot h) + 1))) locks after),
         ap (λ x. come_to {A = Unit {0}} x (unchanged n) tt (memory.with_locks n (vm h) (memory.locks_of n (vm h) + 1))) none,
       )
 
 -- the count is full
-pub lock-full : {D : Type 0} (image : D → List ℕ) (honest : D → Type 0) (failed : D → ℕ) (v : VmState D) (s : Store) (h : ℕ) → IsTied image honest v s → locks_of s (vm_slot h) ≡ 65535
-    → DoesRow image honest failed (lock_listed h) (Err refusal.Locked) v s v s
-lock-full image honest failed v s h tied many m is =
+pub lock-full : {D : Type 0} (medium : Medium D) (v : VmState D) (s : Store) (h : ℕ) → IsTied medium v s → locks_of s (vm_slot h) ≡ 65535
+    → DoesRow medium (lock_listed h) (Err refusal.Locked) v s v s
+lock-full medium v s h tied many m is =
     let there = locked-there (block_at s (vm_slot h)) (omega (arith, many)) in
-    let k = known image honest v s h tied there in
+    let k = known medium v s h tied there in
     let keeps : Keeps v s s h = record { each = λ slot ne. inl (refl, λ some. refl); laid = tied.laid; len = refl } in
-    let listed : is_none (listed_at m h) ≡ false = ap is_none (listed-there image honest v s s m is h k.handle tied keeps k.held k.listed k.block k.there) in
-    let test : (memory.locks_of m (vm h) == 65535) ≡ true = full (memory.locks_of m (vm h)) (locks-told image honest v s h tied m is ∙ many) in
+    let listed : is_none (listed_at m h) ≡ false = ap is_none (listed-there medium v s s m is h k.handle tied keeps k.held k.listed k.block k.there) in
+    let test : (memory.locks_of m (vm h) == 65535) ≡ true = full (memory.locks_of m (vm h)) (locks-told medium v s h tied m is ∙ many) in
     (chosen false false [], record { given = λ g. refl; device = λ g t. absurd cc }, m, is, rw (listed, test) refl)
 
 -- a block that was not brought is locked no more often than it was

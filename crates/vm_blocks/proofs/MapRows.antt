@@ -8,6 +8,7 @@ use Rattle.geos_table.specs.Legal.{IsCurrent}
 use Rattle.geos_table.specs.Memory.{Memory, is_group, listed_at, with_cur}
 use Rattle.geos_table.specs.VmCalls.{vsetmap}
 use Rattle.block_handles.specs.Store.{Store}
+use Rattle.vm_file.specs.Device.{Medium}
 use Rattle.vm_blocks.specs.View.{VmState, held_at}
 use Rattle.vm_blocks.specs.Tied.{IsTied}
 use Rattle.vm_blocks.specs.FileOf.{IsCurrentOf}
@@ -29,14 +30,14 @@ a-group (Some l) same = grind (arith, nat_tests, same)
 no-zero : (k : ℕ) → (suc k == 0) ≡ false
 no-zero k = grind (arith, nat_tests)
 
-module _ {D : Type 0} (image : D → List ℕ) (honest : D → Type 0) (failed : D → ℕ) (v : VmState D) (s : Store) (tied : IsTied image honest v s) where
-  pub set-map-row : (h : ℕ) → (h ≢ 0 → IsSomeAnd (held_at v h) (λ e. e.uid ≢ group_uid)) → DoesRow image honest failed (vsetmap h) (Ok tt) v s (record v { map_block = h }) s
+module _ {D : Type 0} (medium : Medium D) (v : VmState D) (s : Store) (tied : IsTied medium v s) where
+  pub set-map-row : (h : ℕ) → (h ≢ 0 → IsSomeAnd (held_at v h) (λ e. e.uid ≢ group_uid)) → DoesRow medium (vsetmap h) (Ok tt) v s (record v { map_block = h }) s
   set-map-row h block m is =
       let cur : Directory VmBlock = record m.file.cur { map_block = h } in let maps = is.file.legal.cur.maps in
-      let listed : h ≢ 0 → IsSomeAnd (option_map (λ (x : VmBlock). x.uid) (listed_at m h)) (λ u. u ≢ group_uid) = (λ some. uid-some image honest v s tied m is (λ u. u ≢ group_uid) h (block some)) in
+      let listed : h ≢ 0 → IsSomeAnd (option_map (λ (x : VmBlock). x.uid) (listed_at m h)) (λ u. u ≢ group_uid) = (λ some. uid-some medium v s tied m is (λ u. u ≢ group_uid) h (block some)) in
       let t = tests m h listed in
       let w : VmState D = record v { map_block = h } in
-      let now : IsCurrentOf image honest w s cur = record { handles = is.file.cur.handles; each = is.file.cur.each; map_block = refl; map_group = is.file.cur.map_group; map_item = is.file.cur.map_item } in
+      let now : IsCurrentOf medium.image medium.honest w s cur = record { handles = is.file.cur.handles; each = is.file.cur.each; map_block = refl; map_group = is.file.cur.map_group; map_item = is.file.cur.map_item } in
       let legal : IsCurrent cur = record {
         handles = is.file.legal.cur.handles;
         blocks = is.file.legal.cur.blocks;
@@ -45,7 +46,7 @@ module _ {D : Type 0} (image : D → List ℕ) (honest : D → Type 0) (failed :
         chosen false false [],
         record { given = λ g. refl; device = λ g t. absurd cc },
         with_cur m cur,
-        record { blocks = is.blocks; file = file-cur image honest v w s s m.file cur refl now legal is.file; region = is.region },
+        record { blocks = is.blocks; file = file-cur medium v w s s m.file cur refl now legal is.file; region = is.region },
         rw (t.0, t.1) refl,
       )
     where
@@ -53,13 +54,13 @@ module _ {D : Type 0} (image : D → List ℕ) (honest : D → Type 0) (failed :
       tests m zero listed = (refl, refl)
       tests m (suc k) listed = let t = a-block (listed_at m (suc k)) (listed (λ z. omega (arith, z))) in (rw (no-zero k, t.0) refl, t.1)
 
-  pub put-map-item-row : (g i : ℕ) → i < 65536 → (g ≢ 0 → IsSomeAnd (held_at v g) (λ e. e.uid ≡ group_uid)) → (g ≡ 0 → i ≡ 0) → DoesRow image honest failed (isetmap g i) (Ok tt) v s (record v { map_item = (g, i) }) s
+  pub put-map-item-row : (g i : ℕ) → i < 65536 → (g ≢ 0 → IsSomeAnd (held_at v g) (λ e. e.uid ≡ group_uid)) → (g ≡ 0 → i ≡ 0) → DoesRow medium (isetmap g i) (Ok tt) v s (record v { map_item = (g, i) }) s
   put-map-item-row g i word group no_item m is =
       let cur : Directory VmBlock = record m.file.cur { map_group = g; map_item = i } in let maps = is.file.legal.cur.maps in
-      let listed : g ≢ 0 → IsSomeAnd (option_map (λ (x : VmBlock). x.uid) (listed_at m g)) (λ u. u ≡ group_uid) = (λ some. uid-some image honest v s tied m is (λ u. u ≡ group_uid) g (group some)) in
+      let listed : g ≢ 0 → IsSomeAnd (option_map (λ (x : VmBlock). x.uid) (listed_at m g)) (λ u. u ≡ group_uid) = (λ some. uid-some medium v s tied m is (λ u. u ≡ group_uid) g (group some)) in
       let t = tests m g listed no_item in
       let w : VmState D = record v { map_item = (g, i) } in
-      let now : IsCurrentOf image honest w s cur = record { handles = is.file.cur.handles; each = is.file.cur.each; map_block = is.file.cur.map_block; map_group = refl; map_item = refl } in
+      let now : IsCurrentOf medium.image medium.honest w s cur = record { handles = is.file.cur.handles; each = is.file.cur.each; map_block = is.file.cur.map_block; map_group = refl; map_item = refl } in
       let legal : IsCurrent cur = record {
         handles = is.file.legal.cur.handles;
         blocks = is.file.legal.cur.blocks;
@@ -68,7 +69,7 @@ module _ {D : Type 0} (image : D → List ℕ) (honest : D → Type 0) (failed :
         chosen false false [],
         record { given = λ g. refl; device = λ g t. absurd cc },
         with_cur m cur,
-        record { blocks = is.blocks; file = file-cur image honest v w s s m.file cur refl now legal is.file; region = is.region },
+        record { blocks = is.blocks; file = file-cur medium v w s s m.file cur refl now legal is.file; region = is.region },
         rw (t.0, t.1) refl,
       )
     where

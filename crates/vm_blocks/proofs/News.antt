@@ -10,6 +10,7 @@ use Rattle.block_handles.specs.Names.{IsHandle}
 use Rattle.block_handles.specs.Store.{Block, Store, block_at, bytes_in, IsBlock, IsThere, locks_in, locks_of, place_of, size_of}
 use Rattle.block_handles.proofs.Laws.{laid-with_bytes, with_locks-same}
 use Rattle.block_handles.proofs.Layouts.{there_small}
+use Rattle.vm_file.specs.Device.{Medium}
 use Rattle.vm_file.specs.Directories.{group_uid}
 use Rattle.vm_file.specs.State.{FileState}
 use Rattle.vm_blocks.specs.declared.entries.Held.{Held}
@@ -24,13 +25,13 @@ use Rattle.vm_blocks.proofs.Brings.{filled-at, fills-others, keeps-more, kept-ti
 use Rattle.vm_blocks.proofs.Counts.{keeps-locked}
 
 -- nothing is in memory under a handle that is not listed
-none-in : {D : Type 0} (image : D → List ℕ) (honest : D → Type 0) (f : FileState D) (h : ℕ) (o : Option Held) (b : Option Block) → o ≡ None → TiedAt image honest f h o b → IsBlock b → ⊥
-none-in image honest f h None None e t there = there
-none-in image honest f h None (Some b) e t there = t
-none-in image honest f h (Some x) b e t there = absurd cc
+none-in : {D : Type 0} (medium : Medium D) (f : FileState D) (h : ℕ) (o : Option Held) (b : Option Block) → o ≡ None → TiedAt medium f h o b → IsBlock b → ⊥
+none-in medium f h None None e t there = there
+none-in medium f h None (Some b) e t there = t
+none-in medium f h (Some x) b e t there = absurd cc
 
-pub none-there : {D : Type 0} (image : D → List ℕ) (honest : D → Type 0) (v : VmState D) (s : Store) (h : ℕ) → IsHandle h → IsTied image honest v s → held_at v h ≡ None → IsThere s (vm_slot h) → ⊥
-none-there image honest v s h q tied free = none-in image honest v.file h (held_at v h) (block_at s (vm_slot h)) free (tied.each h q)
+pub none-there : {D : Type 0} (medium : Medium D) (v : VmState D) (s : Store) (h : ℕ) → IsHandle h → IsTied medium v s → held_at v h ≡ None → IsThere s (vm_slot h) → ⊥
+none-there medium v s h q tied free = none-in medium v.file h (held_at v h) (block_at s (vm_slot h)) free (tied.each h q)
 
 -- room was made for a block, and it is a heap
 module _ {D : Type 0} (v : VmState D) (s m t : Store) (h : ℕ) (q : IsHandle h) (made : MakesRoom v s m (vm h) 64) where
@@ -71,24 +72,24 @@ maps-more {D} v h x free maps = record {
     ]
 
 -- a new block is listed
-module _ {D : Type 0} (image : D → List ℕ) (honest : D → Type 0) (v : VmState D) (s t : Store) (h uid : ℕ) (q : IsHandle h) (tied : IsTied image honest v s) (free : held_at v h ≡ None) (keeps : Keeps v s t h) (new : IsNew t h 0) where
+module _ {D : Type 0} (medium : Medium D) (v : VmState D) (s t : Store) (h uid : ℕ) (q : IsHandle h) (tied : IsTied medium v s) (free : held_at v h ≡ None) (keeps : Keeps v s t h) (new : IsNew t h 0) where
   abbrev w : VmState D
   w = with_held v h (Some (new_held uid))
 
-  own-tied : TiedAt image honest v.file h (Some (new_held uid)) (Some new.block)
+  own-tied : TiedAt medium v.file h (Some (new_held uid)) (Some new.block)
   own-tied = record { size = (omega arith, omega arith, refl); heap = new.heap; handle = new.handle; kept = λ m. absurd cc; clean = λ m. absurd cc }
 
-  pub added-tied : IsTied image honest w t
+  pub added-tied : IsTied medium w t
   added-tied = record {
     laid = keeps.laid;
     long = length-with v.entries h (Some (new_held uid)) ∙ tied.long;
     maps = maps-more v h (Some (new_held uid)) free tied.maps;
     each = λ k p. elim (cases_eq k h) [
-      | inl same ↦ subst (λ j. TiedAt image honest v.file j (held_at w j) (block_at t (vm_slot j))) (sym same)
-          (subst (TiedAt image honest v.file h (held_at w h)) (sym new.at)
-          (subst (λ o. TiedAt image honest v.file h o (Some new.block)) (sym (held-same v.entries h (Some (new_held uid)) q tied.long)) own-tied))
-      | inr other ↦ subst (λ o. TiedAt image honest v.file k o (block_at t (vm_slot k))) (sym (held-other v.entries h k (Some (new_held uid)) other))
-          (kept-tied image honest v s t h k p tied (keeps.each (vm_slot k) (λ e. other (slot-one k h p q e))))
+      | inl same ↦ subst (λ j. TiedAt medium v.file j (held_at w j) (block_at t (vm_slot j))) (sym same)
+          (subst (TiedAt medium v.file h (held_at w h)) (sym new.at)
+          (subst (λ o. TiedAt medium v.file h o (Some new.block)) (sym (held-same v.entries h (Some (new_held uid)) q tied.long)) own-tied))
+      | inr other ↦ subst (λ o. TiedAt medium v.file k o (block_at t (vm_slot k))) (sym (held-other v.entries h k (Some (new_held uid)) other))
+          (kept-tied medium v s t h k p tied (keeps.each (vm_slot k) (λ e. other (slot-one k h p q e))))
     ];
   }
 

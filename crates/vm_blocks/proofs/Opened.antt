@@ -7,6 +7,7 @@ use Rattle.std.proofs.lemmas.Bool.{eqb-true, eq-eqb, ne_eqb}
 use Rattle.block_handles.specs.Layout.{IsLaidOut}
 use Rattle.block_handles.specs.Names.{IsHandle}
 use Rattle.block_handles.specs.Store.{Store}
+use Rattle.vm_file.specs.Device.{Medium}
 use Rattle.vm_file.specs.declared.directory.Entry.{Entry}
 use Rattle.vm_file.specs.declared.directory.Directory.{Directory}
 use Rattle.vm_file.specs.Directories.{has_block, has_group, is_directory}
@@ -73,16 +74,16 @@ module _ {D : Type 0} (v : VmState D) (d : Directory) (legal : is_directory d �
       }
 
 -- a file of which no block is in memory is tied to the region
-pub opened-tied : {D : Type 0} (image : D → List ℕ) (honest : D → Type 0) (v : VmState D) (s : Store) → length v.entries ≡ 1024 → is_directory v.file.current ≡ true → IsListOf v v.file.current → IsLaidOut s → NoneResident s → IsTied image honest v s
-opened-tied image honest v s long legal lists laid none = record {
+pub opened-tied : {D : Type 0} (medium : Medium D) (v : VmState D) (s : Store) → length v.entries ≡ 1024 → is_directory v.file.current ≡ true → IsListOf v v.file.current → IsLaidOut s → NoneResident s → IsTied medium v s
+opened-tied medium v s long legal lists laid none = record {
   laid = laid;
   long = long;
   each = λ h p.
-      subst (TiedAt image honest v.file h (held_at v h)) (sym (none h p)) (subst (λ o. TiedAt image honest v.file h o None) (sym (lists.each h p)) (on h (find (λ e. eqb e.h h) v.file.current.entries.items) refl));
+      subst (TiedAt medium v.file h (held_at v h)) (sym (none h p)) (subst (λ o. TiedAt medium v.file h o None) (sym (lists.each h p)) (on h (find (λ e. eqb e.h h) v.file.current.entries.items) refl));
   maps = list-maps v v.file.current legal lists;
 }
   where
-    on : (h : ℕ) (o : Option Entry) → find (λ e. eqb e.h h) v.file.current.entries.items ≡ o → TiedAt image honest v.file h (option_map as_held o) None
+    on : (h : ℕ) (o : Option Entry) → find (λ e. eqb e.h h) v.file.current.entries.items ≡ o → TiedAt medium v.file h (option_map as_held o) None
     on h None is = tt
     on h (Some x) is = record {
       size = (found_entry v.file.current.entries.items 0 h x (legal_from v.file.current legal).entries is).1.size;

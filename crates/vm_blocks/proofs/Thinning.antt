@@ -11,6 +11,7 @@ use Rattle.block_handles.specs.Names.{IsHandle, slot_of}
 use Rattle.block_handles.specs.Store.{Block, Store, block_at, IsBlock, IsThere}
 use Rattle.block_handles.proofs.Laws.{slot_of-handle, laid-without, with_block-same, with_block-other}
 use Rattle.block_handles.proofs.Layouts.{there_small}
+use Rattle.vm_file.specs.Device.{Medium}
 use Rattle.vm_blocks.specs.declared.entries.Held.{Held}
 use Rattle.vm_blocks.specs.View.{VmState, held_at, vm_slot}
 use Rattle.vm_blocks.specs.Tied.{IsTied, TiedAt}
@@ -57,21 +58,21 @@ module _ {D : Type 0} (v : VmState D) where
         | inr other ↦ inl (with_block-other s (vm_slot h) None 0 slot other, get_or-set_other s.places (vm_slot h) slot 0 0 other)
       ]
 
-module _ {D : Type 0} (image : D → List ℕ) (honest : D → Type 0) (v : VmState D) where
-  pub gone-tied : (h : ℕ) (e : Option Held) (b : Option Block) → is_idle_in e b ≡ true → TiedAt image honest v.file h e b → TiedAt image honest v.file h e None
+module _ {D : Type 0} (medium : Medium D) (v : VmState D) where
+  pub gone-tied : (h : ℕ) (e : Option Held) (b : Option Block) → is_idle_in e b ≡ true → TiedAt medium v.file h e b → TiedAt medium v.file h e None
   gone-tied h None b i t = absurd cc
   gone-tied h (Some e) None i t = absurd cc
   gone-tied h (Some e) (Some b) i t = let clean = (idle-parts e b i).0 in record { size = t.size; clean = clean; kept = t.kept clean }
 
-  pub tied-thins : (s t : Store) (but : ℕ) → IsTied image honest v s → Thins v s t but → IsTied image honest v t
+  pub tied-thins : (s t : Store) (but : ℕ) → IsTied medium v s → Thins v s t but → IsTied medium v t
   tied-thins s t but tied thins = record { laid = thins.laid; long = tied.long; each = λ h p. on h p (thins.each (vm_slot h)); maps = tied.maps }
     where
-      on : (h : ℕ) → IsHandle h → StaysOrGoes v s t but (vm_slot h) → TiedAt image honest v.file h (held_at v h) (block_at t (vm_slot h))
-      on h p (inl q) = subst (TiedAt image honest v.file h (held_at v h)) (sym q.0) (tied.each h p)
+      on : (h : ℕ) → IsHandle h → StaysOrGoes v s t but (vm_slot h) → TiedAt medium v.file h (held_at v h) (block_at t (vm_slot h))
+      on h p (inl q) = subst (TiedAt medium v.file h (held_at v h)) (sym q.0) (tied.each h p)
       on h p (inr g) =
           let one : h ≡ g.h = slot-one h g.h p g.handle g.slot_is in
           let i : is_idle v s h ≡ true = subst (λ k. is_idle v s k ≡ true) (sym one) g.idle in
-          subst (TiedAt image honest v.file h (held_at v h)) (sym g.gone) (gone-tied h (held_at v h) (block_at s (vm_slot h)) i (tied.each h p))
+          subst (TiedAt medium v.file h (held_at v h)) (sym g.gone) (gone-tied h (held_at v h) (block_at s (vm_slot h)) i (tied.each h p))
 
 -- a block does not go while room is made for it
 own-slot : (owner : Owner) (k h : ℕ) → IsHandle k → IsHandle h → h ≢ own_handle_of owner k → slot_of (record { owner = owner; h = k }) ≢ vm_slot h

@@ -17,6 +17,7 @@ use Rattle.geos_table.proofs.Laws.{entry-other}
 use Rattle.block_handles.specs.Names.{IsHandle}
 use Rattle.block_handles.specs.Store.{Block, Store, block_at, bytes_in, locks_in, slot_count}
 use Rattle.block_handles.specs.Stretch.{total, other_size, locked_one, other_locked, other_sizes, IsCrowded}
+use Rattle.vm_file.specs.Device.{Medium}
 use Rattle.vm_file.specs.State.{FileState}
 use Rattle.vm_blocks.specs.declared.entries.Held.{Held}
 use Rattle.vm_blocks.specs.View.{VmState, bytes_read, held_at, vm_slot}
@@ -94,10 +95,10 @@ module _ (f : Option Block → ℕ) (g : Option model.Block → ℕ) (same : (o 
       ]
 
 -- what is not listed is not in memory
-unlisted-absent : {D : Type 0} (image : D → List ℕ) (honest : D → Type 0) (x : FileState D) (h : ℕ) (e : Option Held) (b : Option Block) → TiedAt image honest x h e b → e ≡ None → b ≡ None
-unlisted-absent image honest x h None None t none = refl
-unlisted-absent image honest x h None (Some b) t none = absurd t
-unlisted-absent image honest x h (Some e) b t none = absurd cc
+unlisted-absent : {D : Type 0} (medium : Medium D) (x : FileState D) (h : ℕ) (e : Option Held) (b : Option Block) → TiedAt medium x h e b → e ≡ None → b ≡ None
+unlisted-absent medium x h None None t none = refl
+unlisted-absent medium x h None (Some b) t none = absurd t
+unlisted-absent medium x h (Some e) b t none = absurd cc
 
 -- One lookup more that is not that of a slot
 
@@ -107,7 +108,7 @@ other-not s f but slot ne = let is : nat_eq slot but ≡ false = grind (arith, n
 other-own : (s : Store) (f : Option Block → ℕ) (but slot : ℕ) → slot ≡ but → (if nat_eq slot but then 0 else f (block_at s slot)) ≡ 0
 other-own s f but slot same = let is : nat_eq slot but ≡ true = grind (arith, nat_tests, same) in rw is refl
 
-module _ {D : Type 0} (image : D → List ℕ) (honest : D → Type 0) (v : VmState D) (s : Store) (m : Memory) (tied : IsTied image honest v s) (is : IsMemoryOf image honest v s m) where
+module _ {D : Type 0} (medium : Medium D) (v : VmState D) (s : Store) (m : Memory) (tied : IsTied medium v s) (is : IsMemoryOf medium v s m) where
   mem-long : length m.blocks ≡ 1024
   mem-long = ap length is.blocks ∙ omega (arith, length-map (take 1024 s.blocks) block_in, length-take 1024 s.blocks, tied.laid.slots)
 
@@ -126,8 +127,8 @@ module _ {D : Type 0} (image : D → List ℕ) (honest : D → Type 0) (v : VmSt
     vm-told : (but own k : ℕ) → IsHandle k → NoneIdle v s own → k ≢ own → 1023 + k ≢ but → other_told f g same s but (1023 + k) ≡ g (staying (at_handle None m.file.cur.blocks k))
     vm-told but own k p none other ne =
         other-not s f but (1023 + k) ne ∙ ap (λ j. f (block_at s j)) (sym (slot-is k p))
-        ∙ staying-told f g same (honest v.file.device) (bytes_read image v.file k) (held_at v k) (block_at s (vm_slot k)) (at_handle None m.file.cur.blocks k) (none k p other)
-        (unlisted-absent image honest v.file k (held_at v k) (block_at s (vm_slot k)) (tied.each k p)) (is.file.cur.each k p)
+        ∙ staying-told f g same (medium.honest v.file.device) (bytes_read medium.image v.file k) (held_at v k) (block_at s (vm_slot k)) (at_handle None m.file.cur.blocks k) (none k p other)
+        (unlisted-absent medium v.file k (held_at v k) (block_at s (vm_slot k)) (tied.each k p)) (is.file.cur.each k p)
 
     -- the other blocks, but one of the file
     vm-crowd : (h : ℕ) → IsHandle h → NoneIdle v s h → total 2048 (other_told f g same s (vm_slot h)) ≡ sum_by g (others m (vm h))

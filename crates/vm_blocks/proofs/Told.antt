@@ -13,6 +13,7 @@ use Rattle.geos_table.specs.ItemCalls.{igetmap}
 use Rattle.geos_table.specs.Memory.{Memory, is_marked, listed_at}
 use Rattle.geos_table.specs.VmCalls.{found_above, has_uid, vfind, vgetmap, vuid}
 use Rattle.block_handles.specs.Store.{Block, Store, block_at}
+use Rattle.vm_file.specs.Device.{Medium}
 use Rattle.vm_file.specs.State.{FileState}
 use Rattle.vm_blocks.specs.declared.entries.Held.{Held}
 use Rattle.vm_blocks.specs.View.{VmState, bytes_read, held_at, vm_slot}
@@ -33,12 +34,12 @@ uid-one good read (Some e) (Some b) l is = ap (option_map (λ (x : VmBlock). x.u
 uid-one good read (Some e) None None is = absurd is
 uid-one good read (Some e) None (Some l) is = ap Some is.uid
 
-mark-one : {D : Type 0} (image : D → List ℕ) (honest : D → Type 0) (f : FileState D) (h : ℕ) (good : Type 0) (read : List ℕ) (o : Option Held) (b : Option Block) (l : Option VmBlock) → TiedAt image honest f h o b → IsListedAs good read o b l
+mark-one : {D : Type 0} (medium : Medium D) (f : FileState D) (h : ℕ) (good : Type 0) (read : List ℕ) (o : Option Held) (b : Option Block) (l : Option VmBlock) → TiedAt medium f h o b → IsListedAs good read o b l
     → model.is_marked_in l ≡ is_marked_in o
-mark-one image honest f h good read None b l tied is = ap model.is_marked_in is
-mark-one image honest f h good read (Some e) (Some b) l tied is = ap model.is_marked_in is
-mark-one image honest f h good read (Some e) None None tied is = absurd is
-mark-one image honest f h good read (Some e) None (Some l) tied is = is.marked ∙ sym tied.clean
+mark-one medium f h good read None b l tied is = ap model.is_marked_in is
+mark-one medium f h good read (Some e) (Some b) l tied is = ap model.is_marked_in is
+mark-one medium f h good read (Some e) None None tied is = absurd is
+mark-one medium f h good read (Some e) None (Some l) tied is = is.marked ∙ sym tied.clean
 
 uid-of-some : (P : ℕ → Type 0) (o : Option Held) → IsSomeAnd o (λ e. P e.uid) → IsSomeAnd (option_map uid_of o) P
 uid-of-some P None some = some
@@ -54,11 +55,11 @@ less-test a b l = grind (arith, l)
 same-test : (a : ℕ) → nat_lt a a ≡ false
 same-test a = grind arith
 
-module _ {D : Type 0} (image : D → List ℕ) (honest : D → Type 0) (v : VmState D) (s : Store) (tied : IsTied image honest v s) (m : Memory) (is : IsMemoryOf image honest v s m) where
+module _ {D : Type 0} (medium : Medium D) (v : VmState D) (s : Store) (tied : IsTied medium v s) (m : Memory) (is : IsMemoryOf medium v s m) where
   -- the user ID that is listed under a number, if one is
   pub uid-told : (h : ℕ) → option_map (λ (x : VmBlock). x.uid) (listed_at m h) ≡ option_map uid_of (held_at v h)
   uid-told h = elim (handle-or {X = ℕ} 0 h) [
-    | inl p ↦ uid-one (honest v.file.device) (bytes_read image v.file h) (held_at v h) (block_at s (vm_slot h)) (listed_at m h) (is.file.cur.each h p)
+    | inl p ↦ uid-one (medium.honest v.file.device) (bytes_read medium.image v.file h) (held_at v h) (block_at s (vm_slot h)) (listed_at m h) (is.file.cur.each h p)
     | inr past ↦ ap (option_map (λ (x : VmBlock). x.uid)) (table-past None m.file.cur.blocks h is.file.cur.handles past) ∙ sym (ap (option_map uid_of) (table-past None v.entries h tied.long past))
   ]
 
@@ -72,7 +73,7 @@ module _ {D : Type 0} (image : D → List ℕ) (honest : D → Type 0) (v : VmSt
   -- whether it is marked
   pub mark-told : (h : ℕ) → is_marked m h ≡ is_marked_in (held_at v h)
   mark-told h = elim (handle-or {X = ℕ} 0 h) [
-    | inl p ↦ mark-one image honest v.file h (honest v.file.device) (bytes_read image v.file h) (held_at v h) (block_at s (vm_slot h)) (listed_at m h) (tied.each h p) (is.file.cur.each h p)
+    | inl p ↦ mark-one medium v.file h (medium.honest v.file.device) (bytes_read medium.image v.file h) (held_at v h) (block_at s (vm_slot h)) (listed_at m h) (tied.each h p) (is.file.cur.each h p)
     | inr past ↦ ap model.is_marked_in (table-past None m.file.cur.blocks h is.file.cur.handles past) ∙ sym (ap is_marked_in (table-past None v.entries h tied.long past))
   ]
 
@@ -125,13 +126,13 @@ module _ {D : Type 0} (image : D → List ℕ) (honest : D → Type 0) (v : VmSt
 
 -- Rows that tell
 
-module _ {D : Type 0} (image : D → List ℕ) (honest : D → Type 0) (failed : D → ℕ) (v : VmState D) (s : Store) (tied : IsTied image honest v s) where
+module _ {D : Type 0} (medium : Medium D) (v : VmState D) (s : Store) (tied : IsTied medium v s) where
   -- a call that nothing comes into from outside, and that leaves memory as it was
-  tells-row : {A : Type 0} (call : Call A) (r : Result A Refusal) → ((m : Memory) → IsMemoryOf image honest v s m → outcome (effect_of call (chosen false false []) m) ≡ (r, m)) → DoesRow image honest failed call r v s v s
+  tells-row : {A : Type 0} (call : Call A) (r : Result A Refusal) → ((m : Memory) → IsMemoryOf medium v s m → outcome (effect_of call (chosen false false []) m) ≡ (r, m)) → DoesRow medium call r v s v s
   tells-row call r same m is = (chosen false false [], record { given = λ g. refl; device = λ g t. absurd cc }, m, is, same m is)
 
-  pub uid-row : (h : ℕ) → DoesRow image honest failed (vuid h) (of_uid (option_map uid_of (held_at v h))) v s v s
-  uid-row h = tells-row (vuid h) (of_uid (option_map uid_of (held_at v h))) (λ m is. on m (held_at v h) (listed_at m h) refl (uid-told image honest v s tied m is h))
+  pub uid-row : (h : ℕ) → DoesRow medium (vuid h) (of_uid (option_map uid_of (held_at v h))) v s v s
+  uid-row h = tells-row (vuid h) (of_uid (option_map uid_of (held_at v h))) (λ m is. on m (held_at v h) (listed_at m h) refl (uid-told medium v s tied m is h))
     where
       on : (m : Memory) (o : Option Held) (l : Option VmBlock) → listed_at m h ≡ l → option_map (λ (x : VmBlock). x.uid) l ≡ option_map uid_of o
           → outcome (effect_of (vuid h) (chosen false false []) m) ≡ (of_uid (option_map uid_of o), m)
@@ -140,17 +141,17 @@ module _ {D : Type 0} (image : D → List ℕ) (honest : D → Type 0) (failed :
       on m (Some e) None is told = absurd cc
       on m (Some e) (Some l) is told = let same : l.uid ≡ e.uid = cc in rw is (ap (λ u. (Ok u, m)) same)
 
-  pub map-row : DoesRow image honest failed vgetmap (Ok v.map_block) v s v s
+  pub map-row : DoesRow medium vgetmap (Ok v.map_block) v s v s
   map-row = tells-row vgetmap (Ok v.map_block) (λ m is. ap (λ u. (Ok u, m)) is.file.cur.map_block)
 
-  pub map-item-row : DoesRow image honest failed igetmap (Ok v.map_item) v s v s
+  pub map-item-row : DoesRow medium igetmap (Ok v.map_item) v s v s
   map-item-row = tells-row igetmap (Ok v.map_item) (λ m is. (let group = is.file.cur.map_group in let item = is.file.cur.map_item in λ k. (Ok (group k, item k), m)))
 
-  pub find-row : (start uid r : ℕ) → uid ≢ group_uid → (r ≢ 0 → IsNextWith v start uid r) → (r ≡ 0 → NoneWith v start uid) → DoesRow image honest failed (vfind start uid) (Ok r) v s v s
+  pub find-row : (start uid r : ℕ) → uid ≢ group_uid → (r ≢ 0 → IsNextWith v start uid r) → (r ≡ 0 → NoneWith v start uid) → DoesRow medium (vfind start uid) (Ok r) v s v s
   find-row start uid r other found none = tells-row (vfind start uid) (Ok r) (λ m is.
       let free : (uid == group_uid) ≡ false = grind (arith, nat_tests, other) in
       rw free (ap (λ k. (Ok k, m)) (on m is r found none)))
     where
-      on : (m : Memory) (is : IsMemoryOf image honest v s m) (k : ℕ) → (k ≢ 0 → IsNextWith v start uid k) → (k ≡ 0 → NoneWith v start uid) → unwrap_or (found_above start uid m.file.cur.blocks) 0 ≡ k
-      on m is zero found none = none-told image honest v s tied m is uid start (none refl)
-      on m is (suc k) found none = found-told image honest v s tied m is uid start (suc k) (found (λ z. omega (arith, z)))
+      on : (m : Memory) (is : IsMemoryOf medium v s m) (k : ℕ) → (k ≢ 0 → IsNextWith v start uid k) → (k ≡ 0 → NoneWith v start uid) → unwrap_or (found_above start uid m.file.cur.blocks) 0 ≡ k
+      on m is zero found none = none-told medium v s tied m is uid start (none refl)
+      on m is (suc k) found none = found-told medium v s tied m is uid start (suc k) (found (λ z. omega (arith, z)))

@@ -5,6 +5,7 @@ use Rattle.geos_model.specs.Heap.{IsBlockSize}
 use Rattle.block_handles.specs.Names.{IsHandle}
 use Rattle.block_handles.specs.Store.{Block, Store, block_at, bytes_in, IsBlock}
 use Rattle.std.specs.Prelude.{Result}
+use Rattle.vm_file.specs.Device.{Medium}
 use Rattle.vm_file.specs.declared.directory.Directory.{Directory}
 use Rattle.vm_file.specs.declared.error.CommitError.{CommitError}
 use Rattle.vm_file.specs.declared.commit.How.{How}
@@ -22,30 +23,30 @@ use Rattle.vm_blocks.proofs.Opened.{list-maps, opened-tied}
 use Rattle.vm_blocks.proofs.Directory.{bytes-held, has-held, listed-held}
 
 -- the current directory is kept
-module _ {D : Type 0} (image : D → List ℕ) (honest : D → Type 0) (v w : VmState D) (s : Store) (tied : IsTied image honest v s) (long : length w.entries ≡ 1024) (legal : is_directory w.file.current ≡ true)
-    (lists : IsListOf w w.file.current) (current : w.file.current ≡ directory_of v s) (was : honest w.file.device → honest v.file.device)
-    (pair : honest v.file.device → (pair_of image w.file).cur ≡ contents_from (resident_of s) (pair_of image v.file).cur.blocks (directory_of v s)) where
+module _ {D : Type 0} (medium : Medium D) (v w : VmState D) (s : Store) (tied : IsTied medium v s) (long : length w.entries ≡ 1024) (legal : is_directory w.file.current ≡ true)
+    (lists : IsListOf w w.file.current) (current : w.file.current ≡ directory_of v s) (was : medium.honest w.file.device → medium.honest v.file.device)
+    (pair : medium.honest v.file.device → (pair_of medium.image w.file).cur ≡ contents_from (resident_of s) (pair_of medium.image v.file).cur.blocks (directory_of v s)) where
   clean : (h : ℕ) → IsHandle h → held_at w h ≡ option_map (λ e. cleaned (len_now e (block_at s (vm_slot h))) e) (held_at v h)
   clean h p = (subst (IsListOf w) current lists).each h p ∙ listed-held v s h p
 
   has : (h : ℕ) (e : Held) → IsHandle h → held_at v h ≡ Some e → HasBlock w.file.current h (len_now e (block_at s (vm_slot h)))
   has h e p is = subst (λ d. HasBlock d h (len_now e (block_at s (vm_slot h)))) (sym current) (has-held v s h e p is)
 
-  reads : honest v.file.device → (h : ℕ) (e : Held) → IsHandle h → held_at v h ≡ Some e → bytes_read image w.file h ≡ unwrap_or (resident_of s h) (bytes_read image v.file h)
-  reads good h e p is = ap (λ (c : file.Contents). bytes_of_block c.blocks h) (pair good) ∙ bytes-held v s (pair_of image v.file).cur.blocks h e p is
+  reads : medium.honest v.file.device → (h : ℕ) (e : Held) → IsHandle h → held_at v h ≡ Some e → bytes_read medium.image w.file h ≡ unwrap_or (resident_of s h) (bytes_read medium.image v.file h)
+  reads good h e p is = ap (λ (c : file.Contents). bytes_of_block c.blocks h) (pair good) ∙ bytes-held v s (pair_of medium.image v.file).cur.blocks h e p is
 
-  pub updated-tied : IsTied image honest w s
+  pub updated-tied : IsTied medium w s
   updated-tied = record {
     laid = tied.laid;
     long = long;
-    each = λ h p. subst (λ o. TiedAt image honest w.file h o (block_at s (vm_slot h))) (sym (clean h p)) (on h p (held_at v h) (block_at s (vm_slot h)) refl refl (tied.each h p));
+    each = λ h p. subst (λ o. TiedAt medium w.file h o (block_at s (vm_slot h))) (sym (clean h p)) (on h p (held_at v h) (block_at s (vm_slot h)) refl refl (tied.each h p));
     maps = list-maps w w.file.current legal lists;
   }
     where
       size-at : (h : ℕ) (b : Block) → block_at s (vm_slot h) ≡ Some b → IsBlockSize (length b.bytes)
       size-at h b at = subst (λ o. IsBlockSize (length (bytes_in o))) at (tied.laid.sized (vm_slot h) (subst IsBlock (sym at) tt))
 
-      on : (h : ℕ) → IsHandle h → (o : Option Held) (b : Option Block) → held_at v h ≡ o → block_at s (vm_slot h) ≡ b → TiedAt image honest v.file h o b → TiedAt image honest w.file h (option_map (λ e. cleaned (len_now e b) e) o) b
+      on : (h : ℕ) → IsHandle h → (o : Option Held) (b : Option Block) → held_at v h ≡ o → block_at s (vm_slot h) ≡ b → TiedAt medium v.file h o b → TiedAt medium w.file h (option_map (λ e. cleaned (len_now e b) e) o) b
       on h p None None is at t = tt
       on h p None (Some b) is at t = t
       on h p (Some e) None is at t = record { size = t.size; clean = refl; kept = subst (λ b. HasBlock w.file.current h (len_now e b)) at (has h e p is) }
@@ -54,23 +55,23 @@ module _ {D : Type 0} (image : D → List ℕ) (honest : D → Type 0) (v w : Vm
         heap = t.heap;
         handle = t.handle;
         kept = λ m. subst (λ b. HasBlock w.file.current h (len_now e b)) at (has h e p is);
-        clean = λ m. record { long = refl; same = λ good. sym (reads (was good) h e p is ∙ ap (λ b. unwrap_or (option_map (λ (x : Block). x.bytes) b) (bytes_read image v.file h)) at) };
+        clean = λ m. record { long = refl; same = λ good. sym (reads (was good) h e p is ∙ ap (λ b. unwrap_or (option_map (λ (x : Block). x.bytes) b) (bytes_read medium.image v.file h)) at) };
       }
 
 -- one of the three is
-pub committed-tied : {D : Type 0} (image : D → List ℕ) (honest : D → Type 0) (how : How) (v w : VmState D) (s t : Store) → IsTied image honest v s → length w.entries ≡ 1024 → is_directory w.file.current ≡ true → IsListOf w w.file.current
-    → w.file.current ≡ current_after how (directory_of v s) v.file.saved → (honest w.file.device → honest v.file.device) → (honest v.file.device → pair_of image w.file ≡ kept_after image (resident_of s) how (directory_of v s) v.file)
-    → StoreAfter how s t → IsTied image honest w t
-committed-tied image honest Update v w s t tied long legal lists current was pair store =
-    subst (IsTied image honest w) (sym store) (updated-tied image honest v w s tied long legal lists current was (λ good. ap (λ (p : file.Pair). p.cur) (pair good)))
-committed-tied image honest Save v w s t tied long legal lists current was pair store =
-    subst (IsTied image honest w) (sym store) (updated-tied image honest v w s tied long legal lists current was (λ good. ap (λ (p : file.Pair). p.cur) (pair good)))
-committed-tied image honest Revert v w s t tied long legal lists current was pair store = opened-tied image honest w t long legal lists (store.laid tied.laid) store.none
+pub committed-tied : {D : Type 0} (medium : Medium D) (how : How) (v w : VmState D) (s t : Store) → IsTied medium v s → length w.entries ≡ 1024 → is_directory w.file.current ≡ true → IsListOf w w.file.current
+    → w.file.current ≡ current_after how (directory_of v s) v.file.saved → (medium.honest w.file.device → medium.honest v.file.device) → (medium.honest v.file.device → pair_of medium.image w.file ≡ kept_after medium.image (resident_of s) how (directory_of v s) v.file)
+    → StoreAfter how s t → IsTied medium w t
+committed-tied medium Update v w s t tied long legal lists current was pair store =
+    subst (IsTied medium w) (sym store) (updated-tied medium v w s tied long legal lists current was (λ good. ap (λ (p : file.Pair). p.cur) (pair good)))
+committed-tied medium Save v w s t tied long legal lists current was pair store =
+    subst (IsTied medium w) (sym store) (updated-tied medium v w s tied long legal lists current was (λ good. ap (λ (p : file.Pair). p.cur) (pair good)))
+committed-tied medium Revert v w s t tied long legal lists current was pair store = opened-tied medium w t long legal lists (store.laid tied.laid) store.none
 
 -- the same commit, seen of equal files
-pub recommits : {D : Type 0} {image : D → List ℕ} {honest : D → Type 0} {failed : D → ℕ} {may_leave : D → List ℕ → Type 0} {left : D → D → List ℕ → Type 0} {how : How} {resident : ℕ → Option (List ℕ)} {r : Result (Unit {0}) CommitError}
-    (cur cur' : Directory) (f f' g g' : FileState D) → cur ≡ cur' → f ≡ f' → g ≡ g' → CommitsFile image honest failed may_leave left how resident cur f g r → CommitsFile image honest failed may_leave left how resident cur' f' g' r
-recommits {D} {image} {honest} {failed} {may_leave} {left} {how} {resident} {r} cur cur' f f' g g' c a b e =
-    subst (λ x. CommitsFile image honest failed may_leave left how resident cur' f' x r) b
-    (subst (λ x. CommitsFile image honest failed may_leave left how resident cur' x g r) a
-    (subst (λ x. CommitsFile image honest failed may_leave left how resident x f g r) c e))
+pub recommits : {D : Type 0} {medium : Medium D} {how : How} {resident : ℕ → Option (List ℕ)} {r : Result (Unit {0}) CommitError}
+    (cur cur' : Directory) (f f' g g' : FileState D) → cur ≡ cur' → f ≡ f' → g ≡ g' → CommitsFile medium how resident cur f g r → CommitsFile medium how resident cur' f' g' r
+recommits {D} {medium} {how} {resident} {r} cur cur' f f' g g' c a b e =
+    subst (λ x. CommitsFile medium how resident cur' f' x r) b
+    (subst (λ x. CommitsFile medium how resident cur' x g r) a
+    (subst (λ x. CommitsFile medium how resident x f g r) c e))

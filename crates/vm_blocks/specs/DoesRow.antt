@@ -4,25 +4,25 @@ use Rattle.geos_model.specs.declared.refusal.Refusal.{Refusal}
 use Rattle.geos_table.specs.Effects.{Call, Choice, effect_of, outcome}
 use Rattle.geos_table.specs.Memory.{Memory}
 use Rattle.block_handles.specs.Store.{Store}
-use Rattle.vm_file.specs.Device.{Rose}
+use Rattle.vm_file.specs.Device.{Medium, Rose}
 use Rattle.vm_blocks.specs.View.{VmState}
 use Rattle.vm_blocks.specs.FileOf.{IsMemoryOf}
 
 -- what came from outside at a call: an honest device gives nothing, and refuses only where it
 -- failed
-pub record IsChosen {D : Type 0} (honest : D → Type 0) (failed : D → ℕ) (old new : D) (choice : Choice) : Type 0 where
-  pub given : honest old → choice.given ≡ []
-  pub device : honest old → choice.device ≡ true → Rose (failed old) (failed new)
+pub record IsChosen {D : Type 0} (medium : Medium D) (old new : D) (choice : Choice) : Type 0 where
+  pub given : medium.honest old → choice.given ≡ []
+  pub device : medium.honest old → choice.device ≡ true → Rose (medium.failed old) (medium.failed new)
 
 -- a call answers, and leaves memory, as its row says, in each memory of the model's that its
 -- state may be
-abbrev pub DoesRow : {D : Type 0} → (D → List ℕ) → (D → Type 0) → (D → ℕ) → {A : Type 0} → Call A → Result A Refusal → VmState D → Store → VmState D → Store → Type 0
-DoesRow image honest failed call result v s w t =
-    (m : Memory) → IsMemoryOf image honest v s m
-    → (choice : Choice) × IsChosen honest failed v.file.device w.file.device choice × (n : Memory) × IsMemoryOf image honest w t n × (outcome (effect_of call choice m) ≡ (result, n))
+abbrev pub DoesRow : {D : Type 0} → Medium D → {A : Type 0} → Call A → Result A Refusal → VmState D → Store → VmState D → Store → Type 0
+DoesRow medium call result v s w t =
+    (m : Memory) → IsMemoryOf medium v s m
+    → (choice : Choice) × IsChosen medium v.file.device w.file.device choice × (n : Memory) × IsMemoryOf medium w t n × (outcome (effect_of call choice m) ≡ (result, n))
 
 -- a call that has no part of the device does so: nothing is given, and the device refused nowhere
-abbrev pub DoesRowAlone : {D : Type 0} → (D → List ℕ) → (D → Type 0) → {A : Type 0} → Call A → Result A Refusal → VmState D → Store → VmState D → Store → Type 0
-DoesRowAlone image honest call result v s w t =
-    (m : Memory) → IsMemoryOf image honest v s m
-    → (choice : Choice) × ((choice.given ≡ []) × (choice.device ≡ false)) × (n : Memory) × IsMemoryOf image honest w t n × (outcome (call choice m) ≡ (result, n))
+abbrev pub DoesRowAlone : {D : Type 0} → Medium D → {A : Type 0} → Call A → Result A Refusal → VmState D → Store → VmState D → Store → Type 0
+DoesRowAlone medium call result v s w t =
+    (m : Memory) → IsMemoryOf medium v s m
+    → (choice : Choice) × ((choice.given ≡ []) × (choice.device ≡ false)) × (n : Memory) × IsMemoryOf medium w t n × (outcome (call choice m) ≡ (result, n))

@@ -10,6 +10,7 @@ use Rattle.geos_table.specs.Memory.{Memory}
 use Rattle.geos_table.specs.VmFile.{Kept, Sure, Unsure, VmFile}
 use Rattle.block_handles.specs.Names.{IsHandle}
 use Rattle.block_handles.specs.Store.{Store, block_at}
+use Rattle.vm_file.specs.Device.{Medium}
 use Rattle.vm_file.specs.Kept.{other_pair}
 use Rattle.vm_file.specs.State.{FileState, pair_of}
 use Rattle.vm_blocks.specs.View.{VmState, bytes_read, held_at, vm_slot}
@@ -39,7 +40,7 @@ pub record IsFileOf {D : Type 0} (image : D → List ℕ) (honest : D → Type 0
   pub legal : IsFile f
 
 -- the model's memory: what the slots of global memory spell, and such a file
-pub record IsMemoryOf {D : Type 0} (image : D → List ℕ) (honest : D → Type 0) (v : VmState D) (s : Store) (m : Memory) : Type 0 where
+pub record IsMemoryOf {D : Type 0} (medium : Medium D) (v : VmState D) (s : Store) (m : Memory) : Type 0 where
   pub blocks : m.blocks ≡ map block_in (take 1024 s.blocks)
-  pub file : IsFileOf image honest v s m.file
+  pub file : IsFileOf medium.image medium.honest v s m.file
   pub region : m.region ≡ s.len

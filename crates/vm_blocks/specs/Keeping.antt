@@ -4,6 +4,7 @@ use Rattle.geos_model.specs.Block.{handle_word}
 use Rattle.geos_model.specs.Heap.{IsHeap}
 use Rattle.block_handles.specs.Names.{IsHandle}
 use Rattle.block_handles.specs.Store.{Block, Store, IsThere, block_at, bytes_of}
+use Rattle.vm_file.specs.Device.{Medium}
 use Rattle.vm_blocks.specs.declared.entries.Held.{Held}
 use Rattle.vm_blocks.specs.Bring.{Keeps}
 use Rattle.vm_blocks.specs.Tied.{IsTied}
@@ -26,9 +27,9 @@ pub record IsMarkedHeap {D : Type 0} (v : VmState D) (s : Store) (h : ℕ) : Typ
 
 -- a block of the file has changed in memory, and is a heap under its handle; before that all were
 -- tied, and every other block is as it was, or was discarded
-pub record IsChanged {D : Type 0} (image : D → List ℕ) (honest : D → Type 0) (v : VmState D) (s : Store) (h : ℕ) : Type 0 where
+pub record IsChanged {D : Type 0} (medium : Medium D) (v : VmState D) (s : Store) (h : ℕ) : Type 0 where
   pub before : Store
-  pub tied : IsTied image honest v before
+  pub tied : IsTied medium v before
   pub was : IsThere before (vm_slot h)
   pub keeps : Keeps v before s h
   pub there : IsThere s (vm_slot h)

@@ -9,6 +9,7 @@ use Rattle.geos_table.specs.VmFile.{VmFile}
 use Rattle.block_handles.specs.Names.{IsHandle, slot_of}
 use Rattle.block_handles.specs.Store.{Store}
 use Rattle.block_handles.specs.Stretch.{IsCrowded}
+use Rattle.vm_file.specs.Device.{Medium}
 use Rattle.vm_blocks.specs.View.{VmState}
 use Rattle.vm_blocks.specs.FileOf.{IsMemoryOf}
 use Rattle.vm_blocks.specs.Keeping.{IsMarkedHeap, SameBut}
@@ -23,22 +24,22 @@ pub record IsSpelled (s : Store) (f : VmFile) (m : Memory) : Type 0 where
   pub region : m.region ≡ s.len
 
 -- other blocks change: the model's file is the same
-abbrev pub OthersMayChange : {D : Type 0} → (D → List ℕ) → (D → Type 0) → VmState D → Type 0
-OthersMayChange image honest v = (s t : Store) (m n : Memory) → IsMemoryOf image honest v s m → SameBut s t 0 → IsSpelled t m.file n → IsMemoryOf image honest v t n
+abbrev pub OthersMayChange : {D : Type 0} → Medium D → VmState D → Type 0
+OthersMayChange medium v = (s t : Store) (m n : Memory) → IsMemoryOf medium v s m → SameBut s t 0 → IsSpelled t m.file n → IsMemoryOf medium v t n
 
 -- blocks are discarded, but for that of one handle, 0 for none: the model's memory is the same
-abbrev pub BlocksMayGo : {D : Type 0} → (D → List ℕ) → (D → Type 0) → VmState D → Type 0
-BlocksMayGo image honest v = (s t : Store) (but : ℕ) → IsTied image honest v s → Thins v s t but → IsTied image honest v t × ((m : Memory) → IsMemoryOf image honest v s m → IsMemoryOf image honest v t m)
+abbrev pub BlocksMayGo : {D : Type 0} → Medium D → VmState D → Type 0
+BlocksMayGo medium v = (s t : Store) (but : ℕ) → IsTied medium v s → Thins v s t but → IsTied medium v t × ((m : Memory) → IsMemoryOf medium v s m → IsMemoryOf medium v t m)
 
 -- a marked block becomes another heap under its handle, and its count of locks another: the
 -- model's block is what the new bytes spell
-abbrev pub MarkedMayChange : {D : Type 0} → (D → List ℕ) → (D → Type 0) → VmState D → Type 0
-MarkedMayChange image honest v =
-    (s t : Store) (m n : Memory) (h : ℕ) → IsTied image honest v s → IsMemoryOf image honest v s m → SameBut s t h → (own : IsMarkedHeap v t h) → own.block.locks ≤ 65535 → AreBytes own.block.bytes
-    → IsSpelled t (with_block m (vm h) (Some (spelled own.block.locks own.block.bytes))).file n → IsMemoryOf image honest v t n
+abbrev pub MarkedMayChange : {D : Type 0} → Medium D → VmState D → Type 0
+MarkedMayChange medium v =
+    (s t : Store) (m n : Memory) (h : ℕ) → IsTied medium v s → IsMemoryOf medium v s m → SameBut s t h → (own : IsMarkedHeap v t h) → own.block.locks ≤ 65535 → AreBytes own.block.bytes
+    → IsSpelled t (with_block m (vm h) (Some (spelled own.block.locks own.block.bytes))).file n → IsMemoryOf medium v t n
 
 -- where no other block may be discarded, and no stretch of the region has room, room may be
 -- wanting in the model too
-abbrev pub RoomMayWant : {D : Type 0} → (D → List ℕ) → (D → Type 0) → VmState D → Type 0
-RoomMayWant image honest v =
-    (s : Store) (m : Memory) (name : Name) (size : ℕ) → IsTied image honest v s → IsMemoryOf image honest v s m → IsHandle name.h → NoneIdle v s (own_handle name) → IsCrowded s (slot_of name) size → is_tight m name size ≡ true
+abbrev pub RoomMayWant : {D : Type 0} → Medium D → VmState D → Type 0
+RoomMayWant medium v =
+    (s : Store) (m : Memory) (name : Name) (size : ℕ) → IsTied medium v s → IsMemoryOf medium v s m → IsHandle name.h → NoneIdle v s (own_handle name) → IsCrowded s (slot_of name) size → is_tight m name size ≡ true

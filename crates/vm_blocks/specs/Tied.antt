@@ -5,23 +5,24 @@ use Rattle.geos_model.specs.Heap.{IsBlockSize, IsHeap}
 use Rattle.block_handles.specs.Layout.{IsLaidOut}
 use Rattle.block_handles.specs.Names.{IsHandle}
 use Rattle.block_handles.specs.Store.{Block, Store, block_at}
+use Rattle.vm_file.specs.Device.{Medium}
 use Rattle.vm_file.specs.Directories.{group_uid}
 use Rattle.vm_file.specs.State.{FileState, HasBlock}
 use Rattle.vm_blocks.specs.declared.entries.Held.{Held}
 use Rattle.vm_blocks.specs.View.{VmState, bytes_read, held_at, vm_slot}
 
 -- the bytes of a block that is not marked: they are as long as is listed and, where the device is honest, those that it gives
-pub record IsClean {D : Type 0} (image : D → List ℕ) (honest : D → Type 0) (f : FileState D) (h : ℕ) (len : ℕ) (bytes : List ℕ) : Type 0 where
+pub record IsClean {D : Type 0} (medium : Medium D) (f : FileState D) (h : ℕ) (len : ℕ) (bytes : List ℕ) : Type 0 where
   pub long : length bytes ≡ len
-  pub same : honest f.device → bytes ≡ bytes_read image f h
+  pub same : medium.honest f.device → bytes ≡ bytes_read medium.image f h
 
 -- a block in memory: a heap under its handle; where it is not marked, the file has it, and its bytes
-pub record IsResident {D : Type 0} (image : D → List ℕ) (honest : D → Type 0) (f : FileState D) (h : ℕ) (e : Held) (bytes : List ℕ) : Type 0 where
+pub record IsResident {D : Type 0} (medium : Medium D) (f : FileState D) (h : ℕ) (e : Held) (bytes : List ℕ) : Type 0 where
   pub size : IsBlockSize e.len
   pub heap : IsHeap bytes
   pub handle : handle_word bytes ≡ h
   pub kept : e.marked ≡ false → HasBlock f.current h e.len
-  pub clean : e.marked ≡ false → IsClean image honest f h e.len bytes
+  pub clean : e.marked ≡ false → IsClean medium f h e.len bytes
 
 -- a block that is not in memory: it is not marked, and the file has it
 pub record IsAbsent {D : Type 0} (f : FileState D) (h : ℕ) (e : Held) : Type 0 where
@@ -30,11 +31,11 @@ pub record IsAbsent {D : Type 0} (f : FileState D) (h : ℕ) (e : Held) : Type 0
   pub kept : HasBlock f.current h e.len
 
 -- what is listed under a handle, and what is in memory: what is not listed is not in memory
-abbrev pub TiedAt : {D : Type 0} → (D → List ℕ) → (D → Type 0) → FileState D → ℕ → Option Held → Option Block → Type 0
-TiedAt image honest f h None None = Unit {0}
-TiedAt image honest f h None (Some b) = ⊥
-TiedAt image honest f h (Some e) None = IsAbsent f h e
-TiedAt image honest f h (Some e) (Some b) = IsResident image honest f h e b.bytes
+abbrev pub TiedAt : {D : Type 0} → Medium D → FileState D → ℕ → Option Held → Option Block → Type 0
+TiedAt medium f h None None = Unit {0}
+TiedAt medium f h None (Some b) = ⊥
+TiedAt medium f h (Some e) None = IsAbsent f h e
+TiedAt medium f h (Some e) (Some b) = IsResident medium f h e b.bytes
 
 -- the map block is 0 or a block that is no group; the map item's group is 0 or a group, and the item 0 where it is 0
 pub record AreMapped {D : Type 0} (v : VmState D) : Type 0 where
@@ -43,10 +44,10 @@ pub record AreMapped {D : Type 0} (v : VmState D) : Type 0 where
   pub no_item : v.map_item.0 ≡ 0 → v.map_item.1 ≡ 0
 
 -- blocks lie in the region, there are 1,024 handles, each is tied, and what is mapped is listed
-pub record IsTied {D : Type 0} (image : D → List ℕ) (honest : D → Type 0) (v : VmState D) (s : Store) : Type 0 where
+pub record IsTied {D : Type 0} (medium : Medium D) (v : VmState D) (s : Store) : Type 0 where
   pub laid : IsLaidOut s
   pub long : length v.entries ≡ 1024
-  pub each : (h : ℕ) → IsHandle h → TiedAt image honest v.file h (held_at v h) (block_at s (vm_slot h))
+  pub each : (h : ℕ) → IsHandle h → TiedAt medium v.file h (held_at v h) (block_at s (vm_slot h))
   pub maps : AreMapped v
 
 -- no block of the file is in memory

@@ -49,9 +49,9 @@ impl<D: Device + Drop> VmBlocks<D> {
     pub fn new(alloc: Global, file: VmFile<D>) -> Result<VmBlocks<D>, (VmFile<D>, AllocError)>
         ensures file { IfOk result (λ v. v.file ≡ file) }
         ensures lists { IfOk result (λ v. IsListOf v file.current) }
-        ensures tied { IfOk result (λ v. (s : Store) → IsLaidOut s → NoneResident s → IsTied D.image D.honest v s) }
+        ensures tied { IfOk result (λ v. (s : Store) → IsLaidOut s → NoneResident s → IsTied D.medium v s) }
         // The model's memory to begin with.
-        ensures memory { IfOk result (λ v. (s : Store) → NoneResident s → IsMemoryOf D.image D.honest v s (opened_memory D.image file s)) }
+        ensures memory { IfOk result (λ v. (s : Store) → NoneResident s → IsMemoryOf D.medium v s (opened_memory D.medium.image file s)) }
         ensures back { IfErr result (λ e. e.0 ≡ file) }
     {
         match Table::new(alloc) {
@@ -91,10 +91,10 @@ impl<D: Device + Drop> VmBlocks<D> {
     pub fn is_sure(&self) -> bool
         ensures sure { result ≡ self.now.file.sure }
         // What `open` would find after a stop now.
-        ensures stop { D.honest self.now.file.device → (c : List ℕ) → D.may_leave self.now.file.device c → Finds D.image self.now.file c }
+        ensures stop { D.medium.honest self.now.file.device → (c : List ℕ) → D.medium.may_leave self.now.file.device c → Finds D.medium.image self.now.file c }
         // That is what the model has as kept.
-        ensures kept { (s : Store) (m : Memory) → IsMemoryOf D.image D.honest self.now s m → D.honest self.now.file.device
-            → (c : List ℕ) → D.may_leave self.now.file.device c → OpensAsKept m.file.kept c }
+        ensures kept { (s : Store) (m : Memory) → IsMemoryOf D.medium self.now s m → D.medium.honest self.now.file.device
+            → (c : List ℕ) → D.medium.may_leave self.now.file.device c → OpensAsKept m.file.kept c }
     {
         self.file.is_sure()
     }
@@ -132,7 +132,7 @@ impl<D: Device + Drop> VmBlocks<D> {
     /// The user ID of a block.
     pub fn uid(&self, h: u16) -> Option<u16>
         ensures uid { result ≡ option_map uid_of (held_at self.now h) }
-        ensures row { (s : Store) → IsTied D.image D.honest self.now s → DoesRow D.image D.honest D.failed (vuid h) (of_uid result) self.now s self.now s }
+        ensures row { (s : Store) → IsTied D.medium self.now s → DoesRow D.medium (vuid h) (of_uid result) self.now s self.now s }
     {
         match self.held(h) {
             Some(held) => Some(held.uid),
@@ -144,7 +144,7 @@ impl<D: Device + Drop> VmBlocks<D> {
     pub fn marked(&self, h: u16) -> bool
         ensures mark { result ≡ is_marked_in (held_at self.now h) }
         // The model's mark of it, in each memory that it may have.
-        ensures told { (s : Store) (m : Memory) → IsTied D.image D.honest self.now s → IsMemoryOf D.image D.honest self.now s m → is_marked m h ≡ result }
+        ensures told { (s : Store) (m : Memory) → IsTied D.medium self.now s → IsMemoryOf D.medium self.now s m → is_marked m h ≡ result }
     {
         match self.held(h) {
             Some(held) => held.marked,

@@ -33,14 +33,14 @@ fn read_into<D: Device + Drop>(
     requires free { locks_of blocks.old (vm_slot h) ≡ 0 }
     requires listed { HasBlock file.old.current h (size_of blocks.old (vm_slot h)) }
     ensures ok { OnOk result (Fills blocks.old blocks.new h) }
-    ensures bytes { D.honest file.old.device → OnOk result (bytes_of blocks.new (vm_slot h) ≡ bytes_read D.image file.old h) }
+    ensures bytes { D.medium.honest file.old.device → OnOk result (bytes_of blocks.new (vm_slot h) ≡ bytes_read D.medium.image file.old h) }
     ensures values { OnOk result (AreBytes (bytes_of blocks.new (vm_slot h))) }
     ensures err { OnErr result (Drops blocks.old blocks.new h) }
     ensures same { file.new ≡ record file.old { device = file.new.device } }
-    ensures pair { pair_of D.image file.new ≡ pair_of D.image file.old }
-    ensures reads { ReadsOnly D.image D.honest D.may_leave D.may_have_left file.old.device file.new.device }
-    ensures cause { D.honest file.old.device → OnErr result (Rose (D.failed file.old.device) (D.failed file.new.device)) }
-    ensures counted { OnOk result (D.failed file.new.device ≡ D.failed file.old.device) }
+    ensures pair { pair_of D.medium.image file.new ≡ pair_of D.medium.image file.old }
+    ensures reads { ReadsOnly D.medium file.old.device file.new.device }
+    ensures cause { D.medium.honest file.old.device → OnErr result (Rose (D.medium.failed file.old.device) (D.medium.failed file.new.device)) }
+    ensures counted { OnOk result (D.medium.failed file.new.device ≡ D.medium.failed file.old.device) }
 {
     match file.block(h, blocks.bytes_mut(Name::vm(h))) {
         Ok(()) => {
@@ -57,11 +57,11 @@ fn read_into<D: Device + Drop>(
 impl<D: Device + Drop> VmBlocks<D> {
     /// Brings a listed block that is not in memory there.
     fn fetch(&mut self, blocks: &mut Blocks, h: u16, held: Held) -> Result<(), BringError>
-        requires tied { IsTied D.image D.honest self.old blocks.old }
+        requires tied { IsTied D.medium self.old blocks.old }
         requires listed { held_at self.old h ≡ Some held }
         requires handle { IsHandle h }
         requires absent { IsThere blocks.old (vm_slot h) → ⊥ }
-        ensures tied { IsTied D.image D.honest self.new blocks.new }
+        ensures tied { IsTied D.medium self.new blocks.new }
         ensures same { self.new ≡ with_device self.old self.new.file.device }
         ensures known { result ≡ Err BringError.BadHandle → ⊥ }
         ensures locks { locks_of blocks.new (vm_slot h) ≡ 0 }
@@ -71,10 +71,10 @@ impl<D: Device + Drop> VmBlocks<D> {
         ensures keeps { Keeps self.old blocks.old blocks.new h }
         ensures no_room { result ≡ Err BringError.NoRoom → LacksRoom self.old blocks.old blocks.new (vm h) held.len }
         ensures wanted { RemainOrNoRoom blocks.old blocks.new h held.len }
-        ensures pair { pair_of D.image self.new.file ≡ pair_of D.image self.old.file }
-        ensures reads { ReadsOnly D.image D.honest D.may_leave D.may_have_left self.old.file.device self.new.file.device }
-        ensures cause { D.honest self.old.file.device → result ≡ Err BringError.Disk → Rose (D.failed self.old.file.device) (D.failed self.new.file.device) }
-        ensures counted { (result ≡ Err BringError.Disk → ⊥) → D.failed self.new.file.device ≡ D.failed self.old.file.device }
+        ensures pair { pair_of D.medium.image self.new.file ≡ pair_of D.medium.image self.old.file }
+        ensures reads { ReadsOnly D.medium self.old.file.device self.new.file.device }
+        ensures cause { D.medium.honest self.old.file.device → result ≡ Err BringError.Disk → Rose (D.medium.failed self.old.file.device) (D.medium.failed self.new.file.device) }
+        ensures counted { (result ≡ Err BringError.Disk → ⊥) → D.medium.failed self.new.file.device ≡ D.medium.failed self.old.file.device }
     {
         match self.make_room(blocks, Name::vm(h), u32::from(held.len)) {
             Ok(()) => {}
@@ -92,8 +92,8 @@ impl<D: Device + Drop> VmBlocks<D> {
     /// `Disk` where the device fails, or gives bytes that are no heap under this handle. Then the
     /// block is not in memory, and others may have been discarded.
     pub fn bring(&mut self, blocks: &mut Blocks, h: u16) -> Result<(), BringError>
-        requires { IsTied D.image D.honest self.old blocks.old }
-        ensures tied { IsTied D.image D.honest self.new blocks.new }
+        requires { IsTied D.medium self.old blocks.old }
+        ensures tied { IsTied D.medium self.new blocks.new }
         ensures same { self.new ≡ with_device self.old self.new.file.device }
         ensures bad_handle { (result ≡ Err BringError.BadHandle) ↔ (held_at self.old h ≡ None) }
         ensures known { IsThere blocks.old (vm_slot h) → result ≡ Ok tt }
@@ -107,12 +107,12 @@ impl<D: Device + Drop> VmBlocks<D> {
         // No block goes where there is room.
         ensures wanted { IfSome (held_at self.old h) (λ held. RemainOrNoRoom blocks.old blocks.new h held.len) }
         // Its row of the table of calls, in each memory that the model may have before it.
-        ensures row { DoesRow D.image D.honest D.failed (bring h) (of_bring result) self.old blocks.old self.new blocks.new }
+        ensures row { DoesRow D.medium (bring h) (of_bring result) self.old blocks.old self.new blocks.new }
         // The device: nothing is written, and the pair that it keeps is the same.
-        ensures pair { pair_of D.image self.new.file ≡ pair_of D.image self.old.file }
-        ensures reads { ReadsOnly D.image D.honest D.may_leave D.may_have_left self.old.file.device self.new.file.device }
-        ensures cause { D.honest self.old.file.device → result ≡ Err BringError.Disk → Rose (D.failed self.old.file.device) (D.failed self.new.file.device) }
-        ensures counted { (result ≡ Err BringError.Disk → ⊥) → D.failed self.new.file.device ≡ D.failed self.old.file.device }
+        ensures pair { pair_of D.medium.image self.new.file ≡ pair_of D.medium.image self.old.file }
+        ensures reads { ReadsOnly D.medium self.old.file.device self.new.file.device }
+        ensures cause { D.medium.honest self.old.file.device → result ≡ Err BringError.Disk → Rose (D.medium.failed self.old.file.device) (D.medium.failed self.new.file.device) }
+        ensures counted { (result ≡ Err BringError.Disk → ⊥) → D.medium.failed self.new.file.device ≡ D.medium.failed self.old.file.device }
     {
         let Some(held) = self.held(h) else {
             return Err(BringError::BadHandle);

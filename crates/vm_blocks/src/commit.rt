@@ -39,8 +39,8 @@ fn keep<D: Device + Drop>(
     cur: &Directory,
 ) -> Result<(), CommitError>
     requires { MayCommit (resident_of blocks.now) file.old.current cur.now }
-    ensures commits { CommitsFile D.image D.honest D.failed D.may_leave D.may_have_left how (resident_of blocks.now) cur.now file.old file.new result }
-    ensures lists { Lists D.image file.old }
+    ensures commits { CommitsFile D.medium how (resident_of blocks.now) cur.now file.old file.new result }
+    ensures lists { Lists D.medium.image file.old }
     ensures legal { is_directory file.old.saved ≡ true }
 {
     let _ = file.current();
@@ -75,7 +75,7 @@ impl<D: Device + Drop> VmBlocks<D> {
     /// The current directory, with each block at the length that it has now.
     #[tactic(auto, using(crate::proofs::Listing::listed_next, crate::proofs::Listing::listed_skip))]
     fn listed(&self, blocks: &Blocks) -> Directory
-        requires { IsTied D.image D.honest self.now blocks.now }
+        requires { IsTied D.medium self.now blocks.now }
         ensures { result ≡ directory_of self.now blocks.now }
     {
         let mut entries = ArrayVec::new();
@@ -113,12 +113,12 @@ impl<D: Device + Drop> VmBlocks<D> {
     /// Keeps the current directory, of the blocks as they are now, beside the saved one: no block is
     /// marked any more. It is refused as `commit` is.
     pub fn update(&mut self, blocks: &mut Blocks) -> Result<(), CommitError>
-        requires tied { IsTied D.image D.honest self.old blocks.old }
+        requires tied { IsTied D.medium self.old blocks.old }
         requires free { NoneLocked blocks.old }
-        ensures tied { IsTied D.image D.honest self.new blocks.new }
-        ensures commits { CommitsBlocks D.image D.honest D.failed D.may_leave D.may_have_left How.Update self.old self.new blocks.old blocks.new result }
+        ensures tied { IsTied D.medium self.new blocks.new }
+        ensures commits { CommitsBlocks D.medium How.Update self.old self.new blocks.old blocks.new result }
         // Its row of the table of calls, in each memory that the model may have before it.
-        ensures row { DoesRow D.image D.honest D.failed vupdate (of_commit result) self.old blocks.old self.new blocks.new }
+        ensures row { DoesRow D.medium vupdate (of_commit result) self.old blocks.old self.new blocks.new }
     {
         self.commit(blocks, How::Update)
     }
@@ -126,12 +126,12 @@ impl<D: Device + Drop> VmBlocks<D> {
     /// Keeps the current directory, of the blocks as they are now, which is the saved one too from
     /// then on. It is refused as `commit` is.
     pub fn save(&mut self, blocks: &mut Blocks) -> Result<(), CommitError>
-        requires tied { IsTied D.image D.honest self.old blocks.old }
+        requires tied { IsTied D.medium self.old blocks.old }
         requires free { NoneLocked blocks.old }
-        ensures tied { IsTied D.image D.honest self.new blocks.new }
-        ensures commits { CommitsBlocks D.image D.honest D.failed D.may_leave D.may_have_left How.Save self.old self.new blocks.old blocks.new result }
+        ensures tied { IsTied D.medium self.new blocks.new }
+        ensures commits { CommitsBlocks D.medium How.Save self.old self.new blocks.old blocks.new result }
         // Its row of the table of calls, in each memory that the model may have before it.
-        ensures row { DoesRow D.image D.honest D.failed vsave (of_commit result) self.old blocks.old self.new blocks.new }
+        ensures row { DoesRow D.medium vsave (of_commit result) self.old blocks.old self.new blocks.new }
     {
         self.commit(blocks, How::Save)
     }
@@ -139,12 +139,12 @@ impl<D: Device + Drop> VmBlocks<D> {
     /// Goes back to the saved directory, and keeps it: what was not saved is lost, and no block of
     /// the file stays in memory. It is refused as `commit` is.
     pub fn revert(&mut self, blocks: &mut Blocks) -> Result<(), CommitError>
-        requires tied { IsTied D.image D.honest self.old blocks.old }
+        requires tied { IsTied D.medium self.old blocks.old }
         requires free { NoneLocked blocks.old }
-        ensures tied { IsTied D.image D.honest self.new blocks.new }
-        ensures commits { CommitsBlocks D.image D.honest D.failed D.may_leave D.may_have_left How.Revert self.old self.new blocks.old blocks.new result }
+        ensures tied { IsTied D.medium self.new blocks.new }
+        ensures commits { CommitsBlocks D.medium How.Revert self.old self.new blocks.old blocks.new result }
         // Its row of the table of calls, in each memory that the model may have before it.
-        ensures row { DoesRow D.image D.honest D.failed vrevert (of_commit result) self.old blocks.old self.new blocks.new }
+        ensures row { DoesRow D.medium vrevert (of_commit result) self.old blocks.old self.new blocks.new }
     {
         self.commit(blocks, How::Revert)
     }
@@ -158,12 +158,12 @@ impl<D: Device + Drop> VmBlocks<D> {
     /// device fails, or gives bytes that are no heap under their handle: blocks and marks are
     /// as they were, and the file may be unsure.
     pub fn commit(&mut self, blocks: &mut Blocks, how: How) -> Result<(), CommitError>
-        requires tied { IsTied D.image D.honest self.old blocks.old }
+        requires tied { IsTied D.medium self.old blocks.old }
         requires free { NoneLocked blocks.old }
-        ensures tied { IsTied D.image D.honest self.new blocks.new }
-        ensures commits { CommitsBlocks D.image D.honest D.failed D.may_leave D.may_have_left how self.old self.new blocks.old blocks.new result }
+        ensures tied { IsTied D.medium self.new blocks.new }
+        ensures commits { CommitsBlocks D.medium how self.old self.new blocks.old blocks.new result }
         // Its row of the table of calls, in each memory that the model may have before it.
-        ensures row { DoesRow D.image D.honest D.failed (commit (keeper_of how)) (of_commit result) self.old blocks.old self.new blocks.new }
+        ensures row { DoesRow D.medium (commit (keeper_of how)) (of_commit result) self.old blocks.old self.new blocks.new }
     {
         let cur = self.listed(blocks);
         match keep(&mut self.file, blocks, how, &cur) {

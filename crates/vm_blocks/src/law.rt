@@ -14,17 +14,17 @@ impl<D: Device + Drop> VmBlocks<D> {
     /// changes and still is a heap under its handle: its count of locks, its bytes and its size
     /// are free to.
     pub fn blocks_may_change(&self)
-        ensures others { (s t : Store) → IsTied D.image D.honest self.now s → IsLaidOut t → SameBut s t 0 → IsTied D.image D.honest self.now t }
-        ensures marked { (s t : Store) (h : ℕ) → IsTied D.image D.honest self.now s → IsLaidOut t → SameBut s t h → IsMarkedHeap self.now t h
-            → IsTied D.image D.honest self.now t }
+        ensures others { (s t : Store) → IsTied D.medium self.now s → IsLaidOut t → SameBut s t 0 → IsTied D.medium self.now t }
+        ensures marked { (s t : Store) (h : ℕ) → IsTied D.medium self.now s → IsLaidOut t → SameBut s t h → IsMarkedHeap self.now t h
+            → IsTied D.medium self.now t }
     {}
 
     /// What those changes make of the model's memory, and of blocks that are discarded; and where
     /// room may be wanting in it.
     pub fn memory_may_change(&self)
-        ensures others { OthersMayChange D.image D.honest self.now }
-        ensures discarded { BlocksMayGo D.image D.honest self.now }
-        ensures marked { MarkedMayChange D.image D.honest self.now }
-        ensures room { RoomMayWant D.image D.honest self.now }
+        ensures others { OthersMayChange D.medium self.now }
+        ensures discarded { BlocksMayGo D.medium self.now }
+        ensures marked { MarkedMayChange D.medium self.now }
+        ensures room { RoomMayWant D.medium self.now }
     {}
 }

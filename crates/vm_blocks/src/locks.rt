@@ -32,8 +32,8 @@ impl<D: Device + Drop> VmBlocks<D> {
     /// its count is 0 again. `BadHandle` where none has this handle, `Locked` where its count is
     /// 65,535; `NoRoom` and `Disk` as `bring` has them.
     pub fn vlock(&mut self, blocks: &mut Blocks, h: u16) -> Result<(), LockError>
-        requires { IsTied D.image D.honest self.old blocks.old }
-        ensures tied { IsTied D.image D.honest self.new blocks.new }
+        requires { IsTied D.medium self.old blocks.old }
+        ensures tied { IsTied D.medium self.new blocks.new }
         ensures same { self.new ≡ with_device self.old self.new.file.device }
         ensures bad_handle { (result ≡ Err LockError.BadHandle) ↔ (held_at self.old h ≡ None) }
         ensures locked { (result ≡ Err LockError.Locked) ↔ (locks_of blocks.old (vm_slot h) ≡ 65535) }
@@ -50,12 +50,12 @@ impl<D: Device + Drop> VmBlocks<D> {
         // No block goes where there is room.
         ensures wanted { IfSome (held_at self.old h) (λ held. RemainOrNoRoom blocks.old blocks.new h held.len) }
         // Its row of the table of calls, in each memory that the model may have before it.
-        ensures row { DoesRow D.image D.honest D.failed (lock_listed h) (of_lock result) self.old blocks.old self.new blocks.new }
+        ensures row { DoesRow D.medium (lock_listed h) (of_lock result) self.old blocks.old self.new blocks.new }
         // The device: nothing is written, and the pair that it keeps is the same.
-        ensures pair { pair_of D.image self.new.file ≡ pair_of D.image self.old.file }
-        ensures reads { ReadsOnly D.image D.honest D.may_leave D.may_have_left self.old.file.device self.new.file.device }
-        ensures cause { D.honest self.old.file.device → result ≡ Err LockError.Disk → Rose (D.failed self.old.file.device) (D.failed self.new.file.device) }
-        ensures counted { (result ≡ Err LockError.Disk → ⊥) → D.failed self.new.file.device ≡ D.failed self.old.file.device }
+        ensures pair { pair_of D.medium.image self.new.file ≡ pair_of D.medium.image self.old.file }
+        ensures reads { ReadsOnly D.medium self.old.file.device self.new.file.device }
+        ensures cause { D.medium.honest self.old.file.device → result ≡ Err LockError.Disk → Rose (D.medium.failed self.old.file.device) (D.medium.failed self.new.file.device) }
+        ensures counted { (result ≡ Err LockError.Disk → ⊥) → D.medium.failed self.new.file.device ≡ D.medium.failed self.old.file.device }
     {
         match blocks.lock(Name::vm(h)) {
             Ok(()) => Ok(()),
@@ -68,9 +68,9 @@ impl<D: Device + Drop> VmBlocks<D> {
     /// that is there stays short.
     #[inline(never)]
     fn lock_absent(&mut self, blocks: &mut Blocks, h: u16) -> Result<(), LockError>
-        requires tied { IsTied D.image D.honest self.old blocks.old }
+        requires tied { IsTied D.medium self.old blocks.old }
         requires absent { IsThere blocks.old (vm_slot h) → ⊥ }
-        ensures tied { IsTied D.image D.honest self.new blocks.new }
+        ensures tied { IsTied D.medium self.new blocks.new }
         ensures same { self.new ≡ with_device self.old self.new.file.device }
         ensures bad_handle { (result ≡ Err LockError.BadHandle) ↔ (held_at self.old h ≡ None) }
         ensures locked { result ≡ Err LockError.Locked → ⊥ }
@@ -81,11 +81,11 @@ impl<D: Device + Drop> VmBlocks<D> {
         ensures keeps { Keeps self.old blocks.old blocks.new h }
         ensures no_room { result ≡ Err LockError.NoRoom → IfSome (held_at self.old h) (λ held. LacksRoom self.old blocks.old blocks.new (vm h) held.len) }
         ensures wanted { IfSome (held_at self.old h) (λ held. RemainOrNoRoom blocks.old blocks.new h held.len) }
-        ensures row { DoesRow D.image D.honest D.failed (lock_listed h) (of_lock result) self.old blocks.old self.new blocks.new }
-        ensures pair { pair_of D.image self.new.file ≡ pair_of D.image self.old.file }
-        ensures reads { ReadsOnly D.image D.honest D.may_leave D.may_have_left self.old.file.device self.new.file.device }
-        ensures cause { D.honest self.old.file.device → result ≡ Err LockError.Disk → Rose (D.failed self.old.file.device) (D.failed self.new.file.device) }
-        ensures counted { (result ≡ Err LockError.Disk → ⊥) → D.failed self.new.file.device ≡ D.failed self.old.file.device }
+        ensures row { DoesRow D.medium (lock_listed h) (of_lock result) self.old blocks.old self.new blocks.new }
+        ensures pair { pair_of D.medium.image self.new.file ≡ pair_of D.medium.image self.old.file }
+        ensures reads { ReadsOnly D.medium self.old.file.device self.new.file.device }
+        ensures cause { D.medium.honest self.old.file.device → result ≡ Err LockError.Disk → Rose (D.medium.failed self.old.file.device) (D.medium.failed self.new.file.device) }
+        ensures counted { (result ≡ Err LockError.Disk → ⊥) → D.medium.failed self.new.file.device ≡ D.medium.failed self.old.file.device }
     {
         match self.bring(blocks, h) {
             Ok(()) => {}
@@ -99,24 +99,24 @@ impl<D: Device + Drop> VmBlocks<D> {
 
     /// Takes back one lock of a block. It stays in memory.
     pub fn vunlock(&self, blocks: &mut Blocks, h: u16)
-        requires tied { IsTied D.image D.honest self.now blocks.old }
+        requires tied { IsTied D.medium self.now blocks.old }
         requires locked { 0 < locks_of blocks.old (vm_slot h) }
-        ensures tied { IsTied D.image D.honest self.now blocks.new }
+        ensures tied { IsTied D.medium self.now blocks.new }
         ensures less { blocks.new ≡ with_lock_less blocks.old (vm_slot h) }
         // Its row of the table of calls, in each memory that the model may have before it.
-        ensures row { DoesRow D.image D.honest D.failed (vunlock h) (Ok tt) self.now blocks.old self.now blocks.new }
+        ensures row { DoesRow D.medium (vunlock h) (Ok tt) self.now blocks.old self.now blocks.new }
     {
         blocks.unlock(Name::vm(h));
     }
 
     /// Marks a block that is in memory as changed: it stays there until a commit has written it.
     pub fn vdirty(&mut self, blocks: &Blocks, h: u16)
-        requires tied { IsTied D.image D.honest self.old blocks.now }
+        requires tied { IsTied D.medium self.old blocks.now }
         requires there { IsThere blocks.now (vm_slot h) }
-        ensures tied { IsTied D.image D.honest self.new blocks.now }
+        ensures tied { IsTied D.medium self.new blocks.now }
         ensures marks { self.new ≡ with_held self.old h (option_map marked (held_at self.old h)) }
         // Its row of the table of calls, in each memory that the model may have before it.
-        ensures row { DoesRow D.image D.honest D.failed (vdirty h) (Ok tt) self.old blocks.now self.new blocks.now }
+        ensures row { DoesRow D.medium (vdirty h) (Ok tt) self.old blocks.now self.new blocks.now }
     {
         self.vdirty_changed(blocks, h);
     }
@@ -124,11 +124,11 @@ impl<D: Device + Drop> VmBlocks<D> {
     /// Marks a block that is in memory and has changed there: till then it is not what the file has,
     /// though it is not marked. A block that was marked before it changed stays so.
     pub fn vdirty_changed(&mut self, blocks: &Blocks, h: u16)
-        requires { IsChanged D.image D.honest self.old blocks.now h }
-        ensures tied { IsTied D.image D.honest self.new blocks.now }
+        requires { IsChanged D.medium self.old blocks.now h }
+        ensures tied { IsTied D.medium self.new blocks.now }
         ensures marks { self.new ≡ with_held self.old h (option_map marked (held_at self.old h)) }
         // Each memory that the model may have before it goes on, with the mark.
-        ensures memory { (m : Memory) → IsMemoryOf D.image D.honest self.old blocks.now m → IsMemoryOf D.image D.honest self.new blocks.now (with_mark m h true) }
+        ensures memory { (m : Memory) → IsMemoryOf D.medium self.old blocks.now m → IsMemoryOf D.medium self.new blocks.now (with_mark m h true) }
     {
         let _ = blocks.has(Name::vm(h));
         match self.held(h) {

@@ -31,7 +31,7 @@ fn begin(blocks: &mut Blocks, h: u16)
 impl<D: Device + Drop> VmBlocks<D> {
     /// Makes a block in memory under a handle that is not listed.
     fn make_heap(&self, blocks: &mut Blocks, h: u16) -> Result<(), NoRoom>
-        requires tied { IsTied D.image D.honest self.now blocks.old }
+        requires tied { IsTied D.medium self.now blocks.old }
         requires handle { IsHandle h }
         requires free { held_at self.now h ≡ None }
         ensures ok { OnOk result (IsNew blocks.new h 0) }
@@ -52,8 +52,8 @@ impl<D: Device + Drop> VmBlocks<D> {
     /// stretch of the region has room, though every block of the file that is neither marked
     /// nor locked was discarded.
     pub fn vnew_unlocked(&mut self, blocks: &mut Blocks, uid: u16) -> Result<u16, NewError>
-        requires { IsTied D.image D.honest self.old blocks.old }
-        ensures tied { IsTied D.image D.honest self.new blocks.new }
+        requires { IsTied D.medium self.old blocks.old }
+        ensures tied { IsTied D.medium self.new blocks.new }
         ensures ok { IfOk result (Adds self.old self.new blocks.old blocks.new uid 0) }
         ensures no_handle { (result ≡ Err NewError.NoHandle) ↔ AllListed self.old }
         ensures no_room { result ≡ Err NewError.NoRoom → LacksRoomForNew self.old blocks.old blocks.new }
@@ -62,7 +62,7 @@ impl<D: Device + Drop> VmBlocks<D> {
         ensures stays { result ≡ Err NewError.NoHandle → blocks.new ≡ blocks.old }
         ensures err { OnErr result (self.new ≡ self.old) }
         // Its row of the table of calls, in each memory that the model may have before it.
-        ensures row { DoesRow D.image D.honest D.failed (make_listed uid 0) (of_new result) self.old blocks.old self.new blocks.new }
+        ensures row { DoesRow D.medium (make_listed uid 0) (of_new result) self.old blocks.old self.new blocks.new }
     {
         let Some(h) = self.lowest() else {
             return Err(NewError::NoHandle);
@@ -84,8 +84,8 @@ impl<D: Device + Drop> VmBlocks<D> {
 
     /// Makes such a block, and locks it once. It is refused as `vnew_unlocked` is.
     pub fn vnew(&mut self, blocks: &mut Blocks, uid: u16) -> Result<u16, NewError>
-        requires { IsTied D.image D.honest self.old blocks.old }
-        ensures tied { IsTied D.image D.honest self.new blocks.new }
+        requires { IsTied D.medium self.old blocks.old }
+        ensures tied { IsTied D.medium self.new blocks.new }
         ensures ok { IfOk result (Adds self.old self.new blocks.old blocks.new uid 1) }
         ensures no_handle { (result ≡ Err NewError.NoHandle) ↔ AllListed self.old }
         ensures no_room { result ≡ Err NewError.NoRoom → LacksRoomForNew self.old blocks.old blocks.new }
@@ -94,7 +94,7 @@ impl<D: Device + Drop> VmBlocks<D> {
         ensures stays { result ≡ Err NewError.NoHandle → blocks.new ≡ blocks.old }
         ensures err { OnErr result (self.new ≡ self.old) }
         // Its row of the table of calls, in each memory that the model may have before it.
-        ensures row { DoesRow D.image D.honest D.failed (make_listed uid 1) (of_new result) self.old blocks.old self.new blocks.new }
+        ensures row { DoesRow D.medium (make_listed uid 1) (of_new result) self.old blocks.old self.new blocks.new }
     {
         match self.vnew_unlocked(blocks, uid) {
             Ok(h) => {
@@ -122,15 +122,15 @@ impl<D: Device + Drop> VmBlocks<D> {
     /// Frees a block: it is listed and mapped no more, and leaves the memory. `BadHandle` where
     /// none has this handle, `Locked` where it is locked; nothing changes then.
     pub fn vfree(&mut self, blocks: &mut Blocks, h: u16) -> Result<(), FreeError>
-        requires { IsTied D.image D.honest self.old blocks.old }
-        ensures tied { IsTied D.image D.honest self.new blocks.new }
+        requires { IsTied D.medium self.old blocks.old }
+        ensures tied { IsTied D.medium self.new blocks.new }
         ensures bad_handle { (result ≡ Err FreeError.BadHandle) ↔ (held_at self.old h ≡ None) }
         ensures locked { (result ≡ Err FreeError.Locked) ↔ (0 < locks_of blocks.old (vm_slot h)) }
         ensures state { OnOk result (self.new ≡ without_held self.old h) }
         ensures drops { OnOk result (Drops blocks.old blocks.new h) }
         ensures err { OnErr result ((self.new ≡ self.old) × (blocks.new ≡ blocks.old)) }
         // Its row of the table of calls, in each memory that the model may have before it.
-        ensures row { DoesRow D.image D.honest D.failed (free_listed h) (of_free result) self.old blocks.old self.new blocks.new }
+        ensures row { DoesRow D.medium (free_listed h) (of_free result) self.old blocks.old self.new blocks.new }
     {
         let Some(_held) = self.held(h) else {
             return Err(FreeError::BadHandle);

@@ -43,8 +43,8 @@ impl<D: Device + Drop> VmBlocks<D> {
         ensures found { result ≢ 0 → IsNextWith self.now start uid result }
         ensures none { result ≡ 0 → NoneWith self.now start uid }
         // Its row of the table of calls, but for the user ID of groups, which that refuses.
-        ensures row { uid ≢ group_uid → (s : Store) → IsTied D.image D.honest self.now s
-            → DoesRow D.image D.honest D.failed (vfind start uid) (Ok result) self.now s self.now s }
+        ensures row { uid ≢ group_uid → (s : Store) → IsTied D.medium self.now s
+            → DoesRow D.medium (vfind start uid) (Ok result) self.now s self.now s }
     {
         let _ = &self.entries;
         for h in 1..Name::HANDLES + 1 {
@@ -58,7 +58,7 @@ impl<D: Device + Drop> VmBlocks<D> {
     /// The map block; 0 for none.
     pub fn map(&self) -> u16
         ensures map { result ≡ self.now.map_block }
-        ensures row { (s : Store) → IsTied D.image D.honest self.now s → DoesRow D.image D.honest D.failed vgetmap (Ok result) self.now s self.now s }
+        ensures row { (s : Store) → IsTied D.medium self.now s → DoesRow D.medium vgetmap (Ok result) self.now s self.now s }
     {
         self.map_block
     }
@@ -67,9 +67,9 @@ impl<D: Device + Drop> VmBlocks<D> {
     pub fn set_map(&mut self, h: u16)
         requires { h ≢ 0 → IsSomeAnd (held_at self.old h) (λ e. e.uid ≢ group_uid) }
         ensures state { self.new ≡ record self.old { map_block = h } }
-        ensures tied { (s : Store) → IsTied D.image D.honest self.old s → IsTied D.image D.honest self.new s }
+        ensures tied { (s : Store) → IsTied D.medium self.old s → IsTied D.medium self.new s }
         // Its row of the table of calls, in each memory that the model may have before it.
-        ensures row { (s : Store) → IsTied D.image D.honest self.old s → DoesRow D.image D.honest D.failed (vsetmap h) (Ok tt) self.old s self.new s }
+        ensures row { (s : Store) → IsTied D.medium self.old s → DoesRow D.medium (vsetmap h) (Ok tt) self.old s self.new s }
     {
         self.map_block = h;
     }
@@ -77,7 +77,7 @@ impl<D: Device + Drop> VmBlocks<D> {
     /// The map item: a group, 0 for none, and an item of it.
     pub fn map_item(&self) -> (u16, u16)
         ensures item { result ≡ self.now.map_item }
-        ensures row { (s : Store) → IsTied D.image D.honest self.now s → DoesRow D.image D.honest D.failed igetmap (Ok result) self.now s self.now s }
+        ensures row { (s : Store) → IsTied D.medium self.now s → DoesRow D.medium igetmap (Ok result) self.now s self.now s }
     {
         self.map_item
     }
@@ -87,9 +87,9 @@ impl<D: Device + Drop> VmBlocks<D> {
         requires group { group ≢ 0 → IsSomeAnd (held_at self.old group) (λ e. e.uid ≡ group_uid) }
         requires no_item { group ≡ 0 → item ≡ 0 }
         ensures state { self.new ≡ record self.old { map_item = (group, item) } }
-        ensures tied { (s : Store) → IsTied D.image D.honest self.old s → IsTied D.image D.honest self.new s }
+        ensures tied { (s : Store) → IsTied D.medium self.old s → IsTied D.medium self.new s }
         // Its row of the table of calls, in each memory that the model may have before it.
-        ensures row { (s : Store) → IsTied D.image D.honest self.old s → DoesRow D.image D.honest D.failed (isetmap group item) (Ok tt) self.old s self.new s }
+        ensures row { (s : Store) → IsTied D.medium self.old s → DoesRow D.medium (isetmap group item) (Ok tt) self.old s self.new s }
     {
         self.map_item = (group, item);
     }

@@ -74,7 +74,7 @@ impl<D: Device + Drop> VmBlocks<D> {
     /// the handle `but`, of which 0 names none; nothing else changes. `false` where there is none:
     /// nothing has changed.
     pub fn discard_one(&self, blocks: &mut Blocks, but: u16) -> bool
-        requires { IsTied D.image D.honest self.now blocks.old }
+        requires { IsTied D.medium self.now blocks.old }
         ensures one { IsTrue result → DiscardsOne self.now blocks.old blocks.new but }
         ensures thins { IsTrue result → Thins self.now blocks.old blocks.new but }
         ensures fewer { IsTrue result → there_count blocks.new < there_count blocks.old }
@@ -92,7 +92,7 @@ impl<D: Device + Drop> VmBlocks<D> {
     /// Discards blocks, but the named one, which is to have `more` bytes, while fewer are free. To
     /// look for room then would be in vain.
     fn discard_for(&self, blocks: &mut Blocks, name: Name, more: u32)
-        requires tied { IsTied D.image D.honest self.now blocks.old }
+        requires tied { IsTied D.medium self.now blocks.old }
         requires handle { IsHandle name.h }
         ensures thins { Thins self.now blocks.old blocks.new (own_handle name) }
         ensures wanted { DiscardsForRoom self.now blocks.old blocks.new (own_handle name) (slot_of name) (size_of blocks.old (slot_of name) + more) }
@@ -105,7 +105,7 @@ impl<D: Device + Drop> VmBlocks<D> {
     /// discards others for it, one after another, until there is room: none where there is room
     /// at once. `NoRoom` where there is none though all that may be were discarded.
     pub fn make_room(&self, blocks: &mut Blocks, name: Name, size: u32) -> Result<(), NoRoom>
-        requires tied { IsTied D.image D.honest self.now blocks.old }
+        requires tied { IsTied D.medium self.now blocks.old }
         requires handle { IsHandle name.h }
         requires absent { IsThere blocks.old (slot_of name) → ⊥ }
         requires size { IsBlockSize size }
@@ -130,7 +130,7 @@ impl<D: Device + Drop> VmBlocks<D> {
     /// another, until there is room: none where there is room at once. `NoRoom` where there is
     /// none though all that may be were discarded.
     pub fn grow_room(&self, blocks: &mut Blocks, name: Name, size: u32) -> Result<(), NoRoom>
-        requires tied { IsTied D.image D.honest self.now blocks.old }
+        requires tied { IsTied D.medium self.now blocks.old }
         requires there { IsThere blocks.old (slot_of name) }
         requires size { (size_of blocks.old (slot_of name) ≤ size) × (size ≤ most_block_bytes) × (size % 16 ≡ 0) }
         ensures ok { OnOk result (GrowsRoom self.now blocks.old blocks.new name size) }

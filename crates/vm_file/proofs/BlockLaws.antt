@@ -8,6 +8,7 @@ use Rattle.std.proofs.lemmas.List.{drop-drop}
 use Rattle.lmem_raw.specs.Bytes.{part}
 use Rattle.geos_model.specs.Block.{handle_word}
 use Rattle.geos_model.specs.Heap.{IsHeap}
+use Rattle.vm_file.specs.Device.{Medium}
 use Rattle.vm_file.specs.declared.directory.Entry.{Entry}
 use Rattle.geos_model.specs.HeapTest.{is_heap}
 use Rattle.vm_file.specs.Contents.{Block, is_filled, listed, blocks_in}
@@ -60,35 +61,35 @@ area_part xs base area k p len fits =
     ∙ ap (λ l. part l p len) (drop-stretch xs base (base + area) k (omega arith))
     ∙ ap (take len) (drop-stretch xs (base + k) (base + area) p (omega arith)) ∙ take-stretch xs (base + k + p) (base + area) len (omega arith)
 
-module _ {D : Type 0} (image : D → List ℕ) (honest : D → Type 0) (may_leave : D → List ℕ → Type 0) (f : FileState D) (sound : IsSound image honest may_leave f) where
+module _ {D : Type 0} (medium : Medium D) (f : FileState D) (sound : IsSound medium f) where
   -- a block of the current directory
-  pub current_there : (h len at : ℕ) → HasBlock f.current h len → at ≡ base_of f.area f.second + 2 + place_in f.current.entries.items h → part (image f.device) at len ≡ bytes_of_block (pair_of image f).cur.blocks h
+  pub current_there : (h len at : ℕ) → HasBlock f.current h len → at ≡ base_of f.area f.second + 2 + place_in f.current.entries.items h → part (medium.image f.device) at len ≡ bytes_of_block (pair_of medium.image f).cur.blocks h
   current_there h len at has is =
-      let b = block_there f.current.entries.items (drop 2 (area_of (image f.device) f.area f.second)) h len has in
+      let b = block_there f.current.entries.items (drop 2 (area_of (medium.image f.device) f.area f.second)) h len has in
       let fits = sound.fits in
-      ap (λ k. part (image f.device) k len) is ∙ sym (b.0 ∙ area_part (image f.device) (base_of f.area f.second) f.area 2 (place_in f.current.entries.items h) len (omega (arith, b.1, fits)))
+      ap (λ k. part (medium.image f.device) k len) is ∙ sym (b.0 ∙ area_part (medium.image f.device) (base_of f.area f.second) f.area 2 (place_in f.current.entries.items h) len (omega (arith, b.1, fits)))
 
   -- a block of the saved directory
-  pub saved_there : (h len at : ℕ) → HasBlock f.saved h len → at ≡ base_of f.area f.second + directory_length f.current + 2 + place_in f.saved.entries.items h → part (image f.device) at len ≡ bytes_of_block (pair_of image f).saved.blocks h
+  pub saved_there : (h len at : ℕ) → HasBlock f.saved h len → at ≡ base_of f.area f.second + directory_length f.current + 2 + place_in f.saved.entries.items h → part (medium.image f.device) at len ≡ bytes_of_block (pair_of medium.image f).saved.blocks h
   saved_there h len at has is =
-      let n = directory_length f.current in let area = area_of (image f.device) f.area f.second in
+      let n = directory_length f.current in let area = area_of (medium.image f.device) f.area f.second in
       let two : drop 2 (drop n area) ≡ drop (n + 2) area = drop-drop 2 n area in
       let b = block_there f.saved.entries.items (drop 2 (drop n area)) h len has in
       let fits = sound.fits in
       let place : base_of f.area f.second + (n + 2) + place_in f.saved.entries.items h ≡ at = omega (arith, is) in
-      sym (b.0 ∙ ap (λ l. part l (place_in f.saved.entries.items h) len) two ∙ area_part (image f.device) (base_of f.area f.second) f.area (n + 2) (place_in f.saved.entries.items h) len (omega (arith, b.1, fits)) ∙ ap (λ k. part (image f.device) k len) place)
+      sym (b.0 ∙ ap (λ l. part l (place_in f.saved.entries.items h) len) two ∙ area_part (medium.image f.device) (base_of f.area f.second) f.area (n + 2) (place_in f.saved.entries.items h) len (omega (arith, b.1, fits)) ∙ ap (λ k. part (medium.image f.device) k len) place)
 
   -- the blocks of a pair that the device holds are heaps under their handles
-  pub current_heap : (h len : ℕ) → honest f.device → HasBlock f.current h len → IsHeap (bytes_of_block (pair_of image f).cur.blocks h) × (handle_word (bytes_of_block (pair_of image f).cur.blocks h) ≡ h)
+  pub current_heap : (h len : ℕ) → medium.honest f.device → HasBlock f.current h len → IsHeap (bytes_of_block (pair_of medium.image f).cur.blocks h) × (handle_word (bytes_of_block (pair_of medium.image f).cur.blocks h) ≡ h)
   current_heap h len good has =
-      let p = pair_ok (base_of f.area f.second) (area_of (image f.device) f.area f.second) (pair_of image f) (sound.holds good).pair in
-      let c = both (is_directory (listed (pair_of image f).cur)) (list_all is_filled (pair_of image f).cur.blocks) p.cur in
-      let r = block_filled (pair_of image f).cur.blocks (drop 2 (area_of (image f.device) f.area f.second)) f.current.entries.items h len refl c.1 has in
+      let p = pair_ok (base_of f.area f.second) (area_of (medium.image f.device) f.area f.second) (pair_of medium.image f) (sound.holds good).pair in
+      let c = both (is_directory (listed (pair_of medium.image f).cur)) (list_all is_filled (pair_of medium.image f).cur.blocks) p.cur in
+      let r = block_filled (pair_of medium.image f).cur.blocks (drop 2 (area_of (medium.image f.device) f.area f.second)) f.current.entries.items h len refl c.1 has in
       (heap-sound _ r.0, r.1)
 
-  pub saved_heap : (h len : ℕ) → honest f.device → HasBlock f.saved h len → IsHeap (bytes_of_block (pair_of image f).saved.blocks h) × (handle_word (bytes_of_block (pair_of image f).saved.blocks h) ≡ h)
+  pub saved_heap : (h len : ℕ) → medium.honest f.device → HasBlock f.saved h len → IsHeap (bytes_of_block (pair_of medium.image f).saved.blocks h) × (handle_word (bytes_of_block (pair_of medium.image f).saved.blocks h) ≡ h)
   saved_heap h len good has =
-      let p = pair_ok (base_of f.area f.second) (area_of (image f.device) f.area f.second) (pair_of image f) (sound.holds good).pair in
-      let c = both (is_directory (listed (pair_of image f).saved)) (list_all is_filled (pair_of image f).saved.blocks) p.saved in
-      let r = block_filled (pair_of image f).saved.blocks (drop 2 (drop (directory_length f.current) (area_of (image f.device) f.area f.second))) f.saved.entries.items h len refl c.1 has in
+      let p = pair_ok (base_of f.area f.second) (area_of (medium.image f.device) f.area f.second) (pair_of medium.image f) (sound.holds good).pair in
+      let c = both (is_directory (listed (pair_of medium.image f).saved)) (list_all is_filled (pair_of medium.image f).saved.blocks) p.saved in
+      let r = block_filled (pair_of medium.image f).saved.blocks (drop 2 (drop (directory_length f.current) (area_of (medium.image f.device) f.area f.second))) f.saved.entries.items h len refl c.1 has in
       (heap-sound _ r.0, r.1)

@@ -9,7 +9,7 @@ use Rattle.vm_file.specs.declared.commit.How.{How}
 use Rattle.vm_file.specs.declared.commit.How.TheVariants.{Update, Save, Revert}
 use Rattle.vm_file.specs.Committing.{FindsOneOf, Spells, current_after, saved_after}
 use Rattle.vm_file.specs.Contents.{Pair, pair_in, listed}
-use Rattle.vm_file.specs.Device.{AfterWrite, Only, Passes, Touched}
+use Rattle.vm_file.specs.Device.{AfterWrite, Medium, Only, Passes, Touched}
 use Rattle.vm_file.specs.Directories.{is_directory, directory_length}
 use Rattle.vm_file.specs.Outcomes.{WritesOnly}
 use Rattle.vm_file.specs.Reading.{header_at, pair_at, found, is_second, base_of, area_of}
@@ -73,7 +73,7 @@ saved_legal Update cur saved c s = s
 saved_legal Save cur saved c s = c
 saved_legal Revert cur saved c s = s
 
-module _ {D : Type 0} (image : D → List ℕ) (honest : D → Type 0) (may_leave : D → List ℕ → Type 0) (left : D → D → List ℕ → Type 0) (f : FileState D) (sound : IsSound image honest may_leave f) (sure : f.sure ≡ true) where
+module _ {D : Type 0} (medium : Medium D) (f : FileState D) (sound : IsSound medium f) (sure : f.sure ≡ true) where
   -- where the other area begins
   abbrev other : ℕ
   other = base_of f.area (not f.second)
@@ -82,36 +82,36 @@ module _ {D : Type 0} (image : D → List ℕ) (honest : D → Type 0) (may_leav
   abbrev pub on : D → Bool → FileState D
   on d b = record { device = d; area = f.area; second = f.second; sure = b; current = f.current; saved = f.saved }
 
-  settled : honest f.device → (is_second (get_or (image f.device) 512 0) ≡ f.second) × ((c : List ℕ) → may_leave f.device c → Touched other f.area (image f.device) c)
+  settled : medium.honest f.device → (is_second (get_or (medium.image f.device) 512 0) ≡ f.second) × ((c : List ℕ) → medium.may_leave f.device c → Touched other f.area (medium.image f.device) c)
   settled h =
       let P : Bool → Type 0 = λ b. MatchBool b
-      ((is_second (get_or (image f.device) 512 0) ≡ f.second) × ((c : List ℕ) → may_leave f.device c → Touched other f.area (image f.device) c))
-      (((q : Pair) × IsOther image f q) × ((c : List ℕ) → may_leave f.device c → Touched 512 1 (image f.device) c)) in
+      ((is_second (get_or (medium.image f.device) 512 0) ≡ f.second) × ((c : List ℕ) → medium.may_leave f.device c → Touched other f.area (medium.image f.device) c))
+      (((q : Pair) × IsOther medium.image f q) × ((c : List ℕ) → medium.may_leave f.device c → Touched 512 1 (medium.image f.device) c)) in
       subst P sure (sound.holds h).leaves
 
-  sure_leaves : (d : D) (b : Bool) (x y : Directory) → is_second (get_or (image d) 512 0) ≡ b → ((c : List ℕ) → may_leave d c → Touched (base_of f.area (not b)) f.area (image d) c) →
-      Leaves image may_leave (let g : FileState D = record { device = d; area = f.area; second = b; sure = f.sure; current = x; saved = y } in g)
+  sure_leaves : (d : D) (b : Bool) (x y : Directory) → is_second (get_or (medium.image d) 512 0) ≡ b → ((c : List ℕ) → medium.may_leave d c → Touched (base_of f.area (not b)) f.area (medium.image d) c) →
+      Leaves medium (let g : FileState D = record { device = d; area = f.area; second = b; sure = f.sure; current = x; saved = y } in g)
   sure_leaves d b x y named stop =
       let g : FileState D = record { device = d; area = f.area; second = b; sure = f.sure; current = x; saved = y } in
       let P : Bool → Type 0 = λ t. MatchBool t
-      ((is_second (get_or (image d) 512 0) ≡ b) × ((c : List ℕ) → may_leave d c → Touched (base_of f.area (not b)) f.area (image d) c))
-      (((q : Pair) × IsOther image g q) × ((c : List ℕ) → may_leave d c → Touched 512 1 (image d) c)) in
+      ((is_second (get_or (medium.image d) 512 0) ≡ b) × ((c : List ℕ) → medium.may_leave d c → Touched (base_of f.area (not b)) f.area (medium.image d) c))
+      (((q : Pair) × IsOther medium.image g q) × ((c : List ℕ) → medium.may_leave d c → Touched 512 1 (medium.image d) c)) in
       subst P (sym sure) (named, stop)
 
   -- the file after a write of the other area that failed
   pub record TornFile (s : D) (q : Pair) : Type 0 where
-    pub legal : IsSound image honest may_leave (on s f.sure)
-    pub pair : honest f.device → pair_of image (on s f.sure) ≡ pair_of image f
-    pub passes : honest f.device → Passes left f.device s (FindsOneOf (pair_of image f) q)
-    pub finds : honest f.device → (c : List ℕ) → may_leave s c → Finds image (on s f.sure) c
+    pub legal : IsSound medium (on s f.sure)
+    pub pair : medium.honest f.device → pair_of medium.image (on s f.sure) ≡ pair_of medium.image f
+    pub passes : medium.honest f.device → Passes medium.may_have_left f.device s (FindsOneOf (pair_of medium.image f) q)
+    pub finds : medium.honest f.device → (c : List ℕ) → medium.may_leave s c → Finds medium.image (on s f.sure) c
 
   -- the file after a write of the selector that failed
   pub record UnsureFile (w : D) (q : Pair) : Type 0 where
-    pub legal : IsSound image honest may_leave (on w false)
-    pub pair : honest f.device → pair_of image (on w false) ≡ pair_of image f
-    pub other : honest f.device → IsOther image (on w false) q
-    pub passes : honest f.device → Passes left f.device w (FindsOneOf (pair_of image f) q)
-    pub finds : honest f.device → (c : List ℕ) → may_leave w c → Finds image (on w false) c
+    pub legal : IsSound medium (on w false)
+    pub pair : medium.honest f.device → pair_of medium.image (on w false) ≡ pair_of medium.image f
+    pub other : medium.honest f.device → IsOther medium.image (on w false) q
+    pub passes : medium.honest f.device → Passes medium.may_have_left f.device w (FindsOneOf (pair_of medium.image f) q)
+    pub finds : medium.honest f.device → (c : List ℕ) → medium.may_leave w c → Finds medium.image (on w false) c
 
   -- the other area is selected
   abbrev pub turned_to : D → Directory → Directory → FileState D
@@ -119,36 +119,36 @@ module _ {D : Type 0} (image : D → List ℕ) (honest : D → Type 0) (may_leav
 
   -- the file after both writes
   pub record SelectedFile (w : D) (x y : Directory) (q : Pair) : Type 0 where
-    pub legal : IsSound image honest may_leave (turned_to w x y)
-    pub pair : honest f.device → pair_of image (turned_to w x y) ≡ q
-    pub passes : honest f.device → Passes left f.device w (FindsOneOf (pair_of image f) q)
-    pub finds : honest f.device → (c : List ℕ) → may_leave w c → Finds image (turned_to w x y) c
+    pub legal : IsSound medium (turned_to w x y)
+    pub pair : medium.honest f.device → pair_of medium.image (turned_to w x y) ≡ q
+    pub passes : medium.honest f.device → Passes medium.may_have_left f.device w (FindsOneOf (pair_of medium.image f) q)
+    pub finds : medium.honest f.device → (c : List ℕ) → medium.may_leave w c → Finds medium.image (turned_to w x y) c
 
   -- the other area is written, in part or whole
-  module _ (s : D) (n : ℕ) (small : n ≤ f.area) (writes : WritesOnly image honest may_leave left other n f.device s) where
-    torn : honest f.device → Touched other f.area (image f.device) (image s)
-    torn h = touched_more other n f.area (image f.device) (image s) small (writes.torn h)
+  module _ (s : D) (n : ℕ) (small : n ≤ f.area) (writes : WritesOnly medium other n f.device s) where
+    torn : medium.honest f.device → Touched other f.area (medium.image f.device) (medium.image s)
+    torn h = touched_more other n f.area (medium.image f.device) (medium.image s) small (writes.torn h)
 
-    after : honest f.device → (c : List ℕ) → AfterWrite other n (may_leave f.device) c → Touched other f.area (image f.device) c
-    after h c a = touched_then other f.area (image f.device) a.0 c ((settled h).1 a.0 a.1) (touched_more other n f.area a.0 c small a.2)
+    after : medium.honest f.device → (c : List ℕ) → AfterWrite other n (medium.may_leave f.device) c → Touched other f.area (medium.image f.device) c
+    after h c a = touched_then other f.area (medium.image f.device) a.0 c ((settled h).1 a.0 a.1) (touched_more other n f.area a.0 c small a.2)
 
-    pub torn_pair : (b : Bool) → honest f.device → pair_of image (on s b) ≡ pair_of image f
-    torn_pair b h = ap (pair_in f.current f.saved) (area_kept (image f.device) (image s) f.area f.second (torn h))
+    pub torn_pair : (b : Bool) → medium.honest f.device → pair_of medium.image (on s b) ≡ pair_of medium.image f
+    torn_pair b h = ap (pair_in f.current f.saved) (area_kept (medium.image f.device) (medium.image s) f.area f.second (torn h))
 
-    pub torn_holds : honest f.device → Holds image may_leave (on s f.sure)
+    pub torn_holds : medium.honest f.device → Holds medium (on s f.sure)
     torn_holds h =
         let was = sound.holds h in let n = was.long in
-        let head = header_kept (image s) (image f.device) other f.area (areas_apart f.area (not f.second)).0 (torn h) in
+        let head = header_kept (medium.image s) (medium.image f.device) other f.area (areas_apart f.area (not f.second)).0 (torn h) in
         record {
           long = omega (arith, n, writes.long);
           header = ap header_at head.0 ∙ was.header;
-          pair = ap (pair_at (base_of f.area f.second)) (area_kept (image f.device) (image s) f.area f.second (torn h)) ∙ was.pair ∙ ap (λ p. let r : Result Pair ℕ = Ok p in r) (sym (torn_pair f.sure h));
+          pair = ap (pair_at (base_of f.area f.second)) (area_kept (medium.image f.device) (medium.image s) f.area f.second (torn h)) ∙ was.pair ∙ ap (λ p. let r : Result Pair ℕ = Ok p in r) (sym (torn_pair f.sure h));
           leaves = sure_leaves s f.second f.current f.saved
               (ap is_second head.1 ∙ (settled h).0)
-              (λ c l. touched_then other f.area (image s) (image f.device) c (touched_back other f.area (image f.device) (image s) (torn h)) (after h c (writes.stop h c l)));
+              (λ c l. touched_then other f.area (medium.image s) (medium.image f.device) c (touched_back other f.area (medium.image f.device) (medium.image s) (torn h)) (after h c (writes.stop h c l)));
         }
 
-    pub torn_sound : IsSound image honest may_leave (on s f.sure)
+    pub torn_sound : IsSound medium (on s f.sure)
     torn_sound = record {
       area = sound.area;
       current = sound.current;
@@ -159,71 +159,71 @@ module _ {D : Type 0} (image : D → List ℕ) (honest : D → Type 0) (may_leav
     }
 
     -- a stop in it finds the pair from before
-    torn_finds : honest f.device → (c : List ℕ) → AfterWrite other n (may_leave f.device) c → found c ≡ Ok (pair_of image f)
+    torn_finds : medium.honest f.device → (c : List ℕ) → AfterWrite other n (medium.may_leave f.device) c → found c ≡ Ok (pair_of medium.image f)
     torn_finds h c a =
         let was = sound.holds h in
-        found_sure image may_leave f c was.long was.header (settled h).0 was.pair (after h c a)
+        found_sure medium f c was.long was.header (settled h).0 was.pair (after h c a)
 
-    pub torn_passes : (q : Pair) → honest f.device → Passes left f.device s (FindsOneOf (pair_of image f) q)
-    torn_passes q h = weaker left f.device s _ _ (λ c a. inl (torn_finds h c a)) (writes.time h)
+    pub torn_passes : (q : Pair) → medium.honest f.device → Passes medium.may_have_left f.device s (FindsOneOf (pair_of medium.image f) q)
+    torn_passes q h = weaker medium.may_have_left f.device s _ _ (λ c a. inl (torn_finds h c a)) (writes.time h)
 
     pub torn_file : (q : Pair) → TornFile s q
     torn_file q = record {
       legal = torn_sound;
       pair = torn_pair f.sure;
       passes = torn_passes q;
-      finds = (λ h c l. finds image may_leave (on s f.sure) (torn_holds h) c l);
+      finds = (λ h c l. finds medium (on s f.sure) (torn_holds h) c l);
     }
 
     -- the pair is there, and then the selector is written
-    module _ (bytes : List ℕ) (x y : Directory) (q : Pair) (count : n ≡ length bytes) (fits : other + length bytes ≤ length (image f.device)) (spells : honest f.device → Spells x y q bytes)
-        (there : honest f.device → image s ≡ with_part (image f.device) other bytes) (only : honest f.device → Only (image s) (may_leave s)) (w : D) (selects : WritesOnly image honest may_leave left 512 1 s w) where
+    module _ (bytes : List ℕ) (x y : Directory) (q : Pair) (count : n ≡ length bytes) (fits : other + length bytes ≤ length (medium.image f.device)) (spells : medium.honest f.device → Spells x y q bytes)
+        (there : medium.honest f.device → medium.image s ≡ with_part (medium.image f.device) other bytes) (only : medium.honest f.device → Only (medium.image s) (medium.may_leave s)) (w : D) (selects : WritesOnly medium 512 1 s w) where
       behind : List ℕ
-      behind = take (f.area - length bytes) (drop (other + length bytes) (image f.device))
+      behind = take (f.area - length bytes) (drop (other + length bytes) (medium.image f.device))
 
-      written : honest f.device → area_of (image s) f.area (not f.second) ≡ bytes ++ behind
+      written : medium.honest f.device → area_of (medium.image s) f.area (not f.second) ≡ bytes ++ behind
       unfolding behind
-      written h = ap (λ l. part l other f.area) (there h) ∙ part_written (image f.device) bytes other f.area (omega (arith, small, count)) fits
+      written h = ap (λ l. part l other f.area) (there h) ∙ part_written (medium.image f.device) bytes other f.area (omega (arith, small, count)) fits
 
-      pub other_there : honest f.device → pair_at other (area_of (image s) f.area (not f.second)) ≡ Ok q
+      pub other_there : medium.honest f.device → pair_at other (area_of (medium.image s) f.area (not f.second)) ≡ Ok q
       other_there h = ap (pair_at other) (written h) ∙ (pair_cut x y q bytes behind other (spells h)).0
 
-      turned : honest f.device → (c : List ℕ) → AfterWrite 512 1 (may_leave s) c → Touched 512 1 (image s) c
+      turned : medium.honest f.device → (c : List ℕ) → AfterWrite 512 1 (medium.may_leave s) c → Touched 512 1 (medium.image s) c
       turned h c a = subst (λ d. Touched 512 1 d c) (only h a.0 a.1) a.2
 
-      select_finds : honest f.device → (c : List ℕ) → AfterWrite 512 1 (may_leave s) c → FindsOneOf (pair_of image f) q c
+      select_finds : medium.honest f.device → (c : List ℕ) → AfterWrite 512 1 (medium.may_leave s) c → FindsOneOf (pair_of medium.image f) q c
       select_finds h c a =
           let now = torn_holds h in
           let P : Pair → Type 0 = λ p. (found c ≡ Ok p) ⊎ (found c ≡ Ok q) in
-          subst P (torn_pair false h) (found_unsure image may_leave (on s false) c q now.long now.header now.pair (other_there h) (turned h c a))
+          subst P (torn_pair false h) (found_unsure medium (on s false) c q now.long now.header now.pair (other_there h) (turned h c a))
 
-      pub select_passes : honest f.device → Passes left f.device w (FindsOneOf (pair_of image f) q)
-      select_passes h = goes_on left f.device s w _ (torn_passes q h) (weaker left s w _ _ (select_finds h) (selects.time (writes.stays h)))
+      pub select_passes : medium.honest f.device → Passes medium.may_have_left f.device w (FindsOneOf (pair_of medium.image f) q)
+      select_passes h = goes_on medium.may_have_left f.device s w _ (torn_passes q h) (weaker medium.may_have_left s w _ _ (select_finds h) (selects.time (writes.stays h)))
 
-      turned_now : honest f.device → Touched 512 1 (image s) (image w)
+      turned_now : medium.honest f.device → Touched 512 1 (medium.image s) (medium.image w)
       turned_now h = selects.torn (writes.stays h)
 
-      pub unsure_pair : honest f.device → pair_of image (on w false) ≡ pair_of image f
-      unsure_pair h = ap (pair_in f.current f.saved) (area_behind (image s) (image w) f.area f.second (turned_now h)) ∙ torn_pair false h
+      pub unsure_pair : medium.honest f.device → pair_of medium.image (on w false) ≡ pair_of medium.image f
+      unsure_pair h = ap (pair_in f.current f.saved) (area_behind (medium.image s) (medium.image w) f.area f.second (turned_now h)) ∙ torn_pair false h
 
-      pub unsure_other : honest f.device → IsOther image (on w false) q
-      unsure_other h = ap (pair_at other) (area_behind (image s) (image w) f.area (not f.second) (turned_now h)) ∙ other_there h
+      pub unsure_other : medium.honest f.device → IsOther medium.image (on w false) q
+      unsure_other h = ap (pair_at other) (area_behind (medium.image s) (medium.image w) f.area (not f.second) (turned_now h)) ∙ other_there h
 
-      pub unsure_holds : honest f.device → Holds image may_leave (on w false)
+      pub unsure_holds : medium.honest f.device → Holds medium (on w false)
       unsure_holds h =
           let now = torn_holds h in let n = now.long in
           record {
             long = omega (arith, n, selects.long);
             header = ap header_at (turned_now h).before ∙ now.header;
-            pair = ap (pair_at (base_of f.area f.second)) (area_behind (image s) (image w) f.area f.second (turned_now h)) ∙ now.pair
+            pair = ap (pair_at (base_of f.area f.second)) (area_behind (medium.image s) (medium.image w) f.area f.second (turned_now h)) ∙ now.pair
                 ∙ ap (λ p. let r : Result Pair ℕ = Ok p in r) (torn_pair f.sure h ∙ sym (unsure_pair h));
             leaves = (
               (q, unsure_other h),
-              (λ c l. touched_then 512 1 (image w) (image s) c (touched_back 512 1 (image s) (image w) (turned_now h)) (turned h c (selects.stop (writes.stays h) c l))),
+              (λ c l. touched_then 512 1 (medium.image w) (medium.image s) c (touched_back 512 1 (medium.image s) (medium.image w) (turned_now h)) (turned h c (selects.stop (writes.stays h) c l))),
             );
           }
 
-      pub unsure_sound : IsSound image honest may_leave (on w false)
+      pub unsure_sound : IsSound medium (on w false)
       unsure_sound = record {
         area = sound.area;
         current = sound.current;
@@ -239,35 +239,35 @@ module _ {D : Type 0} (image : D → List ℕ) (honest : D → Type 0) (may_leav
         pair = unsure_pair;
         other = unsure_other;
         passes = select_passes;
-        finds = (λ h c l. finds image may_leave (on w false) (unsure_holds h) c l);
+        finds = (λ h c l. finds medium (on w false) (unsure_holds h) c l);
       }
 
       -- and it lasts
-      module _ (selector : ℕ) (names : is_second selector ≡ not f.second) (turns : honest f.device → image w ≡ with_part (image s) 512 (selector ∷ [])) (lasts : honest f.device → Only (image w) (may_leave w))
+      module _ (selector : ℕ) (names : is_second selector ≡ not f.second) (turns : medium.honest f.device → medium.image w ≡ with_part (medium.image s) 512 (selector ∷ [])) (lasts : medium.honest f.device → Only (medium.image w) (medium.may_leave w))
           (x_legal : is_directory x ≡ true) (y_legal : is_directory y ≡ true) (long : directory_length x + directory_length y ≡ length bytes) where
         abbrev selected : FileState D
         selected = turned_to w x y
 
-        area_now : honest f.device → area_of (image w) f.area (not f.second) ≡ bytes ++ behind
-        area_now h = area_behind (image s) (image w) f.area (not f.second) (turned_now h) ∙ written h
+        area_now : medium.honest f.device → area_of (medium.image w) f.area (not f.second) ≡ bytes ++ behind
+        area_now h = area_behind (medium.image s) (medium.image w) f.area (not f.second) (turned_now h) ∙ written h
 
-        pub selected_pair : honest f.device → pair_of image selected ≡ q
+        pub selected_pair : medium.honest f.device → pair_of medium.image selected ≡ q
         selected_pair h = ap (pair_in x y) (area_now h) ∙ (pair_cut x y q bytes behind other (spells h)).1
 
-        pub selected_holds : honest f.device → Holds image may_leave selected
+        pub selected_holds : medium.honest f.device → Holds medium selected
         selected_holds h =
             let now = torn_holds h in let n = now.long in
-            let sel : get_or (image w) 512 0 ≡ selector = ap (λ l. get_or l 512 0) (turns h) ∙ byte_written (image s) 512 selector n in
+            let sel : get_or (medium.image w) 512 0 ≡ selector = ap (λ l. get_or l 512 0) (turns h) ∙ byte_written (medium.image s) 512 selector n in
             record {
               long = omega (arith, n, selects.long);
               header = ap header_at (turned_now h).before ∙ now.header;
               pair = ap (pair_at other) (area_now h) ∙ (pair_cut x y q bytes behind other (spells h)).0 ∙ ap (λ p. let r : Result Pair ℕ = Ok p in r) (sym (selected_pair h));
               leaves = sure_leaves w (not f.second) x y
                   (ap is_second sel ∙ names)
-                  (λ c l. subst (Touched (base_of f.area (not (not f.second))) f.area (image w)) (sym (lasts h c l)) (touched_not _ _ (image w)));
+                  (λ c l. subst (Touched (base_of f.area (not (not f.second))) f.area (medium.image w)) (sym (lasts h c l)) (touched_not _ _ (medium.image w)));
             }
 
-        pub selected_sound : IsSound image honest may_leave selected
+        pub selected_sound : IsSound medium selected
         selected_sound = record {
           area = sound.area;
           current = x_legal;
@@ -282,5 +282,5 @@ module _ {D : Type 0} (image : D → List ℕ) (honest : D → Type 0) (may_leav
           legal = selected_sound;
           pair = selected_pair;
           passes = select_passes;
-          finds = (λ h c l. finds image may_leave selected (selected_holds h) c l);
+          finds = (λ h c l. finds medium selected (selected_holds h) c l);
         }

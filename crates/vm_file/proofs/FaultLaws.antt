@@ -1,14 +1,15 @@
 -- What a device below a device of faults was made to do.
 use Rattle.std.proofs.Common.{⊎_elim, inl, inr, ℕ, ◌≤◌, List}
+use Rattle.vm_file.specs.Device.{Medium}
 use Rattle.vm_file.specs.declared.faulty.FaultDevice.{FaultDevice}
-use Rattle.vm_file.specs.Faulty.{inner_of}
+use Rattle.vm_file.specs.Faulty.{inner_of, over}
 use Rattle.vm_file.specs.Outcomes.{WritesOnly}
 use Rattle.vm_file.proofs.Touches.{after_more, touched_more}
 
-module _ {D : Type 0} (image : D → List ℕ) (honest : D → Type 0) (may_leave : D → List ℕ → Type 0) (left : D → D → List ℕ → Type 0) where
+module _ {D : Type 0} (medium : Medium D) where
   -- what was written below lies within a longer range too
-  pub writes_below : (at n m : ℕ) (old new : FaultDevice D) → n ≤ m → WritesOnly image honest may_leave left at n (inner_of old) (inner_of new) →
-      WritesOnly (λ d. image (inner_of d)) (λ d. honest (inner_of d)) (λ d. may_leave (inner_of d)) (λ s d. left (inner_of s) (inner_of d)) at m old new
+  pub writes_below : (at n m : ℕ) (old new : FaultDevice D) → n ≤ m → WritesOnly medium at n (inner_of old) (inner_of new) →
+      WritesOnly (over medium) at m old new
   writes_below at n m old new le writes = record {
     long = writes.long;
     stays = writes.stays;

@@ -7,7 +7,7 @@ use Rattle.vm_file.specs.declared.directory.Directory.{Directory}
 use Rattle.vm_file.specs.declared.error.CommitError.TheVariants.{Disk}
 use Rattle.vm_file.specs.Committing.{FindsOneOf, FindsOr, KeepsAfter, MayHaveWritten, Spells, current_after, image_after, saved_after}
 use Rattle.vm_file.specs.Contents.{Pair, pair_in}
-use Rattle.vm_file.specs.Device.{AfterWrite, Passes, Touched}
+use Rattle.vm_file.specs.Device.{AfterWrite, Medium, Passes, Touched}
 use Rattle.vm_file.specs.Kept.{SureOf, UnsureBetween, kept_of, or_empty, other_pair}
 use Rattle.vm_file.specs.Outcomes.{ReadsOnly}
 use Rattle.vm_file.specs.Reading.{area_of, base_of, found, pair_at}
@@ -18,21 +18,21 @@ use Rattle.vm_file.proofs.Moments.{weaker, at_any_moment}
 use Rattle.vm_file.proofs.StopLaws.{finds}
 use Rattle.vm_file.proofs.Touches.{touched_more, touched_not}
 
-module _ {D : Type 0} (image : D → List ℕ) (honest : D → Type 0) (may_leave : D → List ℕ → Type 0) (f old : FileState D) (same : f ≡ old) (sound : IsSound image honest may_leave f) where
+module _ {D : Type 0} (medium : Medium D) (f old : FileState D) (same : f ≡ old) (sound : IsSound medium f) where
   -- what a stop before a call leaves
-  pub finds_before : honest old.device → (c : List ℕ) → may_leave old.device c → Finds image old c
-  finds_before = (let G : FileState D → Type 0 = λ g. honest g.device → (c : List ℕ) → may_leave g.device c → Finds image g c in subst G same (λ h c l. finds image may_leave f (sound.holds h) c l))
+  pub finds_before : medium.honest old.device → (c : List ℕ) → medium.may_leave old.device c → Finds medium.image old c
+  finds_before = (let G : FileState D → Type 0 = λ g. medium.honest g.device → (c : List ℕ) → medium.may_leave g.device c → Finds medium.image g c in subst G same (λ h c l. finds medium f (sound.holds h) c l))
 
   -- and one during and after calls that only read
-  module _ (left : D → D → List ℕ → Type 0) (new : D) (reads : ReadsOnly image honest may_leave left f.device new) where
-    pub finds_during : honest old.device → Passes left old.device new (Finds image old)
-    finds_during = subst (λ (g : FileState D). honest g.device → Passes left g.device new (Finds image g)) same (λ h. weaker left f.device new _ _ (finds image may_leave f (sound.holds h)) (reads.time h))
+  module _ (new : D) (reads : ReadsOnly medium f.device new) where
+    pub finds_during : medium.honest old.device → Passes medium.may_have_left old.device new (Finds medium.image old)
+    finds_during = subst (λ (g : FileState D). medium.honest g.device → Passes medium.may_have_left g.device new (Finds medium.image g)) same (λ h. weaker medium.may_have_left f.device new _ _ (finds medium f (sound.holds h)) (reads.time h))
 
-    pub finds_after : honest old.device → (c : List ℕ) → may_leave new c → Finds image old c
-    finds_after = subst (λ (g : FileState D). honest g.device → (c : List ℕ) → may_leave new c → Finds image g c) same (λ h c l. finds image may_leave f (sound.holds h) c (reads.stop h c l))
+    pub finds_after : medium.honest old.device → (c : List ℕ) → medium.may_leave new c → Finds medium.image old c
+    finds_after = subst (λ (g : FileState D). medium.honest g.device → (c : List ℕ) → medium.may_leave new c → Finds medium.image g c) same (λ h c l. finds medium f (sound.holds h) c (reads.stop h c l))
 
-    pub finds_at_stop : ((c : List ℕ) → left old.device old.device c → may_leave old.device c) → honest old.device → (c : List ℕ) → left old.device new c → Finds image old c
-    finds_at_stop at_once h = at_any_moment left old.device new _ (finds_during h) (λ c l. finds_before h c (at_once c l))
+    pub finds_at_stop : ((c : List ℕ) → medium.may_have_left old.device old.device c → medium.may_leave old.device c) → medium.honest old.device → (c : List ℕ) → medium.may_have_left old.device new c → Finds medium.image old c
+    finds_at_stop at_once h = at_any_moment medium.may_have_left old.device new _ (finds_during h) (λ c l. finds_before h c (at_once c l))
 
 -- cut from its bytes, where the saved directory is the same
 pub cut_is : (how : How) (cur saved mid : Directory) (q : Pair) (bytes : List ℕ) → mid ≡ saved → Spells (current_after how cur saved) (saved_after how cur saved) q bytes →

@@ -1,6 +1,7 @@
 -- What is cut from the bytes of an area is what is listed.
 use Rattle.std.proofs.Common.{◌≡◌, ◌∙◌, ℕ, ◌+◌, ◌≤◌, List, [], ◌∷◌, length, drop, map, refl, ap, arith, length-drop, length-take}
 use Rattle.lmem_raw.specs.Bytes.{part}
+use Rattle.vm_file.specs.Device.{Medium}
 use Rattle.vm_file.specs.declared.directory.Directory.{Directory}
 use Rattle.vm_file.specs.declared.directory.Entry.{Entry}
 use Rattle.vm_file.specs.Contents.{blocks_in, contents_in, entry_of, listed}
@@ -23,11 +24,11 @@ listed_in d bytes fits =
     (entries_in d.entries.items (drop 2 bytes) (omega (arith, fits, length-drop 2 bytes)))
 
 -- a file lists the pair that it keeps, on any device
-pub pair_listed : {D : Type 0} (image : D → List ℕ) (honest : D → Type 0) (may_leave : D → List ℕ → Type 0) (f : FileState D) → IsSound image honest may_leave f →
-    (listed (pair_of image f).cur ≡ f.current) × (listed (pair_of image f).saved ≡ f.saved)
-pair_listed image honest may_leave f sound =
-    let bytes = area_of (image f.device) f.area f.second in let n = directory_length f.current in
+pub pair_listed : {D : Type 0} (medium : Medium D) (f : FileState D) → IsSound medium f →
+    (listed (pair_of medium.image f).cur ≡ f.current) × (listed (pair_of medium.image f).saved ≡ f.saved)
+pair_listed medium f sound =
+    let bytes = area_of (medium.image f.device) f.area f.second in let n = directory_length f.current in
     let fits = sound.fits in let within = sound.within in
-    let long = length-take f.area (drop (base_of f.area f.second) (image f.device)) in
-    let enough : n + directory_length f.saved ≤ length bytes = omega (arith, long, fits, within, length-drop (base_of f.area f.second) (image f.device)) in
+    let long = length-take f.area (drop (base_of f.area f.second) (medium.image f.device)) in
+    let enough : n + directory_length f.saved ≤ length bytes = omega (arith, long, fits, within, length-drop (base_of f.area f.second) (medium.image f.device)) in
     (listed_in f.current bytes (omega (arith, enough)), listed_in f.saved (drop n bytes) (omega (arith, enough, length-drop n bytes)))

@@ -1,6 +1,6 @@
 -- How a run of device calls goes on, and what a stop at some moment of it leaves.
 use Rattle.std.proofs.Common.{inl, inr, ⊎_elim, ℕ, List, refl, ◌∙◌}
-use Rattle.vm_file.specs.Device.{Passes}
+use Rattle.vm_file.specs.Device.{Medium, Passes}
 use Rattle.vm_file.specs.Outcomes.{ReadsOnly}
 
 module _ {D : Type 0} (left : D → D → List ℕ → Type 0) where
@@ -15,12 +15,12 @@ module _ {D : Type 0} (left : D → D → List ℕ → Type 0) where
   at_any_moment old new P passes here c between = ⊎_elim (here c) (λ now. now) (passes old c between)
 
 -- a call that makes none of the device, and calls that read one after the other
-pub reads_none : {D : Type 0} (image : D → List ℕ) (honest : D → Type 0) (may_leave : D → List ℕ → Type 0) (left : D → D → List ℕ → Type 0) (a : D) → ReadsOnly image honest may_leave left a a
-reads_none image honest may_leave left a = record { same = refl; stays = (λ h. h); was = (λ h. h); stop = (λ h x l. l); time = (λ h d x l. inl l) }
+pub reads_none : {D : Type 0} (medium : Medium D) (a : D) → ReadsOnly medium a a
+reads_none medium a = record { same = refl; stays = (λ h. h); was = (λ h. h); stop = (λ h x l. l); time = (λ h d x l. inl l) }
 
-pub reads_then : {D : Type 0} (image : D → List ℕ) (honest : D → Type 0) (may_leave : D → List ℕ → Type 0) (left : D → D → List ℕ → Type 0) (a b c : D) →
-    ReadsOnly image honest may_leave left a b → ReadsOnly image honest may_leave left b c → ReadsOnly image honest may_leave left a c
-reads_then image honest may_leave left a b c r s = record {
+pub reads_then : {D : Type 0} (medium : Medium D) (a b c : D) →
+    ReadsOnly medium a b → ReadsOnly medium b c → ReadsOnly medium a c
+reads_then medium a b c r s = record {
   same = s.same ∙ r.same;
   stays = (λ h. s.stays (r.stays h));
   was = (λ h. r.was (s.was h));

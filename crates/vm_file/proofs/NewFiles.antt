@@ -5,7 +5,7 @@ use Rattle.lmem_raw.specs.Bytes.{part, with_part}
 use Rattle.lmem_raw.proofs.Parts.{with_part-split, length-with_part}
 use Rattle.geos_model.specs.Bytes.{word}
 use Rattle.vm_file.specs.Contents.{listed, pair_spelling}
-use Rattle.vm_file.specs.Device.{Only, Touched}
+use Rattle.vm_file.specs.Device.{Medium, Only, Touched}
 use Rattle.vm_file.specs.Reading.{header_at, pair_at, file_at, is_area, File}
 use Rattle.vm_file.specs.Spelling.{header_spelling, new_file, empty_contents, empty_pair}
 use Rattle.vm_file.specs.State.{FileState, IsSound}
@@ -49,15 +49,15 @@ new_parts image area legal room =
       pair = ap (pair_at 1024) area_is ∙ pair_again empty_pair 1024 (take (area - 16) rest) refl refl;
     }
 
-module _ {D : Type 0} (image : D → List ℕ) (honest : D → Type 0) (may_leave : D → List ℕ → Type 0) (old new : D) (area : ℕ) (legal : is_area area ≡ true) (room : 1024 + 2 * area ≤ length (image old)) where
+module _ {D : Type 0} (medium : Medium D) (old new : D) (area : ℕ) (legal : is_area area ≡ true) (room : 1024 + 2 * area ≤ length (medium.image old)) where
   -- a file that was made
   abbrev pub made : FileState D
   made = record { device = new; area = area; second = false; sure = true; current = listed empty_contents; saved = listed empty_contents }
 
-  pub made_found : image new ≡ with_part (image old) 0 (new_file area) → file_at (image new) ≡ Ok (let f : File = record { area = area; second = false; pair = empty_pair } in f)
-  made_found is = ap file_at is ∙ file_from (with_part (image old) 0 (new_file area)) _ (new_parts (image old) area legal room)
+  pub made_found : medium.image new ≡ with_part (medium.image old) 0 (new_file area) → file_at (medium.image new) ≡ Ok (let f : File = record { area = area; second = false; pair = empty_pair } in f)
+  made_found is = ap file_at is ∙ file_from (with_part (medium.image old) 0 (new_file area)) _ (new_parts (medium.image old) area legal room)
 
-  pub made_sound : (honest new → honest old) → length (image new) ≡ length (image old) → (honest old → image new ≡ with_part (image old) 0 (new_file area)) → (honest old → Only (image new) (may_leave new)) → IsSound image honest may_leave made
+  pub made_sound : (medium.honest new → medium.honest old) → length (medium.image new) ≡ length (medium.image old) → (medium.honest old → medium.image new ≡ with_part (medium.image old) 0 (new_file area)) → (medium.honest old → Only (medium.image new) (medium.may_leave new)) → IsSound medium made
   made_sound was long bytes durable =
       let l1 = both _ _ legal in let l2 = both _ _ l1.0 in let least = leb-le 512 area l2.0 in
       record {
@@ -68,11 +68,11 @@ module _ {D : Type 0} (image : D → List ℕ) (honest : D → Type 0) (may_leav
         within = omega (arith, long, room, least);
         holds = (λ h.
             let P : List ℕ → Type 0 = λ x. FileParts x (let f : File = record { area = area; second = false; pair = empty_pair } in f) in
-            let parts = subst P (sym (bytes (was h))) (new_parts (image old) area legal room) in
+            let parts = subst P (sym (bytes (was h))) (new_parts (medium.image old) area legal room) in
             record {
               long = parts.long;
               header = parts.header;
               pair = parts.pair;
-              leaves = (parts.selector, (λ c l. subst (Touched (1024 + area) area (image new)) (sym (durable (was h) c l)) (touched_not _ _ (image new))));
+              leaves = (parts.selector, (λ c l. subst (Touched (1024 + area) area (medium.image new)) (sym (durable (was h) c l)) (touched_not _ _ (medium.image new))));
             });
       }

@@ -8,6 +8,7 @@ use borrow.Author.Tests.{ltb-true}
 use Rattle.lmem_raw.specs.Bytes.{part}
 use Rattle.geos_model.specs.Block.{handle_word}
 use Rattle.geos_model.specs.Heap.{IsHeap, is_block_size}
+use Rattle.vm_file.specs.Device.{Medium}
 use Rattle.vm_file.specs.declared.directory.Entry.{Entry}
 use Rattle.vm_file.specs.declared.directory.Directory.{Directory}
 use Rattle.vm_file.specs.Committing.{block_from, contents_from, contents_read, IsThere, MayCommit}
@@ -71,51 +72,51 @@ own_from (e ∷ es) last xs h =
     ap (λ t. let y : Block = record { h = x.h; uid = x.uid; bytes = cond t b.bytes (bytes_of_block rest x.h) } in y) (ne_eqb e.h x.h (λ q. omega (arith, higher, q)))) in
     ap (λ y. y ∷ map (block_from nothing (b ∷ rest)) es) here ∙ ap (λ ys. b ∷ ys) (behind ∙ own_from es e.h (drop (6 + e.len) xs) s.1)
 
-module _ {D : Type 0} (image : D → List ℕ) (honest : D → Type 0) (may_leave : D → List ℕ → Type 0) (f : FileState D) (sound : IsSound image honest may_leave f) where
+module _ {D : Type 0} (medium : Medium D) (f : FileState D) (sound : IsSound medium f) where
   -- a block that is not resident is read from where the current directory has it
   module _ (resident : ℕ → Option (List ℕ)) (cur : Directory) (may : MayCommit resident f.current cur) where
     pub current_contents : (at : ℕ) → at ≡ base_of f.area f.second + 2 →
-        contents_read resident (image f.device) at f.current.entries.items cur ≡ contents_from resident (pair_of image f).cur.blocks cur
+        contents_read resident (medium.image f.device) at f.current.entries.items cur ≡ contents_from resident (pair_of medium.image f).cur.blocks cur
     current_contents at is =
         ap (λ bs. let c : Contents = record { blocks = bs; map_block = cur.map_block; map_item = cur.map_item } in c)
         (all_map _ _ cur.entries.items (λ k d l. by (get_or cur.entries.items k d) (resident (get_or cur.entries.items k d).h) (may.there k d l)))
       where
         by : (e : Entry) (o : Option (List ℕ)) → MatchOption o (HasBlock f.current e.h e.len) (λ bytes. IsHeap bytes × (handle_word bytes ≡ e.h) × (length bytes ≡ e.len)) →
-            (let b : Block = record { h = e.h; uid = e.uid; bytes = unwrap_or o (part (image f.device) (at + place_in f.current.entries.items e.h) e.len) } in b)
-            ≡ (let b : Block = record { h = e.h; uid = e.uid; bytes = unwrap_or o (bytes_of_block (pair_of image f).cur.blocks e.h) } in b)
+            (let b : Block = record { h = e.h; uid = e.uid; bytes = unwrap_or o (part (medium.image f.device) (at + place_in f.current.entries.items e.h) e.len) } in b)
+            ≡ (let b : Block = record { h = e.h; uid = e.uid; bytes = unwrap_or o (bytes_of_block (pair_of medium.image f).cur.blocks e.h) } in b)
         by e (Some bytes) h = refl
         by e None has =
             ap (λ x. let b : Block = record { h = e.h; uid = e.uid; bytes = x } in b)
-            (current_there image honest may_leave f sound e.h e.len (at + place_in f.current.entries.items e.h) has (ap (λ k. k + place_in f.current.entries.items e.h) is))
+            (current_there medium f sound e.h e.len (at + place_in f.current.entries.items e.h) has (ap (λ k. k + place_in f.current.entries.items e.h) is))
 
     -- each block is a heap of its entry's length
-    each : honest f.device → (e : Entry) (o : Option (List ℕ)) → MatchOption o (HasBlock f.current e.h e.len) (λ bytes. IsHeap bytes × (handle_word bytes ≡ e.h) × (length bytes ≡ e.len)) →
-        (let b : Block = record { h = e.h; uid = e.uid; bytes = unwrap_or o (bytes_of_block (pair_of image f).cur.blocks e.h) } in
+    each : medium.honest f.device → (e : Entry) (o : Option (List ℕ)) → MatchOption o (HasBlock f.current e.h e.len) (λ bytes. IsHeap bytes × (handle_word bytes ≡ e.h) × (length bytes ≡ e.len)) →
+        (let b : Block = record { h = e.h; uid = e.uid; bytes = unwrap_or o (bytes_of_block (pair_of medium.image f).cur.blocks e.h) } in
         (entry_of b ≡ e) × (is_filled b ≡ true))
     each good e (Some bytes) h = (ap (λ n. let x : Entry = record { h = e.h; uid = e.uid; len = n } in x) h.2, and-true _ _ (heap-complete bytes h.0) (eq-eqb _ _ h.1))
     each good e None has =
         let at = base_of f.area f.second + 2 + place_in f.current.entries.items e.h in
-        let there = current_there image honest may_leave f sound e.h e.len at has refl in
-        let heap = current_heap image honest may_leave f sound e.h e.len good has in
+        let there = current_there medium f sound e.h e.len at has refl in
+        let heap = current_heap medium f sound e.h e.len good has in
         let place = block_there f.current.entries.items [] e.h e.len has in let within = sound.within in
-        let long : length (part (image f.device) at e.len) ≡ e.len = length-take e.len (drop at (image f.device)) ∙ omega (arith, length-drop at (image f.device), place.1, within) in
+        let long : length (part (medium.image f.device) at e.len) ≡ e.len = length-take e.len (drop at (medium.image f.device)) ∙ omega (arith, length-drop at (medium.image f.device), place.1, within) in
         (ap (λ n. let x : Entry = record { h = e.h; uid = e.uid; len = n } in x) (ap length (sym there) ∙ long), and-true _ _ (heap-complete _ heap.0) (eq-eqb _ _ heap.1))
 
-    pub from_listed : honest f.device → listed (contents_from resident (pair_of image f).cur.blocks cur) ≡ cur
+    pub from_listed : medium.honest f.device → listed (contents_from resident (pair_of medium.image f).cur.blocks cur) ≡ cur
     from_listed good =
         ap (λ es. let d : Directory = record { entries = record { items = es }; map_block = cur.map_block; map_item = cur.map_item } in d)
-        (all_listed (block_from resident (pair_of image f).cur.blocks) cur.entries.items (λ k d l. (each good (get_or cur.entries.items k d) (resident (get_or cur.entries.items k d).h) (may.there k d l)).0))
+        (all_listed (block_from resident (pair_of medium.image f).cur.blocks) cur.entries.items (λ k d l. (each good (get_or cur.entries.items k d) (resident (get_or cur.entries.items k d).h) (may.there k d l)).0))
 
-    pub from_filled : honest f.device → list_all is_filled (contents_from resident (pair_of image f).cur.blocks cur).blocks ≡ true
-    from_filled good = all_filled (block_from resident (pair_of image f).cur.blocks) cur.entries.items (λ k d l. (each good (get_or cur.entries.items k d) (resident (get_or cur.entries.items k d).h) (may.there k d l)).1)
+    pub from_filled : medium.honest f.device → list_all is_filled (contents_from resident (pair_of medium.image f).cur.blocks cur).blocks ≡ true
+    from_filled good = all_filled (block_from resident (pair_of medium.image f).cur.blocks) cur.entries.items (λ k d l. (each good (get_or cur.entries.items k d) (resident (get_or cur.entries.items k d).h) (may.there k d l)).1)
 
-    pub from_legal : honest f.device → is_contents (contents_from resident (pair_of image f).cur.blocks cur) ≡ true
+    pub from_legal : medium.honest f.device → is_contents (contents_from resident (pair_of medium.image f).cur.blocks cur) ≡ true
     from_legal good = and-true _ _ (ap is_directory (from_listed good) ∙ may.legal) (from_filled good)
 
   -- the saved directory is read from where it stands
-  pub saved_contents : (at : ℕ) → at ≡ base_of f.area f.second + directory_length f.current + 2 → contents_read nothing (image f.device) at f.saved.entries.items f.saved ≡ (pair_of image f).saved
+  pub saved_contents : (at : ℕ) → at ≡ base_of f.area f.second + directory_length f.current + 2 → contents_read nothing (medium.image f.device) at f.saved.entries.items f.saved ≡ (pair_of medium.image f).saved
   saved_contents at is =
-      let es = f.saved.entries.items in let xs = drop 2 (drop (directory_length f.current) (area_of (image f.device) f.area f.second)) in
+      let es = f.saved.entries.items in let xs = drop 2 (drop (directory_length f.current) (area_of (medium.image f.device) f.area f.second)) in
       let d1 = both (are_entries 0 es && may_be_map_block es f.saved.map_block && may_be_map_group es f.saved.map_item.0) (may_be_map_item f.saved.map_item.0 f.saved.map_item.1) sound.saved in
       let d2 = both (are_entries 0 es && may_be_map_block es f.saved.map_block) (may_be_map_group es f.saved.map_item.0) d1.0 in
       let legal = (both (are_entries 0 es) (may_be_map_block es f.saved.map_block) d2.0).0 in
@@ -124,5 +125,5 @@ module _ {D : Type 0} (image : D → List ℕ) (honest : D → Type 0) (may_leav
       (all_map _ _ es (λ k d l.
       let e = get_or es k d in
       ap (λ x. let b : Block = record { h = e.h; uid = e.uid; bytes = x } in b)
-      (saved_there image honest may_leave f sound e.h e.len (at + place_in es e.h) (there k d l) (ap (λ n. n + place_in es e.h) is)))
+      (saved_there medium f sound e.h e.len (at + place_in es e.h) (there k d l) (ap (λ n. n + place_in es e.h) is)))
       ∙ own_from es 0 xs legal)

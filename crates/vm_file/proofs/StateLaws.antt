@@ -5,7 +5,7 @@ use Rattle.std.proofs.Math.Dec.{ltb}
 use borrow.Author.Tests.{ltb-true}
 use Rattle.vm_file.specs.declared.opened.Opened.{Opened}
 use Rattle.vm_file.specs.Contents.{Pair, pair_in}
-use Rattle.vm_file.specs.Device.{Touched, Only}
+use Rattle.vm_file.specs.Device.{Medium, Only, Touched}
 use Rattle.vm_file.specs.Outcomes.{ReadsOnly}
 use Rattle.vm_file.specs.Opening.{IsOpened, listed_file}
 use Rattle.vm_file.specs.Reading.{◌>>=◌, header_at, selector_at, pair_at, file_at, File, is_second, base_of, area_of}
@@ -56,17 +56,17 @@ opened_is image o read = by (file_at image) refl read
         is ∙ ap (λ p. let x : File = record { area = f.area; second = f.second; pair = p } in let r : Result File ℕ = Ok x in r) (sym legal.there)
         ∙ ap (λ (y : Opened). let x : File = record { area = y.area; second = y.second; pair = pair_in y.current y.saved (area_of image y.area y.second) } in let r : Result File ℕ = Ok x in r) h
 
-module _ {D : Type 0} (image : D → List ℕ) (honest : D → Type 0) (may_leave : D → List ℕ → Type 0) (left : D → D → List ℕ → Type 0) where
+module _ {D : Type 0} (medium : Medium D) where
   -- a file that was opened
   abbrev pub opened : D → Opened → FileState D
   opened d o = record { device = d; area = o.area; second = o.second; sure = true; current = o.current; saved = o.saved }
 
-  pub opens : (old new : D) (o : Opened) → image new ≡ image old → IsOkAnd (file_at (image old)) (λ y. listed_file y ≡ o) → file_at (image old) ≡ Ok (file_of image (opened new o))
+  pub opens : (old new : D) (o : Opened) → medium.image new ≡ medium.image old → IsOkAnd (file_at (medium.image old)) (λ y. listed_file y ≡ o) → file_at (medium.image old) ≡ Ok (file_of medium.image (opened new o))
   opens old new o same read =
-      opened_is (image old) o read ∙ ap (λ xs. let x : File = record { area = o.area; second = o.second; pair = pair_in o.current o.saved (area_of xs o.area o.second) } in let r : Result File ℕ = Ok x in r) (sym same)
+      opened_is (medium.image old) o read ∙ ap (λ xs. let x : File = record { area = o.area; second = o.second; pair = pair_in o.current o.saved (area_of xs o.area o.second) } in let r : Result File ℕ = Ok x in r) (sym same)
 
-  pub opens_sound : (old new : D) (o : Opened) → ReadsOnly image honest may_leave left old new → (honest old → IsOkAnd (file_at (image old)) (λ y. listed_file y ≡ o)) → IsOpened o (length (image old)) →
-      (honest old → Only (image new) (may_leave new)) → IsSound image honest may_leave (opened new o)
+  pub opens_sound : (old new : D) (o : Opened) → ReadsOnly medium old new → (medium.honest old → IsOkAnd (file_at (medium.image old)) (λ y. listed_file y ≡ o)) → IsOpened o (length (medium.image old)) →
+      (medium.honest old → Only (medium.image new) (medium.may_leave new)) → IsSound medium (opened new o)
   opens_sound old new o reads read legal durable = record {
     area = legal.area;
     current = legal.current;
@@ -76,34 +76,34 @@ module _ {D : Type 0} (image : D → List ℕ) (honest : D → Type 0) (may_leav
     holds = (λ h.
         let was = reads.was h in
         let is = ap file_at reads.same ∙ opens old new o reads.same (read was) in
-        let parts = file_parts (image new) (file_of image (opened new o)) is in
+        let parts = file_parts (medium.image new) (file_of medium.image (opened new o)) is in
         record {
           long = parts.long;
           header = parts.header;
           pair = parts.pair;
-          leaves = (parts.selector, (λ c l. subst (Touched (base_of o.area (not o.second)) o.area (image new)) (sym (durable was c l)) (touched_not _ _ (image new))));
+          leaves = (parts.selector, (λ c l. subst (Touched (base_of o.area (not o.second)) o.area (medium.image new)) (sym (durable was c l)) (touched_not _ _ (medium.image new))));
         });
   }
 
   -- a file whose device was only read is sound
-  module _ (f : FileState D) (new : D) (sound : IsSound image honest may_leave f) (reads : ReadsOnly image honest may_leave left f.device new) where
+  module _ (f : FileState D) (new : D) (sound : IsSound medium f) (reads : ReadsOnly medium f.device new) where
     abbrev read_on : FileState D
     read_on = record { device = new; area = f.area; second = f.second; sure = f.sure; current = f.current; saved = f.saved }
 
-    read_leaves : honest f.device → Leaves image may_leave f → Leaves image may_leave read_on
+    read_leaves : medium.honest f.device → Leaves medium f → Leaves medium read_on
     read_leaves h = by f.sure
       where
-        by : (b : Bool) → MatchBool b ((is_second (get_or (image f.device) 512 0) ≡ f.second) × ((c : List ℕ) → may_leave f.device c → Touched (base_of f.area (not f.second)) f.area (image f.device) c))
-            (((q : Pair) × IsOther image f q) × ((c : List ℕ) → may_leave f.device c → Touched 512 1 (image f.device) c)) →
-            MatchBool b ((is_second (get_or (image new) 512 0) ≡ f.second) × ((c : List ℕ) → may_leave new c → Touched (base_of f.area (not f.second)) f.area (image new) c))
-            (((q : Pair) × IsOther image read_on q) × ((c : List ℕ) → may_leave new c → Touched 512 1 (image new) c))
+        by : (b : Bool) → MatchBool b ((is_second (get_or (medium.image f.device) 512 0) ≡ f.second) × ((c : List ℕ) → medium.may_leave f.device c → Touched (base_of f.area (not f.second)) f.area (medium.image f.device) c))
+            (((q : Pair) × IsOther medium.image f q) × ((c : List ℕ) → medium.may_leave f.device c → Touched 512 1 (medium.image f.device) c)) →
+            MatchBool b ((is_second (get_or (medium.image new) 512 0) ≡ f.second) × ((c : List ℕ) → medium.may_leave new c → Touched (base_of f.area (not f.second)) f.area (medium.image new) c))
+            (((q : Pair) × IsOther medium.image read_on q) × ((c : List ℕ) → medium.may_leave new c → Touched 512 1 (medium.image new) c))
         by true s = (ap (λ xs. is_second (get_or xs 512 0)) reads.same ∙ s.0, (λ c l. subst (λ xs. Touched (base_of f.area (not f.second)) f.area xs c) (sym reads.same) (s.1 c (reads.stop h c l))))
         by false s = (
           (s.0.0, ap (λ xs. pair_at (base_of f.area (not f.second)) (area_of xs f.area (not f.second))) reads.same ∙ s.0.1),
           (λ c l. subst (λ xs. Touched 512 1 xs c) (sym reads.same) (s.1 c (reads.stop h c l))),
         )
 
-    pub read_sound : IsSound image honest may_leave read_on
+    pub read_sound : IsSound medium read_on
     read_sound = record {
       area = sound.area;
       current = sound.current;

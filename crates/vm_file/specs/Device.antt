@@ -1,6 +1,19 @@
 -- What the calls of a device may leave.
 use Rattle.std.specs.Prelude.{◌≡◌, ◌⊎◌, ℕ, ◌+◌, ◌-◌, ◌^◌, ◌<◌, min, List, length, take, drop, Result, OnOk, OnErr}
 
+-- what reads of a device give at a state of it, and what a stop leaves of it: an image, a list of bytes
+pub record Medium (D : Type 0) : Type 1 where
+  -- the bytes that reads give
+  pub image : D → List ℕ
+  -- it returns what was last written to it, all its life
+  pub honest : D → Type 0
+  -- how often it has failed
+  pub failed : D → ℕ
+  -- a stop now may leave this image
+  pub may_leave : D → List ℕ → Type 0
+  -- a stop at some moment from the first state to the second may have left this image
+  pub may_have_left : D → D → List ℕ → Type 0
+
 -- the new image is the old one outside the n bytes from an offset on
 pub record Touched (at n : ℕ) (old new : List ℕ) : Type 0 where
   pub long : length new ≡ length old

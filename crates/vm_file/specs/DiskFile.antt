@@ -1,5 +1,6 @@
 -- What a device on a file of the system is known to hold. No contract can say what such a file gives, so it claims nothing of its bytes.
 use Rattle.std.specs.Prelude.{ℕ, Bool, List, replicate}
+use Rattle.vm_file.specs.Device.{Medium}
 use Rattle.vm_file.specs.declared.disk_file.FileDevice.{FileDevice}
 
 -- its length in bytes
@@ -29,3 +30,7 @@ MayLeave device image = Unit {0}
 -- also one within a call
 abbrev pub MayHaveLeft : FileDevice → FileDevice → List ℕ → Type 0
 MayHaveLeft start device image = Unit {0}
+
+-- such a device
+abbrev pub medium : Medium FileDevice
+medium = record { image = bytes_of; honest = IsHonest; failed = failures_of; may_leave = MayLeave; may_have_left = MayHaveLeft }

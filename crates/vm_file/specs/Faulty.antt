@@ -1,7 +1,7 @@
 -- What a device whose calls fail on order holds.
 use Rattle.std.specs.Prelude.{◌≡◌, ◌⊎◌, ℕ, ◌/◌, Bool, not, ◌&&◌, ◌||◌, ◌==◌, nat_lt, List, length, take, Result, OnOk}
 use Rattle.lmem_raw.specs.Bytes.{with_part}
-use Rattle.vm_file.specs.Device.{Counts, Touched, one_more}
+use Rattle.vm_file.specs.Device.{Counts, Medium, Touched, all_failures, one_more}
 use Rattle.vm_file.specs.declared.faulty.FaultDevice.{FaultDevice}
 
 -- the device below
@@ -32,6 +32,16 @@ is_due number call rest = not (call == 0) && (number == call || (rest && nat_lt 
 abbrev pub is_next_due : {D : Type 0} → FaultDevice D → Bool
 is_next_due device = is_due (one_more (calls_of device)) (call_of device) (rest_of device)
 
+-- a device over this one
+abbrev pub over : {D : Type 0} → Medium D → Medium (FaultDevice D)
+over medium = record {
+  image = λ device. medium.image (inner_of device);
+  honest = λ device. medium.honest (inner_of device);
+  failed = λ device. all_failures (medium.failed (inner_of device)) (own_of device);
+  may_leave = λ device. medium.may_leave (inner_of device);
+  may_have_left = λ start device. medium.may_have_left (inner_of start) (inner_of device);
+}
+
 -- a call was counted, and what is to fail stays
 pub record CountsCall {D : Type 0} (old new : FaultDevice D) : Type 0 where
   pub calls : calls_of new ≡ one_more (calls_of old)
@@ -50,18 +60,18 @@ pub record FailsAlone {D T E : Type 0} (old new : FaultDevice D) (result : Resul
   pub own : own_of new ≡ one_more (own_of old)
 
 -- the first half of these bytes, rounded down, was written below
-pub record HalfWritten {D : Type 0} (image : D → List ℕ) (honest : D → Type 0) (failed : D → ℕ) (at : ℕ) (bytes : List ℕ) (old new : FaultDevice D) : Type 0 where
-  pub written : honest (inner_of old) → image (inner_of new) ≡ with_part (image (inner_of old)) at (take (length bytes / 2) bytes)
-  pub count : failed (inner_of new) ≡ failed (inner_of old)
+pub record HalfWritten {D : Type 0} (medium : Medium D) (at : ℕ) (bytes : List ℕ) (old new : FaultDevice D) : Type 0 where
+  pub written : medium.honest (inner_of old) → medium.image (inner_of new) ≡ with_part (medium.image (inner_of old)) at (take (length bytes / 2) bytes)
+  pub count : medium.failed (inner_of new) ≡ medium.failed (inner_of old)
   pub own : own_of new ≡ one_more (own_of old)
 
 -- the device below failed when they were to be written: that counts once
-pub record HalfFailed {D : Type 0} (image : D → List ℕ) (honest : D → Type 0) (failed : D → ℕ) (at : ℕ) (bytes : List ℕ) (old new : FaultDevice D) : Type 0 where
-  pub torn : honest (inner_of old) → Touched at (length bytes / 2) (image (inner_of old)) (image (inner_of new))
-  pub count : failed (inner_of new) ≡ one_more (failed (inner_of old))
+pub record HalfFailed {D : Type 0} (medium : Medium D) (at : ℕ) (bytes : List ℕ) (old new : FaultDevice D) : Type 0 where
+  pub torn : medium.honest (inner_of old) → Touched at (length bytes / 2) (medium.image (inner_of old)) (medium.image (inner_of new))
+  pub count : medium.failed (inner_of new) ≡ one_more (medium.failed (inner_of old))
   pub own : own_of new ≡ own_of old
 
 -- a write failed on order
-pub record FailsHalf {D T E : Type 0} (image : D → List ℕ) (honest : D → Type 0) (failed : D → ℕ) (at : ℕ) (bytes : List ℕ) (old new : FaultDevice D) (result : Result T E) : Type 0 where
+pub record FailsHalf {D T E : Type 0} (medium : Medium D) (at : ℕ) (bytes : List ℕ) (old new : FaultDevice D) (result : Result T E) : Type 0 where
   pub fails : OnOk result ⊥
-  pub half : HalfWritten image honest failed at bytes old new ⊎ HalfFailed image honest failed at bytes old new
+  pub half : HalfWritten medium at bytes old new ⊎ HalfFailed medium at bytes old new

@@ -1,5 +1,6 @@
 -- What a device in memory holds, and what a stop leaves of it.
 use Rattle.std.specs.Prelude.{◌≡◌, ◌⊎◌, ℕ, List}
+use Rattle.vm_file.specs.Device.{Medium}
 use Rattle.vm_file.specs.declared.memory.MemoryDevice.{MemoryDevice}
 
 -- its bytes
@@ -21,3 +22,7 @@ MayLeave device image = image ≡ bytes_of device
 -- a stop within a call leaves the bytes that stood before it, or those that stand after it
 abbrev pub MayHaveLeft : MemoryDevice → MemoryDevice → List ℕ → Type 0
 MayHaveLeft start device image = (image ≡ bytes_of start) ⊎ (image ≡ bytes_of device)
+
+-- such a device
+abbrev pub medium : Medium MemoryDevice
+medium = record { image = bytes_of; honest = IsHonest; failed = failures_of; may_leave = MayLeave; may_have_left = MayHaveLeft }

@@ -5,16 +5,15 @@ use Rattle.geos_model.specs.Block.{handle_word}
 use Rattle.geos_model.specs.Heap.{IsHeap}
 use Rattle.vm_file.specs.declared.error.OpenError.{OpenError}
 use Rattle.vm_file.specs.declared.error.OpenError.TheVariants.{BadFile, Disk, Memory}
-use Rattle.vm_file.specs.Device.{AfterWrite, Passes, Rose, Touched}
+use Rattle.vm_file.specs.Device.{AfterWrite, Medium, Passes, Rose, Touched}
 
 -- a device on which nothing was written: reads give the same, and a stop leaves nothing else
-pub record ReadsOnly {D : Type 0} (image : D → List ℕ) (honest : D → Type 0) (may_leave : D → List ℕ → Type 0)
-    (left : D → D → List ℕ → Type 0) (old new : D) : Type 0 where
-  pub same : image new ≡ image old
-  pub stays : honest old → honest new
-  pub was : honest new → honest old
-  pub stop : honest old → (c : List ℕ) → may_leave new c → may_leave old c
-  pub time : honest old → Passes left old new (may_leave old)
+pub record ReadsOnly {D : Type 0} (medium : Medium D) (old new : D) : Type 0 where
+  pub same : medium.image new ≡ medium.image old
+  pub stays : medium.honest old → medium.honest new
+  pub was : medium.honest new → medium.honest old
+  pub stop : medium.honest old → (c : List ℕ) → medium.may_leave new c → medium.may_leave old c
+  pub time : medium.honest old → Passes medium.may_have_left old new (medium.may_leave old)
 
 -- what was read, seen so, is what the call gave; its fault is the fault, and want of memory and of the device tell nothing
 abbrev pub Tells : {X Y : Type 0} → (Y → X) → Result X OpenError → Result Y ℕ → Type 0
@@ -52,14 +51,13 @@ IsCaused before now Disk = Rose before now
 IsCaused before now Memory = now ≡ before
 
 -- a device on which nothing was written but so many bytes from an offset on, which a stop may leave in part
-pub record WritesOnly {D : Type 0} (image : D → List ℕ) (honest : D → Type 0) (may_leave : D → List ℕ → Type 0)
-    (left : D → D → List ℕ → Type 0) (at n : ℕ) (old new : D) : Type 0 where
-  pub long : length (image new) ≡ length (image old)
-  pub stays : honest old → honest new
-  pub was : honest new → honest old
-  pub torn : honest old → Touched at n (image old) (image new)
-  pub stop : honest old → (c : List ℕ) → may_leave new c → AfterWrite at n (may_leave old) c
-  pub time : honest old → Passes left old new (AfterWrite at n (may_leave old))
+pub record WritesOnly {D : Type 0} (medium : Medium D) (at n : ℕ) (old new : D) : Type 0 where
+  pub long : length (medium.image new) ≡ length (medium.image old)
+  pub stays : medium.honest old → medium.honest new
+  pub was : medium.honest new → medium.honest old
+  pub torn : medium.honest old → Touched at n (medium.image old) (medium.image new)
+  pub stop : medium.honest old → (c : List ℕ) → medium.may_leave new c → AfterWrite at n (medium.may_leave old) c
+  pub time : medium.honest old → Passes medium.may_have_left old new (AfterWrite at n (medium.may_leave old))
 
 -- the bytes are a heap under this handle
 abbrev pub IsHeapUnder : ℕ → List ℕ → Type 0

@@ -3,7 +3,7 @@ use Rattle.std.specs.Prelude.{◌≡◌, ◌⊎◌, ℕ, ◌+◌, ◌≤◌, ◌
 use Rattle.vm_file.specs.declared.directory.Entry.{Entry}
 use Rattle.vm_file.specs.declared.directory.Directory.{Directory}
 use Rattle.vm_file.specs.Contents.{Block, Pair, listed, pair_in}
-use Rattle.vm_file.specs.Device.{Touched}
+use Rattle.vm_file.specs.Device.{Medium, Touched}
 use Rattle.vm_file.specs.Directories.{is_directory, directory_length}
 use Rattle.vm_file.specs.Reading.{File, header_at, pair_at, is_area, is_second, base_of, area_of, found}
 
@@ -40,27 +40,27 @@ Finds image f c = MatchBool f.sure
     ((found c ≡ Ok (pair_of image f)) ⊎ ((q : Pair) × IsOther image f q × (found c ≡ Ok q)))
 
 -- what a stop may leave: where it is sure what the device holds, any bytes in the other area alone; else any selector alone, the other area holding a pair too
-abbrev pub Leaves : {D : Type 0} → (D → List ℕ) → (D → List ℕ → Type 0) → FileState D → Type 0
-Leaves image may_leave f = MatchBool f.sure
-    ((is_second (slice_index (image f.device) 512) ≡ f.second)
-    × ((c : List ℕ) → may_leave f.device c → Touched (base_of f.area (not f.second)) f.area (image f.device) c))
-    (((q : Pair) × IsOther image f q) × ((c : List ℕ) → may_leave f.device c → Touched 512 1 (image f.device) c))
+abbrev pub Leaves : {D : Type 0} → Medium D → FileState D → Type 0
+Leaves medium f = MatchBool f.sure
+    ((is_second (slice_index (medium.image f.device) 512) ≡ f.second)
+    × ((c : List ℕ) → medium.may_leave f.device c → Touched (base_of f.area (not f.second)) f.area (medium.image f.device) c))
+    (((q : Pair) × IsOther medium.image f q) × ((c : List ℕ) → medium.may_leave f.device c → Touched 512 1 (medium.image f.device) c))
 
 -- an honest device holds the header and the pair, and what a stop may leave holds them too
-pub record Holds {D : Type 0} (image : D → List ℕ) (may_leave : D → List ℕ → Type 0) (f : FileState D) : Type 0 where
-  pub long : 512 < length (image f.device)
-  pub header : header_at (take 512 (image f.device)) ≡ Ok f.area
-  pub pair : pair_at (base_of f.area f.second) (area_of (image f.device) f.area f.second) ≡ Ok (pair_of image f)
-  pub leaves : Leaves image may_leave f
+pub record Holds {D : Type 0} (medium : Medium D) (f : FileState D) : Type 0 where
+  pub long : 512 < length (medium.image f.device)
+  pub header : header_at (take 512 (medium.image f.device)) ≡ Ok f.area
+  pub pair : pair_at (base_of f.area f.second) (area_of (medium.image f.device) f.area f.second) ≡ Ok (pair_of medium.image f)
+  pub leaves : Leaves medium f
 
 -- a legal area size and legal directories, which lie within the area and the device; and what an honest device holds
-pub record IsSound {D : Type 0} (image : D → List ℕ) (honest : D → Type 0) (may_leave : D → List ℕ → Type 0) (f : FileState D) : Type 0 where
+pub record IsSound {D : Type 0} (medium : Medium D) (f : FileState D) : Type 0 where
   pub area : is_area f.area ≡ true
   pub current : is_directory f.current ≡ true
   pub saved : is_directory f.saved ≡ true
   pub fits : directory_length f.current + directory_length f.saved ≤ f.area
-  pub within : base_of f.area f.second + (directory_length f.current + directory_length f.saved) ≤ length (image f.device)
-  pub holds : honest f.device → Holds image may_leave f
+  pub within : base_of f.area f.second + (directory_length f.current + directory_length f.saved) ≤ length (medium.image f.device)
+  pub holds : medium.honest f.device → Holds medium f
 
 -- a directory lists a block with this handle, of so many bytes
 abbrev pub HasBlock : Directory → ℕ → ℕ → Type 0

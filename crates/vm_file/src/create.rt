@@ -27,10 +27,10 @@ fn new_file(area: u32) -> [u8; 1040]
 
 /// Writes what a new file begins with, and makes it last.
 pub(crate) fn write_new<D: Device>(device: &mut D, area: u32) -> Result<(), Disk>
-    ensures bytes { D.honest device.old → OnOk result (D.image device.new ≡ with_part (D.image device.old) 0 (new_file area)) }
-    ensures writes { WritesOnly D.image D.honest D.may_leave D.may_have_left 0 1040 device.old device.new }
-    ensures durable { D.honest device.old → OnOk result (Only (D.image device.new) (D.may_leave device.new)) }
-    ensures cause { CausesDisk (D.failed device.old) (D.failed device.new) result }
+    ensures bytes { D.medium.honest device.old → OnOk result (D.medium.image device.new ≡ with_part (D.medium.image device.old) 0 (new_file area)) }
+    ensures writes { WritesOnly D.medium 0 1040 device.old device.new }
+    ensures durable { D.medium.honest device.old → OnOk result (Only (D.medium.image device.new) (D.medium.may_leave device.new)) }
+    ensures cause { CausesDisk (D.medium.failed device.old) (D.medium.failed device.new) result }
 {
     let bytes = new_file(area);
     write_durably(device, 0, &bytes)

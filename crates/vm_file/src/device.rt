@@ -2,7 +2,7 @@
 ghost use Rattle.std.specs.Prelude.{◌≡◌, ◌+◌, ◌≤◌, ℕ, List, length, OnOk};
 ghost use Rattle.geos_model.specs.Bytes.{AreBytes};
 ghost use Rattle.lmem_raw.specs.Bytes.{part, with_part};
-ghost use Rattle.vm_file.specs.Device.{Counts, FailedOnce, Only, one_more};
+ghost use Rattle.vm_file.specs.Device.{Counts, FailedOnce, Medium, Only, one_more};
 ghost use Rattle.vm_file.specs.Outcomes.{CausesDisk, ReadsOnly, WritesOnly};
 
 use thiserror::Error;
@@ -19,62 +19,51 @@ pub struct Disk;
 /// written to it. The others hold of every device. No device keeps a record of its calls: its
 /// clauses only say which images a stop can't leave.
 pub trait Device {
-    /// The bytes that reads give now.
-    ghost image: { Self → List ℕ };
-
-    /// It returns what was last written to it, all its life.
-    ghost honest: { Self → Type 0 };
-
-    /// How often it has failed.
-    ghost failed: { Self → ℕ };
-
-    /// A stop now may leave this image.
-    ghost may_leave: { Self → List ℕ → Type 0 };
-
-    /// A stop at some moment from the first state to the second may have left this image.
-    ghost may_have_left: { Self → Self → List ℕ → Type 0 };
+    /// The bytes that reads give, whether it is honest, how often it has failed, and what a stop
+    /// leaves of it.
+    ghost medium: { Medium Self };
 
     /// The length in bytes. So many numbers below 256 are what reads give.
     fn len(&self) -> u64
-        ensures length { result ≡ length (image self.now) }
-        ensures bytes { AreBytes (image self.now) };
+        ensures length { result ≡ length (medium.image self.now) }
+        ensures bytes { AreBytes (medium.image self.now) };
 
     /// How often a call has failed; at the greatest number it stays.
     fn failures(&self) -> u64
-        ensures { result ≡ failed self.now };
+        ensures { result ≡ medium.failed self.now };
 
     /// Reads the bytes from an offset on. `Disk` where the device fails, as it does past its
     /// length; what `into` holds then is not said.
     fn read_at(&mut self, at: u64, into: &mut [u8]) -> Result<(), Disk>
-        ensures within { OnOk result (at + length into.old ≤ length (image self.old)) }
-        ensures bytes { honest self.old → OnOk result (into.new ≡ part (image self.old) at (length into.old)) }
-        ensures reads { ReadsOnly image honest may_leave may_have_left self.old self.new }
-        ensures cause { Counts (failed self.old) (failed self.new) result };
+        ensures within { OnOk result (at + length into.old ≤ length (medium.image self.old)) }
+        ensures bytes { medium.honest self.old → OnOk result (into.new ≡ part (medium.image self.old) at (length into.old)) }
+        ensures reads { ReadsOnly medium self.old self.new }
+        ensures cause { Counts (medium.failed self.old) (medium.failed self.new) result };
 
     /// Writes bytes from an offset on. `Disk` where the device fails, as it does past its
     /// length: then any bytes may stand in that range, and the others stay. They last once a
     /// `sync` has succeeded; a stop before that may leave any bytes in the range.
     fn write_at(&mut self, at: u64, bytes: &[u8]) -> Result<(), Disk>
-        ensures within { OnOk result (at + length bytes.now ≤ length (image self.old)) }
-        ensures written { honest self.old → OnOk result (image self.new ≡ with_part (image self.old) at bytes.now) }
-        ensures writes { WritesOnly image honest may_leave may_have_left at (length bytes.now) self.old self.new }
-        ensures cause { Counts (failed self.old) (failed self.new) result };
+        ensures within { OnOk result (at + length bytes.now ≤ length (medium.image self.old)) }
+        ensures written { medium.honest self.old → OnOk result (medium.image self.new ≡ with_part (medium.image self.old) at bytes.now) }
+        ensures writes { WritesOnly medium at (length bytes.now) self.old self.new }
+        ensures cause { Counts (medium.failed self.old) (medium.failed self.new) result };
 
     /// Makes last what was written: after it a stop leaves what reads give. `Disk` where the
     /// device fails.
     fn sync(&mut self) -> Result<(), Disk>
-        ensures durable { honest self.old → OnOk result (Only (image self.new) (may_leave self.new)) }
-        ensures reads { ReadsOnly image honest may_leave may_have_left self.old self.new }
-        ensures cause { Counts (failed self.old) (failed self.new) result };
+        ensures durable { medium.honest self.old → OnOk result (Only (medium.image self.new) (medium.may_leave self.new)) }
+        ensures reads { ReadsOnly medium self.old self.new }
+        ensures cause { Counts (medium.failed self.old) (medium.failed self.new) result };
 
     /// What reads give is one of the images that a stop may leave.
-    ghost reads_now: { (d : Self) → may_leave d (image d) };
+    ghost reads_now: { (d : Self) → medium.may_leave d (medium.image d) };
 
     /// In no time a stop may leave what it may leave now.
-    ghost at_once: { (d : Self) (c : List ℕ) → may_have_left d d c → may_leave d c };
+    ghost at_once: { (d : Self) (c : List ℕ) → medium.may_have_left d d c → medium.may_leave d c };
 
     /// What a stop now may leave, a stop at some moment up to now may have left.
-    ghost by_now: { (s d : Self) (c : List ℕ) → may_leave d c → may_have_left s d c };
+    ghost by_now: { (s d : Self) (c : List ℕ) → medium.may_leave d c → medium.may_have_left s d c };
 }
 
 /// One failure more; at the greatest number the count stays.
@@ -86,12 +75,12 @@ pub(crate) fn count_failure(failures: &mut u64)
 
 /// Writes bytes from an offset on, and makes them last.
 pub(crate) fn write_durably<D: Device>(device: &mut D, at: u64, bytes: &[u8]) -> Result<(), Disk>
-    ensures within { OnOk result (at + length bytes.now ≤ length (D.image device.old)) }
-    ensures written { D.honest device.old → OnOk result (D.image device.new ≡ with_part (D.image device.old) at bytes.now) }
-    ensures durable { D.honest device.old → OnOk result (Only (D.image device.new) (D.may_leave device.new)) }
-    ensures writes { WritesOnly D.image D.honest D.may_leave D.may_have_left at (length bytes.now) device.old device.new }
-    ensures cause { CausesDisk (D.failed device.old) (D.failed device.new) result }
-    ensures once { FailedOnce (D.failed device.old) (D.failed device.new) }
+    ensures within { OnOk result (at + length bytes.now ≤ length (D.medium.image device.old)) }
+    ensures written { D.medium.honest device.old → OnOk result (D.medium.image device.new ≡ with_part (D.medium.image device.old) at bytes.now) }
+    ensures durable { D.medium.honest device.old → OnOk result (Only (D.medium.image device.new) (D.medium.may_leave device.new)) }
+    ensures writes { WritesOnly D.medium at (length bytes.now) device.old device.new }
+    ensures cause { CausesDisk (D.medium.failed device.old) (D.medium.failed device.new) result }
+    ensures once { FailedOnce (D.medium.failed device.old) (D.medium.failed device.new) }
 {
     match device.write_at(at, bytes) {
         Ok(()) => device.sync(),

@@ -141,17 +141,9 @@ fn counted(failures: &mut u64, outcome: io::Result<()>) -> Result<(), Disk>
 }
 
 impl Device for FileDevice {
-    ghost use Rattle.vm_file.specs.DiskFile.{IsHonest, MayHaveLeft, MayLeave, bytes_of, failures_of, len_of, may_lack};
+    ghost use Rattle.vm_file.specs.DiskFile.{bytes_of, failures_of, len_of, may_lack, medium};
 
-    ghost image = { bytes_of };
-
-    ghost honest = { IsHonest };
-
-    ghost failed = { failures_of };
-
-    ghost may_leave = { MayLeave };
-
-    ghost may_have_left = { MayHaveLeft };
+    ghost medium = { medium };
 
     fn len(&self) -> u64 {
         self.len
@@ -164,7 +156,7 @@ impl Device for FileDevice {
     /// Reads the bytes from an offset on. `Disk` past the length, and where the system refuses.
     fn read_at(&mut self, at: u64, into: &mut [u8]) -> Result<(), Disk>
         ensures within { OnOk result (at + length into.old ≤ length (bytes_of self.old)) }
-        ensures reads { ReadsOnly bytes_of IsHonest MayLeave MayHaveLeft self.old self.new }
+        ensures reads { ReadsOnly medium self.old self.new }
         ensures cause { Counts (failures_of self.old) (failures_of self.new) result }
         ensures may_lack { may_lack self.new ≡ may_lack self.old }
     {
@@ -178,7 +170,7 @@ impl Device for FileDevice {
     /// Writes bytes from an offset on. `Disk` past the length, and where the system refuses.
     fn write_at(&mut self, at: u64, bytes: &[u8]) -> Result<(), Disk>
         ensures within { OnOk result (at + length bytes.now ≤ length (bytes_of self.old)) }
-        ensures writes { WritesOnly bytes_of IsHonest MayLeave MayHaveLeft at (length bytes.now) self.old self.new }
+        ensures writes { WritesOnly medium at (length bytes.now) self.old self.new }
         ensures cause { Counts (failures_of self.old) (failures_of self.new) result }
         ensures written { OnOk result (may_lack self.new ≡ false) }
         ensures refused { OnErr result (may_lack self.new ≡ may_lack self.old) }
@@ -195,7 +187,7 @@ impl Device for FileDevice {
     /// Makes last what was written. `Disk` where the system refuses, and from then on until
     /// something is written.
     fn sync(&mut self) -> Result<(), Disk>
-        ensures reads { ReadsOnly bytes_of IsHonest MayLeave MayHaveLeft self.old self.new }
+        ensures reads { ReadsOnly medium self.old self.new }
         ensures cause { Counts (failures_of self.old) (failures_of self.new) result }
         ensures lacking { may_lack self.old ≡ true → OnOk result ⊥ }
         ensures synced { OnOk result (may_lack self.new ≡ false) }

@@ -72,17 +72,9 @@ fn is_due(calls: &mut u64, call: u64, rest: bool) -> bool
 }
 
 impl<D: Device + Drop> Device for FaultDevice<D> {
-    ghost use Rattle.vm_file.specs.Faulty.{CountsCall, FailsAlone, FailsHalf, PassesOn, inner_of, is_next_due, own_of};
+    ghost use Rattle.vm_file.specs.Faulty.{CountsCall, FailsAlone, FailsHalf, PassesOn, inner_of, is_next_due, over, own_of};
 
-    ghost image = { λ d. D.image (inner_of d) };
-
-    ghost honest = { λ d. D.honest (inner_of d) };
-
-    ghost failed = { λ d. all_failures (D.failed (inner_of d)) (own_of d) };
-
-    ghost may_leave = { λ d. D.may_leave (inner_of d) };
-
-    ghost may_have_left = { λ s d. D.may_have_left (inner_of s) (inner_of d) };
+    ghost medium = { over D.medium };
 
     fn len(&self) -> u64 {
         self.inner.len()
@@ -94,14 +86,13 @@ impl<D: Device + Drop> Device for FaultDevice<D> {
 
     /// Reads the bytes from an offset on, as the device below does; a call that fails on order gives nothing.
     fn read_at(&mut self, at: u64, into: &mut [u8]) -> Result<(), Disk>
-        ensures within { OnOk result (at + length into.old ≤ length (D.image (inner_of self.old))) }
-        ensures bytes { D.honest (inner_of self.old) → OnOk result (into.new ≡ part (D.image (inner_of self.old)) at (length into.old)) }
-        ensures reads { ReadsOnly (λ d. D.image (inner_of d)) (λ d. D.honest (inner_of d)) (λ d. D.may_leave (inner_of d))
-            (λ s d. D.may_have_left (inner_of s) (inner_of d)) self.old self.new }
-        ensures cause { Counts (all_failures (D.failed (inner_of self.old)) (own_of self.old)) (all_failures (D.failed (inner_of self.new)) (own_of self.new)) result }
+        ensures within { OnOk result (at + length into.old ≤ length (D.medium.image (inner_of self.old))) }
+        ensures bytes { D.medium.honest (inner_of self.old) → OnOk result (into.new ≡ part (D.medium.image (inner_of self.old)) at (length into.old)) }
+        ensures reads { ReadsOnly (over D.medium) self.old self.new }
+        ensures cause { Counts (all_failures (D.medium.failed (inner_of self.old)) (own_of self.old)) (all_failures (D.medium.failed (inner_of self.new)) (own_of self.new)) result }
         ensures counted { CountsCall self.old self.new }
         ensures due { is_next_due self.old ≡ true → FailsAlone self.old self.new result × (into.new ≡ into.old) }
-        ensures passed { is_next_due self.old ≡ false → PassesOn D.failed self.old self.new result }
+        ensures passed { is_next_due self.old ≡ false → PassesOn D.medium.failed self.old self.new result }
     {
         if is_due(&mut self.calls, self.call, self.rest) {
             count_failure(&mut self.own);
@@ -113,14 +104,13 @@ impl<D: Device + Drop> Device for FaultDevice<D> {
     /// Writes bytes from an offset on, as the device below does; a call that fails on order
     /// writes the first half of them, rounded down.
     fn write_at(&mut self, at: u64, bytes: &[u8]) -> Result<(), Disk>
-        ensures within { OnOk result (at + length bytes.now ≤ length (D.image (inner_of self.old))) }
-        ensures written { D.honest (inner_of self.old) → OnOk result (D.image (inner_of self.new) ≡ with_part (D.image (inner_of self.old)) at bytes.now) }
-        ensures writes { WritesOnly (λ d. D.image (inner_of d)) (λ d. D.honest (inner_of d)) (λ d. D.may_leave (inner_of d))
-            (λ s d. D.may_have_left (inner_of s) (inner_of d)) at (length bytes.now) self.old self.new }
-        ensures cause { Counts (all_failures (D.failed (inner_of self.old)) (own_of self.old)) (all_failures (D.failed (inner_of self.new)) (own_of self.new)) result }
+        ensures within { OnOk result (at + length bytes.now ≤ length (D.medium.image (inner_of self.old))) }
+        ensures written { D.medium.honest (inner_of self.old) → OnOk result (D.medium.image (inner_of self.new) ≡ with_part (D.medium.image (inner_of self.old)) at bytes.now) }
+        ensures writes { WritesOnly (over D.medium) at (length bytes.now) self.old self.new }
+        ensures cause { Counts (all_failures (D.medium.failed (inner_of self.old)) (own_of self.old)) (all_failures (D.medium.failed (inner_of self.new)) (own_of self.new)) result }
         ensures counted { CountsCall self.old self.new }
-        ensures due { is_next_due self.old ≡ true → FailsHalf D.image D.honest D.failed at bytes.now self.old self.new result }
-        ensures passed { is_next_due self.old ≡ false → PassesOn D.failed self.old self.new result }
+        ensures due { is_next_due self.old ≡ true → FailsHalf D.medium at bytes.now self.old self.new result }
+        ensures passed { is_next_due self.old ≡ false → PassesOn D.medium.failed self.old self.new result }
     {
         if is_due(&mut self.calls, self.call, self.rest) {
             let half = bytes.len() / 2;
@@ -136,13 +126,12 @@ impl<D: Device + Drop> Device for FaultDevice<D> {
     /// Makes last what was written, as the device below does; a call that fails on order does
     /// nothing.
     fn sync(&mut self) -> Result<(), Disk>
-        ensures durable { D.honest (inner_of self.old) → OnOk result (Only (D.image (inner_of self.new)) (D.may_leave (inner_of self.new))) }
-        ensures reads { ReadsOnly (λ d. D.image (inner_of d)) (λ d. D.honest (inner_of d)) (λ d. D.may_leave (inner_of d))
-            (λ s d. D.may_have_left (inner_of s) (inner_of d)) self.old self.new }
-        ensures cause { Counts (all_failures (D.failed (inner_of self.old)) (own_of self.old)) (all_failures (D.failed (inner_of self.new)) (own_of self.new)) result }
+        ensures durable { D.medium.honest (inner_of self.old) → OnOk result (Only (D.medium.image (inner_of self.new)) (D.medium.may_leave (inner_of self.new))) }
+        ensures reads { ReadsOnly (over D.medium) self.old self.new }
+        ensures cause { Counts (all_failures (D.medium.failed (inner_of self.old)) (own_of self.old)) (all_failures (D.medium.failed (inner_of self.new)) (own_of self.new)) result }
         ensures counted { CountsCall self.old self.new }
         ensures due { is_next_due self.old ≡ true → FailsAlone self.old self.new result }
-        ensures passed { is_next_due self.old ≡ false → PassesOn D.failed self.old self.new result }
+        ensures passed { is_next_due self.old ≡ false → PassesOn D.medium.failed self.old self.new result }
     {
         if is_due(&mut self.calls, self.call, self.rest) {
             count_failure(&mut self.own);

@@ -37,7 +37,7 @@ impl<D: Device + Drop> Model for VmFile<D> {
 
     ghost view = { λ f. record { device = f.device; area = f.area; second = f.second; sure = f.sure; current = f.current; saved = f.saved } };
 
-    ghost invariant = { λ f. IsSound D.image D.honest D.may_leave
+    ghost invariant = { λ f. IsSound D.medium
         (record { device = f.device; area = f.area; second = f.second; sure = f.sure; current = f.current; saved = f.saved }) };
 }
 
@@ -59,7 +59,7 @@ impl<D: Device + Drop> VmFile<D> {
     /// where it fails; then any bytes may stand in the first 1,040.
     pub fn create(alloc: Global, mut device: D, area: u32) -> Result<VmFile<D>, (D, CreateError)>
         requires area { is_area area ≡ true }
-        requires room { 1024 + 2 * area ≤ length (D.image device) }
+        requires room { 1024 + 2 * area ≤ length (D.medium.image device) }
         ensures file { IfOk result (λ file. file ≡ record {
           device = file.device;
           area = area;
@@ -68,17 +68,17 @@ impl<D: Device + Drop> VmFile<D> {
           current = listed empty_contents;
           saved = listed empty_contents;
         }) }
-        ensures bytes { D.honest device → IfOk result (λ file. D.image file.device ≡ with_part (D.image device) 0 (new_file area)) }
-        ensures found { D.honest device → IfOk result
-            (λ file. file_at (D.image file.device) ≡ Ok (record { area = area; second = false; pair = empty_pair })) }
+        ensures bytes { D.medium.honest device → IfOk result (λ file. D.medium.image file.device ≡ with_part (D.medium.image device) 0 (new_file area)) }
+        ensures found { D.medium.honest device → IfOk result
+            (λ file. file_at (D.medium.image file.device) ≡ Ok (record { area = area; second = false; pair = empty_pair })) }
         // Whatever it answers, nothing but the first 1,040 bytes was written.
         ensures writes { MatchResult result
-            (λ file. WritesOnly D.image D.honest D.may_leave D.may_have_left 0 1040 device file.device)
-            (λ e. WritesOnly D.image D.honest D.may_leave D.may_have_left 0 1040 device e.0) }
-        ensures durable { D.honest device → IfOk result (λ file. Only (D.image file.device) (D.may_leave file.device)) }
+            (λ file. WritesOnly D.medium 0 1040 device file.device)
+            (λ e. WritesOnly D.medium 0 1040 device e.0) }
+        ensures durable { D.medium.honest device → IfOk result (λ file. Only (D.medium.image file.device) (D.medium.may_leave file.device)) }
         ensures cause { MatchResult result
-            (λ file. D.failed file.device ≡ D.failed device)
-            (λ e. (e.1 ≡ CreateError.Disk) × Rose (D.failed device) (D.failed e.0)) }
+            (λ file. D.medium.failed file.device ≡ D.medium.failed device)
+            (λ e. (e.1 ≡ CreateError.Disk) × Rose (D.medium.failed device) (D.medium.failed e.0)) }
     {
         match write_new(&mut device, area) {
             Ok(()) => Ok(VmFile {
@@ -100,18 +100,18 @@ impl<D: Device + Drop> VmFile<D> {
     /// field, in file order, that is cut or breaks its rule; `Disk` where the device fails;
     /// `Memory` where an allocation is refused.
     pub fn open(alloc: Global, mut device: D) -> Result<VmFile<D>, (D, OpenError)>
-        ensures exact { D.honest device → MatchResult result
-            (λ file. file_at (D.image device) ≡ Ok (file_of D.image file))
-            (λ e. IsRefused e.1 (file_at (D.image device))) }
+        ensures exact { D.medium.honest device → MatchResult result
+            (λ file. file_at (D.medium.image device) ≡ Ok (file_of D.medium.image file))
+            (λ e. IsRefused e.1 (file_at (D.medium.image device))) }
         ensures sure { IfOk result (λ file. file.sure ≡ true) }
-        ensures durable { D.honest device → IfOk result (λ file. Only (D.image file.device) (D.may_leave file.device)) }
+        ensures durable { D.medium.honest device → IfOk result (λ file. Only (D.medium.image file.device) (D.medium.may_leave file.device)) }
         // Nothing is written, so a stop meanwhile leaves what it might have left before.
         ensures reads { MatchResult result
-            (λ file. ReadsOnly D.image D.honest D.may_leave D.may_have_left device file.device)
-            (λ e. ReadsOnly D.image D.honest D.may_leave D.may_have_left device e.0) }
+            (λ file. ReadsOnly D.medium device file.device)
+            (λ e. ReadsOnly D.medium device e.0) }
         ensures cause { MatchResult result
-            (λ file. D.failed file.device ≡ D.failed device)
-            (λ e. IsCaused (D.failed device) (D.failed e.0) e.1) }
+            (λ file. D.medium.failed file.device ≡ D.medium.failed device)
+            (λ e. IsCaused (D.medium.failed device) (D.medium.failed e.0) e.1) }
     {
         match read_file(alloc, &mut device) {
             Ok(
@@ -139,16 +139,16 @@ impl<D: Device + Drop> VmFile<D> {
     /// no commit.
     pub fn is_sure(&self) -> bool
         ensures sure { result ≡ self.now.sure }
-        ensures pair { ListsPair (pair_of D.image self.now) self.now.current self.now.saved }
+        ensures pair { ListsPair (pair_of D.medium.image self.now) self.now.current self.now.saved }
         // What `open` would find after a stop now.
-        ensures stop { D.honest self.now.device → (c : List ℕ) → D.may_leave self.now.device c → Finds D.image self.now c }
+        ensures stop { D.medium.honest self.now.device → (c : List ℕ) → D.medium.may_leave self.now.device c → Finds D.medium.image self.now c }
     {
         self.sure
     }
 
     /// What the device gives are bytes: numbers below 256.
     pub fn device_gives_bytes(&self)
-        ensures { AreBytes (D.image self.now.device) }
+        ensures { AreBytes (D.medium.image self.now.device) }
     {
         let _len = self.device.len();
     }
@@ -156,7 +156,7 @@ impl<D: Device + Drop> VmFile<D> {
     /// The current directory of the pair that it keeps.
     pub fn current(&self) -> &Directory
         ensures same { result.now ≡ self.now.current }
-        ensures lists { listed (pair_of D.image self.now).cur ≡ result.now }
+        ensures lists { listed (pair_of D.medium.image self.now).cur ≡ result.now }
         ensures legal { is_directory result.now ≡ true }
     {
         self.current.directory()
@@ -165,7 +165,7 @@ impl<D: Device + Drop> VmFile<D> {
     /// The saved directory of the pair that it keeps.
     pub fn saved(&self) -> &Directory
         ensures same { result.now ≡ self.now.saved }
-        ensures lists { listed (pair_of D.image self.now).saved ≡ result.now }
+        ensures lists { listed (pair_of D.medium.image self.now).saved ≡ result.now }
         ensures legal { is_directory result.now ≡ true }
     {
         &self.saved
@@ -176,19 +176,19 @@ impl<D: Device + Drop> VmFile<D> {
     /// holds, or where it gives bytes that are no heap with that handle.
     pub fn block(&mut self, h: u16, into: &mut [u8]) -> Result<(), Disk>
         requires { HasBlock self.old.current h (length into.old) }
-        ensures bytes { D.honest self.old.device → OnOk result (into.new ≡ bytes_of_block (pair_of D.image self.old).cur.blocks h) }
+        ensures bytes { D.medium.honest self.old.device → OnOk result (into.new ≡ bytes_of_block (pair_of D.medium.image self.old).cur.blocks h) }
         ensures heap { OnOk result (IsHeapUnder h into.new) }
-        ensures no_block { CausesNoBlock h (D.failed self.old.device) (D.failed self.new.device) into.new result }
+        ensures no_block { CausesNoBlock h (D.medium.failed self.old.device) (D.medium.failed self.new.device) into.new result }
         ensures same { self.new ≡ record self.old { device = self.new.device } }
-        ensures pair { pair_of D.image self.new ≡ pair_of D.image self.old }
-        ensures ok { OnOk result (D.failed self.new.device ≡ D.failed self.old.device) }
-        ensures cause { D.honest self.old.device → OnErr result (Rose (D.failed self.old.device) (D.failed self.new.device)) }
+        ensures pair { pair_of D.medium.image self.new ≡ pair_of D.medium.image self.old }
+        ensures ok { OnOk result (D.medium.failed self.new.device ≡ D.medium.failed self.old.device) }
+        ensures cause { D.medium.honest self.old.device → OnErr result (Rose (D.medium.failed self.old.device) (D.medium.failed self.new.device)) }
         // Nothing is written: a stop meanwhile, and one afterwards, leaves a file in which
         // `open` finds what it would have found.
-        ensures reads { ReadsOnly D.image D.honest D.may_leave D.may_have_left self.old.device self.new.device }
-        ensures any_moment { D.honest self.old.device → Passes D.may_have_left self.old.device self.new.device (Finds D.image self.old) }
-        ensures stopped { D.honest self.old.device → (c : List ℕ) → D.may_have_left self.old.device self.new.device c → Finds D.image self.old c }
-        ensures stop { D.honest self.old.device → (c : List ℕ) → D.may_leave self.new.device c → Finds D.image self.old c }
+        ensures reads { ReadsOnly D.medium self.old.device self.new.device }
+        ensures any_moment { D.medium.honest self.old.device → Passes D.medium.may_have_left self.old.device self.new.device (Finds D.medium.image self.old) }
+        ensures stopped { D.medium.honest self.old.device → (c : List ℕ) → D.medium.may_have_left self.old.device self.new.device c → Finds D.medium.image self.old c }
+        ensures stop { D.medium.honest self.old.device → (c : List ℕ) → D.medium.may_leave self.new.device c → Finds D.medium.image self.old c }
     {
         let base = base_of(self.area, self.second);
         let at = base + 2 + u64::from(self.current.place(h));
@@ -199,19 +199,19 @@ impl<D: Device + Drop> VmFile<D> {
     /// one.
     pub fn saved_block(&mut self, h: u16, into: &mut [u8]) -> Result<(), Disk>
         requires { HasBlock self.old.saved h (length into.old) }
-        ensures bytes { D.honest self.old.device → OnOk result (into.new ≡ bytes_of_block (pair_of D.image self.old).saved.blocks h) }
+        ensures bytes { D.medium.honest self.old.device → OnOk result (into.new ≡ bytes_of_block (pair_of D.medium.image self.old).saved.blocks h) }
         ensures heap { OnOk result (IsHeapUnder h into.new) }
-        ensures no_block { CausesNoBlock h (D.failed self.old.device) (D.failed self.new.device) into.new result }
+        ensures no_block { CausesNoBlock h (D.medium.failed self.old.device) (D.medium.failed self.new.device) into.new result }
         ensures same { self.new ≡ record self.old { device = self.new.device } }
-        ensures pair { pair_of D.image self.new ≡ pair_of D.image self.old }
-        ensures ok { OnOk result (D.failed self.new.device ≡ D.failed self.old.device) }
-        ensures cause { D.honest self.old.device → OnErr result (Rose (D.failed self.old.device) (D.failed self.new.device)) }
+        ensures pair { pair_of D.medium.image self.new ≡ pair_of D.medium.image self.old }
+        ensures ok { OnOk result (D.medium.failed self.new.device ≡ D.medium.failed self.old.device) }
+        ensures cause { D.medium.honest self.old.device → OnErr result (Rose (D.medium.failed self.old.device) (D.medium.failed self.new.device)) }
         // Nothing is written: a stop meanwhile, and one afterwards, leaves a file in which
         // `open` finds what it would have found.
-        ensures reads { ReadsOnly D.image D.honest D.may_leave D.may_have_left self.old.device self.new.device }
-        ensures any_moment { D.honest self.old.device → Passes D.may_have_left self.old.device self.new.device (Finds D.image self.old) }
-        ensures stopped { D.honest self.old.device → (c : List ℕ) → D.may_have_left self.old.device self.new.device c → Finds D.image self.old c }
-        ensures stop { D.honest self.old.device → (c : List ℕ) → D.may_leave self.new.device c → Finds D.image self.old c }
+        ensures reads { ReadsOnly D.medium self.old.device self.new.device }
+        ensures any_moment { D.medium.honest self.old.device → Passes D.medium.may_have_left self.old.device self.new.device (Finds D.medium.image self.old) }
+        ensures stopped { D.medium.honest self.old.device → (c : List ℕ) → D.medium.may_have_left self.old.device self.new.device c → Finds D.medium.image self.old c }
+        ensures stop { D.medium.honest self.old.device → (c : List ℕ) → D.medium.may_leave self.new.device c → Finds D.medium.image self.old c }
     {
         let base = base_of(self.area, self.second);
         let first = u64::from(directory_length(self.current.directory()));
@@ -261,37 +261,37 @@ impl<D: Device + Drop> VmFile<D> {
           saved = saved_after how cur.now self.old.saved;
         }) }
         ensures refused { IfErr result (λ e. IsAfter e self.old self.new) }
-        ensures pair { D.honest self.old.device → MatchResult result
-            (λ _. pair_of D.image self.new ≡ kept_after D.image (S.resident_bytes source.now) how cur.now self.old)
-            (λ _. pair_of D.image self.new ≡ pair_of D.image self.old) }
+        ensures pair { D.medium.honest self.old.device → MatchResult result
+            (λ _. pair_of D.medium.image self.new ≡ kept_after D.medium.image (S.resident_bytes source.now) how cur.now self.old)
+            (λ _. pair_of D.medium.image self.new ≡ pair_of D.medium.image self.old) }
         // What it keeps then: the new pair or, where it was refused, what it kept; where the
         // device failed, it may be unsure between that and the new pair.
-        ensures kept { D.honest self.old.device → MatchResult result
-            (λ _. kept_of D.image self.new ≡ SureOf (kept_after D.image (S.resident_bytes source.now) how cur.now self.old))
-            (λ e. KeepsAfter e (kept_after D.image (S.resident_bytes source.now) how cur.now self.old) (kept_of D.image self.old) (kept_of D.image self.new)) }
+        ensures kept { D.medium.honest self.old.device → MatchResult result
+            (λ _. kept_of D.medium.image self.new ≡ SureOf (kept_after D.medium.image (S.resident_bytes source.now) how cur.now self.old))
+            (λ e. KeepsAfter e (kept_after D.medium.image (S.resident_bytes source.now) how cur.now self.old) (kept_of D.medium.image self.old) (kept_of D.medium.image self.new)) }
         // It has written the pair's bytes to the other area and its selector, and nothing else.
-        ensures bytes { D.honest self.old.device → OnOk result (D.image self.new.device
-            ≡ image_after D.image (pair_spelling (kept_after D.image (S.resident_bytes source.now) how cur.now self.old)) self.old) }
+        ensures bytes { D.medium.honest self.old.device → OnOk result (D.medium.image self.new.device
+            ≡ image_after D.medium.image (pair_spelling (kept_after D.medium.image (S.resident_bytes source.now) how cur.now self.old)) self.old) }
         // Where the device failed, nothing but that area may differ and, where the file turned unsure,
         // the selector.
-        ensures torn { D.honest self.old.device → result ≡ Err CommitError.Disk → MayHaveWritten D.image self.old self.new.sure (D.image self.new.device) }
+        ensures torn { D.medium.honest self.old.device → result ≡ Err CommitError.Disk → MayHaveWritten D.medium.image self.old self.new.sure (D.medium.image self.new.device) }
         // Where it turned unsure, the other area holds the new pair.
-        ensures other { D.honest self.old.device → self.old.sure ≡ true → self.new.sure ≡ false
-            → IsOther D.image self.new (kept_after D.image (S.resident_bytes source.now) how cur.now self.old) }
+        ensures other { D.medium.honest self.old.device → self.old.sure ≡ true → self.new.sure ≡ false
+            → IsOther D.medium.image self.new (kept_after D.medium.image (S.resident_bytes source.now) how cur.now self.old) }
         // What `open` finds after a stop at any moment of the call, and after one behind it.
-        ensures any_moment { D.honest self.old.device → Passes D.may_have_left self.old.device self.new.device (FindsOr D.image self.old
-            (kept_after D.image (S.resident_bytes source.now) how cur.now self.old)) }
-        ensures stopped { D.honest self.old.device → (c : List ℕ) → D.may_have_left self.old.device self.new.device c
-            → FindsOr D.image self.old (kept_after D.image (S.resident_bytes source.now) how cur.now self.old) c }
-        ensures stop { D.honest self.old.device → (c : List ℕ) → D.may_leave self.new.device c → Finds D.image self.new c }
-        ensures honest { D.honest self.old.device → D.honest self.new.device }
-        ensures was_honest { D.honest self.new.device → D.honest self.old.device }
-        ensures ok { OnOk result (D.failed self.new.device ≡ D.failed self.old.device) }
+        ensures any_moment { D.medium.honest self.old.device → Passes D.medium.may_have_left self.old.device self.new.device (FindsOr D.medium.image self.old
+            (kept_after D.medium.image (S.resident_bytes source.now) how cur.now self.old)) }
+        ensures stopped { D.medium.honest self.old.device → (c : List ℕ) → D.medium.may_have_left self.old.device self.new.device c
+            → FindsOr D.medium.image self.old (kept_after D.medium.image (S.resident_bytes source.now) how cur.now self.old) c }
+        ensures stop { D.medium.honest self.old.device → (c : List ℕ) → D.medium.may_leave self.new.device c → Finds D.medium.image self.new c }
+        ensures honest { D.medium.honest self.old.device → D.medium.honest self.new.device }
+        ensures was_honest { D.medium.honest self.new.device → D.medium.honest self.old.device }
+        ensures ok { OnOk result (D.medium.failed self.new.device ≡ D.medium.failed self.old.device) }
         // The first call that fails is the last one: nothing is written or read behind it.
-        ensures once { FailedOnce (D.failed self.old.device) (D.failed self.new.device) }
-        ensures cause { D.honest self.old.device → result ≡ Err CommitError.Disk → Rose (D.failed self.old.device) (D.failed self.new.device) }
+        ensures once { FailedOnce (D.medium.failed self.old.device) (D.medium.failed self.new.device) }
+        ensures cause { D.medium.honest self.old.device → result ≡ Err CommitError.Disk → Rose (D.medium.failed self.old.device) (D.medium.failed self.new.device) }
         ensures no_read { NeedsNoRead (S.resident_bytes source.now) how cur.now self.old.saved → result ≡ Err CommitError.Disk
-            → Rose (D.failed self.old.device) (D.failed self.new.device) }
+            → Rose (D.medium.failed self.old.device) (D.medium.failed self.new.device) }
     {
         if !self.sure {
             return Err(CommitError::Unsure);
@@ -324,19 +324,19 @@ impl<D: Device + Drop> VmFile<D> {
     ) -> Result<(), Disk>
         requires may { MayCommit (S.resident_bytes source.now) self.old.current cur.now }
         requires room { vec_len into.old + directory_length cur.now ≤ vec_capacity into.old }
-        ensures items { D.honest self.old.device → OnOk result (into.new.items ≡ into.old.items
-            ++ contents_spelling (contents_from (S.resident_bytes source.now) (pair_of D.image self.old).cur.blocks cur.now)) }
-        ensures legal { D.honest self.old.device
-            → IsContentsOf cur.now (contents_from (S.resident_bytes source.now) (pair_of D.image self.old).cur.blocks cur.now) }
+        ensures items { D.medium.honest self.old.device → OnOk result (into.new.items ≡ into.old.items
+            ++ contents_spelling (contents_from (S.resident_bytes source.now) (pair_of D.medium.image self.old).cur.blocks cur.now)) }
+        ensures legal { D.medium.honest self.old.device
+            → IsContentsOf cur.now (contents_from (S.resident_bytes source.now) (pair_of D.medium.image self.old).cur.blocks cur.now) }
         ensures len { OnOk result (vec_len into.new ≡ vec_len into.old + directory_length cur.now) }
         ensures room { vec_capacity into.old ≤ vec_capacity into.new }
         ensures same { self.new ≡ record self.old { device = self.new.device } }
-        ensures pair { pair_of D.image self.new ≡ pair_of D.image self.old }
-        ensures ok { OnOk result (D.failed self.new.device ≡ D.failed self.old.device) }
-        ensures once { FailedOnce (D.failed self.old.device) (D.failed self.new.device) }
-        ensures cause { D.honest self.old.device → OnErr result (Rose (D.failed self.old.device) (D.failed self.new.device)) }
+        ensures pair { pair_of D.medium.image self.new ≡ pair_of D.medium.image self.old }
+        ensures ok { OnOk result (D.medium.failed self.new.device ≡ D.medium.failed self.old.device) }
+        ensures once { FailedOnce (D.medium.failed self.old.device) (D.medium.failed self.new.device) }
+        ensures cause { D.medium.honest self.old.device → OnErr result (Rose (D.medium.failed self.old.device) (D.medium.failed self.new.device)) }
         ensures resident { AreResident (S.resident_bytes source.now) cur.now.entries.items → OnErr result ⊥ }
-        ensures reads { ReadsOnly D.image D.honest D.may_leave D.may_have_left self.old.device self.new.device }
+        ensures reads { ReadsOnly D.medium self.old.device self.new.device }
     {
         let from = base_of(self.area, self.second) + 2;
         let kept = Placed {
@@ -349,18 +349,18 @@ impl<D: Device + Drop> VmFile<D> {
     /// Appends the saved directory with its blocks.
     fn spell_saved(&mut self, into: &mut Vec<u8>) -> Result<(), Disk>
         requires room { vec_len into.old + directory_length self.old.saved ≤ vec_capacity into.old }
-        ensures items { D.honest self.old.device → OnOk result (into.new.items ≡ into.old.items
-            ++ contents_spelling (pair_of D.image self.old).saved) }
-        ensures legal { D.honest self.old.device → IsContentsOf self.old.saved (pair_of D.image self.old).saved }
+        ensures items { D.medium.honest self.old.device → OnOk result (into.new.items ≡ into.old.items
+            ++ contents_spelling (pair_of D.medium.image self.old).saved) }
+        ensures legal { D.medium.honest self.old.device → IsContentsOf self.old.saved (pair_of D.medium.image self.old).saved }
         ensures len { OnOk result (vec_len into.new ≡ vec_len into.old + directory_length self.old.saved) }
         ensures room { vec_capacity into.old ≤ vec_capacity into.new }
         ensures same { self.new ≡ record self.old { device = self.new.device } }
-        ensures pair { pair_of D.image self.new ≡ pair_of D.image self.old }
-        ensures ok { OnOk result (D.failed self.new.device ≡ D.failed self.old.device) }
-        ensures once { FailedOnce (D.failed self.old.device) (D.failed self.new.device) }
-        ensures cause { D.honest self.old.device → OnErr result (Rose (D.failed self.old.device) (D.failed self.new.device)) }
+        ensures pair { pair_of D.medium.image self.new ≡ pair_of D.medium.image self.old }
+        ensures ok { OnOk result (D.medium.failed self.new.device ≡ D.medium.failed self.old.device) }
+        ensures once { FailedOnce (D.medium.failed self.old.device) (D.medium.failed self.new.device) }
+        ensures cause { D.medium.honest self.old.device → OnErr result (Rose (D.medium.failed self.old.device) (D.medium.failed self.new.device)) }
         ensures no_block { self.old.saved.entries.items ≡ [] → OnErr result ⊥ }
-        ensures reads { ReadsOnly D.image D.honest D.may_leave D.may_have_left self.old.device self.new.device }
+        ensures reads { ReadsOnly D.medium self.old.device self.new.device }
     {
         let first = u64::from(directory_length(self.current.directory()));
         let from = base_of(self.area, self.second) + first + 2;
@@ -383,15 +383,15 @@ impl<D: Device + Drop> VmFile<D> {
         requires empty { (into.old.items ≡ []) × (vec_len into.old ≡ 0) }
         requires room { length_after how cur.now self.old.saved ≤ vec_capacity into.old }
         ensures len { OnOk result (vec_len into.new ≡ length_after how cur.now self.old.saved) }
-        ensures spelled { D.honest self.old.device → OnOk result (Spells (current_after how cur.now self.old.saved) (saved_after how cur.now self.old.saved)
-            (kept_after D.image (S.resident_bytes source.now) how cur.now self.old) into.new.items) }
+        ensures spelled { D.medium.honest self.old.device → OnOk result (Spells (current_after how cur.now self.old.saved) (saved_after how cur.now self.old.saved)
+            (kept_after D.medium.image (S.resident_bytes source.now) how cur.now self.old) into.new.items) }
         ensures same { self.new ≡ record self.old { device = self.new.device } }
-        ensures pair { pair_of D.image self.new ≡ pair_of D.image self.old }
-        ensures ok { OnOk result (D.failed self.new.device ≡ D.failed self.old.device) }
-        ensures once { FailedOnce (D.failed self.old.device) (D.failed self.new.device) }
-        ensures cause { D.honest self.old.device → OnErr result (Rose (D.failed self.old.device) (D.failed self.new.device)) }
+        ensures pair { pair_of D.medium.image self.new ≡ pair_of D.medium.image self.old }
+        ensures ok { OnOk result (D.medium.failed self.new.device ≡ D.medium.failed self.old.device) }
+        ensures once { FailedOnce (D.medium.failed self.old.device) (D.medium.failed self.new.device) }
+        ensures cause { D.medium.honest self.old.device → OnErr result (Rose (D.medium.failed self.old.device) (D.medium.failed self.new.device)) }
         ensures no_read { NeedsNoRead (S.resident_bytes source.now) how cur.now self.old.saved → OnErr result ⊥ }
-        ensures reads { ReadsOnly D.image D.honest D.may_leave D.may_have_left self.old.device self.new.device }
+        ensures reads { ReadsOnly D.medium self.old.device self.new.device }
     {
         match how {
             How::Update => match self.spell_current(cur, source, into) {
@@ -420,7 +420,7 @@ impl<D: Device + Drop> VmFile<D> {
         requires sure { self.old.sure ≡ true }
         requires legal { is_directory cur.now ≡ true }
         requires fits { (length bytes.now ≡ length_after how cur.now self.old.saved) × (length bytes.now ≤ self.old.area) }
-        requires spelled { D.honest self.old.device → Spells (current_after how cur.now self.old.saved) (saved_after how cur.now self.old.saved)
+        requires spelled { D.medium.honest self.old.device → Spells (current_after how cur.now self.old.saved) (saved_after how cur.now self.old.saved)
             (pair_in (current_after how cur.now self.old.saved) (saved_after how cur.now self.old.saved) bytes.now) bytes.now }
         ensures done { OnOk result (self.new ≡ record {
           device = self.new.device;
@@ -431,20 +431,20 @@ impl<D: Device + Drop> VmFile<D> {
           saved = saved_after how cur.now self.old.saved;
         }) }
         ensures kept { OnErr result (self.new ≡ record self.old { device = self.new.device; sure = self.new.sure }) }
-        ensures pair { D.honest self.old.device → MatchResult result
-            (λ _. pair_of D.image self.new ≡ pair_in (current_after how cur.now self.old.saved) (saved_after how cur.now self.old.saved) bytes.now)
-            (λ _. pair_of D.image self.new ≡ pair_of D.image self.old) }
-        ensures bytes { D.honest self.old.device → OnOk result (D.image self.new.device ≡ image_after D.image bytes.now self.old) }
-        ensures torn { D.honest self.old.device → OnErr result (MayHaveWritten D.image self.old self.new.sure (D.image self.new.device)) }
-        ensures other { D.honest self.old.device → self.new.sure ≡ false
-            → IsOther D.image self.new (pair_in (current_after how cur.now self.old.saved) (saved_after how cur.now self.old.saved) bytes.now) }
-        ensures any_moment { D.honest self.old.device → Passes D.may_have_left self.old.device self.new.device
-            (FindsOneOf (pair_of D.image self.old) (pair_in (current_after how cur.now self.old.saved) (saved_after how cur.now self.old.saved) bytes.now)) }
-        ensures stop { D.honest self.old.device → (c : List ℕ) → D.may_leave self.new.device c → Finds D.image self.new c }
-        ensures honest { D.honest self.old.device → D.honest self.new.device }
-        ensures was_honest { D.honest self.new.device → D.honest self.old.device }
-        ensures cause { CausesDisk (D.failed self.old.device) (D.failed self.new.device) result }
-        ensures once { FailedOnce (D.failed self.old.device) (D.failed self.new.device) }
+        ensures pair { D.medium.honest self.old.device → MatchResult result
+            (λ _. pair_of D.medium.image self.new ≡ pair_in (current_after how cur.now self.old.saved) (saved_after how cur.now self.old.saved) bytes.now)
+            (λ _. pair_of D.medium.image self.new ≡ pair_of D.medium.image self.old) }
+        ensures bytes { D.medium.honest self.old.device → OnOk result (D.medium.image self.new.device ≡ image_after D.medium.image bytes.now self.old) }
+        ensures torn { D.medium.honest self.old.device → OnErr result (MayHaveWritten D.medium.image self.old self.new.sure (D.medium.image self.new.device)) }
+        ensures other { D.medium.honest self.old.device → self.new.sure ≡ false
+            → IsOther D.medium.image self.new (pair_in (current_after how cur.now self.old.saved) (saved_after how cur.now self.old.saved) bytes.now) }
+        ensures any_moment { D.medium.honest self.old.device → Passes D.medium.may_have_left self.old.device self.new.device
+            (FindsOneOf (pair_of D.medium.image self.old) (pair_in (current_after how cur.now self.old.saved) (saved_after how cur.now self.old.saved) bytes.now)) }
+        ensures stop { D.medium.honest self.old.device → (c : List ℕ) → D.medium.may_leave self.new.device c → Finds D.medium.image self.new c }
+        ensures honest { D.medium.honest self.old.device → D.medium.honest self.new.device }
+        ensures was_honest { D.medium.honest self.new.device → D.medium.honest self.old.device }
+        ensures cause { CausesDisk (D.medium.failed self.old.device) (D.medium.failed self.new.device) result }
+        ensures once { FailedOnce (D.medium.failed self.old.device) (D.medium.failed self.new.device) }
     {
         let base = base_of(self.area, !self.second);
         match write_durably(&mut self.device, base, bytes) {

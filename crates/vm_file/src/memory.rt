@@ -54,17 +54,9 @@ pub(crate) fn write_part(bytes: &mut [u8], at: usize, from: &[u8])
 }
 
 impl Device for MemoryDevice {
-    ghost use Rattle.vm_file.specs.Memory.{IsHonest, MayHaveLeft, MayLeave, bytes_of, failures_of};
+    ghost use Rattle.vm_file.specs.Memory.{MayLeave, bytes_of, failures_of, medium};
 
-    ghost image = { bytes_of };
-
-    ghost honest = { IsHonest };
-
-    ghost failed = { failures_of };
-
-    ghost may_leave = { MayLeave };
-
-    ghost may_have_left = { MayHaveLeft };
+    ghost medium = { medium };
 
     fn len(&self) -> u64 {
         let bytes = self.as_slice();
@@ -80,7 +72,7 @@ impl Device for MemoryDevice {
         ensures within { OnOk result (at + length into.old ≤ length (bytes_of self.old)) }
         ensures past { OnErr result (length (bytes_of self.old) < at + length into.old) }
         ensures bytes { OnOk result (into.new ≡ part (bytes_of self.old) at (length into.old)) }
-        ensures reads { ReadsOnly bytes_of IsHonest MayLeave MayHaveLeft self.old self.new }
+        ensures reads { ReadsOnly medium self.old self.new }
         ensures cause { Counts (failures_of self.old) (failures_of self.new) result }
     {
         if !self.has(at, into.len()) {
@@ -97,7 +89,7 @@ impl Device for MemoryDevice {
         ensures within { OnOk result (at + length bytes.now ≤ length (bytes_of self.old)) }
         ensures past { OnErr result ((length (bytes_of self.old) < at + length bytes.now) × (bytes_of self.new ≡ bytes_of self.old)) }
         ensures written { OnOk result (bytes_of self.new ≡ with_part (bytes_of self.old) at bytes.now) }
-        ensures writes { WritesOnly bytes_of IsHonest MayLeave MayHaveLeft at (length bytes.now) self.old self.new }
+        ensures writes { WritesOnly medium at (length bytes.now) self.old self.new }
         ensures cause { Counts (failures_of self.old) (failures_of self.new) result }
     {
         if !self.has(at, bytes.len()) {
@@ -112,7 +104,7 @@ impl Device for MemoryDevice {
     fn sync(&mut self) -> Result<(), Disk>
         ensures never { OnErr result ⊥ }
         ensures durable { OnOk result (Only (bytes_of self.new) (MayLeave self.new)) }
-        ensures reads { ReadsOnly bytes_of IsHonest MayLeave MayHaveLeft self.old self.new }
+        ensures reads { ReadsOnly medium self.old self.new }
         ensures cause { Counts (failures_of self.old) (failures_of self.new) result }
     {
         Ok(())

@@ -36,10 +36,10 @@ pub(crate) fn base_of(area: u32, second: bool) -> u64
 
 /// Reads the header, and answers the area size.
 fn read_header<D: Device>(device: &mut D) -> Result<u32, OpenError>
-    ensures exact { D.honest device.old → Tells (λ n. n) result (header_at (take 512 (D.image device.old))) }
+    ensures exact { D.medium.honest device.old → Tells (λ n. n) result (header_at (take 512 (D.medium.image device.old))) }
     ensures legal { IfOk result (λ n. (is_area n ≡ true) × (n ≤ 16777216)) }
-    ensures reads { ReadsOnly D.image D.honest D.may_leave D.may_have_left device.old device.new }
-    ensures cause { Causes (D.failed device.old) (D.failed device.new) result }
+    ensures reads { ReadsOnly D.medium device.old device.new }
+    ensures cause { Causes (D.medium.failed device.old) (D.medium.failed device.new) result }
 {
     let end = device.len().min(512);
     let mut header = [0u8; 512];
@@ -55,9 +55,9 @@ fn read_header<D: Device>(device: &mut D) -> Result<u32, OpenError>
 
 /// Reads the selector.
 fn read_selector<D: Device>(device: &mut D) -> Result<u8, OpenError>
-    ensures exact { D.honest device.old → Tells (λ n. n) result (selector_at (D.image device.old)) }
-    ensures reads { ReadsOnly D.image D.honest D.may_leave D.may_have_left device.old device.new }
-    ensures cause { Causes (D.failed device.old) (D.failed device.new) result }
+    ensures exact { D.medium.honest device.old → Tells (λ n. n) result (selector_at (D.medium.image device.old)) }
+    ensures reads { ReadsOnly D.medium device.old device.new }
+    ensures cause { Causes (D.medium.failed device.old) (D.medium.failed device.new) result }
 {
     if device.len() <= 512 {
         return Err(OpenError::BadFile(512));
@@ -78,11 +78,11 @@ fn read_pair<D: Device>(
     end: u64,
 ) -> Result<(Directory, Directory), OpenError>
     requires range { (base ≤ end) × (end < 2 ^ 29) }
-    requires within { end ≤ length (D.image device.old) }
-    ensures exact { D.honest device.old → Tells listed_pair result (pair_at base (part (D.image device.old) base (end - base))) }
+    requires within { end ≤ length (D.medium.image device.old) }
+    ensures exact { D.medium.honest device.old → Tells listed_pair result (pair_at base (part (D.medium.image device.old) base (end - base))) }
     ensures legal { IfOk result (λ p. (is_directory p.0 ≡ true) × (is_directory p.1 ≡ true) × (base + (directory_length p.0 + directory_length p.1) ≤ end)) }
-    ensures reads { ReadsOnly D.image D.honest D.may_leave D.may_have_left device.old device.new }
-    ensures cause { Causes (D.failed device.old) (D.failed device.new) result }
+    ensures reads { ReadsOnly D.medium device.old device.new }
+    ensures cause { Causes (D.medium.failed device.old) (D.medium.failed device.new) result }
 {
     let mut buffer = match Vec::from_elem(alloc, 0u8, MOST_BLOCK_BYTES) {
         Ok(buffer) => buffer,
@@ -101,10 +101,10 @@ fn read_pair<D: Device>(
 
 /// Reads the file that a device holds.
 fn read_parts<D: Device>(alloc: Global, device: &mut D) -> Result<Opened, OpenError>
-    ensures exact { D.honest device.old → Tells listed_file result (file_at (D.image device.old)) }
-    ensures legal { IfOk result (λ f. IsOpened f (length (D.image device.old))) }
-    ensures reads { ReadsOnly D.image D.honest D.may_leave D.may_have_left device.old device.new }
-    ensures cause { Causes (D.failed device.old) (D.failed device.new) result }
+    ensures exact { D.medium.honest device.old → Tells listed_file result (file_at (D.medium.image device.old)) }
+    ensures legal { IfOk result (λ f. IsOpened f (length (D.medium.image device.old))) }
+    ensures reads { ReadsOnly D.medium device.old device.new }
+    ensures cause { Causes (D.medium.failed device.old) (D.medium.failed device.new) result }
 {
     let area = match read_header(device) {
         Ok(area) => area,
@@ -135,11 +135,11 @@ fn read_parts<D: Device>(alloc: Global, device: &mut D) -> Result<Opened, OpenEr
 /// Reads the file that a device holds. It begins with a `sync`, so that a stop from then on
 /// leaves what was read.
 pub(crate) fn read_file<D: Device>(alloc: Global, device: &mut D) -> Result<Opened, OpenError>
-    ensures exact { D.honest device.old → Tells listed_file result (file_at (D.image device.old)) }
-    ensures legal { IfOk result (λ f. IsOpened f (length (D.image device.old))) }
-    ensures durable { D.honest device.old → OnOk result (Only (D.image device.new) (D.may_leave device.new)) }
-    ensures reads { ReadsOnly D.image D.honest D.may_leave D.may_have_left device.old device.new }
-    ensures cause { Causes (D.failed device.old) (D.failed device.new) result }
+    ensures exact { D.medium.honest device.old → Tells listed_file result (file_at (D.medium.image device.old)) }
+    ensures legal { IfOk result (λ f. IsOpened f (length (D.medium.image device.old))) }
+    ensures durable { D.medium.honest device.old → OnOk result (Only (D.medium.image device.new) (D.medium.may_leave device.new)) }
+    ensures reads { ReadsOnly D.medium device.old device.new }
+    ensures cause { Causes (D.medium.failed device.old) (D.medium.failed device.new) result }
 {
     match device.sync() {
         Ok(()) => read_parts(alloc, device),

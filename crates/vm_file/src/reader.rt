@@ -26,11 +26,11 @@ pub(crate) fn fill<D: Device>(
     into: &mut [u8],
 ) -> Result<usize, Disk>
     requires range { (at ≤ end) × (end < 2 ^ 32) }
-    requires within { end ≤ length (D.image device.old) }
-    ensures front { D.honest device.old → IfOk result (λ n. take n into.new ≡ take (length into.old) (part (D.image device.old) at (end - at))) }
+    requires within { end ≤ length (D.medium.image device.old) }
+    ensures front { D.medium.honest device.old → IfOk result (λ n. take n into.new ≡ take (length into.old) (part (D.medium.image device.old) at (end - at))) }
     ensures count { IfOk result (λ n. n ≡ min (length into.old) (end - at)) }
-    ensures reads { ReadsOnly D.image D.honest D.may_leave D.may_have_left device.old device.new }
-    ensures cause { CausesDisk (D.failed device.old) (D.failed device.new) result }
+    ensures reads { ReadsOnly D.medium device.old device.new }
+    ensures cause { CausesDisk (D.medium.failed device.old) (D.medium.failed device.new) result }
 {
     let n = into.len().min((end - at) as usize);
     match device.read_at(at, &mut into[..n]) {
@@ -64,15 +64,15 @@ pub(crate) fn read_block<D: Device>(
     into: &mut [u8],
 ) -> Result<(), Disk>
     ensures heap { OnOk result (IsHeapUnder h into.new) }
-    ensures no_block { CausesNoBlock h (D.failed device.old) (D.failed device.new) into.new result }
-    ensures bytes { D.honest device.old → OnOk result (into.new ≡ part (D.image device.old) at (length into.old)) }
-    ensures reads { ReadsOnly D.image D.honest D.may_leave D.may_have_left device.old device.new }
-    ensures ok { OnOk result (D.failed device.new ≡ D.failed device.old) }
-    ensures once { FailedOnce (D.failed device.old) (D.failed device.new) }
-    ensures cause { D.honest device.old
-        → IsHeap (part (D.image device.old) at (length into.old))
-        → handle_word (part (D.image device.old) at (length into.old)) ≡ h
-        → OnErr result (Rose (D.failed device.old) (D.failed device.new)) }
+    ensures no_block { CausesNoBlock h (D.medium.failed device.old) (D.medium.failed device.new) into.new result }
+    ensures bytes { D.medium.honest device.old → OnOk result (into.new ≡ part (D.medium.image device.old) at (length into.old)) }
+    ensures reads { ReadsOnly D.medium device.old device.new }
+    ensures ok { OnOk result (D.medium.failed device.new ≡ D.medium.failed device.old) }
+    ensures once { FailedOnce (D.medium.failed device.old) (D.medium.failed device.new) }
+    ensures cause { D.medium.honest device.old
+        → IsHeap (part (D.medium.image device.old) at (length into.old))
+        → handle_word (part (D.medium.image device.old) at (length into.old)) ≡ h
+        → OnErr result (Rose (D.medium.failed device.old) (D.medium.failed device.new)) }
 {
     match device.read_at(at, into) {
         Ok(()) => {}
@@ -95,12 +95,12 @@ fn read_entry<D: Device>(
     buffer: &mut [u8],
 ) -> Result<Entry, OpenError>
     requires range { (at ≤ end) × (end < 2 ^ 31) }
-    requires within { end ≤ length (D.image device.old) }
+    requires within { end ≤ length (D.medium.image device.old) }
     requires room { length buffer.old ≡ most_block_bytes }
-    ensures exact { D.honest device.old → Tells entry_of result (block_at last at (part (D.image device.old) at (end - at))) }
+    ensures exact { D.medium.honest device.old → Tells entry_of result (block_at last at (part (D.medium.image device.old) at (end - at))) }
     ensures legal { IfOk result (λ e. (is_entry last e ≡ true) × (at + (6 + e.len) ≤ end)) }
-    ensures reads { ReadsOnly D.image D.honest D.may_leave D.may_have_left device.old device.new }
-    ensures cause { Causes (D.failed device.old) (D.failed device.new) result }
+    ensures reads { ReadsOnly D.medium device.old device.new }
+    ensures cause { Causes (D.medium.failed device.old) (D.medium.failed device.new) result }
 {
     let mut head = [0u8; 6];
     let n = match fill(device, at, end, &mut head) {
@@ -136,13 +136,13 @@ fn read_entries<D: Device>(
     buffer: &mut [u8],
 ) -> Result<ArrayVec<Entry, MOST_BLOCKS>, OpenError>
     requires range { (at ≤ end) × (end < 2 ^ 31) }
-    requires within { end ≤ length (D.image device.old) }
+    requires within { end ≤ length (D.medium.image device.old) }
     requires room { length buffer.old ≡ most_block_bytes }
     requires few { count ≤ MOST_BLOCKS }
-    ensures exact { D.honest device.old → Tells (map entry_of) (items_of result) (blocks_at count 0 at (part (D.image device.old) at (end - at))) }
+    ensures exact { D.medium.honest device.old → Tells (map entry_of) (items_of result) (blocks_at count 0 at (part (D.medium.image device.old) at (end - at))) }
     ensures legal { IfOk result (λ es. (are_entries 0 es.items ≡ true) × (at + entries_length es.items ≤ end)) }
-    ensures reads { ReadsOnly D.image D.honest D.may_leave D.may_have_left device.old device.new }
-    ensures cause { Causes (D.failed device.old) (D.failed device.new) result }
+    ensures reads { ReadsOnly D.medium device.old device.new }
+    ensures cause { Causes (D.medium.failed device.old) (D.medium.failed device.new) result }
 {
     let mut entries = ArrayVec::new();
     let mut from = at;
@@ -163,11 +163,11 @@ fn read_entries<D: Device>(
 /// Reads the number of blocks of a directory.
 fn read_count<D: Device>(device: &mut D, at: u64, end: u64) -> Result<u16, OpenError>
     requires range { (at ≤ end) × (end < 2 ^ 31) }
-    requires within { end ≤ length (D.image device.old) }
-    ensures exact { D.honest device.old → Tells (λ n. n) result (count_at at (part (D.image device.old) at (end - at))) }
+    requires within { end ≤ length (D.medium.image device.old) }
+    ensures exact { D.medium.honest device.old → Tells (λ n. n) result (count_at at (part (D.medium.image device.old) at (end - at))) }
     ensures legal { IfOk result (λ n. (n ≤ MOST_BLOCKS) × (at + 2 ≤ end)) }
-    ensures reads { ReadsOnly D.image D.honest D.may_leave D.may_have_left device.old device.new }
-    ensures cause { Causes (D.failed device.old) (D.failed device.new) result }
+    ensures reads { ReadsOnly D.medium device.old device.new }
+    ensures cause { Causes (D.medium.failed device.old) (D.medium.failed device.new) result }
 {
     let mut word = [0u8; 2];
     let n = match fill(device, at, end, &mut word) {
@@ -188,11 +188,11 @@ fn read_maps<D: Device>(
     end: u64,
 ) -> Result<(u16, (u16, u16)), OpenError>
     requires range { (at ≤ end) × (end < 2 ^ 31) }
-    requires within { end ≤ length (D.image device.old) }
-    ensures exact { D.honest device.old → Tells (λ m. m) result (maps_at entries.now at (part (D.image device.old) at (end - at))) }
+    requires within { end ≤ length (D.medium.image device.old) }
+    ensures exact { D.medium.honest device.old → Tells (λ m. m) result (maps_at entries.now at (part (D.medium.image device.old) at (end - at))) }
     ensures legal { IfOk result (λ m. (at + 6 ≤ end) × AreMaps entries.now m.0 m.1.0 m.1.1) }
-    ensures reads { ReadsOnly D.image D.honest D.may_leave D.may_have_left device.old device.new }
-    ensures cause { Causes (D.failed device.old) (D.failed device.new) result }
+    ensures reads { ReadsOnly D.medium device.old device.new }
+    ensures cause { Causes (D.medium.failed device.old) (D.medium.failed device.new) result }
 {
     let mut maps = [0u8; 6];
     let n = match fill(device, at, end, &mut maps) {
@@ -213,12 +213,12 @@ pub(crate) fn read_directory<D: Device>(
     buffer: &mut [u8],
 ) -> Result<Directory, OpenError>
     requires range { (at ≤ end) × (end < 2 ^ 30) }
-    requires within { end ≤ length (D.image device.old) }
+    requires within { end ≤ length (D.medium.image device.old) }
     requires room { length buffer.old ≡ most_block_bytes }
-    ensures exact { D.honest device.old → Tells listed result (contents_at at (part (D.image device.old) at (end - at))) }
+    ensures exact { D.medium.honest device.old → Tells listed result (contents_at at (part (D.medium.image device.old) at (end - at))) }
     ensures legal { IfOk result (λ d. (is_directory d ≡ true) × (at + directory_length d ≤ end)) }
-    ensures reads { ReadsOnly D.image D.honest D.may_leave D.may_have_left device.old device.new }
-    ensures cause { Causes (D.failed device.old) (D.failed device.new) result }
+    ensures reads { ReadsOnly D.medium device.old device.new }
+    ensures cause { Causes (D.medium.failed device.old) (D.medium.failed device.new) result }
 {
     let count = match read_count(device, at, end) {
         Ok(count) => count,

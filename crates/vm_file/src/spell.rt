@@ -53,14 +53,14 @@ fn read_from<D: Device>(
 ) -> Result<(), Disk>
     requires { at ≤ length into.old }
     ensures long { length into.new ≡ length into.old }
-    ensures bytes { D.honest device.old → OnOk result (into.new ≡ take at into.old ++ part (D.image device.old) from (length into.old - at)) }
-    ensures reads { ReadsOnly D.image D.honest D.may_leave D.may_have_left device.old device.new }
-    ensures ok { OnOk result (D.failed device.new ≡ D.failed device.old) }
-    ensures once { FailedOnce (D.failed device.old) (D.failed device.new) }
-    ensures cause { D.honest device.old
-        → IsHeap (part (D.image device.old) from (length into.old - at))
-        → handle_word (part (D.image device.old) from (length into.old - at)) ≡ h
-        → OnErr result (Rose (D.failed device.old) (D.failed device.new)) }
+    ensures bytes { D.medium.honest device.old → OnOk result (into.new ≡ take at into.old ++ part (D.medium.image device.old) from (length into.old - at)) }
+    ensures reads { ReadsOnly D.medium device.old device.new }
+    ensures ok { OnOk result (D.medium.failed device.new ≡ D.medium.failed device.old) }
+    ensures once { FailedOnce (D.medium.failed device.old) (D.medium.failed device.new) }
+    ensures cause { D.medium.honest device.old
+        → IsHeap (part (D.medium.image device.old) from (length into.old - at))
+        → handle_word (part (D.medium.image device.old) from (length into.old - at)) ≡ h
+        → OnErr result (Rose (D.medium.failed device.old) (D.medium.failed device.new)) }
 {
     read_block(device, from, h, &mut into[at..])
 }
@@ -74,16 +74,16 @@ fn append_block<D: Device>(
     into: &mut Vec<u8>,
 ) -> Result<(), Disk>
     requires { vec_len into.old + n ≤ vec_capacity into.old }
-    ensures items { D.honest device.old → OnOk result (into.new.items ≡ into.old.items ++ part (D.image device.old) from n) }
+    ensures items { D.medium.honest device.old → OnOk result (into.new.items ≡ into.old.items ++ part (D.medium.image device.old) from n) }
     ensures len { vec_len into.new ≡ vec_len into.old + n }
     ensures room { vec_capacity into.old ≤ vec_capacity into.new }
-    ensures reads { ReadsOnly D.image D.honest D.may_leave D.may_have_left device.old device.new }
-    ensures ok { OnOk result (D.failed device.new ≡ D.failed device.old) }
-    ensures once { FailedOnce (D.failed device.old) (D.failed device.new) }
-    ensures cause { D.honest device.old
-        → IsHeap (part (D.image device.old) from n)
-        → handle_word (part (D.image device.old) from n) ≡ h
-        → OnErr result (Rose (D.failed device.old) (D.failed device.new)) }
+    ensures reads { ReadsOnly D.medium device.old device.new }
+    ensures ok { OnOk result (D.medium.failed device.new ≡ D.medium.failed device.old) }
+    ensures once { FailedOnce (D.medium.failed device.old) (D.medium.failed device.new) }
+    ensures cause { D.medium.honest device.old
+        → IsHeap (part (D.medium.image device.old) from n)
+        → handle_word (part (D.medium.image device.old) from n) ≡ h
+        → OnErr result (Rose (D.medium.failed device.old) (D.medium.failed device.new)) }
 {
     let at = into.len();
     into.resize(at + n as usize, 0).unwrap();
@@ -110,17 +110,17 @@ fn spell_block<D: Device, S: Source>(
     requires range { kept.now.from < 2 ^ 32 }
     requires room { vec_len into.old + (6 + e.len) ≤ vec_capacity into.old }
     requires length { HasLength (S.resident_bytes source.now) e }
-    ensures items { D.honest device.old → OnOk result (into.new.items
-        ≡ into.old.items ++ block_spelling (placed_block (S.resident_bytes source.now) (D.image device.old) kept.now e)) }
+    ensures items { D.medium.honest device.old → OnOk result (into.new.items
+        ≡ into.old.items ++ block_spelling (placed_block (S.resident_bytes source.now) (D.medium.image device.old) kept.now e)) }
     ensures len { vec_len into.new ≡ vec_len into.old + (6 + e.len) }
     ensures room { vec_capacity into.old ≤ vec_capacity into.new }
-    ensures reads { ReadsOnly D.image D.honest D.may_leave D.may_have_left device.old device.new }
-    ensures ok { OnOk result (D.failed device.new ≡ D.failed device.old) }
-    ensures once { FailedOnce (D.failed device.old) (D.failed device.new) }
+    ensures reads { ReadsOnly D.medium device.old device.new }
+    ensures ok { OnOk result (D.medium.failed device.new ≡ D.medium.failed device.old) }
+    ensures once { FailedOnce (D.medium.failed device.old) (D.medium.failed device.new) }
     ensures resident { IsSome (S.resident_bytes source.now e.h) → OnErr result ⊥ }
-    ensures cause { D.honest device.old
-        → is_filled (placed_block (S.resident_bytes source.now) (D.image device.old) kept.now e) ≡ true
-        → OnErr result (Rose (D.failed device.old) (D.failed device.new)) }
+    ensures cause { D.medium.honest device.old
+        → is_filled (placed_block (S.resident_bytes source.now) (D.medium.image device.old) kept.now e) ≡ true
+        → OnErr result (Rose (D.medium.failed device.old) (D.medium.failed device.new)) }
 {
     put_words(into, e.h, e.uid, e.len);
     match source.resident(e.h) {
@@ -147,17 +147,17 @@ fn spell_blocks<D: Device, S: Source>(
     requires few { length entries.now ≤ MOST_BLOCKS }
     requires room { vec_len into.old + entries_length entries.now ≤ vec_capacity into.old }
     requires length { All (HasLength (S.resident_bytes source.now)) entries.now }
-    ensures items { D.honest device.old → OnOk result (into.new.items ≡ into.old.items
-        ++ flat_map block_spelling (map (placed_block (S.resident_bytes source.now) (D.image device.old) kept.now) entries.now)) }
+    ensures items { D.medium.honest device.old → OnOk result (into.new.items ≡ into.old.items
+        ++ flat_map block_spelling (map (placed_block (S.resident_bytes source.now) (D.medium.image device.old) kept.now) entries.now)) }
     ensures len { OnOk result (vec_len into.new ≡ vec_len into.old + entries_length entries.now) }
     ensures room { vec_capacity into.old ≤ vec_capacity into.new }
-    ensures reads { ReadsOnly D.image D.honest D.may_leave D.may_have_left device.old device.new }
-    ensures ok { OnOk result (D.failed device.new ≡ D.failed device.old) }
-    ensures once { FailedOnce (D.failed device.old) (D.failed device.new) }
+    ensures reads { ReadsOnly D.medium device.old device.new }
+    ensures ok { OnOk result (D.medium.failed device.new ≡ D.medium.failed device.old) }
+    ensures once { FailedOnce (D.medium.failed device.old) (D.medium.failed device.new) }
     ensures resident { AreResident (S.resident_bytes source.now) entries.now → OnErr result ⊥ }
-    ensures cause { D.honest device.old
-        → list_all is_filled (map (placed_block (S.resident_bytes source.now) (D.image device.old) kept.now) entries.now) ≡ true
-        → OnErr result (Rose (D.failed device.old) (D.failed device.new)) }
+    ensures cause { D.medium.honest device.old
+        → list_all is_filled (map (placed_block (S.resident_bytes source.now) (D.medium.image device.old) kept.now) entries.now) ≡ true
+        → OnErr result (Rose (D.medium.failed device.old) (D.medium.failed device.new)) }
 {
     for e in entries {
         match spell_block(device, kept, *e, source, into) {
@@ -179,17 +179,17 @@ pub(crate) fn spell_directory<D: Device, S: Source>(
     requires range { kept.now.from < 2 ^ 32 }
     requires room { vec_len into.old + directory_length directory.now ≤ vec_capacity into.old }
     requires length { All (HasLength (S.resident_bytes source.now)) directory.now.entries.items }
-    ensures items { D.honest device.old → OnOk result (into.new.items ≡ into.old.items
-        ++ contents_spelling (placed_contents (S.resident_bytes source.now) (D.image device.old) kept.now directory.now)) }
+    ensures items { D.medium.honest device.old → OnOk result (into.new.items ≡ into.old.items
+        ++ contents_spelling (placed_contents (S.resident_bytes source.now) (D.medium.image device.old) kept.now directory.now)) }
     ensures len { OnOk result (vec_len into.new ≡ vec_len into.old + directory_length directory.now) }
     ensures room { vec_capacity into.old ≤ vec_capacity into.new }
-    ensures reads { ReadsOnly D.image D.honest D.may_leave D.may_have_left device.old device.new }
-    ensures ok { OnOk result (D.failed device.new ≡ D.failed device.old) }
-    ensures once { FailedOnce (D.failed device.old) (D.failed device.new) }
+    ensures reads { ReadsOnly D.medium device.old device.new }
+    ensures ok { OnOk result (D.medium.failed device.new ≡ D.medium.failed device.old) }
+    ensures once { FailedOnce (D.medium.failed device.old) (D.medium.failed device.new) }
     ensures resident { AreResident (S.resident_bytes source.now) directory.now.entries.items → OnErr result ⊥ }
-    ensures cause { D.honest device.old
-        → list_all is_filled (placed_contents (S.resident_bytes source.now) (D.image device.old) kept.now directory.now).blocks ≡ true
-        → OnErr result (Rose (D.failed device.old) (D.failed device.new)) }
+    ensures cause { D.medium.honest device.old
+        → list_all is_filled (placed_contents (S.resident_bytes source.now) (D.medium.image device.old) kept.now directory.now).blocks ≡ true
+        → OnErr result (Rose (D.medium.failed device.old) (D.medium.failed device.new)) }
 {
     put_word(into, directory.entries.len() as u16);
     match spell_blocks(device, kept, &directory.entries, source, into) {

@@ -31,7 +31,7 @@ returns-in-Err g c =
     let d = g.D.Device in let now = c.args.vm.now in let h = c.args.g in let why = c.in-Err.why in
     let e = c.in-Err.ensures in
     let group : IsGroup now h = c.if-not-is_group.ensures.0 refl in
-    let refused : BringsGroup d.image d.honest d.may_leave d.may_have_left d.failed h (Err (why_not_brought why)) now c.bring.new.self c.args.blocks.now c.bring.new.blocks = record {
+    let refused : BringsGroup d.medium h (Err (why_not_brought why)) now c.bring.new.self c.args.blocks.now c.bring.new.blocks = record {
       tied = e.tied;
       same = e.same;
       no_group = λ none. absurd (none group);
@@ -46,7 +46,7 @@ returns-in-Err g c =
       no_room = λ r. (λ there. (let known = e.known there in absurd cc), e.no_room (room-why why r));
       device = record { pair = e.pair; reads = e.reads; cause = λ good fails. e.cause good (disk-why why fails); counted = λ never. e.counted (λ fails. never (disk-so why fails)) };
     } in
-    subst (λ (r : Refusal). BringsGroup d.image d.honest d.may_leave d.may_have_left d.failed h (Err r) now c.bring.new.self c.args.blocks.now c.bring.new.blocks) (sym c.why_not_brought.ensures) refused
+    subst (λ (r : Refusal). BringsGroup d.medium h (Err r) now c.bring.new.self c.args.blocks.now c.bring.new.blocks) (sym c.why_not_brought.ensures) refused
 
 pub returns-in-Ok : goal.returns-in-Ok
 returns-in-Ok g c =

@@ -10,15 +10,15 @@ use Rattle.db_items.proofs.groups.group_free.Goals as goal
 pub returns-then-not-is_group-clause-row : goal.returns-then-not-is_group-clause-row
 returns-then-not-is_group-clause-row g c =
     let d = g.D.Device in
-    free_no_group-row d.image d.honest d.failed c.args.vm.now c.args.blocks.now c.args.g c.requires (λ group. let no : false ≡ true = c.if-not-is_group.ensures.1 group in absurd cc)
+    free_no_group-row d.medium c.args.vm.now c.args.blocks.now c.args.g c.requires (λ group. let no : false ≡ true = c.if-not-is_group.ensures.1 group in absurd cc)
 
 pub returns-in-Ok-clause-row : goal.returns-in-Ok-clause-row
 returns-in-Ok-clause-row g c =
     let d = g.D.Device in
-    free-row d.image d.honest d.failed c.args.vm.now c.args.blocks.now c.args.g c.requires (c.if-not-is_group.ensures.0 refl) c.vfree.new.self c.vfree.new.blocks (Ok tt) c.in-Ok.ensures.row
+    free-row d.medium c.args.vm.now c.args.blocks.now c.args.g c.requires (c.if-not-is_group.ensures.0 refl) c.vfree.new.self c.vfree.new.blocks (Ok tt) c.in-Ok.ensures.row
 
 pub returns-in-Err-clause-row : goal.returns-in-Err-clause-row
 returns-in-Err-clause-row g c =
     let d = g.D.Device in
-    subst (λ (r : Refusal). DoesRow d.image d.honest d.failed (gfree c.args.g) (Err r) c.args.vm.now c.args.blocks.now c.vfree.new.self c.vfree.new.blocks) (sym c.why_not_freed.ensures)
-    (free-row d.image d.honest d.failed c.args.vm.now c.args.blocks.now c.args.g c.requires (c.if-not-is_group.ensures.0 refl) c.vfree.new.self c.vfree.new.blocks (Err (why_not_freed c.in-Err.why)) c.in-Err.ensures.row)
+    subst (λ (r : Refusal). DoesRow d.medium (gfree c.args.g) (Err r) c.args.vm.now c.args.blocks.now c.vfree.new.self c.vfree.new.blocks) (sym c.why_not_freed.ensures)
+    (free-row d.medium c.args.vm.now c.args.blocks.now c.args.g c.requires (c.if-not-is_group.ensures.0 refl) c.vfree.new.self c.vfree.new.blocks (Err (why_not_freed c.in-Err.why)) c.in-Err.ensures.row)

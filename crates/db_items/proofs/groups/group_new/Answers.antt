@@ -27,4 +27,4 @@ returns-in-Err-clause-why g c = subst (λ (r : Refusal). (r ≡ refusal.NoHandle
 pub returns-in-Err-clause-row : goal.returns-in-Err-clause-row
 returns-in-Err-clause-row g c =
     let d = g.D.Device in
-    subst (λ (r : Refusal). DoesRow d.image d.honest d.failed gnew (Err r) c.args.vm.now c.args.blocks.now c.vnew_unlocked.new.self c.vnew_unlocked.new.blocks) (sym c.why_not_made.ensures) c.in-Err.ensures.row
+    subst (λ (r : Refusal). DoesRow d.medium gnew (Err r) c.args.vm.now c.args.blocks.now c.vnew_unlocked.new.self c.vnew_unlocked.new.blocks) (sym c.why_not_made.ensures) c.in-Err.ensures.row

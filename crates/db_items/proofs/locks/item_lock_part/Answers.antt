@@ -15,25 +15,25 @@ use Rattle.db_items.proofs.locks.item_lock_part.Goals as goal
 pub returns-then-is_full : goal.returns-then-is_full
 returns-then-is_full g c =
     let d = g.D.Device in let full = c.is_full.ensures.0 c.if-is_full.true in
-    lock-full d.image d.honest d.may_leave d.may_have_left d.failed c.args.vm.now c.args.g c.args.i c.args.n c.args.blocks.now c.requires full.0 full.1 (search rules)
+    lock-full d.medium c.args.vm.now c.args.g c.args.i c.args.n c.args.blocks.now c.requires full.0 full.1 (search rules)
 
 pub returns-in-Err : goal.returns-in-Err
 returns-in-Err g c =
     let d = g.D.Device in
-    lock-not_brought d.image d.honest d.may_leave d.may_have_left d.failed c.args.vm.now c.args.g c.args.i c.args.n c.args.blocks.now c.bring_group.new.vm c.bring_group.new.blocks
+    lock-not_brought d.medium c.args.vm.now c.args.g c.args.i c.args.n c.args.blocks.now c.bring_group.new.vm c.bring_group.new.blocks
     (λ group many. let full = c.is_full.ensures.1 (group, many) in let none = c.if-is_full.false in absurd cc) c.in-Err.refusal c.requires c.in-Err.ensures
 
 pub find-requires : goal.find-requires
 find-requires g c =
     let d = g.D.Device in let t = c.bring_group.new.blocks in let b = c.in-Ok.ensures in
-    subst IsHeap (sym (c.bytes.ensures ∙ ap (λ n. bytes_of t (slot_of n)) c.vm.ensures)) (holds-heap d.image d.honest c.bring_group.new.vm t c.args.g b.tied b.ok.there).heap
+    subst IsHeap (sym (c.bytes.ensures ∙ ap (λ n. bytes_of t (slot_of n)) c.vm.ensures)) (holds-heap d.medium c.bring_group.new.vm t c.args.g b.tied b.ok.there).heap
 
 pub returns-in-Err-find : goal.returns-in-Err-find
 returns-in-Err-find g c =
     let d = g.D.Device in let t = c.bring_group.new.blocks in
     let bytes = c.bytes.ensures ∙ ap (λ n. bytes_of t (slot_of n)) c.vm.ensures in
     let finds = subst (λ xs. Finds (refer c.args.i c.args.n) xs (Err c.in-Err-find.why)) bytes c.in-Err-find.ensures.finds in
-    lock-refused d.image d.honest d.may_leave d.may_have_left d.failed c.args.vm.now c.args.g c.args.i c.args.n c.args.blocks.now c.bring_group.new.vm t
+    lock-refused d.medium c.args.vm.now c.args.g c.args.i c.args.n c.args.blocks.now c.bring_group.new.vm t
     (λ group many. let full = c.is_full.ensures.1 (group, many) in let none = c.if-is_full.false in absurd cc) c.in-Ok.ensures c.in-Err-find.why finds
 
 pub returns : goal.returns
@@ -46,5 +46,5 @@ returns g c =
     let slot : slot_of c.vm-2.result ≡ vm_slot h = ap slot_of c.vm-2.ensures in
     let few : locks_of t (slot_of c.vm-2.result) ≢ 65535 = (λ many. let full = c.is_full.ensures.1 (b.known, sym b.ok.locks ∙ sym (ap (locks_of t) slot) ∙ many) in let none = c.if-is_full.false in absurd cc) in
     let more = locked-more t u (slot_of c.vm-2.result) c.lock.result e.ok e.bad_handle e.locked (subst (IsThere t) (sym slot) b.ok.there) few in
-    lock-found d.image d.honest d.may_leave d.may_have_left d.failed c.args.vm.now h c.args.i c.args.n s c.bring_group.new.vm t
+    lock-found d.medium c.args.vm.now h c.args.i c.args.n s c.bring_group.new.vm t
     (λ group many. let full = c.is_full.ensures.1 (group, many) in let none = c.if-is_full.false in absurd cc) b u c.in-Ok-find.place (more ∙ ap (λ k. with_locks t k (locks_of t k + 1)) slot) finds within

@@ -6,8 +6,8 @@ use Rattle.geos_cli.proofs.script.carry_out_all.Given as goal
 
 abbrev pub invariant-loop-command : goal.invariant-loop-command
 invariant-loop-command g l =
-    RanCommands (g.D.Device.honest l.fn.kernel.device) l.fn.checked (take l.command-index l.fn.commands) l.fn.kernel.core l.kernel.core
+    RanCommands (g.D.Device.medium.honest l.fn.kernel.device) l.fn.checked (take l.command-index l.fn.commands) l.fn.kernel.core l.kernel.core
     (g.W.Write.contents l.fn.out.stream) (g.W.Write.contents l.out.stream)
     × (l.out.failures ≡ l.fn.out.failures)
-    × (g.D.Device.honest l.kernel.device ↔ g.D.Device.honest l.fn.kernel.device)
+    × (g.D.Device.medium.honest l.kernel.device ↔ g.D.Device.medium.honest l.fn.kernel.device)
     × NoneLocked l.kernel.core.blocks

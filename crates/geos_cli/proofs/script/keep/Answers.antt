@@ -11,5 +11,5 @@ returns-clause-unlocked g c =
     let none = (c.memory_is_legal.ensures.unlocked f tied).0 c.requires in
     let done = c.commit-done.ensures.calls.answers f tied in
     let after = commit-unlocked (keeper_of c.args.how) done.choice (memory_of c.args.kernel.now.core f) (memory_of c.commit-done.new.self.core done.file) c.commit-done.result none done.comes in
-    let now = file-on (g.D.Device.honest c.args.kernel.now.device) (g.D.Device.honest c.commit-done.new.self.device) c.commit-done.ensures.commits.file.was c.commit-done.new.self.core done.file done.tied in
+    let now = file-on (g.D.Device.medium.honest c.args.kernel.now.device) (g.D.Device.medium.honest c.commit-done.new.self.device) c.commit-done.ensures.commits.file.was c.commit-done.new.self.core done.file done.tied in
     (c.memory_is_legal-2.ensures.unlocked done.file now).1 after

@@ -3,7 +3,7 @@ use Rattle.geos_dump.proofs.picture.map.Goals as goal
 
 pub returns-in_err-put_directory-2-clause-reads : goal.returns-in_err-put_directory-2-clause-reads
 returns-in_err-put_directory-2-clause-reads g c =
-    let d = g.D.Device in (look_then d.image d.honest d.may_leave d.may_have_left c.args.file.now c.put_directory.new.file c.put_directory-2.new.file c.put_directory.ensures.looks c.put_directory-2.ensures.looks).reads
+    let d = g.D.Device in (look_then d.medium c.args.file.now c.put_directory.new.file c.put_directory-2.new.file c.put_directory.ensures.looks c.put_directory-2.ensures.looks).reads
 
 pub returns-in_err-put_directory-2-clause-cause : goal.returns-in_err-put_directory-2-clause-cause
 returns-in_err-put_directory-2-clause-cause g c =
@@ -11,4 +11,4 @@ returns-in_err-put_directory-2-clause-cause g c =
 
 pub returns-clause-reads : goal.returns-clause-reads
 returns-clause-reads g c =
-    let d = g.D.Device in (look_then d.image d.honest d.may_leave d.may_have_left c.args.file.now c.put_directory.new.file c.put_directory-2.new.file c.put_directory.ensures.looks c.put_directory-2.ensures.looks).reads
+    let d = g.D.Device in (look_then d.medium c.args.file.now c.put_directory.new.file c.put_directory-2.new.file c.put_directory.ensures.looks c.put_directory-2.ensures.looks).reads

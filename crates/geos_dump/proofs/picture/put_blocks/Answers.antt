@@ -10,6 +10,6 @@ pub loop-i-preserved : goal.loop-i-preserved
 loop-i-preserved g c =
     let d = g.D.Device in let i = c.loop-i.invariant in
     record {
-      looks = look_then d.image d.honest d.may_leave d.may_have_left c.args.file.now c.loop-i.file c.put_block.new.file i.looks c.in_ok-put_block.ensures.looks;
+      looks = look_then d.medium c.args.file.now c.loop-i.file c.put_block.new.file i.looks c.in_ok-put_block.ensures.looks;
       count = c.in_ok-put_block.ensures.cause ∙ i.count;
     }

@@ -6,6 +6,6 @@ abbrev pub invariant-loop-i : goal.invariant-loop-i
 invariant-loop-i g l =
     let d = g.D.Device in
     record {
-      looks : IsOnlyRead d.image d.honest d.may_leave d.may_have_left l.fn.file l.file;
-      count : d.failed l.file.device ≡ d.failed l.fn.file.device;
+      looks : IsOnlyRead d.medium l.fn.file l.file;
+      count : d.medium.failed l.file.device ≡ d.medium.failed l.fn.file.device;
     }

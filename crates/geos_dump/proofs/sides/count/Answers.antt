@@ -8,4 +8,4 @@ use Rattle.geos_dump.proofs.sides.count.Goals as goal
 pub returns-clause-blocks : goal.returns-clause-blocks
 returns-clause-blocks g c =
     c.len.ensures.value ∙ ap (λ d. length d.entries.items) (sym c.directory.ensures.lists)
-    ∙ length-map (contents_on c.args.side (pair_of g.D.Device.image c.args.file.now)).blocks entry_of
+    ∙ length-map (contents_on c.args.side (pair_of g.D.Device.medium.image c.args.file.now)).blocks entry_of

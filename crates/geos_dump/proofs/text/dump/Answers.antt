@@ -9,7 +9,7 @@ use Rattle.geos_dump.proofs.text.dump.Goals as goal
 
 pub returns-in_err-put_directory-2-clause-reads : goal.returns-in_err-put_directory-2-clause-reads
 returns-in_err-put_directory-2-clause-reads g c =
-    let d = g.D.Device in (look_then d.image d.honest d.may_leave d.may_have_left c.args.file.now c.put_directory.new.file c.put_directory-2.new.file c.put_directory.ensures.looks c.put_directory-2.ensures.looks).reads
+    let d = g.D.Device in (look_then d.medium c.args.file.now c.put_directory.new.file c.put_directory-2.new.file c.put_directory.ensures.looks c.put_directory-2.ensures.looks).reads
 
 pub returns-in_err-put_directory-2-clause-cause : goal.returns-in_err-put_directory-2-clause-cause
 returns-in_err-put_directory-2-clause-cause g c =
@@ -17,7 +17,7 @@ returns-in_err-put_directory-2-clause-cause g c =
 
 pub returns-clause-text : goal.returns-clause-text
 returns-clause-text g c = λ h.
-    let image = g.D.Device.image in let looks = c.put_directory.ensures.looks in
+    let image = g.D.Device.medium.image in let looks = c.put_directory.ensures.looks in
     let second = λ (p : Pair). directory_text c.args.detail (codes "saved") p.saved in
     both-texts c.new-out.result.items c.put_directory.new.out.items c.put_directory-2.new.out.items
     (directory_text c.args.detail (codes "current") (pair_of image c.args.file.now).cur) (second (pair_of image c.put_directory.new.file)) (second (pair_of image c.args.file.now))
@@ -25,4 +25,4 @@ returns-clause-text g c = λ h.
 
 pub returns-clause-reads : goal.returns-clause-reads
 returns-clause-reads g c =
-    let d = g.D.Device in (look_then d.image d.honest d.may_leave d.may_have_left c.args.file.now c.put_directory.new.file c.put_directory-2.new.file c.put_directory.ensures.looks c.put_directory-2.ensures.looks).reads
+    let d = g.D.Device in (look_then d.medium c.args.file.now c.put_directory.new.file c.put_directory-2.new.file c.put_directory.ensures.looks c.put_directory-2.ensures.looks).reads

@@ -13,10 +13,10 @@ returns-in_err-put_block-clause-cause g c =
 pub loop-i-preserved : goal.loop-i-preserved
 loop-i-preserved g c =
     let d = g.D.Device in let i = c.loop-i.invariant in
-    let f = c.args.file.now in let blocks = (contents_on c.args.side (pair_of d.image f)).blocks in
+    let f = c.args.file.now in let blocks = (contents_on c.args.side (pair_of d.medium.image f)).blocks in
     let is = c.entry_at-entry.ensures.is ∙ ap (λ p. get_or (contents_on c.args.side p).blocks c.loop-i.i no_block) i.looks.pair in
     record {
-      looks = look_then d.image d.honest d.may_leave d.may_have_left f c.loop-i.file c.put_block.new.file i.looks c.in_ok-put_block.ensures.looks;
+      looks = look_then d.medium f c.loop-i.file c.put_block.new.file i.looks c.in_ok-put_block.ensures.looks;
       count = c.in_ok-put_block.ensures.cause ∙ i.count;
       text = (λ h. take-step _ _ _ _ (block_text c.args.detail) blocks c.loop-i.i no_block (omega (arith, c.loop-i-test.true, c.count-i-end.ensures.blocks)) (i.text h)
           (c.in_ok-put_block.ensures.text (i.looks.reads.stays h)) (ap (block_text c.args.detail) is));

@@ -10,7 +10,7 @@ abbrev pub invariant-loop-i : goal.invariant-loop-i
 invariant-loop-i g l =
     let d = g.D.Device in
     record {
-      looks : IsOnlyRead d.image d.honest d.may_leave d.may_have_left l.fn.file l.file;
-      count : d.failed l.file.device ≡ d.failed l.fn.file.device;
-      text : d.honest l.fn.file.device → vec_items l.out ≡ vec_items l.fn.out ++ flat_map (block_text l.detail) (take l.i (contents_on l.side (pair_of d.image l.fn.file)).blocks);
+      looks : IsOnlyRead d.medium l.fn.file l.file;
+      count : d.medium.failed l.file.device ≡ d.medium.failed l.fn.file.device;
+      text : d.medium.honest l.fn.file.device → vec_items l.out ≡ vec_items l.fn.out ++ flat_map (block_text l.detail) (take l.i (contents_on l.side (pair_of d.medium.image l.fn.file)).blocks);
     }

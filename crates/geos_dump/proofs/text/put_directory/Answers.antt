@@ -10,7 +10,7 @@ pub returns-clause-text : goal.returns-clause-text
 returns-clause-text g c = λ h.
     let out = c.args.out.now.items in let word = side_word c.args.side in
     let line = directory_line word c.directory.result.now in
-    let blocks = flat_map (block_text c.args.detail) (contents_on c.args.side (pair_of g.D.Device.image c.args.file.now)).blocks in
+    let blocks = flat_map (block_text c.args.detail) (contents_on c.args.side (pair_of g.D.Device.medium.image c.args.file.now)).blocks in
     on_ok_weaker c.put_blocks.result
     (λ e. e ∙ ap (λ t. t ++ blocks) c.in_ok-put_directory_line.ensures ∙ append_assoc out line blocks ∙ ap (λ d. out ++ (directory_line word d ++ blocks)) (sym c.directory.ensures.lists))
     (c.put_blocks.ensures.text h)

@@ -9,13 +9,13 @@ use Rattle.geos_machine.proofs.chunks.make.Goals as goal
 pub make-requires-clause-locked : goal.make-requires-clause-locked
 make-requires-clause-locked g c =
     let i = c.args.i.now in
-    let honest : Type 0 = g.D.Device.honest c.args.kernel.now.device in
+    let honest : Type 0 = g.D.Device.medium.honest c.args.kernel.now.device in
     rw c.requires.a (slot-locked honest i c.args.kernel.now.core c.args.m.now (mem 0) c.requires.ready (λ beside pc safe. make-held i _ safe c.requires.makes))
 
 pub make-requires-clause-marked : goal.make-requires-clause-marked
 make-requires-clause-marked g c =
     let i = c.args.i.now in
-    let honest : Type 0 = g.D.Device.honest c.args.kernel.now.device in
+    let honest : Type 0 = g.D.Device.medium.honest c.args.kernel.now.device in
     rw c.requires.a (slot-may-change honest i c.args.kernel.now.core c.args.m.now (mem 0) c.requires.ready (λ beside pc safe. make-marked i _ safe c.requires.makes))
 
 pub bounds-m-i : goal.bounds-m-i
@@ -24,7 +24,7 @@ bounds-m-i g c = make-word c.args.i.now.opcode c.args.i.now c.requires.makes c.r
 pub returns-in-Ok-clause-works : goal.returns-in-Ok-clause-works
 returns-in-Ok-clause-works g c =
     let i = c.args.i.now in
-    let honest : Type 0 = g.D.Device.honest c.args.kernel.now.device in
+    let honest : Type 0 = g.D.Device.medium.honest c.args.kernel.now.device in
     let make = c.make_at-make.result in
     slot-done honest i c.args.kernel.now.core c.make.new.self.core c.args.m.now _ (mem 0) (λ name. make_row name make) (with_word i.b) (λ name choice memory. tt)
     (λ beside pc safe. make-held i _ safe c.requires.makes) (λ image choice beside pc. c.make_at-make.ensures image choice c.args.kernel.now.core beside pc) c.in-Ok.c
@@ -33,7 +33,7 @@ returns-in-Ok-clause-works g c =
 pub returns-in-Err-clause-works : goal.returns-in-Err-clause-works
 returns-in-Err-clause-works g c =
     let i = c.args.i.now in
-    let honest : Type 0 = g.D.Device.honest c.args.kernel.now.device in
+    let honest : Type 0 = g.D.Device.medium.honest c.args.kernel.now.device in
     let make = c.make_at-make.result in
     rw c.refuse.ensures.goes (slot-refused honest i c.args.kernel.now.core c.make.new.self.core c.args.m.now _ (mem 0) (λ name. make_row name make) (with_word i.b) (λ name choice memory. tt)
     (λ beside pc safe. make-held i _ safe c.requires.makes) (λ image choice beside pc. c.make_at-make.ensures image choice c.args.kernel.now.core beside pc) c.in-Err.refusal

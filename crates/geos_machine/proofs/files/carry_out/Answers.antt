@@ -6,19 +6,19 @@ use Rattle.geos_machine.proofs.files.carry_out.Goals as goal
 
 pub vupdate-requires : goal.vupdate-requires
 vupdate-requires g c =
-    let honest : Type 0 = g.D.Device.honest c.args.kernel.now.device in
+    let honest : Type 0 = g.D.Device.medium.honest c.args.kernel.now.device in
     let R = c.requires.ready in
     (c.memory_is_legal.ensures.unlocked R.beside.file R.ties.file).1 (ready-unlocked honest c.args.i.now c.args.kernel.now.core c.args.m.now R (rw c.in-Vupdate.is refl))
 
 pub vsave-requires : goal.vsave-requires
 vsave-requires g c =
-    let honest : Type 0 = g.D.Device.honest c.args.kernel.now.device in
+    let honest : Type 0 = g.D.Device.medium.honest c.args.kernel.now.device in
     let R = c.requires.ready in
     (c.memory_is_legal.ensures.unlocked R.beside.file R.ties.file).1 (ready-unlocked honest c.args.i.now c.args.kernel.now.core c.args.m.now R (rw c.in-Vsave.is refl))
 
 pub vrevert-requires : goal.vrevert-requires
 vrevert-requires g c =
-    let honest : Type 0 = g.D.Device.honest c.args.kernel.now.device in
+    let honest : Type 0 = g.D.Device.medium.honest c.args.kernel.now.device in
     let R = c.requires.ready in
     (c.memory_is_legal.ensures.unlocked R.beside.file R.ties.file).1 (ready-unlocked honest c.args.i.now c.args.kernel.now.core c.args.m.now R (rw c.in-Vrevert.is refl))
 

@@ -38,10 +38,10 @@ returns-clause-keeps g c =
 pub returns-clause-tied : goal.returns-clause-tied
 returns-clause-tied g c = λ marked.
     let d = g.D.Device in let q = c.requires in
-    named-tied d.image d.honest c.args.vm.now c.args.blocks.now c.match-try_change.blocks c.args.name q.tied q.heap.there (returns-clause-keeps g c) marked
+    named-tied d.medium c.args.vm.now c.args.blocks.now c.match-try_change.blocks c.args.name q.tied q.heap.there (returns-clause-keeps g c) marked
 
 pub returns-clause-row : goal.returns-clause-row
 returns-clause-row g c =
     let d = g.D.Device in let q = c.requires in let new = c.match-try_change.blocks in
-    carries-row d.image d.honest d.failed c.args.vm.now (change_edit c.args.change) c.args.blocks.now new c.args.name q.tied q.heap (may_grow c.args.change) c.match-try_change.done (returns-clause-carries g c)
+    carries-row d.medium c.args.vm.now (change_edit c.args.change) c.args.blocks.now new c.args.name q.tied q.heap (may_grow c.args.change) c.match-try_change.done (returns-clause-carries g c)
     (where_ok c.match-try_change.done (values-of new (slot_of c.args.name) c.region.result.now c.region.ensures.region c.region.ensures.bytes))

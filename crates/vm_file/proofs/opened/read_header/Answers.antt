@@ -11,10 +11,10 @@ told image front len end r all is here tells = ap header_at (sym (here ∙ first
 
 pub returns-in-Err-header_at-clause-exact : goal.returns-in-Err-header_at-clause-exact
 returns-in-Err-header_at-clause-exact g c = λ h.
-    told (g.D.Device.image c.args.device.now) (take c.in-Ok.n c.fill.new.into) c.len.result c.min-end.result c.header_at.result c.len.ensures.length c.min-end.ensures (c.in-Ok.ensures.front h) c.header_at.ensures.exact ∙ c.in-Err-header_at.is
+    told (g.D.Device.medium.image c.args.device.now) (take c.in-Ok.n c.fill.new.into) c.len.result c.min-end.result c.header_at.result c.len.ensures.length c.min-end.ensures (c.in-Ok.ensures.front h) c.header_at.ensures.exact ∙ c.in-Err-header_at.is
 
 pub returns-in-Ok-header_at-clause-exact : goal.returns-in-Ok-header_at-clause-exact
 returns-in-Ok-header_at-clause-exact g c = λ h.
-    let is = told (g.D.Device.image c.args.device.now) (take c.in-Ok.n c.fill.new.into) c.len.result c.min-end.result c.header_at.result c.len.ensures.length c.min-end.ensures (c.in-Ok.ensures.front h) c.header_at.ensures.exact ∙ c.in-Ok-header_at.is in
+    let is = told (g.D.Device.medium.image c.args.device.now) (take c.in-Ok.n c.fill.new.into) c.len.result c.min-end.result c.header_at.result c.len.ensures.length c.min-end.ensures (c.in-Ok.ensures.front h) c.header_at.ensures.exact ∙ c.in-Ok-header_at.is in
     let P : Result ℕ ℕ → Type 0 = λ r. IsOkAnd r (λ n. n ≡ c.in-Ok-header_at.area) in
     subst P (sym is) refl

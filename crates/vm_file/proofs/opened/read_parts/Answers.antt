@@ -13,11 +13,11 @@ use Rattle.vm_file.proofs.OpenSteps.{file_stop_header, file_stop_selector, file_
 use Rattle.vm_file.proofs.opened.read_parts.Goals as goal
 
 pub returns-in-Err-clause-exact : goal.returns-in-Err-clause-exact
-returns-in-Err-clause-exact g c = λ h. file_stop_header (g.D.Device.image c.args.device.now) c.in-Err.error (c.in-Err.ensures.exact h)
+returns-in-Err-clause-exact g c = λ h. file_stop_header (g.D.Device.medium.image c.args.device.now) c.in-Err.error (c.in-Err.ensures.exact h)
 
 pub returns-in-Err-read_selector-clause-exact : goal.returns-in-Err-read_selector-clause-exact
 returns-in-Err-read_selector-clause-exact g c = λ h.
-    let image = g.D.Device.image c.args.device.now in let r = c.in-Ok.ensures in
+    let image = g.D.Device.medium.image c.args.device.now in let r = c.in-Ok.ensures in
     let S : List ℕ → Type 0 = λ x. Tells (λ n. n) (let e : Result ℕ OpenError = Err c.in-Err-read_selector.error in e) (selector_at x) in
     file_stop_selector image c.in-Ok.area c.in-Err-read_selector.error (ok_only (header_at (take 512 image)) c.in-Ok.area (r.exact h))
     (subst S r.reads.same (c.in-Err-read_selector.ensures.exact (r.reads.stays h)))
@@ -36,7 +36,7 @@ module _ (P : Result Pair ℕ → Type 0) (image then : List ℕ) (area selector
 
 pub returns-then-len-base-clause-exact : goal.returns-then-len-base-clause-exact
 returns-then-len-base-clause-exact g c = λ h.
-    let image = g.D.Device.image c.args.device.now in let r = c.in-Ok.ensures in let s = c.in-Ok-read_selector.ensures in
+    let image = g.D.Device.medium.image c.args.device.now in let r = c.in-Ok.ensures in let s = c.in-Ok-read_selector.ensures in
     let selector = c.in-Ok-read_selector.selector in let base = base_of c.in-Ok.area (is_second selector) in
     let S : List ℕ → Type 0 = λ x. IsOkAnd (selector_at x) (λ y. y ≡ selector) in
     let place = c.base_of-base.ensures.exact in
@@ -47,23 +47,23 @@ returns-then-len-base-clause-exact g c = λ h.
 
 pub returns-in-Ok-read_pair-clause-exact : goal.returns-in-Ok-read_pair-clause-exact
 returns-in-Ok-read_pair-clause-exact g c = λ h.
-    let image = g.D.Device.image c.args.device.now in let r = c.in-Ok.ensures in let s = c.in-Ok-read_selector.ensures in
+    let image = g.D.Device.medium.image c.args.device.now in let r = c.in-Ok.ensures in let s = c.in-Ok-read_selector.ensures in
     let selector = c.in-Ok-read_selector.selector in
     let S : List ℕ → Type 0 = λ x. IsOkAnd (selector_at x) (λ y. y ≡ selector) in
     let made : Directory × Directory = (c.in-Ok-read_pair.current, c.in-Ok-read_pair.saved) in
     let P : Result Pair ℕ → Type 0 = λ x. IsOkAnd x (λ p. listed_pair p ≡ made) in
     file_read image c.in-Ok.area selector c.in-Ok-read_pair.current c.in-Ok-read_pair.saved (ok_only (header_at (take 512 image)) c.in-Ok.area (r.exact h))
     (ok_only (selector_at image) selector (subst S r.reads.same (s.exact (r.reads.stays h))))
-    (read_area P image (g.D.Device.image c.read_selector.new.device) c.in-Ok.area selector c.base_of-base.result c.len-len.result c.min-end.result c.base_of-base.ensures.exact (s.reads.same ∙ r.reads.same) c.len-len.ensures.length c.if-len-base.false
+    (read_area P image (g.D.Device.medium.image c.read_selector.new.device) c.in-Ok.area selector c.base_of-base.result c.len-len.result c.min-end.result c.base_of-base.ensures.exact (s.reads.same ∙ r.reads.same) c.len-len.ensures.length c.if-len-base.false
     (c.min-end.ensures ∙ ap (λ k. min c.len-len.result (c.base_of-base.result + k)) c.from.ensures) (c.in-Ok-read_pair.ensures.exact (s.reads.stays (r.reads.stays h))))
 
 pub returns-in-Err-read_pair-clause-exact : goal.returns-in-Err-read_pair-clause-exact
 returns-in-Err-read_pair-clause-exact g c = λ h.
-    let image = g.D.Device.image c.args.device.now in let r = c.in-Ok.ensures in let s = c.in-Ok-read_selector.ensures in
+    let image = g.D.Device.medium.image c.args.device.now in let r = c.in-Ok.ensures in let s = c.in-Ok-read_selector.ensures in
     let selector = c.in-Ok-read_selector.selector in
     let S : List ℕ → Type 0 = λ x. IsOkAnd (selector_at x) (λ y. y ≡ selector) in
     let P : Result Pair ℕ → Type 0 = λ x. Tells listed_pair (let e : Result (Directory × Directory) OpenError = Err c.in-Err-read_pair.error in e) x in
     file_stop_pair image c.in-Ok.area selector c.in-Err-read_pair.error (ok_only (header_at (take 512 image)) c.in-Ok.area (r.exact h))
     (ok_only (selector_at image) selector (subst S r.reads.same (s.exact (r.reads.stays h))))
-    (read_area P image (g.D.Device.image c.read_selector.new.device) c.in-Ok.area selector c.base_of-base.result c.len-len.result c.min-end.result c.base_of-base.ensures.exact (s.reads.same ∙ r.reads.same) c.len-len.ensures.length c.if-len-base.false
+    (read_area P image (g.D.Device.medium.image c.read_selector.new.device) c.in-Ok.area selector c.base_of-base.result c.len-len.result c.min-end.result c.base_of-base.ensures.exact (s.reads.same ∙ r.reads.same) c.len-len.ensures.length c.if-len-base.false
     (c.min-end.ensures ∙ ap (λ k. min c.len-len.result (c.base_of-base.result + k)) c.from.ensures) (c.in-Err-read_pair.ensures.exact (s.reads.stays (r.reads.stays h))))

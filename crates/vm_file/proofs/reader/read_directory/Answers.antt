@@ -13,11 +13,11 @@ use Rattle.vm_file.proofs.reader.read_directory.Goals as goal
 
 pub returns-in-Err-clause-exact : goal.returns-in-Err-clause-exact
 returns-in-Err-clause-exact g c = λ h.
-    contents_stop_any c.args.at (stretch (g.D.Device.image c.args.device.now) c.args.at c.args.end) c.in-Err.error (c.in-Err.ensures.exact h)
+    contents_stop_any c.args.at (stretch (g.D.Device.medium.image c.args.device.now) c.args.at c.args.end) c.in-Err.error (c.in-Err.ensures.exact h)
 
 pub returns-in-Err-read_entries-clause-exact : goal.returns-in-Err-read_entries-clause-exact
 returns-in-Err-read_entries-clause-exact g c = λ h.
-    let image = g.D.Device.image c.args.device.now in let s = stretch image c.args.at c.args.end in
+    let image = g.D.Device.medium.image c.args.device.now in let s = stretch image c.args.at c.args.end in
     let r = c.in-Ok.ensures in
     let count = ok_only (count_at c.args.at s) c.in-Ok.count (r.exact h) in
     let past = drop-stretch image c.args.at c.args.end 2 r.legal.1 in
@@ -43,8 +43,8 @@ module _ (image then : List ℕ) (at end count : ℕ) (items : List Entry) where
 
 pub returns-in-Err-read_maps-clause-exact : goal.returns-in-Err-read_maps-clause-exact
 returns-in-Err-read_maps-clause-exact g c = λ h.
-    let image = g.D.Device.image c.args.device.now in let s = stretch image c.args.at c.args.end in
-    let items = c.in-Ok-read_entries.entries.items in let then = g.D.Device.image c.read_entries.new.device in
+    let image = g.D.Device.medium.image c.args.device.now in let s = stretch image c.args.at c.args.end in
+    let items = c.in-Ok-read_entries.entries.items in let then = g.D.Device.medium.image c.read_entries.new.device in
     let r1 = c.in-Ok.ensures in let r2 = c.in-Ok-read_entries.ensures in
     let from = c.args.at + 2 + c.from.result in
     let place : from ≡ c.args.at + 2 + entries_length items = ap (λ k. c.args.at + 2 + k) (c.from.ensures ∙ c.entries_length.ensures.exact ∙ ap entries_length c.deref.ensures.0) in
@@ -52,13 +52,13 @@ returns-in-Err-read_maps-clause-exact g c = λ h.
     let E : List Entry → Type 0 = λ es. Tells (λ m. m) (let r : Result (ℕ × (ℕ × ℕ)) OpenError = Err c.in-Err-read_maps.error in r) (maps_at es from (stretch then from c.args.end)) in
     let told = subst E c.deref-2.ensures.0 (c.in-Err-read_maps.ensures.exact (r2.reads.stays (r1.reads.stays h))) in
     contents_stop_maps_any c.args.at c.in-Ok.count s items c.in-Err-read_maps.error (ok_only (count_at c.args.at s) c.in-Ok.count (r1.exact h))
-    (blocks_then image (g.D.Device.image c.read_count.new.device) c.args.at c.args.end c.in-Ok.count items r1.legal.1 r1.reads.same (r2.exact (r1.reads.stays h)))
+    (blocks_then image (g.D.Device.medium.image c.read_count.new.device) c.args.at c.args.end c.in-Ok.count items r1.legal.1 r1.reads.same (r2.exact (r1.reads.stays h)))
     (maps_at items from (stretch then from c.args.end)) told (maps_then image then c.args.at c.args.end c.in-Ok.count items (maps_at items from (stretch then from c.args.end)) from place r2.legal.1 same refl)
 
 pub returns-in-Ok-read_maps-clause-exact : goal.returns-in-Ok-read_maps-clause-exact
 returns-in-Ok-read_maps-clause-exact g c = λ h.
-    let image = g.D.Device.image c.args.device.now in let s = stretch image c.args.at c.args.end in
-    let items = c.in-Ok-read_entries.entries.items in let then = g.D.Device.image c.read_entries.new.device in
+    let image = g.D.Device.medium.image c.args.device.now in let s = stretch image c.args.at c.args.end in
+    let items = c.in-Ok-read_entries.entries.items in let then = g.D.Device.medium.image c.read_entries.new.device in
     let r1 = c.in-Ok.ensures in let r2 = c.in-Ok-read_entries.ensures in
     let from = c.args.at + 2 + c.from.result in
     let m : ℕ × (ℕ × ℕ) = (c.in-Ok-read_maps.map_block, c.in-Ok-read_maps.map_item) in
@@ -67,7 +67,7 @@ returns-in-Ok-read_maps-clause-exact g c = λ h.
     let E : List Entry → Type 0 = λ es. IsOkAnd (maps_at es from (stretch then from c.args.end)) (λ x. x ≡ m) in
     let told = ok_only (maps_at items from (stretch then from c.args.end)) m (subst E c.deref-2.ensures.0 (c.in-Ok-read_maps.ensures.exact (r2.reads.stays (r1.reads.stays h)))) in
     contents_read c.args.at c.in-Ok.count s items m (ok_only (count_at c.args.at s) c.in-Ok.count (r1.exact h))
-    (blocks_then image (g.D.Device.image c.read_count.new.device) c.args.at c.args.end c.in-Ok.count items r1.legal.1 r1.reads.same (r2.exact (r1.reads.stays h)))
+    (blocks_then image (g.D.Device.medium.image c.read_count.new.device) c.args.at c.args.end c.in-Ok.count items r1.legal.1 r1.reads.same (r2.exact (r1.reads.stays h)))
     (maps_then image then c.args.at c.args.end c.in-Ok.count items (Ok m) from place r2.legal.1 same told)
 
 pub returns-in-Ok-read_maps-clause-legal : goal.returns-in-Ok-read_maps-clause-legal

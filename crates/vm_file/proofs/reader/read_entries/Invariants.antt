@@ -14,7 +14,7 @@ invariant-loop g l =
       few : length l.entries.items ≡ l.counter;
       legal : are_entries 0 l.entries.items ≡ true;
       last : l.last ≡ last_handle 0 l.entries.items;
-      reads : ReadsOnly d.image d.honest d.may_leave d.may_have_left l.fn.device l.device;
-      count : d.failed l.device ≡ d.failed l.fn.device;
-      told : d.honest l.fn.device → Told (d.image l.fn.device) l.at l.end l.count l.counter l.last l.from l.entries.items;
+      reads : ReadsOnly d.medium l.fn.device l.device;
+      count : d.medium.failed l.device ≡ d.medium.failed l.fn.device;
+      told : d.medium.honest l.fn.device → Told (d.medium.image l.fn.device) l.at l.end l.count l.counter l.last l.from l.entries.items;
     }

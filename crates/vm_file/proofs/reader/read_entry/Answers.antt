@@ -28,13 +28,13 @@ overflow_sub-end g c =
 
 pub returns-in-Err-head_at-clause-exact : goal.returns-in-Err-head_at-clause-exact
 returns-in-Err-head_at-clause-exact g c = λ h.
-    let s = stretch (g.D.Device.image c.args.device.now) c.args.at c.args.end in
+    let s = stretch (g.D.Device.medium.image c.args.device.now) c.args.at c.args.end in
     block_stops c.args.last c.args.at c.in-Err-head_at.fault s (told c.args.last c.args.at s (take c.in-Ok.n c.fill.new.into) c.head_at.result (c.in-Ok.ensures.front h) c.head_at.ensures ∙ c.in-Err-head_at.is)
 
 pub returns-then-end-from-clause-exact : goal.returns-then-end-from-clause-exact
 returns-then-end-from-clause-exact g c = λ h.
-    let s = stretch (g.D.Device.image c.args.device.now) c.args.at c.args.end in
-    let n = length-stretch (g.D.Device.image c.args.device.now) c.args.at c.args.end c.requires.within in
+    let s = stretch (g.D.Device.medium.image c.args.device.now) c.args.at c.args.end in
+    let n = length-stretch (g.D.Device.medium.image c.args.device.now) c.args.at c.args.end c.requires.within in
     block_short c.args.last c.args.at s c.in-Ok-head_at.entry (told c.args.last c.args.at s (take c.in-Ok.n c.fill.new.into) c.head_at.result (c.in-Ok.ensures.front h) c.head_at.ensures ∙ c.in-Ok-head_at.is)
     (omega (arith, n, length-drop 6 s, c.if-end-from.true, c.from.ensures))
 
@@ -52,7 +52,7 @@ slice_bounds-block-end-2 g c =
 
 pub returns-then-is_heap_of-clause-exact : goal.returns-then-is_heap_of-clause-exact
 returns-then-is_heap_of-clause-exact g c = λ h.
-    let image = g.D.Device.image c.args.device.now in
+    let image = g.D.Device.medium.image c.args.device.now in
     let s = stretch image c.args.at c.args.end in let e = c.in-Ok-head_at.entry in
     let n = length-stretch image c.args.at c.args.end c.requires.within in
     let heap = c.is_heap_of.ensures.0 c.if-is_heap_of.true in
@@ -61,7 +61,7 @@ returns-then-is_heap_of-clause-exact g c = λ h.
     let room = length-take e.len c.args.buffer.now in
     let len : length (take e.len c.args.buffer.now) ≡ e.len = omega (arith, small.1, c.requires.room, room) in
     let fits : c.args.at + 6 + e.len ≤ c.args.end = omega (arith, k.1, length-take c.in-Ok.n c.fill.new.into, c.in-Ok.ensures.count, c.if-end-from.false, c.from.ensures) in
-    let there = same_bytes image (g.D.Device.image c.fill.new.device) c.args.at c.args.end e.len (length (take e.len c.args.buffer.now)) c.read_at.new.into fits len c.in-Ok.ensures.reads.same (c.in-Ok-read_at.ensures.bytes (c.in-Ok.ensures.reads.stays h)) in
+    let there = same_bytes image (g.D.Device.medium.image c.fill.new.device) c.args.at c.args.end e.len (length (take e.len c.args.buffer.now)) c.read_at.new.into fits len c.in-Ok.ensures.reads.same (c.in-Ok-read_at.ensures.bytes (c.in-Ok.ensures.reads.stays h)) in
     let H : List ℕ → Type 0 = λ x. IsHeap x in
     block_good c.args.last c.args.at s e (told c.args.last c.args.at s (take c.in-Ok.n c.fill.new.into) c.head_at.result (c.in-Ok.ensures.front h) c.head_at.ensures ∙ c.in-Ok-head_at.is)
     (omega (arith, n, length-drop 6 s, fits)) (subst H there heap.0) (ap handle_word (sym there) ∙ heap.1)
@@ -73,14 +73,14 @@ returns-then-is_heap_of-clause-legal g c =
 
 pub returns-else-is_heap_of-clause-exact : goal.returns-else-is_heap_of-clause-exact
 returns-else-is_heap_of-clause-exact g c = λ h.
-    let image = g.D.Device.image c.args.device.now in
+    let image = g.D.Device.medium.image c.args.device.now in
     let s = stretch image c.args.at c.args.end in let e = c.in-Ok-head_at.entry in
     let k = head_ok c.args.last c.args.at (take c.in-Ok.n c.fill.new.into) e (sym c.head_at.ensures ∙ c.in-Ok-head_at.is) in
     let small = entry_size c.args.last e k.0 in
     let room = length-take e.len c.args.buffer.now in
     let len : length (take e.len c.args.buffer.now) ≡ e.len = omega (arith, small.1, c.requires.room, room) in
     let fits : c.args.at + 6 + e.len ≤ c.args.end = omega (arith, k.1, length-take c.in-Ok.n c.fill.new.into, c.in-Ok.ensures.count, c.if-end-from.false, c.from.ensures) in
-    let there = same_bytes image (g.D.Device.image c.fill.new.device) c.args.at c.args.end e.len (length (take e.len c.args.buffer.now)) c.read_at.new.into fits len c.in-Ok.ensures.reads.same (c.in-Ok-read_at.ensures.bytes (c.in-Ok.ensures.reads.stays h)) in
+    let there = same_bytes image (g.D.Device.medium.image c.fill.new.device) c.args.at c.args.end e.len (length (take e.len c.args.buffer.now)) c.read_at.new.into fits len c.in-Ok.ensures.reads.same (c.in-Ok-read_at.ensures.bytes (c.in-Ok.ensures.reads.stays h)) in
     let H : List ℕ → Type 0 = λ x. IsHeap x in
     block_bad c.args.last c.args.at s e (told c.args.last c.args.at s (take c.in-Ok.n c.fill.new.into) c.head_at.result (c.in-Ok.ensures.front h) c.head_at.ensures ∙ c.in-Ok-head_at.is)
     (λ heap handle. false≢true (sym c.if-is_heap_of.false ∙ c.is_heap_of.ensures.1 (subst H (sym there) heap, ap handle_word there ∙ handle)))

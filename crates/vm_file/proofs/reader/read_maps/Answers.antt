@@ -13,11 +13,11 @@ told es at xs front r is tells = sym (front_maps es at xs) ∙ ap (maps_at es at
 
 pub returns-in-Err-maps_at-clause-exact : goal.returns-in-Err-maps_at-clause-exact
 returns-in-Err-maps_at-clause-exact g c = λ h.
-    told c.args.entries.now c.args.at (stretch (g.D.Device.image c.args.device.now) c.args.at c.args.end) (take c.in-Ok.n c.fill.new.into) c.maps_at.result (c.in-Ok.ensures.front h) c.maps_at.ensures ∙ c.in-Err-maps_at.is
+    told c.args.entries.now c.args.at (stretch (g.D.Device.medium.image c.args.device.now) c.args.at c.args.end) (take c.in-Ok.n c.fill.new.into) c.maps_at.result (c.in-Ok.ensures.front h) c.maps_at.ensures ∙ c.in-Err-maps_at.is
 
 pub returns-in-Ok-maps_at-clause-exact : goal.returns-in-Ok-maps_at-clause-exact
 returns-in-Ok-maps_at-clause-exact g c = λ h.
-    let s = stretch (g.D.Device.image c.args.device.now) c.args.at c.args.end in
+    let s = stretch (g.D.Device.medium.image c.args.device.now) c.args.at c.args.end in
     let is = told c.args.entries.now c.args.at s (take c.in-Ok.n c.fill.new.into) c.maps_at.result (c.in-Ok.ensures.front h) c.maps_at.ensures ∙ c.in-Ok-maps_at.is in
     let P : Result (ℕ × (ℕ × ℕ)) ℕ → Type 0 = λ r. IsOkAnd r (λ m. m ≡ c.in-Ok-maps_at.found) in
     subst P (sym is) refl

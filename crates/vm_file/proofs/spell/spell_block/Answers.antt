@@ -12,12 +12,12 @@ returns-in-Some-clause-items g c = λ h.
     let e = c.args.e in let ws = c.in-Some.bytes.now in
     let is = shown_some c.in-Some.bytes (g.S.Source.resident_bytes c.args.source.now e.h) c.in-Some.ensures in
     let long = some_length e (g.S.Source.resident_bytes c.args.source.now e.h) ws is c.requires.length in
-    let stored = part (g.D.Device.image c.args.device.now) (c.args.kept.now.from + place_in c.args.kept.now.directory.now.entries.items e.h) e.len in
+    let stored = part (g.D.Device.medium.image c.args.device.now) (c.args.kept.now.from + place_in c.args.kept.now.directory.now.entries.items e.h) e.len in
     block_appended e _ ws _ _ _ (ap (λ o. unwrap_or o stored) is) long c.put_words.ensures.items (search rules)
 
 pub returns-in-None-clause-cause : goal.returns-in-None-clause-cause
 returns-in-None-clause-cause g c = λ h filled.
-    let e = c.args.e in let image = g.D.Device.image c.args.device.now in
+    let e = c.args.e in let image = g.D.Device.medium.image c.args.device.now in
     let none = shown_none (g.S.Source.resident_bytes c.args.source.now e.h) c.in-None.ensures in
     let place : c.args.kept.now.from + c.from.result ≡ c.args.kept.now.from + place_in c.args.kept.now.directory.now.entries.items e.h = ap (λ k. c.args.kept.now.from + k) (c.from.ensures ∙ c.place_in.ensures.exact ∙ ap (λ es. place_in es e.h) c.deref.ensures.0) in
     let stored = filled_stored e.h e.uid (g.S.Source.resident_bytes c.args.source.now e.h) (part image (c.args.kept.now.from + place_in c.args.kept.now.directory.now.entries.items e.h) e.len) none filled in

@@ -22,12 +22,12 @@ returns-in-Err-clause-cause g c = λ h filled.
     let i = c.loop-e.invariant in let es = c.args.entries.now in
     let resident = g.S.Source.resident_bytes c.args.source.now in
     let F : List ℕ → Type 0 = λ x. is_filled (block_read resident x c.args.kept.now.from c.args.kept.now.directory.now.entries.items (get_or es c.loop-e.e-index blank)) ≡ true in
-    let R : ℕ → Type 0 = λ k. Rose k (g.D.Device.failed c.spell_block.new.device) in
+    let R : ℕ → Type 0 = λ k. Rose k (g.D.Device.medium.failed c.spell_block.new.device) in
     subst R i.count (c.in-Err.ensures.cause (i.reads.stays h)
-    (subst F (sym i.reads.same) (filled_at (block_read resident (g.D.Device.image c.args.device.now) c.args.kept.now.from c.args.kept.now.directory.now.entries.items) es c.loop-e.e-index blank c.loop-e-test.true filled)))
+    (subst F (sym i.reads.same) (filled_at (block_read resident (g.D.Device.medium.image c.args.device.now) c.args.kept.now.from c.args.kept.now.directory.now.entries.items) es c.loop-e.e-index blank c.loop-e-test.true filled)))
 
 pub returns-in-Err-clause-once : goal.returns-in-Err-clause-once
-returns-in-Err-clause-once g c = subst (λ (k : ℕ). FailedOnce k (g.D.Device.failed c.spell_block.new.device)) c.loop-e.invariant.count c.in-Err.ensures.once
+returns-in-Err-clause-once g c = subst (λ (k : ℕ). FailedOnce k (g.D.Device.medium.failed c.spell_block.new.device)) c.loop-e.invariant.count c.in-Err.ensures.once
 
 pub returns-in-Err-clause-resident : goal.returns-in-Err-clause-resident
 returns-in-Err-clause-resident g c = λ all. c.in-Err.ensures.resident (all c.loop-e.e-index blank c.loop-e-test.true)
@@ -41,8 +41,8 @@ loop-e-preserved g c =
     record {
       len = omega (arith, entries_length-more es k blank c.loop-e-test.true, i.len, c.spell_block.ensures.len);
       room = omega (arith, i.room, c.spell_block.ensures.room);
-      reads = reads_then d.image d.honest d.may_leave d.may_have_left c.args.device.now c.loop-e.device c.spell_block.new.device i.reads c.in-Ok.ensures.reads;
+      reads = reads_then d.medium c.args.device.now c.loop-e.device c.spell_block.new.device i.reads c.in-Ok.ensures.reads;
       count = c.in-Ok.ensures.ok ∙ i.count;
-      items = (λ h. blocks_appended (block_read resident (d.image c.args.device.now) c.args.kept.now.from c.args.kept.now.directory.now.entries.items) es k blank _ _ _
+      items = (λ h. blocks_appended (block_read resident (d.medium.image c.args.device.now) c.args.kept.now.from c.args.kept.now.directory.now.entries.items) es k blank _ _ _
           c.loop-e-test.true (i.items h) (subst P i.reads.same (c.in-Ok.ensures.items (i.reads.stays h))));
     }

@@ -13,7 +13,7 @@ invariant-loop-e g l =
     record {
       len : vec_len l.into ≡ vec_len l.fn.into + entries_length (take l.e-index l.entries);
       room : vec_capacity l.fn.into ≤ vec_capacity l.into;
-      reads : ReadsOnly d.image d.honest d.may_leave d.may_have_left l.fn.device l.device;
-      count : d.failed l.device ≡ d.failed l.fn.device;
-      items : d.honest l.fn.device → vec_items l.into ≡ vec_items l.fn.into ++ flat_map block_spelling (map (block_read (g.S.Source.resident_bytes l.source) (d.image l.fn.device) l.kept.from l.kept.directory.now.entries.items) (take l.e-index l.entries));
+      reads : ReadsOnly d.medium l.fn.device l.device;
+      count : d.medium.failed l.device ≡ d.medium.failed l.fn.device;
+      items : d.medium.honest l.fn.device → vec_items l.into ≡ vec_items l.fn.into ++ flat_map block_spelling (map (block_read (g.S.Source.resident_bytes l.source) (d.medium.image l.fn.device) l.kept.from l.kept.directory.now.entries.items) (take l.e-index l.entries));
     }

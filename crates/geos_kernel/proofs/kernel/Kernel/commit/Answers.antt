@@ -16,7 +16,7 @@ invariant_of-self g c =
     let w = c.commit-done.new.self in let t = c.commit-done.new.blocks in let r = c.commit-done.result in let how = c.args.how in
     let e = c.commit-done.ensures in
     let none : NoneLocked s = subst (λ k. NoneLocked k.core.blocks) (sym c.self.view_is) c.requires in
-    spared-kernel d.image d.honest d.failed v w s t c.self.invariant (committed-spares v w how s t none r e.commits.store e.commits.refused).beside (table.commit (keeper_of how)) (of_commit r) e.tied e.row
+    spared-kernel d.medium v w s t c.self.invariant (committed-spares v w how s t none r e.commits.store e.commits.refused).beside (table.commit (keeper_of how)) (of_commit r) e.tied e.row
 
 pub returns-clause-calls : goal.returns-clause-calls
 returns-clause-calls g c =
@@ -25,11 +25,11 @@ returns-clause-calls g c =
     let e = c.commit-done.ensures in
     let none : NoneLocked s = subst (λ k. NoneLocked k.core.blocks) (sym c.self.view_is) c.requires in
     let spares = committed-spares v w how s t none r e.commits.store e.commits.refused in
-    rw c.of_commit.ensures (calls-seen d.image d.honest d.failed v s c.args.self.now c.self.view_is (calls-beside d.image d.honest d.failed v w s t e.row e.commits.file.stays (λ good. committed-lasts v w d.failed r e.commits.file.ok e.commits.file.refused (e.commits.file.cause good)) spares))
+    rw c.of_commit.ensures (calls-seen d.medium v s c.args.self.now c.self.view_is (calls-beside d.medium v w s t e.row e.commits.file.stays (λ good. committed-lasts v w d.medium.failed r e.commits.file.ok e.commits.file.refused (e.commits.file.cause good)) spares))
 
 pub returns-clause-commits : goal.returns-clause-commits
 returns-clause-commits g c =
     let d = g.D.Device in let v = c.self.inside.vm in let s = c.self.inside.blocks in
     let w = c.commit-done.new.self in let t = c.commit-done.new.blocks in let r = c.commit-done.result in
-    subst (λ k. Commits d.image d.honest d.failed d.may_leave d.may_have_left c.args.how k (kernel_of d.image d.failed w t) c.of_commit.result) c.self.view_is
-    (record { answer = r; same = c.of_commit.ensures; file = c.commit-done.ensures.commits.file; store = c.commit-done.ensures.commits.store; refused = committed-refused v w d.image d.failed s t r c.commit-done.ensures.commits.refused })
+    subst (λ k. Commits d.medium c.args.how k (kernel_of d.medium w t) c.of_commit.result) c.self.view_is
+    (record { answer = r; same = c.of_commit.ensures; file = c.commit-done.ensures.commits.file; store = c.commit-done.ensures.commits.store; refused = committed-refused v w d.medium s t r c.commit-done.ensures.commits.refused })

@@ -15,18 +15,18 @@ use Rattle.geos_kernel.proofs.kernel.Kernel.ilock.Goals as goal
 pub invariant_of-self : goal.invariant_of-self
 invariant_of-self g c =
     let d = g.D.Device in let done = c.item_lock_part in let v = c.self.inside.vm in let s = c.self.inside.blocks in let t = done.new.blocks in
-    spared-kernel d.image d.honest d.failed v done.new.vm s t c.self.invariant (keeps-mem v s t c.args.g done.ensures.keeps) (ilock c.args.g c.args.i c.args.n) (refers_to c.args.g c.args.i done.result) done.ensures.tied done.ensures.row
+    spared-kernel d.medium v done.new.vm s t c.self.invariant (keeps-mem v s t c.args.g done.ensures.keeps) (ilock c.args.g c.args.i c.args.n) (refers_to c.args.g c.args.i done.result) done.ensures.tied done.ensures.row
 
-locked : (g : given.Over) (c : Joined-item_lock_part g) → LocksPart g.D.Device.image g.D.Device.honest g.D.Device.may_leave g.D.Device.may_have_left g.D.Device.failed c.args.g c.args.i c.args.n c.match-item_lock_part.result c.args.self.now
-    (kernel_of g.D.Device.image g.D.Device.failed c.item_lock_part.new.vm c.item_lock_part.new.blocks)
+locked : (g : given.Over) (c : Joined-item_lock_part g) → LocksPart g.D.Device.medium c.args.g c.args.i c.args.n c.match-item_lock_part.result c.args.self.now
+    (kernel_of g.D.Device.medium c.item_lock_part.new.vm c.item_lock_part.new.blocks)
 locked g c =
     let d = g.D.Device in let v = c.self.inside.vm in let s = c.self.inside.blocks in let x = c.item_lock_part.new.vm in let t = c.item_lock_part.new.blocks in
     elim c.match-item_lock_part.branch [
       | in-Ok w ↦ (
           let place = w.place.ensures.place ∙ ap (λ name. place_of t (slot_of name)) w.vm.ensures in
-          rw (w.result-is, place) (part-locked d.image d.honest d.may_leave d.may_have_left d.failed v x s t c.args.self.now c.self.view_is c.self.invariant c.args.g c.args.i c.args.n w.in-Ok.at w.in-Ok.len w.in-Ok.ensures)
+          rw (w.result-is, place) (part-locked d.medium v x s t c.args.self.now c.self.view_is c.self.invariant c.args.g c.args.i c.args.n w.in-Ok.at w.in-Ok.len w.in-Ok.ensures)
           )
-      | in-Err w ↦ rw w.result-is (part-refused d.image d.honest d.may_leave d.may_have_left d.failed v x s t c.args.self.now c.self.view_is c.self.invariant c.args.g c.args.i c.args.n w.in-Err.refusal w.in-Err.ensures)
+      | in-Err w ↦ rw w.result-is (part-refused d.medium v x s t c.args.self.now c.self.view_is c.self.invariant c.args.g c.args.i c.args.n w.in-Err.refusal w.in-Err.ensures)
     ]
 
 pub returns-clause-gives : goal.returns-clause-gives
@@ -50,4 +50,4 @@ returns-clause-locks g c = (locked g c).locks
 pub returns-clause-no_group : goal.returns-clause-no_group
 returns-clause-no_group g c =
     let d = g.D.Device in let done = c.item_lock_part in
-    no_group-same d.image d.failed c.self.inside.vm done.new.vm c.self.inside.blocks done.new.blocks c.args.self.now c.self.view_is c.args.g done.result done.ensures.no_group
+    no_group-same d.medium c.self.inside.vm done.new.vm c.self.inside.blocks done.new.blocks c.args.self.now c.self.view_is c.args.g done.result done.ensures.no_group

@@ -11,10 +11,10 @@ pub invariant_of-self : goal.invariant_of-self
 invariant_of-self g c =
     let d = g.D.Device in let v = c.self.inside.vm in let s = c.self.inside.blocks in let done = c.item_make in
     let e = done.ensures in
-    spared-kernel d.image d.honest d.failed v done.new.vm s done.new.blocks c.self.invariant (keeps-mem v s done.new.blocks c.args.g e.keeps) (on_group c.args.g (make_row (vm c.args.g) c.args.make)) done.result e.tied e.row
+    spared-kernel d.medium v done.new.vm s done.new.blocks c.self.invariant (keeps-mem v s done.new.blocks c.args.g e.keeps) (on_group c.args.g (make_row (vm c.args.g) c.args.make)) done.result e.tied e.row
 
 pub returns : goal.returns
 returns g c =
     let d = g.D.Device in let done = c.item_make in
-    item-called d.image d.honest d.may_leave d.may_have_left d.failed c.self.inside.vm done.new.vm c.self.inside.blocks done.new.blocks c.args.self.now c.self.view_is c.self.invariant c.args.g
+    item-called d.medium c.self.inside.vm done.new.vm c.self.inside.blocks done.new.blocks c.args.self.now c.self.view_is c.self.invariant c.args.g
     (on_group c.args.g (make_row (vm c.args.g) c.args.make)) (make_edit c.args.make) done.result done.ensures (λ choice f. refl)

@@ -18,24 +18,24 @@ use Rattle.geos_kernel.proofs.kernel.Kernel.memory_is_legal.Goals as goal
 pub returns-clause-file : goal.returns-clause-file
 returns-clause-file g c =
     let f = c.self.invariant.known in
-    subst (λ k. (f : VmFile) × IsFileOf (g.D.Device.honest k.device) k.core f) c.self.view_is (f.0, file-seen g.D.Device.image g.D.Device.honest g.D.Device.failed c.self.inside.vm c.self.inside.blocks f.0 f.1)
+    subst (λ k. (f : VmFile) × IsFileOf (g.D.Device.medium.honest k.device) k.core f) c.self.view_is (f.0, file-seen g.D.Device.medium c.self.inside.vm c.self.inside.blocks f.0 f.1)
 
 pub returns-clause-legal : goal.returns-clause-legal
 returns-clause-legal g c =
     let v = c.self.inside.vm in
     let blocks = c.self.inside.blocks in
     let region = c.region-region in
-    subst (λ k. (f : VmFile) → IsFileOf (g.D.Device.honest k.device) k.core f → IsMemory (memory_of k.core f)) c.self.view_is
-    (λ f tied. memory-legal g.D.Device.image g.D.Device.honest v blocks region.result.now c.self.invariant region.ensures.region region.ensures.bytes
-    (memory_of (core_of g.D.Device.image g.D.Device.failed v blocks) f) (memory-known g.D.Device.image g.D.Device.honest g.D.Device.failed v blocks f tied))
+    subst (λ k. (f : VmFile) → IsFileOf (g.D.Device.medium.honest k.device) k.core f → IsMemory (memory_of k.core f)) c.self.view_is
+    (λ f tied. memory-legal g.D.Device.medium v blocks region.result.now c.self.invariant region.ensures.region region.ensures.bytes
+    (memory_of (core_of g.D.Device.medium v blocks) f) (memory-known g.D.Device.medium v blocks f tied))
 
 pub returns-clause-unlocked : goal.returns-clause-unlocked
 returns-clause-unlocked g c =
     let v = c.self.inside.vm in
     let blocks = c.self.inside.blocks in
-    subst (λ k. (f : VmFile) → IsFileOf (g.D.Device.honest k.device) k.core f → NoneLocked k.core.blocks ↔ ((h : ℕ) → locks_of (memory_of k.core f) (vm h) ≡ 0)) c.self.view_is
-    (λ f tied. none-known g.D.Device.image g.D.Device.honest v blocks (memory_of (core_of g.D.Device.image g.D.Device.failed v blocks) f) c.self.invariant.tied
-    (memory-known g.D.Device.image g.D.Device.honest g.D.Device.failed v blocks f tied))
+    subst (λ k. (f : VmFile) → IsFileOf (g.D.Device.medium.honest k.device) k.core f → NoneLocked k.core.blocks ↔ ((h : ℕ) → locks_of (memory_of k.core f) (vm h) ≡ 0)) c.self.view_is
+    (λ f tied. none-known g.D.Device.medium v blocks (memory_of (core_of g.D.Device.medium v blocks) f) c.self.invariant.tied
+    (memory-known g.D.Device.medium v blocks f tied))
 
 pub returns-clause-heaps : goal.returns-clause-heaps
 returns-clause-heaps g c =

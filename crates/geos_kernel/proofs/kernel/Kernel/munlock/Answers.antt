@@ -15,7 +15,7 @@ unlock-requires g c = subst (λ s. IsLocked s.core c.args.name) (sym c.self.view
 pub invariant_of-self : goal.invariant_of-self
 invariant_of-self g c =
     let count : 0 < locks_of c.self.inside.blocks (slot_of c.args.name) = subst (λ s. IsLocked s.core c.args.name) (sym c.self.view_is) c.requires in
-    unlock-kernel g.D.Device.image g.D.Device.honest g.D.Device.failed c.self.inside.vm c.self.inside.blocks c.args.name c.self.invariant c.unlock.new.self count c.unlock.ensures
+    unlock-kernel g.D.Device.medium c.self.inside.vm c.self.inside.blocks c.args.name c.self.invariant c.unlock.new.self count c.unlock.ensures
 
 pub returns-clause-calls : goal.returns-clause-calls
 returns-clause-calls g c =
@@ -23,10 +23,10 @@ returns-clause-calls g c =
     let new = c.unlock.new.self in
     let count : 0 < locks_of c.self.inside.blocks (slot_of c.args.name) = subst (λ s. IsLocked s.core c.args.name) (sym c.self.view_is) c.requires in
     let d = g.D.Device in
-    calls-seen d.image d.honest d.failed v c.self.inside.blocks c.args.self.now c.self.view_is (unlock-calls d.image d.honest d.failed v c.self.inside.blocks c.args.name c.self.invariant new count c.unlock.ensures)
+    calls-seen d.medium v c.self.inside.blocks c.args.self.now c.self.view_is (unlock-calls d.medium v c.self.inside.blocks c.args.name c.self.invariant new count c.unlock.ensures)
 
 pub returns-clause-vm : goal.returns-clause-vm
-returns-clause-vm g c = blocks-alone g.D.Device.image g.D.Device.failed c.self.inside.vm c.self.inside.blocks c.unlock.new.self c.args.self.now c.self.view_is
+returns-clause-vm g c = blocks-alone g.D.Device.medium c.self.inside.vm c.self.inside.blocks c.unlock.new.self c.args.self.now c.self.view_is
 
 pub returns-clause-remain : goal.returns-clause-remain
 returns-clause-remain g c =

@@ -11,18 +11,18 @@ pub returns-in_default-clause-row : goal.returns-in_default-clause-row
 returns-in_default-clause-row g c =
     let d = g.D.Device in let now = c.args.self.now in
     let none : held_at now c.args.h ≡ None = search rules in
-    bring-unknown d.image d.honest d.failed now c.args.blocks.now c.args.h c.requires none
+    bring-unknown d.medium now c.args.blocks.now c.args.h c.requires none
 
 pub returns-then-has-clause-row : goal.returns-then-has-clause-row
 returns-then-has-clause-row g c =
     let d = g.D.Device in let now = c.args.self.now in
-    bring-there d.image d.honest d.failed now c.args.blocks.now c.args.h c.requires c.in-Some.ensures.handle c.in-Some.held (sym c.held.ensures.held ∙ c.in-Some.is)
+    bring-there d.medium now c.args.blocks.now c.args.h c.requires c.in-Some.ensures.handle c.in-Some.held (sym c.held.ensures.held ∙ c.in-Some.is)
 
 pub returns-clause-row : goal.returns-clause-row
 returns-clause-row g c =
     let d = g.D.Device in let now = c.args.self.now in let f = c.fetch.ensures in
     let absent : IsThere c.args.blocks.now (vm_slot c.args.h) → ⊥ = search rules in
-    fetch-does d.image d.honest d.may_leave d.may_have_left d.failed now c.fetch.new.self c.args.blocks.now c.fetch.new.blocks c.args.h c.in-Some.held c.fetch.result c.in-Some.ensures.handle
+    fetch-does d.medium now c.fetch.new.self c.args.blocks.now c.fetch.new.blocks c.args.h c.in-Some.held c.fetch.result c.in-Some.ensures.handle
     (sym c.held.ensures.held ∙ c.in-Some.is) absent c.requires f.tied f.same f.keeps f.locks f.values f.reads f.known f.absent f.no_room f.cause
 
 pub returns-then-has-clause-wanted : goal.returns-then-has-clause-wanted

@@ -24,7 +24,7 @@ pub keep-requires : goal.keep-requires
 keep-requires g c =
     let d = g.D.Device in let now = c.args.self.now in let s = c.args.blocks.now in
     let file : c.self.inside.file ≡ now.file = ap (λ (w : VmState g.row.D.Denot). w.file) c.self.view_is in
-    let may : MayCommit (resident_of s) now.file.current (directory_of now s) = may-commit d.image d.honest now s c.requires.tied (listed-legal now s d.image d.honest c.requires.tied) in
+    let may : MayCommit (resident_of s) now.file.current (directory_of now s) = may-commit d.medium now s c.requires.tied (listed-legal now s d.medium c.requires.tied) in
     subst (λ (f : FileState g.row.D.Denot). MayCommit (resident_of s) f.current c.listed-cur.result) (sym file) (subst (MayCommit (resident_of s) now.file.current) (sym c.listed-cur.ensures) may)
 
 pub returns-in-Err-clause-tied : goal.returns-in-Err-clause-tied
@@ -32,8 +32,8 @@ returns-in-Err-clause-tied g c =
     let d = g.D.Device in let now = c.args.self.now in let s = c.args.blocks.now in let k = c.keep.new.file in
     let file : c.self.inside.file ≡ now.file = ap (λ (w : VmState g.row.D.Denot). w.file) c.self.view_is in
     let r = recommits c.listed-cur.result (directory_of now s) c.self.inside.file now.file k k c.listed-cur.ensures file refl c.in-Err.ensures.commits in
-    subst (λ (w : VmState g.row.D.Denot). IsTied d.image d.honest (record w { file = k }) s) (sym c.self.view_is)
-    (tied-file d.image d.honest now s k (after_current c.in-Err.error now.file k r.refused) r.was r.pair c.requires.tied)
+    subst (λ (w : VmState g.row.D.Denot). IsTied d.medium (record w { file = k }) s) (sym c.self.view_is)
+    (tied-file d.medium now s k (after_current c.in-Err.error now.file k r.refused) r.was r.pair c.requires.tied)
 
 pub returns-clause-commits : goal.returns-clause-commits
 returns-clause-commits g c =
@@ -49,7 +49,7 @@ returns-clause-commits g c =
 pub returns-clause-tied : goal.returns-clause-tied
 returns-clause-tied g c =
     let d = g.D.Device in let r = returns-clause-commits g c in
-    committed-tied d.image d.honest c.args.how c.args.self.now c.relist.new.self c.args.blocks.now c.leave.new.blocks c.requires.tied c.relist.ensures.long c.relist.ensures.legal r.lists (ap (λ (f : FileState g.row.D.Denot). f.current) r.file.done) r.file.was r.file.pair r.store
+    committed-tied d.medium c.args.how c.args.self.now c.relist.new.self c.args.blocks.now c.leave.new.blocks c.requires.tied c.relist.ensures.long c.relist.ensures.legal r.lists (ap (λ (f : FileState g.row.D.Denot). f.current) r.file.done) r.file.was r.file.pair r.store
 
 pub returns-in-Err-clause-row : goal.returns-in-Err-clause-row
 returns-in-Err-clause-row g c =
@@ -57,23 +57,23 @@ returns-in-Err-clause-row g c =
     let file : c.self.inside.file ≡ now.file = ap (λ (w : VmState g.row.D.Denot). w.file) c.self.view_is in
     let r = recommits c.listed-cur.result (directory_of now s) c.self.inside.file now.file k k c.listed-cur.ensures file refl c.in-Err.ensures.commits in
     let after : VmState g.row.D.Denot = record now { file = k } in
-    let tied : IsTied d.image d.honest after s = tied-file d.image d.honest now s k (after_current e now.file k r.refused) r.was r.pair c.requires.tied in
-    let cur_legal = listed-legal now s d.image d.honest c.requires.tied in
-    let may : MayCommit (resident_of s) now.file.current (directory_of now s) = may-commit d.image d.honest now s c.requires.tied cur_legal in
-    let lists : Lists d.image now.file = subst (Lists d.image) file c.keep.ensures.lists in
+    let tied : IsTied d.medium after s = tied-file d.medium now s k (after_current e now.file k r.refused) r.was r.pair c.requires.tied in
+    let cur_legal = listed-legal now s d.medium c.requires.tied in
+    let may : MayCommit (resident_of s) now.file.current (directory_of now s) = may-commit d.medium now s c.requires.tied cur_legal in
+    let lists : Lists d.medium.image now.file = subst (Lists d.medium.image) file c.keep.ensures.lists in
     let old_legal : is_directory now.file.saved ≡ true = subst (λ (f : FileState g.row.D.Denot). is_directory f.saved ≡ true) file c.keep.ensures.legal in
-    subst (λ (w : VmState g.row.D.Denot). DoesRow d.image d.honest d.failed (commit (keeper_of how)) (of_commit (Err e)) now s (record w { file = k }) s) (sym c.self.view_is)
-    (commit-does d.image d.honest d.failed d.may_leave d.may_have_left now after s s how c.requires.tied tied c.requires.free cur_legal old_legal
-    (λ good. whole-pair d.image now.file lists (resident_of s) (directory_of now s) may how) (Err e) r tt tt (refl, refl))
+    subst (λ (w : VmState g.row.D.Denot). DoesRow d.medium (commit (keeper_of how)) (of_commit (Err e)) now s (record w { file = k }) s) (sym c.self.view_is)
+    (commit-does d.medium now after s s how c.requires.tied tied c.requires.free cur_legal old_legal
+    (λ good. whole-pair d.medium.image now.file lists (resident_of s) (directory_of now s) may how) (Err e) r tt tt (refl, refl))
 
 pub returns-clause-row : goal.returns-clause-row
 returns-clause-row g c =
     let d = g.D.Device in let now = c.args.self.now in let s = c.args.blocks.now in let w = c.relist.new.self in let t = c.leave.new.blocks in let how = c.args.how in
     let file : c.self.inside.file ≡ now.file = ap (λ (w : VmState g.row.D.Denot). w.file) c.self.view_is in
     let r = returns-clause-commits g c in
-    let cur_legal = listed-legal now s d.image d.honest c.requires.tied in
-    let may : MayCommit (resident_of s) now.file.current (directory_of now s) = may-commit d.image d.honest now s c.requires.tied cur_legal in
-    let lists : Lists d.image now.file = subst (Lists d.image) file c.keep.ensures.lists in
+    let cur_legal = listed-legal now s d.medium c.requires.tied in
+    let may : MayCommit (resident_of s) now.file.current (directory_of now s) = may-commit d.medium now s c.requires.tied cur_legal in
+    let lists : Lists d.medium.image now.file = subst (Lists d.medium.image) file c.keep.ensures.lists in
     let old_legal : is_directory now.file.saved ≡ true = subst (λ (f : FileState g.row.D.Denot). is_directory f.saved ≡ true) file c.keep.ensures.legal in
-    commit-does d.image d.honest d.failed d.may_leave d.may_have_left now w s t how c.requires.tied (returns-clause-tied g c) c.requires.free cur_legal old_legal
-    (λ good. whole-pair d.image now.file lists (resident_of s) (directory_of now s) may how) (Ok tt) r.file r.lists r.store tt
+    commit-does d.medium now w s t how c.requires.tied (returns-clause-tied g c) c.requires.free cur_legal old_legal
+    (λ good. whole-pair d.medium.image now.file lists (resident_of s) (directory_of now s) may how) (Ok tt) r.file r.lists r.store tt

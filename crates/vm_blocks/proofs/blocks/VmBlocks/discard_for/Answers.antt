@@ -17,7 +17,7 @@ loop-blocks-preserved g c =
     let one : DiscardsOne v now new but = subst (DiscardsOne v now new) c.own_handle-but.ensures (c.discard_one.ensures.one (search rules)) in
     let thins : Thins v now new but = subst (Thins v now new) c.own_handle-but.ensures (c.discard_one.ensures.thins (search rules)) in
     record {
-      tied = tied-thins g.D.Device.image g.D.Device.honest v now new but i.tied thins;
+      tied = tied-thins g.D.Device.medium v now new but i.tied thins;
       thins = thins-more v old now new but i.thins thins;
       wanted = discards-more v old now new but slot size i.thins i.wanted no_room one;
     }

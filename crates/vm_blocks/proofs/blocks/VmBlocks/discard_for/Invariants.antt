@@ -7,7 +7,7 @@ use Rattle.vm_blocks.proofs.blocks.VmBlocks.discard_for.Given as goal
 
 abbrev pub invariant-loop-blocks : goal.invariant-loop-blocks
 invariant-loop-blocks g l = record {
-  tied : IsTied g.D.Device.image g.D.Device.honest l.self l.blocks;
+  tied : IsTied g.D.Device.medium l.self l.blocks;
   thins : Thins l.self l.fn.blocks l.blocks (own_handle l.fn.name);
   wanted : DiscardsForRoom l.self l.fn.blocks l.blocks (own_handle l.fn.name) (slot_of l.fn.name) (size_of l.fn.blocks (slot_of l.fn.name) + l.more);
 }

@@ -17,7 +17,7 @@ use Rattle.vm_blocks.proofs.blocks.VmBlocks.fetch.Goals as goal
 pub make_room-requires-clause-size : goal.make_room-requires-clause-size
 make_room-requires-clause-size g c =
     let d = g.D.Device in
-    let a = absent-is d.image d.honest c.args.self.now c.args.blocks.now c.args.h c.args.held c.requires.handle c.requires.tied c.requires.listed c.requires.absent in
+    let a = absent-is d.medium c.args.self.now c.args.blocks.now c.args.h c.args.held c.requires.handle c.requires.tied c.requires.listed c.requires.absent in
     subst IsBlockSize (sym c.from.ensures) a.size
 
 pub returns-clause-keeps : goal.returns-clause-keeps
@@ -25,8 +25,8 @@ returns-clause-keeps g c =
     let d = g.D.Device in let now = c.args.self.now in let old = c.args.blocks.now in let mid = c.make_room.new.blocks in let t = c.read_into.new.blocks in let h = c.args.h in let e = c.args.held in let q = c.requires in
     let made = made-room now old mid c.vm.result h c.vm.ensures (subst (MakesRoom now old mid c.vm.result) c.from.ensures c.in-Ok.ensures.ok) in
     elim c.match-read_into.branch [
-      | in-Ok-read_into w ↦ filled-keeps d.image d.honest now old h e q.handle q.tied q.listed q.absent mid t made w.in-Ok-read_into.ensures.ok
-      | in-Err-read_into w ↦ dropped-keeps d.image d.honest now old h e q.handle q.tied q.listed q.absent mid t made w.in-Err-read_into.ensures.err
+      | in-Ok-read_into w ↦ filled-keeps d.medium now old h e q.handle q.tied q.listed q.absent mid t made w.in-Ok-read_into.ensures.ok
+      | in-Err-read_into w ↦ dropped-keeps d.medium now old h e q.handle q.tied q.listed q.absent mid t made w.in-Err-read_into.ensures.err
     ]
 
 pub returns-clause-locks : goal.returns-clause-locks
@@ -34,7 +34,7 @@ returns-clause-locks g c =
     let d = g.D.Device in let now = c.args.self.now in let old = c.args.blocks.now in let mid = c.make_room.new.blocks in let t = c.read_into.new.blocks in let h = c.args.h in let e = c.args.held in let q = c.requires in
     let made = made-room now old mid c.vm.result h c.vm.ensures (subst (MakesRoom now old mid c.vm.result) c.from.ensures c.in-Ok.ensures.ok) in
     elim c.match-read_into.branch [
-      | in-Ok-read_into w ↦ filled-locks d.image d.honest now old h e q.handle q.tied q.listed q.absent mid t made w.in-Ok-read_into.ensures.ok
+      | in-Ok-read_into w ↦ filled-locks d.medium now old h e q.handle q.tied q.listed q.absent mid t made w.in-Ok-read_into.ensures.ok
       | in-Err-read_into w ↦ ap locks_in w.in-Err-read_into.ensures.err.gone
     ]
 
@@ -43,7 +43,7 @@ returns-clause-there g c =
     let d = g.D.Device in let now = c.args.self.now in let old = c.args.blocks.now in let mid = c.make_room.new.blocks in let t = c.read_into.new.blocks in let h = c.args.h in let e = c.args.held in let q = c.requires in
     let made = made-room now old mid c.vm.result h c.vm.ensures (subst (MakesRoom now old mid c.vm.result) c.from.ensures c.in-Ok.ensures.ok) in
     elim c.match-read_into.branch [
-      | in-Ok-read_into w ↦ rw w.result-is (filled-there d.image d.honest now old h e q.handle q.tied q.listed q.absent mid t made w.in-Ok-read_into.ensures.ok)
+      | in-Ok-read_into w ↦ rw w.result-is (filled-there d.medium now old h e q.handle q.tied q.listed q.absent mid t made w.in-Ok-read_into.ensures.ok)
       | in-Err-read_into w ↦ rw w.result-is tt
     ]
 
@@ -53,17 +53,17 @@ returns-clause-tied g c =
     let made = made-room now old mid c.vm.result h c.vm.ensures (subst (MakesRoom now old mid c.vm.result) c.from.ensures c.in-Ok.ensures.ok) in
     let f = c.read_into.new.file in let r = c.read_into.ensures in
     let same : f ≡ record now.file { device = f.device } = r.same ∙ ap (λ (w : VmState g.row.D.Denot). let x : FileState g.row.D.Denot = record w.file { device = f.device } in x) c.self.view_is in
-    let pair : pair_of d.image f ≡ pair_of d.image now.file = r.pair ∙ ap (λ (w : VmState g.row.D.Denot). pair_of d.image w.file) c.self.view_is in
-    let was : d.honest f.device → d.honest now.file.device = subst (λ (w : VmState g.row.D.Denot). d.honest f.device → d.honest w.file.device) c.self.view_is r.reads.was in
-    let at_now : IsTied d.image d.honest (record now { file = f }) t = elim c.match-read_into.branch [
+    let pair : pair_of d.medium.image f ≡ pair_of d.medium.image now.file = r.pair ∙ ap (λ (w : VmState g.row.D.Denot). pair_of d.medium.image w.file) c.self.view_is in
+    let was : d.medium.honest f.device → d.medium.honest now.file.device = subst (λ (w : VmState g.row.D.Denot). d.medium.honest f.device → d.medium.honest w.file.device) c.self.view_is r.reads.was in
+    let at_now : IsTied d.medium (record now { file = f }) t = elim c.match-read_into.branch [
       | in-Ok-read_into w ↦ (
-          let read : d.honest now.file.device → bytes_of t (vm_slot h) ≡ bytes_read d.image now.file h =
-          subst (λ (w : VmState g.row.D.Denot). d.honest w.file.device → bytes_of t (vm_slot h) ≡ bytes_read d.image w.file h) c.self.view_is w.in-Ok-read_into.ensures.bytes in
-          read-tied d.image d.honest now old h e q.handle q.tied q.listed q.absent mid t made w.in-Ok-read_into.ensures.ok read f same pair was
+          let read : d.medium.honest now.file.device → bytes_of t (vm_slot h) ≡ bytes_read d.medium.image now.file h =
+          subst (λ (w : VmState g.row.D.Denot). d.medium.honest w.file.device → bytes_of t (vm_slot h) ≡ bytes_read d.medium.image w.file h) c.self.view_is w.in-Ok-read_into.ensures.bytes in
+          read-tied d.medium now old h e q.handle q.tied q.listed q.absent mid t made w.in-Ok-read_into.ensures.ok read f same pair was
           )
-      | in-Err-read_into w ↦ dropped-tied d.image d.honest now old h e q.handle q.tied q.listed q.absent mid t made w.in-Err-read_into.ensures.err f same pair was
+      | in-Err-read_into w ↦ dropped-tied d.medium now old h e q.handle q.tied q.listed q.absent mid t made w.in-Err-read_into.ensures.err f same pair was
     ] in
-    subst (λ (w : VmState g.row.D.Denot). IsTied d.image d.honest (record w { file = f }) t) (sym c.self.view_is) at_now
+    subst (λ (w : VmState g.row.D.Denot). IsTied d.medium (record w { file = f }) t) (sym c.self.view_is) at_now
 
 pub returns-in-Err-clause-values : goal.returns-in-Err-clause-values
 returns-in-Err-clause-values g c =

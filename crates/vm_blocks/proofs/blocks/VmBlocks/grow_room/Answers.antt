@@ -26,7 +26,7 @@ loop-blocks-init g c =
     let e = c.discard_for.ensures in
     let whole : size_of old slot + (c.args.size - c.size.result) ≡ c.args.size = omega (arith, c.size.ensures.size, c.requires.size.0) in
     record {
-      tied = tied-thins g.D.Device.image g.D.Device.honest v old now but c.requires.tied e.thins;
+      tied = tied-thins g.D.Device.medium v old now but c.requires.tied e.thins;
       thins = e.thins;
       wanted = subst (DiscardsForRoom v old now but slot) whole e.wanted;
     }
@@ -40,7 +40,7 @@ loop-blocks-preserved g c =
     let thins : Thins v now new but = subst (λ s. Thins v s new but) same (subst (Thins v c.grow.new.self new) c.own_handle-but.ensures (c.discard_one.ensures.thins (search rules))) in
     let no_room : HasNoRoom now slot size = subst (λ s. HasNoRoom s slot size) same (refused-for-room size c.in-Err.field-0 c.grow.result (HasNoRoom c.grow.new.self slot size) c.in-Err.is c.requires.size.1 c.grow.ensures.no_room c.grow.ensures.too_big) in
     record {
-      tied = tied-thins g.D.Device.image g.D.Device.honest v now new but i.tied thins;
+      tied = tied-thins g.D.Device.medium v now new but i.tied thins;
       thins = thins-more v old now new but i.thins thins;
       wanted = discards-more v old now new but slot size i.thins i.wanted no_room one;
     }

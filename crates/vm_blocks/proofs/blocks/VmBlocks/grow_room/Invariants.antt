@@ -5,7 +5,7 @@ use Rattle.vm_blocks.proofs.blocks.VmBlocks.grow_room.Given as goal
 
 abbrev pub invariant-loop-blocks : goal.invariant-loop-blocks
 invariant-loop-blocks g l = record {
-  tied : IsTied g.D.Device.image g.D.Device.honest l.self l.blocks;
+  tied : IsTied g.D.Device.medium l.self l.blocks;
   thins : Thins l.self l.fn.blocks l.blocks (own_handle l.name);
   wanted : DiscardsForRoom l.self l.fn.blocks l.blocks (own_handle l.name) (slot_of l.name) l.size;
 }

@@ -9,5 +9,5 @@ use Rattle.vm_blocks.proofs.blocks.VmBlocks.is_sure.Goals as goal
 pub returns-clause-kept : goal.returns-clause-kept
 returns-clause-kept g c =
     let d = g.D.Device in let pair = c.is_sure.ensures.pair in
-    subst (λ v. (s : Store) (m : Memory) → IsMemoryOf d.image d.honest v s m → d.honest v.file.device → (x : List ℕ) → d.may_leave v.file.device x → OpensAsKept m.file.kept x) c.self.view_is
-    (λ s m is good x left. opens-as-kept d.image d.honest c.self.inside.file good pair.cur pair.saved m.file.kept x is.file.kept (c.is_sure.ensures.stop good x left))
+    subst (λ v. (s : Store) (m : Memory) → IsMemoryOf d.medium v s m → d.medium.honest v.file.device → (x : List ℕ) → d.medium.may_leave v.file.device x → OpensAsKept m.file.kept x) c.self.view_is
+    (λ s m is good x left. opens-as-kept d.medium c.self.inside.file good pair.cur pair.saved m.file.kept x is.file.kept (c.is_sure.ensures.stop good x left))

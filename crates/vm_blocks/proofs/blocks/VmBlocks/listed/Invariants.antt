@@ -6,7 +6,7 @@ use Rattle.vm_blocks.proofs.blocks.VmBlocks.listed.Given as goal
 
 abbrev pub invariant-loop-i : goal.invariant-loop-i
 invariant-loop-i g l = record {
-  tied : IsTied g.D.Device.image g.D.Device.honest l.self l.blocks;
+  tied : IsTied g.D.Device.medium l.self l.blocks;
   few : array_vec_len l.entries ≤ l.i;
   items : l.entries.items ≡ entries_to l.self l.blocks l.i;
 }

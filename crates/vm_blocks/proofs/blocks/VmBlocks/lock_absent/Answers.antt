@@ -52,7 +52,7 @@ taken g c = let e = c.lock.ensures in lock-taken _ _ _ c.args.h c.vm.result c.lo
 pub returns-clause-tied : goal.returns-clause-tied
 returns-clause-tied g c =
     let d = g.D.Device in let t = c.bring.new.blocks in let h = c.args.h in let there = c.in-Ok.ensures.ok.there in let tied = c.bring.ensures.tied in
-    locked-tied d.image d.honest c.bring.new.self t c.lock.new.self h (locks_of t (vm_slot h) + 1) (handle_of_there t t (vm h) refl tied.laid there) tied there (taken g (goal.at.returns-clause-tied g c).After-lock)
+    locked-tied d.medium c.bring.new.self t c.lock.new.self h (locks_of t (vm_slot h) + 1) (handle_of_there t t (vm h) refl tied.laid there) tied there (taken g (goal.at.returns-clause-tied g c).After-lock)
 
 pub returns-clause-keeps : goal.returns-clause-keeps
 returns-clause-keeps g c =
@@ -64,11 +64,11 @@ returns-clause-ok g c = locks-more c.args.blocks.now c.bring.new.blocks c.lock.n
 
 -- where it is not brought, the lock is refused as that was
 refused : (g : Over) (c : After-bring g) (e : BringError) (r : Refusal) → c.bring.result ≡ Err e → of_bring (Err e) ≡ Err r → NotBrought c.args.blocks.now c.bring.new.blocks c.args.h →
-    DoesRow g.D.Device.image g.D.Device.honest g.D.Device.failed (lock_listed c.args.h) (Err r) c.args.self.now c.args.blocks.now c.bring.new.self c.bring.new.blocks
+    DoesRow g.D.Device.medium (lock_listed c.args.h) (Err r) c.args.self.now c.args.blocks.now c.bring.new.self c.bring.new.blocks
 refused g c e r is same not =
     let d = g.D.Device in let now = c.args.self.now in let w = c.bring.new.self in let s = c.args.blocks.now in let t = c.bring.new.blocks in let h = c.args.h in
-    lock-refused d.image d.honest d.failed now w s t h c.bring.ensures.tied (not-brought-few s t h not (few s (vm_slot h) c.requires.absent)) r
-    (subst (λ x. DoesRow d.image d.honest d.failed (bring h) x now s w t) (ap of_bring is ∙ same) c.bring.ensures.row)
+    lock-refused d.medium now w s t h c.bring.ensures.tied (not-brought-few s t h not (few s (vm_slot h) c.requires.absent)) r
+    (subst (λ x. DoesRow d.medium (bring h) x now s w t) (ap of_bring is ∙ same) c.bring.ensures.row)
 
 pub returns-in-Err-BadHandle-clause-row : goal.returns-in-Err-BadHandle-clause-row
 returns-in-Err-BadHandle-clause-row g c = let b = c.in-Err-BadHandle in refused g (goal.at.returns-in-Err-BadHandle-clause-row g c).After-bring _ refusal.BadHandle (b.is ∙ ap Err b.field-0-is) refl b.ensures.err
@@ -82,8 +82,8 @@ returns-in-Err-Disk-clause-row g c = let b = c.in-Err-Disk in refused g (goal.at
 pub returns-clause-row : goal.returns-clause-row
 returns-clause-row g c =
     let d = g.D.Device in let now = c.args.self.now in let w = c.bring.new.self in let s = c.args.blocks.now in let t = c.bring.new.blocks in let h = c.args.h in let b = c.in-Ok.ensures.ok in
-    lock-done d.image d.honest d.failed now w s t h c.bring.ensures.tied (brought-few s t h c.requires.absent b) c.lock.new.self b.there (taken g (goal.at.returns-clause-row g c).After-lock)
-    (subst (λ r. DoesRow d.image d.honest d.failed (bring h) r now s w t) (ap of_bring c.in-Ok.is) c.bring.ensures.row)
+    lock-done d.medium now w s t h c.bring.ensures.tied (brought-few s t h c.requires.absent b) c.lock.new.self b.there (taken g (goal.at.returns-clause-row g c).After-lock)
+    (subst (λ r. DoesRow d.medium (bring h) r now s w t) (ap of_bring c.in-Ok.is) c.bring.ensures.row)
 
 pub returns-clause-wanted : goal.returns-clause-wanted
 returns-clause-wanted g c =

@@ -14,7 +14,7 @@ loop-blocks-init g c =
     let e = c.discard_for.ensures in
     let whole : size_of old slot + c.args.size ≡ c.args.size = omega (arith, size_of_none old slot c.requires.absent) in
     record {
-      tied = tied-thins g.D.Device.image g.D.Device.honest v old now but c.requires.tied e.thins;
+      tied = tied-thins g.D.Device.medium v old now but c.requires.tied e.thins;
       thins = e.thins;
       wanted = subst (DiscardsForRoom v old now but slot) whole e.wanted;
       absent = (λ (there : IsThere now slot). c.requires.absent (subst IsBlock (thins-own v old now c.args.name c.requires.handle e.thins) there));
@@ -29,7 +29,7 @@ loop-blocks-preserved g c =
     let thins : Thins v now new but = subst (λ s. Thins v s new but) same (subst (Thins v c.make.new.self new) c.own_handle-but.ensures (c.discard_one.ensures.thins (search rules))) in
     let no_room : HasNoRoom now slot size = subst (λ s. HasNoRoom s slot size) same (refused-for-room size c.in-Err.field-0 c.make.result (HasNoRoom c.make.new.self slot size) c.in-Err.is c.requires.size.1 c.make.ensures.no_room c.make.ensures.too_big) in
     record {
-      tied = tied-thins g.D.Device.image g.D.Device.honest v now new but i.tied thins;
+      tied = tied-thins g.D.Device.medium v now new but i.tied thins;
       thins = thins-more v old now new but i.thins thins;
       wanted = discards-more v old now new but slot size i.thins i.wanted no_room one;
       absent = (λ (there : IsThere new slot). i.absent (subst IsBlock (thins-own v now new c.args.name c.requires.handle thins) there));

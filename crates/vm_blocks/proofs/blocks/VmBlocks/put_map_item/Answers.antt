@@ -9,5 +9,5 @@ pub returns-clause-row : goal.returns-clause-row
 returns-clause-row g c = λ s tied.
     let d = g.D.Device in let now = c.args.self.now in let group = c.args.group in let item = c.args.item in
     let word : item < 65536 = omega arith in
-    subst (λ (w : VmState g.row.D.Denot). DoesRow d.image d.honest d.failed (isetmap group item) (Ok tt) now s (record w { map_item = (group, item) }) s) (sym c.self.view_is)
-    (put-map-item-row d.image d.honest d.failed now s tied group item word c.requires.group c.requires.no_item)
+    subst (λ (w : VmState g.row.D.Denot). DoesRow d.medium (isetmap group item) (Ok tt) now s (record w { map_item = (group, item) }) s) (sym c.self.view_is)
+    (put-map-item-row d.medium now s tied group item word c.requires.group c.requires.no_item)

@@ -18,16 +18,16 @@ returns-in-Some-clause-marks g c =
 pub returns-in-Some-clause-tied : goal.returns-in-Some-clause-tied
 returns-in-Some-clause-tied g c =
     let d = g.D.Device in let s = c.args.blocks.now in
-    subst (λ (w : VmState g.row.D.Denot). IsTied d.image d.honest w s) (sym (returns-in-Some-clause-marks g c)) (changed-tied d.image d.honest c.args.self.now s c.args.h c.requires)
+    subst (λ (w : VmState g.row.D.Denot). IsTied d.medium w s) (sym (returns-in-Some-clause-marks g c)) (changed-tied d.medium c.args.self.now s c.args.h c.requires)
 
 pub returns-in-Some-clause-memory : goal.returns-in-Some-clause-memory
 returns-in-Some-clause-memory g c = λ m is.
     let d = g.D.Device in let s = c.args.blocks.now in
-    subst (λ (w : VmState g.row.D.Denot). IsMemoryOf d.image d.honest w s (with_mark m c.args.h true)) (sym (returns-in-Some-clause-marks g c)) (changed-memory d.image d.honest c.args.self.now s c.args.h c.requires m is)
+    subst (λ (w : VmState g.row.D.Denot). IsMemoryOf d.medium w s (with_mark m c.args.h true)) (sym (returns-in-Some-clause-marks g c)) (changed-memory d.medium c.args.self.now s c.args.h c.requires m is)
 
 pub returns-in-None-clause-memory : goal.returns-in-None-clause-memory
 returns-in-None-clause-memory g c =
     let d = g.D.Device in let now = c.args.self.now in let h = c.args.h in
-    let k = known d.image d.honest now c.requires.before h c.requires.tied c.requires.was in
+    let k = known d.medium now c.requires.before h c.requires.tied c.requires.was in
     let none : held_at now h ≡ None = sym c.held.ensures.held ∙ c.in-None.is in
     let both : Some k.held ≡ None = sym k.listed ∙ none in absurd cc

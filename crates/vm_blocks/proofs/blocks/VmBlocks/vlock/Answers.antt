@@ -19,21 +19,21 @@ returns-in-Ok-clause-row g c =
     let slot : slot_of c.vm.result ≡ vm_slot h = ap slot_of c.vm.ensures in
     let there : IsThere s (vm_slot h) = subst (IsThere s) slot e.there in
     let few : locks_of s (vm_slot h) ≢ 65535 = λ full. (let full_was = e.locked.1 (ap (locks_of s) slot ∙ full) in absurd cc) in
-    let k = known d.image d.honest v s h c.requires there in
-    lock-done d.image d.honest d.failed v v s s h c.requires few c.lock.new.self there (e.ok ∙ ap (λ j. with_locks s j (locks_of s j + 1)) slot)
-    (bring-there d.image d.honest d.failed v s h c.requires k.handle k.held k.listed)
+    let k = known d.medium v s h c.requires there in
+    lock-done d.medium v v s s h c.requires few c.lock.new.self there (e.ok ∙ ap (λ j. with_locks s j (locks_of s j + 1)) slot)
+    (bring-there d.medium v s h c.requires k.handle k.held k.listed)
 
 pub returns-in-Err-Locked-clause-row : goal.returns-in-Err-Locked-clause-row
 returns-in-Err-Locked-clause-row g c =
     let d = g.D.Device in let v = c.args.self.now in let s = c.args.blocks.now in let h = c.args.h in let e = c.in-Err-Locked in
     let full : locks_of s (vm_slot h) ≡ 65535 = ap (locks_of s) (sym (ap slot_of c.vm.ensures)) ∙ c.lock.ensures.locked.0 (e.is ∙ ap Err e.field-0-is) in
-    subst (λ t. DoesRow d.image d.honest d.failed (lock_listed h) (Err refusal.Locked) v s v t) (sym e.ensures.err) (lock-full d.image d.honest d.failed v s h c.requires full)
+    subst (λ t. DoesRow d.medium (lock_listed h) (Err refusal.Locked) v s v t) (sym e.ensures.err) (lock-full d.medium v s h c.requires full)
 
 pub returns-in-Ok-clause-wanted : goal.returns-in-Ok-clause-wanted
 returns-in-Ok-clause-wanted g c =
     let d = g.D.Device in let v = c.args.self.now in let s = c.args.blocks.now in let h = c.args.h in let e = c.in-Ok.ensures in
     let slot : slot_of c.vm.result ≡ vm_slot h = ap slot_of c.vm.ensures in
-    let k = known d.image d.honest v s h c.requires (subst (IsThere s) slot e.there) in
+    let k = known d.medium v s h c.requires (subst (IsThere s) slot e.there) in
     subst (λ o. IfSome o (λ held. RemainOrNoRoom s c.lock.new.self h held.len)) (sym k.listed)
     (locked-remain s s c.lock.new.self h k.held.len (locks_of s (vm_slot h) + 1) k.handle (e.ok ∙ ap (λ j. with_locks s j (locks_of s j + 1)) slot) (same-remain s s h k.held.len refl))
 

@@ -36,15 +36,15 @@ returns-in-Ok-clause-wanted g c = λ h low.
 pub returns-in-Ok-clause-row : goal.returns-in-Ok-clause-row
 returns-in-Ok-clause-row g c =
     let d = g.D.Device in let word : c.args.uid < 65536 = omega arith in
-    new-done d.image d.honest d.failed c.args.self.now c.args.blocks.now c.requires c.args.uid 1 c.in-Ok.h c.vnew_unlocked.new.self c.lock.new.self word (omega arith) (returns-in-Ok-clause-ok g c)
+    new-done d.medium c.args.self.now c.args.blocks.now c.requires c.args.uid 1 c.in-Ok.h c.vnew_unlocked.new.self c.lock.new.self word (omega arith) (returns-in-Ok-clause-ok g c)
 
 pub returns-in-Err-clause-row : goal.returns-in-Err-clause-row
 returns-in-Err-clause-row g c =
     let d = g.D.Device in let now = c.args.self.now in let s = c.args.blocks.now in let w = c.vnew_unlocked.new.self in let t = c.vnew_unlocked.new.blocks in let e = c.in-Err.ensures in
     let word : c.args.uid < 65536 = omega arith in
-    new-does d.image d.honest d.failed now w s t c.args.uid 1 (Err c.in-Err.error) c.requires word (omega arith) tt e.no_handle.0 e.no_room e.stays e.err
+    new-does d.medium now w s t c.args.uid 1 (Err c.in-Err.error) c.requires word (omega arith) tt e.no_handle.0 e.no_room e.stays e.err
 
 pub returns-in-Ok-clause-tied : goal.returns-in-Ok-clause-tied
 returns-in-Ok-clause-tied g c =
     let d = g.D.Device in let t = c.vnew_unlocked.new.blocks in let h = c.in-Ok.h in let adds = c.in-Ok.ensures.ok in
-    locked-tied d.image d.honest c.vnew_unlocked.new.self t c.lock.new.self h 1 adds.lowest.handle c.vnew_unlocked.ensures.tied (there-new t h 0 adds.is) (taken g (goal.at.returns-in-Ok-clause-tied g c).After-lock)
+    locked-tied d.medium c.vnew_unlocked.new.self t c.lock.new.self h 1 adds.lowest.handle c.vnew_unlocked.ensures.tied (there-new t h 0 adds.is) (taken g (goal.at.returns-in-Ok-clause-tied g c).After-lock)

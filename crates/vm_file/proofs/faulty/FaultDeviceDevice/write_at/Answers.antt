@@ -6,7 +6,7 @@ half : (bs : List ℕ) → length (take (length bs / 2) bs) ≤ length bs
 half bs = omega (arith, length-take (length bs / 2) bs)
 
 pub returns-then-is_ok-clause-writes : goal.returns-then-is_ok-clause-writes
-returns-then-is_ok-clause-writes g c = (let d = g.D.Device in writes_below d.image d.honest d.may_leave d.may_have_left _ _ _ _ _ (half _) c.write_at.ensures.writes)
+returns-then-is_ok-clause-writes g c = (let d = g.D.Device in writes_below d.medium _ _ _ _ _ (half _) c.write_at.ensures.writes)
 
 pub returns-else-is_ok-clause-writes : goal.returns-else-is_ok-clause-writes
-returns-else-is_ok-clause-writes g c = (let d = g.D.Device in writes_below d.image d.honest d.may_leave d.may_have_left _ _ _ _ _ (half _) c.write_at.ensures.writes)
+returns-else-is_ok-clause-writes g c = (let d = g.D.Device in writes_below d.medium _ _ _ _ _ (half _) c.write_at.ensures.writes)

@@ -12,7 +12,7 @@ use Rattle.vm_file.proofs.StateLaws.{read_sound}
 use Rattle.vm_file.proofs.file.VmFile.block.Goals as goal
 
 pub invariant_of-self : goal.invariant_of-self
-invariant_of-self g c = (let d = g.D.Device in read_sound d.image d.honest d.may_leave d.may_have_left _ c.read_block.new.device c.self.invariant c.read_block.ensures.reads)
+invariant_of-self g c = (let d = g.D.Device in read_sound d.medium _ c.read_block.new.device c.self.invariant c.read_block.ensures.reads)
 
 pub place-requires : goal.place-requires
 place-requires g c =
@@ -24,27 +24,27 @@ pub returns-clause-bytes : goal.returns-clause-bytes
 returns-clause-bytes g c =
     let d = g.D.Device in let n = length c.args.into.now in
     let H : FileState g.row.D.Denot → Type 0 = λ f. HasBlock f.current c.args.h n in
-    let G : FileState g.row.D.Denot → Type 0 = λ f. d.honest f.device → OnOk c.read_block.result (c.read_block.new.into ≡ bytes_of_block (pair_of d.image f).cur.blocks c.args.h) in
-    let there = current_there d.image d.honest d.may_leave _ c.self.invariant c.args.h n _ (subst H (sym c.self.view_is) c.requires) (omega (arith, c.base_of-base.ensures.exact, c.from.ensures, c.place.ensures)) in
+    let G : FileState g.row.D.Denot → Type 0 = λ f. d.medium.honest f.device → OnOk c.read_block.result (c.read_block.new.into ≡ bytes_of_block (pair_of d.medium.image f).cur.blocks c.args.h) in
+    let there = current_there d.medium _ c.self.invariant c.args.h n _ (subst H (sym c.self.view_is) c.requires) (omega (arith, c.base_of-base.ensures.exact, c.from.ensures, c.place.ensures)) in
     subst G c.self.view_is (λ h. on_ok_weaker c.read_block.result (λ e. e ∙ there) (c.read_block.ensures.bytes h))
 
 pub returns-clause-cause : goal.returns-clause-cause
 returns-clause-cause g c =
     let d = g.D.Device in let n = length c.args.into.now in
     let H : FileState g.row.D.Denot → Type 0 = λ f. HasBlock f.current c.args.h n in
-    let G : FileState g.row.D.Denot → Type 0 = λ f. d.honest f.device → OnErr c.read_block.result (Rose (d.failed f.device) (d.failed c.read_block.new.device)) in
+    let G : FileState g.row.D.Denot → Type 0 = λ f. d.medium.honest f.device → OnErr c.read_block.result (Rose (d.medium.failed f.device) (d.medium.failed c.read_block.new.device)) in
     let has = subst H (sym c.self.view_is) c.requires in
-    let there = current_there d.image d.honest d.may_leave _ c.self.invariant c.args.h n _ has (omega (arith, c.base_of-base.ensures.exact, c.from.ensures, c.place.ensures)) in
+    let there = current_there d.medium _ c.self.invariant c.args.h n _ has (omega (arith, c.base_of-base.ensures.exact, c.from.ensures, c.place.ensures)) in
     let P : List ℕ → Type 0 = λ x. IsHeap x in
-    subst G c.self.view_is (λ h. let heap = current_heap d.image d.honest d.may_leave _ c.self.invariant c.args.h n h has in c.read_block.ensures.cause h (subst P (sym there) heap.0) (ap handle_word there ∙ heap.1))
+    subst G c.self.view_is (λ h. let heap = current_heap d.medium _ c.self.invariant c.args.h n h has in c.read_block.ensures.cause h (subst P (sym there) heap.0) (ap handle_word there ∙ heap.1))
 
 pub returns-clause-any_moment : goal.returns-clause-any_moment
-returns-clause-any_moment g c = let d = g.D.Device in finds_during d.image d.honest d.may_leave _ _ c.self.view_is c.self.invariant d.may_have_left _ c.read_block.ensures.reads
+returns-clause-any_moment g c = let d = g.D.Device in finds_during d.medium _ _ c.self.view_is c.self.invariant _ c.read_block.ensures.reads
 
 pub returns-clause-stop : goal.returns-clause-stop
-returns-clause-stop g c = let d = g.D.Device in finds_after d.image d.honest d.may_leave _ _ c.self.view_is c.self.invariant d.may_have_left _ c.read_block.ensures.reads
+returns-clause-stop g c = let d = g.D.Device in finds_after d.medium _ _ c.self.view_is c.self.invariant _ c.read_block.ensures.reads
 
 pub returns-clause-stopped : goal.returns-clause-stopped
 returns-clause-stopped g c =
     let d = g.D.Device in
-    finds_at_stop d.image d.honest d.may_leave _ _ c.self.view_is c.self.invariant d.may_have_left _ c.read_block.ensures.reads (g.met.D.Device.at_once c.args.self.now.device)
+    finds_at_stop d.medium _ _ c.self.view_is c.self.invariant _ c.read_block.ensures.reads (g.met.D.Device.at_once c.args.self.now.device)

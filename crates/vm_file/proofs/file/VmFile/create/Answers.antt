@@ -10,11 +10,11 @@ pub invariant_of-result : goal.invariant_of-result
 invariant_of-result g c =
     let d = g.D.Device in let r = c.in-Ok.ensures in
     let F : Directory → Directory → FileState g.row.D.Denot = λ x y. record { device = c.write_new.new.device; area = c.args.area; second = false; sure = true; current = x; saved = y } in
-    let A : Directory → Type 0 = λ x. IsSound d.image d.honest d.may_leave (F x (listed empty_contents)) in
-    let B : Directory → Type 0 = λ y. IsSound d.image d.honest d.may_leave (F c.new.result y) in
-    subst B (sym c.new-in-Ok.ensures) (subst A (sym c.new.ensures) (made_sound d.image d.honest d.may_leave c.args.device c.write_new.new.device c.args.area c.requires.area c.requires.room r.writes.was r.writes.long r.bytes r.durable))
+    let A : Directory → Type 0 = λ x. IsSound d.medium (F x (listed empty_contents)) in
+    let B : Directory → Type 0 = λ y. IsSound d.medium (F c.new.result y) in
+    subst B (sym c.new-in-Ok.ensures) (subst A (sym c.new.ensures) (made_sound d.medium c.args.device c.write_new.new.device c.args.area c.requires.area c.requires.room r.writes.was r.writes.long r.bytes r.durable))
 
 pub returns-in-Ok-clause-found : goal.returns-in-Ok-clause-found
 returns-in-Ok-clause-found g c = λ h.
     let d = g.D.Device in
-    made_found d.image d.honest d.may_leave c.args.device c.write_new.new.device c.args.area c.requires.area c.requires.room (c.in-Ok.ensures.bytes h)
+    made_found d.medium c.args.device c.write_new.new.device c.args.area c.requires.area c.requires.room (c.in-Ok.ensures.bytes h)

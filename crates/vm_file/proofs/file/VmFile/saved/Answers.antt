@@ -7,5 +7,5 @@ use Rattle.vm_file.proofs.file.VmFile.saved.Goals as goal
 pub returns-clause-lists : goal.returns-clause-lists
 returns-clause-lists g c =
     let d = g.D.Device in
-    let G : FileState g.row.D.Denot → Type 0 = λ f. listed (pair_of d.image f).saved ≡ c.self.inside.saved in
-    subst G c.self.view_is (pair_listed d.image d.honest d.may_leave _ c.self.invariant).1
+    let G : FileState g.row.D.Denot → Type 0 = λ f. listed (pair_of d.medium.image f).saved ≡ c.self.inside.saved in
+    subst G c.self.view_is (pair_listed d.medium _ c.self.invariant).1

@@ -18,13 +18,13 @@ written g c saved = pair_in (current_after c.args.how c.args.cur.now saved) (sav
 
 -- the area was not written whole
 torn : (g : Over) (c : goal.In-Err g) → let d = g.D.Device in let i = c.self.inside in
-    TornFile d.image d.honest d.may_leave d.may_have_left (let f : FileState g.row.D.Denot = record { device = i.device; area = i.area; second = i.second; sure = i.sure; current = i.current; saved = i.saved } in f) c.self.invariant
+    TornFile d.medium (let f : FileState g.row.D.Denot = record { device = i.device; area = i.area; second = i.second; sure = i.sure; current = i.current; saved = i.saved } in f) c.self.invariant
     (let S : FileState g.row.D.Denot → Type 0 = λ f. f.sure ≡ true in subst S (sym c.self.view_is) c.requires.sure) c.write_durably.new.device (written g c i.saved)
 torn g c =
     let d = g.D.Device in
     let A : FileState g.row.D.Denot → Type 0 = λ f. length c.args.bytes.now ≤ f.area in
-    let W : ℕ → Type 0 = λ k. WritesOnly d.image d.honest d.may_leave d.may_have_left k (length c.args.bytes.now) c.self.inside.device c.write_durably.new.device in
-    torn_file d.image d.honest d.may_leave d.may_have_left _ c.self.invariant _ c.write_durably.new.device (length c.args.bytes.now) (subst A (sym c.self.view_is) c.requires.fits.1)
+    let W : ℕ → Type 0 = λ k. WritesOnly d.medium k (length c.args.bytes.now) c.self.inside.device c.write_durably.new.device in
+    torn_file d.medium _ c.self.invariant _ c.write_durably.new.device (length c.args.bytes.now) (subst A (sym c.self.view_is) c.requires.fits.1)
     (subst W c.base_of-base.ensures.exact c.in-Err.ensures.writes) (written g c c.self.inside.saved)
 
 pub invariant_of-self : goal.invariant_of-self
@@ -34,35 +34,35 @@ pub returns-in-Err-clause-pair : goal.returns-in-Err-clause-pair
 returns-in-Err-clause-pair g c =
     let d = g.D.Device in let i = c.self.inside in
     let now : FileState g.row.D.Denot = record { device = c.write_durably.new.device; area = i.area; second = i.second; sure = i.sure; current = i.current; saved = i.saved } in
-    let G : FileState g.row.D.Denot → Type 0 = λ f. d.honest f.device → pair_of d.image now ≡ pair_of d.image f in
+    let G : FileState g.row.D.Denot → Type 0 = λ f. d.medium.honest f.device → pair_of d.medium.image now ≡ pair_of d.medium.image f in
     subst G c.self.view_is (torn g c).pair
 
 pub returns-in-Err-clause-any_moment : goal.returns-in-Err-clause-any_moment
 returns-in-Err-clause-any_moment g c =
     let d = g.D.Device in
-    let G : FileState g.row.D.Denot → Type 0 = λ f. d.honest f.device → Passes d.may_have_left f.device c.write_durably.new.device (FindsOneOf (pair_of d.image f) (written g c f.saved)) in
+    let G : FileState g.row.D.Denot → Type 0 = λ f. d.medium.honest f.device → Passes d.medium.may_have_left f.device c.write_durably.new.device (FindsOneOf (pair_of d.medium.image f) (written g c f.saved)) in
     subst G c.self.view_is (torn g c).passes
 
 pub returns-in-Err-clause-stop : goal.returns-in-Err-clause-stop
 returns-in-Err-clause-stop g c =
     let d = g.D.Device in let i = c.self.inside in
     let now : FileState g.row.D.Denot = record { device = c.write_durably.new.device; area = i.area; second = i.second; sure = i.sure; current = i.current; saved = i.saved } in
-    let G : FileState g.row.D.Denot → Type 0 = λ f. d.honest f.device → (x : List ℕ) → d.may_leave c.write_durably.new.device x → Finds d.image now x in
+    let G : FileState g.row.D.Denot → Type 0 = λ f. d.medium.honest f.device → (x : List ℕ) → d.medium.may_leave c.write_durably.new.device x → Finds d.medium.image now x in
     subst G c.self.view_is (torn g c).finds
 
 -- the area was written, and the selector was not
 unsure : (g : Over) (c : goal.After-self-in-Err-write_durably-1 g) → let d = g.D.Device in let i = c.self.inside in let x = current_after c.args.how c.args.cur.now i.saved in let y = saved_after c.args.how c.args.cur.now i.saved in
-    UnsureFile d.image d.honest d.may_leave d.may_have_left (let f : FileState g.row.D.Denot = record { device = i.device; area = i.area; second = i.second; sure = i.sure; current = i.current; saved = i.saved } in f) c.self.invariant
+    UnsureFile d.medium (let f : FileState g.row.D.Denot = record { device = i.device; area = i.area; second = i.second; sure = i.sure; current = i.current; saved = i.saved } in f) c.self.invariant
     (let S : FileState g.row.D.Denot → Type 0 = λ f. f.sure ≡ true in subst S (sym c.self.view_is) c.requires.sure) c.write_durably-2.new.device (pair_in x y c.args.bytes.now)
 unsure g c =
     let d = g.D.Device in let i = c.self.inside in let n = length c.args.bytes.now in let x = current_after c.args.how c.args.cur.now i.saved in let y = saved_after c.args.how c.args.cur.now i.saved in
     let A : FileState g.row.D.Denot → Type 0 = λ f. n ≤ f.area in
-    let S : FileState g.row.D.Denot → Type 0 = λ f. d.honest f.device → Spells (current_after c.args.how c.args.cur.now f.saved) (saved_after c.args.how c.args.cur.now f.saved)
+    let S : FileState g.row.D.Denot → Type 0 = λ f. d.medium.honest f.device → Spells (current_after c.args.how c.args.cur.now f.saved) (saved_after c.args.how c.args.cur.now f.saved)
     (pair_in (current_after c.args.how c.args.cur.now f.saved) (saved_after c.args.how c.args.cur.now f.saved) c.args.bytes.now) c.args.bytes.now in
-    let W : ℕ → Type 0 = λ k. WritesOnly d.image d.honest d.may_leave d.may_have_left k n i.device c.write_durably.new.device in
-    unsure_file d.image d.honest d.may_leave d.may_have_left _ c.self.invariant _ c.write_durably.new.device n (subst A (sym c.self.view_is) c.requires.fits.1)
+    let W : ℕ → Type 0 = λ k. WritesOnly d.medium k n i.device c.write_durably.new.device in
+    unsure_file d.medium _ c.self.invariant _ c.write_durably.new.device n (subst A (sym c.self.view_is) c.requires.fits.1)
     (subst W c.base_of-base.ensures.exact c.in-Ok.ensures.writes) c.args.bytes.now x y (pair_in x y c.args.bytes.now) refl (omega (arith, c.in-Ok.ensures.within, c.base_of-base.ensures.exact))
-    (subst S (sym c.self.view_is) c.requires.spelled) (λ h. c.in-Ok.ensures.written h ∙ ap (λ k. with_part (d.image i.device) k c.args.bytes.now) c.base_of-base.ensures.exact) c.in-Ok.ensures.durable
+    (subst S (sym c.self.view_is) c.requires.spelled) (λ h. c.in-Ok.ensures.written h ∙ ap (λ k. with_part (d.medium.image i.device) k c.args.bytes.now) c.base_of-base.ensures.exact) c.in-Ok.ensures.durable
     c.write_durably-2.new.device c.write_durably-2.ensures.writes
 
 pub invariant_of-self-in-Err-write_durably : goal.invariant_of-self-in-Err-write_durably
@@ -72,45 +72,45 @@ pub returns-in-Err-write_durably-clause-pair : goal.returns-in-Err-write_durably
 returns-in-Err-write_durably-clause-pair g c =
     let d = g.D.Device in let i = c.self.inside in
     let now : FileState g.row.D.Denot = record { device = c.write_durably-2.new.device; area = i.area; second = i.second; sure = false; current = i.current; saved = i.saved } in
-    let G : FileState g.row.D.Denot → Type 0 = λ f. d.honest f.device → pair_of d.image now ≡ pair_of d.image f in
+    let G : FileState g.row.D.Denot → Type 0 = λ f. d.medium.honest f.device → pair_of d.medium.image now ≡ pair_of d.medium.image f in
     subst G c.self.view_is (unsure g c).pair
 
 pub returns-in-Err-write_durably-clause-other : goal.returns-in-Err-write_durably-clause-other
 returns-in-Err-write_durably-clause-other g c =
     let d = g.D.Device in let i = c.self.inside in
     let now : FileState g.row.D.Denot = record { device = c.write_durably-2.new.device; area = i.area; second = i.second; sure = false; current = i.current; saved = i.saved } in
-    let G : FileState g.row.D.Denot → Type 0 = λ f. d.honest f.device → IsOther d.image now (pair_in (current_after c.args.how c.args.cur.now f.saved) (saved_after c.args.how c.args.cur.now f.saved) c.args.bytes.now) in
+    let G : FileState g.row.D.Denot → Type 0 = λ f. d.medium.honest f.device → IsOther d.medium.image now (pair_in (current_after c.args.how c.args.cur.now f.saved) (saved_after c.args.how c.args.cur.now f.saved) c.args.bytes.now) in
     λ h _. subst G c.self.view_is (unsure g c).other h
 
 pub returns-in-Err-write_durably-clause-any_moment : goal.returns-in-Err-write_durably-clause-any_moment
 returns-in-Err-write_durably-clause-any_moment g c =
     let d = g.D.Device in
-    let G : FileState g.row.D.Denot → Type 0 = λ f. d.honest f.device → Passes d.may_have_left f.device c.write_durably-2.new.device
-    (FindsOneOf (pair_of d.image f) (pair_in (current_after c.args.how c.args.cur.now f.saved) (saved_after c.args.how c.args.cur.now f.saved) c.args.bytes.now)) in
+    let G : FileState g.row.D.Denot → Type 0 = λ f. d.medium.honest f.device → Passes d.medium.may_have_left f.device c.write_durably-2.new.device
+    (FindsOneOf (pair_of d.medium.image f) (pair_in (current_after c.args.how c.args.cur.now f.saved) (saved_after c.args.how c.args.cur.now f.saved) c.args.bytes.now)) in
     subst G c.self.view_is (unsure g c).passes
 
 pub returns-in-Err-write_durably-clause-stop : goal.returns-in-Err-write_durably-clause-stop
 returns-in-Err-write_durably-clause-stop g c =
     let d = g.D.Device in let i = c.self.inside in
     let now : FileState g.row.D.Denot = record { device = c.write_durably-2.new.device; area = i.area; second = i.second; sure = false; current = i.current; saved = i.saved } in
-    let G : FileState g.row.D.Denot → Type 0 = λ f. d.honest f.device → (x : List ℕ) → d.may_leave c.write_durably-2.new.device x → Finds d.image now x in
+    let G : FileState g.row.D.Denot → Type 0 = λ f. d.medium.honest f.device → (x : List ℕ) → d.medium.may_leave c.write_durably-2.new.device x → Finds d.medium.image now x in
     subst G c.self.view_is (unsure g c).finds
 
 -- both were written
 selected : (g : Over) (c : goal.After-keep g) → let d = g.D.Device in let i = c.self.inside in let x = current_after c.args.how c.args.cur.now i.saved in let y = saved_after c.args.how c.args.cur.now i.saved in
-    SelectedFile d.image d.honest d.may_leave d.may_have_left (let f : FileState g.row.D.Denot = record { device = i.device; area = i.area; second = i.second; sure = i.sure; current = i.current; saved = i.saved } in f) c.self.invariant
+    SelectedFile d.medium (let f : FileState g.row.D.Denot = record { device = i.device; area = i.area; second = i.second; sure = i.sure; current = i.current; saved = i.saved } in f) c.self.invariant
     (let S : FileState g.row.D.Denot → Type 0 = λ f. f.sure ≡ true in subst S (sym c.self.view_is) c.requires.sure) c.write_durably-2.new.device x y (pair_in x y c.args.bytes.now)
 selected g c =
     let d = g.D.Device in let i = c.self.inside in let n = length c.args.bytes.now in let x = current_after c.args.how c.args.cur.now i.saved in let y = saved_after c.args.how c.args.cur.now i.saved in
     let A : FileState g.row.D.Denot → Type 0 = λ f. n ≤ f.area in
-    let S : FileState g.row.D.Denot → Type 0 = λ f. d.honest f.device → Spells (current_after c.args.how c.args.cur.now f.saved) (saved_after c.args.how c.args.cur.now f.saved)
+    let S : FileState g.row.D.Denot → Type 0 = λ f. d.medium.honest f.device → Spells (current_after c.args.how c.args.cur.now f.saved) (saved_after c.args.how c.args.cur.now f.saved)
     (pair_in (current_after c.args.how c.args.cur.now f.saved) (saved_after c.args.how c.args.cur.now f.saved) c.args.bytes.now) c.args.bytes.now in
-    let W : ℕ → Type 0 = λ k. WritesOnly d.image d.honest d.may_leave d.may_have_left k n i.device c.write_durably.new.device in
+    let W : ℕ → Type 0 = λ k. WritesOnly d.medium k n i.device c.write_durably.new.device in
     let L : FileState g.row.D.Denot → Type 0 = λ f. n ≡ length_after c.args.how c.args.cur.now f.saved in
     let r = c.in-Ok-write_durably.ensures in let on = c.in-Ok.ensures.writes.stays in
-    selected_file d.image d.honest d.may_leave d.may_have_left _ c.self.invariant _ c.write_durably.new.device n (subst A (sym c.self.view_is) c.requires.fits.1)
+    selected_file d.medium _ c.self.invariant _ c.write_durably.new.device n (subst A (sym c.self.view_is) c.requires.fits.1)
     (subst W c.base_of-base.ensures.exact c.in-Ok.ensures.writes) c.args.bytes.now x y (pair_in x y c.args.bytes.now) refl (omega (arith, c.in-Ok.ensures.within, c.base_of-base.ensures.exact))
-    (subst S (sym c.self.view_is) c.requires.spelled) (λ h. c.in-Ok.ensures.written h ∙ ap (λ k. with_part (d.image i.device) k c.args.bytes.now) c.base_of-base.ensures.exact) c.in-Ok.ensures.durable
+    (subst S (sym c.self.view_is) c.requires.spelled) (λ h. c.in-Ok.ensures.written h ∙ ap (λ k. with_part (d.medium.image i.device) k c.args.bytes.now) c.base_of-base.ensures.exact) c.in-Ok.ensures.durable
     c.write_durably-2.new.device c.write_durably-2.ensures.writes
     c.selector_of.result c.selector_of.ensures.names (λ h. r.written (on h)) (λ h. r.durable (on h)) (current_legal c.args.how c.args.cur.now i.saved c.requires.legal c.self.invariant.saved)
     (saved_legal c.args.how c.args.cur.now i.saved c.requires.legal c.self.invariant.saved) (sym (subst L (sym c.self.view_is) c.requires.fits.0))
@@ -124,52 +124,52 @@ pub invariant_of-self-in-Ok-write_durably : goal.invariant_of-self-in-Ok-write_d
 invariant_of-self-in-Ok-write_durably g c =
     let d = g.D.Device in let i = c.self.inside in
     let now : Directory → Directory → FileState g.row.D.Denot = λ a b. record { device = c.write_durably-2.new.device; area = i.area; second = not i.second; sure = i.sure; current = a; saved = b } in
-    kept _ _ (λ a b. IsSound d.image d.honest d.may_leave (now a b)) c.keep.new.current c.keep.new.saved c.keep.ensures.current c.keep.ensures.saved (selected g c).legal
+    kept _ _ (λ a b. IsSound d.medium (now a b)) c.keep.new.current c.keep.new.saved c.keep.ensures.current c.keep.ensures.saved (selected g c).legal
 
 pub returns-in-Ok-write_durably-clause-pair : goal.returns-in-Ok-write_durably-clause-pair
 returns-in-Ok-write_durably-clause-pair g c =
     let d = g.D.Device in let i = c.self.inside in
     let now : Directory → Directory → FileState g.row.D.Denot = λ a b. record { device = c.write_durably-2.new.device; area = i.area; second = not i.second; sure = i.sure; current = a; saved = b } in
-    let G : FileState g.row.D.Denot → Type 0 = λ f. d.honest f.device → pair_of d.image (now c.keep.new.current c.keep.new.saved) ≡ (pair_in (current_after c.args.how c.args.cur.now f.saved) (saved_after c.args.how c.args.cur.now f.saved) c.args.bytes.now) in
+    let G : FileState g.row.D.Denot → Type 0 = λ f. d.medium.honest f.device → pair_of d.medium.image (now c.keep.new.current c.keep.new.saved) ≡ (pair_in (current_after c.args.how c.args.cur.now f.saved) (saved_after c.args.how c.args.cur.now f.saved) c.args.bytes.now) in
     let q = pair_in (current_after c.args.how c.args.cur.now i.saved) (saved_after c.args.how c.args.cur.now i.saved) c.args.bytes.now in
-    subst G c.self.view_is (λ h. kept _ _ (λ a b. pair_of d.image (now a b) ≡ q) c.keep.new.current c.keep.new.saved c.keep.ensures.current c.keep.ensures.saved ((selected g c).pair h))
+    subst G c.self.view_is (λ h. kept _ _ (λ a b. pair_of d.medium.image (now a b) ≡ q) c.keep.new.current c.keep.new.saved c.keep.ensures.current c.keep.ensures.saved ((selected g c).pair h))
 
 pub returns-in-Ok-write_durably-clause-any_moment : goal.returns-in-Ok-write_durably-clause-any_moment
 returns-in-Ok-write_durably-clause-any_moment g c =
     let d = g.D.Device in
-    let G : FileState g.row.D.Denot → Type 0 = λ f. d.honest f.device → Passes d.may_have_left f.device c.write_durably-2.new.device
-    (FindsOneOf (pair_of d.image f) (pair_in (current_after c.args.how c.args.cur.now f.saved) (saved_after c.args.how c.args.cur.now f.saved) c.args.bytes.now)) in
+    let G : FileState g.row.D.Denot → Type 0 = λ f. d.medium.honest f.device → Passes d.medium.may_have_left f.device c.write_durably-2.new.device
+    (FindsOneOf (pair_of d.medium.image f) (pair_in (current_after c.args.how c.args.cur.now f.saved) (saved_after c.args.how c.args.cur.now f.saved) c.args.bytes.now)) in
     subst G c.self.view_is (selected g c).passes
 
 pub returns-in-Ok-write_durably-clause-stop : goal.returns-in-Ok-write_durably-clause-stop
 returns-in-Ok-write_durably-clause-stop g c =
     let d = g.D.Device in let i = c.self.inside in
     let now : Directory → Directory → FileState g.row.D.Denot = λ a b. record { device = c.write_durably-2.new.device; area = i.area; second = not i.second; sure = i.sure; current = a; saved = b } in
-    let G : FileState g.row.D.Denot → Type 0 = λ f. d.honest f.device → (z : List ℕ) → d.may_leave c.write_durably-2.new.device z → Finds d.image (now c.keep.new.current c.keep.new.saved) z in
-    subst G c.self.view_is (λ h z l. kept _ _ (λ a b. Finds d.image (now a b) z) c.keep.new.current c.keep.new.saved c.keep.ensures.current c.keep.ensures.saved ((selected g c).finds h z l))
+    let G : FileState g.row.D.Denot → Type 0 = λ f. d.medium.honest f.device → (z : List ℕ) → d.medium.may_leave c.write_durably-2.new.device z → Finds d.medium.image (now c.keep.new.current c.keep.new.saved) z in
+    subst G c.self.view_is (λ h z l. kept _ _ (λ a b. Finds d.medium.image (now a b) z) c.keep.new.current c.keep.new.saved c.keep.ensures.current c.keep.ensures.saved ((selected g c).finds h z l))
 
 pub returns-in-Ok-write_durably-clause-bytes : goal.returns-in-Ok-write_durably-clause-bytes
 returns-in-Ok-write_durably-clause-bytes g c =
     let d = g.D.Device in let i = c.self.inside in
-    let G : FileState g.row.D.Denot → Type 0 = λ f. d.honest f.device → d.image c.write_durably-2.new.device ≡ image_after d.image c.args.bytes.now f in
+    let G : FileState g.row.D.Denot → Type 0 = λ f. d.medium.honest f.device → d.medium.image c.write_durably-2.new.device ≡ image_after d.medium.image c.args.bytes.now f in
     subst G c.self.view_is (λ h. c.in-Ok-write_durably.ensures.written (c.in-Ok.ensures.writes.stays h)
-    ∙ ap (λ k. with_part (d.image c.write_durably.new.device) 512 (k ∷ [])) c.selector_of.ensures.value
-    ∙ ap (λ l. with_part l 512 (selector_of (not i.second) ∷ [])) (c.in-Ok.ensures.written h ∙ ap (λ k. with_part (d.image i.device) k c.args.bytes.now) c.base_of-base.ensures.exact))
+    ∙ ap (λ k. with_part (d.medium.image c.write_durably.new.device) 512 (k ∷ [])) c.selector_of.ensures.value
+    ∙ ap (λ l. with_part l 512 (selector_of (not i.second) ∷ [])) (c.in-Ok.ensures.written h ∙ ap (λ k. with_part (d.medium.image i.device) k c.args.bytes.now) c.base_of-base.ensures.exact))
 
 -- the area was written, in part or whole
 area_torn : (g : Over) (c : goal.In-Err g) → let d = g.D.Device in let i = c.self.inside in
-    d.honest i.device → MayHaveWritten d.image (let f : FileState g.row.D.Denot = record { device = i.device; area = i.area; second = i.second; sure = i.sure; current = i.current; saved = i.saved } in f) i.sure (d.image c.write_durably.new.device)
+    d.medium.honest i.device → MayHaveWritten d.medium.image (let f : FileState g.row.D.Denot = record { device = i.device; area = i.area; second = i.second; sure = i.sure; current = i.current; saved = i.saved } in f) i.sure (d.medium.image c.write_durably.new.device)
 area_torn g c = λ h.
     let d = g.D.Device in let i = c.self.inside in let n = length c.args.bytes.now in
     let f : FileState g.row.D.Denot = record { device = i.device; area = i.area; second = i.second; sure = i.sure; current = i.current; saved = i.saved } in
     let A : FileState g.row.D.Denot → Type 0 = λ x. n ≤ x.area in
-    let W : ℕ → Type 0 = λ k. WritesOnly d.image d.honest d.may_leave d.may_have_left k n i.device c.write_durably.new.device in
-    written_area d.image f i.sure (d.image c.write_durably.new.device) n (subst A (sym c.self.view_is) c.requires.fits.1) ((subst W c.base_of-base.ensures.exact c.in-Err.ensures.writes).torn h)
+    let W : ℕ → Type 0 = λ k. WritesOnly d.medium k n i.device c.write_durably.new.device in
+    written_area d.medium.image f i.sure (d.medium.image c.write_durably.new.device) n (subst A (sym c.self.view_is) c.requires.fits.1) ((subst W c.base_of-base.ensures.exact c.in-Err.ensures.writes).torn h)
 
 pub returns-in-Err-clause-torn : goal.returns-in-Err-clause-torn
 returns-in-Err-clause-torn g c =
     let d = g.D.Device in let i = c.self.inside in
-    let G : FileState g.row.D.Denot → Type 0 = λ f. d.honest f.device → MayHaveWritten d.image f i.sure (d.image c.write_durably.new.device) in
+    let G : FileState g.row.D.Denot → Type 0 = λ f. d.medium.honest f.device → MayHaveWritten d.medium.image f i.sure (d.medium.image c.write_durably.new.device) in
     subst G c.self.view_is (area_torn g c)
 
 pub returns-in-Err-write_durably-clause-torn : goal.returns-in-Err-write_durably-clause-torn
@@ -177,7 +177,7 @@ returns-in-Err-write_durably-clause-torn g c =
     let d = g.D.Device in let i = c.self.inside in let n = length c.args.bytes.now in
     let f : FileState g.row.D.Denot = record { device = i.device; area = i.area; second = i.second; sure = i.sure; current = i.current; saved = i.saved } in
     let A : FileState g.row.D.Denot → Type 0 = λ x. n ≤ x.area in
-    let W : ℕ → Type 0 = λ k. WritesOnly d.image d.honest d.may_leave d.may_have_left k n i.device c.write_durably.new.device in
+    let W : ℕ → Type 0 = λ k. WritesOnly d.medium k n i.device c.write_durably.new.device in
     let w = subst W c.base_of-base.ensures.exact c.in-Ok.ensures.writes in
-    let G : FileState g.row.D.Denot → Type 0 = λ x. d.honest x.device → MayHaveWritten d.image x false (d.image c.write_durably-2.new.device) in
-    subst G c.self.view_is (λ h. written_both d.image f (d.image c.write_durably.new.device) _ n (subst A (sym c.self.view_is) c.requires.fits.1) (w.torn h) (c.write_durably-2.ensures.writes.torn (w.stays h)))
+    let G : FileState g.row.D.Denot → Type 0 = λ x. d.medium.honest x.device → MayHaveWritten d.medium.image x false (d.medium.image c.write_durably-2.new.device) in
+    subst G c.self.view_is (λ h. written_both d.medium.image f (d.medium.image c.write_durably.new.device) _ n (subst A (sym c.self.view_is) c.requires.fits.1) (w.torn h) (c.write_durably-2.ensures.writes.torn (w.stays h)))

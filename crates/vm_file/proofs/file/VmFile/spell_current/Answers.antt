@@ -12,17 +12,17 @@ use Rattle.vm_file.proofs.StateLaws.{read_sound}
 use Rattle.vm_file.proofs.file.VmFile.spell_current.Goals as goal
 
 pub invariant_of-self : goal.invariant_of-self
-invariant_of-self g c = (let d = g.D.Device in read_sound d.image d.honest d.may_leave d.may_have_left _ c.spell_directory.new.device c.self.invariant c.spell_directory.ensures.reads)
+invariant_of-self g c = (let d = g.D.Device in read_sound d.medium _ c.spell_directory.new.device c.self.invariant c.spell_directory.ensures.reads)
 
 pub returns-clause-items : goal.returns-clause-items
 returns-clause-items g c =
     let d = g.D.Device in let resident = g.S.Source.resident_bytes c.args.source.now in let cur = c.args.cur.now in
     let M : FileState g.row.D.Denot → Type 0 = λ f. MayCommit resident f.current cur in
     let P : Contents → Type 0 = λ x. OnOk c.spell_directory.result (vec_items c.spell_directory.new.into ≡ vec_items c.args.into.now ++ contents_spelling x) in
-    let G : FileState g.row.D.Denot → Type 0 = λ f. d.honest f.device → P (contents_from resident (pair_of d.image f).cur.blocks cur) in
+    let G : FileState g.row.D.Denot → Type 0 = λ f. d.medium.honest f.device → P (contents_from resident (pair_of d.medium.image f).cur.blocks cur) in
     let at = c.base_of-from.result + 2 in
-    let same = ap (λ (kept : Directory). contents_read resident (d.image c.self.inside.device) at kept.entries.items cur) c.directory.ensures
-    ∙ current_contents d.image d.honest d.may_leave _ c.self.invariant resident cur (subst M (sym c.self.view_is) c.requires.may) at (ap (λ k. k + 2) c.base_of-from.ensures.exact) in
+    let same = ap (λ (kept : Directory). contents_read resident (d.medium.image c.self.inside.device) at kept.entries.items cur) c.directory.ensures
+    ∙ current_contents d.medium _ c.self.invariant resident cur (subst M (sym c.self.view_is) c.requires.may) at (ap (λ k. k + 2) c.base_of-from.ensures.exact) in
     subst G c.self.view_is (λ h. subst P same (c.spell_directory.ensures.items h))
 
 pub returns-clause-cause : goal.returns-clause-cause
@@ -30,20 +30,20 @@ returns-clause-cause g c =
     let d = g.D.Device in let resident = g.S.Source.resident_bytes c.args.source.now in let cur = c.args.cur.now in
     let M : FileState g.row.D.Denot → Type 0 = λ f. MayCommit resident f.current cur in
     let F : Contents → Type 0 = λ x. list_all is_filled x.blocks ≡ true in
-    let G : FileState g.row.D.Denot → Type 0 = λ f. d.honest f.device → OnErr c.spell_directory.result (Rose (d.failed f.device) (d.failed c.spell_directory.new.device)) in
+    let G : FileState g.row.D.Denot → Type 0 = λ f. d.medium.honest f.device → OnErr c.spell_directory.result (Rose (d.medium.failed f.device) (d.medium.failed c.spell_directory.new.device)) in
     let may = subst M (sym c.self.view_is) c.requires.may in
     let at = c.base_of-from.result + 2 in
-    let same = ap (λ (kept : Directory). contents_read resident (d.image c.self.inside.device) at kept.entries.items cur) c.directory.ensures
-    ∙ current_contents d.image d.honest d.may_leave _ c.self.invariant resident cur may at (ap (λ k. k + 2) c.base_of-from.ensures.exact) in
-    subst G c.self.view_is (λ h. c.spell_directory.ensures.cause h (subst F (sym same) (from_filled d.image d.honest d.may_leave _ c.self.invariant resident cur may h)))
+    let same = ap (λ (kept : Directory). contents_read resident (d.medium.image c.self.inside.device) at kept.entries.items cur) c.directory.ensures
+    ∙ current_contents d.medium _ c.self.invariant resident cur may at (ap (λ k. k + 2) c.base_of-from.ensures.exact) in
+    subst G c.self.view_is (λ h. c.spell_directory.ensures.cause h (subst F (sym same) (from_filled d.medium _ c.self.invariant resident cur may h)))
 
 pub returns-clause-legal : goal.returns-clause-legal
 returns-clause-legal g c =
     let d = g.D.Device in let resident = g.S.Source.resident_bytes c.args.source.now in let cur = c.args.cur.now in
     let M : FileState g.row.D.Denot → Type 0 = λ f. MayCommit resident f.current cur in
     let may = subst M (sym c.self.view_is) c.requires.may in
-    let G : FileState g.row.D.Denot → Type 0 = λ f. d.honest f.device → IsContentsOf cur (contents_from resident (pair_of d.image f).cur.blocks cur) in
+    let G : FileState g.row.D.Denot → Type 0 = λ f. d.medium.honest f.device → IsContentsOf cur (contents_from resident (pair_of d.medium.image f).cur.blocks cur) in
     subst G c.self.view_is (λ h. record {
-      legal = from_legal d.image d.honest d.may_leave _ c.self.invariant resident cur may h;
-      lists = from_listed d.image d.honest d.may_leave _ c.self.invariant resident cur may h;
+      legal = from_legal d.medium _ c.self.invariant resident cur may h;
+      lists = from_listed d.medium _ c.self.invariant resident cur may h;
     })
