@@ -1,5 +1,5 @@
 -- Groups, and how one is brought into memory.
-use Rattle.std.specs.Prelude.{◌≡◌, ℕ, List, IsSomeAnd, IfSome, OnErr, OnOk, Result, Err}
+use Rattle.std.specs.Prelude.{◌≡◌, ℕ, IsSomeAnd, IfSome, OnErr, OnOk, Result, Err}
 use Rattle.geos_model.specs.Names.{vm}
 use Rattle.geos_model.specs.declared.refusal.Refusal.{Refusal}
 use Rattle.geos_model.specs.declared.refusal.Refusal.TheVariants.{BadHandle, Disk, NoRoom, Short}

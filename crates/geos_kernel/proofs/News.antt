@@ -1,5 +1,5 @@
 -- The call that makes a block.
-use Rattle.std.proofs.Common.{◌≡◌, ◌≢◌, ℕ, ◌<◌, List, Option, Some, None, true, refl, sym, ap, ◌∙◌, arith, subst}
+use Rattle.std.proofs.Common.{◌≡◌, ◌≢◌, ℕ, ◌<◌, Option, Some, None, true, refl, sym, ap, ◌∙◌, arith, subst}
 use Rattle.std.specs.Prelude.{Ok, Err}
 use Rattle.geos_model.specs.declared.name.Owner.TheVariants.{Mem}
 use Rattle.geos_model.specs.declared.refusal.Refusal.TheVariants.{NoHandle, NoRoom}

@@ -1,6 +1,6 @@
 -- Calls that do their rows, where nothing is refused from outside, or room alone; and the calls
 -- that they are to who sees the kernel.
-use Rattle.std.proofs.Common.{◌≡◌, ℕ, List, refl, inl}
+use Rattle.std.proofs.Common.{◌≡◌, refl, inl}
 use Rattle.std.specs.Prelude.{Result}
 use Rattle.geos_model.specs.declared.refusal.Refusal.{Refusal}
 use Rattle.geos_table.specs.Effects.{Call, Choice, effect_of, outcome}

@@ -1,5 +1,5 @@
 -- Calls on a block of the file that is in memory, by what was done below; and those that change nothing.
-use Rattle.std.proofs.Common.{◌≡◌, ◌∙◌, ℕ, ◌<◌, List, refl, ap, arith, subst}
+use Rattle.std.proofs.Common.{◌≡◌, ◌∙◌, ℕ, ◌<◌, refl, ap, arith, subst}
 use Rattle.std.specs.Prelude.{MatchResult, OnErr, OnOk, Result, Ok, Err}
 use Rattle.geos_model.specs.declared.refusal.Refusal.{Refusal}
 use Rattle.geos_model.specs.declared.refusal.Refusal.TheVariants as refusal

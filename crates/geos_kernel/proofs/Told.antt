@@ -1,5 +1,5 @@
 -- What the kernel tells of locks is what the model has.
-use Rattle.std.proofs.Common.{◌≡◌, ℕ, Bool, List, None, sym, ap, ◌∙◌, inl, inr}
+use Rattle.std.proofs.Common.{◌≡◌, ℕ, Bool, None, sym, ap, ◌∙◌, inl, inr}
 use Rattle.std.specs.Prelude.{◌↔◌, IsTrue, option_map}
 use Rattle.geos_model.specs.Names.{vm}
 use Rattle.geos_table.specs.Directories.{VmBlock}

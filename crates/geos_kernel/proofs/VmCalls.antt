@@ -1,5 +1,5 @@
 -- The calls on blocks of the file, and on the file, by what was done below.
-use Rattle.std.proofs.Common.{◌≡◌, ℕ, ◌<◌, ◌⊎◌, List, Option, Some, None, refl, sym, ap, arith, subst, inl, inr}
+use Rattle.std.proofs.Common.{◌≡◌, ℕ, ◌<◌, ◌⊎◌, Option, Some, None, refl, sym, ap, arith, subst, inl, inr}
 use Rattle.std.specs.Prelude.{Result, Ok, Err, ◌↔◌, IfOk, IfErr, OnErr, OnOk}
 use Rattle.geos_model.specs.declared.name.Name.{Name}
 use Rattle.geos_model.specs.declared.name.Owner.TheVariants.{Vm}

@@ -7,10 +7,10 @@ use Rattle.geos_table.specs.Effects.{Call}
 use Rattle.block_handles.specs.Store.{IsThere}
 use Rattle.vm_file.specs.declared.commit.How.{How}
 use Rattle.vm_file.specs.declared.error.CommitError.{CommitError}
+use Rattle.vm_file.specs.Committing.{CommitsFile}
 use Rattle.vm_file.specs.Device.{Medium, Rose}
 use Rattle.vm_file.specs.Outcomes.{ReadsOnly}
 use Rattle.vm_file.specs.State.{FileState}
-use Rattle.vm_blocks.specs.Commit.{CommitsFile}
 use Rattle.vm_blocks.specs.Listed.{StoreAfter, directory_of, resident_of}
 use Rattle.vm_blocks.specs.Refused.{of_commit}
 use Rattle.vm_blocks.specs.View.{vm_slot}

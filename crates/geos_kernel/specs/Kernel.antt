@@ -1,6 +1,6 @@
 -- What holds of a kernel, and what its calls promise.
-use Rattle.std.specs.Prelude.{List, [], ◌∷◌, length, set, true, Some, ◌≡◌, ◌≢◌, ◌⊎◌, ℕ, ◌-◌, ◌^◌, ◌<◌, ◌≤◌, Option, None, IsSomeAnd, OnErr, Result, Ok, Err}
-use Rattle.block_handles.specs.Names.{IsHandle, slot_of}
+use Rattle.std.specs.Prelude.{List, [], ◌∷◌, length, set, true, Some, ◌≡◌, ◌⊎◌, ℕ, ◌-◌, ◌^◌, ◌<◌, ◌≤◌, Option, None, IsSomeAnd, OnErr, Result, Ok, Err}
+use Rattle.block_handles.specs.Names.{slot_of}
 use Rattle.block_handles.specs.Store.{Store, IsThere, block_at, bytes_of, locks_of, region_len}
 use Rattle.block_handles.specs.Change.{LockedStay}
 use Rattle.block_handles.specs.Layout.{IsLaidOut}

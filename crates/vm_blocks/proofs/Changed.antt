@@ -1,5 +1,5 @@
 -- The model's memory stays tied where one block of the file changes.
-use Rattle.std.proofs.Common.{◌≡◌, ◌≢◌, ℕ, ◌<◌, List, Option, Some, None, Bool, refl, sym, ap, ◌∙◌, subst, arith, inl, inr}
+use Rattle.std.proofs.Common.{◌≡◌, ◌≢◌, ℕ, ◌<◌, Option, Some, None, Bool, refl, sym, ap, ◌∙◌, subst, arith, inl, inr}
 use Rattle.std.specs.Prelude.{IfSome, option_map}
 use Rattle.geos_model.specs.Names.{vm}
 use Rattle.geos_table.specs.Blocks.{Block as ModelBlock}

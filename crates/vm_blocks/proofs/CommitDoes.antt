@@ -1,5 +1,5 @@
 -- A commit does its row.
-use Rattle.std.proofs.Common.{◌≡◌, ℕ, List, None, Bool, true, false, refl, sym, ap, ◌∙◌, subst, inl, inr}
+use Rattle.std.proofs.Common.{◌≡◌, None, Bool, true, false, refl, sym, ap, ◌∙◌, subst, inl, inr}
 use Rattle.std.specs.Prelude.{not, nat_lt, Result, Ok, Err, OnOk, OnErr}
 use Rattle.geos_model.specs.declared.refusal.Refusal.TheVariants as refusal
 use Rattle.geos_table.specs.Effects.{effect_of, outcome}
@@ -15,7 +15,7 @@ use Rattle.vm_file.specs.Device.{Medium}
 use Rattle.vm_file.specs.declared.commit.How.{How}
 use Rattle.vm_file.specs.declared.error.CommitError.{CommitError}
 use Rattle.vm_file.specs.declared.error.CommitError.TheVariants as error
-use Rattle.vm_file.specs.Committing.{KeepsAfter, current_after, kept_after, saved_after}
+use Rattle.vm_file.specs.Committing.{CommitsFile, KeepsAfter, current_after, kept_after, saved_after}
 use Rattle.vm_file.specs.Contents.{Pair, listed}
 use Rattle.vm_file.specs.Directories.{is_directory}
 use Rattle.vm_file.specs.Kept as file
@@ -23,7 +23,6 @@ use Rattle.vm_file.specs.Kept.{SureOf, UnsureBetween, kept_of, other_pair}
 use Rattle.vm_file.specs.State.{FileState, bytes_of_block, pair_of}
 use Rattle.vm_blocks.specs.View.{VmState, bytes_read, held_at, vm_slot}
 use Rattle.vm_blocks.specs.Tied.{IsTied}
-use Rattle.vm_blocks.specs.Commit.{CommitsFile}
 use Rattle.vm_blocks.specs.Listed.{IsListOf, NoneLocked, StoreAfter, directory_of, resident_of}
 use Rattle.vm_blocks.specs.ListedCalls.{keeper_of}
 use Rattle.vm_blocks.specs.Matches.{IsPairOf, stored_pair}

@@ -1,5 +1,5 @@
 -- The model's file stays tied where blocks are discarded, and where the device is read.
-use Rattle.std.proofs.Common.{◌≡◌, ◌≢◌, ℕ, ◌<◌, List, length, map, take, Option, Some, None, true, refl, sym, ap, ◌∙◌, subst, arith, inl, inr, length-take}
+use Rattle.std.proofs.Common.{◌≡◌, ◌≢◌, ℕ, ◌<◌, length, map, take, Option, Some, None, true, refl, sym, ap, ◌∙◌, subst, arith, inl, inr, length-take}
 use Rattle.std.specs.Prelude.{IfSome, not}
 use Rattle.std.proofs.lemmas.Bool.{cases_eq}
 use Rattle.std.proofs.lemmas.List.{ext_get_or, get_or-take}

@@ -1,5 +1,5 @@
 -- A block that is freed does its row.
-use Rattle.std.proofs.Common.{◌≡◌, ℕ, zero, suc, inl, ◌<◌, List, [], Some, None, Bool, true, false, refl, sym, ap, ◌∙◌, subst, arith}
+use Rattle.std.proofs.Common.{◌≡◌, ℕ, zero, suc, inl, ◌<◌, [], Some, None, Bool, true, false, refl, sym, ap, ◌∙◌, subst, arith}
 use Rattle.std.specs.Prelude.{◌==◌, Ok, Err, nat_lt, if◌then◌else◌}
 use Rattle.geos_model.specs.Names.{vm}
 use Rattle.geos_model.specs.declared.refusal.Refusal.TheVariants as refusal

@@ -1,5 +1,5 @@
 -- What is mapped by calls is what their rows map.
-use Rattle.std.proofs.Common.{◌≡◌, ◌≢◌, ℕ, zero, suc, ◌<◌, List, [], Option, Some, None, true, false, not, ◌&&◌, refl, arith}
+use Rattle.std.proofs.Common.{◌≡◌, ◌≢◌, ℕ, zero, suc, ◌<◌, [], Option, Some, None, true, false, not, ◌&&◌, refl, arith}
 use Rattle.std.specs.Prelude.{◌==◌, Ok, IsSomeAnd, is_none, option_map}
 use Rattle.std.proofs.lemmas.Bool.Decides.{nat_tests}
 use Rattle.geos_table.specs.Directories.{VmBlock, Directory, group_uid, uid_in}

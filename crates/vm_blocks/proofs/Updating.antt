@@ -10,7 +10,7 @@ use Rattle.vm_file.specs.declared.directory.Directory.{Directory}
 use Rattle.vm_file.specs.declared.error.CommitError.{CommitError}
 use Rattle.vm_file.specs.declared.commit.How.{How}
 use Rattle.vm_file.specs.declared.commit.How.TheVariants.{Update, Save, Revert}
-use Rattle.vm_file.specs.Committing.{contents_from, current_after, kept_after}
+use Rattle.vm_file.specs.Committing.{CommitsFile, contents_from, current_after, kept_after}
 use Rattle.vm_file.specs.Contents as file
 use Rattle.vm_file.specs.Directories.{is_directory}
 use Rattle.vm_file.specs.State.{FileState, HasBlock, bytes_of_block, pair_of}
@@ -18,7 +18,6 @@ use Rattle.vm_blocks.specs.declared.entries.Held.{Held}
 use Rattle.vm_blocks.specs.View.{VmState, bytes_read, held_at, vm_slot}
 use Rattle.vm_blocks.specs.Tied.{IsTied, TiedAt}
 use Rattle.vm_blocks.specs.Listed.{IsListOf, StoreAfter, cleaned, directory_of, len_now, resident_of}
-use Rattle.vm_blocks.specs.Commit.{CommitsFile}
 use Rattle.vm_blocks.proofs.Opened.{list-maps, opened-tied}
 use Rattle.vm_blocks.proofs.Directory.{bytes-held, has-held, listed-held}
 

@@ -1,5 +1,5 @@
 -- When a call does what its row says.
-use Rattle.std.specs.Prelude.{◌≡◌, ℕ, true, false, List, [], Result}
+use Rattle.std.specs.Prelude.{◌≡◌, true, false, [], Result}
 use Rattle.geos_model.specs.declared.refusal.Refusal.{Refusal}
 use Rattle.geos_table.specs.Effects.{Call, Choice, effect_of, outcome}
 use Rattle.geos_table.specs.Memory.{Memory}

@@ -1,5 +1,5 @@
 -- Changes of the region by others, over which blocks of the file stay tied.
-use Rattle.std.specs.Prelude.{◌≡◌, ◌≢◌, ℕ, true, List, Some}
+use Rattle.std.specs.Prelude.{◌≡◌, ◌≢◌, ℕ, true, Some}
 use Rattle.geos_model.specs.Block.{handle_word}
 use Rattle.geos_model.specs.Heap.{IsHeap}
 use Rattle.block_handles.specs.Names.{IsHandle}

@@ -1,5 +1,5 @@
 -- Changes of the region by others, over which the model's memory goes on.
-use Rattle.std.specs.Prelude.{◌≡◌, ℕ, ◌≤◌, true, List, map, take, Some}
+use Rattle.std.specs.Prelude.{◌≡◌, ℕ, ◌≤◌, true, map, take, Some}
 use Rattle.geos_model.specs.Names.{vm}
 use Rattle.geos_model.specs.declared.name.Name.{Name}
 use Rattle.geos_table.specs.Legal.{AreBytes}

@@ -1,9 +1,9 @@
 //! Commits of the blocks of a file.
 ghost use Rattle.std.specs.Prelude.{◌≡◌, ℕ, List, length, true};
 ghost use Rattle.geos_table.specs.VmCalls.{commit, vrevert, vsave, vupdate};
-ghost use Rattle.vm_file.specs.Committing.{MayCommit};
+ghost use Rattle.vm_file.specs.Committing.{CommitsFile, MayCommit};
 ghost use Rattle.vm_file.specs.Directories.{is_directory};
-ghost use Rattle.vm_blocks.specs.Commit.{CommitsBlocks, CommitsFile, Lists};
+ghost use Rattle.vm_blocks.specs.Commit.{CommitsBlocks, Lists};
 ghost use Rattle.vm_blocks.specs.DoesRow.{DoesRow};
 ghost use Rattle.vm_blocks.specs.Listed.{DropsAll, IsListOf, NoneLocked, StoreAfter, directory_of, len_now, resident_of};
 ghost use Rattle.vm_blocks.specs.ListedCalls.{keeper_of};

@@ -1,5 +1,5 @@
 -- What a device below a device of faults was made to do.
-use Rattle.std.proofs.Common.{⊎_elim, inl, inr, ℕ, ◌≤◌, List}
+use Rattle.std.proofs.Common.{⊎_elim, inl, inr, ℕ, ◌≤◌}
 use Rattle.vm_file.specs.Device.{Medium}
 use Rattle.vm_file.specs.declared.faulty.FaultDevice.{FaultDevice}
 use Rattle.vm_file.specs.Faulty.{inner_of, over}

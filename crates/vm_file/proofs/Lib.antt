@@ -20,4 +20,5 @@ pub mod Filling
 pub mod Blocks
 pub mod Sources
 pub mod CommitLaws
+pub mod CommitEnds
 pub mod Kept

@@ -1,5 +1,5 @@
 -- What a commit keeps, and what a stop during it leaves.
-use Rattle.std.specs.Prelude.{◌≡◌, ◌⊎◌, ℕ, ◌+◌, Bool, true, not, List, [], ◌∷◌, length, map, Option, Some, None, Ok, unwrap_or, All, MatchBool, MatchOption, IfSome, IsSome}
+use Rattle.std.specs.Prelude.{◌≡◌, ◌⊎◌, ℕ, ◌+◌, ◌<◌, ◌↔◌, Bool, true, false, not, List, [], ◌∷◌, length, map, Option, Some, None, Result, Ok, Err, unwrap_or, All, MatchBool, MatchOption, MatchResult, IfErr, IfSome, IsSome, OnOk}
 use Rattle.std.specs.Borrow.{Bor}
 use Rattle.lmem_raw.specs.Bytes.{part, with_part}
 use Rattle.geos_model.specs.Block.{handle_word}
@@ -10,14 +10,14 @@ use Rattle.vm_file.specs.declared.directory.Entry.{Entry}
 use Rattle.vm_file.specs.declared.directory.Directory.{Directory}
 use Rattle.vm_file.specs.declared.spell.Placed.{Placed}
 use Rattle.vm_file.specs.Contents.{Block, Contents, Pair, listed, is_contents, pair_spelling}
-use Rattle.vm_file.specs.Device.{AfterWrite, Touched}
+use Rattle.vm_file.specs.Device.{AfterWrite, FailedOnce, Medium, Passes, Rose, Touched}
 use Rattle.vm_file.specs.Directories.{is_directory, directory_length}
-use Rattle.vm_file.specs.Kept.{Kept, SureOf, UnsureBetween}
+use Rattle.vm_file.specs.Kept.{Kept, SureOf, UnsureBetween, kept_of}
 use Rattle.vm_file.specs.Reading.{base_of, found}
 use Rattle.vm_file.specs.Spelling.{selector_of}
 use Rattle.vm_file.specs.declared.error.CommitError.{CommitError}
 use Rattle.vm_file.specs.declared.error.CommitError.TheVariants.{Unsure, TooBig, Memory, Disk}
-use Rattle.vm_file.specs.State.{FileState, Finds, HasBlock, bytes_of_block, pair_of, place_in}
+use Rattle.vm_file.specs.State.{FileState, Finds, HasBlock, IsOther, bytes_of_block, pair_of, place_in}
 
 -- a source shows the bytes that are resident under a handle, or that none are there
 abbrev pub Shows : Option (Bor (List ℕ)) → Option (List ℕ) → Type 0
@@ -109,6 +109,43 @@ FindsOr image f after c = Finds image f c ⊎ (found c ≡ Ok after)
 -- `open` finds the one pair or the other
 abbrev pub FindsOneOf : Pair → Pair → List ℕ → Type 0
 FindsOneOf before after c = (found c ≡ Ok before) ⊎ (found c ≡ Ok after)
+
+-- a file after a commit of this directory, where these blocks are resident
+pub record CommitsFile {D : Type 0} (medium : Medium D)
+    (how : How) (resident : ℕ → Option (List ℕ)) (cur : Directory) (old new : FileState D) (result : Result (Unit {0}) CommitError) : Type 0 where
+  pub unsure : (result ≡ Err Unsure) ↔ (old.sure ≡ false)
+  pub too_big : (result ≡ Err TooBig) ↔ (old.sure ≡ true) × (old.area < length_after how cur old.saved)
+  pub done : OnOk result (new ≡ record {
+    device = new.device;
+    area = old.area;
+    second = not old.second;
+    sure = true;
+    current = current_after how cur old.saved;
+    saved = saved_after how cur old.saved;
+  })
+  pub refused : IfErr result (λ e. IsAfter e old new)
+  pub pair : medium.honest old.device → MatchResult result (λ _. pair_of medium.image new ≡ kept_after medium.image resident how cur old) (λ _. pair_of medium.image new ≡ pair_of medium.image old)
+  -- it keeps the new pair or, where it was refused, what it kept; where the device failed, it may be unsure between that and the new pair
+  pub kept : medium.honest old.device → MatchResult result
+      (λ _. kept_of medium.image new ≡ SureOf (kept_after medium.image resident how cur old))
+      (λ e. KeepsAfter e (kept_after medium.image resident how cur old) (kept_of medium.image old) (kept_of medium.image new))
+  -- it has written the pair's bytes to the other area and its selector, and nothing else
+  pub bytes : medium.honest old.device → OnOk result (medium.image new.device ≡ image_after medium.image (pair_spelling (kept_after medium.image resident how cur old)) old)
+  -- where the device failed, nothing but that area may differ and, where the file turned unsure, the selector
+  pub torn : medium.honest old.device → result ≡ Err Disk → MayHaveWritten medium.image old new.sure (medium.image new.device)
+  -- where it turned unsure, the other area holds the new pair
+  pub other : medium.honest old.device → old.sure ≡ true → new.sure ≡ false → IsOther medium.image new (kept_after medium.image resident how cur old)
+  -- what `open` finds after a stop at any moment of the call, and after one behind it
+  pub any_moment : medium.honest old.device → Passes medium.may_have_left old.device new.device (FindsOr medium.image old (kept_after medium.image resident how cur old))
+  pub stopped : medium.honest old.device → (c : List ℕ) → medium.may_have_left old.device new.device c → FindsOr medium.image old (kept_after medium.image resident how cur old) c
+  pub stop : medium.honest old.device → (c : List ℕ) → medium.may_leave new.device c → Finds medium.image new c
+  pub stays : medium.honest old.device → medium.honest new.device
+  pub was : medium.honest new.device → medium.honest old.device
+  pub ok : OnOk result (medium.failed new.device ≡ medium.failed old.device)
+  -- the first call that fails is the last one: nothing is written or read behind it
+  pub once : FailedOnce (medium.failed old.device) (medium.failed new.device)
+  pub cause : medium.honest old.device → result ≡ Err Disk → Rose (medium.failed old.device) (medium.failed new.device)
+  pub no_read : NeedsNoRead resident how cur old.saved → result ≡ Err Disk → Rose (medium.failed old.device) (medium.failed new.device)
 
 -- the same block: where it is not resident, the bytes that stand in an image where these entries, which begin at an offset, have it
 abbrev pub block_read : (ℕ → Option (List ℕ)) → List ℕ → ℕ → List Entry → Entry → Block

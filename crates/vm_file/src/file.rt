@@ -44,7 +44,7 @@ impl<D: Device + Drop> Model for VmFile<D> {
 impl<D: Device + Drop> VmFile<D> {
     ghost use Rattle.geos_model.specs.Bytes.{AreBytes};
     ghost use Rattle.lmem_raw.specs.Bytes.{with_part};
-    ghost use Rattle.vm_file.specs.Committing.{AreResident, FindsOneOf, FindsOr, IsAfter, IsContentsOf, KeepsAfter, MayCommit, MayHaveWritten, NeedsNoRead, Spells};
+    ghost use Rattle.vm_file.specs.Committing.{AreResident, CommitsFile, FindsOneOf, IsContentsOf, MayCommit, MayHaveWritten, NeedsNoRead, Spells};
     ghost use Rattle.vm_file.specs.Committing.{contents_from, current_after, image_after, kept_after, length_after, saved_after};
     ghost use Rattle.vm_file.specs.Contents.{contents_spelling, listed, pair_in, pair_spelling};
     ghost use Rattle.vm_file.specs.Directories.{directory_length, is_directory};
@@ -54,8 +54,8 @@ impl<D: Device + Drop> VmFile<D> {
     ghost use Rattle.vm_file.specs.State.{FileState, Finds, HasBlock, IsOther, ListsPair, bytes_of_block, file_of, pair_of};
 
     /// Makes a file on a device: writes the header, the selector and two empty directories,
-    /// and ends with a `sync`. `area` is a legal area size, and the device has room for two
-    /// areas behind the first 1,024 bytes. The device comes back with each refusal: `Disk`
+    /// and ends with a `sync`. `area` is a legal area size, and the device has room for the file
+    /// (`device_length`). The device comes back with each refusal: `Disk`
     /// where it fails; then any bytes may stand in the first 1,040.
     pub fn create(alloc: Global, mut device: D, area: u32) -> Result<VmFile<D>, (D, CreateError)>
         requires area { is_area area ≡ true }
@@ -250,48 +250,7 @@ impl<D: Device + Drop> VmFile<D> {
         source: &S,
     ) -> Result<(), CommitError>
         requires { MayCommit (S.resident_bytes source.now) self.old.current cur.now }
-        ensures unsure { (result ≡ Err CommitError.Unsure) ↔ (self.old.sure ≡ false) }
-        ensures too_big { (result ≡ Err CommitError.TooBig) ↔ (self.old.sure ≡ true) × (self.old.area < length_after how cur.now self.old.saved) }
-        ensures done { OnOk result (self.new ≡ record {
-          device = self.new.device;
-          area = self.old.area;
-          second = not self.old.second;
-          sure = true;
-          current = current_after how cur.now self.old.saved;
-          saved = saved_after how cur.now self.old.saved;
-        }) }
-        ensures refused { IfErr result (λ e. IsAfter e self.old self.new) }
-        ensures pair { D.medium.honest self.old.device → MatchResult result
-            (λ _. pair_of D.medium.image self.new ≡ kept_after D.medium.image (S.resident_bytes source.now) how cur.now self.old)
-            (λ _. pair_of D.medium.image self.new ≡ pair_of D.medium.image self.old) }
-        // What it keeps then: the new pair or, where it was refused, what it kept; where the
-        // device failed, it may be unsure between that and the new pair.
-        ensures kept { D.medium.honest self.old.device → MatchResult result
-            (λ _. kept_of D.medium.image self.new ≡ SureOf (kept_after D.medium.image (S.resident_bytes source.now) how cur.now self.old))
-            (λ e. KeepsAfter e (kept_after D.medium.image (S.resident_bytes source.now) how cur.now self.old) (kept_of D.medium.image self.old) (kept_of D.medium.image self.new)) }
-        // It has written the pair's bytes to the other area and its selector, and nothing else.
-        ensures bytes { D.medium.honest self.old.device → OnOk result (D.medium.image self.new.device
-            ≡ image_after D.medium.image (pair_spelling (kept_after D.medium.image (S.resident_bytes source.now) how cur.now self.old)) self.old) }
-        // Where the device failed, nothing but that area may differ and, where the file turned unsure,
-        // the selector.
-        ensures torn { D.medium.honest self.old.device → result ≡ Err CommitError.Disk → MayHaveWritten D.medium.image self.old self.new.sure (D.medium.image self.new.device) }
-        // Where it turned unsure, the other area holds the new pair.
-        ensures other { D.medium.honest self.old.device → self.old.sure ≡ true → self.new.sure ≡ false
-            → IsOther D.medium.image self.new (kept_after D.medium.image (S.resident_bytes source.now) how cur.now self.old) }
-        // What `open` finds after a stop at any moment of the call, and after one behind it.
-        ensures any_moment { D.medium.honest self.old.device → Passes D.medium.may_have_left self.old.device self.new.device (FindsOr D.medium.image self.old
-            (kept_after D.medium.image (S.resident_bytes source.now) how cur.now self.old)) }
-        ensures stopped { D.medium.honest self.old.device → (c : List ℕ) → D.medium.may_have_left self.old.device self.new.device c
-            → FindsOr D.medium.image self.old (kept_after D.medium.image (S.resident_bytes source.now) how cur.now self.old) c }
-        ensures stop { D.medium.honest self.old.device → (c : List ℕ) → D.medium.may_leave self.new.device c → Finds D.medium.image self.new c }
-        ensures honest { D.medium.honest self.old.device → D.medium.honest self.new.device }
-        ensures was_honest { D.medium.honest self.new.device → D.medium.honest self.old.device }
-        ensures ok { OnOk result (D.medium.failed self.new.device ≡ D.medium.failed self.old.device) }
-        // The first call that fails is the last one: nothing is written or read behind it.
-        ensures once { FailedOnce (D.medium.failed self.old.device) (D.medium.failed self.new.device) }
-        ensures cause { D.medium.honest self.old.device → result ≡ Err CommitError.Disk → Rose (D.medium.failed self.old.device) (D.medium.failed self.new.device) }
-        ensures no_read { NeedsNoRead (S.resident_bytes source.now) how cur.now self.old.saved → result ≡ Err CommitError.Disk
-            → Rose (D.medium.failed self.old.device) (D.medium.failed self.new.device) }
+        ensures { CommitsFile D.medium how (S.resident_bytes source.now) cur.now self.old self.new result }
     {
         if !self.sure {
             return Err(CommitError::Unsure);
