@@ -5,7 +5,7 @@ use crate::draft::{BYTE, Block, Draft, SIZE, block_with};
 use std::alloc::{AllocError, Global};
 use std::mem;
 use trial_lines::Line;
-use vm_file::{Device, Directory, Disk, FaultDevice, How, VmFile};
+use vm_file::{Device, Directory, Disk, FaultDevice, How, VmFile, device_length};
 
 /// How far the calls on a device have come.
 #[derive(Drop)]
@@ -93,7 +93,7 @@ impl<D: Device + Drop> Stand<D> {
         if area < 512
             || area > 16_777_216
             || area % 512 != 0
-            || device.len() < 1024 + 2 * u64::from(area)
+            || device.len() < device_length(area)
         {
             self.put(Stand::Device(device));
             return Ok(Answer::NotAsked(Obstacle::NoArea));

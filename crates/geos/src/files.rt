@@ -7,7 +7,7 @@ use crate::request_fault::RequestFault;
 use geos_dump::{Detail, DumpError, dump, map, read_areas};
 use geos_shell::{FileLock, Sharing, StreamFault};
 use std::fs;
-use vm_file::{Disk, FileDevice, VmFile};
+use vm_file::{Disk, FileDevice, VmFile, device_length};
 
 /// Makes a VM file with areas of so many bytes. What is at the path already stays as it is, and
 /// nothing is left there where no file is made.
@@ -18,8 +18,7 @@ pub(crate) fn make_file<'a>(
 ) -> Result<(), RequestFault<'a>>
     requires { IsArea area }
 {
-    let len = 1_024 + 2 * u64::from(area);
-    let Ok(device) = FileDevice::create(rt, rt.alloc(), path, len) else {
+    let Ok(device) = FileDevice::create(rt, rt.alloc(), path, device_length(area)) else {
         return Err(RequestFault::Stream(StreamFault::Write(path)));
     };
     match VmFile::create(rt.alloc(), device, area) {

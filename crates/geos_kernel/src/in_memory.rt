@@ -8,13 +8,10 @@ ghost use Rattle.geos_kernel.specs.View.{failed_in, IsFileOf, memory_of};
 
 use crate::kernel::Kernel;
 use std::alloc::{AllocError, Global};
-use vm_file::{Device, MemoryDevice};
+use vm_file::{Device, MemoryDevice, device_length};
 
 /// How long a pair of directories may be in the file, in bytes.
 const AREA: u32 = 65_536;
-
-/// How many bytes the device has: the header and the selectors, and two areas.
-const DEVICE: u64 = 1_024 + 2 * 65_536;
 
 /// What calls see of how often the device has failed is what the device says.
 fn see_device<D: Device + Drop>(kernel: &Kernel<D>)
@@ -34,7 +31,7 @@ pub fn kernel_in_memory(alloc: Global, region: u32) -> Result<Kernel<MemoryDevic
     ensures honest { IfOk result (λ kernel. IsHonest kernel.device) }
     ensures failures { IfOk result (λ kernel. failed_in kernel.core ≡ 0) }
 {
-    let device = MemoryDevice::new(alloc, DEVICE)?;
+    let device = MemoryDevice::new(alloc, device_length(AREA))?;
     // The device has room for the file, and fails at nothing else: so no fault comes here.
     let file = match vm_file::VmFile::create(alloc, device, AREA) {
         Ok(file) => file,

@@ -13,7 +13,7 @@ use geos_kernel::Kernel;
 use std::alloc::{AllocError, Global};
 use std::mem;
 use trial_lines::{Line, told};
-use vm_file::{CreateError, Device, FaultDevice, OpenError, VmFile};
+use vm_file::{CreateError, Device, FaultDevice, OpenError, VmFile, device_length};
 
 /// The device of a kernel.
 type Faulty = FaultDevice<CachedDevice>;
@@ -69,7 +69,7 @@ impl Stand {
         if area < 512 || area > 16_777_216 || area % 512 != 0 {
             return Ok(Answer::NotAsked("no area of this size"));
         }
-        let len = 1024 + 2 * u64::from(area);
+        let len = device_length(area);
         let device = fault.on(CachedDevice::new(alloc, len)?);
         if device.len() < len {
             return Ok(Answer::NotAsked("no such device"));

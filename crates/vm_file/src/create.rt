@@ -25,6 +25,14 @@ fn new_file(area: u32) -> [u8; 1040]
     bytes
 }
 
+/// How many bytes a device needs for a file with areas of so many bytes: those of the header and
+/// the selector, and two areas.
+pub fn device_length(area: u32) -> u64
+    ensures { result ≡ 1024 + 2 * area }
+{
+    1024 + 2 * u64::from(area)
+}
+
 /// Writes what a new file begins with, and makes it last.
 pub(crate) fn write_new<D: Device>(device: &mut D, area: u32) -> Result<(), Disk>
     ensures bytes { D.medium.honest device.old → OnOk result (D.medium.image device.new ≡ with_part (D.medium.image device.old) 0 (new_file area)) }

@@ -26,7 +26,7 @@ fn are_entries(entries: &[Entry]) -> bool
 {
     let mut last = 0;
     for e in entries {
-        if !(last < e.h && e.h <= 1024 && is_block_size(e.len as usize)) {
+        if !(last < e.h && e.h as usize <= MOST_BLOCKS && is_block_size(e.len as usize)) {
             return false;
         }
         last = e.h;

@@ -30,7 +30,7 @@ pub(crate) fn head_at(bytes: &[u8], last: u16, at: u64) -> Result<Entry, Fault>
     ensures { result ≡ head_at last at bytes.now }
 {
     let h = word_at(bytes, at, 0)?;
-    if !(last < h && h <= 1024) {
+    if !(last < h && h as usize <= MOST_BLOCKS) {
         return Err(at);
     }
     let uid = word_at(bytes, at, 2)?;

@@ -24,6 +24,7 @@ mod reader;
 mod spell;
 
 pub use commit::{How, Source};
+pub use create::device_length;
 pub use device::{Device, Disk};
 pub use directory::{Directory, Entry, GROUP_UID, MOST_BLOCKS};
 pub use disk_file::FileDevice;
