@@ -32,7 +32,7 @@ use Rattle.vm_blocks.specs.View.{VmState, held_at, vm_slot, with_device, with_he
 use Rattle.vm_blocks.proofs.Marking.{stays-changed}
 use Rattle.vm_blocks.proofs.Thinning.{tied-thins}
 use Rattle.vm_blocks.proofs.Wanting.{discards-remain, remain-more, same-remain}
-use Rattle.heap_calls.specs.Edits.{Carries, Comes}
+use Rattle.heap_calls.specs.Edits.{Carries, DiscardsAndEdits}
 use Rattle.heap_calls.specs.Heaps as heaps
 use Rattle.heap_calls.specs.Others.{KeepsOthers}
 use Rattle.heap_calls.proofs.Kept.{vm-keeps}
@@ -233,10 +233,10 @@ module _ {D : Type 0} (medium : Medium D) (v : VmState D) where
             own true c = ap (λ x. block_at x (vm_slot g)) c.grows.1 ∙ c.own
             own false c = ap (λ x. block_at x (vm_slot g)) c.1
 
-            lacks : (c : Comes w edit t u (vm g) (Err why)) → why ≡ refusal.NoRoom → (first_refusal (edit (heaps.chunks_at c.mid (vm g))).refusals ≡ Some why) ⊎ ((first_refusal (edit (heaps.chunks_at c.mid (vm g))).refusals ≡ None) × heaps.LacksRoom why c.mid (vm g) (edit (heaps.chunks_at c.mid (vm g))).chunks)
+            lacks : (c : DiscardsAndEdits w edit t u (vm g) (Err why)) → why ≡ refusal.NoRoom → (first_refusal (edit (heaps.chunks_at c.mid (vm g))).refusals ≡ Some why) ⊎ ((first_refusal (edit (heaps.chunks_at c.mid (vm g))).refusals ≡ None) × heaps.CannotHold why c.mid (vm g) (edit (heaps.chunks_at c.mid (vm g))).chunks)
                 → HasNoRoom c.mid (vm_slot g) (need (edit (heaps.chunks_at c.mid (vm g))).chunks)
             lacks c is (inl first) = absurd (asks (heaps.chunks_at c.mid (vm g)) refusal.NoRoom refl (first ∙ ap Some is))
-            lacks c is (inr room) = (subst (λ r. heaps.LacksRoom r c.mid (vm g) (edit (heaps.chunks_at c.mid (vm g))).chunks) is room.1).2
+            lacks c is (inr room) = (subst (λ r. heaps.CannotHold r c.mid (vm g) (edit (heaps.chunks_at c.mid (vm g))).chunks) is room.1).2
 
             room : (x : Bool) → Carries x w edit t u (vm g) (Err why) → ◌≡◌ {A = Result A Refusal} (Err why) (Err refusal.NoRoom) → LacksItemRoom v u g edit
             room true c e =

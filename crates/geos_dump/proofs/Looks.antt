@@ -1,5 +1,5 @@
 -- Calls that only read a file, one after the other.
-use Rattle.std.proofs.Common.{◌≡◌, ◌∙◌, ℕ, List, Result, Ok, Err, refl, ap, sym, subst}
+use Rattle.std.proofs.Common.{◌≡◌, ◌∙◌, ℕ, Result, Ok, Err, refl, ap, sym, subst}
 use Rattle.std.specs.Prelude.{IsErrAnd}
 use Rattle.vm_file.specs.Device.{Medium, Rose}
 use Rattle.vm_file.specs.State.{FileState}

@@ -22,7 +22,7 @@ use Rattle.vm_file.specs.Device.{Medium}
 use Rattle.vm_blocks.specs.DoesRow.{DoesRow}
 use Rattle.vm_blocks.specs.Tied.{IsTied}
 use Rattle.vm_blocks.specs.View.{VmState}
-use Rattle.heap_calls.specs.Edits.{Carries, Changes, Comes, Grows}
+use Rattle.heap_calls.specs.Edits.{Carries, Changes, DiscardsAndEdits, Grows}
 use Rattle.heap_calls.specs.Heaps as heaps
 use Rattle.heap_calls.specs.Heaps.{HoldsHeap, chunks_at}
 use Rattle.heap_calls.specs.Others.{IsMarkedIfVm, KeepsOthers}
@@ -83,7 +83,7 @@ module _ {D : Type 0} (medium : Medium D) (v : VmState D) {A : Type 0} (edit : L
   no-answer answer e = absurd cc
 
   -- it refused room, so none is left
-  pub comes-no_room : (r : Result A Refusal) → Comes v edit s t name r → r ≡ Err NoRoom → HasNoRoomFor (core_of medium v t) name (edit (chunks_at s name)).chunks
+  pub comes-no_room : (r : Result A Refusal) → DiscardsAndEdits v edit s t name r → r ≡ Err NoRoom → HasNoRoomFor (core_of medium v t) name (edit (chunks_at s name)).chunks
   comes-no_room r c e = record { none = c.none e; no_room = on r c.grows e }
     where
       own : chunks_at c.mid name ≡ chunks_at s name
@@ -93,7 +93,7 @@ module _ {D : Type 0} (medium : Medium D) (v : VmState D) {A : Type 0} (edit : L
       on (Ok answer) h e = absurd (no-answer answer e)
       on (Err why) (inl refused, same) e = absurd (asks (chunks_at c.mid name) (subst (λ w. first_refusal (edit (chunks_at c.mid name)).refusals ≡ Some w) (same-why why e) refused))
       on (Err why) (inr lacks, same) e =
-          let room = subst (λ w. heaps.LacksRoom w c.mid name (edit (chunks_at c.mid name)).chunks) (same-why why e) lacks.1 in
+          let room = subst (λ w. heaps.CannotHold w c.mid name (edit (chunks_at c.mid name)).chunks) (same-why why e) lacks.1 in
           subst (λ cs. HasNoRoom t (slot_of name) (need (edit cs).chunks)) own (subst (λ u. HasNoRoom u (slot_of name) (need (edit (chunks_at c.mid name)).chunks)) (sym same) room.2)
 
   pub carries-no_room : (grows : Bool) (r : Result A Refusal) → Carries grows v edit s t name r → r ≡ Err NoRoom → HasNoRoomFor (core_of medium v t) name (edit (chunks_at s name)).chunks

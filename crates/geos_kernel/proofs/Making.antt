@@ -13,7 +13,7 @@ use Rattle.block_handles.specs.Store.{Block, Store, block_at, IsBlock, IsThere, 
 use Rattle.geos_model.specs.declared.name.Name.{Name}
 use Rattle.geos_model.specs.Block as block
 use Rattle.geos_model.specs.Heap.{IsHeap}
-use Rattle.vm_blocks.specs.Room.{MakesRoom}
+use Rattle.vm_blocks.specs.Room.{DiscardsAndMakes}
 use Rattle.vm_blocks.specs.View.{VmState}
 use Rattle.heap_calls.proofs.Lent.{with_bytes-set}
 use Rattle.geos_kernel.specs.Kernel.{MakesHeap, MakesRoomFor}
@@ -68,7 +68,7 @@ module _ (old made : Store) (slot : ℕ) (m : Makes old made slot 64) (small : s
         }
 
 -- room was made for a block, and it became a heap that is locked once
-module _ {D : Type 0} (v : VmState D) (old made : Store) (name : Name) (q : IsHandle name.h) (room : MakesRoom v old made name 64) where
+module _ {D : Type 0} (v : VmState D) (old made : Store) (name : Name) (q : IsHandle name.h) (room : DiscardsAndMakes v old made name 64) where
   abbrev slot : ℕ
   slot = slot_of name
 

@@ -7,7 +7,7 @@ use Rattle.geos_table.specs.Effects.{Call, Choice, Reference}
 use Rattle.geos_kernel.specs.declared.span.Span.{Span}
 use Rattle.geos_kernel.specs.Spans.{Stands, IsFresh}
 use Rattle.geos_kernel.specs.Kernel.{Calls, IsChosen, NeverFell}
-use Rattle.geos_kernel.specs.Turns.{Turn, Does, Tells, TellsTwo, Refers, Answered, InTurn, Step, Comes, stale_by, AreChosen, AnsweredByRows, AnswersAlike, CallsAnswerInTurn}
+use Rattle.geos_kernel.specs.Turns.{Turn, Does, Tells, TellsTwo, Refers, Answered, InTurn, Step, Leads, stale_by, AreChosen, AnsweredByRows, AnswersAlike, CallsAnswerInTurn}
 use Rattle.geos_kernel.specs.View.{KernelState, IsFileOf, failed_in, memory_of}
 use Rattle.geos_kernel.proofs.Chosen.{chosen-after, chosen-before, lasts-on}
 use Rattle.geos_kernel.proofs.Seen.{file-on}
@@ -43,7 +43,7 @@ module _ (good : Type 0) where
     lasts : NeverFell good old new
     file : VmFile
     tied : IsFileOf good new file
-    comes : Comes turn choice (memory_of old f) (memory_of new file)
+    comes : Leads turn choice (memory_of old f) (memory_of new file)
     spans : (span : Span) (ref : Reference) → Stands old span ref → IsFresh (memory_of old f) (stale_by turn choice (memory_of old f)) ref → Stands new span ref
 
   -- the row of one call answers so, and spans that it does not make stale stay

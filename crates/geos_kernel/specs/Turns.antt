@@ -35,11 +35,11 @@ pub record Step : Type 0 where
   pub choice : Choice
 
 -- the row answers so, and leads from one memory to another
-abbrev pub Comes : Turn → Choice → Memory → Memory → Type 0
-Comes (Does row result) choice before after = outcome (effect_of row choice before) ≡ (result, after)
-Comes (Tells row result) choice before after = outcome (effect_of row choice before) ≡ (result, after)
-Comes (TellsTwo row result) choice before after = outcome (effect_of row choice before) ≡ (result, after)
-Comes (Refers row result) choice before after = outcome (effect_of row choice before) ≡ (result, after)
+abbrev pub Leads : Turn → Choice → Memory → Memory → Type 0
+Leads (Does row result) choice before after = outcome (effect_of row choice before) ≡ (result, after)
+Leads (Tells row result) choice before after = outcome (effect_of row choice before) ≡ (result, after)
+Leads (TellsTwo row result) choice before after = outcome (effect_of row choice before) ≡ (result, after)
+Leads (Refers row result) choice before after = outcome (effect_of row choice before) ≡ (result, after)
 
 -- the references that the row makes stale
 abbrev pub stale_by : Turn → Choice → Memory → Staleness
@@ -51,7 +51,7 @@ stale_by (Refers row result) choice before = (effect_of row choice before).stale
 -- the rows answer so one after another, and lead from one memory to another
 abbrev pub Run : List Step → Memory → Memory → Type 0
 Run [] before after = after ≡ before
-Run (step ∷ steps) before after = (mid : Memory) × Comes step.turn step.choice before mid × Run steps mid after
+Run (step ∷ steps) before after = (mid : Memory) × Leads step.turn step.choice before mid × Run steps mid after
 
 -- over such a run no row makes the reference stale
 abbrev pub Spares : (steps : List Step) (before after : Memory) → Run steps before after → Reference → Type 0

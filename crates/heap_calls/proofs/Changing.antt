@@ -15,7 +15,7 @@ use Rattle.vm_blocks.specs.View.{VmState, held_at, vm_slot}
 use Rattle.vm_blocks.specs.Bring.{KeptOrGoes}
 use Rattle.vm_blocks.specs.Room.{StaysOrGoes, Thins, is_idle_in, own_handle}
 use Rattle.vm_blocks.proofs.Slots.{idle}
-use Rattle.heap_calls.specs.Edits.{Changes, Grows, Comes, Carries}
+use Rattle.heap_calls.specs.Edits.{Changes, Grows, DiscardsAndEdits, Carries}
 use Rattle.heap_calls.specs.Heaps.{HoldsHeap, Rechunks, chunks_at, size_at}
 use Rattle.heap_calls.specs.Others.{KeepsBut, KeepsOthers}
 use Rattle.heap_calls.proofs.Regrown.{rechunked-other, rechunked-there, rechunked-locks, rechunked-heap, rechunked-handle}
@@ -90,7 +90,7 @@ module _ {D : Type 0} (v : VmState D) where
     grows-keeps (Err why) h = same-keeps s t name laid holds h.1
 
   module _ {A : Type 0} (edit : List (Option (List ℕ)) → Edit A) (s t : Store) (name : Name) (laid : IsLaidOut s) (holds : HoldsHeap s name) where
-    pub comes-keeps : (r : Result A Refusal) → Comes v edit s t name r → KeepsOthers v s t name
+    pub comes-keeps : (r : Result A Refusal) → DiscardsAndEdits v edit s t name r → KeepsOthers v s t name
     comes-keeps r c =
         let still : HoldsHeap c.mid name = record { there = subst IsBlock (sym c.own) holds.there; heap = subst (λ o. IsHeap (store.bytes_in o)) (sym c.own) holds.heap } in
         keeps-later s c.mid t name c.thins c.own (grows-keeps edit c.mid t name c.thins.laid still r c.grows)

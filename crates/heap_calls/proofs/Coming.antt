@@ -20,8 +20,8 @@ use Rattle.vm_blocks.specs.View.{VmState}
 use Rattle.vm_blocks.proofs.Thinning.{thins-none}
 use Rattle.heap_calls.specs.declared.obstacle.Obstacle.{Obstacle}
 use Rattle.heap_calls.specs.declared.obstacle.Obstacle.TheVariants.{Refused, Room}
-use Rattle.heap_calls.specs.Edits.{IsObstacle, Tries, Comes, Carries, IsOwn}
-use Rattle.heap_calls.specs.Heaps.{HoldsHeap, LacksRoom, MakesRoom, Rechunks}
+use Rattle.heap_calls.specs.Edits.{IsObstacle, Tries, DiscardsAndEdits, Carries, IsOwn}
+use Rattle.heap_calls.specs.Heaps.{HoldsHeap, CannotHold, GivesRoom, Rechunks}
 use Rattle.heap_calls.specs.Heaps.{chunks_at, size_at}
 use Rattle.heap_calls.proofs.Asking.{AsksNoRoom}
 use Rattle.heap_calls.proofs.Regrown.{kept-size}
@@ -35,7 +35,7 @@ same-error a b e = cc
 
 module _ {D A : Type 0} (v : VmState D) (edit : List (Option (List ℕ)) → Edit A) (old : Store) (name : Name) (laid : IsLaidOut old) where
   -- it came, or was refused, at once
-  pub comes-at_once : (new : Store) (answer : A) → Tries edit old new name (Ok answer) → Comes v edit old new name (Ok answer)
+  pub comes-at_once : (new : Store) (answer : A) → Tries edit old new name (Ok answer) → DiscardsAndEdits v edit old new name (Ok answer)
   comes-at_once new answer t = record {
     mid = old;
     thins = thins-none v old (own_handle name) laid;
@@ -45,7 +45,7 @@ module _ {D A : Type 0} (v : VmState D) (edit : List (Option (List ℕ)) → Edi
     none = λ e. absurd (not-both answer refusal.NoRoom e);
   }
 
-  pub comes-refused : AsksNoRoom edit → (new : Store) (why : Refusal) → Tries edit old new name (Err (Refused why)) → Comes v edit old new name (Err why)
+  pub comes-refused : AsksNoRoom edit → (new : Store) (why : Refusal) → Tries edit old new name (Err (Refused why)) → DiscardsAndEdits v edit old new name (Err why)
   comes-refused never new why t = record {
     mid = old;
     thins = thins-none v old (own_handle name) laid;
@@ -74,10 +74,10 @@ module _ {D A : Type 0} (v : VmState D) (edit : List (Option (List ℕ)) → Edi
     asked-on mid own x asked = subst (λ o. IsObstacle (Room x) (edit (block.chunks (bytes_in o))) (length (bytes_in o))) (sym own) asked
 
     -- that was refused
-    pub comes-lacking : (why : Refusal) → MakesRoom v r (Err why) old grown name → Comes v edit old grown name (Err why)
+    pub comes-lacking : (why : Refusal) → GivesRoom v r (Err why) old grown name → DiscardsAndEdits v edit old grown name (Err why)
     comes-lacking why m = lacks r first.0 m
       where
-        lacks : (x : RoomError) → IsObstacle (Room x) (edit (chunks_at old name)) (size_at old name) → MakesRoom v x (Err why) old grown name → Comes v edit old grown name (Err why)
+        lacks : (x : RoomError) → IsObstacle (Room x) (edit (chunks_at old name)) (size_at old name) → GivesRoom v x (Err why) old grown name → DiscardsAndEdits v edit old grown name (Err why)
         lacks room.TooBig asked n =
             let is = same-error {A = Unit {0}} why refusal.TooBig n.0 in
             record {
@@ -85,28 +85,28 @@ module _ {D A : Type 0} (v : VmState D) (edit : List (Option (List ℕ)) → Edi
               thins = thins-none v old (own_handle name) laid;
               wanted = inl refl;
               own = refl;
-              grows = (inr (asked.0, subst (λ w. LacksRoom w old name (edit (chunks_at old name)).chunks) (sym is) asked.1), n.1);
+              grows = (inr (asked.0, subst (λ w. CannotHold w old name (edit (chunks_at old name)).chunks) (sym is) asked.1), n.1);
               none = λ e. absurd (let x : refusal.TooBig ≡ refusal.NoRoom = sym is ∙ same-error {A = A} why refusal.NoRoom e in cc);
             }
         lacks (room.NeedMore k) asked n =
             let now = asked-on n.mid n.own (room.NeedMore k) asked in
             let finds = n.no_room.0 in
-            let lack : LacksRoom refusal.NoRoom n.mid name (edit (chunks_at n.mid name)).chunks = (now.1.1, now.1.2, subst (HasNoRoom n.mid (slot_of name)) now.1.0 finds.1) in
+            let lack : CannotHold refusal.NoRoom n.mid name (edit (chunks_at n.mid name)).chunks = (now.1.1, now.1.2, subst (HasNoRoom n.mid (slot_of name)) now.1.0 finds.1) in
             record {
               mid = n.mid;
               thins = n.thins;
               wanted = subst (DiscardsForRoom v old n.mid (own_handle name) (slot_of name)) asked.1.0 n.wanted;
               own = n.own;
-              grows = (inr (now.0, subst (λ w. LacksRoom w n.mid name (edit (chunks_at n.mid name)).chunks) (sym finds.0) lack), finds.2);
+              grows = (inr (now.0, subst (λ w. CannotHold w n.mid name (edit (chunks_at n.mid name)).chunks) (sym finds.0) lack), finds.2);
               none = λ e. n.no_room.1;
             }
 
     -- that was made
-    module _ (there : IsThere old (slot_of name)) (done : Unit {0}) (m : MakesRoom v r (Ok done) old grown name) where
+    module _ (there : IsThere old (slot_of name)) (done : Unit {0}) (m : GivesRoom v r (Ok done) old grown name) where
       made : Made grown
       made = got r first.0 m
         where
-          got : (x : RoomError) → IsObstacle (Room x) (edit (chunks_at old name)) (size_at old name) → MakesRoom v x (Ok done) old grown name → Made grown
+          got : (x : RoomError) → IsObstacle (Room x) (edit (chunks_at old name)) (size_at old name) → GivesRoom v x (Ok done) old grown name → Made grown
           got room.TooBig asked n = absurd (not-both {A = Unit {0}} done refusal.TooBig n.0)
           got (room.NeedMore k) asked n =
               let now = asked-on n.mid n.own (room.NeedMore k) asked in
@@ -133,7 +133,7 @@ module _ {D A : Type 0} (v : VmState D) (edit : List (Option (List ℕ)) → Edi
       same : chunks_at grown name ≡ chunks_at made.mid name
       same = room-chunks f made.mid grown name still made.less made.small made.made
 
-      pub comes-again : (new : Store) (answer : A) → Tries edit grown new name (Ok answer) → Comes v edit old new name (Ok answer)
+      pub comes-again : (new : Store) (answer : A) → Tries edit grown new name (Ok answer) → DiscardsAndEdits v edit old new name (Ok answer)
       comes-again new answer t = record {
         mid = made.mid;
         thins = made.thins;
@@ -148,7 +148,7 @@ module _ {D A : Type 0} (v : VmState D) (edit : List (Option (List ℕ)) → Edi
       comes-once new (Room again) t = asks-once f made.mid grown name still made.less made.small made.made again t.0.1
 
 -- room that was refused for another reason than that there is none left all as it was
-pub lacking-stays : {D A : Type 0} (v : VmState D) (old new : Store) (name : Name) (r : RoomError) (why : Refusal) → MakesRoom v r (Err why) old new name → (◌≡◌ {A = Result A Refusal} (Err why) (Err refusal.NoRoom) → ⊥) → new ≡ old
+pub lacking-stays : {D A : Type 0} (v : VmState D) (old new : Store) (name : Name) (r : RoomError) (why : Refusal) → GivesRoom v r (Err why) old new name → (◌≡◌ {A = Result A Refusal} (Err why) (Err refusal.NoRoom) → ⊥) → new ≡ old
 lacking-stays v old new name room.TooBig why m other = m.1
 lacking-stays v old new name (room.NeedMore k) why m other = absurd (other (ap Err m.no_room.0.0))
 
@@ -169,7 +169,7 @@ module _ {D A : Type 0} (v : VmState D) (grows : Bool) (edit : List (Option (Lis
       refused false = t
 
   -- and one that came by growing
-  pub carries-grown : (r : Result A Refusal) → grows ≡ true → Comes v edit old new name r → Carries grows v edit old new name r
+  pub carries-grown : (r : Result A Refusal) → grows ≡ true → DiscardsAndEdits v edit old new name r → Carries grows v edit old new name r
   carries-grown r is c = rw is c
 
 -- only one that may grow wants room

@@ -37,7 +37,7 @@ use Rattle.vm_blocks.proofs.HeapsRead.{spelled-legal}
 use Rattle.vm_blocks.proofs.LockRows.{few-locks}
 use Rattle.vm_blocks.proofs.Thinning.{tied-thins}
 use Rattle.vm_blocks.proofs.Tightness.{tight-mem, tight-vm}
-use Rattle.heap_calls.specs.Edits.{Tells, Changes, Grows, Comes, Carries}
+use Rattle.heap_calls.specs.Edits.{Tells, Changes, Grows, DiscardsAndEdits, Carries}
 use Rattle.heap_calls.specs.Heaps as heaps
 use Rattle.heap_calls.specs.Heaps.{HoldsHeap, chunks_at, size_at}
 use Rattle.heap_calls.proofs.Changing.{rechunked-keeps}
@@ -141,14 +141,14 @@ module _ {D : Type 0} (medium : Medium D) (v : VmState D) where
       changes-row r h are = alone-does medium (table.changes edit name) r v s t (changes-alone r h are)
 
       -- the room that it needs is wanting
-      lacks-alone : t ≡ s → (why : Refusal) → first_refusal (edit (chunks_at s name)).refusals ≡ None → heaps.LacksRoom why s name (edit (chunks_at s name)).chunks
+      lacks-alone : t ≡ s → (why : Refusal) → first_refusal (edit (chunks_at s name)).refusals ≡ None → heaps.CannotHold why s name (edit (chunks_at s name)).chunks
           → (◌≡◌ {A = Result A Refusal} (Err why) (Err refusal.NoRoom) → NoneIdle v t (own_handle name)) → DoesRowAlone medium (table.enlarges edit name) (Err why) v s v t
-      lacks-alone same why passed lacks none m is = lacking why (passes m is passed) (subst (λ (e : Edit A). heaps.LacksRoom why s name e.chunks) (known m is) lacks) none
+      lacks-alone same why passed lacks none m is = lacking why (passes m is passed) (subst (λ (e : Edit A). heaps.CannotHold why s name e.chunks) (known m is) lacks) none
         where
           still : IsMemoryOf medium v t m
           still = subst (λ u. IsMemoryOf medium v u m) (sym same) is
 
-          lacking : (w : Refusal) → first_refusal (edit (model.chunks_at m name)).refusals ≡ None → heaps.LacksRoom w s name (edit (model.chunks_at m name)).chunks → (◌≡◌ {A = Result A Refusal} (Err w) (Err refusal.NoRoom) → NoneIdle v t (own_handle name))
+          lacking : (w : Refusal) → first_refusal (edit (model.chunks_at m name)).refusals ≡ None → heaps.CannotHold w s name (edit (model.chunks_at m name)).chunks → (◌≡◌ {A = Result A Refusal} (Err w) (Err refusal.NoRoom) → NoneIdle v t (own_handle name))
               → (choice : Choice) × ((choice.given ≡ []) × (choice.device ≡ false)) × (n : Memory) × IsMemoryOf medium v t n × (outcome (table.enlarges edit name choice m) ≡ (Err w, n))
           lacking refusal.TooBig passed big none = (willing, (refl, refl), m, still, enlarges-big edit name m passed big)
           lacking refusal.NoRoom passed room none =
@@ -188,12 +188,12 @@ module _ {D : Type 0} (medium : Medium D) (v : VmState D) where
 
   module _ {A : Type 0} (edit : List (Option (List ℕ)) → Edit A) (s t : Store) (name : Name) (tied : IsTied medium v s) (holds : HoldsHeap s name) where
     -- a call for which the block may grow, and others be discarded
-    pub comes-alone : (r : Result A Refusal) → Comes v edit s t name r → OnOk r (AreBytes (bytes_of t (slot_of name))) → DoesRowAlone medium (table.enlarges edit name) r v s v t
+    pub comes-alone : (r : Result A Refusal) → DiscardsAndEdits v edit s t name r → OnOk r (AreBytes (bytes_of t (slot_of name))) → DoesRowAlone medium (table.enlarges edit name) r v s v t
     comes-alone r c are m is =
         let still : HoldsHeap c.mid name = record { there = subst IsBlock (sym c.own) holds.there; heap = subst (λ o. IsHeap (bytes_in o)) (sym c.own) holds.heap } in
         grows-alone edit c.mid name (tied-thins medium v s c.mid (own_handle name) tied c.thins) still t r c.grows c.none are m (memory-thins medium v s c.mid m is (own_handle name) tied c.thins)
 
-    pub comes-row : (r : Result A Refusal) → Comes v edit s t name r → OnOk r (AreBytes (bytes_of t (slot_of name))) → DoesRow medium (table.enlarges edit name) r v s v t
+    pub comes-row : (r : Result A Refusal) → DiscardsAndEdits v edit s t name r → OnOk r (AreBytes (bytes_of t (slot_of name))) → DoesRow medium (table.enlarges edit name) r v s v t
     comes-row r c are = alone-does medium (table.enlarges edit name) r v s t (comes-alone r c are)
 
   module _ (edit : List (Option (List ℕ)) → Edit (Unit {0})) (s t : Store) (name : Name) (tied : IsTied medium v s) (holds : HoldsHeap s name) where

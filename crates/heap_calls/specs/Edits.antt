@@ -12,7 +12,7 @@ use Rattle.block_handles.specs.Store.{Store, block_at}
 use Rattle.lmem_heap.specs.Refusals.{IsRoomError}
 use Rattle.heap_calls.specs.declared.obstacle.Obstacle.{Obstacle}
 use Rattle.heap_calls.specs.declared.obstacle.Obstacle.TheVariants.{Refused, Room}
-use Rattle.heap_calls.specs.Heaps.{Edits, Regrows, LacksRoom, chunks_at, size_at}
+use Rattle.heap_calls.specs.Heaps.{Edits, Regrows, CannotHold, chunks_at, size_at}
 use Rattle.vm_blocks.specs.Room.{DiscardsForRoom, NoneIdle, Thins, own_handle}
 use Rattle.vm_blocks.specs.View.{VmState}
 
@@ -63,12 +63,12 @@ abbrev pub Grows : {A : Type 0} → (List (Option (List ℕ)) → Edit A) → St
 Grows edit old new name (Ok answer) = let e = edit (chunks_at old name) in Passes e answer × Regrows old new name e.chunks
 Grows edit old new name (Err why) =
     let e = edit (chunks_at old name) in
-    ((first_refusal e.refusals ≡ Some why) ⊎ ((first_refusal e.refusals ≡ None) × LacksRoom why old name e.chunks)) × (new ≡ old)
+    ((first_refusal e.refusals ≡ Some why) ⊎ ((first_refusal e.refusals ≡ None) × CannotHold why old name e.chunks)) × (new ≡ old)
 
 -- makes an edit, for which the block may grow, and blocks that can be read again be discarded
 -- where there is no room for what its chunks need; or refuses it, or the room, where none of those
 -- is left
-pub record Comes {D A : Type 0} (v : VmState D) (edit : List (Option (List ℕ)) → Edit A) (old new : Store) (name : Name) (result : Result A Refusal) : Type 0 where
+pub record DiscardsAndEdits {D A : Type 0} (v : VmState D) (edit : List (Option (List ℕ)) → Edit A) (old new : Store) (name : Name) (result : Result A Refusal) : Type 0 where
   pub mid : Store
   pub thins : Thins v old mid (own_handle name)
   pub wanted : DiscardsForRoom v old mid (own_handle name) (slot_of name) (need (edit (chunks_at old name)).chunks)
@@ -78,7 +78,7 @@ pub record Comes {D A : Type 0} (v : VmState D) (edit : List (Option (List ℕ))
 
 -- makes an edit, for which the block grows where it may
 abbrev pub Carries : {D A : Type 0} → Bool → VmState D → (List (Option (List ℕ)) → Edit A) → Store → Store → Name → Result A Refusal → Type 0
-Carries true v edit = Comes v edit
+Carries true v edit = DiscardsAndEdits v edit
 Carries false v edit = Changes edit
 
 -- room is wanted only where the block may grow

@@ -70,16 +70,16 @@ pub record Enlarges {D : Type 0} (v : VmState D) (old new : Store) (name : Name)
   pub no_room : IfErr result (λ refusal. FindsNoRoom refusal mid new (slot_of name) size × NoneIdle v new (own_handle name))
 
 -- room is made for what a heap asks for, or refused
-abbrev pub MakesRoom : {D : Type 0} → VmState D → RoomError → Result (Unit {0}) Refusal → Store → Store → Name → Type 0
-MakesRoom v room.TooBig result old new name = (result ≡ Err TooBig) × (new ≡ old)
-MakesRoom v (room.NeedMore k) result old new name = Enlarges v old new name k result
+abbrev pub GivesRoom : {D : Type 0} → VmState D → RoomError → Result (Unit {0}) Refusal → Store → Store → Name → Type 0
+GivesRoom v room.TooBig result old new name = (result ≡ Err TooBig) × (new ≡ old)
+GivesRoom v (room.NeedMore k) result old new name = Enlarges v old new name k result
 
 -- why a block does not get these chunks: it would be too big, or it must grow and no stretch
 -- of the region has room
-abbrev pub LacksRoom : Refusal → Store → Name → List (Option (List ℕ)) → Type 0
-LacksRoom TooBig s name chunks = most_block_bytes < need chunks
-LacksRoom NoRoom s name chunks = (size_at s name < need chunks) × (need chunks ≤ most_block_bytes) × HasNoRoom s (slot_of name) (need chunks)
-LacksRoom _ s name chunks = ⊥
+abbrev pub CannotHold : Refusal → Store → Name → List (Option (List ℕ)) → Type 0
+CannotHold TooBig s name chunks = most_block_bytes < need chunks
+CannotHold NoRoom s name chunks = (size_at s name < need chunks) × (need chunks ≤ most_block_bytes) × HasNoRoom s (slot_of name) (need chunks)
+CannotHold _ s name chunks = ⊥
 
 -- a named block gets these chunks, and grows where they need more than it has
 abbrev pub Regrows : Store → Store → Name → List (Option (List ℕ)) → Type 0

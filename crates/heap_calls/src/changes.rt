@@ -8,7 +8,7 @@ ghost use Rattle.block_handles.specs.Store.{bytes_of};
 ghost use Rattle.geos_table.specs.ChunkCalls.{change_edit, change_row, may_grow};
 ghost use Rattle.vm_blocks.specs.DoesRow.{DoesRow};
 ghost use Rattle.vm_blocks.specs.Tied.{IsTied};
-ghost use Rattle.heap_calls.specs.Edits.{Carries, Comes, IsOwn, Tries};
+ghost use Rattle.heap_calls.specs.Edits.{Carries, DiscardsAndEdits, IsOwn, Tries};
 ghost use Rattle.heap_calls.specs.Heaps.{HoldsHeap};
 ghost use Rattle.heap_calls.specs.Others.{IsMarkedIfVm, KeepsOthers};
 ghost use Rattle.heap_calls.specs.declared.obstacle.Obstacle.TheVariants.{Room};
@@ -73,7 +73,7 @@ fn grow_and_change<D: Device + Drop>(
     requires tied { IsTied D.medium vm.now blocks.old }
     requires heap { HoldsHeap blocks.old name }
     requires tried { Tries (change_edit change) blocks.old blocks.old name (Err (Room room)) }
-    ensures comes { Comes vm.now (change_edit change) blocks.old blocks.new name result }
+    ensures comes { DiscardsAndEdits vm.now (change_edit change) blocks.old blocks.new name result }
     ensures refused { (result ≡ Err Refusal.NoRoom → ⊥) → OnErr result (blocks.new ≡ blocks.old) }
 {
     match make_room(vm, blocks, name, room) {

@@ -3,7 +3,7 @@
 ghost use Rattle.std.specs.Prelude.{◌≡◌, ◌<◌, ◌≤◌, ◌%◌};
 ghost use Rattle.geos_model.specs.Heap.{most_block_bytes};
 ghost use Rattle.vm_blocks.specs.Tied.{IsTied};
-ghost use Rattle.heap_calls.specs.Heaps.{HoldsHeap, AsksFor, Enlarges, MakesRoom, size_at};
+ghost use Rattle.heap_calls.specs.Heaps.{HoldsHeap, AsksFor, Enlarges, GivesRoom, size_at};
 
 use block_handles::Blocks;
 use geos_model::{Name, Refusal};
@@ -44,7 +44,7 @@ pub(crate) fn make_room<D: Device + Drop>(
     requires tied { IsTied D.medium vm.now blocks.old }
     requires heap { HoldsHeap blocks.old name }
     requires asks { AsksFor room (size_at blocks.old name) }
-    ensures { MakesRoom vm.now room result blocks.old blocks.new name }
+    ensures { GivesRoom vm.now room result blocks.old blocks.new name }
 {
     match room {
         RoomError::TooBig => Err(Refusal::TooBig),

@@ -4,7 +4,7 @@ ghost use Rattle.std.specs.Prelude.{◌≡◌, Err, OnErr};
 ghost use Rattle.geos_table.specs.ChunkCalls.{make_edit, make_row};
 ghost use Rattle.vm_blocks.specs.DoesRow.{DoesRow};
 ghost use Rattle.vm_blocks.specs.Tied.{IsTied};
-ghost use Rattle.heap_calls.specs.Edits.{Comes, Tries};
+ghost use Rattle.heap_calls.specs.Edits.{DiscardsAndEdits, Tries};
 ghost use Rattle.heap_calls.specs.Heaps.{HoldsHeap};
 ghost use Rattle.heap_calls.specs.Others.{IsMarkedIfVm, KeepsOthers};
 ghost use Rattle.heap_calls.specs.declared.obstacle.Obstacle.TheVariants.{Room};
@@ -29,7 +29,7 @@ pub fn make<D: Device + Drop>(
 ) -> Result<u16, Refusal>
     requires tied { IsTied D.medium vm.now blocks.old }
     requires heap { HoldsHeap blocks.old name }
-    ensures comes { Comes vm.now (make_edit make) blocks.old blocks.new name result }
+    ensures comes { DiscardsAndEdits vm.now (make_edit make) blocks.old blocks.new name result }
     // Only a lack of room is refused after others were discarded.
     ensures refused { (result ≡ Err Refusal.NoRoom → ⊥) → OnErr result (blocks.new ≡ blocks.old) }
     // Other blocks are as they were, or were discarded; and table, region and file stay tied.
@@ -60,7 +60,7 @@ fn grow_and_make<D: Device + Drop>(
     requires tied { IsTied D.medium vm.now blocks.old }
     requires heap { HoldsHeap blocks.old name }
     requires tried { Tries (make_edit make) blocks.old blocks.old name (Err (Room room)) }
-    ensures comes { Comes vm.now (make_edit make) blocks.old blocks.new name result }
+    ensures comes { DiscardsAndEdits vm.now (make_edit make) blocks.old blocks.new name result }
     ensures refused { (result ≡ Err Refusal.NoRoom → ⊥) → OnErr result (blocks.new ≡ blocks.old) }
 {
     match make_room(vm, blocks, name, room) {

@@ -18,7 +18,7 @@ use Rattle.vm_blocks.specs.declared.entries.Held.{Held}
 use Rattle.geos_model.specs.Names.{vm}
 use Rattle.vm_blocks.specs.View.{VmState, bytes_read, held_at, vm_slot}
 use Rattle.vm_blocks.specs.Tied.{IsTied, IsAbsent, TiedAt}
-use Rattle.vm_blocks.specs.Room.{MakesRoom, Goes, StaysOrGoes, is_idle}
+use Rattle.vm_blocks.specs.Room.{DiscardsAndMakes, Goes, StaysOrGoes, is_idle}
 use Rattle.vm_blocks.specs.Bring.{Fills, Drops, Keeps, KeptOrGoes}
 use Rattle.vm_blocks.proofs.Slots.{slot-one, slot-is, freed, no-block, some-block}
 use Rattle.vm_blocks.proofs.Thinning.{gone-tied}
@@ -76,7 +76,7 @@ module _ {D : Type 0} (medium : Medium D) (v : VmState D) where
       }
 
 -- room that was made keeps the others
-module _ {D : Type 0} (v : VmState D) (old new : Store) (h size : ℕ) (q : IsHandle h) (made : MakesRoom v old new (vm h) size) where
+module _ {D : Type 0} (v : VmState D) (old new : Store) (h size : ℕ) (q : IsHandle h) (made : DiscardsAndMakes v old new (vm h) size) where
   small : vm_slot h < length made.mid.blocks
   small = omega (arith, slot-is h q, q.1, made.thins.laid.slots)
 
@@ -94,8 +94,8 @@ module _ {D : Type 0} (v : VmState D) (old new : Store) (h size : ℕ) (q : IsHa
       on slot ne (inr g) = inr (record { h = g.h; handle = g.handle; slot_is = g.slot_is; other = g.other; idle = g.idle; gone = made-other slot ne ∙ g.gone })
 
 -- room for a name is room for its handle
-pub made-room : {D : Type 0} {size : ℕ} (v : VmState D) (old new : Store) (name : Name) (h : ℕ) → name ≡ vm h → MakesRoom v old new name size → MakesRoom v old new (vm h) size
-made-room {D} {size} v old new name h is made = subst (λ n. MakesRoom v old new n size) is made
+pub made-room : {D : Type 0} {size : ℕ} (v : VmState D) (old new : Store) (name : Name) (h : ℕ) → name ≡ vm h → DiscardsAndMakes v old new name size → DiscardsAndMakes v old new (vm h) size
+made-room {D} {size} v old new name h is made = subst (λ n. DiscardsAndMakes v old new n size) is made
 
 -- what keeps others, and then changes the one alone, keeps them
 pub keeps-more : {D : Type 0} (v : VmState D) (a b c : Store) (h : ℕ) → Keeps v a b h → ((slot : ℕ) → slot ≢ vm_slot h → block_at c slot ≡ block_at b slot) → ((slot : ℕ) → slot ≢ vm_slot h → place_of c slot ≡ place_of b slot)
@@ -153,7 +153,7 @@ module _ {D : Type 0} (medium : Medium D) (v : VmState D) (s : Store) (h : ℕ) 
   own-none t gone = subst (TiedAt medium v.file h (held_at v h)) (sym gone) (subst (λ o. TiedAt medium v.file h o None) (sym listed) absent-is)
 
   -- it was made, and read
-  module _ (m t : Store) (made : MakesRoom v s m (vm h) e.len) where
+  module _ (m t : Store) (made : DiscardsAndMakes v s m (vm h) e.len) where
     made-size : size_of m (vm_slot h) ≡ e.len
     made-size = ap (λ o. length (bytes_in o)) (made-block v s m h e.len q made) ∙ length-replicate {A = ℕ} e.len 0
 

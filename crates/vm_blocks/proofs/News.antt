@@ -16,9 +16,9 @@ use Rattle.vm_file.specs.State.{FileState}
 use Rattle.vm_blocks.specs.declared.entries.Held.{Held}
 use Rattle.vm_blocks.specs.View.{VmState, held_at, vm_slot, with_held}
 use Rattle.vm_blocks.specs.Tied.{AreMapped, IsTied, TiedAt}
-use Rattle.vm_blocks.specs.Room.{MakesRoom}
+use Rattle.vm_blocks.specs.Room.{DiscardsAndMakes}
 use Rattle.vm_blocks.specs.Bring.{Keeps}
-use Rattle.vm_blocks.specs.Blocks.{Adds, Begins, IsNew, new_held}
+use Rattle.vm_blocks.specs.Blocks.{Adds, BecomesHeap, IsNew, new_held}
 use Rattle.vm_blocks.proofs.Slots.{slot-one}
 use Rattle.vm_blocks.proofs.Table.{held-other, held-same, length-with}
 use Rattle.vm_blocks.proofs.Brings.{filled-at, fills-others, keeps-more, kept-tied, made-block, made-keeps}
@@ -34,11 +34,11 @@ pub none-there : {D : Type 0} (medium : Medium D) (v : VmState D) (s : Store) (h
 none-there medium v s h q tied free = none-in medium v.file h (held_at v h) (block_at s (vm_slot h)) free (tied.each h q)
 
 -- room was made for a block, and it is a heap
-module _ {D : Type 0} (v : VmState D) (s m t : Store) (h : ℕ) (q : IsHandle h) (made : MakesRoom v s m (vm h) 64) where
+module _ {D : Type 0} (v : VmState D) (s m t : Store) (h : ℕ) (q : IsHandle h) (made : DiscardsAndMakes v s m (vm h) 64) where
   pub new-size : size_of m (vm_slot h) ≡ 64
   new-size = ap (λ o. length (bytes_in o)) (made-block v s m h 64 q made) ∙ length-replicate {A = ℕ} 64 0
 
-  module _ (begins : Begins m t h) where
+  module _ (begins : BecomesHeap m t h) where
     pub begun-new : IsNew t h 0
     begun-new = record {
       block = record { locks = 0; bytes = begins.fills.bytes };

@@ -11,7 +11,7 @@ use Rattle.block_handles.specs.Stretch.{HasNoRoom}
 use Rattle.block_handles.proofs.Laws.{with_locks-other}
 use Rattle.geos_model.specs.Heap.{most_block_bytes}
 use Rattle.geos_model.specs.Names.{vm}
-use Rattle.vm_blocks.specs.Room.{DiscardsForRoom, DiscardsOne, MakesRoom, RemainOrNoRoom, Thins}
+use Rattle.vm_blocks.specs.Room.{DiscardsForRoom, DiscardsOne, DiscardsAndMakes, RemainOrNoRoom, Thins}
 use Rattle.vm_blocks.specs.Blocks.{IsLowestUnlisted}
 use Rattle.vm_blocks.specs.View.{VmState, held_at, vm_slot}
 use Rattle.vm_blocks.proofs.Brings.{made-other}
@@ -57,7 +57,7 @@ listed-more P Q None step h = tt
 listed-more P Q (Some e) step h = step e h
 
 -- room was made for a block
-pub made-remain : {D : Type 0} (v : VmState D) (s t : Store) (h size : ℕ) → IsHandle h → MakesRoom v s t (vm h) size → RemainOrNoRoom s t h size
+pub made-remain : {D : Type 0} (v : VmState D) (s t : Store) (h size : ℕ) → IsHandle h → DiscardsAndMakes v s t (vm h) size → RemainOrNoRoom s t h size
 made-remain v s t h size q made = remain-more s made.mid h size t q (made-other v s t h size q made) (discards-remain s made.mid h size v made.wanted)
 
 -- the handle of a new block is one alone

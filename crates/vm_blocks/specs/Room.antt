@@ -83,7 +83,7 @@ abbrev pub own_handle : Name → ℕ
 own_handle name = own_handle_of name.owner name.h
 
 -- room was made for a new block: some were discarded where there was none, and it was made
-pub record MakesRoom {D : Type 0} (v : VmState D) (old new : Store) (name : Name) (size : ℕ) : Type 0 where
+pub record DiscardsAndMakes {D : Type 0} (v : VmState D) (old new : Store) (name : Name) (size : ℕ) : Type 0 where
   pub mid : Store
   pub thins : Thins v old mid (own_handle name)
   pub wanted : DiscardsForRoom v old mid (own_handle name) (slot_of name) size
@@ -91,7 +91,7 @@ pub record MakesRoom {D : Type 0} (v : VmState D) (old new : Store) (name : Name
   pub makes : Makes mid new (slot_of name) size
 
 -- room was made for a block that is there: some others were discarded where there was none, and it grew
-pub record GrowsRoom {D : Type 0} (v : VmState D) (old new : Store) (name : Name) (size : ℕ) : Type 0 where
+pub record DiscardsAndGrows {D : Type 0} (v : VmState D) (old new : Store) (name : Name) (size : ℕ) : Type 0 where
   pub mid : Store
   pub thins : Thins v old mid (own_handle name)
   pub wanted : DiscardsForRoom v old mid (own_handle name) (slot_of name) size

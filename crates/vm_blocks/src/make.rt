@@ -3,7 +3,7 @@ ghost use Rattle.std.specs.Prelude.{◌≡◌, ◌<◌, ◌↔◌, ℕ, None, Er
 ghost use Rattle.geos_model.specs.Names.{vm};
 ghost use Rattle.block_handles.specs.Names.{IsHandle};
 ghost use Rattle.block_handles.specs.Store.{IsThere, locks_of, size_of};
-ghost use Rattle.vm_blocks.specs.Blocks.{Adds, AllListed, Begins, IsLowestUnlisted, IsNew, LacksRoomForNew, without_held};
+ghost use Rattle.vm_blocks.specs.Blocks.{Adds, AllListed, BecomesHeap, IsLowestUnlisted, IsNew, LacksRoomForNew, without_held};
 ghost use Rattle.vm_blocks.specs.Bring.{Drops, Keeps};
 ghost use Rattle.vm_blocks.specs.DoesRow.{DoesRow};
 ghost use Rattle.vm_blocks.specs.ListedCalls.{free_listed, make_listed};
@@ -23,7 +23,7 @@ use vm_file::Device;
 fn begin(blocks: &mut Blocks, h: u16)
     requires there { IsThere blocks.old (vm_slot h) }
     requires size { size_of blocks.old (vm_slot h) ≡ 64 }
-    ensures { Begins blocks.old blocks.new h }
+    ensures { BecomesHeap blocks.old blocks.new h }
 {
     lmem_block::init(blocks.bytes_mut(Name::vm(h)), h);
 }

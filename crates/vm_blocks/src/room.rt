@@ -3,7 +3,7 @@ ghost use Rattle.std.specs.Prelude.{◌≡◌, ◌≢◌, ◌+◌, ◌%◌, ◌<
 ghost use Rattle.geos_model.specs.Heap.{IsBlockSize, most_block_bytes};
 ghost use Rattle.block_handles.specs.Names.{IsHandle, slot_of};
 ghost use Rattle.block_handles.specs.Store.{IsThere, size_of};
-ghost use Rattle.vm_blocks.specs.Room.{DiscardsForRoom, DiscardsOne, GrowsRoom, LacksRoom, MakesRoom, NoneIdle, Thins, is_idle, own_handle, there_count};
+ghost use Rattle.vm_blocks.specs.Room.{DiscardsForRoom, DiscardsOne, DiscardsAndGrows, LacksRoom, DiscardsAndMakes, NoneIdle, Thins, is_idle, own_handle, there_count};
 ghost use Rattle.vm_blocks.specs.Tied.{IsTied};
 
 use crate::blocks::VmBlocks;
@@ -109,7 +109,7 @@ impl<D: Device + Drop> VmBlocks<D> {
         requires handle { IsHandle name.h }
         requires absent { IsThere blocks.old (slot_of name) → ⊥ }
         requires size { IsBlockSize size }
-        ensures ok { OnOk result (MakesRoom self.now blocks.old blocks.new name size) }
+        ensures ok { OnOk result (DiscardsAndMakes self.now blocks.old blocks.new name size) }
         ensures err { OnErr result (LacksRoom self.now blocks.old blocks.new name size) }
         ensures wanted { OnErr result (DiscardsForRoom self.now blocks.old blocks.new (own_handle name) (slot_of name) size) }
     {
@@ -133,7 +133,7 @@ impl<D: Device + Drop> VmBlocks<D> {
         requires tied { IsTied D.medium self.now blocks.old }
         requires there { IsThere blocks.old (slot_of name) }
         requires size { (size_of blocks.old (slot_of name) ≤ size) × (size ≤ most_block_bytes) × (size % 16 ≡ 0) }
-        ensures ok { OnOk result (GrowsRoom self.now blocks.old blocks.new name size) }
+        ensures ok { OnOk result (DiscardsAndGrows self.now blocks.old blocks.new name size) }
         ensures err { OnErr result (LacksRoom self.now blocks.old blocks.new name size) }
         ensures wanted { OnErr result (DiscardsForRoom self.now blocks.old blocks.new (own_handle name) (slot_of name) size) }
     {

@@ -3,7 +3,7 @@ use Rattle.std.specs.Prelude.{Err, Ok}
 use Rattle.geos_model.specs.declared.name.Name.{Name}
 use Rattle.geos_model.specs.Names.{vm}
 use Rattle.geos_table.specs.ChunkCalls.{make_edit, make_row}
-use Rattle.heap_calls.specs.Edits.{Comes}
+use Rattle.heap_calls.specs.Edits.{DiscardsAndEdits}
 use Rattle.heap_calls.specs.Heaps.{HoldsHeap}
 use Rattle.heap_calls.specs.Others.{KeepsOthers}
 use Rattle.heap_calls.proofs.Rows.{comes-alone}
@@ -28,7 +28,7 @@ make-requires-clause-heap g c =
 pub returns-in-Err-make_chunk : goal.returns-in-Err-make_chunk
 returns-in-Err-make_chunk g c =
     let d = g.D.Device in let x = c.args.make in let h = c.args.g in let w = c.bring_group.new.vm in let t = c.bring_group.new.blocks in let u = c.make.new.blocks in let b = c.in-Ok.ensures in let e = c.in-Err-make_chunk in
-    let comes = subst (λ (n : Name). Comes w (make_edit x) t u n (Err e.refusal)) c.vm.ensures e.ensures.comes in
+    let comes = subst (λ (n : Name). DiscardsAndEdits w (make_edit x) t u n (Err e.refusal)) c.vm.ensures e.ensures.comes in
     let keeps = subst (KeepsOthers w t u) c.vm.ensures e.ensures.keeps in
     let row = comes-alone d.medium w (make_edit x) t u (vm h) b.tied (holds-heap d.medium w t h b.tied b.ok.there) (Err e.refusal) comes tt in
     item-refused d.medium c.args.vm.now h w c.args.blocks.now t (make_row (vm h) x) (enlarges-on_chunks (make_edit x) (vm h)) (make_edit x) b u keeps true e.refusal
@@ -43,7 +43,7 @@ vdirty_changed-requires g c =
 pub returns : goal.returns
 returns g c =
     let d = g.D.Device in let x = c.args.make in let h = c.args.g in let w = c.bring_group.new.vm in let t = c.bring_group.new.blocks in let u = c.make.new.blocks in let b = c.in-Ok.ensures in let e = c.in-Ok-make_chunk in
-    let comes = subst (λ (n : Name). Comes w (make_edit x) t u n (Ok e.item)) c.vm.ensures e.ensures.comes in
+    let comes = subst (λ (n : Name). DiscardsAndEdits w (make_edit x) t u n (Ok e.item)) c.vm.ensures e.ensures.comes in
     let keeps = subst (KeepsOthers w t u) c.vm.ensures e.ensures.keeps in
     let row = comes-alone d.medium w (make_edit x) t u (vm h) b.tied (holds-heap d.medium w t h b.tied b.ok.there) (Ok e.item) comes
     (values-of u (vm_slot h) c.region.result.now c.region.ensures.region c.region.ensures.bytes) in

@@ -2,7 +2,7 @@ use Rattle.std.proofs.Common.{subst}
 use Rattle.std.specs.Prelude.{Err}
 use Rattle.block_handles.specs.Names.{slot_of}
 use Rattle.geos_table.specs.ChunkCalls.{change_edit, may_grow}
-use Rattle.heap_calls.specs.Edits.{Comes, IsOwn, Tries}
+use Rattle.heap_calls.specs.Edits.{DiscardsAndEdits, IsOwn, Tries}
 use Rattle.heap_calls.proofs.Asking.{change-asks}
 use Rattle.heap_calls.proofs.Changing.{carries-keeps}
 use Rattle.heap_calls.proofs.Coming.{carries-done, carries-refused, carries-grown, own-grows}
@@ -21,7 +21,7 @@ returns-clause-carries g c =
           rw (w.blocks-is, w.done-is) (carries-refused v grows edit old tried name c.requires.tied.laid (change-asks c.args.change) i.refusal (subst (λ o. Tries edit old tried name (Err o)) i.field-0-is i.ensures.tries)))
       | in-Err-Room w ↦ (let i = w.in-Err-Room in let e = w.grow_and_change-done in
           let may = own-grows grows i.room (subst (λ o. IsOwn grows (Err o)) i.field-0-is i.ensures.own) in
-          rw (w.blocks-is, w.done-is) (carries-grown v grows edit old e.new.blocks name c.requires.tied.laid e.result may (subst (λ s. Comes v edit s e.new.blocks name e.result) i.ensures.tries.1 e.ensures.comes)))
+          rw (w.blocks-is, w.done-is) (carries-grown v grows edit old e.new.blocks name c.requires.tied.laid e.result may (subst (λ s. DiscardsAndEdits v edit s e.new.blocks name e.result) i.ensures.tries.1 e.ensures.comes)))
     ]
 
 pub returns-clause-refused : goal.returns-clause-refused

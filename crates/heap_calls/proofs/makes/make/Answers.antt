@@ -2,7 +2,7 @@ use Rattle.std.proofs.Common.{subst}
 use Rattle.std.specs.Prelude.{Err}
 use Rattle.block_handles.specs.Names.{slot_of}
 use Rattle.geos_table.specs.ChunkCalls.{make_edit}
-use Rattle.heap_calls.specs.Edits.{Comes, Tries}
+use Rattle.heap_calls.specs.Edits.{DiscardsAndEdits, Tries}
 use Rattle.heap_calls.proofs.Asking.{make-asks}
 use Rattle.heap_calls.proofs.Changing.{comes-keeps}
 use Rattle.heap_calls.proofs.Coming.{comes-at_once, comes-refused}
@@ -20,7 +20,7 @@ returns-clause-comes g c =
       | in-Err-Refused w ↦ (let i = w.in-Err-Refused in
           rw (w.blocks-is, w.made-is) (comes-refused v edit old name c.requires.tied.laid (make-asks c.args.make) tried i.refusal (subst (λ o. Tries edit old tried name (Err o)) i.field-0-is i.ensures)))
       | in-Err-Room w ↦ (let m = w.grow_and_make-made in
-          rw (w.blocks-is, w.made-is) (subst (λ s. Comes v edit s m.new.blocks name m.result) w.in-Err-Room.ensures.1 m.ensures.comes))
+          rw (w.blocks-is, w.made-is) (subst (λ s. DiscardsAndEdits v edit s m.new.blocks name m.result) w.in-Err-Room.ensures.1 m.ensures.comes))
     ]
 
 pub returns-clause-refused : goal.returns-clause-refused

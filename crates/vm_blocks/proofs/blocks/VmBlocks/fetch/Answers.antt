@@ -6,7 +6,7 @@ use Rattle.block_handles.specs.Store.{IsBlock, block_at, bytes_of, locks_in}
 use Rattle.vm_file.specs.State.{FileState, pair_of}
 use Rattle.vm_blocks.specs.View.{VmState, bytes_read, vm_slot}
 use Rattle.vm_blocks.specs.Tied.{IsTied}
-use Rattle.vm_blocks.specs.Room.{DiscardsForRoom, MakesRoom, own_handle}
+use Rattle.vm_blocks.specs.Room.{DiscardsForRoom, DiscardsAndMakes, own_handle}
 use Rattle.vm_blocks.proofs.Brings.{absent-is, fills-others, filled-keeps, filled-locks, filled-there, made-room, read-tied, dropped-keeps, dropped-tied}
 use Rattle.vm_blocks.proofs.Wanting.{discards-remain, made-remain, remain-more}
 use Rattle.geos_model.specs.Names.{vm}
@@ -23,7 +23,7 @@ make_room-requires-clause-size g c =
 pub returns-clause-keeps : goal.returns-clause-keeps
 returns-clause-keeps g c =
     let d = g.D.Device in let now = c.args.self.now in let old = c.args.blocks.now in let mid = c.make_room.new.blocks in let t = c.read_into.new.blocks in let h = c.args.h in let e = c.args.held in let q = c.requires in
-    let made = made-room now old mid c.vm.result h c.vm.ensures (subst (MakesRoom now old mid c.vm.result) c.from.ensures c.in-Ok.ensures.ok) in
+    let made = made-room now old mid c.vm.result h c.vm.ensures (subst (DiscardsAndMakes now old mid c.vm.result) c.from.ensures c.in-Ok.ensures.ok) in
     elim c.match-read_into.branch [
       | in-Ok-read_into w ↦ filled-keeps d.medium now old h e q.handle q.tied q.listed q.absent mid t made w.in-Ok-read_into.ensures.ok
       | in-Err-read_into w ↦ dropped-keeps d.medium now old h e q.handle q.tied q.listed q.absent mid t made w.in-Err-read_into.ensures.err
@@ -32,7 +32,7 @@ returns-clause-keeps g c =
 pub returns-clause-locks : goal.returns-clause-locks
 returns-clause-locks g c =
     let d = g.D.Device in let now = c.args.self.now in let old = c.args.blocks.now in let mid = c.make_room.new.blocks in let t = c.read_into.new.blocks in let h = c.args.h in let e = c.args.held in let q = c.requires in
-    let made = made-room now old mid c.vm.result h c.vm.ensures (subst (MakesRoom now old mid c.vm.result) c.from.ensures c.in-Ok.ensures.ok) in
+    let made = made-room now old mid c.vm.result h c.vm.ensures (subst (DiscardsAndMakes now old mid c.vm.result) c.from.ensures c.in-Ok.ensures.ok) in
     elim c.match-read_into.branch [
       | in-Ok-read_into w ↦ filled-locks d.medium now old h e q.handle q.tied q.listed q.absent mid t made w.in-Ok-read_into.ensures.ok
       | in-Err-read_into w ↦ ap locks_in w.in-Err-read_into.ensures.err.gone
@@ -41,7 +41,7 @@ returns-clause-locks g c =
 pub returns-clause-there : goal.returns-clause-there
 returns-clause-there g c =
     let d = g.D.Device in let now = c.args.self.now in let old = c.args.blocks.now in let mid = c.make_room.new.blocks in let t = c.read_into.new.blocks in let h = c.args.h in let e = c.args.held in let q = c.requires in
-    let made = made-room now old mid c.vm.result h c.vm.ensures (subst (MakesRoom now old mid c.vm.result) c.from.ensures c.in-Ok.ensures.ok) in
+    let made = made-room now old mid c.vm.result h c.vm.ensures (subst (DiscardsAndMakes now old mid c.vm.result) c.from.ensures c.in-Ok.ensures.ok) in
     elim c.match-read_into.branch [
       | in-Ok-read_into w ↦ rw w.result-is (filled-there d.medium now old h e q.handle q.tied q.listed q.absent mid t made w.in-Ok-read_into.ensures.ok)
       | in-Err-read_into w ↦ rw w.result-is tt
@@ -50,7 +50,7 @@ returns-clause-there g c =
 pub returns-clause-tied : goal.returns-clause-tied
 returns-clause-tied g c =
     let d = g.D.Device in let now = c.args.self.now in let old = c.args.blocks.now in let mid = c.make_room.new.blocks in let t = c.read_into.new.blocks in let h = c.args.h in let e = c.args.held in let q = c.requires in
-    let made = made-room now old mid c.vm.result h c.vm.ensures (subst (MakesRoom now old mid c.vm.result) c.from.ensures c.in-Ok.ensures.ok) in
+    let made = made-room now old mid c.vm.result h c.vm.ensures (subst (DiscardsAndMakes now old mid c.vm.result) c.from.ensures c.in-Ok.ensures.ok) in
     let f = c.read_into.new.file in let r = c.read_into.ensures in
     let same : f ≡ record now.file { device = f.device } = r.same ∙ ap (λ (w : VmState g.row.D.Denot). let x : FileState g.row.D.Denot = record w.file { device = f.device } in x) c.self.view_is in
     let pair : pair_of d.medium.image f ≡ pair_of d.medium.image now.file = r.pair ∙ ap (λ (w : VmState g.row.D.Denot). pair_of d.medium.image w.file) c.self.view_is in
@@ -88,7 +88,7 @@ returns-in-Err-clause-wanted g c =
 pub returns-clause-wanted : goal.returns-clause-wanted
 returns-clause-wanted g c =
     let now = c.args.self.now in let old = c.args.blocks.now in let mid = c.make_room.new.blocks in let t = c.read_into.new.blocks in let h = c.args.h in let len = c.args.held.len in let q = c.requires.handle in
-    let made = made-room now old mid c.vm.result h c.vm.ensures (subst (MakesRoom now old mid c.vm.result) c.from.ensures c.in-Ok.ensures.ok) in
+    let made = made-room now old mid c.vm.result h c.vm.ensures (subst (DiscardsAndMakes now old mid c.vm.result) c.from.ensures c.in-Ok.ensures.ok) in
     let remain = made-remain now old mid h len q made in
     elim c.match-read_into.branch [
       | in-Ok-read_into w ↦ remain-more old mid h len t q (fills-others mid t h w.in-Ok-read_into.ensures.ok) remain
