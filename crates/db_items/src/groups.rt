@@ -10,11 +10,10 @@ ghost use Rattle.vm_blocks.specs.Room.{RemainOrNoRoom};
 ghost use Rattle.vm_blocks.specs.Tied.{IsTied};
 ghost use Rattle.vm_blocks.specs.View.{vm_slot};
 ghost use Rattle.db_items.specs.Groups.{BringsGroup, IsGroup, RefusesNoGroup};
-ghost use Rattle.vm_blocks.specs.Refused.{why_not_brought, why_not_freed, why_not_made};
 
 use block_handles::Blocks;
 use geos_model::Refusal;
-use vm_blocks::{BringError, FreeError, NewError, VmBlocks};
+use vm_blocks::VmBlocks;
 use vm_file::{Device, GROUP_UID};
 
 /// Whether a handle names a group.
@@ -22,37 +21,6 @@ pub fn is_group<D: Device + Drop>(vm: &VmBlocks<D>, g: u16) -> bool
     ensures { IsTrue result ↔ IsGroup vm.now g }
 {
     vm.has_group(g)
-}
-
-/// Why a group was not made, as the kernel says it.
-fn why_not_made(why: NewError) -> Refusal
-    ensures { result ≡ why_not_made why }
-{
-    match why {
-        NewError::NoHandle => Refusal::NoHandle,
-        NewError::NoRoom => Refusal::NoRoom,
-    }
-}
-
-/// Why a group was not freed, as the kernel says it.
-fn why_not_freed(why: FreeError) -> Refusal
-    ensures { result ≡ why_not_freed why }
-{
-    match why {
-        FreeError::BadHandle => Refusal::BadHandle,
-        FreeError::Locked => Refusal::Locked,
-    }
-}
-
-/// Why a group was not brought into memory, as the kernel says it.
-fn why_not_brought(why: BringError) -> Refusal
-    ensures { result ≡ why_not_brought why }
-{
-    match why {
-        BringError::BadHandle => Refusal::BadHandle,
-        BringError::NoRoom => Refusal::NoRoom,
-        BringError::Disk => Refusal::Disk,
-    }
 }
 
 /// Makes a group of 64 bytes without an item under the lowest handle of the file that is free, in
@@ -79,7 +47,7 @@ pub fn group_new<D: Device + Drop>(
 {
     match vm.vnew_unlocked(blocks, GROUP_UID) {
         Ok(g) => Ok(g),
-        Err(why) => Err(why_not_made(why)),
+        Err(why) => Err(why.refusal()),
     }
 }
 
@@ -107,7 +75,7 @@ pub fn group_free<D: Device + Drop>(
     }
     match vm.vfree(blocks, g) {
         Ok(()) => Ok(()),
-        Err(why) => Err(why_not_freed(why)),
+        Err(why) => Err(why.refusal()),
     }
 }
 
@@ -126,6 +94,6 @@ pub(crate) fn bring_group<D: Device + Drop>(
     }
     match vm.bring(blocks, g) {
         Ok(()) => Ok(()),
-        Err(why) => Err(why_not_brought(why)),
+        Err(why) => Err(why.refusal()),
     }
 }

@@ -26,8 +26,7 @@ pub(crate) fn of_new(made: Result<u16, NewError>) -> Result<u16, Refusal>
 {
     match made {
         Ok(h) => Ok(h),
-        Err(NewError::NoHandle) => Err(Refusal::NoHandle),
-        Err(NewError::NoRoom) => Err(Refusal::NoRoom),
+        Err(why) => Err(why.refusal()),
     }
 }
 
@@ -37,10 +36,7 @@ pub(crate) fn of_lock(locked: Result<(), LockError>) -> Result<(), Refusal>
 {
     match locked {
         Ok(()) => Ok(()),
-        Err(LockError::BadHandle) => Err(Refusal::BadHandle),
-        Err(LockError::Locked) => Err(Refusal::Locked),
-        Err(LockError::NoRoom) => Err(Refusal::NoRoom),
-        Err(LockError::Disk) => Err(Refusal::Disk),
+        Err(why) => Err(why.refusal()),
     }
 }
 
@@ -50,8 +46,7 @@ pub(crate) fn of_free(freed: Result<(), FreeError>) -> Result<(), Refusal>
 {
     match freed {
         Ok(()) => Ok(()),
-        Err(FreeError::BadHandle) => Err(Refusal::BadHandle),
-        Err(FreeError::Locked) => Err(Refusal::Locked),
+        Err(why) => Err(why.refusal()),
     }
 }
 

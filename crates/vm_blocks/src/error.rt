@@ -1,4 +1,8 @@
 //! Why calls on VM blocks refuse.
+ghost use Rattle.std.specs.Prelude.{◌≡◌};
+ghost use Rattle.vm_blocks.specs.Refused.{why_not_brought, why_not_freed, why_not_locked, why_not_made};
+
+use geos_model::Refusal;
 use thiserror::Error;
 
 /// No stretch of the region has room, though every other block of the file that is neither
@@ -21,6 +25,19 @@ pub enum BringError {
     Disk,
 }
 
+impl BringError {
+    /// The same refusal, as the kernel says it.
+    pub fn refusal(self) -> Refusal
+        ensures { result ≡ why_not_brought self }
+    {
+        match self {
+            BringError::BadHandle => Refusal::BadHandle,
+            BringError::NoRoom => Refusal::NoRoom,
+            BringError::Disk => Refusal::Disk,
+        }
+    }
+}
+
 /// Why a block was not locked.
 #[derive(Clone, Copy, Debug, Drop, PartialEq, Eq, Error)]
 pub enum LockError {
@@ -38,6 +55,20 @@ pub enum LockError {
     Disk,
 }
 
+impl LockError {
+    /// The same refusal, as the kernel says it.
+    pub fn refusal(self) -> Refusal
+        ensures { result ≡ why_not_locked self }
+    {
+        match self {
+            LockError::BadHandle => Refusal::BadHandle,
+            LockError::Locked => Refusal::Locked,
+            LockError::NoRoom => Refusal::NoRoom,
+            LockError::Disk => Refusal::Disk,
+        }
+    }
+}
+
 /// Why no block was made.
 #[derive(Clone, Copy, Debug, Drop, PartialEq, Eq, Error)]
 pub enum NewError {
@@ -49,6 +80,18 @@ pub enum NewError {
     NoRoom,
 }
 
+impl NewError {
+    /// The same refusal, as the kernel says it.
+    pub fn refusal(self) -> Refusal
+        ensures { result ≡ why_not_made self }
+    {
+        match self {
+            NewError::NoHandle => Refusal::NoHandle,
+            NewError::NoRoom => Refusal::NoRoom,
+        }
+    }
+}
+
 /// Why a block was not freed. Nothing has changed.
 #[derive(Clone, Copy, Debug, Drop, PartialEq, Eq, Error)]
 pub enum FreeError {
@@ -58,4 +101,16 @@ pub enum FreeError {
     /// The block is locked.
     #[error("the block is locked")]
     Locked,
+}
+
+impl FreeError {
+    /// The same refusal, as the kernel says it.
+    pub fn refusal(self) -> Refusal
+        ensures { result ≡ why_not_freed self }
+    {
+        match self {
+            FreeError::BadHandle => Refusal::BadHandle,
+            FreeError::Locked => Refusal::Locked,
+        }
+    }
 }

@@ -46,7 +46,7 @@ returns-in-Err g c =
       no_room = λ r. (λ there. (let known = e.known there in absurd cc), e.no_room (room-why why r));
       device = record { pair = e.pair; reads = e.reads; cause = λ good fails. e.cause good (disk-why why fails); counted = λ never. e.counted (λ fails. never (disk-so why fails)) };
     } in
-    subst (λ (r : Refusal). BringsGroup d.medium h (Err r) now c.bring.new.self c.args.blocks.now c.bring.new.blocks) (sym c.why_not_brought.ensures) refused
+    subst (λ (r : Refusal). BringsGroup d.medium h (Err r) now c.bring.new.self c.args.blocks.now c.bring.new.blocks) (sym c.refusal.ensures) refused
 
 pub returns-in-Ok : goal.returns-in-Ok
 returns-in-Ok g c =

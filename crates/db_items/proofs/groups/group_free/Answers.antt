@@ -20,5 +20,5 @@ returns-in-Ok-clause-row g c =
 pub returns-in-Err-clause-row : goal.returns-in-Err-clause-row
 returns-in-Err-clause-row g c =
     let d = g.D.Device in
-    subst (λ (r : Refusal). DoesRow d.medium (gfree c.args.g) (Err r) c.args.vm.now c.args.blocks.now c.vfree.new.self c.vfree.new.blocks) (sym c.why_not_freed.ensures)
+    subst (λ (r : Refusal). DoesRow d.medium (gfree c.args.g) (Err r) c.args.vm.now c.args.blocks.now c.vfree.new.self c.vfree.new.blocks) (sym c.refusal.ensures)
     (free-row d.medium c.args.vm.now c.args.blocks.now c.args.g c.requires (c.if-not-is_group.ensures.0 refl) c.vfree.new.self c.vfree.new.blocks (Err (why_not_freed c.in-Err.why)) c.in-Err.ensures.row)

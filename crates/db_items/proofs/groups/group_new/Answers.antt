@@ -19,12 +19,12 @@ room-why error.NoRoom e = refl
 
 pub returns-in-Err-clause-no_room : goal.returns-in-Err-clause-no_room
 returns-in-Err-clause-no_room g c = λ is.
-    c.in-Err.ensures.no_room (room-why c.in-Err.why (subst (λ (r : Refusal). ◌≡◌ {A = Result ℕ Refusal} (Err r) (Err refusal.NoRoom)) c.why_not_made.ensures is))
+    c.in-Err.ensures.no_room (room-why c.in-Err.why (subst (λ (r : Refusal). ◌≡◌ {A = Result ℕ Refusal} (Err r) (Err refusal.NoRoom)) c.refusal.ensures is))
 
 pub returns-in-Err-clause-why : goal.returns-in-Err-clause-why
-returns-in-Err-clause-why g c = subst (λ (r : Refusal). (r ≡ refusal.NoHandle) ⊎ (r ≡ refusal.NoRoom)) (sym c.why_not_made.ensures) (only-two c.in-Err.why)
+returns-in-Err-clause-why g c = subst (λ (r : Refusal). (r ≡ refusal.NoHandle) ⊎ (r ≡ refusal.NoRoom)) (sym c.refusal.ensures) (only-two c.in-Err.why)
 
 pub returns-in-Err-clause-row : goal.returns-in-Err-clause-row
 returns-in-Err-clause-row g c =
     let d = g.D.Device in
-    subst (λ (r : Refusal). DoesRow d.medium gnew (Err r) c.args.vm.now c.args.blocks.now c.vnew_unlocked.new.self c.vnew_unlocked.new.blocks) (sym c.why_not_made.ensures) c.in-Err.ensures.row
+    subst (λ (r : Refusal). DoesRow d.medium gnew (Err r) c.args.vm.now c.args.blocks.now c.vnew_unlocked.new.self c.vnew_unlocked.new.blocks) (sym c.refusal.ensures) c.in-Err.ensures.row
