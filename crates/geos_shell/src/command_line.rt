@@ -1,7 +1,7 @@
 //! The command line: which commands there are, as `clap` takes them.
 
 use crate::answer::Answer;
-use crate::help::{ABOUT, DUMPED, EXPLAINED, FAULTS, MADE, MAPPED, RULES, RUNS, SESSION, USAGES};
+use crate::help::{ABOUT, More, SESSION, USAGES};
 use crate::numbers::{AREA, Number, REGION, WIDTH};
 use clap::builder::ValueParser;
 use clap::{Arg, ArgAction, ArgMatches, Command, Error};
@@ -23,7 +23,7 @@ struct CommandText {
     name: &'static str,
     about: &'static str,
     args: &'static [ArgText],
-    more: &'static str,
+    more: More,
 }
 
 const TEXT: ArgText = ArgText::Word(
@@ -58,54 +58,54 @@ const CHUNKS: ArgText = ArgText::Flag(
     "Prints the bytes of each chunk too, as `xxd` does",
 );
 
-const COMMANDS: [CommandText; 8] = [
+static COMMANDS: [CommandText; 8] = [
     CommandText {
         name: "asm",
         about: "Makes the image of a text",
         args: &[TEXT, NEW_IMAGE],
-        more: FAULTS,
+        more: More::Faults,
     },
     CommandText {
         name: "list",
         about: "Prints the image as text",
         args: &[IMAGE],
-        more: "",
+        more: More::Nothing,
     },
     CommandText {
         name: "check",
         about: "Prints `accepted` where the image may run",
         args: &[IMAGE],
-        more: RULES,
+        more: More::Rules,
     },
     CommandText {
         name: "explain",
         about: "Prints an image or a text with what is known at each instruction, and why it may not run",
         args: &[IMAGE],
-        more: EXPLAINED,
+        more: More::Explained,
     },
     CommandText {
         name: "new",
         about: "Makes a VM file without a block",
         args: &[NEW_FILE, ArgText::Number(AREA)],
-        more: MADE,
+        more: More::Made,
     },
     CommandText {
         name: "run",
         about: "Runs a script on a VM file",
         args: &[IMAGE, FILE, SCRIPT, ArgText::Number(REGION)],
-        more: RUNS,
+        more: More::Runs,
     },
     CommandText {
         name: "dump",
         about: "Prints the blocks of a VM file, and their chunks",
         args: &[FILE, CHUNKS],
-        more: DUMPED,
+        more: More::Dumped,
     },
     CommandText {
         name: "map",
         about: "Draws a VM file: how full its areas and blocks are",
         args: &[FILE, ArgText::Number(WIDTH)],
-        more: MAPPED,
+        more: More::Mapped,
     },
 ];
 
@@ -141,67 +141,67 @@ fn arg_of<'a>(alloc: Global, text: &ArgText) -> Arg<'a> {
     }
 }
 
+/// Puts an item that was made behind the others. It is proved for items of any type, and not over a
+/// command's fifty fields.
+fn add<T: Drop>(items: &mut Vec<T>, made: Result<T, AllocError>) -> Result<(), AllocError> {
+    items.push(made?)?;
+    Ok(())
+}
+
 /// All that stands there.
 fn args_of<'a>(alloc: Global, texts: &[ArgText]) -> Result<Vec<Arg<'a>>, AllocError> {
     let mut args = Vec::new(alloc);
     for text in texts {
-        args.push(arg_of(alloc, text))?;
+        add(&mut args, Ok(arg_of(alloc, text)))?;
     }
     Ok(args)
+}
+
+/// A command with what it says of itself.
+fn described<'a>(command: Command<'a>, about: &'a str, more: &'a str) -> Command<'a> {
+    command.about(about).after_help(more)
 }
 
 /// A command.
 fn command_of<'a>(alloc: Global, text: &CommandText) -> Result<Command<'a>, AllocError> {
     let args = args_of(alloc, text.args)?;
-    Command::new(alloc, text.name)
-        .about(text.about)
-        .after_help(text.more)
-        .args(args)
+    described(Command::new(alloc, text.name), text.about, text.more.text()).args(args)
 }
 
-/// A program with one more command.
-fn with_command<'a>(
-    alloc: Global,
-    program: Command<'a>,
-    text: &CommandText,
-) -> Result<Command<'a>, AllocError> {
-    match command_of(alloc, text) {
-        Ok(command) => program.subcommand(command),
-        Err(error) => Err(error),
+/// What there is to say of each command. It stands apart from the loop over it: a proof goes over all of
+/// it at each step.
+fn command_texts() -> &'static [CommandText] {
+    &COMMANDS
+}
+
+/// All commands.
+fn commands<'a>(alloc: Global) -> Result<Vec<Command<'a>>, AllocError> {
+    let mut commands = Vec::new(alloc);
+    for text in command_texts() {
+        add(&mut commands, command_of(alloc, text))?;
     }
+    Ok(commands)
 }
 
-/// What the program says of itself.
+/// The program without its commands.
 fn bare_program<'a>(alloc: Global) -> Command<'a> {
-    Command::new(alloc, "geos")
+    let program = Command::new(alloc, "geos")
         .no_binary_name(true)
         .version("0.1.0")
-        .about(ABOUT)
-        .override_usage(USAGES)
-        .after_help(SESSION)
+        .override_usage(USAGES);
+    described(program, ABOUT, SESSION)
 }
 
 /// The program with its commands.
 fn program<'a>(alloc: Global) -> Result<Command<'a>, AllocError> {
-    let mut program = bare_program(alloc);
-    for text in &COMMANDS {
-        match with_command(alloc, program, text) {
-            Ok(more) => program = more,
-            Err(error) => return Err(error),
-        }
-    }
-    program.bin_name("geos")
-}
-
-/// The words behind the program's name.
-fn words_behind_name(rt: &HostRuntime) -> io::Result<Vec<String>> {
-    Ok(env::args(rt)?.skip(1).collect(rt.alloc())?)
+    let commands = commands(alloc)?;
+    bare_program(alloc).bin_name("geos")?.subcommands(commands)
 }
 
 /// The words behind the program's name. An error is what they are answered where one of them is no text.
 pub fn words(rt: &HostRuntime) -> Result<Vec<String>, Answer> {
-    match words_behind_name(rt) {
-        Ok(words) => Ok(words),
+    match env::args(rt) {
+        Ok(args) => args.skip(1).collect(rt.alloc()).map_err(|_| Answer::Memory),
         Err(error) if error.kind() == io::ErrorKind::InvalidData => Err(Answer::NotText),
         Err(_) => Err(Answer::Memory),
     }

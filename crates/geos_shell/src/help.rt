@@ -49,7 +49,7 @@ Status: 0 where all was done; 1 after a fault, which one line on standard error 
 words on the command line are none of these. docs/FORMATS.md has the faults, and the digits of an image.";
 
 /// Why a text is not assembled.
-pub(crate) const FAULTS: &str = "\
+const FAULTS: &str = "\
 If there is a file OUT, it is replaced; after a fault it is as it was. The first fault of the text is
 `line N: why K`; of several on one line, the lowest number is named:
   1  the first word is no instruction, and none of `routine`, `in` and `out`
@@ -64,7 +64,7 @@ to an instruction and another on another way; or no number of steps is enough: a
 LOOP, its counter is set or touched within it, or the steps pass 4,294,967,295. `geos explain` says which.";
 
 /// What is said of an image or a text.
-pub(crate) const EXPLAINED: &str = "\
+const EXPLAINED: &str = "\
 IMAGE may be a text too: what does not begin as an image does is read as one. Its own lines are printed,
 each behind its number; behind an instruction stands what is known there, and how many steps are owed.
 Of an image each instruction is printed, with the routine and the pc in front of that.
@@ -73,7 +73,7 @@ where not, and what has moved there. `no rows: line N` has a line that says wher
 loop is not paid for.";
 
 /// Why an image may not run.
-pub(crate) const RULES: &str = "\
+const RULES: &str = "\
 `rejected at N by VK` names the first instruction, counted from 0, that may not stand as it does, and the
 lowest rule there; `geos explain` says more. The rules:
   V1   control stays within the routine
@@ -92,14 +92,14 @@ lowest rule there; `geos explain` says more. The rules:
   V14  the steps of a routine are within its budget";
 
 /// How a VM file is made.
-pub(crate) const MADE: &str = "\
+const MADE: &str = "\
 The file is twice the size of an area, and 1,024 bytes; where the disk can, what is not written takes
 no room on it. An area holds all blocks of the file twice: as they are, and as they were saved last.
 Where they are longer than an area, `update` and `save` are refused 6 and change nothing.
 A file that is there is not touched: `cannot write FILE`.";
 
 /// How a script runs on a VM file.
-pub(crate) const RUNS: &str = "\
+const RUNS: &str = "\
 SCRIPT has a command a line, as a session behind its image:
   call NAME n..   runs the public routine on at most eight numbers, and prints what it puts out
   update          the file keeps its blocks as they are
@@ -118,7 +118,7 @@ Example:
   geos dump notes.vm";
 
 /// How a VM file is printed.
-pub(crate) const DUMPED: &str = "\
+const DUMPED: &str = "\
 What the file keeps now, `current`, then what it saved last, `saved`:
   current map M item G I   the map block, the group of the map item and its chunk; 0 is none
   H uid U size S chunks C:N ..   a block: its handle, user ID and bytes, and handle and length of each chunk
@@ -126,7 +126,36 @@ A group has user ID 65280. A file that may only be read is read; nothing is writ
 `bad file at N` names the first byte, from the front of the file, that is not as it must be.";
 
 /// How a VM file is drawn.
-pub(crate) const MAPPED: &str = "\
+const MAPPED: &str = "\
 The first bar is the area that is read, with all blocks as they are and as they were saved last. Below it
 each block has a bar, as long beside the longest as the block is: `#` is in use, `.` is free. `used` counts
 bytes, those of the heap's header and table too; a group has `group` in the place of its user ID.";
+
+/// What there is to add on a command. The commands name it, and their table is without its long texts:
+/// a proof goes over each byte of the texts of a table.
+#[derive(Clone, Copy)]
+pub(crate) enum More {
+    Nothing,
+    Faults,
+    Explained,
+    Rules,
+    Made,
+    Runs,
+    Dumped,
+    Mapped,
+}
+
+impl More {
+    pub(crate) fn text(self) -> &'static str {
+        match self {
+            More::Nothing => "",
+            More::Faults => FAULTS,
+            More::Explained => EXPLAINED,
+            More::Rules => RULES,
+            More::Made => MADE,
+            More::Runs => RUNS,
+            More::Dumped => DUMPED,
+            More::Mapped => MAPPED,
+        }
+    }
+}

@@ -5,7 +5,7 @@ use std::fs::File;
 use std::io::{self, ErrorKind};
 
 /// Who else may hold a lock on the file meanwhile.
-#[derive(Clone, Copy, Debug, PartialEq, Eq)]
+#[derive(Clone, Copy)]
 pub enum Sharing {
     /// Nobody.
     Alone,
@@ -26,9 +26,9 @@ fn locked(rt: &HostRuntime, path: &str, sharing: Sharing) -> io::Result<FileLock
         return Err(io::Error::from(ErrorKind::IsADirectory));
     }
     match sharing {
-        Sharing::Alone => file.lock()?,
-        Sharing::Shared => file.lock_shared()?,
-    }
+        Sharing::Alone => file.lock(),
+        Sharing::Shared => file.lock_shared(),
+    }?;
     Ok(FileLock { _file: file })
 }
 

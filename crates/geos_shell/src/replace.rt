@@ -1,6 +1,7 @@
 //! A file that is replaced whole, or left as it was.
 
-use std::fs::{self, File, Metadata, Permissions};
+use std::alloc::{AllocError, Global};
+use std::fs::{self, File, Permissions};
 use std::io::{self, ErrorKind, Write};
 use std::path::{Path, PathBuf};
 
@@ -29,22 +30,36 @@ fn behind_links(rt: &HostRuntime, path: &str) -> io::Result<PathBuf> {
     Err(io::Error::from(ErrorKind::Other))
 }
 
+/// What is of use of what the system says of a file.
+#[derive(Drop)]
+struct Attributes {
+    is_file: bool,
+    permissions: Permissions,
+}
+
 /// What the system says of a file, if there is one. An error where it does not say so: else its
 /// permissions might be lost.
-fn found(rt: &HostRuntime, path: &str) -> io::Result<Option<Metadata>> {
+fn found(rt: &HostRuntime, path: &str) -> io::Result<Option<Attributes>> {
     match fs::metadata(rt, path) {
-        Ok(found) => Ok(Some(found)),
+        Ok(found) => Ok(Some(Attributes {
+            is_file: found.is_file(),
+            permissions: found.permissions(),
+        })),
         Err(error) if error.kind() == ErrorKind::NotFound => Ok(None),
         Err(error) => Err(error),
     }
 }
 
+/// The name beside a path with the number.
+fn name_beside(alloc: Global, path: &str, n: u32) -> Result<String, AllocError> {
+    format!(in alloc; "{path}.{n}.part")
+}
+
 /// Makes a file beside the one with the path, under a name that no file has: also not one that an
 /// earlier run left, which was stopped.
-fn beside(rt: &HostRuntime, path: Path<'_>) -> io::Result<(String, File)> {
-    let path = path.as_str();
+fn beside(rt: &HostRuntime, path: &str) -> io::Result<(String, File)> {
     for n in 0..u32::MAX {
-        let name = format!(in rt.alloc(); "{path}.{n}.part")?;
+        let name = name_beside(rt.alloc(), path, n)?;
         match File::create_new(rt, name.as_str()) {
             Ok(file) => return Ok((name, file)),
             Err(error) if error.kind() == ErrorKind::AlreadyExists => {}
@@ -63,21 +78,24 @@ fn fill(mut file: File, permissions: Option<Permissions>, bytes: &[u8]) -> io::R
     file.sync_all()
 }
 
-/// Puts the bytes beside the file with the path, and renames the whole one: the permissions of the file
-/// that is there, if there is one, stay.
+/// Puts the bytes beside the file with the path, and renames the whole one, which gets the permissions.
 fn put_whole(
     rt: &HostRuntime,
     path: Path<'_>,
-    there: Option<Metadata>,
+    permissions: Option<Permissions>,
     bytes: &[u8],
 ) -> io::Result<()> {
-    let (name, file) = beside(rt, path)?;
-    let permissions = there.map(|there| there.permissions());
+    let (name, file) = beside(rt, path.as_str())?;
     let done = fill(file, permissions, bytes).and_then(|()| fs::rename(rt, name.as_str(), path));
     if done.is_err() {
         let _ = fs::remove_file(rt, name.as_str());
     }
     done
+}
+
+/// Writes the bytes into what has the path, or makes a file.
+fn write_into(rt: &HostRuntime, path: &str, bytes: &[u8]) -> io::Result<()> {
+    fs::create(rt, path)?.write_all(bytes)
 }
 
 /// Puts the bytes in the place of the file's, or makes the file: they are written beside it, and
@@ -86,13 +104,14 @@ fn put_whole(
 /// and so is a file that has no name any more.
 pub(crate) fn replace(rt: &HostRuntime, path: &str, bytes: &[u8]) -> io::Result<()> {
     let led_to = found(rt, path)?;
-    if led_to.as_ref().is_some_and(|led_to| !led_to.is_file()) {
-        return fs::create(rt, path)?.write_all(bytes);
+    if led_to.as_ref().is_some_and(|led_to| !led_to.is_file) {
+        return write_into(rt, path, bytes);
     }
     let named = behind_links(rt, path)?;
     let there = found(rt, named.as_str())?;
     if led_to.is_some() && there.is_none() {
-        return fs::create(rt, path)?.write_all(bytes);
+        return write_into(rt, path, bytes);
     }
-    put_whole(rt, named.as_path(), there, bytes)
+    let permissions = there.map(|there| there.permissions);
+    put_whole(rt, named.as_path(), permissions, bytes)
 }

@@ -61,11 +61,13 @@ fn word<'a>(words: &ArgMatches<'a>, name: &str) -> &'a str {
 fn new_of<'a>(words: &ArgMatches<'a>) -> Result<Request<'a>, Misuse>
     ensures { IfOk result KeepsLimits }
 {
-    let area = AREA.of(words)?;
-    Ok(Request::New {
-        file: word(words, "FILE"),
-        area,
-    })
+    match AREA.of(words) {
+        Ok(area) => Ok(Request::New {
+            file: word(words, "FILE"),
+            area,
+        }),
+        Err(misuse) => Err(misuse),
+    }
 }
 
 /// What a `run` asks for.
@@ -76,24 +78,28 @@ fn run_of<'a>(words: &ArgMatches<'a>) -> Result<Request<'a>, Misuse>
     if is_stream(image) && is_stream(script) {
         return Err(Misuse::TwoOfOneStream);
     }
-    let region = REGION.of(words)?;
-    Ok(Request::Run {
-        image,
-        file: word(words, "FILE"),
-        script,
-        region,
-    })
+    match REGION.of(words) {
+        Ok(region) => Ok(Request::Run {
+            image,
+            file: word(words, "FILE"),
+            script,
+            region,
+        }),
+        Err(misuse) => Err(misuse),
+    }
 }
 
 /// What a `map` asks for.
 fn map_of<'a>(words: &ArgMatches<'a>) -> Result<Request<'a>, Misuse>
     ensures { IfOk result KeepsLimits }
 {
-    let width = WIDTH.of(words)?;
-    Ok(Request::Map {
-        file: word(words, "FILE"),
-        width,
-    })
+    match WIDTH.of(words) {
+        Ok(width) => Ok(Request::Map {
+            file: word(words, "FILE"),
+            width,
+        }),
+        Err(misuse) => Err(misuse),
+    }
 }
 
 /// What a command without a number asks for.
@@ -136,10 +142,7 @@ pub fn requested<'a>(alloc: Global, words: &'a [String]) -> Result<Request<'a>, 
     ensures { IfOk result KeepsLimits }
 {
     match matches_of(alloc, words) {
-        Ok(matches) => match request_of(&matches) {
-            Ok(request) => Ok(request),
-            Err(misuse) => Err(misuse.answer(alloc)),
-        },
+        Ok(matches) => request_of(&matches).map_err(|misuse| misuse.answer(alloc)),
         Err(error) => Err(Answer::of(alloc, &error)),
     }
 }
