@@ -7,7 +7,7 @@ use Rattle.geos_image.specs.declared.instr.Instr.{Instr}
 use Rattle.geos_opcodes.specs.Facts.{code_of, opcode_of, operands_of, limit}
 use Rattle.geos_image.specs.Legal.{is_instr}
 use Rattle.geos_image.specs.Spelling.{word, instr}
-use Rattle.geos_image.specs.Reading.{or_fault, byte_at, byte_below, word_below, instr_at}
+use Rattle.geos_image.specs.Reading.{or_fault, byte_at, byte_below, word_below, fields_at, instr_at}
 use Rattle.geos_image.proofs.Steps.{ok_is, after, or_fault_ok}
 use Rattle.geos_opcodes.proofs.Laws.{opcode_again}
 use Rattle.geos_image.proofs.Codes.{code_found}
@@ -33,7 +33,7 @@ operand_fits routines instrs operand n r i lt = omega (arith, limit_fits routine
 
 -- an instruction that was read stands there
 pub instr_found : (routines instrs : ℕ) (bytes : List ℕ) → IsBytes bytes → (at next : ℕ) (i : Instr) → next ≡ at + 10 → instr_at routines instrs bytes at ≡ Ok i → Takes bytes at (instr i) next
-unfolding instr_at
+unfolding instr_at fields_at
 instr_found routines instrs bytes fits at next i e h =
     after (byte_at bytes at) _ i h (λ code read-code h.
     after (or_fault at (opcode_of code)) _ i h (λ opcode read-opcode h.
@@ -61,7 +61,7 @@ instr_found routines instrs bytes fits at next i e h =
 -- an instruction that stands there is read
 pub instr_again : (routines instrs : ℕ) (bytes : List ℕ) (at next : ℕ) (i : Instr) (rest : List ℕ) → routines ≤ 2 ^ 16 → instrs ≤ 2 ^ 16 → next ≡ at + 10 → is_instr routines instrs i ≡ true
     → Left bytes at (instr i ++ rest) → (instr_at routines instrs bytes at ≡ Ok i) × Left bytes next rest
-unfolding instr_at
+unfolding instr_at fields_at
 instr_again routines instrs bytes at next i rest few short e legal l =
     let below = is_below routines instrs i legal in
     let fields = operands_of i.opcode in

@@ -11,6 +11,7 @@ use Rattle.geos_image.specs.declared.row.SlotState.{SlotState}
 use Rattle.geos_image.specs.declared.row.SlotState.TheVariants.{Empty, Mem, Vm, Db}
 use Rattle.geos_image.specs.declared.potential.Potential.{Potential}
 use Rattle.geos_image.specs.declared.routine.Routine.{Routine}
+use Rattle.geos_opcodes.specs.declared.opcode.Opcode.{Opcode}
 use Rattle.geos_opcodes.specs.Facts.{opcode_of, operands_of, limit}
 use Rattle.geos_image.specs.declared.point.Point.{Point}
 use Rattle.geos_image.specs.Parts.{Parts, total_count}
@@ -74,12 +75,10 @@ items_at read width (suc n) at = do
   others ← items_at read width n (at + width)
   Ok (first ∷ others)
 
--- an instruction in an image with so many routines and instructions: each field is below its
--- limit
-unfoldable pub instr_at : ℕ → ℕ → List ℕ → ℕ → Result Instr ℕ
-instr_at routines instrs bytes at = do
-  code ← byte_at bytes at
-  opcode ← or_fault at (opcode_of code)
+-- the instruction with the opcode in an image with so many routines and instructions: each field is
+-- below its limit
+unfoldable pub fields_at : ℕ → ℕ → Opcode → List ℕ → ℕ → Result Instr ℕ
+fields_at routines instrs opcode bytes at = do
   a ← byte_below (limit routines instrs (operands_of opcode).a) bytes (at + 1)
   b ← byte_below (limit routines instrs (operands_of opcode).b) bytes (at + 2)
   c ← byte_below (limit routines instrs (operands_of opcode).c) bytes (at + 3)
@@ -88,6 +87,13 @@ instr_at routines instrs bytes at = do
   imm ← word_below (limit routines instrs (operands_of opcode).imm) bytes (at + 6)
   target ← word_below (limit routines instrs (operands_of opcode).target) bytes (at + 8)
   Ok (record { opcode = opcode; a = a; b = b; c = c; d = d; imm = imm; target = target })
+
+-- an instruction: its opcode, and its fields
+unfoldable pub instr_at : ℕ → ℕ → List ℕ → ℕ → Result Instr ℕ
+instr_at routines instrs bytes at = do
+  code ← byte_at bytes at
+  opcode ← or_fault at (opcode_of code)
+  fields_at routines instrs opcode bytes at
 
 -- every state of a slot
 abbrev pub slot_states : List SlotState

@@ -3,7 +3,8 @@
 ghost use Rattle.std.specs.Prelude.{◌≡◌, ℕ, ◌<◌, ◌≤◌, ◌^◌, length, true, IfOk};
 ghost use Rattle.std.specs.List.{list_all};
 ghost use Rattle.geos_image.specs.Legal.{is_instr, LegalWhere};
-ghost use Rattle.geos_image.specs.Reading.{instr_at, items_at, points_at, Gives};
+ghost use Rattle.geos_opcodes.specs.Facts.{limit};
+ghost use Rattle.geos_image.specs.Reading.{byte_below, word_below, fields_at, instr_at, items_at, points_at, Gives};
 
 use crate::error::ReadError;
 use crate::instr::Instr;
@@ -11,24 +12,59 @@ use crate::legal::MOST_INSTRS;
 use crate::point::Point;
 use crate::reader::numbers::{Fault, byte_at, byte_below, word_below};
 use crate::reader::rows::entry_at;
-use geos_opcodes::Opcode;
+use geos_opcodes::{Opcode, Operand};
 use std::alloc::Global;
 
-#[tactic(auto, unfolding(crate::specs::Reading::instr_at))]
-fn instr_at(routines: u32, instrs: u32, bytes: &[u8], at: usize) -> Result<Instr, Fault>
+/// A byte that the operand may have.
+fn byte_of(
+    operand: Operand,
+    routines: u32,
+    instrs: u32,
+    bytes: &[u8],
+    at: usize,
+) -> Result<u8, Fault>
+    ensures exact { result ≡ byte_below (limit routines instrs operand) bytes.now at }
+    ensures legal { IfOk result (λ n. n < limit routines instrs operand) }
+{
+    byte_below(operand.limit(routines, instrs), bytes, at)
+}
+
+/// A word that the operand may have.
+fn word_of(
+    operand: Operand,
+    routines: u32,
+    instrs: u32,
+    bytes: &[u8],
+    at: usize,
+) -> Result<u16, Fault>
+    requires { at < 2 ^ 32 }
+    ensures exact { result ≡ word_below (limit routines instrs operand) bytes.now at }
+    ensures legal { IfOk result (λ n. n < limit routines instrs operand) }
+{
+    word_below(operand.limit(routines, instrs), bytes, at)
+}
+
+/// The instruction with the opcode, whose fields follow.
+#[tactic(auto, unfolding(crate::specs::Reading::fields_at))]
+fn fields_at(
+    opcode: Opcode,
+    routines: u32,
+    instrs: u32,
+    bytes: &[u8],
+    at: usize,
+) -> Result<Instr, Fault>
     requires { at < 2 ^ 31 }
-    ensures exact { result ≡ instr_at routines instrs bytes.now at }
+    ensures exact { result ≡ fields_at routines instrs opcode bytes.now at }
     ensures legal { IfOk result (λ i. is_instr routines instrs i ≡ true) }
 {
-    let opcode = Opcode::from_code(byte_at(bytes, at)?).ok_or(at)?;
     let fields = opcode.operands();
-    let a = byte_below(fields.a.limit(routines, instrs), bytes, at + 1)?;
-    let b = byte_below(fields.b.limit(routines, instrs), bytes, at + 2)?;
-    let c = byte_below(fields.c.limit(routines, instrs), bytes, at + 3)?;
-    let d = byte_below(fields.d.limit(routines, instrs), bytes, at + 4)?;
+    let a = byte_of(fields.a, routines, instrs, bytes, at + 1)?;
+    let b = byte_of(fields.b, routines, instrs, bytes, at + 2)?;
+    let c = byte_of(fields.c, routines, instrs, bytes, at + 3)?;
+    let d = byte_of(fields.d, routines, instrs, bytes, at + 4)?;
     byte_below(1, bytes, at + 5)?;
-    let imm = word_below(fields.imm.limit(routines, instrs), bytes, at + 6)?;
-    let target = word_below(fields.target.limit(routines, instrs), bytes, at + 8)?;
+    let imm = word_of(fields.imm, routines, instrs, bytes, at + 6)?;
+    let target = word_of(fields.target, routines, instrs, bytes, at + 8)?;
     Ok(Instr {
         opcode,
         a,
@@ -38,6 +74,16 @@ fn instr_at(routines: u32, instrs: u32, bytes: &[u8], at: usize) -> Result<Instr
         imm,
         target,
     })
+}
+
+#[tactic(auto, unfolding(crate::specs::Reading::instr_at))]
+fn instr_at(routines: u32, instrs: u32, bytes: &[u8], at: usize) -> Result<Instr, Fault>
+    requires { at < 2 ^ 31 }
+    ensures exact { result ≡ instr_at routines instrs bytes.now at }
+    ensures legal { IfOk result (λ i. is_instr routines instrs i ≡ true) }
+{
+    let opcode = Opcode::from_code(byte_at(bytes, at)?).ok_or(at)?;
+    fields_at(opcode, routines, instrs, bytes, at)
 }
 
 pub(crate) fn instrs_at(
