@@ -1,12 +1,12 @@
--- One more element at the end of a list that keeps a rule.
+-- One more element at the end of a list that keeps a rule, or that is put out.
 use Rattle.std.proofs.Common.{◌≡◌, ◌+◌, Bool, true, false, List, [], ◌∷◌, ◌++◌, ℕ, ◌<◌, length, get_or, take, refl, sym, ap, ◌∙◌, append_assoc}
 use Rattle.std.specs.Prelude.{◌&&◌}
-use Rattle.std.specs.List.{list_all}
+use Rattle.std.specs.List.{list_all, flat_map}
 use Rattle.std.proofs.lemmas.Bool.{and_parts}
 use Rattle.std.proofs.lemmas.List.{append-nil}
 use Rattle.std.proofs.lemmas.List.Folds.{list_all-append}
 use Rattle.std.proofs.lemmas.List.Sums.{sum_by_push}
-use Rattle.std.proofs.lemmas.List.{take_more}
+use Rattle.std.proofs.lemmas.List.{take_more, flat_map_more}
 use Rattle.geos_image.specs.declared.instr.Instr.{Instr}
 use Rattle.geos_image.specs.declared.row.Row.{Row}
 use Rattle.geos_image.specs.declared.potential.Potential.{Potential}
@@ -47,3 +47,10 @@ points-push routines instrs code front k d row potential lt so_far legal h =
     let two = and_parts (list_all p (take k code)) (list_all p (get_or code k d ∷ [])) parts in
     let here = and_parts (p (get_or code k d)) true two.1 in
     list_all-push (is_point routines instrs) front (record { instr = get_or code k d; row = row; potential = potential }) (so_far two.0) (both (p (get_or code k d)) (is_row row) here.0 legal)
+
+-- the bytes of one more element stand behind those of the elements before it
+pub puts-more : {A : Type 0} (f : A → List ℕ) (xs : List A) (k : ℕ) (d : A) (start old new : List ℕ) → k < length xs
+    → old ≡ start ++ flat_map f (take k xs) → new ≡ old ++ f (get_or xs k d) → new ≡ start ++ flat_map f (take (k + 1) xs)
+puts-more f xs k d start old new lt so_far more =
+    more ∙ ap (λ front. front ++ f (get_or xs k d)) so_far ∙ flat_map_more f start (take k xs) (get_or xs k d)
+    ∙ ap (λ front. start ++ flat_map f front) (sym (take_more xs k d lt))

@@ -1,8 +1,11 @@
-use Rattle.std.proofs.Common.{arith}
-use Rattle.std.proofs.lemmas.Grind.{common_steps}
 use Rattle.std.proofs.lemmas.List.Elements.{All-more}
 use Rattle.geos_image.specs.Ranges.{RoutineFits}
+use Rattle.geos_image.specs.Spelling.{routine}
+use Rattle.geos_image.proofs.Pushes.{puts-more}
 use Rattle.geos_image.proofs.writer.put_routines.Goals as goal
 
 pub loop-r-preserved : goal.loop-r-preserved
-loop-r-preserved c = (grind (arith, common_steps), All-more RoutineFits c.args.routines.now c.loop-r.r-index _ c.loop-r-test.true c.loop-r.invariant.1 c.in_ok-put_routine.ensures.fits)
+loop-r-preserved c = (
+  puts-more routine c.args.routines.now c.loop-r.r-index _ _ _ _ c.loop-r-test.true c.loop-r.invariant.0 c.in_ok-put_routine.ensures.value,
+  All-more RoutineFits c.args.routines.now c.loop-r.r-index _ c.loop-r-test.true c.loop-r.invariant.1 c.in_ok-put_routine.ensures.fits,
+)
