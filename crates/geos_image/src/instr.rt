@@ -6,7 +6,7 @@ ghost use Rattle.geos_image.specs.Fields.{value_at};
 use geos_opcodes::{Field, Opcode};
 
 /// An instruction. `Opcode::operands` says what each field holds; unused fields are 0.
-#[derive(Clone, Copy, Debug, PartialEq, Eq)]
+#[derive(Clone, Copy)]
 pub struct Instr {
     pub opcode: Opcode,
     pub a: u8,

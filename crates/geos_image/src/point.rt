@@ -5,7 +5,7 @@ use crate::potential::Potential;
 use crate::row::Row;
 
 /// A program point: an instruction, and what the verifier is told at it.
-#[derive(Clone, Copy, Debug, PartialEq, Eq)]
+#[derive(Clone, Copy)]
 pub struct Point {
     pub instr: Instr,
     /// What is known of the registers before the instruction.

@@ -2,7 +2,7 @@
 
 /// A bound on the steps that are left before an instruction: the constant, and each
 /// coefficient times its counter.
-#[derive(Clone, Copy, Debug, PartialEq, Eq)]
+#[derive(Clone, Copy)]
 pub struct Potential {
     pub constant: u32,
     /// Of the counters k0 to k3.
