@@ -4,7 +4,7 @@
 //! indexes `i`; offsets `at` and lengths `n` are in bytes.
 
 /// A call that changes chunks, and answers nothing.
-#[derive(Clone, Copy, Debug, PartialEq, Eq)]
+#[derive(Clone, Copy)]
 pub enum Change {
     /// Frees a chunk.
     Lfree { c: u16 },
@@ -29,7 +29,7 @@ pub enum Change {
 }
 
 /// A call that makes a chunk, and answers its handle.
-#[derive(Clone, Copy, Debug, PartialEq, Eq)]
+#[derive(Clone, Copy)]
 pub enum Make {
     /// Makes a chunk of so many zero bytes.
     Lalloc { n: u16 },
@@ -39,7 +39,7 @@ pub enum Make {
 }
 
 /// A call that tells a number of chunks.
-#[derive(Clone, Copy, Debug, PartialEq, Eq)]
+#[derive(Clone, Copy)]
 pub enum Ask {
     /// Tells the length of a chunk.
     Lsize { c: u16 },
@@ -48,7 +48,7 @@ pub enum Ask {
 }
 
 /// A call that refers to bytes of a chunk, which must be `n` at least.
-#[derive(Clone, Copy, Debug, PartialEq, Eq)]
+#[derive(Clone, Copy)]
 pub enum Refer {
     /// Refers to a chunk.
     Deref { c: u16, n: u16 },
