@@ -1,5 +1,5 @@
 -- What the edges of code whose edges all lead ahead ask for.
-use Rattle.std.proofs.Common.{◌≡◌, ◌≢◌, ℕ, zero, suc, ◌+◌, ◌*◌, ◌<◌, Bool, true, false, List, [], length, Option, Some, None, slice_get, get_or, set, refl, sym, ap, ◌∙◌, subst, arith}
+use Rattle.std.proofs.Common.{◌≡◌, ◌≢◌, ℕ, zero, suc, ◌+◌, ◌*◌, ◌<◌, Bool, true, false, List, [], length, Option, Some, None, slice_get, get_or, set, refl, sym, ap, ◌∙◌, subst, arith, rules}
 use Rattle.std.specs.Prelude.{◌&&◌, nat_lt, max, IfSome, if◌then◌else◌}
 use Rattle.std.proofs.lemmas.Bool.{and_parts, ltb-true, false≢true}
 use Rattle.std.proofs.lemmas.Option.{same_Some, none-some}
@@ -17,7 +17,7 @@ use Rattle.geos_verify.specs.Touched.{calls}
 use Rattle.geos_verify.specs.Potentials.{asks, asks_setting, asked_along, asked_branching, budget_of}
 use Rattle.geos_verify.proofs.Places.{item_at, if_some}
 use Rattle.geos_infer.specs.declared.edges.Edge.{Edge}
-use Rattle.geos_infer.specs.Causes.{is_loop}
+use Rattle.geos_infer.specs.Causes.{is_loop, loops_on, PassesAt}
 use Rattle.geos_infer.specs.Code.{ForwardIn, IsPcOf, edge_end}
 use Rattle.geos_infer.specs.Edges.{leads_ahead, edge_of, edge_ahead}
 use Rattle.geos_infer.specs.Numbers.{Numbers, zeros}
@@ -140,6 +140,15 @@ no-loop image r forward pc i within lt there =
     let found = item_at image.points pc lt in
     let same : i ≡ found.0.instr = if_some (λ point. i ≡ point.instr) (slice_get image.points pc) found.0 found.1 there in
     forward.no_loop pc i within (code-at image pc found.0 found.1 ∙ ap (λ (x : Instr). Some x) (sym same))
+
+-- a LOOP is one on its own counter
+pub loops-at : (image : Parts) (pc : ℕ) (i : Instr) → pc < length image.points → IfSome (slice_get image.points pc) (λ point. i ≡ point.instr) → is_loop i.opcode ≡ true → PassesAt image pc (λ x. loops_on i.a x x.opcode)
+loops-at image pc i lt there is =
+    let found = item_at image.points pc lt in
+    let same : i ≡ found.0.instr = if_some (λ point. i ≡ point.instr) (slice_get image.points pc) found.0 found.1 there in
+    let own : loops_on i.a i Loop ≡ true = search rules in
+    let on : loops_on i.a i i.opcode ≡ true = subst (λ (o : Opcode). loops_on i.a i o ≡ true) (sym (loop-only i.opcode is)) own in
+    (found.0, found.1, subst (λ (x : Instr). loops_on i.a x x.opcode ≡ true) same on)
 
 -- Both edges of an instruction
 

@@ -1,7 +1,8 @@
 -- Lists that are made item after item from the routines and points of an image.
-use Rattle.std.proofs.Common.{◌≡◌, ◌∙◌, ◌<◌, ◌≤◌, ℕ, zero, suc, ◌+◌, List, [], ◌∷◌, ◌++◌, length, take, replicate, Option, Some, None, true, slice_get, refl, sym, ap, subst, add-one, arith}
+use Rattle.std.proofs.Common.{◌≡◌, ◌∙◌, ◌<◌, ◌≤◌, ℕ, zero, suc, ◌+◌, List, [], ◌∷◌, ◌++◌, length, take, replicate, Option, Some, true, slice_get, get_or, set, refl, sym, ap, subst, add-one, arith, inl, inr}
 use Rattle.std.specs.Prelude.{IfSome, slice_index, slice_index_or}
-use Rattle.std.proofs.lemmas.List.{length-append, length-replicate, take_all}
+use Rattle.std.proofs.lemmas.Bool.{cases_eq}
+use Rattle.std.proofs.lemmas.List.{get_or-set_same, get_or-set_other, length-append, length-replicate, replicate_more, take_all}
 use Rattle.std.proofs.lemmas.Option.{slice_get_within}
 use Rattle.geos_image.specs.declared.instr.Instr.{Instr}
 use Rattle.geos_image.specs.declared.point.Point.{Point}
@@ -14,26 +15,30 @@ use Rattle.geos_infer.specs.Numbers.{Numbers}
 use Rattle.geos_infer.specs.Points.{PointsOf, RoutinesOf}
 use borrow.Author.Count.{below_more}
 
--- Nothing known
+-- The same item everywhere
 
-one_more : {A : Type 0} (n : ℕ) (x : A) → replicate n x ++ x ∷ [] ≡ replicate (suc n) x
-one_more zero x = refl
-one_more (suc n) x = ap (λ xs. x ∷ xs) (one_more n x)
+module _ {A : Type 0} (x : A) where
+  pub same-more : (items next : List A) (n : ℕ) → items ≡ replicate n x → next ≡ items ++ x ∷ [] → next ≡ replicate (n + 1) x
+  same-more items next n e more = more ∙ ap (λ (xs : List A). xs ++ x ∷ []) e ∙ replicate_more n x
 
-module _ {A : Type 0} where
-  pub nothing-more : (known next : List (Option A)) (n : ℕ) → known ≡ replicate n None → next ≡ known ++ None ∷ [] → next ≡ replicate (n + 1) None
-  nothing-more known next n e more = rw add-one (more ∙ (ap (λ (xs : List (Option A)). xs ++ None ∷ []) e ∙ one_more n None))
+  pub same-length : (items : List A) (n : ℕ) → items ≡ replicate n x → length items ≡ n
+  same-length items n e = ap length e ∙ length-replicate n x
 
-  pub nothing-length : (known : List (Option A)) (n : ℕ) → known ≡ replicate n None → length known ≡ n
-  nothing-length known n e = ap length e ∙ length-replicate n None
+  copy_at : (n pc : ℕ) → get_or (replicate n x) pc x ≡ x
+  copy_at zero pc = refl
+  copy_at (suc n) zero = refl
+  copy_at (suc n) (suc pc) = copy_at n pc
 
-  none_at : (n pc : ℕ) → (λ (xs : List (Option A)). slice_index_or xs pc None ≡ None) (replicate n None)
-  none_at zero pc = refl
-  none_at (suc n) zero = refl
-  none_at (suc n) (suc pc) = none_at n pc
+  pub same-at : (items : List A) (n pc : ℕ) → items ≡ replicate n x → get_or items pc x ≡ x
+  same-at items n pc e = ap (λ (xs : List A). get_or xs pc x) e ∙ copy_at n pc
 
-  pub nothing-known : (known : List (Option A)) (n pc : ℕ) → known ≡ replicate n None → slice_index_or known pc None ≡ None
-  nothing-known known n pc e = ap (λ (xs : List (Option A)). slice_index_or xs pc None) e ∙ none_at n pc
+  -- it is at one more place
+  pub filled-more : (items : List A) (low pc : ℕ) → pc < length items → ((k : ℕ) (other : A) → low ≤ k → k < pc → get_or items k other ≡ x)
+      → (k : ℕ) (other : A) → low ≤ k → k < pc + 1 → get_or (set items pc x) k other ≡ x
+  filled-more items low pc within filled k other above below = elim (cases_eq k pc) [
+    | inl same ↦ ap (λ (n : ℕ). get_or (set items pc x) n other) same ∙ get_or-set_same items pc x other within
+    | inr ne ↦ get_or-set_other items pc k x other ne ∙ filled k other above (omega arith)
+  ]
 
 -- Routines
 

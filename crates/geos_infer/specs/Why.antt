@@ -10,8 +10,6 @@ use Rattle.geos_infer.specs.Joins.{agree}
 use Rattle.geos_infer.specs.declared.edges.Edge.{Edge}
 use Rattle.geos_infer.specs.declared.apart.Coming.{Coming}
 use Rattle.geos_infer.specs.declared.apart.Apart.{Apart}
-use Rattle.geos_infer.specs.declared.apart.Went.{Went}
-use Rattle.geos_infer.specs.declared.apart.Went.TheVariants as went
 use Rattle.geos_infer.specs.Flow.{known_at}
 
 -- the instruction at a pc has an edge to another
@@ -64,8 +62,3 @@ AllCome image r known = (pc : ℕ) (row : Row) → known_at known pc ≡ Some ro
 pub record IsUnlike (image : Parts) (r to : ℕ) (row : Row) (coming : Coming) : Type 0 where
   pub is_coming : IsComing image r to coming
   pub differ : agree coming.row row ≡ false
-
--- if ways were found to meet with slots that differ, they do
-abbrev pub IsWent : Parts → ℕ → Went → Type 0
-IsWent image r (went.On further) = Unit {0}
-IsWent image r (went.Apart apart) = AreApart image r apart

@@ -1,15 +1,14 @@
 //! Where ways of control meet with slots that differ.
 
-ghost use Rattle.std.specs.Prelude.{◌≡◌, ◌<◌, IfSome, IfOk};
+ghost use Rattle.std.specs.Prelude.{◌≡◌, ◌<◌, IfSome, IfOk, IfErr};
 ghost use Rattle.geos_infer.specs.Flow.{known_at};
 ghost use Rattle.geos_infer.specs.Code.{IsPcOf};
-ghost use Rattle.geos_infer.specs.Why.{LeadsTo, ComesBy, IsUnlike, IsWent, AreApartIf, AllCome};
+ghost use Rattle.geos_infer.specs.Why.{LeadsTo, ComesBy, IsUnlike, AreApartIf, AllCome};
 
 use crate::body::Body;
 use crate::common::agree;
 use crate::edges::{Edge, edge_end};
-use crate::known::Known;
-use crate::table::Table;
+use crate::table::Known;
 use geos_image::Row;
 use geos_verify::{after, has_edge};
 use std::alloc::{AllocError, Global};
@@ -77,22 +76,7 @@ fn bring(body: &Body, known: &Known, pc: u16, branch: bool) -> Option<Brought>
     }
 }
 
-/// How the routine's beginning brings its entry row to the same place as another row, with slots that differ.
-fn entry_unlike(body: &Body, other: &Brought) -> Option<Coming>
-    ensures { IfSome result (λ coming. IsUnlike body.now.image.now body.now.r other.now.edge.to other.now.row coming) }
-{
-    let entry = body.image.routine(body.r).entry;
-    if other.edge.to == body.start && !agree(&entry, &other.row) {
-        Some(Coming {
-            from: None,
-            row: entry,
-        })
-    } else {
-        None
-    }
-}
-
-/// How an edge does so.
+/// How an edge brings a row to the same place as another row, with slots that differ.
 fn edge_unlike(body: &Body, known: &Known, pc: u16, branch: bool, other: &Brought) -> Option<Coming>
     requires here { pc < body.now.end }
     requires come { AllCome body.now.image.now body.now.r known.now }
@@ -109,13 +93,17 @@ fn edge_unlike(body: &Body, known: &Known, pc: u16, branch: bool, other: &Brough
     }
 }
 
-/// The first way on which control does so.
+/// The first way on which control comes so: where the routine begins, or along an edge.
 fn first_unlike(body: &Body, known: &Known, other: &Brought) -> Option<Coming>
     requires { AllCome body.now.image.now body.now.r known.now }
     ensures { IfSome result (λ coming. IsUnlike body.now.image.now body.now.r other.now.edge.to other.now.row coming) }
 {
-    if let Some(coming) = entry_unlike(body, other) {
-        return Some(coming);
+    let entry = body.image.routine(body.r).entry;
+    if other.edge.to == body.start && !agree(&entry, &other.row) {
+        return Some(Coming {
+            from: None,
+            row: entry,
+        });
     }
     for pc in body.start..body.end {
         if let Some(coming) = edge_unlike(body, known, pc, false, other) {
@@ -128,121 +116,71 @@ fn first_unlike(body: &Body, known: &Known, other: &Brought) -> Option<Coming>
     None
 }
 
-/// What came of going along edges.
-enum Went {
-    /// Nothing new, or rows are known at more places.
-    On(bool),
-    /// Ways meet with slots that differ.
-    Apart(Apart),
-}
-
-/// A row comes to a place: it is known there now, and waits to go on, unless one was; slots may differ.
-fn come(body: &Body, known: &mut Known, waits: &mut Table<bool>, brought: &Brought) -> Went
-    requires by { ComesBy body.now.image.now body.now.r brought.now.edge brought.now.row }
-    requires inside { brought.now.edge.to < 4096 }
-    requires come { AllCome body.now.image.now body.now.r known.old }
-    ensures come { AllCome body.now.image.now body.now.r known.new }
-    ensures apart { IsWent body.now.image.now body.now.r result }
+/// A place where the row that an edge brings has slots that differ from those on another way.
+fn apart_at(body: &Body, known: &Known, edge: Edge) -> Option<Apart>
+    requires here { edge.pc < body.now.end }
+    requires come { AllCome body.now.image.now body.now.r known.now }
+    ensures { AreApartIf body.now.image.now body.now.r result }
 {
-    let to = brought.edge.to;
-    let Some(old) = known.at(to) else {
-        known.set(to, Some(brought.row));
-        waits.set(to, true);
-        return Went::On(true);
-    };
-    if agree(&old, &brought.row) {
-        return Went::On(false);
-    }
-    match first_unlike(body, known, brought) {
-        Some(first) => Went::Apart(Apart {
-            to,
-            first,
-            second: Coming {
-                from: Some(brought.edge),
-                row: brought.row,
-            },
-        }),
-        None => Went::On(false),
-    }
-}
-
-/// What is known at a pc goes along an edge.
-fn go(body: &Body, known: &mut Known, waits: &mut Table<bool>, pc: u16, branch: bool) -> Went
-    requires here { pc < body.now.end }
-    requires come { AllCome body.now.image.now body.now.r known.old }
-    ensures come { AllCome body.now.image.now body.now.r known.new }
-    ensures apart { IsWent body.now.image.now body.now.r result }
-{
-    match bring(body, known, pc, branch) {
-        Some(brought) => come(body, known, waits, &brought),
-        None => Went::On(false),
-    }
-}
-
-/// What is known at a pc goes along its edges, if it waits.
-fn go_on(body: &Body, known: &mut Known, waits: &mut Table<bool>, pc: u16) -> Went
-    requires here { pc < body.now.end }
-    requires come { AllCome body.now.image.now body.now.r known.old }
-    ensures come { AllCome body.now.image.now body.now.r known.new }
-    ensures apart { IsWent body.now.image.now body.now.r result }
-{
-    if !waits.at(pc) {
-        return Went::On(false);
-    }
-    waits.set(pc, false);
-    match go(body, known, waits, pc, false) {
-        Went::On(next) => match go(body, known, waits, pc, true) {
-            Went::On(target) => Went::On(next || target),
-            Went::Apart(apart) => Went::Apart(apart),
+    let second = bring(body, known, edge.pc, edge.branch)?;
+    let first = first_unlike(body, known, &second)?;
+    Some(Apart {
+        to: second.edge.to,
+        first,
+        second: Coming {
+            from: Some(second.edge),
+            row: second.row,
         },
-        Went::Apart(apart) => Went::Apart(apart),
+    })
+}
+
+/// What is known at a pc goes along an edge: a row is known at the place where that leads now, whether one was or not. Whether
+/// that is new; `Err` where slots differ.
+fn go(body: &Body, known: &mut Known, pc: u16, branch: bool) -> Result<bool, Edge>
+    requires here { pc < body.now.end }
+    requires come { AllCome body.now.image.now body.now.r known.old }
+    ensures come { AllCome body.now.image.now body.now.r known.new }
+    ensures inside { IfErr result (λ edge. edge.pc < body.now.end) }
+{
+    let Some(brought) = bring(body, known, pc, branch) else {
+        return Ok(false);
+    };
+    let to = brought.edge.to;
+    match known.at(to) {
+        None => {
+            known.set(to, Some(brought.row));
+            Ok(true)
+        }
+        Some(old) if agree(&old, &brought.row) => Ok(false),
+        Some(_) => Err(Edge { pc, branch, to }),
     }
 }
 
-/// All that waits goes on, once.
-fn go_all(body: &Body, known: &mut Known, waits: &mut Table<bool>) -> Went
+/// The same along each edge of the routine, once.
+fn go_all(body: &Body, known: &mut Known) -> Result<bool, Edge>
     requires { AllCome body.now.image.now body.now.r known.old }
     ensures come { AllCome body.now.image.now body.now.r known.new }
-    ensures apart { IsWent body.now.image.now body.now.r result }
+    ensures inside { IfErr result (λ edge. edge.pc < body.now.end) }
 {
     let mut further = false;
     for pc in body.start..body.end {
-        match go_on(body, known, waits, pc) {
-            Went::On(new) => further |= new,
-            Went::Apart(apart) => return Went::Apart(apart),
-        }
+        further |= go(body, known, pc, false)?;
+        further |= go(body, known, pc, true)?;
     }
-    Went::On(further)
-}
-
-/// The entry row where the routine begins.
-fn entry_known(alloc: Global, body: &Body) -> Result<Known, AllocError>
-    ensures { IfOk result (λ known. AllCome body.now.image.now body.now.r known) }
-{
-    let mut known = Known::new(alloc)?;
-    if body.start < 4096 {
-        known.set(body.start, Some(body.image.routine(body.r).entry));
-    }
-    Ok(known)
+    Ok(further)
 }
 
 /// The first place that is found to which control comes on two ways, with slots that differ in more than marks.
 pub(crate) fn find_apart(alloc: Global, body: &Body) -> Result<Option<Apart>, AllocError>
     ensures { IfOk result (AreApartIf body.now.image.now body.now.r) }
 {
-    let mut known = entry_known(alloc, body)?;
-    let mut waits = Table::new(alloc, false)?;
-    if body.start < 4096 {
-        waits.set(body.start, true);
-    }
+    let mut known = Known::new(alloc, None)?;
+    known.set(body.start, Some(body.image.routine(body.r).entry));
     for _ in body.start..body.end {
-        match go_all(body, &mut known, &mut waits) {
-            Went::Apart(apart) => return Ok(Some(apart)),
-            Went::On(further) => {
-                if !further {
-                    return Ok(None);
-                }
-            }
+        match go_all(body, &mut known) {
+            Ok(true) => {}
+            Ok(false) => break,
+            Err(edge) => return Ok(apart_at(body, &known, edge)),
         }
     }
     Ok(None)

@@ -1,17 +1,16 @@
 //! The edges of a routine with what they cost, and what they do to counters.
 
-ghost use Rattle.std.specs.Prelude.{◌≡◌, ◌<◌, IfSome};
+ghost use Rattle.std.specs.Prelude.{◌≡◌, ◌<◌, ◌≤◌};
 ghost use Rattle.geos_image.specs.Fields.{FieldsFit, CalleeFits};
+ghost use Rattle.geos_infer.specs.Taken.{taken_at};
 
 use crate::body::Body;
 use crate::edges::{Edge, edge_in};
 use crate::flow::row_of;
-use crate::known::Known;
 use crate::spent::touched_by;
-use crate::table::Table;
+use crate::table::Known;
 use geos_image::{Opcode, Row};
 use geos_verify::Touched;
-use std::alloc::{AllocError, Global};
 
 /// What an edge does to counters.
 #[derive(Clone, Copy, PartialEq, Eq)]
@@ -72,58 +71,33 @@ fn counting_over(body: &Body, known: &Known, touched: &Touched, edge: Edge) -> C
     }
 }
 
-/// The step of the instruction at a pc, and the budget of the routine that it calls.
-fn steps_of(body: &Body, pc: u16) -> u64
+/// What the instruction at a pc takes: a step, and the budget of the routine that it calls.
+pub(crate) fn taken_at(body: &Body, pc: u16) -> u64
     requires { pc < body.now.end }
+    ensures value { result ≡ taken_at body.now.image.now pc }
+    ensures small { result ≤ 4294967296 }
 {
     let i = body.image.instr(pc);
     match i.opcode {
-        Opcode::Call => u64::from(body.image.routine(i.imm).budget) + 1,
+        Opcode::Call => 1 + u64::from(body.image.routine(i.imm).budget),
         _ => 1,
     }
 }
 
 /// The edge of the instruction at a pc, if it stays in the routine.
-fn arc_of(body: &Body, known: &Known, touched: &Touched, pc: u16, branch: bool) -> Option<Arc>
+pub(crate) fn arc_of(
+    body: &Body,
+    known: &Known,
+    touched: &Touched,
+    pc: u16,
+    branch: bool,
+) -> Option<Arc>
     requires { pc < body.now.end }
 {
     let edge = edge_in(body, pc, branch)?;
     Some(Arc {
         to: edge.to,
-        steps: steps_of(body, pc),
+        steps: taken_at(body, pc),
         counting: counting_over(body, known, touched, edge),
     })
-}
-
-/// The edges of a routine, by the pc that they lead from.
-#[derive(Drop)]
-pub(crate) struct Arcs {
-    /// The one to the next instruction, and the one to the target.
-    both: Table<[Option<Arc>; 2]>,
-}
-
-impl Arcs {
-    /// No edges.
-    pub(crate) fn new(alloc: Global) -> Result<Arcs, AllocError> {
-        Ok(Arcs {
-            both: Table::new(alloc, [None, None])?,
-        })
-    }
-
-    /// The edge from a pc, to the target where `branch` says so.
-    pub(crate) fn at(&self, pc: u16, branch: bool) -> Option<Arc>
-        requires { pc < 4096 }
-    {
-        let [along, branching] = self.both.at(pc);
-        if branch { branching } else { along }
-    }
-
-    /// Notes the edges of a routine.
-    pub(crate) fn note(&mut self, body: &Body, known: &Known, touched: &Touched) {
-        for pc in body.start..body.end {
-            let along = arc_of(body, known, touched, pc, false);
-            let branching = arc_of(body, known, touched, pc, true);
-            self.both.set(pc, [along, branching]);
-        }
-    }
 }

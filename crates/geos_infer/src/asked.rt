@@ -8,8 +8,8 @@ ghost use Rattle.geos_infer.specs.Count.{asked_steps, asked_coefficients, return
 use crate::body::Body;
 use crate::edges::edge_in;
 use crate::flow::row_of;
-use crate::known::Known;
 use crate::potentials::Potentials;
+use crate::table::Known;
 use geos_image::{Instr, Opcode, Potential};
 use geos_verify::{Asked, asked_along, asked_branching};
 

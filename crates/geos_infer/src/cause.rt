@@ -1,19 +1,18 @@
 //! Why no rows or no numbers of steps are found for a routine.
 
 ghost use Rattle.std.specs.Prelude.{◌≡◌, ◌<◌, ◌≤◌, ℕ, true, false, Some, length, slice_get, IfSome, IfOk};
-ghost use Rattle.geos_infer.specs.Causes.{LeadsBack, GoesRound, PassesAt, loops_on, sets_counter, calls_touching, NotesTouched, LoopsBack, SetsWithin, TouchesWithin, Holds};
+ghost use Rattle.geos_infer.specs.Causes.{LeadsBack, GoesRound, PassesAt, sets_counter, calls_touching, NotesTouched, LoopsBack, SetsWithin, TouchesWithin, Holds};
 ghost use Rattle.geos_image.specs.declared.point.Point.{Point};
 
-use crate::apart::{Apart, find_apart};
+use crate::apart::{Apart, find_apart, lead};
 use crate::body::{Body, body_of};
-use crate::cycles::has_unpaid_cycle;
-use crate::edges::edge_end;
+use crate::edges::is_loop;
 use crate::spent::{find_touched, touches};
 use crate::table::Table;
 use crate::turns::steps_pass;
-use crate::unpaid::find_round;
+use crate::unpaid::{WaysIn, find_round};
 use geos_image::{Image, Instr, Opcode};
-use geos_verify::{Touched, has_edge};
+use geos_verify::Touched;
 use std::alloc::{AllocError, Global};
 
 /// An edge that leads back.
@@ -61,12 +60,8 @@ fn back_at(body: &Body, from: u16) -> Option<BackWay>
     ensures leads { IfSome result (LeadsBack body.now.image.now body.now.r) }
     ensures here { IfSome result (λ back. back.from ≡ from) }
 {
-    let i = body.image.instr(from);
-    if !has_edge(i, true) {
-        return None;
-    }
-    let to = edge_end(from, i, true);
-    if body.start <= to && to <= from {
+    let to = lead(body, from, true)?;
+    if to <= from {
         Some(BackWay { from, to })
     } else {
         None
@@ -77,15 +72,8 @@ fn back_at(body: &Body, from: u16) -> Option<BackWay>
 fn unpaid_back(alloc: Global, body: &Body) -> Result<Option<BackWay>, AllocError>
     ensures { IfOk result (λ back. IfSome back (λ back. GoesRound body.now.image.now body.now.r back.from back.to)) }
 {
-    let mut into = Table::new(alloc, 0)?;
-    let mut listed = Table::new(alloc, 0)?;
-    if !has_unpaid_cycle(body, &mut into, &mut listed) {
-        return Ok(None);
-    }
-    match find_round(alloc, body, &into)? {
-        Some((from, to)) => Ok(Some(BackWay { from, to })),
-        None => Ok(None),
-    }
+    let mut into = Table::new(alloc, WaysIn::with_left(0))?;
+    Ok(find_round(body, &mut into))
 }
 
 /// The first way that leads back.
@@ -125,52 +113,18 @@ fn find_setting(body: &Body, counter: u8, from: u16, to: u16) -> Option<u16>
     None
 }
 
-/// Whether the instruction is a LOOP on the counter.
-fn loops_on(counter: u8, i: &Instr) -> bool
-    ensures { result ≡ loops_on counter i.now i.now.opcode }
-{
-    match i.opcode {
-        Opcode::Loop => i.a == counter,
-        _ => false,
-    }
-}
-
-/// The same of the instruction at a pc.
-fn loops_at(body: &Body, counter: u8, from: u16) -> bool
-    requires { from < body.now.end }
-    ensures { result ≡ true → PassesAt body.now.image.now from (λ i. loops_on counter i i.opcode) }
-{
-    loops_on(counter, body.image.instr(from))
-}
-
 /// The way back of the LOOP at a pc, and its counter.
 fn loop_back(body: &Body, from: u16) -> Option<(BackWay, u8)>
     requires { from < body.now.end }
     ensures loops { IfSome result (λ both. LoopsBack body.now.image.now body.now.r both.0 both.1) }
     ensures here { IfSome result (λ both. both.0.from ≡ from) }
 {
-    let counter = body.image.instr(from).a;
-    if !loops_at(body, counter, from) {
+    let i = body.image.instr(from);
+    if !is_loop(i.opcode) {
         return None;
     }
-    match back_at(body, from) {
-        Some(back) => Some((back, counter)),
-        None => None,
-    }
-}
-
-/// Where the counter of the LOOP at a pc is set within its loop.
-fn set_within(body: &Body, from: u16) -> Option<Within>
-    requires { from < body.now.end }
-    ensures { IfSome result (SetsWithin body.now.image.now body.now.r) }
-{
-    let Some((back, counter)) = loop_back(body, from) else {
-        return None;
-    };
-    match find_setting(body, counter, back.to, back.from) {
-        Some(at) => Some(Within { back, counter, at }),
-        None => None,
-    }
+    let back = back_at(body, from)?;
+    Some((back, i.a))
 }
 
 /// The first counter that is set within its loop.
@@ -178,8 +132,10 @@ fn find_set_within(body: &Body) -> Option<Within>
     ensures { IfSome result (SetsWithin body.now.image.now body.now.r) }
 {
     for from in body.start..body.end {
-        if let Some(within) = set_within(body, from) {
-            return Some(within);
+        if let Some((back, counter)) = loop_back(body, from) {
+            if let Some(at) = find_setting(body, counter, back.to, back.from) {
+                return Some(Within { back, counter, at });
+            }
         }
     }
     None
@@ -214,29 +170,16 @@ fn find_touching(body: &Body, touched: &Touched, counter: u8, from: u16, to: u16
     None
 }
 
-/// Where a routine is called within the loop of the LOOP at a pc that touches its counter.
-fn touched_within(body: &Body, touched: &Touched, from: u16) -> Option<Within>
-    requires here { from < body.now.end }
-    requires touched { NotesTouched body.now.image.now touched.now }
-    ensures { IfSome result (TouchesWithin body.now.image.now body.now.r) }
-{
-    let Some((back, counter)) = loop_back(body, from) else {
-        return None;
-    };
-    match find_touching(body, touched, counter, back.to, back.from) {
-        Some(at) => Some(Within { back, counter, at }),
-        None => None,
-    }
-}
-
 /// The first counter that a call within its loop touches.
 fn find_touched_within(body: &Body, touched: &Touched) -> Option<Within>
     requires { NotesTouched body.now.image.now touched.now }
     ensures { IfSome result (TouchesWithin body.now.image.now body.now.r) }
 {
     for from in body.start..body.end {
-        if let Some(within) = touched_within(body, touched, from) {
-            return Some(within);
+        if let Some((back, counter)) = loop_back(body, from) {
+            if let Some(at) = find_touching(body, touched, counter, back.to, back.from) {
+                return Some(Within { back, counter, at });
+            }
         }
     }
     None

@@ -36,7 +36,7 @@ fn costly_behind(arc: &Arc, here: &[bool; 4]) -> [bool; 4] {
 fn go_along(ways: &mut Ways, pc: u16, branch: bool) -> bool
     requires { pc < 4096 }
 {
-    let Some(arc) = ways.arcs.at(pc, branch) else {
+    let Some(arc) = ways.arc(pc, branch) else {
         return false;
     };
     let Costs { costly: old, free } = ways.costs.at(arc.to);

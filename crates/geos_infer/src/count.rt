@@ -13,16 +13,15 @@ use crate::costly::note_costly;
 use crate::cycles::has_unpaid_cycle;
 use crate::edges::{is_loop, leads_back};
 use crate::error::InferError;
-use crate::known::Known;
 use crate::paid::are_paid;
 use crate::potentials::Potentials;
 use crate::spent::{calls_are_spent, find_touched};
-use crate::table::Table;
+use crate::table::Known;
 use crate::units::find_units;
 use crate::ways::Ways;
 use geos_image::{Image, Potential};
 use geos_verify::Touched;
-use std::alloc::{AllocError, Global};
+use std::alloc::Global;
 
 /// Steps of a routine are counted from its last instruction to its first; `None` where a number is
 /// past what a potential can say.
@@ -38,43 +37,16 @@ fn sweep(body: &Body, known: &Known, potentials: &mut Potentials) -> Option<()>
     Some(())
 }
 
-/// Whether the instruction at a pc is a LOOP, or leads back.
-fn loops_at(body: &Body, pc: u16) -> bool
-    requires above { body.now.start ≤ pc }
-    requires below { pc < body.now.end }
-    ensures { ForwardIn body.now.image.now body.now.r → result ≡ false }
-{
-    is_loop(body.image.instr(pc).opcode) || leads_back(body, pc)
-}
-
-/// Whether some instruction of a routine does.
+/// Whether some instruction of a routine is a LOOP, or leads back.
 fn has_loops(body: &Body) -> bool
     ensures { ForwardIn body.now.image.now body.now.r → result ≡ false }
 {
     for pc in body.start..body.end {
-        if loops_at(body, pc) {
+        if is_loop(body.image.instr(pc).opcode) || leads_back(body, pc) {
             return true;
         }
     }
     false
-}
-
-/// Tables that counting writes.
-#[derive(Drop)]
-struct Tables {
-    into: Table<u16>,
-    listed: Table<u16>,
-    ways: Ways,
-}
-
-impl Tables {
-    fn new(alloc: Global) -> Result<Tables, AllocError> {
-        Ok(Tables {
-            into: Table::new(alloc, 0)?,
-            listed: Table::new(alloc, 0)?,
-            ways: Ways::new(alloc)?,
-        })
-    }
 }
 
 /// The potentials of a routine are the steps of the longest ways, and what units pay for; `false` where a number is past
@@ -102,16 +74,16 @@ fn count_loops(
     body: &Body,
     known: &Known,
     touched: &Touched,
-    tables: &mut Tables,
+    ways: &mut Ways,
     potentials: &mut Potentials,
 ) -> bool {
-    if has_unpaid_cycle(body, &mut tables.into, &mut tables.listed) {
+    if has_unpaid_cycle(body, &mut ways.into) {
         return false;
     }
-    tables.ways.arcs.note(body, known, touched);
-    note_costly(body, &mut tables.ways);
-    find_units(body, &mut tables.ways)
-        && put_ways(body, &tables.ways, potentials)
+    ways.note(body, known, touched);
+    note_costly(body, ways);
+    find_units(body, ways)
+        && put_ways(body, ways, potentials)
         && are_paid(body, known, potentials)
         && calls_are_spent(body, touched, potentials)
 }
@@ -121,13 +93,13 @@ fn count_in(
     body: &Body,
     known: &Known,
     touched: &Touched,
-    tables: &mut Tables,
+    ways: &mut Ways,
     potentials: &mut Potentials,
 ) -> bool
     ensures { CountsOn body.now.image.now body.now.r potentials.old potentials.new result }
 {
     if has_loops(body) {
-        count_loops(body, known, touched, tables, potentials)
+        count_loops(body, known, touched, ways, potentials)
     } else {
         sweep(body, known, potentials).is_some()
     }
@@ -139,7 +111,7 @@ fn count_all(
     image: &Image,
     routines: u16,
     known: &Known,
-    tables: &mut Tables,
+    ways: &mut Ways,
     potentials: &mut Potentials,
 ) -> Option<u16>
     requires { routines ≤ length image.now.routines }
@@ -150,28 +122,11 @@ fn count_all(
     let touched = find_touched(image);
     let mut left = None;
     for r in (0..routines).rev() {
-        if !count_in(&body_of(image, r), known, &touched, tables, potentials) {
+        if !count_in(&body_of(image, r), known, &touched, ways, potentials) {
             left = Some(r);
         }
     }
     left
-}
-
-/// Counts as `count_all` does, with tables that are made for it.
-fn count_with_tables(
-    alloc: Global,
-    image: &Image,
-    routines: u16,
-    known: &Known,
-    potentials: &mut Potentials,
-) -> Result<Option<u16>, AllocError>
-    requires { routines ≤ length image.now.routines }
-    ensures counted { IfOk result (λ _. AreCounted image.now 0 routines potentials.new) }
-    ensures within { IfOk result (λ left. IfSome left (λ r. r < routines)) }
-    ensures none { IfOk result (λ left. IfSome left (NoStepsHoldIn image.now)) }
-{
-    let mut tables = Tables::new(alloc)?;
-    Ok(count_all(image, routines, known, &mut tables, potentials))
 }
 
 /// Enough steps at each instruction, and coefficients, where so many routines have rows. `NoRows`
@@ -188,12 +143,14 @@ pub(crate) fn count(
     ensures within { IfErr result (NamesRoutine image.now) }
     ensures none { IfErr result (λ error. (r : ℕ) → error ≡ NoRows r → (r ≡ routines) ⊎ NoStepsHoldIn image.now r) }
 {
-    let all = image.count();
     let mut potentials = Potentials::new(alloc)?;
-    let left = count_with_tables(alloc, image, routines, known, &mut potentials)?;
+    let left = {
+        let mut ways = Ways::new(alloc)?;
+        count_all(image, routines, known, &mut ways, &mut potentials)
+    };
     match left {
         Some(r) => Err(InferError::NoRows(r)),
-        None if routines < all => Err(InferError::NoRows(routines)),
+        None if routines < image.count() => Err(InferError::NoRows(routines)),
         None => Ok(potentials),
     }
 }

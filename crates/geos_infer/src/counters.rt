@@ -3,7 +3,7 @@
 ghost use Rattle.std.specs.Prelude.{◌≡◌, ◌<◌, slice_set};
 ghost use Rattle.geos_image.specs.Fields.{FieldsFit};
 ghost use Rattle.geos_verify.specs.Lists.{zip2};
-ghost use Rattle.geos_infer.specs.Turns.{counter_at, all_are, number_in, unless_changed, loop_after, counters_after};
+ghost use Rattle.geos_infer.specs.Turns.{counter_at, number_in, unless_changed, loop_after, counters_after};
 
 use geos_image::{Instr, Opcode};
 
@@ -14,13 +14,6 @@ pub(crate) enum Counter {
     Kept,
     Is(u16),
     Unknown,
-}
-
-/// The same of all four.
-pub(crate) fn all_are(counter: Counter) -> [Counter; 4]
-    ensures { result ≡ all_are counter }
-{
-    [counter, counter, counter, counter]
 }
 
 /// What is known of one of them; there is no other.

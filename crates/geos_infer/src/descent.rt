@@ -6,9 +6,9 @@ ghost use Rattle.geos_infer.specs.Code.{ForwardIn};
 use crate::body::Body;
 use crate::edges::edge_back;
 use crate::flow::{flow, spread};
-use crate::known::Known;
 use crate::paid::back_edges;
 use crate::seeds::seed_entry;
+use crate::table::Known;
 
 /// What was given up may come back one loop further in at each descent.
 const DESCENTS: u16 = 2;

@@ -9,7 +9,7 @@ ghost use Rattle.geos_infer.specs.Reached.{EdgeFits, AllFit};
 use crate::body::Body;
 use crate::common::clean;
 use crate::edges::edge_end;
-use crate::known::Known;
+use crate::table::Known;
 use geos_image::Row;
 use geos_verify::{after, fits, has_edge};
 

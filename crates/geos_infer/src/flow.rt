@@ -10,7 +10,7 @@ ghost use Rattle.geos_infer.specs.Joins.{clean};
 use crate::body::Body;
 use crate::common::{clean, join};
 use crate::edges::{Edge, edge_ahead};
-use crate::known::Known;
+use crate::table::Known;
 use geos_image::{Row, SlotState};
 use geos_verify::after;
 

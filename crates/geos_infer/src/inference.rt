@@ -10,9 +10,9 @@ ghost use Rattle.geos_infer.specs.Theorem.{FindsWhatThereIs, NoneIsAccepted, Not
 use crate::count::count;
 use crate::error::InferError;
 use crate::flow::row_of;
-use crate::known::Known;
 use crate::potentials::Potentials;
 use crate::rows::find_rows;
+use crate::table::Known;
 use geos_image::{Image, Point, Routine};
 use std::alloc::{AllocError, Global};
 

@@ -19,7 +19,6 @@ mod error;
 mod fitted;
 mod flow;
 mod inference;
-mod known;
 mod longest;
 mod paid;
 mod potentials;

@@ -7,9 +7,8 @@ ghost use Rattle.geos_infer.specs.Edges.{IsInside};
 use crate::body::Body;
 use crate::edges::{Edge, edge_in};
 use crate::flow::{Arrival, spread};
-use crate::known::Known;
 use crate::paid::back_edges;
-use crate::table::Table;
+use crate::table::{Known, Table};
 use crate::widening::widened;
 use geos_image::Row;
 

@@ -9,10 +9,9 @@ use crate::body::{Body, body_of};
 use crate::descent::descend;
 use crate::fitted::all_fit;
 use crate::flow::flow;
-use crate::known::Known;
 use crate::rounds::{Turn, settle};
 use crate::seeds::seed_entry;
-use crate::table::Table;
+use crate::table::{Known, Table};
 use crate::unreached::fill;
 use crate::weakened::weaken;
 use geos_image::Image;
@@ -32,9 +31,9 @@ struct Tables {
 impl Tables {
     fn new(alloc: Global) -> Result<Tables, AllocError> {
         Ok(Tables {
-            found: Known::new(alloc)?,
-            others: Known::new(alloc)?,
-            from: Known::new(alloc)?,
+            found: Known::new(alloc, None)?,
+            others: Known::new(alloc, None)?,
+            from: Known::new(alloc, None)?,
             turns: Table::new(alloc, Turn::NONE)?,
         })
     }
@@ -135,7 +134,7 @@ pub(crate) fn find_rows(alloc: Global, image: &Image) -> Result<(Known, u16), Al
     ensures none { IfOk result (λ both. both.1 < length image.now.routines → NoRowsHoldIn image.now both.1) }
     ensures fit { IfOk result (λ both. (r : ℕ) → r < both.1 → FitWhereReached image.now r both.0) }
 {
-    let mut known = Known::new(alloc)?;
+    let mut known = Known::new(alloc, None)?;
     let mut tables = Tables::new(alloc)?;
     let routines = find_all_rows(image, &mut tables, &mut known);
     Ok((known, routines))

@@ -4,7 +4,7 @@ ghost use Rattle.geos_image.specs.Fields.{FieldsFit, CalleeFits};
 ghost use Rattle.geos_infer.specs.Flow.{Seeded};
 
 use crate::body::Body;
-use crate::known::Known;
+use crate::table::Known;
 
 /// The entry row of a routine where it begins, and nothing at its other instructions.
 pub(crate) fn seed_entry(body: &Body, known: &mut Known)

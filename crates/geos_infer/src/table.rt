@@ -1,8 +1,8 @@
 //! Tables by pc.
 
-ghost use Rattle.std.specs.Prelude.{◌≡◌, ◌<◌, length};
+ghost use Rattle.std.specs.Prelude.{◌≡◌, ◌<◌, ◌≤◌, ℕ, length, slice_index_or, slice_set, IfOk};
 
-use geos_image::MOST_INSTRS;
+use geos_image::{MOST_INSTRS, Row};
 use std::alloc::{AllocError, Global};
 use std::marker::Model;
 
@@ -11,6 +11,9 @@ use std::marker::Model;
 pub(crate) struct Table<T: Copy> {
     items: Vec<T>,
 }
+
+/// What is known at each pc.
+pub(crate) type Known = Table<Option<Row>>;
 
 impl<T: Copy> Model for Table<T> {
     ghost use Rattle.std.specs.Prelude.{◌≡◌, List, length};
@@ -24,7 +27,9 @@ impl<T: Copy> Model for Table<T> {
 
 impl<T: Copy> Table<T> {
     /// A table that has the same item everywhere.
-    pub(crate) fn new(alloc: Global, item: T) -> Result<Table<T>, AllocError> {
+    pub(crate) fn new(alloc: Global, item: T) -> Result<Table<T>, AllocError>
+        ensures { IfOk result (λ table. (pc : ℕ) → slice_index_or table pc item ≡ item) }
+    {
         let mut items = Vec::new(alloc);
         for _ in 0..MOST_INSTRS {
             items.push(item)?;
@@ -32,9 +37,18 @@ impl<T: Copy> Table<T> {
         Ok(Table { items })
     }
 
+    /// A law: there is room for each pc that there may be.
+    pub(crate) fn lengths(&self)
+        ensures { length self.now ≡ 4096 }
+    {
+        // The invariant is known where a field is looked at.
+        let _items = &self.items;
+    }
+
     /// The item at a pc.
     pub(crate) fn at(&self, pc: u16) -> T
         requires { pc < 4096 }
+        ensures { (other : T) → result ≡ slice_index_or self.now pc other }
     {
         self.items[pc as usize]
     }
@@ -42,7 +56,20 @@ impl<T: Copy> Table<T> {
     /// Sets the item at a pc.
     pub(crate) fn set(&mut self, pc: u16, item: T)
         requires { pc < 4096 }
+        ensures { self.new ≡ slice_set self.old pc item }
     {
         self.items[pc as usize] = item;
+    }
+
+    /// The same item at each pc from one up to another.
+    pub(crate) fn fill(&mut self, low: u16, high: u16, item: T)
+        requires { high < 4096 }
+        ensures { (pc : ℕ) (other : T) → low ≤ pc → pc ≤ high → slice_index_or self.new pc other ≡ item }
+    {
+        // For what its law says.
+        self.lengths();
+        for pc in low..high + 1 {
+            self.set(pc, item);
+        }
     }
 }

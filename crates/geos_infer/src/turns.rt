@@ -1,22 +1,18 @@
 //! The turns of loops, and ways on which more steps are taken than a potential can say.
 
-ghost use Rattle.std.specs.Prelude.{◌≡◌, ◌<◌, ◌≤◌, ◌+◌, ℕ, true, length, IfSome, IfOk};
-ghost use Rattle.geos_image.specs.Fields.{CalleeFits};
-ghost use Rattle.geos_infer.specs.declared.counters.Counter.TheVariants.{Kept};
-ghost use Rattle.geos_infer.specs.Turns.{begin_at, begin_from, counter_at, GoOn, AreReached, StayReached, IsTurn, AreTurns};
-ghost use Rattle.geos_infer.specs.Solutions.{call_steps};
-ghost use Rattle.geos_infer.specs.Taken.{NoneIsAcceptedPast, StepsPass, taken_at};
+ghost use Rattle.std.specs.Prelude.{◌≡◌, ◌<◌, ◌≤◌, ◌+◌, ◌-◌, ℕ, true, IfSome, IfOk};
+ghost use Rattle.geos_infer.specs.Turns.{begin_from, GoOn, AreReached, StayReached, IsTurn, AreTurns};
+ghost use Rattle.geos_infer.specs.Taken.{NoneIsAcceptedPast, StepsPass};
 
 use crate::apart::lead;
+use crate::arcs::taken_at;
 use crate::body::Body;
 use crate::counters::{
-    Counter, all_are, counter_at, counters_after, number_in, unless_all_changed, untouched,
-    with_counter,
+    Counter, counter_at, counters_after, number_in, unless_all_changed, untouched, with_counter,
 };
 use crate::edges::is_loop;
-use crate::reach::{Arrival, Reach, Reached};
+use crate::reach::{Arrival, Reach, Reached, note};
 use crate::spent::touched_by;
-use geos_image::{Image, Instr, Opcode};
 use geos_verify::Touched;
 use std::alloc::{AllocError, Global};
 
@@ -28,26 +24,8 @@ struct Loops<'body, 'touched, 'turns> {
     touched: &'touched Touched,
     /// The turn of each loop, at its LOOP, as far as it is known.
     turns: &'turns Reached,
-}
-
-/// What a call takes beside its own step.
-fn call_steps(image: &Image, i: &Instr) -> u32
-    requires { CalleeFits (length image.now.routines) i.now }
-    ensures { result ≡ call_steps image.now i.now }
-{
-    match i.opcode {
-        Opcode::Call => image.routine(i.imm).budget,
-        _ => 0,
-    }
-}
-
-/// What the instruction at a pc takes.
-fn taken_at(body: &Body, pc: u16) -> u64
-    requires { pc < body.now.end }
-    ensures value { result ≡ taken_at body.now.image.now pc }
-    ensures small { result ≤ 4294967296 }
-{
-    1 + u64::from(call_steps(body.image, body.image.instr(pc)))
+    /// How many steps the longest turn takes that a unit of each counter may pay for, to tell which of two ways to keep.
+    longest: [u64; 4],
 }
 
 /// As many steps; of more than a potential can say, just one more.
@@ -135,7 +113,7 @@ fn go(loops: &Loops, reached: &mut Reached, pc: u16, branch: bool, high: u16)
         return;
     };
     if pc < next.to && next.to <= high {
-        reached.note(&next);
+        note(reached, &loops.longest, &next);
     }
 }
 
@@ -152,45 +130,6 @@ fn go_all(loops: &Loops, reached: &mut Reached, low: u16, high: u16)
     }
 }
 
-/// A way begins at a pc, and no other up to a further pc.
-fn begin_at(body: &Body, reached: &mut Reached, pc: u16, high: u16)
-    requires order { pc ≤ high }
-    requires below { high < body.now.end }
-    ensures { AreReached body.now.image.now body.now.r (begin_at pc) pc high reached.new }
-{
-    reached.fill(pc, high, None);
-    reached.set(
-        pc,
-        Some(Reach {
-            steps: 0,
-            counters: all_are(Counter::Kept),
-        }),
-    );
-}
-
-/// A way with counters that are 0 begins at each pc from one up to another.
-fn begin_from(body: &Body, reached: &mut Reached, low: u16, high: u16)
-    requires { high < body.now.end }
-    ensures { AreReached body.now.image.now body.now.r (begin_from low high) low high reached.new }
-{
-    let nothing = Reach {
-        steps: 0,
-        counters: all_are(Counter::Is(0)),
-    };
-    reached.fill(low, high, Some(nothing));
-}
-
-/// What is known of a way, if a counter is behind it what it was where it began.
-fn if_kept(reach: &Reach, counter: u8) -> Option<Reach>
-    ensures same { IfSome result (λ kept. kept ≡ reach.now) }
-    ensures kept { IfSome result (λ kept. counter_at reach.now.counters counter ≡ Kept) }
-{
-    match counter_at(&reach.counters, counter) {
-        Counter::Kept => Some(*reach),
-        _ => None,
-    }
-}
-
 /// The longest turn that is found of the loop which the LOOP at a pc closes, if its counter is kept.
 fn find_turn(loops: &Loops, reached: &mut Reached, pc: u16) -> Option<Reach>
     requires above { loops.now.body.start ≤ pc }
@@ -203,68 +142,93 @@ fn find_turn(loops: &Loops, reached: &mut Reached, pc: u16) -> Option<Reach>
     if !is_loop(i.opcode) || i.target < body.start || pc < i.target {
         return None;
     }
-    begin_at(body, reached, i.target, pc);
+    reached.fill(i.target, pc, None);
+    let begin = Reach {
+        steps: 0,
+        counters: [Counter::Kept; 4],
+    };
+    reached.set(i.target, Some(begin));
     go_all(loops, reached, i.target, pc);
-    match reached.at(pc) {
-        Some(turn) => if_kept(&turn, i.a),
-        None => None,
+    let turn = reached.at(pc)?;
+    match counter_at(&turn.counters, i.a) {
+        Counter::Kept => Some(turn),
+        _ => None,
     }
 }
 
-/// Notes the turns of the loops of a routine, those within a loop before its own.
-fn note_turns(body: &Body, touched: &Touched, turns: &mut Reached, reached: &mut Reached)
+/// The longest turns, where a loop on a counter has one of so many steps.
+fn with_turn(longest: &[u64; 4], counter: u8, steps: u64) -> [u64; 4] {
+    let mut next = *longest;
+    if counter < 4 {
+        next[usize::from(counter)] = next[usize::from(counter)].max(steps);
+    }
+    next
+}
+
+/// Notes the turns of the loops of a routine, those within a loop before its own; how many steps the longest of them take, with
+/// the LOOP's own.
+fn note_turns(
+    body: &Body,
+    touched: &Touched,
+    turns: &mut Reached,
+    reached: &mut Reached,
+) -> [u64; 4]
     requires { AreTurns body.now.image.now body.now.r turns.old }
     ensures { AreTurns body.now.image.now body.now.r turns.new }
 {
+    let mut longest = [0; 4];
     for pc in body.start..body.end {
         let loops = Loops {
             body: *body,
             touched,
             turns,
+            longest,
         };
         if let Some(turn) = find_turn(&loops, reached, pc) {
             turns.set(pc, Some(turn));
-            reached.note_turn(body.image.instr(pc).a, turn.steps.saturating_add(1));
+            let counter = body.image.instr(pc).a;
+            longest = with_turn(&longest, counter, turn.steps.saturating_add(1));
         }
     }
+    longest
 }
 
-/// Whether the way that is known to a pc takes more steps, with those there, than a potential can say.
-fn passes_at(body: &Body, reached: &Reached, low: u16, high: u16, pc: u16) -> bool
-    requires above { body.now.start ≤ pc }
-    requires below { pc < body.now.end }
-    requires low { low ≤ pc }
-    requires high { pc ≤ high }
-    requires reached { AreReached body.now.image.now body.now.r (begin_from low high) low high reached.now }
+/// Whether some way that is known takes more steps, with those where it comes to, than a potential can say.
+fn some_pass(body: &Body, reached: &Reached) -> bool
+    requires { AreReached body.now.image.now body.now.r (begin_from body.now.start (body.now.end - 1)) body.now.start (body.now.end - 1) reached.now }
     ensures { result ≡ true → StepsPass body.now.image.now body.now.r }
 {
-    match reached.at(pc) {
-        Some(reach) => u64::from(u32::MAX) < capped(reach.steps) + taken_at(body, pc),
-        None => false,
+    for pc in body.start..body.end {
+        if let Some(reach) = reached.at(pc) {
+            if u64::from(u32::MAX) < capped(reach.steps) + taken_at(body, pc) {
+                return true;
+            }
+        }
     }
+    false
 }
 
 /// Whether on some way in a routine more steps are taken than a potential can say.
 pub(crate) fn steps_pass(alloc: Global, body: &Body, touched: &Touched) -> Result<bool, AllocError>
     ensures { IfOk result (λ passes. passes ≡ true → StepsPass body.now.image.now body.now.r) }
 {
-    let mut turns = Reached::new(alloc)?;
-    let mut reached = Reached::new(alloc)?;
-    note_turns(body, touched, &mut turns, &mut reached);
+    let mut turns = Reached::new(alloc, None)?;
+    let mut reached = Reached::new(alloc, None)?;
+    let longest = note_turns(body, touched, &mut turns, &mut reached);
     let last = body.end - 1;
-    begin_from(body, &mut reached, body.start, last);
+    let nothing = Reach {
+        steps: 0,
+        counters: [Counter::Is(0); 4],
+    };
+    reached.fill(body.start, last, Some(nothing));
     let loops = Loops {
         body: *body,
         touched,
         turns: &turns,
+        longest,
     };
     go_all(&loops, &mut reached, body.start, last);
-    for pc in body.start..body.end {
-        if passes_at(body, &reached, body.start, last, pc) {
-            return Ok(true);
-        }
-    }
-    Ok(false)
+    Ok(some_pass(body, &reached))
 }
 
 /// A law: where on some way in a routine more steps are taken than a potential can say, no image with that code is accepted.

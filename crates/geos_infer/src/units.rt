@@ -165,7 +165,7 @@ fn asked_units(arc: &Arc, there: &[u32; 4]) -> [u32; 4] {
 fn carry_over(ways: &mut Ways, pc: u16, branch: bool) -> bool
     requires { pc < 4096 }
 {
-    let Some(arc) = ways.arcs.at(pc, branch) else {
+    let Some(arc) = ways.arc(pc, branch) else {
         return false;
     };
     let Units { pay: old, raised } = ways.units.at(pc);
@@ -249,7 +249,7 @@ fn pay_all(body: &Body, ways: &mut Ways) -> bool {
 fn free_unit(ways: &Ways, pc: u16) -> Option<u32>
     requires { pc < 4096 }
 {
-    match ways.arcs.at(pc, true) {
+    match ways.arc(pc, true) {
         Some(arc) => {
             let asked = ways.longest.at(arc.to).steps.saturating_add(arc.steps);
             u32::try_from(asked.saturating_sub(ways.longest.at(pc).steps)).ok()

@@ -2,8 +2,11 @@
 
 ghost use Rattle.std.specs.Prelude.{◌<◌};
 
-use crate::arcs::{Arc, Arcs, Counting};
-use crate::table::Table;
+use crate::arcs::{Arc, Counting, arc_of};
+use crate::body::Body;
+use crate::table::{Known, Table};
+use crate::unpaid::WaysIn;
+use geos_verify::Touched;
 use std::alloc::{AllocError, Global};
 
 /// What units of counters cost at a place.
@@ -43,7 +46,10 @@ pub(crate) struct Longest {
 /// What is found of the ways from each pc.
 #[derive(Drop)]
 pub(crate) struct Ways {
-    pub(crate) arcs: Arcs,
+    /// The edges into each pc.
+    pub(crate) into: Table<WaysIn>,
+    /// The edge to the next instruction, and the one to the target.
+    arcs: Table<[Option<Arc>; 2]>,
     pub(crate) costs: Table<Costs>,
     pub(crate) units: Table<Units>,
     pub(crate) longest: Table<Longest>,
@@ -63,12 +69,30 @@ impl Ways {
             first: None,
         };
         Ok(Ways {
-            arcs: Arcs::new(alloc)?,
+            into: Table::new(alloc, WaysIn::with_left(0))?,
+            arcs: Table::new(alloc, [None, None])?,
             costs: Table::new(alloc, costs)?,
             units: Table::new(alloc, Units::NOTHING)?,
             longest: Table::new(alloc, longest)?,
             passed: Table::new(alloc, 0)?,
         })
+    }
+
+    /// Notes the edges of a routine.
+    pub(crate) fn note(&mut self, body: &Body, known: &Known, touched: &Touched) {
+        for pc in body.start..body.end {
+            let along = arc_of(body, known, touched, pc, false);
+            let branching = arc_of(body, known, touched, pc, true);
+            self.arcs.set(pc, [along, branching]);
+        }
+    }
+
+    /// The edge from a pc, to the target where `branch` says so.
+    pub(crate) fn arc(&self, pc: u16, branch: bool) -> Option<Arc>
+        requires { pc < 4096 }
+    {
+        let [along, branching] = self.arcs.at(pc);
+        if branch { branching } else { along }
     }
 
     /// The edge from a pc, unless it is left out.
@@ -78,7 +102,7 @@ impl Ways {
         if branch && self.costs.at(pc).free {
             None
         } else {
-            self.arcs.at(pc, branch)
+            self.arc(pc, branch)
         }
     }
 
@@ -87,7 +111,7 @@ impl Ways {
         requires { pc < 4096 }
     {
         let branch = self.longest.at(pc).first?;
-        self.arcs.at(pc, branch)
+        self.arc(pc, branch)
     }
 }
 

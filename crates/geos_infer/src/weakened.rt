@@ -9,9 +9,8 @@ use crate::body::Body;
 use crate::common::clean;
 use crate::fitted::all_fit;
 use crate::flow::row_of;
-use crate::known::Known;
 use crate::rounds::{Turn, flow_on};
-use crate::table::Table;
+use crate::table::{Known, Table};
 use geos_image::{Instr, Opcode, Row};
 use geos_verify::{fits, misuses};
 

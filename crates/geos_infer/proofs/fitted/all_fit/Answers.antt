@@ -1,4 +1,4 @@
-use Rattle.std.proofs.Common.{◌+◌, ℕ, true, false, refl, sym, ap, ◌∙◌, subst, arith}
+use Rattle.std.proofs.Common.{◌+◌, ℕ, None, true, false, refl, sym, ap, ◌∙◌, subst, arith}
 use Rattle.std.proofs.lemmas.Bool.{false≢true}
 use Rattle.geos_image.specs.declared.routine.Routine.{Routine}
 use Rattle.geos_image.specs.Parts.{start_of}
@@ -13,7 +13,7 @@ returns-then-not-fits_known-clause-flowing c = λ want F.
     let body = c.args.body.now in
     let entry = c.routine.result.now.entry in
     let K = subst (λ (n : ℕ). KnownAt c.args.known.now n entry) (sym body.begins) (F.entry c.routine.result.now c.routine.ensures) in
-    let fit = c.fits_known.ensures ∙ ap (λ o. fits_known o entry) c.at.ensures ∙ known-to c.args.known.now body.start entry K in
+    let fit = c.fits_known.ensures ∙ ap (λ o. fits_known o entry) (c.at.ensures None) ∙ known-to c.args.known.now body.start entry K in
     absurd (false≢true (sym c.if-not-fits_known.true ∙ fit))
 
 pub loop-pc-init : goal.loop-pc-init
@@ -44,7 +44,7 @@ returns-clause-fit c = λ e.
     let image = body.image.now in
     let known = c.args.known.now in
     let entry = c.routine.result.now.entry in
-    let first = known-from known body.start entry (ap (λ o. fits_known o entry) (sym c.at.ensures) ∙ sym c.fits_known.ensures ∙ c.if-not-fits_known.false) in
+    let first = known-from known body.start entry (ap (λ o. fits_known o entry) (sym (c.at.ensures None)) ∙ sym c.fits_known.ensures ∙ c.if-not-fits_known.false) in
     record {
       entry = λ routine there.
           let is = some_routine c.routine.result.now routine (sym c.routine.ensures ∙ there) in

@@ -1,4 +1,4 @@
-use Rattle.std.proofs.Common.{ℕ, refl, sym, ap, ◌∙◌, subst, arith}
+use Rattle.std.proofs.Common.{ℕ, None, refl, sym, ap, ◌∙◌, subst, arith}
 use Rattle.std.proofs.lemmas.Bool.{false≢true}
 use Rattle.geos_image.specs.declared.row.Row.{Row}
 use Rattle.geos_verify.specs.Rows.{after}
@@ -24,8 +24,8 @@ returns-then-to-body c =
     let row = c.in-Some.row in
     let next = c.after-next.result in
     let inside = subst (λ (n : ℕ). IsPcOf image body.r n) c.edge_end-to.ensures (in-body body c.edge_end-to.result c.if-body-to.true c.if-to-body.true) in
-    inside-fits image body.r known pc branch c.instr-i.result.now (omega (arith, body.room)) c.instr-i.ensures.there row next c.fits_known.result (sym c.at.ensures ∙ c.in-Some.is) (sym c.has_edge.ensures ∙ c.if-has_edge.true) inside
-    (c.after-next.ensures ∙ ap (λ (x : Row). after image pc x branch) c.clean.ensures.value) (c.fits_known.ensures ∙ ap (λ o. fits_known o next) (c.at-then-to-body.ensures ∙ ap (known_at known) c.edge_end-to.ensures))
+    inside-fits image body.r known pc branch c.instr-i.result.now (omega (arith, body.room)) c.instr-i.ensures.there row next c.fits_known.result (sym (c.at.ensures None) ∙ c.in-Some.is) (sym c.has_edge.ensures ∙ c.if-has_edge.true) inside
+    (c.after-next.ensures ∙ ap (λ (x : Row). after image pc x branch) c.clean.ensures.value) (c.fits_known.ensures ∙ ap (λ o. fits_known o next) (c.at-then-to-body.ensures None ∙ ap (known_at known) c.edge_end-to.ensures))
 
 pub returns-else-has_edge : goal.returns-else-has_edge
 returns-else-has_edge c =

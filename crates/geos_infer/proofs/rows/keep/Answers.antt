@@ -1,4 +1,4 @@
-use Rattle.std.proofs.Common.{◌+◌, List, Option, refl, sym, ap, ◌∙◌, subst, arith}
+use Rattle.std.proofs.Common.{◌+◌, List, Option, None, refl, sym, ap, ◌∙◌, subst, arith}
 use Rattle.std.specs.Option.{option_or}
 use Rattle.geos_image.specs.declared.row.Row.{Row}
 use Rattle.geos_infer.specs.Reached.{Keeps}
@@ -14,7 +14,7 @@ loop-pc-preserved c =
     let found = c.args.found.now in
     let pc = c.loop-pc.pc in
     let more = keeps-more body.start pc (pc + 1) found c.args.known.now c.loop-pc.known c.or.result refl c.loop-pc.auto.pc (omega (arith, c.loop-pc.invariant.len, c.lengths.ensures, body.room, body.short))
-    (λ row e. c.or.ensures ∙ ap (λ (o : Option Row). option_or o c.at-in-loop-pc.result) (c.at.ensures ∙ e)) c.loop-pc.invariant in
+    (λ row e. c.or.ensures ∙ ap (λ (o : Option Row). option_or o c.at-in-loop-pc.result) (c.at.ensures None ∙ e)) c.loop-pc.invariant in
     subst (λ (next : List (Option Row)). Keeps body.start (pc + 1) found c.args.known.now next) (sym c.set.ensures) more
 
 pub returns : goal.returns

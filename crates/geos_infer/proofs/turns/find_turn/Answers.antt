@@ -1,4 +1,4 @@
-use Rattle.std.proofs.Common.{◌≡◌, ◌<◌, ℕ, Option, Some, None, length, slice_get, sym, ap, ◌∙◌, subst, arith}
+use Rattle.std.proofs.Common.{◌≡◌, ◌<◌, ℕ, None, length, slice_get, refl, sym, ap, ◌∙◌, subst, arith}
 use Rattle.std.specs.Prelude.{IfSome}
 use Rattle.geos_opcodes.specs.declared.opcode.Opcode.{Opcode}
 use Rattle.geos_opcodes.specs.declared.opcode.Opcode.TheVariants.{Loop}
@@ -9,15 +9,11 @@ use Rattle.geos_verify.proofs.Places.{item_at, if_some}
 use Rattle.geos_infer.specs.declared.counters.Counter.TheVariants.{Kept}
 use Rattle.geos_infer.specs.declared.reach.Reach.{Reach}
 use Rattle.geos_infer.specs.Code.{IsPcOf}
-use Rattle.geos_infer.specs.Turns.{begin_at, counter_at, AlwaysComesTo, IsTurn}
+use Rattle.geos_infer.specs.Turns.{all_are, begin_at, counter_at, AlwaysComesTo, AreReached, IsTurn}
 use Rattle.geos_infer.proofs.Asks.{loop-only}
 use Rattle.geos_infer.proofs.Bodies.{in-body}
+use Rattle.geos_infer.proofs.Onward.{begins-at}
 use Rattle.geos_infer.proofs.turns.find_turn.Goals as goal
-
-if-kept : (image : Parts) (r pc a : ℕ) (turn : Reach) (found : Option Reach) → IfSome found (λ kept. kept ≡ turn) → IfSome found (λ kept. counter_at turn.counters a ≡ Kept)
-    → (counter_at turn.counters a ≡ Kept → IsTurn image r pc turn) → IfSome found (IsTurn image r pc)
-if-kept image r pc a turn None same kept made = tt
-if-kept image r pc a turn (Some x) same kept made = subst (IsTurn image r pc) (sym same) (made kept)
 
 turn-at : (image : Parts) (r pc : ℕ) (i : Instr) (turn : Reach) → IsPcOf image r pc → pc < length image.points → IfSome (slice_get image.points pc) (λ point. i ≡ point.instr) → FieldsFit i.opcode i → i.opcode ≡ Loop
     → AlwaysComesTo image r (begin_at i.target) pc turn → counter_at turn.counters i.a ≡ Kept → IsTurn image r pc turn
@@ -35,13 +31,14 @@ turn-at image r pc i turn within lt there fields loops reached kept =
       kept = subst (λ (x : Instr). counter_at turn.counters x.a ≡ Kept) same kept;
     }
 
-pub returns-in-Some : goal.returns-in-Some
-returns-in-Some c =
+pub returns-in-Kept : goal.returns-in-Kept
+returns-in-Kept c =
     let body = c.args.loops.now.body in
     let i = c.instr-i.result.now in
     let pc = c.args.pc in
-    let turn = c.in-Some.turn in
+    let turn = c.in_ok-turn.turn in
     let loops = loop-only i.opcode (sym c.is_loop.ensures ∙ c.if-not-is_loop.false) in
-    let reached = c.go_all.ensures (begin_at i.target) c.begin_at.ensures pc turn c.if-pc-i.false (omega arith) (sym c.in-Some.ensures) in
-    if-kept body.image.now body.r pc i.a turn c.if_kept.result c.if_kept.ensures.same c.if_kept.ensures.kept
-    (turn-at body.image.now body.r pc i turn (in-body body pc c.requires.above c.requires.below) (omega (arith, c.requires.below, body.room)) c.instr-i.ensures.there c.instr-i.ensures.fields loops reached)
+    let begun = subst (AreReached body.image.now body.r (begin_at i.target) i.target pc) (sym c.set.ensures)
+    (begins-at body.image.now body.r i.target pc c.fill.new.self (record { steps = 0; counters = all_are Kept }) refl refl (λ k low high. c.fill.ensures k None low high)) in
+    let reached = c.go_all.ensures (begin_at i.target) begun pc turn c.if-pc-i.false (omega arith) (sym (c.in_ok-turn.ensures None)) in
+    turn-at body.image.now body.r pc i turn (in-body body pc c.requires.above c.requires.below) (omega (arith, c.requires.below, body.room)) c.instr-i.ensures.there c.instr-i.ensures.fields loops reached (sym c.in-Kept.ensures)

@@ -1,4 +1,4 @@
-use Rattle.std.proofs.Common.{◌≡◌, ◌≤◌, ◌+◌, ◌*◌, sym, ap, ◌∙◌, slice_get, arith}
+use Rattle.std.proofs.Common.{◌≡◌, ◌≤◌, ◌+◌, ◌*◌, None, sym, ap, ◌∙◌, slice_get, arith}
 use Rattle.std.proofs.Math.Nat.{mul-le-mul_left}
 use Rattle.geos_image.specs.declared.instr.Instr.{Instr}
 use Rattle.geos_verify.specs.Lists.{zip2}
@@ -9,14 +9,14 @@ use Rattle.geos_infer.proofs.turns.go_on_behind.Goals as goal
 
 pub with_counter-spent-requires : goal.with_counter-spent-requires
 with_counter-spent-requires c =
-    let turn = c.requires.turns c.args.pc c.in_ok-turn.turn (sym c.in_ok-turn.ensures) in
+    let turn = c.requires.turns c.args.pc c.in_ok-turn.turn (sym (c.in_ok-turn.ensures None)) in
     let same = if_some (λ point. c.instr.result.now ≡ point.instr) (slice_get c.args.body.now.image.now.points c.args.pc) turn.point turn.there c.instr.ensures.there in
     omega (arith, turn.few, ap (λ (i : Instr). i.a) same)
 
 pub returns-clause-goes : goal.returns-clause-goes
 returns-clause-goes c =
     let body = c.args.body.now in
-    let turn = c.requires.turns c.args.pc c.in_ok-turn.turn (sym c.in_ok-turn.ensures) in
+    let turn = c.requires.turns c.args.pc c.in_ok-turn.turn (sym (c.in_ok-turn.ensures None)) in
     let left = c.from-left.result in
     let less : c.capped-2.result + 1 ≤ c.in_ok-turn.turn.steps + 1 = omega (arith, c.capped-2.ensures.less) in
     let more = mul-le-mul_left left less in

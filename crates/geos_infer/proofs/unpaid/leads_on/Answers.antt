@@ -11,4 +11,4 @@ returns-then-at-from c = λ is. subst (λ (n : ℕ). (branches : List Bool) × I
 pub loop-preserved : goal.loop-preserved
 loop-preserved c =
     let further = c.loop.invariant.1 in
-    (c.in-Some.ensures, (c.in-Some.edge.branch ∷ further.0, (c.loop.at, c.came_to.ensures c.if-not-came_to.false, further.1)))
+    (c.in-Some.edge.inside, (c.in-Some.edge.branch ∷ further.0, (c.loop.at, c.came_to.ensures.leads c.if-not-came_to.false, further.1)))
