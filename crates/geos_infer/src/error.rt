@@ -4,17 +4,14 @@ ghost use Rattle.std.specs.Prelude.{◌≡◌};
 ghost use Rattle.geos_infer.specs.declared.error.InferError.TheVariants.{Memory};
 
 use std::alloc::AllocError;
-use thiserror::Error;
 
 /// Why no rows and potentials were found for the code of an image.
-#[derive(Debug, Drop, Error)]
+#[derive(Drop)]
 pub enum InferError {
     /// None were found for the routine with this index: slots differ in more than marks where ways
     /// of control meet, or no potential was found. That it is the first such one is not proved.
-    #[error("no rows for routine {0}")]
     NoRows(u16),
     /// An allocation was refused.
-    #[error("memory")]
     Memory,
 }
 
