@@ -13,7 +13,7 @@ use geos_image::{Opcode, Row};
 use geos_verify::Touched;
 
 /// What an edge does to counters.
-#[derive(Clone, Copy, PartialEq, Eq)]
+#[derive(Clone, Copy)]
 pub(crate) enum Counting {
     Nothing,
     /// The counter is so much behind it, at most.

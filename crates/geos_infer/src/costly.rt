@@ -5,8 +5,8 @@ ghost use Rattle.std.specs.Prelude.{◌<◌};
 use crate::arcs::{Arc, Counting};
 use crate::body::Body;
 use crate::paid::back_edges;
-use crate::ways::{Costs, Ways};
-use geos_image::Opcode;
+use crate::ways::Ways;
+use geos_image::{Instr, Opcode};
 
 /// The counters, with what is said of one of them in the place of that.
 fn with_counter(counters: &[bool; 4], counter: u8, costs: bool) -> [bool; 4] {
@@ -36,13 +36,15 @@ fn costly_behind(arc: &Arc, here: &[bool; 4]) -> [bool; 4] {
 fn go_along(ways: &mut Ways, pc: u16, branch: bool) -> bool
     requires { pc < 4096 }
 {
-    let Some(arc) = ways.arc(pc, branch) else {
+    let here = ways.at(pc);
+    let Some(arc) = here.arc(branch) else {
         return false;
     };
-    let Costs { costly: old, free } = ways.costs.at(arc.to);
-    let costly = either(&old, &costly_behind(&arc, &ways.costs.at(pc).costly));
-    ways.costs.set(arc.to, Costs { costly, free });
-    costly != old
+    let mut there = ways.at(arc.to);
+    let old = there.costly;
+    there.costly = either(&old, &costly_behind(&arc, &here.costly));
+    ways.set(arc.to, there);
+    there.costly != old
 }
 
 /// The same over each edge of a routine.
@@ -55,13 +57,10 @@ fn go_along_all(body: &Body, ways: &mut Ways) -> bool {
     changed
 }
 
-/// Whether the instruction at a pc is a LOOP whose counter costs nothing.
-fn is_free(body: &Body, ways: &Ways, pc: u16) -> bool
-    requires { pc < body.now.end }
-{
-    let i = body.image.instr(pc);
+/// Whether the instruction is a LOOP whose counter costs nothing.
+fn is_free(i: &Instr, costly: &[bool; 4]) -> bool {
     match i.opcode {
-        Opcode::Loop => match ways.costs.at(pc).costly.get(usize::from(i.a)) {
+        Opcode::Loop => match costly.get(usize::from(i.a)) {
             Some(costs) => !*costs,
             None => false,
         },
@@ -69,18 +68,8 @@ fn is_free(body: &Body, ways: &Ways, pc: u16) -> bool
     }
 }
 
-/// Notes which counters cost something at each place of a routine, and at which LOOPs theirs does not. Nothing is known of
-/// counters where the routine begins.
+/// Notes which counters cost something at each place of a routine, and at which LOOPs theirs does not.
 pub(crate) fn note_costly(body: &Body, ways: &mut Ways) {
-    for pc in body.start..body.end {
-        ways.costs.set(
-            pc,
-            Costs {
-                costly: [pc == body.start; 4],
-                free: false,
-            },
-        );
-    }
     // A way that passes no place twice goes along each edge back once at most.
     for _ in 0..back_edges(body) + 2 {
         if !go_along_all(body, ways) {
@@ -88,8 +77,8 @@ pub(crate) fn note_costly(body: &Body, ways: &mut Ways) {
         }
     }
     for pc in body.start..body.end {
-        let costly = ways.costs.at(pc).costly;
-        let free = is_free(body, ways, pc);
-        ways.costs.set(pc, Costs { costly, free });
+        let mut place = ways.at(pc);
+        place.free = is_free(body.image.instr(pc), &place.costly);
+        ways.set(pc, place);
     }
 }

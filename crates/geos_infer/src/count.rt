@@ -16,9 +16,10 @@ use crate::error::InferError;
 use crate::paid::are_paid;
 use crate::potentials::Potentials;
 use crate::spent::{calls_are_spent, find_touched};
-use crate::table::Known;
-use crate::units::find_units;
-use crate::ways::Ways;
+use crate::table::{Known, Table};
+use crate::units::{pay_all, pay_free};
+use crate::unpaid::WaysIn;
+use crate::ways::{Place, Ways, note_arcs};
 use geos_image::{Image, Potential};
 use geos_verify::Touched;
 use std::alloc::Global;
@@ -49,14 +50,25 @@ fn has_loops(body: &Body) -> bool
     false
 }
 
+/// Tables that counting writes.
+#[derive(Drop)]
+struct Tables {
+    into: Table<WaysIn>,
+    ways: Ways,
+}
+
 /// The potentials of a routine are the steps of the longest ways, and what units pay for; `false` where a number is past
 /// what a potential can say.
 fn put_ways(body: &Body, ways: &Ways, potentials: &mut Potentials) -> bool {
     for pc in body.start..body.end {
-        let Ok(constant) = u32::try_from(ways.longest.at(pc).steps) else {
+        let Place {
+            steps,
+            pay: coefficients,
+            ..
+        } = ways.at(pc);
+        let Ok(constant) = u32::try_from(steps) else {
             return false;
         };
-        let coefficients = ways.units.at(pc).pay;
         potentials.set(
             pc,
             Potential {
@@ -74,15 +86,17 @@ fn count_loops(
     body: &Body,
     known: &Known,
     touched: &Touched,
-    ways: &mut Ways,
+    tables: &mut Tables,
     potentials: &mut Potentials,
 ) -> bool {
-    if has_unpaid_cycle(body, &mut ways.into) {
+    if has_unpaid_cycle(body, &mut tables.into) {
         return false;
     }
-    ways.note(body, known, touched);
+    let ways = &mut tables.ways;
+    note_arcs(body, known, touched, ways);
     note_costly(body, ways);
-    find_units(body, ways)
+    pay_all(body, ways)
+        && pay_free(body, ways)
         && put_ways(body, ways, potentials)
         && are_paid(body, known, potentials)
         && calls_are_spent(body, touched, potentials)
@@ -93,13 +107,13 @@ fn count_in(
     body: &Body,
     known: &Known,
     touched: &Touched,
-    ways: &mut Ways,
+    tables: &mut Tables,
     potentials: &mut Potentials,
 ) -> bool
     ensures { CountsOn body.now.image.now body.now.r potentials.old potentials.new result }
 {
     if has_loops(body) {
-        count_loops(body, known, touched, ways, potentials)
+        count_loops(body, known, touched, tables, potentials)
     } else {
         sweep(body, known, potentials).is_some()
     }
@@ -111,7 +125,7 @@ fn count_all(
     image: &Image,
     routines: u16,
     known: &Known,
-    ways: &mut Ways,
+    tables: &mut Tables,
     potentials: &mut Potentials,
 ) -> Option<u16>
     requires { routines ≤ length image.now.routines }
@@ -122,7 +136,7 @@ fn count_all(
     let touched = find_touched(image);
     let mut left = None;
     for r in (0..routines).rev() {
-        if !count_in(&body_of(image, r), known, &touched, ways, potentials) {
+        if !count_in(&body_of(image, r), known, &touched, tables, potentials) {
             left = Some(r);
         }
     }
@@ -145,8 +159,11 @@ pub(crate) fn count(
 {
     let mut potentials = Potentials::new(alloc)?;
     let left = {
-        let mut ways = Ways::new(alloc)?;
-        count_all(image, routines, known, &mut ways, &mut potentials)
+        let mut tables = Tables {
+            into: Table::new(alloc, WaysIn::with_left(0))?,
+            ways: Ways::new(alloc, Place::NOTHING)?,
+        };
+        count_all(image, routines, known, &mut tables, &mut potentials)
     };
     match left {
         Some(r) => Err(InferError::NoRows(r)),

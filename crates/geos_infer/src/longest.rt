@@ -2,11 +2,10 @@
 
 ghost use Rattle.std.specs.Prelude.{◌<◌};
 
-use crate::arcs::Arc;
 use crate::asked::return_steps;
 use crate::body::Body;
 use crate::paid::back_edges;
-use crate::ways::{Longest, Ways, cost};
+use crate::ways::{Ways, cost};
 use geos_image::MOST_INSTRS;
 
 /// What came of going over edges.
@@ -22,47 +21,43 @@ enum Growth {
 /// Each way ends where it begins: a return takes a step.
 fn begin(body: &Body, ways: &mut Ways) {
     for pc in body.start..body.end {
-        ways.longest.set(
-            pc,
-            Longest {
-                steps: return_steps(body.image.instr(pc)),
-                first: None,
-            },
-        );
+        let mut place = ways.at(pc);
+        place.steps = return_steps(body.image.instr(pc));
+        place.first = None;
+        ways.set(pc, place);
     }
 }
 
-/// The longest way from a pc over an edge, if it is longer than what was known; whether it is.
-fn lengthen(ways: &mut Ways, pc: u16, branch: bool, arc: &Arc) -> bool
+/// The longest way from a pc over an edge, if that leads ahead, or back, as is asked, and the way is longer than what was known;
+/// whether it is.
+fn lengthen(ways: &mut Ways, pc: u16, branch: bool, ahead: bool) -> bool
     requires { pc < 4096 }
 {
-    let (costs, paid) = cost(arc, &ways.units.at(pc).pay, &ways.units.at(arc.to).pay);
-    let behind = ways.longest.at(arc.to).steps;
-    let steps = behind.saturating_add(costs).saturating_sub(paid);
-    if steps <= ways.longest.at(pc).steps {
+    let mut here = ways.at(pc);
+    let Some(arc) = here.counted(branch) else {
+        return false;
+    };
+    if (pc < arc.to) != ahead {
         return false;
     }
-    let first = Some(branch);
-    ways.longest.set(pc, Longest { steps, first });
-    true
-}
-
-/// The same, if the edge leads ahead, or back, as is asked.
-fn lengthen_over(ways: &mut Ways, pc: u16, branch: bool, ahead: bool) -> bool
-    requires { pc < 4096 }
-{
-    match ways.counted(pc, branch) {
-        Some(arc) if (pc < arc.to) == ahead => lengthen(ways, pc, branch, &arc),
-        _ => false,
+    let there = ways.at(arc.to);
+    let (costs, paid) = cost(&arc, &here.pay, &there.pay);
+    let steps = there.steps.saturating_add(costs).saturating_sub(paid);
+    if steps <= here.steps {
+        return false;
     }
+    here.steps = steps;
+    here.first = Some(branch);
+    ways.set(pc, here);
+    true
 }
 
 /// Goes over the edges that lead ahead, from the last to the first; whether some way is longer.
 fn go_ahead(body: &Body, ways: &mut Ways) -> bool {
     let mut longer = false;
     for pc in (body.start..body.end).rev() {
-        longer |= lengthen_over(ways, pc, false, true);
-        longer |= lengthen_over(ways, pc, true, true);
+        longer |= lengthen(ways, pc, false, true);
+        longer |= lengthen(ways, pc, true, true);
     }
     longer
 }
@@ -73,15 +68,16 @@ fn round_from(ways: &mut Ways, from: u16, mark: u16) -> Option<u16>
 {
     let mut at = from;
     for _ in 0..MOST_INSTRS {
-        let passed = ways.passed.at(at);
-        if passed == mark {
+        let mut place = ways.at(at);
+        if place.passed == mark {
             return Some(at);
         }
-        if passed != 0 {
+        if place.passed != 0 {
             return None;
         }
-        ways.passed.set(at, mark);
-        at = ways.next(at)?.to;
+        place.passed = mark;
+        ways.set(at, place);
+        at = place.next()?.to;
     }
     None
 }
@@ -89,7 +85,9 @@ fn round_from(ways: &mut Ways, from: u16, mark: u16) -> Option<u16>
 /// A pc from which the longest way comes back to it.
 fn find_round(body: &Body, ways: &mut Ways) -> Option<u16> {
     for pc in body.start..body.end {
-        ways.passed.set(pc, 0);
+        let mut place = ways.at(pc);
+        place.passed = 0;
+        ways.set(pc, place);
     }
     for pc in body.start..body.end {
         if let Some(at) = round_from(ways, pc, pc + 1) {
@@ -108,7 +106,7 @@ fn leads_to(ways: &Ways, from: u16, to: u16) -> bool
         if at == to {
             return true;
         }
-        match ways.next(at) {
+        match ways.at(at).next() {
             Some(arc) => at = arc.to,
             None => return false,
         }
@@ -120,10 +118,10 @@ fn leads_to(ways: &Ways, from: u16, to: u16) -> bool
 fn go_back_from(ways: &mut Ways, pc: u16) -> Growth
     requires { pc < 4096 }
 {
-    if !lengthen_over(ways, pc, true, false) {
+    if !lengthen(ways, pc, true, false) {
         return Growth::Same;
     }
-    match ways.next(pc) {
+    match ways.at(pc).next() {
         Some(arc) if leads_to(ways, arc.to, pc) => Growth::Round(pc),
         _ => Growth::Longer,
     }

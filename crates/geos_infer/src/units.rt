@@ -7,7 +7,7 @@ use crate::asked::coefficients_join;
 use crate::body::Body;
 use crate::longest::find_longest;
 use crate::paid::back_edges;
-use crate::ways::{Units, Ways, cost};
+use crate::ways::{Ways, cost};
 use geos_image::{MOST_INSTRS, Opcode};
 
 /// What a way round costs, what the units of counters pay of that, how many it takes of each counter, and which it sets.
@@ -32,7 +32,7 @@ impl Round {
 fn with_arc(round: &Round, ways: &Ways, pc: u16, arc: &Arc) -> Round
     requires { pc < 4096 }
 {
-    let (costs, paid) = cost(arc, &ways.units.at(pc).pay, &ways.units.at(arc.to).pay);
+    let (costs, paid) = cost(arc, &ways.at(pc).pay, &ways.at(arc.to).pay);
     let mut next = *round;
     next.costs = next.costs.saturating_add(costs);
     next.paid = next.paid.saturating_add(paid);
@@ -56,7 +56,7 @@ fn round_at(ways: &Ways, from: u16) -> Round
     let mut round = Round::NOTHING;
     let mut at = from;
     for _ in 0..MOST_INSTRS {
-        let Some(arc) = ways.next(at) else {
+        let Some(arc) = ways.at(at).next() else {
             return round;
         };
         round = with_arc(&round, ways, at, &arc);
@@ -117,17 +117,19 @@ fn raised_unit(unit: u32, raised: u16, raise: &Raise) -> Option<u32> {
 fn raise_at(ways: &mut Ways, pc: u16, arc: &Arc, raise: &Raise) -> bool
     requires { pc < 4096 }
 {
-    let counter = raise.counter;
-    if arc.counting != Counting::Takes(counter) || 4 <= counter {
+    let Counting::Takes(counter) = arc.counting else {
+        return true;
+    };
+    if counter != raise.counter || 4 <= counter {
         return true;
     }
-    let mut units = ways.units.at(pc);
-    let Some(unit) = raised_unit(units.pay[usize::from(counter)], units.raised, raise) else {
+    let mut place = ways.at(pc);
+    let Some(unit) = raised_unit(place.pay[usize::from(counter)], place.raised, raise) else {
         return false;
     };
-    units.pay[usize::from(counter)] = unit;
-    units.raised = units.raised.saturating_add(1);
-    ways.units.set(pc, units);
+    place.pay[usize::from(counter)] = unit;
+    place.raised = place.raised.saturating_add(1);
+    ways.set(pc, place);
     true
 }
 
@@ -137,7 +139,7 @@ fn raise_round(ways: &mut Ways, from: u16, raise: &Raise) -> bool
 {
     let mut at = from;
     for _ in 0..MOST_INSTRS {
-        let Some(arc) = ways.next(at) else {
+        let Some(arc) = ways.at(at).next() else {
             return false;
         };
         if !raise_at(ways, at, &arc, raise) {
@@ -165,13 +167,14 @@ fn asked_units(arc: &Arc, there: &[u32; 4]) -> [u32; 4] {
 fn carry_over(ways: &mut Ways, pc: u16, branch: bool) -> bool
     requires { pc < 4096 }
 {
-    let Some(arc) = ways.arc(pc, branch) else {
+    let mut here = ways.at(pc);
+    let Some(arc) = here.arc(branch) else {
         return false;
     };
-    let Units { pay: old, raised } = ways.units.at(pc);
-    let pay = coefficients_join(&old, &asked_units(&arc, &ways.units.at(arc.to).pay));
-    ways.units.set(pc, Units { pay, raised });
-    pay != old
+    let old = here.pay;
+    here.pay = coefficients_join(&old, &asked_units(&arc, &ways.at(arc.to).pay));
+    ways.set(pc, here);
+    here.pay != old
 }
 
 /// The same over each edge of a routine, from the last to the first.
@@ -227,7 +230,7 @@ fn count_loops(body: &Body) -> u16 {
 }
 
 /// Pays for one way round after another, until the longest way from each place ends; `false` where a way can't be paid for.
-fn pay_all(body: &Body, ways: &mut Ways) -> bool {
+pub(crate) fn pay_all(body: &Body, ways: &mut Ways) -> bool {
     let loops = count_loops(body);
     let times = u64::from(loops);
     // Each time a LOOP is raised. One is raised as often as there are LOOPs, and from then on its unit is doubled, so that it
@@ -245,38 +248,30 @@ fn pay_all(body: &Body, ways: &mut Ways) -> bool {
     false
 }
 
-/// What a unit has to pay for at a LOOP whose counter costs nothing; `None` where that is past what a potential can say.
-fn free_unit(ways: &Ways, pc: u16) -> Option<u32>
-    requires { pc < 4096 }
-{
-    match ways.arc(pc, true) {
-        Some(arc) => {
-            let asked = ways.longest.at(arc.to).steps.saturating_add(arc.steps);
-            u32::try_from(asked.saturating_sub(ways.longest.at(pc).steps)).ok()
-        }
-        None => Some(0),
-    }
-}
-
-/// Sets the unit at a LOOP whose counter costs nothing, if the instruction at a pc is one.
+/// Sets what a unit has to pay for at a LOOP whose counter costs nothing, if the instruction at a pc is one; `false` where that is
+/// past what a potential can say.
 fn pay_free_at(body: &Body, ways: &mut Ways, pc: u16) -> bool
     requires { pc < body.now.end }
 {
     let counter = body.image.instr(pc).a;
-    if !ways.costs.at(pc).free || 4 <= counter {
+    let mut here = ways.at(pc);
+    if !here.free || 4 <= counter {
         return true;
     }
-    let Some(unit) = free_unit(ways, pc) else {
+    let Some(arc) = here.arc(true) else {
+        return true;
+    };
+    let asked = ways.at(arc.to).steps.saturating_add(arc.steps);
+    let Ok(unit) = u32::try_from(asked.saturating_sub(here.steps)) else {
         return false;
     };
-    let mut units = ways.units.at(pc);
-    units.pay[usize::from(counter)] = unit.max(units.pay[usize::from(counter)]);
-    ways.units.set(pc, units);
+    here.pay[usize::from(counter)] = unit.max(here.pay[usize::from(counter)]);
+    ways.set(pc, here);
     true
 }
 
 /// The same for each instruction of a routine.
-fn pay_free(body: &Body, ways: &mut Ways) -> bool {
+pub(crate) fn pay_free(body: &Body, ways: &mut Ways) -> bool {
     for pc in body.start..body.end {
         if !pay_free_at(body, ways, pc) {
             return false;
@@ -284,13 +279,4 @@ fn pay_free(body: &Body, ways: &mut Ways) -> bool {
     }
     carry(body, ways);
     true
-}
-
-/// Finds what a unit of each counter has to pay for at each place of a routine, and the longest way from there; `false` where
-/// a way round can't be paid for.
-pub(crate) fn find_units(body: &Body, ways: &mut Ways) -> bool {
-    for pc in body.start..body.end {
-        ways.units.set(pc, Units::NOTHING);
-    }
-    pay_all(body, ways) && pay_free(body, ways)
 }
