@@ -14,14 +14,6 @@ pub(crate) struct Reach {
     pub(crate) counters: [Counter; 4],
 }
 
-/// A place, and what is known of a way to it.
-#[derive(Clone, Copy)]
-pub(crate) struct Arrival {
-    /// The place.
-    pub(crate) to: u16,
-    pub(crate) reach: Reach,
-}
-
 /// What is known of a way to each place.
 pub(crate) type Reached = Table<Option<Reach>>;
 
@@ -43,15 +35,15 @@ fn worth(reach: &Reach, longest: &[u64; 4]) -> u64 {
 }
 
 /// Sets what is known of a way to a place, unless one that is worth as much is known.
-pub(crate) fn note(reached: &mut Reached, longest: &[u64; 4], arrival: &Arrival)
-    requires { arrival.now.to < 4096 }
-    ensures { (reached.new ≡ reached.old) ⊎ (reached.new ≡ slice_set reached.old arrival.now.to (Some arrival.now.reach)) }
+pub(crate) fn note(reached: &mut Reached, longest: &[u64; 4], to: u16, reach: &Reach)
+    requires { to < 4096 }
+    ensures { (reached.new ≡ reached.old) ⊎ (reached.new ≡ slice_set reached.old to (Some reach.now)) }
 {
-    let better = match reached.at(arrival.to) {
-        Some(old) => worth(&old, longest) < worth(&arrival.reach, longest),
+    let better = match reached.at(to) {
+        Some(old) => worth(&old, longest) < worth(reach, longest),
         None => true,
     };
     if better {
-        reached.set(arrival.to, Some(arrival.reach));
+        reached.set(to, Some(*reach));
     }
 }

@@ -1,8 +1,9 @@
 //! The turns of loops, and ways on which more steps are taken than a potential can say.
 
-ghost use Rattle.std.specs.Prelude.{◌≡◌, ◌<◌, ◌≤◌, ◌+◌, ◌-◌, ℕ, true, IfSome, IfOk};
+ghost use Rattle.std.specs.Prelude.{◌≡◌, ◌<◌, ◌≤◌, ◌+◌, ◌-◌, ℕ, true, false, IfSome, IfOk};
 ghost use Rattle.geos_infer.specs.Turns.{begin_from, GoOn, AreReached, StayReached, IsTurn, AreTurns};
 ghost use Rattle.geos_infer.specs.Taken.{NoneIsAcceptedPast, StepsPass};
+ghost use Rattle.geos_infer.specs.Why.{LeadsTo};
 
 use crate::apart::lead;
 use crate::arcs::taken_at;
@@ -11,7 +12,7 @@ use crate::counters::{
     Counter, counter_at, counters_after, number_in, unless_all_changed, untouched, with_counter,
 };
 use crate::edges::is_loop;
-use crate::reach::{Arrival, Reach, Reached, note};
+use crate::reach::{Reach, Reached, note};
 use crate::spent::touched_by;
 use geos_verify::Touched;
 use std::alloc::{AllocError, Global};
@@ -37,65 +38,51 @@ fn capped(steps: u64) -> u64
     steps.min(u64::from(u32::MAX) + 1)
 }
 
-/// A way to a pc goes on along an edge.
-fn go_on(body: &Body, touched: &Touched, pc: u16, branch: bool, reach: &Reach) -> Option<Arrival>
+/// A way to a pc goes on along an edge, if that is taken.
+fn go_on(body: &Body, touched: &Touched, pc: u16, branch: bool, reach: &Reach) -> Option<Reach>
     requires above { body.now.start ≤ pc }
     requires below { pc < body.now.end }
-    ensures goes { IfSome result (λ next. GoOn body.now.image.now body.now.r pc reach.now next.to next.reach) }
-    ensures inside { IfSome result (λ next. next.to < 4096) }
+    ensures { IfSome result (λ next. (to : ℕ) → LeadsTo body.now.image.now pc branch to → GoOn body.now.image.now body.now.r pc reach.now to next) }
 {
-    let to = lead(body, pc, branch)?;
     let i = body.image.instr(pc);
     let called = untouched(&touched_by(touched, i.imm));
     let counters = counters_after(i, branch, &called, &reach.counters)?;
-    Some(Arrival {
-        to,
-        reach: Reach {
-            steps: capped(reach.steps) + taken_at(body, pc),
-            counters,
-        },
+    Some(Reach {
+        steps: capped(reach.steps) + taken_at(body, pc),
+        counters,
     })
 }
 
 /// A way to a LOOP goes on behind all the turns that are left, where the turn is known.
-fn go_on_behind(body: &Body, turns: &Reached, pc: u16, reach: &Reach) -> Option<Arrival>
-    requires above { body.now.start ≤ pc }
+fn go_on_behind(body: &Body, turns: &Reached, pc: u16, reach: &Reach) -> Option<Reach>
     requires below { pc < body.now.end }
     requires turns { AreTurns body.now.image.now body.now.r turns.now }
-    ensures goes { IfSome result (λ next. GoOn body.now.image.now body.now.r pc reach.now next.to next.reach) }
-    ensures inside { IfSome result (λ next. next.to < 4096) }
+    ensures { IfSome result (λ next. (to : ℕ) → LeadsTo body.now.image.now pc false to → GoOn body.now.image.now body.now.r pc reach.now to next) }
 {
     let turn = turns.at(pc)?;
-    let to = lead(body, pc, false)?;
     let counter = body.image.instr(pc).a;
     let left = u64::from(number_in(counter_at(&reach.counters, counter)));
     let spent = with_counter(&reach.counters, counter, Counter::Is(0));
-    Some(Arrival {
-        to,
-        reach: Reach {
-            steps: capped(reach.steps) + left * (capped(turn.steps) + 1) + 1,
-            counters: unless_all_changed(&turn.counters, &spent),
-        },
+    Some(Reach {
+        steps: capped(reach.steps) + left * (capped(turn.steps) + 1) + 1,
+        counters: unless_all_changed(&turn.counters, &spent),
     })
 }
 
 /// The same along an edge, where the instruction may be a LOOP.
-fn arrival(loops: &Loops, pc: u16, branch: bool, reach: &Reach) -> Option<Arrival>
+fn go_along(loops: &Loops, pc: u16, branch: bool, reach: &Reach) -> Option<Reach>
     requires above { loops.now.body.start ≤ pc }
     requires below { pc < loops.now.body.end }
     requires turns { AreTurns loops.now.body.image.now loops.now.body.r loops.now.turns.now }
-    ensures goes { IfSome result (λ next. GoOn loops.now.body.image.now loops.now.body.r pc reach.now next.to next.reach) }
-    ensures inside { IfSome result (λ next. next.to < 4096) }
+    ensures { IfSome result (λ next. (to : ℕ) → LeadsTo loops.now.body.image.now pc branch to
+        → GoOn loops.now.body.image.now loops.now.body.r pc reach.now to next) }
 {
     if !branch {
         if let Some(next) = go_on_behind(&loops.body, loops.turns, pc, reach) {
             return Some(next);
         }
     }
-    match go_on(&loops.body, loops.touched, pc, branch, reach) {
-        Some(next) => Some(next),
-        None => None,
-    }
+    go_on(&loops.body, loops.touched, pc, branch, reach)
 }
 
 /// What is known of a way to a pc goes along an edge that leads ahead, no further than to another.
@@ -109,11 +96,14 @@ fn go(loops: &Loops, reached: &mut Reached, pc: u16, branch: bool, high: u16)
     let Some(reach) = reached.at(pc) else {
         return;
     };
-    let Some(next) = arrival(loops, pc, branch, &reach) else {
+    let Some(to) = lead(&loops.body, pc, branch) else {
         return;
     };
-    if pc < next.to && next.to <= high {
-        note(reached, &loops.longest, &next);
+    if to <= pc || high < to {
+        return;
+    }
+    if let Some(next) = go_along(loops, pc, branch, &reach) {
+        note(reached, &loops.longest, to, &next);
     }
 }
 
