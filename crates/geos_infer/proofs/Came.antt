@@ -6,7 +6,7 @@ use Rattle.geos_image.specs.declared.row.Row.{Row}
 use Rattle.geos_image.specs.Parts.{Parts}
 use Rattle.geos_infer.specs.Flow.{known_at}
 use Rattle.geos_infer.specs.declared.edges.Edge.{Edge}
-use Rattle.geos_infer.specs.Why.{Comes, ComesBy, AllCome}
+use Rattle.geos_infer.specs.Why.{Comes, ComesBy, IsComing, AllCome}
 
 some-row : (x y : Row) → Some x ≡ Some y → x ≡ y
 some-row x y e = cc
@@ -29,10 +29,15 @@ all_come-set image r known to row all comes = elim (cases_lt to (length known)) 
 ]
 
 -- what comes along an edge comes to where it leads
-pub comes-by : (image : Parts) (r : ℕ) (edge : Edge) (row : Row) → ComesBy image r edge row → Comes image r edge.to row
+comes-by : (image : Parts) (r : ℕ) (edge : Edge) (row : Row) → ComesBy image r edge row → Comes image r edge.to row
 comes-by image r edge row by = record {
   routine = by.comes.routine;
   there = by.comes.there;
   edges = (edge.pc, edge.branch) ∷ by.comes.edges;
   way = (by.before, by.comes.way, by.leads, by.row_is);
 }
+
+-- and what comes to a place, along an edge or at the beginning, does
+pub comes-in : (image : Parts) (r to : ℕ) (from : Option Edge) (row : Row) → IsComing image r to (record { from = from; row = row }) → Comes image r to row
+comes-in image r to None row comes = comes
+comes-in image r to (Some edge) row by = subst (λ (n : ℕ). Comes image r n row) by.0 (comes-by image r edge row by.1)

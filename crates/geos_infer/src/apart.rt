@@ -3,7 +3,7 @@
 ghost use Rattle.std.specs.Prelude.{◌≡◌, ◌<◌, IfSome, IfOk, IfErr};
 ghost use Rattle.geos_infer.specs.Flow.{known_at};
 ghost use Rattle.geos_infer.specs.Code.{IsPcOf};
-ghost use Rattle.geos_infer.specs.Why.{LeadsTo, ComesBy, IsUnlike, AreApartIf, AllCome};
+ghost use Rattle.geos_infer.specs.Why.{LeadsTo, IsComing, IsUnlike, AreApartIf, AllCome};
 
 use crate::body::Body;
 use crate::common::agree;
@@ -50,45 +50,38 @@ pub(crate) fn lead(body: &Body, pc: u16, branch: bool) -> Option<u16>
     }
 }
 
-/// A row that control brings along an edge.
+/// A place, and how an edge brings control there.
 #[derive(Clone, Copy)]
 struct Brought {
-    edge: Edge,
-    row: Row,
+    to: u16,
+    coming: Coming,
 }
 
 /// What control brings along an edge, where something is known at the edge's beginning.
 fn bring(body: &Body, known: &Known, pc: u16, branch: bool) -> Option<Brought>
     requires here { pc < body.now.end }
     requires come { AllCome body.now.image.now body.now.r known.now }
-    ensures by { IfSome result (λ brought. ComesBy body.now.image.now body.now.r brought.edge brought.row) }
-    ensures inside { IfSome result (λ brought. brought.edge.to < 4096) }
+    ensures comes { IfSome result (λ brought. IsComing body.now.image.now body.now.r brought.to brought.coming) }
+    ensures inside { IfSome result (λ brought. brought.to < 4096) }
 {
-    let Some(row) = known.at(pc) else {
-        return None;
+    let row = known.at(pc)?;
+    let to = lead(body, pc, branch)?;
+    let coming = Coming {
+        from: Some(Edge { pc, branch, to }),
+        row: after(body.image, pc, &row, branch),
     };
-    match lead(body, pc, branch) {
-        Some(to) => Some(Brought {
-            edge: Edge { pc, branch, to },
-            row: after(body.image, pc, &row, branch),
-        }),
-        None => None,
-    }
+    Some(Brought { to, coming })
 }
 
-/// How an edge brings a row to the same place as another row, with slots that differ.
+/// How an edge brings a row to the same place as another comes to, with slots that differ.
 fn edge_unlike(body: &Body, known: &Known, pc: u16, branch: bool, other: &Brought) -> Option<Coming>
     requires here { pc < body.now.end }
     requires come { AllCome body.now.image.now body.now.r known.now }
-    ensures { IfSome result (λ coming. IsUnlike body.now.image.now body.now.r other.now.edge.to other.now.row coming) }
+    ensures { IfSome result (λ coming. IsUnlike body.now.image.now body.now.r other.now.to other.now.coming.row coming) }
 {
     match bring(body, known, pc, branch) {
-        Some(brought) if brought.edge.to == other.edge.to && !agree(&brought.row, &other.row) => {
-            Some(Coming {
-                from: Some(brought.edge),
-                row: brought.row,
-            })
-        }
+        Some(brought) if brought.to == other.to && !agree(&brought.coming.row, &other.coming.row) =>
+            { Some(brought.coming) }
         _ => None,
     }
 }
@@ -96,10 +89,10 @@ fn edge_unlike(body: &Body, known: &Known, pc: u16, branch: bool, other: &Brough
 /// The first way on which control comes so: where the routine begins, or along an edge.
 fn first_unlike(body: &Body, known: &Known, other: &Brought) -> Option<Coming>
     requires { AllCome body.now.image.now body.now.r known.now }
-    ensures { IfSome result (λ coming. IsUnlike body.now.image.now body.now.r other.now.edge.to other.now.row coming) }
+    ensures { IfSome result (λ coming. IsUnlike body.now.image.now body.now.r other.now.to other.now.coming.row coming) }
 {
     let entry = body.image.routine(body.r).entry;
-    if other.edge.to == body.start && !agree(&entry, &other.row) {
+    if other.to == body.start && !agree(&entry, &other.coming.row) {
         return Some(Coming {
             from: None,
             row: entry,
@@ -125,12 +118,9 @@ fn apart_at(body: &Body, known: &Known, edge: Edge) -> Option<Apart>
     let second = bring(body, known, edge.pc, edge.branch)?;
     let first = first_unlike(body, known, &second)?;
     Some(Apart {
-        to: second.edge.to,
+        to: second.to,
         first,
-        second: Coming {
-            from: Some(second.edge),
-            row: second.row,
-        },
+        second: second.coming,
     })
 }
 
@@ -145,13 +135,13 @@ fn go(body: &Body, known: &mut Known, pc: u16, branch: bool) -> Result<bool, Edg
     let Some(brought) = bring(body, known, pc, branch) else {
         return Ok(false);
     };
-    let to = brought.edge.to;
+    let Brought { to, coming } = brought;
     match known.at(to) {
         None => {
-            known.set(to, Some(brought.row));
+            known.set(to, Some(coming.row));
             Ok(true)
         }
-        Some(old) if agree(&old, &brought.row) => Ok(false),
+        Some(old) if agree(&old, &coming.row) => Ok(false),
         Some(_) => Err(Edge { pc, branch, to }),
     }
 }
