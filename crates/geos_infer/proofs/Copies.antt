@@ -1,17 +1,18 @@
 -- Lists that are made item after item from the routines and points of an image.
-use Rattle.std.proofs.Common.{◌≡◌, ◌∙◌, ◌<◌, ◌≤◌, ℕ, zero, suc, ◌+◌, List, [], ◌∷◌, ◌++◌, length, take, replicate, Option, Some, true, slice_get, get_or, set, refl, sym, ap, subst, add-one, arith, inl, inr}
+use Rattle.std.proofs.Common.{◌≡◌, ◌∙◌, ◌<◌, ◌≤◌, ℕ, zero, suc, ◌+◌, List, [], ◌∷◌, ◌++◌, length, take, replicate, Option, Some, true, slice_get, get_or, map, set, refl, sym, ap, subst, add-one, arith, inl, inr}
 use Rattle.std.specs.Prelude.{IfSome, slice_index, slice_index_or}
 use Rattle.std.proofs.lemmas.Bool.{cases_eq}
-use Rattle.std.proofs.lemmas.List.{get_or-set_same, get_or-set_other, length-append, length-replicate, replicate_more, take_all}
+use Rattle.std.proofs.lemmas.List.{get_or-set_same, get_or-set_other, length-append, map-set, length-replicate, replicate_more, take_all}
 use Rattle.std.proofs.lemmas.Option.{slice_get_within}
 use Rattle.geos_image.specs.declared.instr.Instr.{Instr}
 use Rattle.geos_image.specs.declared.point.Point.{Point}
+use Rattle.geos_image.specs.declared.potential.Potential.{Potential}
 use Rattle.geos_image.specs.declared.routine.Routine.{Routine}
 use Rattle.geos_image.specs.declared.row.Row.{Row}
 use Rattle.geos_image.specs.Legal.{is_row}
 use Rattle.geos_image.specs.Parts.{Parts}
 use Rattle.geos_infer.specs.Flow.{row_of, known_at}
-use Rattle.geos_infer.specs.Numbers.{Numbers}
+use Rattle.geos_infer.specs.Numbers.{Numbers, steps_of, coefficients_of, numbers_of}
 use Rattle.geos_infer.specs.Points.{PointsOf, RoutinesOf}
 use borrow.Author.Count.{below_more}
 
@@ -39,6 +40,26 @@ module _ {A : Type 0} (x : A) where
     | inl same ↦ ap (λ (n : ℕ). get_or (set items pc x) n other) same ∙ get_or-set_same items pc x other within
     | inr ne ↦ get_or-set_other items pc k x other ne ∙ filled k other above (omega arith)
   ]
+
+-- Potentials
+
+abbrev none : Potential
+none = record { constant = 0; coefficients = [] }
+
+pub numbers-at : (potentials : List Potential) (pc : ℕ) (p : Potential) → ((other : Potential) → p ≡ get_or potentials pc other)
+    → (p.constant ≡ get_or (numbers_of potentials).steps pc 0) × (p.coefficients ≡ get_or (numbers_of potentials).coefficients pc [])
+numbers-at [] pc p at = (ap steps_of (at none), ap coefficients_of (at none))
+numbers-at (q ∷ potentials) zero p at = (ap steps_of (at none), ap coefficients_of (at none))
+numbers-at (q ∷ potentials) (suc pc) p at = numbers-at potentials pc p at
+
+abbrev both : List ℕ → List (List ℕ) → Numbers
+both steps coefficients = record { steps = steps; coefficients = coefficients }
+
+pub numbers-set : (potentials : List Potential) (pc : ℕ) (p : Potential)
+    → numbers_of (set potentials pc p) ≡ record { steps = set (numbers_of potentials).steps pc p.constant; coefficients = set (numbers_of potentials).coefficients pc p.coefficients }
+numbers-set potentials pc p =
+    ap (λ (steps : List ℕ). both steps (map coefficients_of (set potentials pc p))) (map-set steps_of potentials pc p)
+    ∙ ap (both (set (map steps_of potentials) pc p.constant)) (map-set coefficients_of potentials pc p)
 
 -- Routines
 

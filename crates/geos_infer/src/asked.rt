@@ -2,14 +2,13 @@
 
 ghost use Rattle.std.specs.Prelude.{◌≡◌, ◌<◌, max, zip, length};
 ghost use Rattle.geos_verify.specs.Lists.{zip2};
-ghost use Rattle.geos_infer.specs.Numbers.{zeros};
+ghost use Rattle.geos_infer.specs.Numbers.{numbers_of, zeros};
 ghost use Rattle.geos_infer.specs.Count.{asked_steps, asked_coefficients, return_steps, AsksSteps, IsFound};
 
 use crate::body::Body;
 use crate::edges::edge_in;
 use crate::flow::row_of;
-use crate::potentials::Potentials;
-use crate::table::Known;
+use crate::table::{Known, Potentials};
 use geos_image::{Instr, Opcode, Potential};
 use geos_verify::{Asked, asked_along, asked_branching};
 
@@ -22,7 +21,7 @@ pub(crate) fn asked_over(
     branch: bool,
 ) -> Option<Asked>
     requires { pc < body.now.end }
-    ensures { AsksSteps body.now.image.now body.now.r body.now.end pc branch potentials.now result }
+    ensures { AsksSteps body.now.image.now body.now.r body.now.end pc branch (numbers_of potentials.now) result }
 {
     let edge = edge_in(body, pc, branch)?;
     let i = body.image.instr(pc);
@@ -109,7 +108,7 @@ pub(crate) fn potential_at(
     pc: u16,
 ) -> Option<Potential>
     requires { pc < body.now.end }
-    ensures { IsFound body.now.image.now body.now.r body.now.end pc potentials.now result }
+    ensures { IsFound body.now.image.now body.now.r body.now.end pc (numbers_of potentials.now) result }
 {
     let i = body.image.instr(pc);
     let along = asked_over(body, known, potentials, pc, false);

@@ -5,6 +5,7 @@ ghost use Rattle.geos_infer.specs.declared.error.InferError.TheVariants.{NoRows}
 ghost use Rattle.geos_infer.specs.Code.{ForwardIn};
 ghost use Rattle.geos_infer.specs.Solutions.{NoStepsHoldIn};
 ghost use Rattle.geos_infer.specs.Count.{CountsOn, AreCounted};
+ghost use Rattle.geos_infer.specs.Numbers.{numbers_of};
 ghost use Rattle.geos_infer.specs.Theorem.{NamesRoutine};
 
 use crate::asked::potential_at;
@@ -14,9 +15,8 @@ use crate::cycles::has_unpaid_cycle;
 use crate::edges::{is_loop, leads_back};
 use crate::error::InferError;
 use crate::paid::are_paid;
-use crate::potentials::Potentials;
 use crate::spent::{calls_are_spent, find_touched};
-use crate::table::{Known, Table};
+use crate::table::{Known, Potentials, Table};
 use crate::units::{pay_all, pay_free};
 use crate::unpaid::WaysIn;
 use crate::ways::{Place, Ways, note_arcs};
@@ -27,7 +27,7 @@ use std::alloc::Global;
 /// Steps of a routine are counted from its last instruction to its first; `None` where a number is
 /// past what a potential can say.
 fn sweep(body: &Body, known: &Known, potentials: &mut Potentials) -> Option<()>
-    ensures { CountsOn body.now.image.now body.now.r potentials.old potentials.new (is_some result) }
+    ensures { CountsOn body.now.image.now body.now.r (numbers_of potentials.old) (numbers_of potentials.new) (is_some result) }
 {
     // For what its law says.
     potentials.lengths();
@@ -110,7 +110,7 @@ fn count_in(
     tables: &mut Tables,
     potentials: &mut Potentials,
 ) -> bool
-    ensures { CountsOn body.now.image.now body.now.r potentials.old potentials.new result }
+    ensures { CountsOn body.now.image.now body.now.r (numbers_of potentials.old) (numbers_of potentials.new) result }
 {
     if has_loops(body) {
         count_loops(body, known, touched, tables, potentials)
@@ -129,7 +129,7 @@ fn count_all(
     potentials: &mut Potentials,
 ) -> Option<u16>
     requires { routines ≤ length image.now.routines }
-    ensures counted { AreCounted image.now 0 routines potentials.new }
+    ensures counted { AreCounted image.now 0 routines (numbers_of potentials.new) }
     ensures within { IfSome result (λ r. r < routines) }
     ensures none { IfSome result (NoStepsHoldIn image.now) }
 {
@@ -153,11 +153,15 @@ pub(crate) fn count(
 ) -> Result<Potentials, InferError>
     requires { routines ≤ length image.now.routines }
     ensures all { IfOk result (λ _. routines ≡ length image.now.routines) }
-    ensures counted { IfOk result (AreCounted image.now 0 routines) }
+    ensures counted { IfOk result (λ potentials. AreCounted image.now 0 routines (numbers_of potentials)) }
     ensures within { IfErr result (NamesRoutine image.now) }
     ensures none { IfErr result (λ error. (r : ℕ) → error ≡ NoRows r → (r ≡ routines) ⊎ NoStepsHoldIn image.now r) }
 {
-    let mut potentials = Potentials::new(alloc)?;
+    let nothing = Potential {
+        constant: 0,
+        coefficients: [0; 4],
+    };
+    let mut potentials = Potentials::new(alloc, nothing)?;
     let left = {
         let mut tables = Tables {
             into: Table::new(alloc, WaysIn::with_left(0))?,

@@ -3,6 +3,7 @@
 ghost use Rattle.std.specs.Prelude.{◌≡◌, ℕ, length, IfOk, IfErr};
 ghost use Rattle.geos_infer.specs.declared.error.InferError.TheVariants.{NoRows};
 ghost use Rattle.geos_infer.specs.Code.{SameCode};
+ghost use Rattle.geos_infer.specs.Numbers.{numbers_of};
 ghost use Rattle.geos_infer.specs.Points.{PointsOf, RoutinesOf};
 ghost use Rattle.geos_infer.specs.Reached.{AllHoldWhereReached, RowsThatHoldPass};
 ghost use Rattle.geos_infer.specs.Theorem.{FindsWhatThereIs, NoneIsAccepted, NothingHoldsIn, NamesRoutine};
@@ -10,9 +11,8 @@ ghost use Rattle.geos_infer.specs.Theorem.{FindsWhatThereIs, NoneIsAccepted, Not
 use crate::count::count;
 use crate::error::InferError;
 use crate::flow::row_of;
-use crate::potentials::Potentials;
 use crate::rows::find_rows;
-use crate::table::Known;
+use crate::table::{Known, Potentials};
 use geos_image::{Image, Point, Routine};
 use std::alloc::{AllocError, Global};
 
@@ -23,7 +23,7 @@ fn points_of(
     known: &Known,
     potentials: &Potentials,
 ) -> Result<Vec<Point>, AllocError>
-    ensures { IfOk result (λ points. PointsOf image.now known.now potentials.now points.items) }
+    ensures { IfOk result (λ points. PointsOf image.now known.now (numbers_of potentials.now) points.items) }
 {
     let mut points = Vec::new(alloc);
     for pc in 0..image.len() {

@@ -21,7 +21,6 @@ mod flow;
 mod inference;
 mod longest;
 mod paid;
-mod potentials;
 mod reach;
 mod rounds;
 mod rows;

@@ -6,8 +6,7 @@ ghost use Rattle.geos_infer.specs.Code.{ForwardIn};
 use crate::asked::asked_over;
 use crate::body::Body;
 use crate::edges::leads_back;
-use crate::potentials::Potentials;
-use crate::table::Known;
+use crate::table::{Known, Potentials};
 
 /// Whether an edge is paid for, if the instruction at the pc has it and it stays in the routine.
 fn is_paid(body: &Body, known: &Known, potentials: &Potentials, pc: u16, branch: bool) -> bool

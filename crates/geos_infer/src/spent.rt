@@ -6,7 +6,7 @@ ghost use Rattle.geos_verify.specs.Touched.{noted};
 ghost use Rattle.geos_infer.specs.Causes.{NotesTouched};
 
 use crate::body::Body;
-use crate::potentials::Potentials;
+use crate::table::Potentials;
 use geos_image::{Image, Opcode};
 use geos_verify::{Touched, are_spent, touched_in};
 

@@ -2,7 +2,7 @@
 
 ghost use Rattle.std.specs.Prelude.{◌≡◌, ◌<◌, ◌≤◌, ℕ, length, slice_index_or, slice_set, IfOk};
 
-use geos_image::{MOST_INSTRS, Row};
+use geos_image::{MOST_INSTRS, Potential, Row};
 use std::alloc::{AllocError, Global};
 use std::marker::Model;
 
@@ -14,6 +14,9 @@ pub(crate) struct Table<T: Copy> {
 
 /// What is known at each pc.
 pub(crate) type Known = Table<Option<Row>>;
+
+/// The potential at each pc.
+pub(crate) type Potentials = Table<Potential>;
 
 impl<T: Copy> Model for Table<T> {
     ghost use Rattle.std.specs.Prelude.{◌≡◌, List, length};

@@ -1,6 +1,7 @@
 use Rattle.std.proofs.Common.{◌<◌, sym, ap, ◌∙◌, inl, inr, arith}
 use Rattle.std.specs.Prelude.{max}
 use Rattle.std.proofs.lemmas.Bool.{cases_lt}
+use Rattle.geos_infer.specs.Numbers.{numbers_of}
 use Rattle.geos_infer.specs.Solutions.{most_steps}
 use Rattle.geos_infer.proofs.Asks.{found-some, found-none}
 use Rattle.geos_infer.proofs.asked.potential_at.Goals as goal
@@ -9,7 +10,7 @@ pub returns-in-Ok : goal.returns-in-Ok
 returns-in-Ok c = λ forward none.
     let body = c.args.body.now in
     let is = c.larger64.ensures ∙ ap (λ n. max n c.larger64-edges.result) c.return_steps.ensures ∙ ap (max _) c.larger64-edges.ensures in
-    found-some body.image.now body.end c.args.pc c.args.potentials.now.steps c.instr-i.result.now c.asked_over-along.result c.asked_over-branching.result c.coefficients_at-coefficients.result c.owed.result c.owed-2.result c.larger64.result
+    found-some body.image.now body.end c.args.pc (numbers_of c.args.potentials.now).steps c.instr-i.result.now c.asked_over-along.result c.asked_over-branching.result c.coefficients_at-coefficients.result c.owed.result c.owed-2.result c.larger64.result
     (omega (arith, body.room)) c.instr-i.ensures.there (c.asked_over-along.ensures forward none) (c.asked_over-branching.ensures forward none) c.coefficients_at-coefficients.ensures c.owed.ensures c.owed-2.ensures is
     c.in-Ok.constant (sym c.in-Ok.ensures.1)
 
@@ -18,5 +19,5 @@ returns-in-Err c = λ forward none.
     let body = c.args.body.now in
     let is = c.larger64.ensures ∙ ap (λ n. max n c.larger64-edges.result) c.return_steps.ensures ∙ ap (max _) c.larger64-edges.ensures in
     let past : most_steps < c.larger64.result = elim (cases_lt c.larger64.result 4294967296) [ inl lt ↦ absurd (c.in-Err.ensures lt) | inr le ↦ omega arith ] in
-    found-none body.image.now body.end c.args.pc c.args.potentials.now.steps c.instr-i.result.now c.asked_over-along.result c.asked_over-branching.result c.coefficients_at-coefficients.result c.owed.result c.owed-2.result c.larger64.result
+    found-none body.image.now body.end c.args.pc (numbers_of c.args.potentials.now).steps c.instr-i.result.now c.asked_over-along.result c.asked_over-branching.result c.coefficients_at-coefficients.result c.owed.result c.owed-2.result c.larger64.result
     (omega (arith, body.room)) c.instr-i.ensures.there (c.asked_over-along.ensures forward none) (c.asked_over-branching.ensures forward none) c.coefficients_at-coefficients.ensures c.owed.ensures c.owed-2.ensures is past

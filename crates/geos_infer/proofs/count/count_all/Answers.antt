@@ -1,6 +1,7 @@
 use Rattle.std.proofs.Common.{◌≡◌, ◌-◌, ℕ, Bool, sym, ◌∙◌, subst, arith}
 use Rattle.std.proofs.lemmas.Bool.{false≢true}
 use Rattle.geos_infer.specs.Count.{CountsOn, AreCounted}
+use Rattle.geos_infer.specs.Numbers.{numbers_of}
 use Rattle.geos_infer.proofs.Counts.{counts-in, are_counted-more}
 use Rattle.geos_infer.proofs.count.count_all.Goals as goal
 
@@ -11,7 +12,7 @@ pub loop-r-preserved-then-not-count_in : goal.loop-r-preserved-then-not-count_in
 loop-r-preserved-then-not-count_in c =
     let image = c.args.image.now in
     let r = c.loop-r.r - 1 in
-    let on = counts-in image c.body_of.result.image.now c.body_of.result.r r c.loop-r.potentials c.count_in.new.potentials c.count_in.result c.body_of.ensures.image c.body_of.ensures.r c.count_in.ensures in (
+    let on = counts-in image c.body_of.result.image.now c.body_of.result.r r (numbers_of c.loop-r.potentials) (numbers_of c.count_in.new.potentials) c.count_in.result c.body_of.ensures.image c.body_of.ensures.r c.count_in.ensures in (
       λ want all q from lt. (let this = all r (omega (arith, c.loop-r-test.true)) in absurd (false≢true (sym c.if-not-count_in.true ∙ (on want this.0 this.1).0))),
       omega (arith, c.loop-r-test.true),
       λ want forward holds. false≢true (sym c.if-not-count_in.true ∙ (on want forward holds).0),
@@ -21,9 +22,9 @@ pub loop-r-preserved : goal.loop-r-preserved
 loop-r-preserved c =
     let image = c.args.image.now in
     let r = c.loop-r.r - 1 in
-    let on = counts-in image c.body_of.result.image.now c.body_of.result.r r c.loop-r.potentials c.count_in.new.potentials c.count_in.result c.body_of.ensures.image c.body_of.ensures.r c.count_in.ensures in (
-      are_counted-more image r c.loop-r.r c.args.routines c.loop-r.potentials c.count_in.new.potentials (omega (arith, c.loop-r-test.true)) (omega (arith, c.loop-r-test.true)) c.loop-r.invariant.0
-          (subst (λ (b : Bool). CountsOn image r c.loop-r.potentials c.count_in.new.potentials b) c.if-not-count_in.false on),
+    let on = counts-in image c.body_of.result.image.now c.body_of.result.r r (numbers_of c.loop-r.potentials) (numbers_of c.count_in.new.potentials) c.count_in.result c.body_of.ensures.image c.body_of.ensures.r c.count_in.ensures in (
+      are_counted-more image r c.loop-r.r c.args.routines (numbers_of c.loop-r.potentials) (numbers_of c.count_in.new.potentials) (omega (arith, c.loop-r-test.true)) (omega (arith, c.loop-r-test.true)) c.loop-r.invariant.0
+          (subst (λ (b : Bool). CountsOn image r (numbers_of c.loop-r.potentials) (numbers_of c.count_in.new.potentials) b) c.if-not-count_in.false on),
       c.loop-r.invariant.1,
       c.loop-r.invariant.2,
     )
@@ -31,4 +32,4 @@ loop-r-preserved c =
 pub returns-clause-counted : goal.returns-clause-counted
 returns-clause-counted c =
     let zero : c.loop-r.r ≡ 0 = omega (arith, c.loop-r-test.false) in
-    subst (λ (n : ℕ). AreCounted c.args.image.now n c.args.routines c.loop-r.potentials) zero c.loop-r.invariant.0
+    subst (λ (n : ℕ). AreCounted c.args.image.now n c.args.routines (numbers_of c.loop-r.potentials)) zero c.loop-r.invariant.0

@@ -3,6 +3,7 @@ use Rattle.std.proofs.lemmas.Bool.{false≢true}
 use Rattle.geos_image.specs.Parts.{Parts}
 use Rattle.geos_infer.specs.Flow.{HaveFlowed}
 use Rattle.geos_infer.specs.Count.{AreCounted}
+use Rattle.geos_infer.specs.Numbers.{numbers_of}
 use Rattle.geos_infer.specs.Reached.{AllHoldWhereReached}
 use Rattle.geos_infer.specs.Theorem.{FindsWhatThereIs, with_points}
 use Rattle.geos_infer.proofs.Finding.{found-legal, found-code, found-checked, none-accepted, stuck-in, made-legal, made-is, made-code}
@@ -22,7 +23,7 @@ pub unreachable-requires : goal.unreachable-requires
 unreachable-requires c =
     let image = c.args.skeleton.now in
     let points = c.in_ok-points.points.items in
-    let legal = found-legal image c.in_ok-known.known c.in-Ok.potentials points c.len-legal.ensures.legal c.in_ok-points.ensures in
+    let legal = found-legal image c.in_ok-known.known (numbers_of c.in-Ok.potentials) points c.len-legal.ensures.legal c.in_ok-points.ensures in
     absurd (false≢true (c.in-None.ensures.some.1 (made-legal image c.in_ok-routines.routines.items points c.in_ok-routines.ensures legal)))
 
 pub returns-clause-code : goal.returns-clause-code
@@ -30,7 +31,7 @@ returns-clause-code c =
     let image = c.args.skeleton.now in
     let points = c.in_ok-points.points.items in
     let is = made-is image c.in-Some.image c.in_ok-routines.routines.items points c.in_ok-routines.ensures c.in-Some.ensures.value in
-    made-code image c.in-Some.image points is (found-code image c.in_ok-known.known c.in-Ok.potentials points c.in_ok-points.ensures)
+    made-code image c.in-Some.image points is (found-code image c.in_ok-known.known (numbers_of c.in-Ok.potentials) points c.in_ok-points.ensures)
 
 pub returns-clause-found : goal.returns-clause-found
 returns-clause-found c =
@@ -39,8 +40,8 @@ returns-clause-found c =
     let is = made-is image c.in-Some.image c.in_ok-routines.routines.items points c.in_ok-routines.ensures c.in-Some.ensures.value in
     let all = c.in-Ok.ensures.all in
     let flowed = subst (λ (n : ℕ). HaveFlowed image c.in_ok-known.known n) all (c.in_ok-known.ensures.found all) in
-    let counted = subst (λ (n : ℕ). AreCounted image 0 n c.in-Ok.potentials) all c.in-Ok.ensures.counted in
-    let found = found-checked image c.len-legal.ensures.legal c.in_ok-known.known c.in-Ok.potentials points flowed counted c.in_ok-points.ensures in
+    let counted = subst (λ (n : ℕ). AreCounted image 0 n (numbers_of c.in-Ok.potentials)) all c.in-Ok.ensures.counted in
+    let found = found-checked image c.len-legal.ensures.legal c.in_ok-known.known (numbers_of c.in-Ok.potentials) points flowed counted c.in_ok-points.ensures in
     subst (λ (x : Parts). FindsWhatThereIs image x) (sym is) found
 
 pub returns-clause-rows : goal.returns-clause-rows
@@ -49,6 +50,6 @@ returns-clause-rows c =
     let known = c.in_ok-known.known in
     let points = c.in_ok-points.points.items in
     let is = made-is image c.in-Some.image c.in_ok-routines.routines.items points c.in_ok-routines.ensures c.in-Some.ensures.value in
-    let codes = found-code image known c.in-Ok.potentials points c.in_ok-points.ensures in
-    let hold : AllHoldWhereReached (with_points image points) = (λ r lt. fit-holds image known c.in-Ok.potentials points c.in_ok-points.ensures codes r (c.in_ok-known.ensures.fit r (let all = c.in-Ok.ensures.all in omega arith))) in
+    let codes = found-code image known (numbers_of c.in-Ok.potentials) points c.in_ok-points.ensures in
+    let hold : AllHoldWhereReached (with_points image points) = (λ r lt. fit-holds image known (numbers_of c.in-Ok.potentials) points c.in_ok-points.ensures codes r (c.in_ok-known.ensures.fit r (let all = c.in-Ok.ensures.all in omega arith))) in
     subst AllHoldWhereReached (sym is) hold
