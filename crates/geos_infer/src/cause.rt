@@ -68,14 +68,6 @@ fn back_at(body: &Body, from: u16) -> Option<BackWay>
     }
 }
 
-/// A way that leads back on a way round that nothing pays for, if there is one.
-fn unpaid_back(alloc: Global, body: &Body) -> Result<Option<BackWay>, AllocError>
-    ensures { IfOk result (λ back. IfSome back (λ back. GoesRound body.now.image.now body.now.r back.from back.to)) }
-{
-    let mut into = Table::new(alloc, WaysIn::with_left(0))?;
-    Ok(find_round(body, &mut into))
-}
-
 /// The first way that leads back.
 fn find_back(body: &Body) -> Option<BackWay>
     ensures { IfSome result (LeadsBack body.now.image.now body.now.r) }
@@ -216,7 +208,11 @@ pub fn find_cause(alloc: Global, image: &Image, r: u16) -> Result<Cause, AllocEr
     if let Some(apart) = find_apart(alloc, &body)? {
         return Ok(Cause::SlotsDiffer(apart));
     }
-    if let Some(back) = unpaid_back(alloc, &body)? {
+    let unpaid = {
+        let mut into = Table::new(alloc, WaysIn::with_left(0))?;
+        find_round(&body, &mut into)
+    };
+    if let Some(back) = unpaid {
         return Ok(Cause::NoLoop(back));
     }
     cause_of_steps(alloc, &body, &find_touched(image))

@@ -70,12 +70,14 @@ pub fn infer(alloc: Global, skeleton: &Image) -> Result<Image, InferError>
 {
     // For what `len` says of the skeleton: it is one that the format allows.
     let _legal = skeleton.len();
-    let (known, routines) = find_rows(alloc, skeleton)?;
-    let potentials = match count(alloc, skeleton, routines, &known) {
-        Ok(potentials) => potentials,
-        Err(error) => return Err(error),
+    let points = {
+        let (known, routines) = find_rows(alloc, skeleton)?;
+        let potentials = match count(alloc, skeleton, routines, &known) {
+            Ok(potentials) => potentials,
+            Err(error) => return Err(error),
+        };
+        points_of(alloc, skeleton, &known, &potentials)?
     };
-    let points = points_of(alloc, skeleton, &known, &potentials)?;
     let routines = routines_of(alloc, skeleton)?;
     match Image::new(routines, points) {
         Some(image) => Ok(image),

@@ -42,27 +42,14 @@ pub(crate) fn touches(table: &Touched, r: u16, counter: u8) -> bool
     }
 }
 
-/// Whether no coefficient is left behind the instruction at the pc, if that is a call, on a counter
-/// that the routine touches.
-fn call_is_spent(body: &Body, touched: &Touched, potentials: &Potentials, pc: u16) -> bool
-    requires { pc < body.now.end }
-{
-    let i = body.image.instr(pc);
-    let next = pc + 1;
-    if body.end <= next {
-        return true;
-    }
-    match i.opcode {
-        Opcode::Call => are_spent(&touched_by(touched, i.imm), &potentials.at(next)),
-        _ => true,
-    }
-}
-
-/// Whether no coefficient is left behind the calls of a routine.
+/// Whether no coefficient is left behind the calls of a routine, on counters that the routines touch that are called.
 pub(crate) fn calls_are_spent(body: &Body, touched: &Touched, potentials: &Potentials) -> bool {
-    for pc in body.start..body.end {
-        if !call_is_spent(body, touched, potentials, pc) {
-            return false;
+    for pc in body.start..body.end - 1 {
+        let i = body.image.instr(pc);
+        if let Opcode::Call = i.opcode {
+            if !are_spent(&touched_by(touched, i.imm), &potentials.at(pc + 1)) {
+                return false;
+            }
         }
     }
     true

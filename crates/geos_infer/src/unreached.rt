@@ -174,10 +174,10 @@ fn round(
                     times,
                 },
             );
-            let exit = body.image.routine(body.r).exit;
-            let row = others.at(pc).or(from.at(pc)).unwrap_or(exit);
-            others.set(pc, Some(clean(&row)));
-            changed |= pass_lone(body, pc, known, turns, others);
+            if let Some(row) = others.at(pc).or(from.at(pc)) {
+                others.set(pc, Some(clean(&row)));
+                changed |= pass_lone(body, pc, known, turns, others);
+            }
         }
     }
     changed
