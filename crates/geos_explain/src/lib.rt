@@ -29,9 +29,10 @@ mod words;
 mod written;
 
 pub use explanation::explain;
+pub use geos_listing::put_numbered;
 pub use lacks::rows_that_fit_lack_nothing;
 pub use led::marks_what_is_reached;
 pub use listed::{explanation_is_listing_with_notes, explanation_is_text_with_notes};
-pub use numbers::{put_numbered, put_pc};
+pub use numbers::put_pc;
 pub use texts::explain_text;
 pub use trace::what_is_said_of_a_pointer_holds;

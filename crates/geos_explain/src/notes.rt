@@ -5,11 +5,11 @@ ghost use Rattle.geos_explain.specs.Places.{IsPlace, place_of};
 ghost use Rattle.geos_explain.specs.Notes.{known_text, coefficient_text, coefficients_text, is_one, potential_text, where_text, note_head, known_here, note, budget_words};
 
 use crate::led::is_reached;
-use crate::numbers::{put_numbered, steps_word, verb};
+use crate::numbers::{steps_word, verb};
 use crate::parts::{Part, put_parts};
 use crate::place::Place;
 use geos_image::{Potential, Routine, Row};
-use geos_listing::put_items;
+use geos_listing::{put_items, put_numbered};
 use std::alloc::{AllocError, Global};
 
 /// The items of the row and a comma; nothing for the open row.

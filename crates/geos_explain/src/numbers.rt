@@ -1,18 +1,10 @@
-//! Numbers in decimal digits, and the words that go with a number of steps or of items.
+//! The words that go with a number of steps or of items, and what a place is called.
 
-ghost use Rattle.std.specs.Prelude.{◌≡◌, ◌==◌, ◌++◌, OnOk, decimal};
+ghost use Rattle.std.specs.Prelude.{◌≡◌, ◌==◌, ◌++◌, OnOk};
 ghost use Rattle.geos_explain.specs.Numbers.{steps_word, bytes_word, verb, object, items_in, is_or_are, label_text, pc_text};
 
+use geos_listing::put_numbered;
 use std::alloc::AllocError;
-
-/// A sign and a number in decimal digits are written behind what there is. An error says that an allocation was refused.
-pub fn put_numbered(out: &mut Vec<u8>, sign: &str, n: u64) -> Result<(), AllocError>
-    ensures { OnOk result (out.new.items ≡ out.old.items ++ sign.now ++ decimal n) }
-{
-    out.extend_from_slice(sign.as_bytes())?;
-    let mut digits = itoa::Buffer::new();
-    out.extend_from_slice(digits.format(n).as_bytes())
-}
 
 /// The word for steps, and whether there is just one.
 #[tactic(auto, unfolding(crate::specs::Numbers::steps_word))]

@@ -5,7 +5,8 @@ ghost use Rattle.geos_explain.specs.Numbers.{are_text};
 ghost use Rattle.geos_explain.specs.Parts.{part_text, parts_text};
 
 use crate::notes::put_coefficients;
-use crate::numbers::{is_or_are, put_label, put_numbered, put_pc};
+use crate::numbers::{is_or_are, put_label, put_pc};
+use geos_listing::put_numbered;
 use std::alloc::AllocError;
 
 /// A part of a sentence.

@@ -6,7 +6,7 @@ ghost use Rattle.geos_explain.specs.declared.ways.Way.TheVariants.{Along};
 ghost use Rattle.geos_explain.specs.Stale.{if_stale, stale_used, pointer_item, is_refusable, refused_on, plain_way, way_text, meeting_place, known_from, not_from, meeting_words, meeting_item, named, name_at, call_loss, refused_loss, moved_words, use_loss, how_lost, lost_point, lost_by, in_wish, label_wish, refused_at, unset_words, unreached_words, merged_words, end_words, loss_words, trace_words, trace_item, stale_words};
 
 use crate::edges::Edge;
-use crate::numbers::{put_numbered, put_pc};
+use crate::numbers::put_pc;
 use crate::parts::{Part, put_parts};
 use crate::place::Place;
 use crate::points::point_at;
@@ -14,6 +14,7 @@ use crate::trace::{End, Meeting, Trace, hint_at, traced};
 use crate::uses::slot_behind;
 use crate::ways::{Followed, Way, forgets, is_stale, sets, with_hint};
 use geos_image::{Image, Instr, Point, Routine, Row};
+use geos_listing::put_numbered;
 use geos_opcodes::{PointerUse, SlotUse};
 use geos_verify::{pointer_at, uses_at};
 use std::alloc::AllocError;

@@ -4,11 +4,12 @@ ghost use Rattle.std.specs.Prelude.{◌≡◌, ◌<◌, ◌++◌, OnOk, length};
 ghost use Rattle.geos_explain.specs.Places.{IsPlace, place_of};
 ghost use Rattle.geos_explain.specs.Steps.{whole_words, asked_words, asks_along, asks_branching, paying_item, paying_items, touched_words, touched_here, last_words, unpaid_words};
 
-use crate::numbers::{put_numbered, steps_word, verb};
+use crate::numbers::{steps_word, verb};
 use crate::parts::{Part, put_parts};
 use crate::place::Place;
 use crate::points::point_at;
 use geos_image::{Opcode, Potential, Routine};
+use geos_listing::put_numbered;
 use geos_verify::{Asked, asked_along, asked_branching, branches, falls_through};
 use std::alloc::AllocError;
 

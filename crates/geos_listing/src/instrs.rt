@@ -1,21 +1,13 @@
 //! The lines of instructions.
 
-ghost use Rattle.std.specs.Prelude.{◌≡◌, ◌<◌, ◌++◌, OnOk, length, codes, decimal};
+ghost use Rattle.std.specs.Prelude.{◌≡◌, ◌<◌, ◌++◌, OnOk, length};
 ghost use Rattle.geos_opcodes.specs.Facts.{limit};
 ghost use Rattle.geos_listing.specs.Instrs.{KeepsLimits, operand_text, operands_text, instr_code, instr_line};
 
-use crate::numbers::put_number;
+use crate::numbers::put_numbered;
 use geos_image::{Image, Instr, value_at};
 use geos_opcodes::{FIELDS, Operand, operand_at};
 use std::alloc::AllocError;
-
-/// A sign and a number.
-pub(crate) fn put_numbered(out: &mut Vec<u8>, sign: &str, number: u16) -> Result<(), AllocError>
-    ensures { OnOk result (out.new.items ≡ out.old.items ++ sign.now ++ decimal number) }
-{
-    out.extend_from_slice(sign.as_bytes())?;
-    put_number(out, u32::from(number))
-}
 
 /// An operand, and a blank in front of it; nothing for a field that is unused.
 fn put_operand(
@@ -27,18 +19,19 @@ fn put_operand(
     requires { number < limit (length image.now.routines) (length image.now.points) operand }
     ensures { OnOk result (out.new.items ≡ out.old.items ++ operand_text image.now.routines operand number) }
 {
+    let n = u64::from(number);
     match operand {
         Operand::Unused => Ok(()),
-        Operand::Word => put_numbered(out, " w", number),
-        Operand::Counter => put_numbered(out, " k", number),
-        Operand::Slot => put_numbered(out, " s", number),
-        Operand::Pointer => put_numbered(out, " p", number),
-        Operand::Number | Operand::Shift => put_numbered(out, " ", number),
+        Operand::Word => put_numbered(out, " w", n),
+        Operand::Counter => put_numbered(out, " k", n),
+        Operand::Slot => put_numbered(out, " s", n),
+        Operand::Pointer => put_numbered(out, " p", n),
+        Operand::Number | Operand::Shift => put_numbered(out, " ", n),
         Operand::Routine => {
             out.extend_from_slice(b" ")?;
             out.extend_from_slice(image.routine(number).name_text())
         }
-        Operand::Label => put_numbered(out, " L", number),
+        Operand::Label => put_numbered(out, " L", n),
     }
 }
 

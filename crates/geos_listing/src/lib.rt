@@ -11,5 +11,6 @@ mod targets;
 
 pub use instrs::put_code;
 pub use listing::{list, put_label_line, put_routine_line};
+pub use numbers::put_numbered;
 pub use rows::{put_items, put_row, state_word};
 pub use targets::{Targets, targets_of};

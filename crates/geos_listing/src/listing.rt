@@ -8,8 +8,8 @@ ghost use Rattle.geos_listing.specs.Rows.{texts_below};
 ghost use Rattle.geos_listing.specs.Instrs.{MarksTargets, label_line};
 ghost use Rattle.geos_listing.specs.Listing.{public_text, routine_line, place_text, listed_routine, listing};
 
-use crate::instrs::{put_instr, put_numbered};
-use crate::numbers::put_number;
+use crate::instrs::put_instr;
+use crate::numbers::put_numbered;
 use crate::rows::put_row;
 use crate::targets::{Targets, targets_of};
 use geos_image::{Image, Routine};
@@ -29,7 +29,7 @@ pub fn put_label_line(
     if !targets[usize::from(pc)] {
         return Ok(());
     }
-    put_numbered(out, "L", pc)?;
+    put_numbered(out, "L", u64::from(pc))?;
     out.extend_from_slice(b":\n")
 }
 
@@ -83,8 +83,8 @@ pub fn put_routine_line(out: &mut Vec<u8>, routine: &Routine) -> Result<(), Allo
     out.extend_from_slice(b"routine ")?;
     out.extend_from_slice(routine.name_text())?;
     put_public(out, routine.public)?;
-    out.extend_from_slice(b" budget ")?;
-    put_number(out, routine.budget)?;
+    let budget = routine.budget;
+    put_numbered(out, " budget ", u64::from(budget))?;
     out.extend_from_slice(b"\n")
 }
 

@@ -1,30 +1,27 @@
 //! The lines of rows.
 
-ghost use Rattle.std.specs.Prelude.{◌≡◌, ◌<◌, ◌++◌, OnOk, None, slice_index, slice_index_or};
+ghost use Rattle.std.specs.Prelude.{◌≡◌, ◌++◌, OnOk, None, slice_index, slice_index_or};
 ghost use Rattle.std.specs.List.{All};
 ghost use Rattle.geos_image.specs.declared.row.SlotState.TheVariants.{Empty};
 ghost use Rattle.geos_image.specs.Ranges.{IsWord, PointerFits, RowFits};
 ghost use Rattle.geos_listing.specs.Rows.{texts_below, bound_item, held_item, state_word, slot_item, pointer_item, pair_item, pair_slots, pair_items, row_items, row_line};
 
-use crate::numbers::put_number;
+use crate::numbers::put_numbered;
 use geos_image::{Pointer, Row, SlotState};
 use std::alloc::{AllocError, Global};
 
 /// The slots of each pair of a row.
-const PAIRS: [(u32, u32); 6] = [(0, 1), (0, 2), (0, 3), (1, 2), (1, 3), (2, 3)];
+const PAIRS: [(u64, u64); 6] = [(0, 1), (0, 2), (0, 3), (1, 2), (1, 3), (2, 3)];
 
 /// A word's bound, unless it is the greatest word.
 fn put_bound(out: &mut Vec<u8>, i: usize, bound: u16) -> Result<(), AllocError>
-    requires { i < 8 }
     ensures { OnOk result (out.new.items ≡ out.old.items ++ bound_item i bound) }
 {
     if bound == u16::MAX {
         return Ok(());
     }
-    out.extend_from_slice(b" w")?;
-    put_number(out, i as u32)?;
-    out.extend_from_slice(b"<=")?;
-    put_number(out, u32::from(bound))
+    put_numbered(out, " w", i as u64)?;
+    put_numbered(out, "<=", u64::from(bound))
 }
 
 #[tactic(auto, unfolding(crate::specs::Rows::texts_below))]
@@ -40,11 +37,9 @@ fn put_bounds(out: &mut Vec<u8>, bounds: &[u16; 8]) -> Result<(), AllocError>
 
 /// A slot that is held, and what it holds.
 fn put_held(out: &mut Vec<u8>, i: usize, word: &str) -> Result<(), AllocError>
-    requires { i < 4 }
     ensures { OnOk result (out.new.items ≡ out.old.items ++ held_item i word.now) }
 {
-    out.extend_from_slice(b" s")?;
-    put_number(out, i as u32)?;
+    put_numbered(out, " s", i as u64)?;
     out.extend_from_slice(b"=")?;
     out.extend_from_slice(word.as_bytes())
 }
@@ -62,7 +57,6 @@ pub fn state_word(state: SlotState) -> &'static str
 }
 
 fn put_slot(out: &mut Vec<u8>, i: usize, slot: SlotState) -> Result<(), AllocError>
-    requires { i < 4 }
     ensures { OnOk result (out.new.items ≡ out.old.items ++ slot_item i slot) }
 {
     match slot {
@@ -83,19 +77,15 @@ fn put_slots(out: &mut Vec<u8>, slots: &[SlotState; 4]) -> Result<(), AllocError
 
 /// Where a pointer leads, unless nothing is known of it.
 fn put_pointer(out: &mut Vec<u8>, i: usize, pointer: Option<Pointer>) -> Result<(), AllocError>
-    requires { i < 4 }
     ensures value { OnOk result (out.new.items ≡ out.old.items ++ pointer_item i pointer) }
     ensures fits { OnOk result (PointerFits pointer) }
 {
     let Some(pointer) = pointer else {
         return Ok(());
     };
-    out.extend_from_slice(b" p")?;
-    put_number(out, i as u32)?;
-    out.extend_from_slice(b"=s")?;
-    put_number(out, u32::from(pointer.slot))?;
-    out.extend_from_slice(b":")?;
-    put_number(out, u32::from(pointer.least))
+    put_numbered(out, " p", i as u64)?;
+    put_numbered(out, "=s", u64::from(pointer.slot))?;
+    put_numbered(out, ":", u64::from(pointer.least))
 }
 
 #[tactic(auto, unfolding(crate::specs::Rows::texts_below))]
@@ -110,16 +100,14 @@ fn put_pointers(out: &mut Vec<u8>, pointers: &[Option<Pointer>; 4]) -> Result<()
 }
 
 /// Two slots, if they are known to hold different blocks.
-fn put_pair(out: &mut Vec<u8>, pair: (u32, u32), differ: bool) -> Result<(), AllocError>
+fn put_pair(out: &mut Vec<u8>, pair: (u64, u64), differ: bool) -> Result<(), AllocError>
     ensures { OnOk result (out.new.items ≡ out.old.items ++ pair_item pair differ) }
 {
     if !differ {
         return Ok(());
     }
-    out.extend_from_slice(b" s")?;
-    put_number(out, pair.0)?;
-    out.extend_from_slice(b"#s")?;
-    put_number(out, pair.1)
+    put_numbered(out, " s", pair.0)?;
+    put_numbered(out, "#s", pair.1)
 }
 
 #[tactic(auto, unfolding(crate::specs::Rows::texts_below))]
