@@ -1,6 +1,7 @@
 -- What the search for why a pointer is not known finds is so.
 use Rattle.std.proofs.Common.{◌≡◌, ◌+◌, ℕ, zero, suc, Bool, true, false, not, cond, List, [], ◌∷◌, length, replicate, Option, Some, None, slice_get, get_or, set, refl, sym, ap, ◌∙◌, subst, ◌⊎◌, inl, inr}
 use Rattle.std.specs.Prelude.{◌&&◌, ◌==◌, nat_lt, is_some, is_none}
+use Rattle.std.specs.Option.{option_or}
 use Rattle.std.proofs.lemmas.Bool.{and_parts, cases_eq, cases_lt, eqb-true}
 use Rattle.std.proofs.lemmas.List.{get_or-set_same, get_or-set_other, set_past}
 use Rattle.geos_image.specs.declared.point.Point.{Point}
@@ -19,9 +20,9 @@ use Rattle.geos_explain.specs.declared.trace.Trace.{Trace}
 use Rattle.geos_explain.specs.Edges.{end_of}
 use Rattle.geos_explain.specs.Led.{no_marks, marked, is_marked, is_reached}
 use Rattle.geos_explain.specs.Places.{Place, agrees, comes_alike}
-use Rattle.geos_explain.specs.Ways.{is_as, comes_as, is_sought, way_of, way_at, or_way, first_way, entry_way, way_to, bringing, losing, with_hint, loses}
+use Rattle.geos_explain.specs.Ways.{is_as, is_sought, way_of, way_at, first_way, entry_way, way_to, bringing, losing, with_hint, loses}
 use Rattle.geos_explain.specs.Arrivals.{no_arrivals, arrival, arrived, behind, arrived_along, arrived_from, arrived_over, next_arrivals, arrivals_at_entry, all_arrivals}
-use Rattle.geos_explain.specs.Trace.{without_way, meeting_at, or_meeting, end_at, or_end, passed, lacks, hint_at, back_by, back_along, back_from, back_over, next_round, rounds, begun, aside, aside_by, along_lost, traced_by, traced}
+use Rattle.geos_explain.specs.Trace.{without_way, meeting_at, end_at, passed, lacks, hint_at, back_by, back_along, back_from, back_over, next_round, rounds, begun, aside, aside_by, along_lost, traced_by, traced}
 use Rattle.geos_explain.specs.Lost.{ComesTo, LacksBehind, LacksAlong, Brings, IsHint, IsLost, LeadsBy, IsWay, IsAlike, IsMeeting, IsUnset, WhatIsSaidHolds}
 use Rattle.geos_explain.proofs.Reached.{Has, mark-was, none-marked}
 
@@ -159,13 +160,13 @@ module _ (place : Place) (p : ℕ) where
   sought-found : (known : Bool) (to : ℕ) (reached : Bool) (edge : Edge) (point : Point) → slice_get place.image.points edge.from ≡ Some point → is_sought place (asked known to reached) edge point ≡ true → IsFound known reached (Along edge) to
   sought-found known to reached edge point there is =
       let ends = end_of edge point.instr == to in
-      let comes = comes_as place (asked known to reached) edge.from in
+      let comes = agrees reached (is_reached place.image edge.from) in
       let has = has_edge point.instr edge.branch in
       let known_there = is_as known (pointer_at (after place.image edge.from point.row edge.branch) p) in
-      let first = and_parts ends (comes && has && known_there) is in
-      let last = and_parts (comes && has) known_there first.1 in
-      let second = and_parts comes has last.0 in
-      (record { point = point; there = there; has = second.1; ends = eqb-true _ _ first.0; is = last.1 }, second.0)
+      let last = and_parts (ends && comes && has) known_there is in
+      let third = and_parts (ends && comes) has last.0 in
+      let first = and_parts ends comes third.0 in
+      (record { point = point; there = there; has = third.1; ends = eqb-true _ _ first.0; is = last.1 }, first.1)
 
   -- each way that there may be is such a one
   abbrev AllFound : Bool → Bool → Option Way → ℕ → Type 0
@@ -190,7 +191,7 @@ module _ (place : Place) (p : ℕ) where
       by_point (Some point) e way is = of-found known to reached from point e way is
 
   -- of two ways the first, if there is one
-  or-all : (P : Way → Type 0) (a b : Option Way) → ((way : Way) → a ≡ Some way → P way) → ((way : Way) → b ≡ Some way → P way) → (way : Way) → or_way a b ≡ Some way → P way
+  or-all : (P : Way → Type 0) (a b : Option Way) → ((way : Way) → a ≡ Some way → P way) → ((way : Way) → b ≡ Some way → P way) → (way : Way) → option_or a b ≡ Some way → P way
   or-all P None b left right = right
   or-all P (Some way) b left right = left
 
@@ -247,73 +248,77 @@ module _ (place : Place) (p : ℕ) where
     unset : trace.end ≡ Some Unset → IsUnset place p
 
   -- what is known of a meeting at a pc
-  record IsAt (at : ℕ) (losing : Option Way) (m : Meeting) : Type 0 where
+  record IsAt (brings : Option Way) (at : ℕ) (losing : Option Way) (m : Meeting) : Type 0 where
     to : m.to ≡ at
-    known : bringing place p at ≡ Some m.known
+    known : brings ≡ Some m.known
     lost : losing ≡ Some m.lost
 
-  meeting-is : (at : ℕ) (lost : Option Way) (m : Meeting) → meeting_at place p at lost ≡ Some m → IsAt at lost m
-  meeting-is at None m e = absurd cc
-  meeting-is at (Some way) m e = by_known (bringing place p at) refl e
-    where
-      by_known : (o : Option Way) → bringing place p at ≡ o → elim o [ None ↦ None | Some known ↦ Some (record { to = at; known = known; lost = way }) ] ≡ Some m → IsAt at (Some way) m
-      by_known None brings is = absurd cc
-      by_known (Some known) brings is =
-          let same = some-same (record { to = at; known = known; lost = way }) m is in
-          record {
-            to = sym (ap (λ (n : Meeting). n.to) same);
-            known = brings ∙ ap (λ (n : Meeting). Some n.known) same;
-            lost = ap (λ (n : Meeting). Some n.lost) same;
-          }
+  meeting-is : (brings : Option Way) (at : ℕ) (lost : Option Way) (m : Meeting) → meeting_at brings at lost ≡ Some m → IsAt brings at lost m
+  meeting-is None at lost m e = absurd cc
+  meeting-is (Some known) at None m e = absurd cc
+  meeting-is (Some known) at (Some way) m e =
+      let same = some-same (record { to = at; known = known; lost = way }) m e in
+      record {
+        to = sym (ap (λ (n : Meeting). n.to) same);
+        known = ap (λ (n : Meeting). Some n.known) same;
+        lost = ap (λ (n : Meeting). Some n.lost) same;
+      }
+
+  -- where ways meet at a pc, and why no instruction can have lost the pointer in front of it
+  abbrev met_at : ℕ → Option Meeting
+  met_at at = meeting_at (bringing place p at) at (losing place p at)
+
+  abbrev ends_at : ℕ → Option End
+  ends_at at = end_at place (bringing place p at) at (losing place p at)
 
   -- where an end is none, control comes along the way
-  end-alike : (at : ℕ) (way : Way) → end_at place p at (Some way) ≡ None → IsAlike place way
-  end-alike at Entry e = tt
-  end-alike at (Along edge) e = by_alike (comes_alike place edge.from) refl e
+  end-alike : (brings : Option Way) (at : ℕ) (way : Way) → end_at place brings at (Some way) ≡ None → IsAlike place way
+  end-alike brings at Entry e = tt
+  end-alike brings at (Along edge) e = by_alike (comes_alike place edge.from) refl e
     where
       by_alike : (b : Bool) → comes_alike place edge.from ≡ b → cond b None (Some (Unreached edge.from)) ≡ None → comes_alike place edge.from ≡ true
       by_alike true is none = is
       by_alike false is none = absurd cc
 
   -- that it is not set is said only at the routine's beginning
-  end-unset : (at : ℕ) (lost : Option Way) → end_at place p at lost ≡ Some Unset → lost ≡ Some Entry
-  end-unset at None e = by_known (bringing place p at) e
+  end-unset : (brings : Option Way) (at : ℕ) (lost : Option Way) → end_at place brings at lost ≡ Some Unset → lost ≡ Some Entry
+  end-unset brings at None e = by_known brings e
     where
       by_known : (o : Option Way) → Some (without_way at o) ≡ Some Unset → None ≡ Some Entry
       by_known None is = absurd cc
       by_known (Some way) is = absurd cc
-  end-unset at (Some Entry) e = refl
-  end-unset at (Some (Along edge)) e = by_alike (comes_alike place edge.from) e
+  end-unset brings at (Some Entry) e = refl
+  end-unset brings at (Some (Along edge)) e = by_alike (comes_alike place edge.from) e
     where
       by_alike : (b : Bool) → cond b None (Some (Unreached edge.from)) ≡ Some Unset → Some (Along edge) ≡ Some Entry
       by_alike true is = absurd cc
       by_alike false is = absurd cc
 
-  at-unset : (at : ℕ) → LacksFrom at → end_at place p at (losing place p at) ≡ Some Unset → IsUnset place p
+  at-unset : (at : ℕ) → LacksFrom at → ends_at at ≡ Some Unset → IsUnset place p
   at-unset at from e =
-      let way = losing-way at Entry (end-unset at (losing place p at) e) in
+      let way = losing-way at Entry (end-unset (bringing place p at) at (losing place p at) e) in
       let start = subst LacksFrom way.0 from in
       record { entry = way.1; edges = start.0; way = start.1 }
 
-  or-unset : (o other : Option End) → or_end o other ≡ Some Unset → (o ≡ Some Unset) ⊎ (other ≡ Some Unset)
+  or-unset : (o other : Option End) → option_or o other ≡ Some Unset → (o ≡ Some Unset) ⊎ (other ≡ Some Unset)
   or-unset None other e = inr e
   or-unset (Some end) other e = inl e
 
-  or-none : (o other : Option End) → or_end o other ≡ None → o ≡ None
+  or-none : (o other : Option End) → option_or o other ≡ None → o ≡ None
   or-none None other e = refl
   or-none (Some end) other e = absurd cc
 
   pass-sound : (trace : Trace) → Sound trace → (at : ℕ) → LacksFrom at → Sound (passed place p trace at)
   unfolding passed
-  pass-sound trace sound at from = by_meeting trace.meeting (meeting_at place p at (losing place p at)) refl refl
+  pass-sound trace sound at from = by_meeting trace.meeting (met_at at) refl refl
     where
       marks : (k : ℕ) → Has (marked trace.passed at) k → LacksFrom k
       marks k h = elim (mark-was trace.passed at k h) [ inl same ↦ subst LacksFrom (sym same) from | inr was ↦ sound.passed k was ]
 
-      later : or_end trace.end (end_at place p at (losing place p at)) ≡ Some Unset → IsUnset place p
-      later e = elim (or-unset trace.end (end_at place p at (losing place p at)) e) [ inl was ↦ sound.unset was | inr here ↦ at-unset at from here ]
+      later : option_or trace.end (ends_at at) ≡ Some Unset → IsUnset place p
+      later e = elim (or-unset trace.end (ends_at at) e) [ inl was ↦ sound.unset was | inr here ↦ at-unset at from here ]
 
-      met-here : (m : Meeting) → IsAt at (losing place p at) m → Meets (end_at place p at (losing place p at)) m
+      met-here : (m : Meeting) → IsAt (bringing place p at) at (losing place p at) m → Meets (ends_at at) m
       met-here m is =
           let here = subst LacksFrom (sym is.to) from in
           let known = bringing-way at m.known is.known in
@@ -325,19 +330,19 @@ module _ (place : Place) (p : ℕ) where
               taken = known.1;
               lost = subst (λ to. IsWay place p false m.lost to) (sym is.to) (losing-way at m.lost is.lost);
             };
-            alike = λ none. end-alike at m.lost (ap (end_at place p at) (sym is.lost) ∙ none);
+            alike = λ none. end-alike (bringing place p at) at m.lost (ap (end_at place (bringing place p at) at) (sym is.lost) ∙ none);
           }
 
-      by_meeting : (before new : Option Meeting) → trace.meeting ≡ before → meeting_at place p at (losing place p at) ≡ new
-          → Sound (cond (is_none before && is_some (or_meeting before new))
-          (record trace { passed = marked trace.passed at; goes_on = true; found = true; meeting = or_meeting before new; end = end_at place p at (losing place p at) })
-          (record trace { passed = marked trace.passed at; goes_on = true; meeting = or_meeting before new; end = or_end trace.end (end_at place p at (losing place p at)) }))
+      by_meeting : (before new : Option Meeting) → trace.meeting ≡ before → met_at at ≡ new
+          → Sound (cond (is_none before && is_some (option_or before new))
+          (record trace { passed = marked trace.passed at; goes_on = true; found = true; meeting = option_or before new; end = ends_at at })
+          (record trace { passed = marked trace.passed at; goes_on = true; meeting = option_or before new; end = option_or trace.end (ends_at at) }))
       by_meeting None None is_before is_new = record { found = sound.found; passed = marks; lost = sound.lost; meeting = λ m e. absurd cc; unset = later }
       by_meeting None (Some new) is_before is_new = record {
         found = sound.found;
         passed = marks;
         lost = sound.lost;
-        meeting = λ m e. met-here m (meeting-is at (losing place p at) m (is_new ∙ e));
+        meeting = λ m e. met-here m (meeting-is (bringing place p at) at (losing place p at) m (is_new ∙ e));
         unset = at-unset at from;
       }
       by_meeting (Some m0) new is_before is_new = record {
@@ -346,7 +351,7 @@ module _ (place : Place) (p : ℕ) where
         lost = sound.lost;
         meeting = λ m e.
             (let met = sound.meeting m (is_before ∙ e) in
-            record { is = met.is; alike = λ none. met.alike (or-none trace.end (end_at place p at (losing place p at)) none) });
+            record { is = met.is; alike = λ none. met.alike (or-none trace.end (ends_at at) none) });
         unset = later;
       }
 

@@ -1,5 +1,6 @@
 -- How far a pointer that is not known was followed back: which places were passed, where ways met, and where it was lost.
 use Rattle.std.specs.Prelude.{ℕ, zero, suc, ◌+◌, true, false, ◌&&◌, not, if◌then◌else◌, Bool, Option, Some, None, is_some, is_none, slice_get}
+use Rattle.std.specs.Option.{option_or}
 use Rattle.geos_image.specs.declared.point.Point.{Point}
 use Rattle.geos_image.specs.Parts.{start_of}
 use Rattle.geos_verify.specs.Rows.{pointer_at, is_stale, after, has_edge}
@@ -17,60 +18,39 @@ use Rattle.geos_explain.specs.Places.{Place, comes_alike}
 use Rattle.geos_explain.specs.Ways.{bringing, losing, loses}
 use Rattle.geos_explain.specs.Arrivals.{arrival, all_arrivals}
 
--- ways to a pc meet: one brings the pointer, and this one does not
-abbrev pub meets : Place → ℕ → ℕ → Way → Option Meeting
-meets place p to lost = elim (bringing place p to) [
-  | None ↦ None
-  | Some known ↦ Some (record { to = to; known = known; lost = lost })
-]
-
--- the same, if there is a way that does not bring it
-abbrev pub meeting_at : Place → ℕ → ℕ → Option Way → Option Meeting
-meeting_at place p to None = None
-meeting_at place p to (Some lost) = meets place p to lost
-
--- the meeting so far, or else this one
-abbrev pub or_meeting : Option Meeting → Option Meeting → Option Meeting
-or_meeting None other = other
-or_meeting (Some meeting) other = Some meeting
+-- ways to a pc meet, if one brings the pointer and another does not
+abbrev pub meeting_at : Option Way → ℕ → Option Way → Option Meeting
+meeting_at None to lost = None
+meeting_at (Some known) to None = None
+meeting_at (Some known) to (Some lost) = Some (record { to = to; known = known; lost = lost })
 
 -- no way to a pc lacks the pointer: each brings it, or there is none
 abbrev pub without_way : ℕ → Option Way → End
 without_way to None = Unreached to
 without_way to (Some way) = Merged to
 
--- no instruction lost the pointer in front of an edge to which control does not come
-abbrev pub end_along : Place → Edge → Option End
-end_along place edge = if comes_alike place edge.from then None else Some (Unreached edge.from)
-
 -- no instruction that goes on to a pc can have lost the pointer: no way to it lacks it, or the caller does not bring it, or
 -- control does not come from where it is lacking
-abbrev pub end_at : Place → ℕ → ℕ → Option Way → Option End
-end_at place p to None = Some (without_way to (bringing place p to))
-end_at place p to (Some Entry) = Some Unset
-end_at place p to (Some (Along edge)) = end_along place edge
+abbrev pub end_at : Place → Option Way → ℕ → Option Way → Option End
+end_at place known to None = Some (without_way to known)
+end_at place known to (Some Entry) = Some Unset
+end_at place known to (Some (Along edge)) = if comes_alike place edge.from then None else Some (Unreached edge.from)
 
--- the end so far, or else this one
-abbrev pub or_end : Option End → Option End → Option End
-or_end None other = other
-or_end (Some end) other = Some end
-
--- ways meet, and did not before
-abbrev pub stops : Option Meeting → Option Meeting → Bool
-stops before meeting = is_none before && is_some meeting
-
--- one more place is passed, where a way that does not bring the pointer is known, if there is one; where the first ways meet,
--- nothing counts of what else was passed
-abbrev pub passed_by : Place → ℕ → Trace → ℕ → Option Way → Trace
-passed_by place p trace at lost =
-    let meeting = or_meeting trace.meeting (meeting_at place p at lost) in
-    if stops trace.meeting meeting
-    then record trace { passed = marked trace.passed at; goes_on = true; found = true; meeting = meeting; end = end_at place p at lost }
-    else record trace { passed = marked trace.passed at; goes_on = true; meeting = meeting; end = or_end trace.end (end_at place p at lost) }
+-- one more place is passed, where ways meet or not, and no instruction lost the pointer in front of it or one can have lost it;
+-- where the first ways meet, nothing counts of what else was passed
+abbrev pub passed_by : Trace → ℕ → Option Meeting → Option End → Trace
+passed_by trace at meeting end =
+    let met = option_or trace.meeting meeting in
+    if is_none trace.meeting && is_some met
+    then record trace { passed = marked trace.passed at; goes_on = true; found = true; meeting = met; end = end }
+    else record trace { passed = marked trace.passed at; goes_on = true; meeting = met; end = option_or trace.end end }
 
 -- one more place is passed
 unfoldable pub passed : Place → ℕ → Trace → ℕ → Trace
-passed place p trace at = passed_by place p trace at (losing place p at)
+passed place p trace at =
+    let known = bringing place p at in
+    let lost = losing place p at in
+    passed_by trace at (meeting_at known at lost) (end_at place known at lost)
 
 -- an edge of an instruction leads to a place that was passed, from where control comes, and does not bring the pointer
 abbrev pub lacks : Place → ℕ → Trace → Edge → Point → Bool

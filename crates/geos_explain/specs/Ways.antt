@@ -1,5 +1,6 @@
 -- Which ways lead to a pc, which of them bring a pointer, and which instructions lose one.
 use Rattle.std.specs.Prelude.{ℕ, zero, suc, ◌+◌, Bool, true, false, ◌&&◌, ◌||◌, not, nat_lt, ◌==◌, if◌then◌else◌, Option, Some, None, slice_get, slice_set}
+use Rattle.std.specs.Option.{option_or}
 use Rattle.geos_opcodes.specs.declared.opcode.Opcode.{Opcode}
 use Rattle.geos_opcodes.specs.declared.opcode.Opcode.TheVariants.{Call}
 use Rattle.geos_opcodes.specs.declared.uses.PointerUse.{PointerUse}
@@ -25,19 +26,12 @@ abbrev pub is_as : Bool → Option Pointer → Bool
 is_as true pointer = not (is_stale pointer)
 is_as false pointer = is_stale pointer
 
--- control reaches where an edge comes from, or does not, as is asked
-abbrev pub comes_as : Place → Sought → ℕ → Bool
-comes_as place sought from = agrees sought.reached (is_reached place.image from)
-
--- control comes along the edge of the instruction, and behind it the pointer is known, as is asked
-abbrev pub is_as_sought : Place → Sought → Edge → Point → Bool
-is_as_sought place sought edge point =
-    comes_as place sought edge.from && has_edge point.instr edge.branch
-    && is_as sought.known (pointer_at (after place.image edge.from point.row edge.branch) sought.p)
-
--- the edge of the instruction is a way that is sought
+-- the edge of the instruction is a way that is sought: control comes along it as is asked, and behind it the pointer is known as
+-- is asked
 abbrev pub is_sought : Place → Sought → Edge → Point → Bool
-is_sought place sought edge point = end_of edge point.instr == sought.to && is_as_sought place sought edge point
+is_sought place sought edge point =
+    end_of edge point.instr == sought.to && agrees sought.reached (is_reached place.image edge.from) && has_edge point.instr edge.branch
+    && is_as sought.known (pointer_at (after place.image edge.from point.row edge.branch) sought.p)
 
 -- the first way of the instruction at a pc that is sought
 abbrev pub way_of : Place → Sought → ℕ → Point → Option Way
@@ -50,15 +44,10 @@ way_of place sought from point =
 unfoldable pub way_at : Place → Sought → ℕ → Option Way
 way_at place sought from = elim (slice_get place.image.points from) [ None ↦ None | Some point ↦ way_of place sought from point ]
 
--- the first of two ways, if there is one
-abbrev pub or_way : Option Way → Option Way → Option Way
-or_way None other = other
-or_way (Some way) other = Some way
-
 -- of the first n instructions of the routine, the first way that is sought
 unfoldable pub first_way : Place → Sought → ℕ → Option Way
 first_way place sought zero = None
-first_way place sought (suc n) = or_way (first_way place sought n) (way_at place sought (start_of place.image.routines place.r + n))
+first_way place sought (suc n) = option_or (first_way place sought n) (way_at place sought (start_of place.image.routines place.r + n))
 
 -- the way from the caller, where the pc is the routine's first, and the entry row knows the pointer, or does not
 abbrev pub entry_way : Place → Sought → Option Way
@@ -67,7 +56,7 @@ entry_way place sought =
 
 -- the first way that is sought
 unfoldable pub way_to : Place → Sought → Option Way
-way_to place sought = or_way (entry_way place sought) (first_way place sought place.routine.count)
+way_to place sought = option_or (entry_way place sought) (first_way place sought place.routine.count)
 
 -- the first way to a pc that brings a pointer
 unfoldable pub bringing : Place → ℕ → ℕ → Option Way
@@ -76,7 +65,7 @@ bringing place p to = way_to place (record { p = p; to = to; known = true; reach
 -- the first way to a pc that does not; where there is none, the first from where control never is
 unfoldable pub losing : Place → ℕ → ℕ → Option Way
 losing place p to =
-    or_way (way_to place (record { p = p; to = to; known = false; reached = is_reached place.image place.pc }))
+    option_or (way_to place (record { p = p; to = to; known = false; reached = is_reached place.image place.pc }))
     (way_to place (record { p = p; to = to; known = false; reached = not (is_reached place.image place.pc) }))
 
 -- a row; where it knows nothing of the pointer, with what is known of it on some way
@@ -85,10 +74,6 @@ with_hint row followed =
     if nat_lt followed.p 4 && is_stale (pointer_at row followed.p)
     then record row { pointers = slice_set row.pointers followed.p followed.hint }
     else row
-
--- a pointer is known before, and not behind
-abbrev pub goes_stale : ℕ → Row → Row → Bool
-goes_stale p before next = not (is_stale (pointer_at before p)) && is_stale (pointer_at next p)
 
 -- the instruction sets a pointer
 abbrev pub sets : Instr → PointerUse → ℕ → Bool
@@ -100,9 +85,10 @@ abbrev pub forgets : Opcode → Bool
 forgets Call = true
 forgets _ = false
 
--- an instruction makes the pointer stale on this edge
+-- an instruction makes the pointer stale on this edge: it is known before, and not behind
 abbrev pub makes_stale : Parts → ℕ → Edge → Instr → Row → Bool
-makes_stale image p edge i row = has_edge i edge.branch && goes_stale p row (after image edge.from row edge.branch)
+makes_stale image p edge i row =
+    has_edge i edge.branch && not (is_stale (pointer_at row p)) && is_stale (pointer_at (after image edge.from row edge.branch) p)
 
 -- an instruction loses a pointer on one of its edges: it is a call, or was to set it and was refused, or makes it stale
 abbrev pub loses : Parts → Followed → Edge → Point → Bool

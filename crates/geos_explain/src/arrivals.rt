@@ -2,7 +2,7 @@
 
 ghost use Rattle.std.specs.Prelude.{◌≡◌, Some, slice_get};
 ghost use Rattle.geos_explain.specs.Places.{IsPlace, place_of};
-ghost use Rattle.geos_explain.specs.Arrivals.{no_arrivals, arrival, arrived, behind, arrived_along, arrived_from, arrived_over, next_arrivals, arrivals_at_entry, all_arrivals};
+ghost use Rattle.geos_explain.specs.Arrivals.{no_arrivals, arrival, arrived, behind, arrived_along, arrived_from, next_arrivals, arrivals_at_entry, all_arrivals};
 
 use crate::edges::{Edge, end_of};
 use crate::place::Place;
@@ -90,26 +90,19 @@ fn arrive_from(arrivals: &mut Arrivals, place: &Place, p: u8, from: u16)
     }
 }
 
-/// The same of all of the routine's instructions.
+/// The same of all of the routine's instructions, unless the last such round found no way.
 #[tactic(auto, unfolding(crate::specs::Arrivals::arrived_over))]
-fn arrive_over(arrivals: &mut Arrivals, place: &Place, p: u8)
-    requires { IsPlace (place_of place.now) }
-    ensures { arrivals.new ≡ arrived_over (place_of place.now) p arrivals.old place.now.routine.now.count }
-{
-    let start = place.image.start(place.r);
-    for k in 0..place.routine.count {
-        arrive_from(arrivals, place, p, start + k);
-    }
-}
-
-/// The same, unless the last such round found no way.
 fn next_arrivals(arrivals: &mut Arrivals, place: &Place, p: u8)
     requires { IsPlace (place_of place.now) }
     ensures { arrivals.new ≡ next_arrivals (place_of place.now) p arrivals.old }
 {
-    if arrivals.goes_on {
-        arrivals.goes_on = false;
-        arrive_over(arrivals, place, p);
+    if !arrivals.goes_on {
+        return;
+    }
+    arrivals.goes_on = false;
+    let start = place.image.start(place.r);
+    for k in 0..place.routine.count {
+        arrive_from(arrivals, place, p, start + k);
     }
 }
 

@@ -3,7 +3,7 @@
 ghost use Rattle.std.specs.Prelude.{◌≡◌, Some, slice_get};
 ghost use Rattle.geos_explain.specs.Places.{IsPlace, place_of};
 ghost use Rattle.geos_explain.specs.Lost.{WhatIsSaidHolds};
-ghost use Rattle.geos_explain.specs.Trace.{meets, meeting_at, or_meeting, without_way, end_along, end_at, or_end, stops, passed_by, passed, lacks, hint_at, back_by, back_along, back_from, back_over, next_round, rounds, begun, aside, aside_by, along_lost, traced_by, traced};
+ghost use Rattle.geos_explain.specs.Trace.{meeting_at, end_at, passed_by, passed, lacks, hint_at, back_by, back_along, back_from, next_round, rounds, begun, aside, along_lost, traced};
 
 use crate::arrivals::{Arrivals, all_arrivals, arrival};
 use crate::edges::{Edge, end_of};
@@ -56,106 +56,50 @@ pub(crate) struct Trace {
     pub lost: Option<Edge>,
 }
 
-/// Ways to a pc meet: one brings the pointer, and this one does not.
-fn meets(place: &Place, p: u8, to: u16, lost: Way) -> Option<Meeting>
-    requires { IsPlace (place_of place.now) }
-    ensures { result ≡ meets (place_of place.now) p to lost }
-{
-    match bringing(place, p, to) {
-        Some(known) => Some(Meeting { to, known, lost }),
-        None => None,
-    }
-}
-
-/// The same, if there is a way that does not bring it.
-fn meeting_at(place: &Place, p: u8, to: u16, lost: Option<Way>) -> Option<Meeting>
-    requires { IsPlace (place_of place.now) }
-    ensures { result ≡ meeting_at (place_of place.now) p to lost }
-{
-    match lost {
-        Some(lost) => meets(place, p, to, lost),
-        None => None,
-    }
-}
-
-/// The meeting so far, or else this one.
-fn or_meeting(meeting: Option<Meeting>, other: Option<Meeting>) -> Option<Meeting>
-    ensures { result ≡ or_meeting meeting other }
-{
-    match meeting {
-        Some(meeting) => Some(meeting),
-        None => other,
-    }
-}
-
-/// No way to a pc lacks the pointer: each brings it, or there is none.
-fn without_way(to: u16, known: Option<Way>) -> End
-    ensures { result ≡ without_way to known }
+/// Ways to a pc meet: one brings the pointer, and this one, if there is such a one, does not.
+fn meeting_at(known: Option<Way>, to: u16, lost: Option<Way>) -> Option<Meeting>
+    ensures { result ≡ meeting_at known to lost }
 {
     match known {
-        Some(_) => End::Merged(to),
-        None => End::Unreached(to),
+        Some(known) => match lost {
+            Some(lost) => Some(Meeting { to, known, lost }),
+            None => None,
+        },
+        None => None,
     }
 }
 
-/// No instruction lost the pointer in front of an edge to which control does not come.
-fn end_along(place: &Place, edge: Edge) -> Option<End>
-    ensures { result ≡ end_along (place_of place.now) edge }
-{
-    if comes_alike(place, edge.from) {
-        None
-    } else {
-        Some(End::Unreached(edge.from))
-    }
-}
-
-/// No instruction that goes on to a pc can have lost the pointer: no way to it lacks it, or the caller does not bring it, or
-/// control does not come from where it is lacking.
-fn end_at(place: &Place, p: u8, to: u16, lost: Option<Way>) -> Option<End>
-    requires { IsPlace (place_of place.now) }
-    ensures { result ≡ end_at (place_of place.now) p to lost }
+/// No instruction that goes on to a pc can have lost the pointer: no way to it lacks it, where each brings it or there is none, or
+/// the caller does not bring it, or control does not come from where it is lacking.
+fn end_at(place: &Place, known: Option<Way>, to: u16, lost: Option<Way>) -> Option<End>
+    ensures { result ≡ end_at (place_of place.now) known to lost }
 {
     match lost {
-        Some(Way::Along(edge)) => end_along(place, edge),
+        Some(Way::Along(edge)) if comes_alike(place, edge.from) => None,
+        Some(Way::Along(edge)) => Some(End::Unreached(edge.from)),
         Some(Way::Entry) => Some(End::Unset),
-        None => Some(without_way(to, bringing(place, p, to))),
+        None => match known {
+            Some(_) => Some(End::Merged(to)),
+            None => Some(End::Unreached(to)),
+        },
     }
 }
 
-/// The end so far, or else this one.
-fn or_end(end: Option<End>, other: Option<End>) -> Option<End>
-    ensures { result ≡ or_end end other }
+/// One more place is passed, where ways meet or not, and no instruction lost the pointer in front of it or one can have lost it.
+/// Where the first ways meet, nothing counts of what else was passed.
+fn pass_by(trace: &mut Trace, at: u16, meeting: Option<Meeting>, end: Option<End>)
+    ensures { trace.new ≡ passed_by trace.old at meeting end }
 {
-    match end {
-        Some(end) => Some(end),
-        None => other,
-    }
-}
-
-/// Whether ways meet, and did not before.
-fn stops(before: Option<Meeting>, meeting: Option<Meeting>) -> bool
-    ensures { result ≡ stops before meeting }
-{
-    before.is_none() && meeting.is_some()
-}
-
-/// One more place is passed, where a way that does not bring the pointer is known, if there is one. Where the first ways meet,
-/// nothing counts of what else was passed.
-fn pass_by(trace: &mut Trace, place: &Place, p: u8, at: u16, lost: Option<Way>)
-    requires { IsPlace (place_of place.now) }
-    ensures { trace.new ≡ passed_by (place_of place.now) p trace.old at lost }
-{
-    let end = end_at(place, p, at, lost);
-    let meeting = or_meeting(trace.meeting, meeting_at(place, p, at, lost));
+    let met = trace.meeting.or(meeting);
     mark(&mut trace.passed, usize::from(at));
     trace.goes_on = true;
-    if stops(trace.meeting, meeting) {
+    if trace.meeting.is_none() && met.is_some() {
         trace.found = true;
         trace.end = end;
     } else {
-        trace.end = or_end(trace.end, end);
+        trace.end = trace.end.or(end);
     }
-    trace.meeting = meeting;
+    trace.meeting = met;
 }
 
 /// One more place is passed.
@@ -164,7 +108,14 @@ fn pass(trace: &mut Trace, place: &Place, p: u8, at: u16)
     requires { IsPlace (place_of place.now) }
     ensures { trace.new ≡ passed (place_of place.now) p trace.old at }
 {
-    pass_by(trace, place, p, at, losing(place, p, at));
+    let known = bringing(place, p, at);
+    let lost = losing(place, p, at);
+    pass_by(
+        trace,
+        at,
+        meeting_at(known, at, lost),
+        end_at(place, known, at, lost),
+    );
 }
 
 /// Whether the edge of the instruction leads to a place that was passed, from where control comes, and does not bring the pointer.
@@ -234,27 +185,20 @@ fn step_from(trace: &mut Trace, place: &Place, p: u8, from: u16)
     }
 }
 
-/// The same of all of the routine's instructions, the last of them first.
-fn step_over(trace: &mut Trace, place: &Place, p: u8)
+/// The same of all of the routine's instructions, the last of them first, unless the last such round passed no place.
+fn next_round(trace: &mut Trace, place: &Place, p: u8)
     requires { IsPlace (place_of place.now) }
-    ensures { trace.new ≡ back_over (place_of place.now) p trace.old place.now.routine.now.count }
+    ensures { trace.new ≡ next_round (place_of place.now) p trace.old }
 {
+    if !trace.goes_on {
+        return;
+    }
+    trace.goes_on = false;
     let start = place.image.start(place.r);
     let mut rest = place.routine.count;
     while rest > 0 {
         rest -= 1;
         step_from(trace, place, p, start + rest);
-    }
-}
-
-/// The same, unless the last such round passed no place.
-fn next_round(trace: &mut Trace, place: &Place, p: u8)
-    requires { IsPlace (place_of place.now) }
-    ensures { trace.new ≡ next_round (place_of place.now) p trace.old }
-{
-    if trace.goes_on {
-        trace.goes_on = false;
-        step_over(trace, place, p);
     }
 }
 
@@ -298,18 +242,7 @@ fn step_aside(trace: &mut Trace, place: &Place, p: u8, edge: Edge)
     }
 }
 
-/// The same along a way that does not bring the pointer.
-fn step_by_way(trace: &mut Trace, place: &Place, p: u8, lost: Way)
-    requires { IsPlace (place_of place.now) }
-    ensures { trace.new ≡ aside_by (place_of place.now) p trace.old lost }
-{
-    match lost {
-        Way::Along(edge) => step_aside(trace, place, p, edge),
-        Way::Entry => {}
-    }
-}
-
-/// The same, unless it is known why not; nothing else was passed before.
+/// The same along a way that does not bring the pointer, unless it is known why not; nothing else was passed before.
 fn step_along_lost(trace: &mut Trace, place: &Place, p: u8, lost: Way)
     requires { IsPlace (place_of place.now) }
     ensures { trace.new ≡ along_lost (place_of place.now) p trace.old lost }
@@ -317,22 +250,12 @@ fn step_along_lost(trace: &mut Trace, place: &Place, p: u8, lost: Way)
     trace.passed = no_marks();
     trace.goes_on = false;
     trace.found = trace.end.is_some();
-    if !trace.found {
-        step_by_way(trace, place, p, lost);
+    if trace.found {
+        return;
     }
-}
-
-/// From a meeting, if there is one, rounds back along the way that does not bring the pointer.
-fn step_from_meeting(trace: &mut Trace, place: &Place, p: u8)
-    requires { IsPlace (place_of place.now) }
-    ensures { trace.new ≡ traced_by (place_of place.now) p trace.old trace.old.meeting }
-{
-    match trace.meeting {
-        Some(meeting) => {
-            step_along_lost(trace, place, p, meeting.lost);
-            step_rounds(trace, place, p);
-        }
-        None => {}
+    match lost {
+        Way::Along(edge) => step_aside(trace, place, p, edge),
+        Way::Entry => {}
     }
 }
 
@@ -344,7 +267,13 @@ pub(crate) fn traced(place: &Place, p: u8) -> Trace
 {
     let mut trace = begun(place, p);
     step_rounds(&mut trace, place, p);
-    step_from_meeting(&mut trace, place, p);
+    match trace.meeting {
+        Some(meeting) => {
+            step_along_lost(&mut trace, place, p, meeting.lost);
+            step_rounds(&mut trace, place, p);
+        }
+        None => {}
+    }
     trace
 }
 

@@ -3,7 +3,7 @@
 ghost use Rattle.std.specs.Prelude.{◌≡◌, ◌<◌, Some, length, slice_get, IfSome};
 ghost use Rattle.geos_verify.specs.Rows.{is_stale};
 ghost use Rattle.geos_explain.specs.Places.{IsPlace, place_of};
-ghost use Rattle.geos_explain.specs.Ways.{is_as, comes_as, is_as_sought, is_sought, way_of, way_at, or_way, first_way, entry_way, way_to, bringing, losing, with_hint, goes_stale, makes_stale, sets, forgets, loses};
+ghost use Rattle.geos_explain.specs.Ways.{is_as, is_sought, way_at, first_way, way_to, bringing, losing, with_hint, makes_stale, sets, forgets, loses};
 
 use crate::edges::{Edge, end_of};
 use crate::led::is_reached;
@@ -62,19 +62,17 @@ fn is_as(known: bool, pointer: Option<Pointer>) -> bool
     }
 }
 
-/// Whether control reaches where the edge comes from, or does not, as is asked.
-fn comes_as(place: &Place, sought: Sought, from: u16) -> bool
-    ensures { result ≡ comes_as (place_of place.now) sought from }
-{
-    agrees(sought.reached, is_reached(place.image, place.marks, from))
-}
-
-/// Whether control comes along the edge of the instruction, and behind it the pointer is known, as is asked.
-fn is_as_sought(place: &Place, sought: Sought, edge: Edge, point: &Point) -> bool
+/// Whether the edge of the instruction is a way that is sought: control comes along it as is asked, and behind it the pointer
+/// is known as is asked. Few edges pass the test of the numbers, so it comes first.
+fn is_sought(place: &Place, sought: Sought, edge: Edge, point: &Point) -> bool
     requires { slice_get place.now.image.now.points edge.from ≡ Some point.now }
-    ensures { result ≡ is_as_sought (place_of place.now) sought edge point.now }
+    ensures { result ≡ is_sought (place_of place.now) sought edge point.now }
 {
-    comes_as(place, sought, edge.from)
+    end_of(edge, &point.instr) == usize::from(sought.to)
+        && agrees(
+            sought.reached,
+            is_reached(place.image, place.marks, edge.from),
+        )
         && has_edge(&point.instr, edge.branch)
         && is_as(
             sought.known,
@@ -85,51 +83,20 @@ fn is_as_sought(place: &Place, sought: Sought, edge: Edge, point: &Point) -> boo
         )
 }
 
-/// Whether the edge of the instruction is a way that is sought. Few edges pass the test of the numbers, so it comes first.
-fn is_sought(place: &Place, sought: Sought, edge: Edge, point: &Point) -> bool
-    requires { slice_get place.now.image.now.points edge.from ≡ Some point.now }
-    ensures { result ≡ is_sought (place_of place.now) sought edge point.now }
-{
-    end_of(edge, &point.instr) == usize::from(sought.to) && is_as_sought(place, sought, edge, point)
-}
-
-/// The first way of the instruction that is sought.
-fn way_of(place: &Place, sought: Sought, from: u16, point: &Point) -> Option<Way>
-    requires { slice_get place.now.image.now.points from ≡ Some point.now }
-    ensures { result ≡ way_of (place_of place.now) sought from point.now }
+/// The first way of the instruction at a pc that is sought, if there is an instruction.
+#[tactic(auto, unfolding(crate::specs::Ways::way_at))]
+fn way_at(place: &Place, sought: Sought, from: u16) -> Option<Way>
+    ensures { result ≡ way_at (place_of place.now) sought from }
 {
     let along = Edge {
         from,
         branch: false,
     };
     let aside = Edge { from, branch: true };
-    if is_sought(place, sought, along, point) {
-        Some(Way::Along(along))
-    } else if is_sought(place, sought, aside, point) {
-        Some(Way::Along(aside))
-    } else {
-        None
-    }
-}
-
-/// The same, if there is an instruction.
-#[tactic(auto, unfolding(crate::specs::Ways::way_at))]
-fn way_at(place: &Place, sought: Sought, from: u16) -> Option<Way>
-    ensures { result ≡ way_at (place_of place.now) sought from }
-{
     match point_at(place.image, from) {
-        Some(point) => way_of(place, sought, from, point),
-        None => None,
-    }
-}
-
-/// The first of two ways, if there is one.
-fn or_way(way: Option<Way>, other: Option<Way>) -> Option<Way>
-    ensures { result ≡ or_way way other }
-{
-    match way {
-        Some(way) => Some(way),
-        None => other,
+        Some(point) if is_sought(place, sought, along, point) => Some(Way::Along(along)),
+        Some(point) if is_sought(place, sought, aside, point) => Some(Way::Along(aside)),
+        _ => None,
     }
 }
 
@@ -142,33 +109,25 @@ fn first_way(place: &Place, sought: Sought) -> Option<Way>
     let start = place.image.start(place.r);
     let mut first = None;
     for k in 0..place.routine.count {
-        first = or_way(first, way_at(place, sought, start + k));
+        first = first.or(way_at(place, sought, start + k));
     }
     first
 }
 
-/// The way from the caller, where the pc is the routine's first, and the entry row knows the pointer, or does not.
-fn entry_way(place: &Place, sought: Sought) -> Option<Way>
+/// The first way that is sought: from the caller, where the pc is the routine's first, and the entry row knows the pointer as
+/// is asked, or else from an instruction.
+#[tactic(auto, unfolding(crate::specs::Ways::way_to))]
+fn way_to(place: &Place, sought: Sought) -> Option<Way>
     requires { IsPlace (place_of place.now) }
-    ensures { result ≡ entry_way (place_of place.now) sought }
+    ensures { result ≡ way_to (place_of place.now) sought }
 {
     if sought.to == place.image.start(place.r)
         && is_as(sought.known, pointer_at(&place.routine.entry, sought.p))
     {
         Some(Way::Entry)
     } else {
-        None
+        first_way(place, sought)
     }
-}
-
-/// The first way that is sought.
-#[tactic(auto, unfolding(crate::specs::Ways::way_to))]
-fn way_to(place: &Place, sought: Sought) -> Option<Way>
-    requires { IsPlace (place_of place.now) }
-    ensures { result ≡ way_to (place_of place.now) sought }
-{
-    let entry = entry_way(place, sought);
-    or_way(entry, first_way(place, sought))
 }
 
 /// The first way to a pc that brings the pointer.
@@ -225,13 +184,6 @@ pub(crate) fn with_hint(row: &Row, followed: Followed) -> Row
     hinted
 }
 
-/// Whether the pointer is known before, and not behind.
-fn goes_stale(p: u8, before: &Row, next: &Row) -> bool
-    ensures { result ≡ goes_stale p before.now next.now }
-{
-    !is_stale(pointer_at(before, p)) && is_stale(pointer_at(next, p))
-}
-
 /// Whether the instruction sets the pointer.
 pub(crate) fn sets(i: &Instr, pointer: PointerUse, p: u8) -> bool
     ensures { result ≡ sets i.now pointer p }
@@ -252,13 +204,15 @@ pub(crate) fn forgets(opcode: Opcode) -> bool
     }
 }
 
-/// Whether the instruction makes the pointer stale on this edge.
+/// Whether the instruction makes the pointer stale on this edge: it is known before, and not behind.
 fn makes_stale(image: &Image, p: u8, edge: Edge, i: &Instr, row: &Row) -> bool
     requires here { IfSome (slice_get image.now.points edge.from) (λ point. i.now ≡ point.instr) }
     requires there { edge.from < length image.now.points }
     ensures { result ≡ makes_stale image.now p edge i.now row.now }
 {
-    has_edge(i, edge.branch) && goes_stale(p, row, &after(image, edge.from, row, edge.branch))
+    has_edge(i, edge.branch)
+        && !is_stale(pointer_at(row, p))
+        && is_stale(pointer_at(&after(image, edge.from, row, edge.branch), p))
 }
 
 /// Whether the instruction loses the pointer on this edge: it is a call, or was to set it and was refused, or makes it

@@ -1,7 +1,7 @@
 use Rattle.std.specs.Prelude.{◌≡◌, ◌≤◌}
 use Rattle.geos_explain.specs.Places.{place_of}
 use Rattle.geos_explain.specs.Trace.{back_over}
-use Rattle.geos_explain.proofs.trace.step_over.Given as goal
+use Rattle.geos_explain.proofs.trace.next_round.Given as goal
 
 abbrev pub invariant-loop-rest : goal.invariant-loop-rest
 invariant-loop-rest l = record {

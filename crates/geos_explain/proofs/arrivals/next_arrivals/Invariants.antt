@@ -1,7 +1,7 @@
 use Rattle.std.specs.Prelude.{◌≡◌}
 use Rattle.geos_explain.specs.Places.{place_of}
 use Rattle.geos_explain.specs.Arrivals.{arrived_over}
-use Rattle.geos_explain.proofs.arrivals.arrive_over.Given as goal
+use Rattle.geos_explain.proofs.arrivals.next_arrivals.Given as goal
 
 abbrev pub invariant-loop-k : goal.invariant-loop-k
 invariant-loop-k l = l.arrivals ≡ arrived_over (place_of l.place) l.p l.initial.arrivals l.k

@@ -1,9 +1,9 @@
-use Rattle.std.proofs.Common.{◌≡◌, refl, ℕ, suc, ◌+◌, ◌-◌, ap, ◌∙◌, sym, arith}
+use Rattle.std.proofs.Common.{◌≡◌, refl, true, ℕ, suc, ◌+◌, ◌-◌, ap, ◌∙◌, sym, arith}
 use Rattle.geos_image.specs.Parts.{start_of}
 use Rattle.geos_explain.specs.Places.{Place, place_of}
 use Rattle.geos_explain.specs.declared.trace.Trace.{Trace}
 use Rattle.geos_explain.specs.Trace.{back_from, back_over}
-use Rattle.geos_explain.proofs.trace.step_over.Goals as goal
+use Rattle.geos_explain.proofs.trace.next_round.Goals as goal
 
 -- one more instruction, and the ones before it
 back_over-next : (place : Place) (p : ℕ) (trace after : Trace) (start m n : ℕ) → suc m ≡ n → start ≡ start_of place.image.routines place.r
@@ -27,4 +27,5 @@ unfolding back_over
 returns c =
     let none = c.loop-rest-test.false in
     let zero_left : c.loop-rest.rest ≡ 0 = omega arith in
-    sym (ap (back_over (place_of c.args.place.now) c.args.p c.loop-rest.trace) zero_left) ∙ c.loop-rest.invariant.same
+    let goes_on : c.args.trace.now.goes_on ≡ true = cc in
+    rw goes_on (sym (ap (back_over (place_of c.args.place.now) c.args.p c.loop-rest.trace) zero_left) ∙ c.loop-rest.invariant.same)
