@@ -1,7 +1,8 @@
 -- What is said of the point at a pc, and of one point after another.
-use Rattle.std.proofs.Common.{◌≡◌, ◌<◌, ℕ, suc, ◌+◌, List, [], ◌++◌, length, slice_get, refl, ap, ◌∙◌, append_assoc, arith}
-use Rattle.std.specs.Prelude.{IfSome}
+use Rattle.std.proofs.Common.{◌≡◌, ◌<◌, ◌≤◌, ℕ, suc, ◌+◌, false, List, [], ◌∷◌, ◌++◌, length, length-append, slice_get, refl, ap, ◌∙◌, append_assoc, arith}
+use Rattle.std.specs.Prelude.{IfSome, ◌==◌, if◌then◌else◌}
 use Rattle.std.specs.Option.{option_map_or}
+use Rattle.std.proofs.lemmas.Bool.{ne_eqb}
 use Rattle.geos_image.specs.declared.instr.Instr.{Instr}
 use Rattle.geos_image.specs.declared.row.Row.{Row}
 use Rattle.geos_image.specs.declared.potential.Potential.{Potential}
@@ -29,6 +30,19 @@ told-at tell of points pc place lt is_place =
     let at = item_at points pc lt in
     let same : place ≡ of at.0 = rw at.1 at is_place in
     rw (at.1, same) refl
+
+-- items that were written, and what is to stand behind them, where there are none and where there are some
+pub items-none : (before after items behind : List ℕ) → after ≡ before ++ items → length after ≤ length before
+    → after ≡ before ++ (if length items == 0 then [] else items ++ behind)
+items-none before after [] behind written none = written
+items-none before after (x ∷ items) behind written none = absurd (omega (arith, ap length written, length-append before (x ∷ items)))
+
+pub items-some : (before after items behind : List ℕ) → after ≡ before ++ items → length before < length after
+    → after ++ behind ≡ before ++ (if length items == 0 then [] else items ++ behind)
+items-some before after [] behind written some = absurd (omega (arith, ap length written, length-append before []))
+items-some before after (x ∷ items) behind written some =
+    let filled : (length (x ∷ items) == 0) ≡ false = ne_eqb (length (x ∷ items)) 0 (λ none. omega (arith, none)) in
+    rw (filled, written) (append_assoc before (x ∷ items) behind)
 
 -- one more text was written
 pub texts_below-step : (start middle after : List ℕ) (text : ℕ → List ℕ) (k : ℕ) → middle ≡ start ++ texts_below k text → after ≡ middle ++ text k

@@ -48,7 +48,7 @@ pub(crate) fn put_noted(
     requires { IsPlace (place_of place.now) }
     ensures { OnOk result (out.new.items ≡ out.old.items ++ noted reject (place_of place.now)) }
 {
-    put_note(alloc, out, place)?;
+    put_note(out, place)?;
     out.extend_from_slice(b"\n")?;
     put_refusal(alloc, out, reject, place)
 }

@@ -2,28 +2,15 @@
 
 ghost use Rattle.std.specs.Prelude.{◌≡◌, ◌++◌, OnOk};
 ghost use Rattle.geos_explain.specs.Places.{IsPlace, place_of};
-ghost use Rattle.geos_explain.specs.Notes.{known_text, coefficient_text, coefficients_text, is_one, potential_text, where_text, note_head, known_here, note, budget_words};
+ghost use Rattle.geos_explain.specs.Notes.{coefficient_text, coefficients_text, is_one, potential_text, where_text, note_head, known_here, note, budget_words};
 
 use crate::led::is_reached;
 use crate::numbers::{steps_word, verb};
 use crate::parts::{Part, put_parts};
 use crate::place::Place;
-use geos_image::{Potential, Routine, Row};
+use geos_image::{Potential, Routine};
 use geos_listing::{put_items, put_numbered};
-use std::alloc::{AllocError, Global};
-
-/// The items of the row and a comma; nothing for the open row.
-#[tactic(auto, unfolding(crate::specs::Notes::known_text))]
-fn put_known(alloc: Global, out: &mut Vec<u8>, row: &Row) -> Result<(), AllocError>
-    ensures { OnOk result (out.new.items ≡ out.old.items ++ known_text row.now) }
-{
-    let mut items = Vec::new(alloc);
-    put_items(&mut items, row)?;
-    if items.is_empty() {
-        return Ok(());
-    }
-    put_parts(out, &[Part::Bytes(&items), Part::Text(",")])
-}
+use std::alloc::AllocError;
 
 /// So many steps for each that is on counter k, unless there are none.
 fn put_coefficient(out: &mut Vec<u8>, k: usize, n: u32) -> Result<(), AllocError>
@@ -99,27 +86,32 @@ fn put_note_head(out: &mut Vec<u8>, place: &Place) -> Result<(), AllocError>
     }
 }
 
-/// What the row of the place knows beyond the open row; where control does not reach it, that nothing leads there, since the
-/// row may then say all that can be said.
+/// What the row of the place knows beyond the open row, and a comma; where control does not reach it, that nothing leads there,
+/// since the row may then say all that can be said.
 #[tactic(auto, unfolding(crate::specs::Notes::known_here))]
-fn put_known_here(alloc: Global, out: &mut Vec<u8>, place: &Place) -> Result<(), AllocError>
+fn put_known_here(out: &mut Vec<u8>, place: &Place) -> Result<(), AllocError>
     ensures { OnOk result (out.new.items ≡ out.old.items ++ known_here (place_of place.now)) }
 {
-    if is_reached(place.image, place.marks, place.pc) {
-        put_known(alloc, out, place.row)
+    if !is_reached(place.image, place.marks, place.pc) {
+        return out.extend_from_slice(b" nothing leads here,");
+    }
+    let before = out.len();
+    put_items(out, place.row)?;
+    if before < out.len() {
+        out.extend_from_slice(b",")
     } else {
-        out.extend_from_slice(b" nothing leads here,")
+        Ok(())
     }
 }
 
 /// What is known at the place, and its potential.
 #[tactic(auto, unfolding(crate::specs::Notes::note))]
-pub(crate) fn put_note(alloc: Global, out: &mut Vec<u8>, place: &Place) -> Result<(), AllocError>
+pub(crate) fn put_note(out: &mut Vec<u8>, place: &Place) -> Result<(), AllocError>
     requires { IsPlace (place_of place.now) }
     ensures { OnOk result (out.new.items ≡ out.old.items ++ note (place_of place.now)) }
 {
     put_note_head(out, place)?;
-    put_known_here(alloc, out, place)?;
+    put_known_here(out, place)?;
     put_potential(out, place.potential)
 }
 
