@@ -1,26 +1,26 @@
 -- The words that go with a number of steps or of items, and what a place is called.
-use Rattle.std.specs.Prelude.{ℕ, Bool, true, false, ◌==◌, List, ◌++◌, Some, None, slice_get, codes, decimal}
+use Rattle.std.specs.Prelude.{ℕ, Bool, ◌==◌, if◌then◌else◌, List, ◌++◌, Some, None, slice_get, codes, decimal}
 use Rattle.std.specs.List.{count_by}
 
--- the word for steps, and whether there is just one
-unfoldable pub steps_word : Bool → List ℕ
-steps_word true = codes " step"
-steps_word false = codes " steps"
+-- one text where there is just one thing, else the other
+abbrev pub either : Bool → List ℕ → List ℕ → List ℕ
+either one single several = if one then single else several
 
--- the word for bytes, and whether there is just one
-unfoldable pub bytes_word : Bool → List ℕ
-bytes_word true = codes " byte"
-bytes_word false = codes " bytes"
+-- the word for steps
+abbrev pub steps_word : Bool → List ℕ
+steps_word one = either one (codes " step") (codes " steps")
 
--- that it is, where there is just one, or that they are
-unfoldable pub verb : Bool → List ℕ
-verb true = codes " is"
-verb false = codes " are"
+-- the word for bytes
+abbrev pub bytes_word : Bool → List ℕ
+bytes_word one = either one (codes " byte") (codes " bytes")
+
+-- that it is, or that they are
+abbrev pub verb : Bool → List ℕ
+verb one = either one (codes " is") (codes " are")
 
 -- one thing or several, named before
-unfoldable pub object : Bool → List ℕ
-object true = codes " it"
-object false = codes " them"
+abbrev pub object : Bool → List ℕ
+object one = either one (codes " it") (codes " them")
 
 -- a character is a blank
 abbrev pub is_blank : ℕ → Bool

@@ -1,5 +1,5 @@
 -- What is wrong with the slots and pointers that an instruction uses, rule by rule.
-use Rattle.std.specs.Prelude.{ℕ, Bool, true, false, ◌-◌, nat_lt, nat_le, ◌==◌, if◌then◌else◌, List, [], map, ◌++◌, Option, Some, None, codes, decimal}
+use Rattle.std.specs.Prelude.{ℕ, Bool, ◌-◌, nat_lt, nat_le, ◌==◌, if◌then◌else◌, List, [], map, ◌++◌, Option, Some, None, codes, decimal}
 use Rattle.geos_image.specs.declared.instr.Instr.{Instr}
 use Rattle.geos_image.specs.declared.row.Row.{Row}
 use Rattle.geos_image.specs.declared.row.Pointer.{Pointer}
@@ -20,7 +20,7 @@ use Rattle.geos_listing.specs.Rows.{state_word}
 use Rattle.geos_verify.specs.Uses.{bytes_in}
 use Rattle.geos_verify.specs.Rows.{bound, slot_state, pointer_at, leads_nowhere}
 use Rattle.geos_verify.specs.Rules.{reach, least_at}
-use Rattle.geos_explain.specs.Numbers.{bytes_word, verb, items_in}
+use Rattle.geos_explain.specs.Numbers.{either, bytes_word, verb, items_in}
 
 -- a slot, and what the row says that it holds
 unfoldable pub state_item : ℕ → Row → List ℕ
@@ -34,14 +34,9 @@ nowhere_only slots pointer = if leads_nowhere slots pointer then pointer else No
 abbrev pub leading_nowhere : Row → Row
 leading_nowhere row = record open_row { pointers = map (nowhere_only row.slots) row.pointers }
 
--- that one pointer leads into an empty slot, or that several do
-unfoldable pub nowhere_tail : Bool → List ℕ
-nowhere_tail true = codes " leads into an empty slot"
-nowhere_tail false = codes " lead into empty slots"
-
 -- these pointers lead into empty slots
 unfoldable pub nowhere_items : List ℕ → List ℕ
-nowhere_items items = items ++ nowhere_tail (items_in items == 1)
+nowhere_items items = items ++ either (items_in items == 1) (codes " leads into an empty slot") (codes " lead into empty slots")
 
 -- the pointers of a row that lead into empty slots do so
 unfoldable pub nowhere_words : Row → List ℕ

@@ -1,8 +1,7 @@
 -- What is wrong at a point that is refused, in a line of plain words, rule by rule.
-use Rattle.std.specs.Prelude.{ℕ, ◌+◌, true, false, ◌&&◌, not, nat_lt, if◌then◌else◌, ◌==◌, List, [], ◌++◌, Some, None, length, slice_get, codes}
+use Rattle.std.specs.Prelude.{ℕ, Bool, ◌+◌, true, false, ◌&&◌, not, nat_lt, if◌then◌else◌, ◌==◌, List, [], ◌++◌, Some, None, length, slice_get, codes}
 use Rattle.geos_opcodes.specs.declared.opcode.Opcode.{Opcode}
 use Rattle.geos_opcodes.specs.declared.opcode.Opcode.TheVariants.{Call}
-use Rattle.geos_image.specs.declared.instr.Instr.{Instr}
 use Rattle.geos_image.specs.declared.row.Row.{Row}
 use Rattle.geos_image.specs.declared.routine.Routine.{Routine}
 use Rattle.geos_image.specs.Parts.{Parts, start_of}
@@ -10,7 +9,7 @@ use Rattle.geos_listing.specs.Instrs.{name_of}
 use Rattle.geos_verify.specs.declared.rule.Rule.{Rule}
 use Rattle.geos_verify.specs.declared.rule.Rule.TheVariants.{LeavesRoutine, NamesEmptySlot, EntryMisfit, StalePointer, PassesEnd, ChangesUnmarked, LocksIntoHeld, WrongSlot, CommitsHeld, CallMisfit, ExitMisfit, EdgeMisfit, EdgeUnpaid, OverBudget}
 use Rattle.geos_opcodes.specs.Facts.{uses_of}
-use Rattle.geos_verify.specs.Rows.{falls_through, branches, after}
+use Rattle.geos_verify.specs.Rows.{falls_through, has_edge, after}
 use Rattle.geos_verify.specs.Rules.{has_place}
 use Rattle.geos_explain.specs.Places.{Place}
 use Rattle.geos_explain.specs.Unset.{over_words}
@@ -37,18 +36,6 @@ entry_words routine row =
     then codes " a public routine begins and ends with empty slots and stale pointers"
     else are_text (lacking_items routine.entry row) (codes " wanted here, and not known from the entry row")
 
--- the instruction may reach past the bytes behind its pointer
-unfoldable pub past_here : Instr → Row → List ℕ
-past_here i row = past_words i (uses_of i.opcode).pointer row
-
--- the instruction changes a block that may not be marked
-unfoldable pub unmarked_here : Instr → Row → List ℕ
-unmarked_here i row = unmarked_words i (uses_of i.opcode).pointer row
-
--- the instruction's slot is not held as it wants it
-unfoldable pub slot_here : Instr → Row → List ℕ
-slot_here i row = slot_words i (uses_of i.opcode).slot row
-
 -- these items are wanted by the routine that is called
 unfoldable pub wanted_by : List ℕ → Routine → List ℕ
 wanted_by items callee = items ++ is_or_are items ++ codes " wanted by " ++ name_of callee ++ codes ", and not known here"
@@ -73,13 +60,9 @@ call_here place = call_words place place.i.opcode
 unfoldable pub wanted_at : Parts → ℕ → Row → List ℕ
 wanted_at image to row = elim (slice_get image.points to) [ None ↦ [] | Some next ↦ lacking_items row next.row ]
 
--- the same at the end of the edge to the next instruction; nothing where there is no such edge
-unfoldable pub wanted_along : Place → List ℕ
-wanted_along place = if falls_through place.i.opcode then wanted_at place.image (place.pc + 1) (after place.image place.pc place.row false) else []
-
--- and at the end of the edge to the target
-unfoldable pub wanted_branching : Place → List ℕ
-wanted_branching place = if branches place.i.opcode then wanted_at place.image place.i.target (after place.image place.pc place.row true) else []
+-- the same at the pc to which the instruction goes along an edge; nothing where it has no such edge
+unfoldable pub wanted_behind : Place → Bool → ℕ → List ℕ
+wanted_behind place branch to = if has_edge place.i branch then wanted_at place.image to (after place.image place.pc place.row branch) else []
 
 -- these items are wanted at a pc
 unfoldable pub wanted_words : List ℕ → ℕ → List ℕ → List ℕ
@@ -87,14 +70,14 @@ wanted_words lines to items = items ++ is_or_are items ++ codes " wanted at" ++ 
 
 -- a row does not fit that at the end of the edge to the target
 unfoldable pub branching_words : Place → List ℕ
-branching_words place = wanted_words place.lines place.i.target (wanted_branching place)
+branching_words place = wanted_words place.lines place.i.target (wanted_behind place true place.i.target)
 
 -- a row does not fit that at the end of an edge: the edge to the next instruction is tried first
 unfoldable pub edge_words : Place → List ℕ
 edge_words place =
-    if length (wanted_along place) == 0
+    if length (wanted_behind place false (place.pc + 1)) == 0
     then branching_words place
-    else wanted_words place.lines (place.pc + 1) (wanted_along place)
+    else wanted_words place.lines (place.pc + 1) (wanted_behind place false (place.pc + 1))
 
 -- what is wrong at a place, by a rule
 unfoldable pub words : Place → Rule → List ℕ
@@ -102,10 +85,10 @@ words place LeavesRoutine = leaves_words place
 words place NamesEmptySlot = nowhere_words place.row
 words place EntryMisfit = entry_words place.routine place.row
 words place StalePointer = stale_words place
-words place PassesEnd = past_here place.i place.row
-words place ChangesUnmarked = unmarked_here place.i place.row
+words place PassesEnd = past_words place.i (uses_of place.i.opcode).pointer place.row
+words place ChangesUnmarked = unmarked_words place.i (uses_of place.i.opcode).pointer place.row
 words place LocksIntoHeld = held_words place.i place.row
-words place WrongSlot = slot_here place.i place.row
+words place WrongSlot = slot_words place.i (uses_of place.i.opcode).slot place.row
 words place CommitsHeld = written_words place
 words place CallMisfit = call_here place
 words place ExitMisfit = exit_words place

@@ -5,7 +5,7 @@ ghost use Rattle.geos_image.specs.Legal.{is_image};
 ghost use Rattle.geos_listing.specs.Rows.{texts_below};
 ghost use Rattle.geos_listing.specs.Instrs.{MarksTargets};
 ghost use Rattle.geos_explain.specs.Places.{IsPlace, explained_of, place_of};
-ghost use Rattle.geos_explain.specs.Explanation.{refusal_text, noted, point_text, place_text, head_text, numbered_routine, explanation};
+ghost use Rattle.geos_explain.specs.Explanation.{noted, point_text, place_text, head_text, numbered_routine, explanation};
 
 use crate::explained::Explained;
 use crate::led::reached;
@@ -18,26 +18,8 @@ use geos_listing::{Targets, put_code, put_label_line, put_routine_line, put_row,
 use geos_verify::Reject;
 use std::alloc::{AllocError, Global};
 
-/// The line of the refusal, if there is one and it is at this place.
-fn put_refusal(
-    alloc: Global,
-    out: &mut Vec<u8>,
-    reject: Option<Reject>,
-    place: &Place,
-) -> Result<(), AllocError>
-    requires { IsPlace (place_of place.now) }
-    ensures { OnOk result (out.new.items ≡ out.old.items ++ refusal_text reject (place_of place.now)) }
-{
-    let Some(reject) = reject else {
-        return Ok(());
-    };
-    if reject.pc != place.pc {
-        return Ok(());
-    }
-    put_refusal_line(alloc, out, place, reject.rule)
-}
-
-/// What is known at the instruction, up to the end of the line, and what is wrong with it.
+/// What is known at the instruction, up to the end of the line, and the line of the refusal, if there is one and it is at this
+/// place.
 #[tactic(auto, unfolding(crate::specs::Explanation::noted))]
 pub(crate) fn put_noted(
     alloc: Global,
@@ -50,7 +32,10 @@ pub(crate) fn put_noted(
 {
     put_note(out, place)?;
     out.extend_from_slice(b"\n")?;
-    put_refusal(alloc, out, reject, place)
+    match reject {
+        Some(reject) if reject.pc == place.pc => put_refusal_line(alloc, out, place, reject.rule),
+        _ => Ok(()),
+    }
 }
 
 /// An instruction with what is known there, and what is wrong with it.

@@ -1,8 +1,8 @@
 //! Which slots are held that must not be, and since where.
 
-ghost use Rattle.std.specs.Prelude.{◌≡◌, ◌<◌, ◌++◌, Some, OnOk, length, slice_get};
+ghost use Rattle.std.specs.Prelude.{◌≡◌, ◌<◌, ◌++◌, OnOk, length};
 ghost use Rattle.geos_explain.specs.Places.{IsPlace, place_of};
-ghost use Rattle.geos_explain.specs.Held.{is_held_at, slot_at, slots_at, fills, fills_at, fills_here, later, one_more, also, since_below, since_text, since_at, sinces_at, also_wanted, else_wanted, kept_words, unmet_words, exit_words};
+ghost use Rattle.geos_explain.specs.Held.{is_held_at, slot_at, slots_at, fills_at, fills_here, later, one_more, also, since_below, since_text, since_at, sinces_at, also_wanted, else_wanted, kept_words, unmet_words, exit_words};
 
 use crate::lacks::{lacking, put_lacking};
 use crate::numbers::is_or_are;
@@ -11,7 +11,7 @@ use crate::place::Place;
 use crate::points::point_at;
 use crate::routines::comes_alike;
 use crate::uses::put_state;
-use geos_image::{Image, Point};
+use geos_image::Image;
 use geos_listing::put_items;
 use geos_verify::{after, falls_through, has_place, is_empty, is_of_file, slot_state};
 use std::alloc::{AllocError, Global};
@@ -74,23 +74,17 @@ pub(crate) fn put_slots_at(
     Ok(())
 }
 
-/// Whether the slot is empty before the instruction at the pc, and held behind it.
-fn fills(image: &Image, a: u8, from: u16, point: &Point) -> bool
-    requires { slice_get image.now.points from ≡ Some point.now }
-    ensures { result ≡ fills image.now a from point.now }
-{
-    falls_through(point.instr.opcode)
-        && is_empty(slot_state(&point.row, a))
-        && !is_empty(slot_state(&after(image, from, &point.row, false), a))
-}
-
-/// The same, if there is an instruction.
+/// Whether the slot is empty before the instruction at the pc, and held behind it, if there is an instruction.
 #[tactic(auto, unfolding(crate::specs::Held::fills_at))]
 fn fills_at(image: &Image, a: u8, from: u16) -> bool
     ensures { result ≡ fills_at image.now a from }
 {
     match point_at(image, from) {
-        Some(point) => fills(image, a, from, point),
+        Some(point) => {
+            falls_through(point.instr.opcode)
+                && is_empty(slot_state(&point.row, a))
+                && !is_empty(slot_state(&after(image, from, &point.row, false), a))
+        }
         None => false,
     }
 }

@@ -1,7 +1,7 @@
 //! Which instructions control reaches.
 
 ghost use Rattle.std.specs.Prelude.{◌≡◌, length};
-ghost use Rattle.geos_explain.specs.Led.{no_marks, marked, is_marked, end_marked, marked_from, marked_at, marked_round, starts_marked, reached_within, reached, is_reached, MarksWhatIsReached};
+ghost use Rattle.geos_explain.specs.Led.{no_marks, marked, is_marked, end_marked, marked_at, marked_round, starts_marked, reached_within, reached, is_reached, MarksWhatIsReached};
 
 use crate::edges::{Edge, end_of, takes};
 use crate::points::point_at;
@@ -45,29 +45,21 @@ fn mark_end(marks: &mut Marks, image: &Image, edge: Edge, i: &Instr)
     }
 }
 
-/// Where the instruction leads is marked as well, if it is marked itself.
-#[tactic(auto, unfolding(crate::specs::Led::marked_from))]
-fn mark_from(marks: &mut Marks, image: &Image, from: u16, i: &Instr)
-    ensures { marks.new ≡ marked_from image.now marks.old from i.now }
-{
-    if is_marked(marks, usize::from(from)) {
-        let along = Edge {
-            from,
-            branch: false,
-        };
-        mark_end(marks, image, along, i);
-        mark_end(marks, image, Edge { from, branch: true }, i);
-    }
-}
-
-/// The same, if there is an instruction.
-#[tactic(auto, unfolding(crate::specs::Led::marked_at))]
+/// Where the instruction at a pc leads is marked as well, if there is one and it is marked itself.
+#[tactic(auto, unfolding(crate::specs::Led::marked_from, crate::specs::Led::marked_at))]
 fn mark_at(marks: &mut Marks, image: &Image, from: u16)
     ensures { marks.new ≡ marked_at image.now marks.old from }
 {
     match point_at(image, from) {
-        Some(point) => mark_from(marks, image, from, &point.instr),
-        None => {}
+        Some(point) if is_marked(marks, usize::from(from)) => {
+            let along = Edge {
+                from,
+                branch: false,
+            };
+            mark_end(marks, image, along, &point.instr);
+            mark_end(marks, image, Edge { from, branch: true }, &point.instr);
+        }
+        _ => {}
     }
 }
 

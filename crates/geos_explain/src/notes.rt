@@ -5,7 +5,7 @@ ghost use Rattle.geos_explain.specs.Places.{IsPlace, place_of};
 ghost use Rattle.geos_explain.specs.Notes.{coefficient_text, coefficients_text, is_one, potential_text, where_text, note_head, known_here, note, budget_words};
 
 use crate::led::is_reached;
-use crate::numbers::{steps_word, verb};
+use crate::numbers::either;
 use crate::parts::{Part, put_parts};
 use crate::place::Place;
 use geos_image::{Potential, Routine};
@@ -53,7 +53,7 @@ fn put_potential(out: &mut Vec<u8>, potential: &Potential) -> Result<(), AllocEr
             Part::Text(" "),
             Part::Number(u64::from(potential.constant)),
             Part::Coefficients(&potential.coefficients),
-            Part::Text(steps_word(is_one(potential))),
+            Part::Text(either(is_one(potential), " step", " steps")),
         ],
     )
 }
@@ -128,7 +128,7 @@ pub(crate) fn put_budget(
     put_parts(
         out,
         &[
-            Part::Text(verb(is_one(potential))),
+            Part::Text(either(is_one(potential), " is", " are")),
             Part::Text(" owed from here, the budget is "),
             Part::Number(u64::from(routine.budget)),
         ],

@@ -1,61 +1,29 @@
 //! The words that go with a number of steps or of items, and what a place is called.
 
 ghost use Rattle.std.specs.Prelude.{◌≡◌, ◌==◌, ◌++◌, OnOk};
-ghost use Rattle.geos_explain.specs.Numbers.{steps_word, bytes_word, verb, object, items_in, is_or_are, label_text, pc_text};
+ghost use Rattle.geos_explain.specs.Numbers.{either, items_in, is_or_are, label_text, pc_text};
 
 use geos_listing::put_numbered;
 use std::alloc::AllocError;
 
-/// The word for steps, and whether there is just one.
-#[tactic(auto, unfolding(crate::specs::Numbers::steps_word))]
-pub(crate) fn steps_word(one: bool) -> &'static str
-    ensures { result.now ≡ steps_word one }
+/// One text where there is just one thing, else the other.
+pub(crate) fn either(one: bool, single: &'static str, several: &'static str) -> &'static str
+    ensures { result.now ≡ either one single.now several.now }
 {
-    if one { " step" } else { " steps" }
+    if one { single } else { several }
 }
 
-/// The word for bytes, and whether there is just one.
-#[tactic(auto, unfolding(crate::specs::Numbers::bytes_word))]
-pub(crate) fn bytes_word(one: bool) -> &'static str
-    ensures { result.now ≡ bytes_word one }
+/// Whether the text is just one item: each begins with a blank, and has no other.
+pub(crate) fn is_one_item(items: &[u8]) -> bool
+    ensures { result ≡ items_in items.now == 1 }
 {
-    if one { " byte" } else { " bytes" }
-}
-
-/// That it is, where there is just one, or that they are.
-#[tactic(auto, unfolding(crate::specs::Numbers::verb))]
-pub(crate) fn verb(one: bool) -> &'static str
-    ensures { result.now ≡ verb one }
-{
-    if one { " is" } else { " are" }
-}
-
-/// One thing or several, named before.
-#[tactic(auto, unfolding(crate::specs::Numbers::object))]
-pub(crate) fn object(one: bool) -> &'static str
-    ensures { result.now ≡ object one }
-{
-    if one { " it" } else { " them" }
-}
-
-/// How many items the text has: each begins with a blank, and has no other.
-fn items_in(items: &[u8]) -> usize
-    ensures { result ≡ items_in items.now }
-{
-    let mut n = 0;
+    let mut n: usize = 0;
     for c in items {
         if *c == b' ' {
             n += 1;
         }
     }
-    n
-}
-
-/// Whether the text is just one item.
-pub(crate) fn is_one_item(items: &[u8]) -> bool
-    ensures { result ≡ items_in items.now == 1 }
-{
-    items_in(items) == 1
+    n == 1
 }
 
 /// That it is or that they are, behind the items.
@@ -63,7 +31,7 @@ pub(crate) fn is_one_item(items: &[u8]) -> bool
 pub(crate) fn is_or_are(items: &[u8]) -> &'static str
     ensures { result.now ≡ is_or_are items.now }
 {
-    verb(is_one_item(items))
+    either(is_one_item(items), " is", " are")
 }
 
 /// A target as the reader has it: in an author's text its line, else the label that the listing gives it.

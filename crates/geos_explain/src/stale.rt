@@ -3,7 +3,7 @@
 ghost use Rattle.std.specs.Prelude.{◌≡◌, ◌++◌, OnOk};
 ghost use Rattle.geos_explain.specs.Places.{IsPlace, place_of};
 ghost use Rattle.geos_explain.specs.declared.ways.Way.TheVariants.{Along};
-ghost use Rattle.geos_explain.specs.Stale.{if_stale, stale_used, pointer_item, is_refusable, refused_on, plain_way, way_text, meeting_place, known_from, not_from, meeting_words, meeting_item, named, name_at, call_loss, refused_loss, moved_words, use_loss, how_lost, lost_point, lost_by, in_wish, label_wish, refused_at, unset_words, unreached_words, merged_words, end_words, loss_words, trace_words, trace_item, stale_words};
+ghost use Rattle.geos_explain.specs.Stale.{if_stale, stale_used, pointer_item, is_refusable, refused_on, way_text, meeting_place, known_from, not_from, meeting_item, named, name_at, call_loss, moved_words, use_loss, how_lost, lost_by, in_wish, label_wish, refused_at, unset_words, unreached_words, merged_words, loss_words, trace_item, stale_words};
 
 use crate::edges::Edge;
 use crate::numbers::put_pc;
@@ -71,16 +71,6 @@ fn refused_on(image: &Image, way: Way) -> Option<u16>
     }
 }
 
-/// Where a way comes from that is no refusal.
-fn put_plain_way(out: &mut Vec<u8>, lines: &[usize], way: Way) -> Result<(), AllocError>
-    ensures { OnOk result (out.new.items ≡ out.old.items ++ plain_way lines.now way) }
-{
-    match way {
-        Way::Entry => out.extend_from_slice(b" the in line"),
-        Way::Along(edge) => put_pc(out, lines, edge.from),
-    }
-}
-
 /// Where a way comes from, and whether its instruction is refused there.
 #[tactic(auto, unfolding(crate::specs::Stale::way_text))]
 fn put_way(out: &mut Vec<u8>, place: &Place, way: Way) -> Result<(), AllocError>
@@ -95,7 +85,10 @@ fn put_way(out: &mut Vec<u8>, place: &Place, way: Way) -> Result<(), AllocError>
                 Part::Text(" is refused"),
             ],
         ),
-        None => put_plain_way(out, place.lines, way),
+        None => match way {
+            Way::Entry => out.extend_from_slice(b" the in line"),
+            Way::Along(edge) => put_pc(out, place.lines, edge.from),
+        },
     }
 }
 
@@ -134,17 +127,8 @@ fn put_not_from(out: &mut Vec<u8>, place: &Place, m: &Meeting) -> Result<(), All
     put_way(out, place, m.lost)
 }
 
-/// Where ways meet, of which one brings the pointer, and another does not.
+/// Where ways meet, if they do, of which one brings the pointer, and another does not.
 #[tactic(auto, unfolding(crate::specs::Stale::meeting_words))]
-fn put_meeting(out: &mut Vec<u8>, place: &Place, p: u8, m: &Meeting) -> Result<(), AllocError>
-    ensures { OnOk result (out.new.items ≡ out.old.items ++ meeting_words (place_of place.now) p m.now) }
-{
-    put_meeting_place(out, place, m.to)?;
-    put_known_from(out, place, p, m)?;
-    put_not_from(out, place, m)
-}
-
-/// The same, if ways meet.
 fn put_meeting_item(
     out: &mut Vec<u8>,
     place: &Place,
@@ -154,7 +138,11 @@ fn put_meeting_item(
     ensures { OnOk result (out.new.items ≡ out.old.items ++ meeting_item (place_of place.now) p meeting) }
 {
     match meeting {
-        Some(m) => put_meeting(out, place, p, &m),
+        Some(m) => {
+            put_meeting_place(out, place, m.to)?;
+            put_known_from(out, place, p, &m)?;
+            put_not_from(out, place, &m)
+        }
         None => Ok(()),
     }
 }
@@ -200,21 +188,6 @@ fn put_call_loss(out: &mut Vec<u8>, image: &Image, p: u8, r: u16) -> Result<(), 
             Part::Text(" says, and it does not say p"),
             Part::Register(p),
             Part::Text(": say it in the out line, or fetch it again"),
-        ],
-    )
-}
-
-/// The instruction was to set the pointer and was refused.
-#[tactic(auto, unfolding(crate::specs::Stale::refused_loss))]
-fn put_refused_loss(out: &mut Vec<u8>, p: u8) -> Result<(), AllocError>
-    ensures { OnOk result (out.new.items ≡ out.old.items ++ refused_loss p) }
-{
-    put_parts(
-        out,
-        &[
-            Part::Text(" goes to its label where it is refused, and has not set p"),
-            Part::Register(p),
-            Part::Text(": give it another label"),
         ],
     )
 }
@@ -272,7 +245,7 @@ fn put_use_loss(out: &mut Vec<u8>, i: &Instr, slot: SlotUse, p: u8, b: u8) -> Re
 }
 
 /// How the instruction lost the pointer, at its target or else on the next instruction.
-#[tactic(auto, unfolding(crate::specs::Stale::how_lost))]
+#[tactic(auto, unfolding(crate::specs::Stale::how_lost, crate::specs::Stale::refused_loss))]
 fn put_how_lost(
     out: &mut Vec<u8>,
     image: &Image,
@@ -288,30 +261,22 @@ fn put_how_lost(
     if forgets(i.opcode) {
         put_call_loss(out, image, p, i.imm)
     } else if branch && sets(i, uses.pointer, p) {
-        put_refused_loss(out, p)
+        put_parts(
+            out,
+            &[
+                Part::Text(" goes to its label where it is refused, and has not set p"),
+                Part::Register(p),
+                Part::Text(": give it another label"),
+            ],
+        )
     } else {
         let b = slot_behind(&with_hint(&point.row, followed), p);
         put_use_loss(out, i, uses.slot, p, b)
     }
 }
 
-/// The instruction lost the pointer on an edge.
-#[tactic(auto, unfolding(crate::specs::Stale::lost_point))]
-fn put_lost_point(
-    out: &mut Vec<u8>,
-    place: &Place,
-    followed: Followed,
-    edge: Edge,
-    point: &Point,
-) -> Result<(), AllocError>
-    ensures { OnOk result (out.new.items ≡ out.old.items ++ lost_point (place_of place.now) followed edge point.now) }
-{
-    put_named(out, place.lines, edge.from, point)?;
-    put_how_lost(out, place.image, followed, edge.branch, point)
-}
-
-/// The same, if there is an instruction.
-#[tactic(auto, unfolding(crate::specs::Stale::lost_by))]
+/// The instruction lost the pointer on an edge, if there is an instruction.
+#[tactic(auto, unfolding(crate::specs::Stale::lost_by, crate::specs::Stale::lost_point))]
 fn put_lost_by(
     out: &mut Vec<u8>,
     place: &Place,
@@ -321,7 +286,10 @@ fn put_lost_by(
     ensures { OnOk result (out.new.items ≡ out.old.items ++ lost_by (place_of place.now) followed edge) }
 {
     match point_at(place.image, edge.from) {
-        Some(point) => put_lost_point(out, place, followed, edge, point),
+        Some(point) => {
+            put_named(out, place.lines, edge.from, point)?;
+            put_how_lost(out, place.image, followed, edge.branch, point)
+        }
         None => Ok(()),
     }
 }
@@ -344,30 +312,27 @@ fn put_in_wish(out: &mut Vec<u8>, routine: &Routine, p: u8) -> Result<(), AllocE
     }
 }
 
-/// Another label, if the instruction is one whose refusal does not bring the pointer.
-fn put_label_wish(out: &mut Vec<u8>, lines: &[usize], from: Option<u16>) -> Result<(), AllocError>
-    ensures { OnOk result (out.new.items ≡ out.old.items ++ label_wish lines.now from) }
+/// Another label, if ways meet and an instruction's refusal is the one that does not bring the pointer.
+fn put_label_wish(
+    out: &mut Vec<u8>,
+    place: &Place,
+    meeting: Option<Meeting>,
+) -> Result<(), AllocError>
+    ensures { OnOk result (out.new.items ≡ out.old.items ++ label_wish (place_of place.now).lines (refused_at (place_of place.now).image meeting)) }
 {
-    match from {
+    let Some(m) = meeting else {
+        return Ok(());
+    };
+    match refused_on(place.image, m.lost) {
         Some(from) => put_parts(
             out,
             &[
                 Part::Text(", or give"),
-                Part::Pc(lines, from),
+                Part::Pc(place.lines, from),
                 Part::Text(" another label"),
             ],
         ),
         None => Ok(()),
-    }
-}
-
-/// Whose refusal does not bring the pointer, where ways meet.
-fn refused_at(image: &Image, meeting: Option<Meeting>) -> Option<u16>
-    ensures { result ≡ refused_at image.now meeting }
-{
-    match meeting {
-        Some(m) => refused_on(image, m.lost),
-        None => None,
     }
 }
 
@@ -389,7 +354,7 @@ fn put_unset(
             Part::Text(" is not set on the way from the start of the routine: fetch it first"),
         ],
     )?;
-    put_label_wish(out, place.lines, refused_at(place.image, meeting))?;
+    put_label_wish(out, place, meeting)?;
     put_in_wish(out, place.routine, p)
 }
 
@@ -430,44 +395,33 @@ fn put_merged(out: &mut Vec<u8>, place: &Place, p: u8, to: u16) -> Result<(), Al
     )
 }
 
-/// Why the pointer is not known, where no instruction lost it.
-fn put_end(out: &mut Vec<u8>, place: &Place, p: u8, t: &Trace) -> Result<(), AllocError>
-    ensures { OnOk result (out.new.items ≡ out.old.items ++ end_words (place_of place.now) p t.now.meeting t.now.end) }
-{
-    match t.end {
-        None => out.extend_from_slice(b": fetch it again"),
-        Some(End::Unset) => put_unset(out, place, p, t.meeting),
-        Some(End::Unreached(to)) => put_unreached(out, place, to),
-        Some(End::Merged(to)) => put_merged(out, place, p, to),
-    }
-}
-
 /// By what the pointer was lost, or else why it is not known.
 fn put_loss(out: &mut Vec<u8>, place: &Place, p: u8, t: &Trace) -> Result<(), AllocError>
     ensures { OnOk result (out.new.items ≡ out.old.items ++ loss_words (place_of place.now) p t.now) }
 {
     match t.lost {
-        None => put_end(out, place, p, t),
         Some(edge) => put_lost_by(out, place, hint_at(t, p, edge.from), edge),
+        None => match t.end {
+            None => out.extend_from_slice(b": fetch it again"),
+            Some(End::Unset) => put_unset(out, place, p, t.meeting),
+            Some(End::Unreached(to)) => put_unreached(out, place, to),
+            Some(End::Merged(to)) => put_merged(out, place, p, to),
+        },
     }
 }
 
-/// Where the pointer was lost, and by what.
+/// Where the pointer was lost, and by what, if there is a pointer.
 #[tactic(auto, unfolding(crate::specs::Stale::trace_words))]
-fn put_trace(out: &mut Vec<u8>, place: &Place, p: u8, t: &Trace) -> Result<(), AllocError>
-    ensures { OnOk result (out.new.items ≡ out.old.items ++ trace_words (place_of place.now) p t.now) }
-{
-    put_meeting_item(out, place, p, t.meeting)?;
-    put_loss(out, place, p, t)
-}
-
-/// The same, if there is a pointer.
 fn put_trace_item(out: &mut Vec<u8>, place: &Place, pointer: Option<u8>) -> Result<(), AllocError>
     requires { IsPlace (place_of place.now) }
     ensures { OnOk result (out.new.items ≡ out.old.items ++ trace_item (place_of place.now) pointer) }
 {
     match pointer {
-        Some(p) => put_trace(out, place, p, &traced(place, p)),
+        Some(p) => {
+            let trace = traced(place, p);
+            put_meeting_item(out, place, p, trace.meeting)?;
+            put_loss(out, place, p, &trace)
+        }
         None => Ok(()),
     }
 }

@@ -4,7 +4,7 @@ ghost use Rattle.std.specs.Prelude.{◌≡◌, ◌<◌, ◌++◌, OnOk, length};
 ghost use Rattle.geos_explain.specs.Places.{IsPlace, place_of};
 ghost use Rattle.geos_explain.specs.Steps.{whole_words, asked_words, asks_along, asks_branching, paying_item, paying_items, touched_words, touched_here, last_words, unpaid_words};
 
-use crate::numbers::{steps_word, verb};
+use crate::numbers::either;
 use crate::parts::{Part, put_parts};
 use crate::place::Place;
 use crate::points::point_at;
@@ -44,11 +44,11 @@ fn put_asked(out: &mut Vec<u8>, asked: &Asked, p: &Potential) -> Result<(), Allo
             &[
                 Part::Text(" "),
                 Part::Number(asked.steps),
-                Part::Text(steps_word(asked.steps == 1)),
-                Part::Text(verb(asked.steps == 1)),
+                Part::Text(either(asked.steps == 1, " step", " steps")),
+                Part::Text(either(asked.steps == 1, " is", " are")),
                 Part::Text(" owed from here, "),
                 Part::Number(left),
-                Part::Text(verb(left == 1)),
+                Part::Text(either(left == 1, " is", " are")),
                 Part::Text(" left"),
             ],
         )

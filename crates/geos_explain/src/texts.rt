@@ -2,7 +2,7 @@
 
 ghost use Rattle.std.specs.Prelude.{◌≡◌, ◌<◌, ◌++◌, OnOk, IfOk, length};
 ghost use Rattle.geos_explain.specs.Places.{explained_of};
-ghost use Rattle.geos_explain.specs.Texts.{last_begun, noted_in, noted_of, noted_at, is_line_of, numbered, behind_line, line_text, next_pc, text_explanation};
+ghost use Rattle.geos_explain.specs.Texts.{last_begun, noted_of, noted_at, is_line_of, numbered, line_text, next_pc, text_explanation};
 
 use crate::explained::Explained;
 use crate::explanation::put_noted;
@@ -29,20 +29,6 @@ fn last_begun(image: &Image, pc: u16) -> Option<u16>
 }
 
 /// What is said of the instruction at a pc of a routine.
-fn put_noted_in(
-    alloc: Global,
-    out: &mut Vec<u8>,
-    within: &ExplainedRoutine,
-    pc: u16,
-) -> Result<(), AllocError>
-    requires { pc < length within.now.explained.now.image.now.points }
-    ensures { OnOk result (out.new.items ≡ out.old.items ++ noted_in (explained_of within.now.explained.now) pc within.now.r within.now.routine.now) }
-{
-    let place = place_at(within, pc);
-    put_noted(alloc, out, within.explained.reject, &place)
-}
-
-/// The same of a routine's number.
 #[tactic(auto, unfolding(crate::specs::Texts::noted_of))]
 fn put_noted_of(
     alloc: Global,
@@ -62,7 +48,8 @@ fn put_noted_of(
             r,
             routine,
         };
-        put_noted_in(alloc, out, &within, pc)
+        let place = place_at(&within, pc);
+        put_noted(alloc, out, explained.reject, &place)
     } else {
         Ok(())
     }
@@ -118,24 +105,8 @@ fn put_numbered_line(out: &mut Vec<u8>, line: &Line) -> Result<(), AllocError>
     )
 }
 
-/// What stands behind a line: what is said of its instruction, or nothing.
-fn put_behind_line(
-    alloc: Global,
-    out: &mut Vec<u8>,
-    explained: &Explained,
-    pc: u16,
-    number: usize,
-) -> Result<(), AllocError>
-    ensures { OnOk result (out.new.items ≡ out.old.items ++ behind_line (explained_of explained.now) pc number) }
-{
-    if is_line_of(explained.lines, pc, number) && pc < explained.image.len() {
-        put_noted_at(alloc, out, explained, pc)
-    } else {
-        out.extend_from_slice(b"\n")
-    }
-}
-
-/// A line with its number, and what stands behind it, where `pc` is the next instruction.
+/// A line with its number, and what stands behind it, where `pc` is the next instruction: what is said of it, where the line is
+/// its own, or nothing.
 #[tactic(auto, unfolding(crate::specs::Texts::line_text))]
 fn put_line(
     alloc: Global,
@@ -147,7 +118,11 @@ fn put_line(
     ensures { OnOk result (out.new.items ≡ out.old.items ++ line_text (explained_of explained.now) pc line.now.number line.now.text.now) }
 {
     put_numbered_line(out, line)?;
-    put_behind_line(alloc, out, explained, pc, line.number)
+    if is_line_of(explained.lines, pc, line.number) && pc < explained.image.len() {
+        put_noted_at(alloc, out, explained, pc)
+    } else {
+        out.extend_from_slice(b"\n")
+    }
 }
 
 /// The next instruction behind a line.

@@ -3,7 +3,7 @@
 ghost use Rattle.std.specs.Prelude.{◌≡◌, Some, slice_get};
 ghost use Rattle.geos_explain.specs.Places.{IsPlace, place_of};
 ghost use Rattle.geos_explain.specs.Lost.{WhatIsSaidHolds};
-ghost use Rattle.geos_explain.specs.Trace.{meeting_at, end_at, passed_by, passed, lacks, hint_at, back_by, back_along, back_from, next_round, rounds, begun, aside, along_lost, traced};
+ghost use Rattle.geos_explain.specs.Trace.{meeting_at, end_at, passed_by, passed, lacks, hint_at, back_by, back_along, back_from, next_round, rounds, begun, along_lost, traced};
 
 use crate::arrivals::{Arrivals, all_arrivals, arrival};
 use crate::edges::{Edge, end_of};
@@ -231,18 +231,8 @@ fn begun(place: &Place, p: u8) -> Trace
     trace
 }
 
-/// A step back along the edge, if there is an instruction.
-fn step_aside(trace: &mut Trace, place: &Place, p: u8, edge: Edge)
-    requires { IsPlace (place_of place.now) }
-    ensures { trace.new ≡ aside (place_of place.now) p trace.old edge }
-{
-    match point_at(place.image, edge.from) {
-        Some(point) => step_by(trace, place, p, edge, point),
-        None => {}
-    }
-}
-
-/// The same along a way that does not bring the pointer, unless it is known why not; nothing else was passed before.
+/// A step back along a way that does not bring the pointer, unless it is known why not; nothing else was passed before.
+#[tactic(auto, unfolding(crate::specs::Trace::aside))]
 fn step_along_lost(trace: &mut Trace, place: &Place, p: u8, lost: Way)
     requires { IsPlace (place_of place.now) }
     ensures { trace.new ≡ along_lost (place_of place.now) p trace.old lost }
@@ -254,7 +244,10 @@ fn step_along_lost(trace: &mut Trace, place: &Place, p: u8, lost: Way)
         return;
     }
     match lost {
-        Way::Along(edge) => step_aside(trace, place, p, edge),
+        Way::Along(edge) => match point_at(place.image, edge.from) {
+            Some(point) => step_by(trace, place, p, edge, point),
+            None => {}
+        },
         Way::Entry => {}
     }
 }

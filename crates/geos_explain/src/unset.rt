@@ -2,7 +2,7 @@
 
 ghost use Rattle.std.specs.Prelude.{◌≡◌, ◌<◌, ◌++◌, OnOk, length};
 ghost use Rattle.geos_explain.specs.Places.{place_of};
-ghost use Rattle.geos_explain.specs.Unset.{takes, gives, pays_at, next_search, search_from, search_at, search_on, searched, found_text, unset_item, unset_items, over_words};
+ghost use Rattle.geos_explain.specs.Unset.{takes, gives, pays_at, next_search, search_at, search_on, searched, found_text, unset_item, unset_items, over_words};
 
 use crate::notes::put_budget;
 use crate::parts::{Part, put_parts};
@@ -71,11 +71,16 @@ fn next_search(image: &Image, k: u8, pc: u16, i: &Instr) -> Search
     }
 }
 
-/// One step on from an instruction: it takes from the counter, or sets it, or the way goes on.
-fn search_from(image: &Image, k: u8, pc: u16, i: &Instr) -> Search
+/// One step on from the instruction at a pc: it takes from the counter, or sets it, or the way goes on.
+#[tactic(auto, unfolding(crate::specs::Unset::search_at))]
+fn search_at(image: &Image, k: u8, pc: u16) -> Search
     requires { k < 4 }
-    ensures { result ≡ search_from image.now k pc i.now }
+    ensures { result ≡ search_at image.now k pc }
 {
+    let Some(point) = point_at(image, pc) else {
+        return Search::Ended;
+    };
+    let i = &point.instr;
     let counter = i.opcode.facts().counter;
     if takes(counter, i, k) {
         Search::Found(pc)
@@ -83,18 +88,6 @@ fn search_from(image: &Image, k: u8, pc: u16, i: &Instr) -> Search
         Search::Ended
     } else {
         next_search(image, k, pc, i)
-    }
-}
-
-/// The same of the instruction at a pc.
-#[tactic(auto, unfolding(crate::specs::Unset::search_at))]
-fn search_at(image: &Image, k: u8, pc: u16) -> Search
-    requires { k < 4 }
-    ensures { result ≡ search_at image.now k pc }
-{
-    match point_at(image, pc) {
-        Some(point) => search_from(image, k, pc, &point.instr),
-        None => Search::Ended,
     }
 }
 

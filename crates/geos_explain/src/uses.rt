@@ -1,15 +1,17 @@
 //! What is wrong with the slots and pointers that an instruction uses.
 
 ghost use Rattle.std.specs.Prelude.{◌≡◌, ◌<◌, ◌++◌, OnOk};
-ghost use Rattle.geos_verify.specs.Uses.{OffsetFits, PointerFits};
-ghost use Rattle.geos_explain.specs.Uses.{state_item, nowhere_only, leading_nowhere, nowhere_tail, nowhere_items, nowhere_words, short_words, is_any, index_known, index_wanted, known_bytes, index_words, reach_words, past_words, slot_behind, changed_slot, mark_word, unmarked_words, held_words, kind_wish, slot_wish, unlocks_text, marks_text, serving, other_item, slot_words};
+ghost use Rattle.geos_image.specs.Fields.{FieldsFit};
+ghost use Rattle.geos_opcodes.specs.Facts.{uses_of};
+ghost use Rattle.geos_verify.specs.Uses.{OffsetFits};
+ghost use Rattle.geos_explain.specs.Uses.{state_item, nowhere_only, leading_nowhere, nowhere_words, short_words, index_known, index_wanted, known_bytes, index_words, reach_words, past_words, slot_behind, changed_slot, mark_word, unmarked_words, held_words, slot_wish, serving, other_item, slot_words};
 
-use crate::numbers::{bytes_word, is_one_item, verb};
+use crate::numbers::{either, is_one_item};
 use crate::parts::{Part, put_parts};
 use geos_image::{Instr, Pointer, Row, SlotState};
 use geos_listing::{put_items, state_word};
 use geos_opcodes::{Kind, Offset, PointerUse, SlotUse, Width};
-use geos_verify::{bytes_in, leads_nowhere, least_at, pointer_at, reach, slot_state};
+use geos_verify::{bytes_in, leads_nowhere, least_at, pointer_at, reach, slot_state, uses_at};
 use std::alloc::{AllocError, Global};
 
 /// A slot, and what the row says that it holds.
@@ -54,35 +56,19 @@ fn leading_nowhere(row: &Row) -> Row
     nowhere
 }
 
-/// That one pointer leads into an empty slot, or that several do.
-#[tactic(auto, unfolding(crate::specs::Uses::nowhere_tail))]
-fn nowhere_tail(one: bool) -> &'static str
-    ensures { result.now ≡ nowhere_tail one }
-{
-    if one {
-        " leads into an empty slot"
-    } else {
-        " lead into empty slots"
-    }
-}
-
-/// These pointers lead into empty slots.
-#[tactic(auto, unfolding(crate::specs::Uses::nowhere_items))]
-fn put_nowhere_items(out: &mut Vec<u8>, items: &[u8]) -> Result<(), AllocError>
-    ensures { OnOk result (out.new.items ≡ out.old.items ++ nowhere_items items.now) }
-{
-    let tail = nowhere_tail(is_one_item(items));
-    put_parts(out, &[Part::Bytes(items), Part::Text(tail)])
-}
-
 /// The pointers of the row that lead into empty slots do so.
-#[tactic(auto, unfolding(crate::specs::Uses::nowhere_words))]
+#[tactic(auto, unfolding(crate::specs::Uses::nowhere_words, crate::specs::Uses::nowhere_items))]
 pub(crate) fn put_nowhere(alloc: Global, out: &mut Vec<u8>, row: &Row) -> Result<(), AllocError>
     ensures { OnOk result (out.new.items ≡ out.old.items ++ nowhere_words row.now) }
 {
     let mut items = Vec::new(alloc);
     put_items(&mut items, &leading_nowhere(row))?;
-    put_nowhere_items(out, &items)
+    let tail = either(
+        is_one_item(&items),
+        " leads into an empty slot",
+        " lead into empty slots",
+    );
+    put_parts(out, &[Part::Bytes(&items), Part::Text(tail)])
 }
 
 /// So many bytes are wanted behind a pointer, and how many are known there.
@@ -96,23 +82,16 @@ fn put_short(out: &mut Vec<u8>, p: u8, wanted: u32, row: &Row) -> Result<(), All
         &[
             Part::Text(" "),
             Part::Number(u64::from(wanted)),
-            Part::Text(bytes_word(wanted == 1)),
-            Part::Text(verb(wanted == 1)),
+            Part::Text(either(wanted == 1, " byte", " bytes")),
+            Part::Text(either(wanted == 1, " is", " are")),
             Part::Text(" wanted behind p"),
             Part::Register(p),
             Part::Text(", and "),
             Part::Number(u64::from(least)),
-            Part::Text(verb(least == 1)),
+            Part::Text(either(least == 1, " is", " are")),
             Part::Text(" known there"),
         ],
     )
-}
-
-/// Whether a word may be any number.
-fn is_any(most: u16) -> bool
-    ensures { result ≡ is_any most }
-{
-    most == u16::MAX
 }
 
 /// The word that is the index of a read or a write, and how high it is at most.
@@ -127,7 +106,7 @@ pub(crate) struct Index {
 fn put_index_known(out: &mut Vec<u8>, index: Index) -> Result<(), AllocError>
     ensures { OnOk result (out.new.items ≡ out.old.items ++ index_known index.w index.most) }
 {
-    if is_any(index.most) {
+    if index.most == u16::MAX {
         return put_parts(
             out,
             &[
@@ -182,7 +161,7 @@ fn put_known_bytes(out: &mut Vec<u8>, p: u8, least: u16) -> Result<(), AllocErro
             Part::Register(p),
             Part::Text(" is known to have "),
             Part::Number(u64::from(least)),
-            Part::Text(bytes_word(least == 1)),
+            Part::Text(either(least == 1, " byte", " bytes")),
         ],
     )
 }
@@ -226,16 +205,11 @@ fn put_reach(
 
 /// A read or a write may reach past the bytes behind its pointer.
 #[tactic(auto, unfolding(crate::specs::Uses::past_words))]
-pub(crate) fn put_past(
-    out: &mut Vec<u8>,
-    i: &Instr,
-    pointer: PointerUse,
-    row: &Row,
-) -> Result<(), AllocError>
-    requires { PointerFits pointer i.now }
-    ensures { OnOk result (out.new.items ≡ out.old.items ++ past_words i.now pointer row.now) }
+pub(crate) fn put_past(out: &mut Vec<u8>, i: &Instr, row: &Row) -> Result<(), AllocError>
+    requires { FieldsFit i.now.opcode i.now }
+    ensures { OnOk result (out.new.items ≡ out.old.items ++ past_words i.now (uses_of i.now.opcode).pointer row.now) }
 {
-    match pointer {
+    match uses_at(i).pointer {
         PointerUse::Loads(width, offset) | PointerUse::Stores(width, offset) => {
             put_reach(out, i, width, offset, row)
         }
@@ -279,15 +253,10 @@ fn mark_word(state: SlotState) -> &'static str
 
 /// A block is changed that may not be marked, and what marks it.
 #[tactic(auto, unfolding(crate::specs::Uses::unmarked_words))]
-pub(crate) fn put_unmarked(
-    out: &mut Vec<u8>,
-    i: &Instr,
-    pointer: PointerUse,
-    row: &Row,
-) -> Result<(), AllocError>
-    ensures { OnOk result (out.new.items ≡ out.old.items ++ unmarked_words i.now pointer row.now) }
+pub(crate) fn put_unmarked(out: &mut Vec<u8>, i: &Instr, row: &Row) -> Result<(), AllocError>
+    ensures { OnOk result (out.new.items ≡ out.old.items ++ unmarked_words i.now (uses_of i.now.opcode).pointer row.now) }
 {
-    let a = changed_slot(i, pointer, row);
+    let a = changed_slot(i, i.opcode.uses().pointer, row);
     let state = slot_state(row, a);
     put_parts(
         out,
@@ -314,60 +283,40 @@ pub(crate) fn put_held(out: &mut Vec<u8>, i: &Instr, row: &Row) -> Result<(), Al
     out.extend_from_slice(b" is held here, and an empty slot is wanted")
 }
 
-/// A block of this kind is wanted.
-fn kind_wish(kind: Kind) -> &'static str
-    ensures { result.now ≡ kind_wish kind }
-{
-    match kind {
-        Kind::MemBlock => " is known here, and mem is wanted",
-        Kind::VmBlock => " is known here, and vm or vm! is wanted",
-        Kind::DbGroup => " is known here, and db or db! is wanted",
-    }
-}
-
 /// What the instruction wants of its slot, or of two.
 #[tactic(auto, unfolding(crate::specs::Uses::slot_wish))]
 fn slot_wish(slot: SlotUse) -> &'static str
     ensures { result.now ≡ slot_wish slot }
 {
     match slot {
-        SlotUse::Unlocks(kind) | SlotUse::Marks(kind) => kind_wish(kind),
+        SlotUse::Unlocks(kind) | SlotUse::Marks(kind) => match kind {
+            Kind::MemBlock => " is known here, and mem is wanted",
+            Kind::VmBlock => " is known here, and vm or vm! is wanted",
+            Kind::DbGroup => " is known here, and db or db! is wanted",
+        },
         SlotUse::Compares => " are known here, and two held slots of one kind are wanted",
         _ => " is known here, and a held slot is wanted",
     }
 }
 
-/// The instruction that unlocks what the slot holds; none where it is empty.
-fn unlocks_text(state: SlotState) -> &'static str
-    ensures { result.now ≡ unlocks_text state }
-{
-    match state {
-        SlotState::Empty => "",
-        SlotState::Mem => ": MUNLOCK unlocks it",
-        SlotState::Vm { .. } => ": VUNLOCK unlocks it",
-        SlotState::Db { .. } => ": IUNLOCK unlocks it",
-    }
-}
-
-/// The instruction that marks what the slot holds; none where it is empty or holds a block that has no mark.
-fn marks_text(state: SlotState) -> &'static str
-    ensures { result.now ≡ marks_text state }
-{
-    match state {
-        SlotState::Empty | SlotState::Mem => "",
-        SlotState::Vm { .. } => ": VDIRTY marks it",
-        SlotState::Db { .. } => ": IDIRTY marks it",
-    }
-}
-
-/// The instruction that serves in the place of one that wants another kind.
+/// The instruction that serves in the place of one that wants another kind: it unlocks or marks what the slot holds; none where
+/// it is empty, or is to be marked and holds a block that has no mark.
 #[tactic(auto, unfolding(crate::specs::Uses::serving))]
 fn serving(slot: SlotUse, state: SlotState) -> &'static str
     ensures { result.now ≡ serving slot state }
 {
     match slot {
-        SlotUse::Unlocks(_) => unlocks_text(state),
-        SlotUse::Marks(_) => marks_text(state),
+        SlotUse::Unlocks(_) => match state {
+            SlotState::Empty => "",
+            SlotState::Mem => ": MUNLOCK unlocks it",
+            SlotState::Vm { .. } => ": VUNLOCK unlocks it",
+            SlotState::Db { .. } => ": IUNLOCK unlocks it",
+        },
+        SlotUse::Marks(_) => match state {
+            SlotState::Empty | SlotState::Mem => "",
+            SlotState::Vm { .. } => ": VDIRTY marks it",
+            SlotState::Db { .. } => ": IDIRTY marks it",
+        },
         _ => "",
     }
 }
@@ -385,14 +334,10 @@ fn put_other(out: &mut Vec<u8>, i: &Instr, slot: SlotUse, row: &Row) -> Result<(
 
 /// A slot is not held as the instruction wants it, and what serves in its place.
 #[tactic(auto, unfolding(crate::specs::Uses::slot_words))]
-pub(crate) fn put_slot(
-    out: &mut Vec<u8>,
-    i: &Instr,
-    slot: SlotUse,
-    row: &Row,
-) -> Result<(), AllocError>
-    ensures { OnOk result (out.new.items ≡ out.old.items ++ slot_words i.now slot row.now) }
+pub(crate) fn put_slot(out: &mut Vec<u8>, i: &Instr, row: &Row) -> Result<(), AllocError>
+    ensures { OnOk result (out.new.items ≡ out.old.items ++ slot_words i.now (uses_of i.now.opcode).slot row.now) }
 {
+    let slot = i.opcode.uses().slot;
     put_state(out, i.a, row)?;
     put_other(out, i, slot, row)?;
     let wish = slot_wish(slot);

@@ -1,9 +1,8 @@
 //! What is wrong at a point that is refused, rule by rule.
 
 ghost use Rattle.std.specs.Prelude.{◌≡◌, ◌<◌, ◌+◌, ◌++◌, ◌&&◌, OnOk};
-ghost use Rattle.geos_image.specs.Fields.{FieldsFit};
 ghost use Rattle.geos_explain.specs.Places.{IsPlace, place_of};
-ghost use Rattle.geos_explain.specs.Words.{leaves_words, entry_words, past_here, unmarked_here, slot_here, wanted_by, callee_words, call_here, wanted_at, wanted_along, wanted_branching, wanted_words, branching_words, edge_words, words, refusal_head, refusal_line};
+ghost use Rattle.geos_explain.specs.Words.{leaves_words, entry_words, wanted_by, callee_words, call_here, wanted_at, wanted_behind, wanted_words, branching_words, edge_words, words, refusal_head, refusal_line};
 
 use crate::held::put_exit;
 use crate::lacks::put_lacking;
@@ -16,8 +15,8 @@ use crate::steps::put_unpaid;
 use crate::unset::put_over;
 use crate::uses::{put_held, put_nowhere, put_past, put_slot, put_unmarked};
 use crate::written::put_written;
-use geos_image::{Image, Instr, Opcode, Routine, Row};
-use geos_verify::{Rule, after, branches, falls_through, has_place, uses_at};
+use geos_image::{Image, Opcode, Routine, Row};
+use geos_verify::{Rule, after, falls_through, has_edge, has_place};
 use std::alloc::{AllocError, Global};
 
 /// Control leaves the routine.
@@ -64,33 +63,6 @@ fn put_entry(
         &items,
         " wanted here, and not known from the entry row",
     )
-}
-
-/// The instruction may reach past the bytes behind its pointer.
-#[tactic(auto, unfolding(crate::specs::Words::past_here))]
-fn put_past_here(out: &mut Vec<u8>, i: &Instr, row: &Row) -> Result<(), AllocError>
-    requires { FieldsFit i.now.opcode i.now }
-    ensures { OnOk result (out.new.items ≡ out.old.items ++ past_here i.now row.now) }
-{
-    put_past(out, i, uses_at(i).pointer, row)
-}
-
-/// The instruction changes a block that may not be marked.
-#[tactic(auto, unfolding(crate::specs::Words::unmarked_here))]
-fn put_unmarked_here(out: &mut Vec<u8>, i: &Instr, row: &Row) -> Result<(), AllocError>
-    requires { FieldsFit i.now.opcode i.now }
-    ensures { OnOk result (out.new.items ≡ out.old.items ++ unmarked_here i.now row.now) }
-{
-    put_unmarked(out, i, uses_at(i).pointer, row)
-}
-
-/// The instruction's slot is not held as it wants it.
-#[tactic(auto, unfolding(crate::specs::Words::slot_here))]
-fn put_slot_here(out: &mut Vec<u8>, i: &Instr, row: &Row) -> Result<(), AllocError>
-    requires { FieldsFit i.now.opcode i.now }
-    ensures { OnOk result (out.new.items ≡ out.old.items ++ slot_here i.now row.now) }
-{
-    put_slot(out, i, uses_at(i).slot, row)
 }
 
 /// These items are wanted by the routine that is called.
@@ -162,30 +134,22 @@ fn put_wanted_at(out: &mut Vec<u8>, image: &Image, to: u16, row: &Row) -> Result
     }
 }
 
-/// The same at the end of the edge to the next instruction; nothing where there is no such edge.
-#[tactic(auto, unfolding(crate::specs::Words::wanted_along))]
-fn put_wanted_along(out: &mut Vec<u8>, place: &Place) -> Result<(), AllocError>
+/// The same at the pc to which the instruction goes along an edge; nothing where it has no such edge.
+#[tactic(auto, unfolding(crate::specs::Words::wanted_behind))]
+fn put_wanted_behind(
+    out: &mut Vec<u8>,
+    place: &Place,
+    branch: bool,
+    to: u16,
+) -> Result<(), AllocError>
     requires { IsPlace (place_of place.now) }
-    ensures { OnOk result (out.new.items ≡ out.old.items ++ wanted_along (place_of place.now)) }
+    ensures { OnOk result (out.new.items ≡ out.old.items ++ wanted_behind (place_of place.now) branch to) }
 {
-    if !falls_through(place.i.opcode) {
+    if !has_edge(place.i, branch) {
         return Ok(());
     }
-    let next = after(place.image, place.pc, place.row, false);
-    put_wanted_at(out, place.image, place.pc + 1, &next)
-}
-
-/// And at the end of the edge to the target.
-#[tactic(auto, unfolding(crate::specs::Words::wanted_branching))]
-fn put_wanted_branching(out: &mut Vec<u8>, place: &Place) -> Result<(), AllocError>
-    requires { IsPlace (place_of place.now) }
-    ensures { OnOk result (out.new.items ≡ out.old.items ++ wanted_branching (place_of place.now)) }
-{
-    if !branches(place.i.opcode) {
-        return Ok(());
-    }
-    let next = after(place.image, place.pc, place.row, true);
-    put_wanted_at(out, place.image, place.i.target, &next)
+    let next = after(place.image, place.pc, place.row, branch);
+    put_wanted_at(out, place.image, to, &next)
 }
 
 /// These items are wanted at a pc.
@@ -217,7 +181,7 @@ fn put_branching(alloc: Global, out: &mut Vec<u8>, place: &Place) -> Result<(), 
     ensures { OnOk result (out.new.items ≡ out.old.items ++ branching_words (place_of place.now)) }
 {
     let mut items = Vec::new(alloc);
-    put_wanted_branching(&mut items, place)?;
+    put_wanted_behind(&mut items, place, true, place.i.target)?;
     put_wanted(out, place.lines, place.i.target, &items)
 }
 
@@ -228,7 +192,7 @@ fn put_edge(alloc: Global, out: &mut Vec<u8>, place: &Place) -> Result<(), Alloc
     ensures { OnOk result (out.new.items ≡ out.old.items ++ edge_words (place_of place.now)) }
 {
     let mut items = Vec::new(alloc);
-    put_wanted_along(&mut items, place)?;
+    put_wanted_behind(&mut items, place, false, place.pc + 1)?;
     if items.is_empty() {
         put_branching(alloc, out, place)
     } else {
@@ -248,10 +212,10 @@ fn put_words(alloc: Global, out: &mut Vec<u8>, place: &Place, rule: Rule) -> Res
         Rule::NamesEmptySlot => put_nowhere(alloc, out, row),
         Rule::EntryMisfit => put_entry(alloc, out, place.routine, row),
         Rule::StalePointer => put_stale(out, place),
-        Rule::PassesEnd => put_past_here(out, i, row),
-        Rule::ChangesUnmarked => put_unmarked_here(out, i, row),
+        Rule::PassesEnd => put_past(out, i, row),
+        Rule::ChangesUnmarked => put_unmarked(out, i, row),
         Rule::LocksIntoHeld => put_held(out, i, row),
-        Rule::WrongSlot => put_slot_here(out, i, row),
+        Rule::WrongSlot => put_slot(out, i, row),
         Rule::CommitsHeld => put_written(alloc, out, place),
         Rule::CallMisfit => put_call(alloc, out, place),
         Rule::ExitMisfit => put_exit(alloc, out, place),

@@ -5,7 +5,7 @@ ghost use Rattle.geos_explain.specs.Places.{IsPlace, place_of};
 ghost use Rattle.geos_explain.specs.Written.{written_head, written_words};
 
 use crate::held::{HeldAt, put_sinces_at, put_slots_at};
-use crate::numbers::{is_one_item, is_or_are, object};
+use crate::numbers::{either, is_one_item, is_or_are};
 use crate::parts::{Part, put_parts};
 use crate::place::Place;
 use std::alloc::{AllocError, Global};
@@ -21,7 +21,7 @@ fn put_written_head(out: &mut Vec<u8>, items: &[u8]) -> Result<(), AllocError>
             Part::Bytes(items),
             Part::Text(is_or_are(items)),
             Part::Text(" held where the file is written: unlock"),
-            Part::Text(object(is_one_item(items))),
+            Part::Text(either(is_one_item(items), " it", " them")),
             Part::Text(" before"),
         ],
     )

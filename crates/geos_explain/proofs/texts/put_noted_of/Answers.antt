@@ -1,0 +1,17 @@
+use Rattle.std.proofs.Common.{arith}
+use Rattle.std.proofs.lemmas.Grind.{common_steps}
+use Rattle.geos_explain.specs.Places.{explained_of, place_at, place_of}
+use Rattle.geos_explain.specs.Explanation.{noted}
+use Rattle.geos_explain.specs.Texts.{noted_in, noted_of}
+use Rattle.geos_explain.proofs.Told.{told-at}
+use Rattle.geos_explain.proofs.texts.put_noted_of.Goals as goal
+
+pub returns-then-r-count : goal.returns-then-r-count
+unfolding noted_of noted_in
+returns-then-r-count c =
+    let explained = explained_of c.args.explained.now in
+    rw (
+      c.routine-routine.ensures,
+      told-at (noted explained.reject) (place_at explained c.args.r c.routine-routine.result.now c.args.pc) explained.image.points c.args.pc (place_of c.place_at-place.result) c.requires c.place_at-place.ensures.point,
+    )
+    (grind (arith, common_steps))
