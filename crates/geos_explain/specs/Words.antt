@@ -36,15 +36,15 @@ entry_words routine row =
     then codes " a public routine begins and ends with empty slots and stale pointers"
     else are_text (lacking_items routine.entry row) (codes " wanted here, and not known from the entry row")
 
--- these items are wanted by the routine that is called
-unfoldable pub wanted_by : List ℕ → Routine → List ℕ
-wanted_by items callee = items ++ is_or_are items ++ codes " wanted by " ++ name_of callee ++ codes ", and not known here"
+-- these items are wanted by a routine or at a pc
+unfoldable pub wanted_words : List ℕ → List ℕ → List ℕ → List ℕ
+wanted_words items at what = items ++ is_or_are items ++ at ++ what ++ codes ", and not known here"
 
 -- the routine that is called does not stand before that of the place, or its entry row wants more than the row says
 abbrev pub callee_words : Place → Routine → List ℕ
 callee_words place callee =
     if nat_lt place.i.imm place.r
-    then wanted_by (lacking_items place.row callee.entry) callee
+    then wanted_words (lacking_items place.row callee.entry) (codes " wanted by ") (name_of callee)
     else codes " " ++ name_of callee ++ codes " does not stand before this routine"
 
 -- the same of the routine that a call names
@@ -64,20 +64,16 @@ wanted_at image to row = elim (slice_get image.points to) [ None ↦ [] | Some n
 unfoldable pub wanted_behind : Place → Bool → ℕ → List ℕ
 wanted_behind place branch to = if has_edge place.i branch then wanted_at place.image to (after place.image place.pc place.row branch) else []
 
--- these items are wanted at a pc
-unfoldable pub wanted_words : List ℕ → ℕ → List ℕ → List ℕ
-wanted_words lines to items = items ++ is_or_are items ++ codes " wanted at" ++ pc_text lines to ++ codes ", and not known here"
-
 -- a row does not fit that at the end of the edge to the target
 unfoldable pub branching_words : Place → List ℕ
-branching_words place = wanted_words place.lines place.i.target (wanted_behind place true place.i.target)
+branching_words place = wanted_words (wanted_behind place true place.i.target) (codes " wanted at") (pc_text place.lines place.i.target)
 
 -- a row does not fit that at the end of an edge: the edge to the next instruction is tried first
 unfoldable pub edge_words : Place → List ℕ
 edge_words place =
     if length (wanted_behind place false (place.pc + 1)) == 0
     then branching_words place
-    else wanted_words place.lines (place.pc + 1) (wanted_behind place false (place.pc + 1))
+    else wanted_words (wanted_behind place false (place.pc + 1)) (codes " wanted at") (pc_text place.lines (place.pc + 1))
 
 -- what is wrong at a place, by a rule
 unfoldable pub words : Place → Rule → List ℕ

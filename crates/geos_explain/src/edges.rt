@@ -1,10 +1,9 @@
 //! The edges along which control goes from an instruction.
 
 ghost use Rattle.std.specs.Prelude.{◌≡◌, ◌<◌, length};
-ghost use Rattle.geos_explain.specs.Edges.{end_of, lies_in, are_in_one, takes};
+ghost use Rattle.geos_explain.specs.Edges.{end_of, lies_in, are_in_one};
 
 use geos_image::{Image, Instr};
-use geos_verify::has_edge;
 
 /// An edge of the instruction at a pc: to its target, or on to the next instruction.
 #[derive(Clone, Copy)]
@@ -35,7 +34,7 @@ fn lies_in(image: &Image, r: u16, pc: usize) -> bool
 
 /// Whether two pcs are those of instructions of one routine.
 #[tactic(auto, unfolding(crate::specs::Edges::are_in_one))]
-fn are_in_one(image: &Image, pc: usize, other: usize) -> bool
+pub(crate) fn are_in_one(image: &Image, pc: usize, other: usize) -> bool
     ensures { result ≡ are_in_one image.now pc other (length image.now.routines) }
 {
     let mut both = false;
@@ -43,11 +42,4 @@ fn are_in_one(image: &Image, pc: usize, other: usize) -> bool
         both = both || (lies_in(image, r, pc) && lies_in(image, r, other));
     }
     both
-}
-
-/// Whether control goes along the edge of the instruction: it has the edge, which does not leave its routine.
-pub(crate) fn takes(image: &Image, edge: Edge, i: &Instr) -> bool
-    ensures { result ≡ takes image.now edge i.now }
-{
-    has_edge(i, edge.branch) && are_in_one(image, usize::from(edge.from), end_of(edge, i))
 }

@@ -5,7 +5,7 @@ ghost use Rattle.geos_image.specs.Legal.{is_image};
 ghost use Rattle.geos_listing.specs.Rows.{texts_below};
 ghost use Rattle.geos_listing.specs.Instrs.{MarksTargets};
 ghost use Rattle.geos_explain.specs.Places.{IsPlace, explained_of, place_of};
-ghost use Rattle.geos_explain.specs.Explanation.{noted, point_text, place_text, head_text, numbered_routine, explanation};
+ghost use Rattle.geos_explain.specs.Explanation.{noted, place_text, head_text, numbered_routine, explanation};
 
 use crate::explained::Explained;
 use crate::led::reached;
@@ -38,22 +38,7 @@ pub(crate) fn put_noted(
     }
 }
 
-/// An instruction with what is known there, and what is wrong with it.
-#[tactic(auto, unfolding(crate::specs::Explanation::point_text))]
-fn put_point(
-    alloc: Global,
-    out: &mut Vec<u8>,
-    reject: Option<Reject>,
-    place: &Place,
-) -> Result<(), AllocError>
-    requires { IsPlace (place_of place.now) }
-    ensures { OnOk result (out.new.items ≡ out.old.items ++ point_text reject (place_of place.now)) }
-{
-    put_code(out, place.image, place.i)?;
-    put_noted(alloc, out, reject, place)
-}
-
-/// The same of the instruction at a pc, behind its label where another leads to it.
+/// The instruction at a pc, behind its label where another leads to it, with what is known there, and what is wrong with it.
 fn put_place(
     alloc: Global,
     out: &mut Vec<u8>,
@@ -67,7 +52,8 @@ fn put_place(
 {
     put_label_line(out, within.explained.image, targets, pc)?;
     let place = place_at(within, pc);
-    put_point(alloc, out, within.explained.reject, &place)
+    put_code(out, place.image, place.i)?;
+    put_noted(alloc, out, within.explained.reject, &place)
 }
 
 /// So many of the routine's instructions, from a pc.

@@ -2,7 +2,7 @@
 
 ghost use Rattle.std.specs.Prelude.{◌≡◌, ◌<◌, ◌++◌, OnOk, length};
 ghost use Rattle.geos_explain.specs.Places.{IsPlace, place_of};
-ghost use Rattle.geos_explain.specs.Held.{is_held_at, slot_at, slots_at, fills_at, fills_here, later, one_more, also, since_below, since_text, since_at, sinces_at, also_wanted, else_wanted, kept_words, unmet_words, exit_words};
+ghost use Rattle.geos_explain.specs.Held.{is_held_at, slot_at, slots_at, fills_at, fills_here, also, since_below, since_text, since_at, sinces_at, also_wanted, else_wanted, kept_words, unmet_words, exit_words};
 
 use crate::lacks::{lacking, put_lacking};
 use crate::numbers::is_or_are;
@@ -101,31 +101,17 @@ fn fills_here(place: &Place, a: u8, from: u16) -> bool
         && fills_at(place.image, a, from)
 }
 
-/// The later of two pcs, if it stands in front of a third.
-fn later(pc: u16, last: u16, from: u16) -> u16
-    ensures { result ≡ later pc last from }
-{
-    if from < pc { from } else { last }
-}
-
-/// One more such place; of several, the last in front of a pc is kept, else the first.
-fn one_more(pc: u16, since: Since, from: u16) -> Since
-    ensures { result ≡ one_more pc since from }
-{
-    match since {
-        Since::Nowhere => Since::Once(from),
-        Since::Once(last) | Since::Often(last) => Since::Often(later(pc, last, from)),
-    }
-}
-
-/// The same where the pc is such a place.
+/// One more such place, if the pc is one; of several, the last in front of the place that is explained is kept, else the first.
 fn also(pc: u16, since: Since, from: u16, here: bool) -> Since
     ensures { result ≡ also pc since from here }
 {
-    if here {
-        one_more(pc, since, from)
-    } else {
-        since
+    if !here {
+        return since;
+    }
+    match since {
+        Since::Nowhere => Since::Once(from),
+        Since::Once(_) | Since::Often(_) if from < pc => Since::Often(from),
+        Since::Once(last) | Since::Often(last) => Since::Often(last),
     }
 }
 

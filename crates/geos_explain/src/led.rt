@@ -3,9 +3,10 @@
 ghost use Rattle.std.specs.Prelude.{◌≡◌, length};
 ghost use Rattle.geos_explain.specs.Led.{no_marks, marked, is_marked, end_marked, marked_at, marked_round, starts_marked, reached_within, reached, is_reached, MarksWhatIsReached};
 
-use crate::edges::{Edge, end_of, takes};
+use crate::edges::{Edge, are_in_one, end_of};
 use crate::points::point_at;
 use geos_image::{Image, Instr};
+use geos_verify::has_edge;
 
 /// For each pc of an image, of which there are at most so many, whether control reaches it.
 pub(crate) type Marks = [bool; 4096];
@@ -34,13 +35,16 @@ pub(crate) fn is_marked(marks: &Marks, pc: usize) -> bool
     pc < 4096 && marks[pc]
 }
 
-/// Where the edge of the instruction leads is marked as well, if it is not yet and control goes along it. The mark is tested
-/// before the look into the table of opcodes.
+/// Where the edge of the instruction leads is marked as well, if it is not yet and control goes along it: the instruction has the
+/// edge, which does not leave its routine. The mark is tested before the look into the table of opcodes.
 fn mark_end(marks: &mut Marks, image: &Image, edge: Edge, i: &Instr)
     ensures { marks.new ≡ end_marked image.now marks.old edge i.now }
 {
     let end = end_of(edge, i);
-    if !is_marked(marks, end) && takes(image, edge, i) {
+    if is_marked(marks, end) {
+        return;
+    }
+    if has_edge(i, edge.branch) && are_in_one(image, usize::from(edge.from), end) {
         mark(marks, end);
     }
 }

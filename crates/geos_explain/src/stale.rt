@@ -3,7 +3,7 @@
 ghost use Rattle.std.specs.Prelude.{◌≡◌, ◌++◌, OnOk};
 ghost use Rattle.geos_explain.specs.Places.{IsPlace, place_of};
 ghost use Rattle.geos_explain.specs.declared.ways.Way.TheVariants.{Along};
-ghost use Rattle.geos_explain.specs.Stale.{if_stale, stale_used, pointer_item, is_refusable, refused_on, way_text, meeting_place, known_from, not_from, meeting_item, named, name_at, call_loss, moved_words, use_loss, how_lost, lost_by, in_wish, label_wish, refused_at, unset_words, unreached_words, merged_words, loss_words, trace_item, stale_words};
+ghost use Rattle.geos_explain.specs.Stale.{if_stale, stale_used, pointer_item, is_refusable, refused_on, way_text, meeting_place, known_from, not_from, meeting_item, named, name_at, call_loss, moved_words, use_loss, how_lost, lost_by, label_wish, refused_at, unset_words, unreached_words, merged_words, loss_words, trace_item, stale_words};
 
 use crate::edges::Edge;
 use crate::numbers::put_pc;
@@ -294,24 +294,6 @@ fn put_lost_by(
     }
 }
 
-/// What a caller may bring, where the caller is a routine.
-fn put_in_wish(out: &mut Vec<u8>, routine: &Routine, p: u8) -> Result<(), AllocError>
-    ensures { OnOk result (out.new.items ≡ out.old.items ++ in_wish routine.now p) }
-{
-    if routine.public {
-        Ok(())
-    } else {
-        put_parts(
-            out,
-            &[
-                Part::Text(", or say p"),
-                Part::Register(p),
-                Part::Text(" in the in line"),
-            ],
-        )
-    }
-}
-
 /// Another label, if ways meet and an instruction's refusal is the one that does not bring the pointer.
 fn put_label_wish(
     out: &mut Vec<u8>,
@@ -336,7 +318,7 @@ fn put_label_wish(
     }
 }
 
-/// The pointer is not set from the routine's beginning on.
+/// The pointer is not set from the routine's beginning on; a caller that is a routine may bring it.
 #[tactic(auto, unfolding(crate::specs::Stale::unset_words))]
 fn put_unset(
     out: &mut Vec<u8>,
@@ -355,7 +337,17 @@ fn put_unset(
         ],
     )?;
     put_label_wish(out, place, meeting)?;
-    put_in_wish(out, place.routine, p)
+    if place.routine.public {
+        return Ok(());
+    }
+    put_parts(
+        out,
+        &[
+            Part::Text(", or say p"),
+            Part::Register(p),
+            Part::Text(" in the in line"),
+        ],
+    )
 }
 
 /// No way leads to a pc, or here.

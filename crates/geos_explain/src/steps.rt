@@ -1,8 +1,8 @@
 //! What is said where an edge is not paid for.
 
-ghost use Rattle.std.specs.Prelude.{◌≡◌, ◌<◌, ◌++◌, OnOk, length};
+ghost use Rattle.std.specs.Prelude.{◌≡◌, ◌++◌, OnOk};
 ghost use Rattle.geos_explain.specs.Places.{IsPlace, place_of};
-ghost use Rattle.geos_explain.specs.Steps.{whole_words, asked_words, asks_along, asks_branching, paying_item, paying_items, touched_words, touched_here, last_words, unpaid_words};
+ghost use Rattle.geos_explain.specs.Steps.{asked_words, asks_along, asks_branching, paying_item, paying_items, touched_words, last_words, unpaid_words};
 
 use crate::numbers::either;
 use crate::parts::{Part, put_parts};
@@ -13,46 +13,38 @@ use geos_listing::put_numbered;
 use geos_verify::{Asked, asked_along, asked_branching, branches, falls_through};
 use std::alloc::AllocError;
 
-/// The steps that are asked and those that are left, with what each counter must pay, and pays.
-fn put_whole<'a>(out: &mut Vec<u8>, asked: &'a Asked, p: &'a Potential) -> Result<(), AllocError>
-    ensures { OnOk result (out.new.items ≡ out.old.items ++ whole_words asked.now p.now) }
+/// What is asked and not left: steps, or else what counters pay, which is told with what each must pay, and pays.
+fn put_asked<'a>(out: &mut Vec<u8>, asked: &'a Asked, p: &'a Potential) -> Result<(), AllocError>
+    ensures { OnOk result (out.new.items ≡ out.old.items ++ asked_words asked.now p.now) }
 {
+    let left = asked.left(p);
+    if asked.steps <= left {
+        return put_parts(
+            out,
+            &[
+                Part::Text(" "),
+                Part::Number(asked.steps),
+                Part::Coefficients(&asked.coefficients),
+                Part::Text(" steps are owed from here, with "),
+                Part::Number(left),
+                Part::Coefficients(&p.coefficients),
+                Part::Text(" left"),
+            ],
+        );
+    }
     put_parts(
         out,
         &[
             Part::Text(" "),
             Part::Number(asked.steps),
-            Part::Coefficients(&asked.coefficients),
-            Part::Text(" steps are owed from here, with "),
-            Part::Number(asked.left(p)),
-            Part::Coefficients(&p.coefficients),
+            Part::Text(either(asked.steps == 1, " step", " steps")),
+            Part::Text(either(asked.steps == 1, " is", " are")),
+            Part::Text(" owed from here, "),
+            Part::Number(left),
+            Part::Text(either(left == 1, " is", " are")),
             Part::Text(" left"),
         ],
     )
-}
-
-/// What is asked and not left: steps, or else what counters pay.
-fn put_asked(out: &mut Vec<u8>, asked: &Asked, p: &Potential) -> Result<(), AllocError>
-    ensures { OnOk result (out.new.items ≡ out.old.items ++ asked_words asked.now p.now) }
-{
-    let left = asked.left(p);
-    if asked.steps <= left {
-        put_whole(out, asked, p)
-    } else {
-        put_parts(
-            out,
-            &[
-                Part::Text(" "),
-                Part::Number(asked.steps),
-                Part::Text(either(asked.steps == 1, " step", " steps")),
-                Part::Text(either(asked.steps == 1, " is", " are")),
-                Part::Text(" owed from here, "),
-                Part::Number(left),
-                Part::Text(either(left == 1, " is", " are")),
-                Part::Text(" left"),
-            ],
-        )
-    }
 }
 
 /// What the edge to the next instruction asks, if there is one.
@@ -119,18 +111,6 @@ fn put_touched(out: &mut Vec<u8>, callee: &Routine, q: &Potential) -> Result<(),
     put_all_paying(out, &q.coefficients)
 }
 
-/// The same of the routine that a call names.
-fn put_touched_here(out: &mut Vec<u8>, place: &Place) -> Result<(), AllocError>
-    requires there { place.now.pc < 4096 }
-    requires callee { place.now.i.now.imm < length place.now.image.now.routines }
-    ensures { OnOk result (out.new.items ≡ out.old.items ++ touched_here (place_of place.now)) }
-{
-    match point_at(place.image, place.pc + 1) {
-        Some(next) => put_touched(out, place.image.routine(place.i.imm), &next.potential),
-        None => Ok(()),
-    }
-}
-
 /// What is said where neither edge is unpaid: a return wants a step; a call wants no coefficient
 /// behind it on a counter that the routine touches.
 fn put_last(out: &mut Vec<u8>, place: &Place) -> Result<(), AllocError>
@@ -139,7 +119,10 @@ fn put_last(out: &mut Vec<u8>, place: &Place) -> Result<(), AllocError>
 {
     match place.i.opcode {
         Opcode::Ret => out.extend_from_slice(b" a return takes a step, and none is left"),
-        Opcode::Call => put_touched_here(out, place),
+        Opcode::Call => match point_at(place.image, place.pc + 1) {
+            Some(next) => put_touched(out, place.image.routine(place.i.imm), &next.potential),
+            None => Ok(()),
+        },
         _ => Ok(()),
     }
 }

@@ -3,7 +3,7 @@
 ghost use Rattle.std.specs.Prelude.{◌≡◌, Some, slice_get};
 ghost use Rattle.geos_explain.specs.Places.{IsPlace, place_of};
 ghost use Rattle.geos_explain.specs.Lost.{WhatIsSaidHolds};
-ghost use Rattle.geos_explain.specs.Trace.{meeting_at, end_at, passed_by, passed, lacks, hint_at, back_by, back_along, back_from, next_round, rounds, begun, along_lost, traced};
+ghost use Rattle.geos_explain.specs.Trace.{meeting_at, end_at, passed, hint_at, back_by, back_along, back_from, next_round, rounds, begun, along_lost, traced};
 
 use crate::arrivals::{Arrivals, all_arrivals, arrival};
 use crate::edges::{Edge, end_of};
@@ -85,12 +85,16 @@ fn end_at(place: &Place, known: Option<Way>, to: u16, lost: Option<Way>) -> Opti
     }
 }
 
-/// One more place is passed, where ways meet or not, and no instruction lost the pointer in front of it or one can have lost it.
-/// Where the first ways meet, nothing counts of what else was passed.
-fn pass_by(trace: &mut Trace, at: u16, meeting: Option<Meeting>, end: Option<End>)
-    ensures { trace.new ≡ passed_by trace.old at meeting end }
+/// One more place is passed. Where the first ways meet, nothing counts of what else was passed.
+#[tactic(auto, unfolding(crate::specs::Trace::passed))]
+fn pass(trace: &mut Trace, place: &Place, p: u8, at: u16)
+    requires { IsPlace (place_of place.now) }
+    ensures { trace.new ≡ passed (place_of place.now) p trace.old at }
 {
-    let met = trace.meeting.or(meeting);
+    let known = bringing(place, p, at);
+    let lost = losing(place, p, at);
+    let end = end_at(place, known, at, lost);
+    let met = trace.meeting.or(meeting_at(known, at, lost));
     mark(&mut trace.passed, usize::from(at));
     trace.goes_on = true;
     if trace.meeting.is_none() && met.is_some() {
@@ -100,33 +104,6 @@ fn pass_by(trace: &mut Trace, at: u16, meeting: Option<Meeting>, end: Option<End
         trace.end = trace.end.or(end);
     }
     trace.meeting = met;
-}
-
-/// One more place is passed.
-#[tactic(auto, unfolding(crate::specs::Trace::passed))]
-fn pass(trace: &mut Trace, place: &Place, p: u8, at: u16)
-    requires { IsPlace (place_of place.now) }
-    ensures { trace.new ≡ passed (place_of place.now) p trace.old at }
-{
-    let known = bringing(place, p, at);
-    let lost = losing(place, p, at);
-    pass_by(
-        trace,
-        at,
-        meeting_at(known, at, lost),
-        end_at(place, known, at, lost),
-    );
-}
-
-/// Whether the edge of the instruction leads to a place that was passed, from where control comes, and does not bring the pointer.
-fn lacks(place: &Place, p: u8, trace: &Trace, edge: Edge, point: &Point) -> bool
-    requires { slice_get place.now.image.now.points edge.from ≡ Some point.now }
-    ensures { result ≡ lacks (place_of place.now) p trace.now edge point.now }
-{
-    is_marked(&trace.passed, end_of(edge, &point.instr))
-        && comes_alike(place, edge.from)
-        && has_edge(&point.instr, edge.branch)
-        && is_stale(pointer_at(&after(place.image, edge.from, &point.row, edge.branch), p))
 }
 
 /// The pointer, and what is known of it on some way to the pc.
@@ -154,14 +131,22 @@ fn step_by(trace: &mut Trace, place: &Place, p: u8, edge: Edge, point: &Point)
     }
 }
 
-/// The same of any edge of the instruction, unless what is looked for was found already.
+/// The same of any edge of the instruction, if it leads to a place that was passed, from where control comes, and does not bring
+/// the pointer, unless what is looked for was found already.
 #[tactic(auto, unfolding(crate::specs::Trace::back_along))]
 fn step_along(trace: &mut Trace, place: &Place, p: u8, edge: Edge, point: &Point)
     requires place { IsPlace (place_of place.now) }
     requires there { slice_get place.now.image.now.points edge.from ≡ Some point.now }
     ensures { trace.new ≡ back_along (place_of place.now) p trace.old edge point.now }
 {
-    if !trace.found && lacks(place, p, trace, edge, point) {
+    if trace.found {
+        return;
+    }
+    if is_marked(&trace.passed, end_of(edge, &point.instr))
+        && comes_alike(place, edge.from)
+        && has_edge(&point.instr, edge.branch)
+        && is_stale(pointer_at(&after(place.image, edge.from, &point.row, edge.branch), p))
+    {
         step_by(trace, place, p, edge, point);
     }
 }

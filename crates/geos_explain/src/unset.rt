@@ -2,7 +2,7 @@
 
 ghost use Rattle.std.specs.Prelude.{◌≡◌, ◌<◌, ◌++◌, OnOk, length};
 ghost use Rattle.geos_explain.specs.Places.{place_of};
-ghost use Rattle.geos_explain.specs.Unset.{takes, gives, pays_at, next_search, search_at, search_on, searched, found_text, unset_item, unset_items, over_words};
+ghost use Rattle.geos_explain.specs.Unset.{takes, gives, pays_at, next_search, search_on, searched, unset_item, unset_items, over_words};
 
 use crate::notes::put_budget;
 use crate::parts::{Part, put_parts};
@@ -71,12 +71,15 @@ fn next_search(image: &Image, k: u8, pc: u16, i: &Instr) -> Search
     }
 }
 
-/// One step on from the instruction at a pc: it takes from the counter, or sets it, or the way goes on.
+/// One step on, unless the search has ended: the instruction takes from the counter, or sets it, or the way goes on.
 #[tactic(auto, unfolding(crate::specs::Unset::search_at))]
-fn search_at(image: &Image, k: u8, pc: u16) -> Search
+fn search_on(image: &Image, k: u8, search: Search) -> Search
     requires { k < 4 }
-    ensures { result ≡ search_at image.now k pc }
+    ensures { result ≡ search_on image.now k search }
 {
+    let Search::At(pc) = search else {
+        return search;
+    };
     let Some(point) = point_at(image, pc) else {
         return Search::Ended;
     };
@@ -88,17 +91,6 @@ fn search_at(image: &Image, k: u8, pc: u16) -> Search
         Search::Ended
     } else {
         next_search(image, k, pc, i)
-    }
-}
-
-/// One step on, unless the search has ended.
-fn search_on(image: &Image, k: u8, search: Search) -> Search
-    requires { k < 4 }
-    ensures { result ≡ search_on image.now k search }
-{
-    match search {
-        Search::At(pc) => search_at(image, k, pc),
-        _ => search,
     }
 }
 
@@ -115,35 +107,28 @@ fn searched(image: &Image, k: u8, pc: u16) -> Search
     search
 }
 
-/// The counter is not set on the way to an instruction that takes from it, where there is such an instruction.
-fn put_found(out: &mut Vec<u8>, lines: &[usize], k: u8, search: Search) -> Result<(), AllocError>
-    ensures { OnOk result (out.new.items ≡ out.old.items ++ found_text lines.now k search) }
+/// A counter that still pays at a place is not set on the way to an instruction that takes from it, where there is such an
+/// instruction.
+#[tactic(auto, unfolding(crate::specs::Unset::unset_item))]
+fn put_unset_item(out: &mut Vec<u8>, place: &Place, k: u8) -> Result<(), AllocError>
+    requires { k < 4 }
+    ensures { OnOk result (out.new.items ≡ out.old.items ++ unset_item (place_of place.now) k) }
 {
-    match search {
+    if !pays_at(place.image, k, place.pc) {
+        return Ok(());
+    }
+    match searched(place.image, k, place.pc) {
         Search::Found(pc) => put_parts(
             out,
             &[
                 Part::Text("; k"),
                 Part::Register(k),
                 Part::Text(" is not set on the way to LOOP at"),
-                Part::Pc(lines, pc),
+                Part::Pc(place.lines, pc),
                 Part::Text(": set it first by SETK or SETKW"),
             ],
         ),
         _ => Ok(()),
-    }
-}
-
-/// The same of a counter that still pays at a place.
-#[tactic(auto, unfolding(crate::specs::Unset::unset_item))]
-fn put_unset_item(out: &mut Vec<u8>, place: &Place, k: u8) -> Result<(), AllocError>
-    requires { k < 4 }
-    ensures { OnOk result (out.new.items ≡ out.old.items ++ unset_item (place_of place.now) k) }
-{
-    if pays_at(place.image, k, place.pc) {
-        put_found(out, place.lines, k, searched(place.image, k, place.pc))
-    } else {
-        Ok(())
     }
 }
 

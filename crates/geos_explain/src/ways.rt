@@ -3,7 +3,7 @@
 ghost use Rattle.std.specs.Prelude.{◌≡◌, ◌<◌, Some, length, slice_get, IfSome};
 ghost use Rattle.geos_verify.specs.Rows.{is_stale};
 ghost use Rattle.geos_explain.specs.Places.{IsPlace, place_of};
-ghost use Rattle.geos_explain.specs.Ways.{is_as, is_sought, way_at, first_way, way_to, bringing, losing, with_hint, makes_stale, sets, forgets, loses};
+ghost use Rattle.geos_explain.specs.Ways.{is_as, is_sought, way_at, way_to, bringing, losing, with_hint, sets, forgets, loses};
 
 use crate::edges::{Edge, end_of};
 use crate::led::is_reached;
@@ -100,34 +100,22 @@ fn way_at(place: &Place, sought: Sought, from: u16) -> Option<Way>
     }
 }
 
-/// Of the routine's instructions, the first way that is sought.
-#[tactic(auto, unfolding(crate::specs::Ways::first_way))]
-fn first_way(place: &Place, sought: Sought) -> Option<Way>
+/// The first way that is sought: from the caller, where the pc is the routine's first, and the entry row knows the pointer as
+/// is asked, or else from an instruction of the routine.
+#[tactic(auto, unfolding(crate::specs::Ways::first_way, crate::specs::Ways::way_to))]
+fn way_to(place: &Place, sought: Sought) -> Option<Way>
     requires { IsPlace (place_of place.now) }
-    ensures { result ≡ first_way (place_of place.now) sought place.now.routine.now.count }
+    ensures { result ≡ way_to (place_of place.now) sought }
 {
     let start = place.image.start(place.r);
+    if sought.to == start && is_as(sought.known, pointer_at(&place.routine.entry, sought.p)) {
+        return Some(Way::Entry);
+    }
     let mut first = None;
     for k in 0..place.routine.count {
         first = first.or(way_at(place, sought, start + k));
     }
     first
-}
-
-/// The first way that is sought: from the caller, where the pc is the routine's first, and the entry row knows the pointer as
-/// is asked, or else from an instruction.
-#[tactic(auto, unfolding(crate::specs::Ways::way_to))]
-fn way_to(place: &Place, sought: Sought) -> Option<Way>
-    requires { IsPlace (place_of place.now) }
-    ensures { result ≡ way_to (place_of place.now) sought }
-{
-    if sought.to == place.image.start(place.r)
-        && is_as(sought.known, pointer_at(&place.routine.entry, sought.p))
-    {
-        Some(Way::Entry)
-    } else {
-        first_way(place, sought)
-    }
 }
 
 /// The first way to a pc that brings the pointer.
@@ -204,25 +192,18 @@ pub(crate) fn forgets(opcode: Opcode) -> bool
     }
 }
 
-/// Whether the instruction makes the pointer stale on this edge: it is known before, and not behind.
-fn makes_stale(image: &Image, p: u8, edge: Edge, i: &Instr, row: &Row) -> bool
-    requires here { IfSome (slice_get image.now.points edge.from) (λ point. i.now ≡ point.instr) }
-    requires there { edge.from < length image.now.points }
-    ensures { result ≡ makes_stale image.now p edge i.now row.now }
-{
-    has_edge(i, edge.branch)
-        && !is_stale(pointer_at(row, p))
-        && is_stale(pointer_at(&after(image, edge.from, row, edge.branch), p))
-}
-
 /// Whether the instruction loses the pointer on this edge: it is a call, or was to set it and was refused, or makes it
-/// stale.
+/// stale, where it is known before, and not behind.
 pub(crate) fn loses(image: &Image, followed: Followed, edge: Edge, point: &Point) -> bool
     requires { slice_get image.now.points edge.from ≡ Some point.now }
     ensures { result ≡ loses image.now followed edge point.now }
 {
     let i = &point.instr;
-    forgets(i.opcode)
-        || (edge.branch && sets(i, i.opcode.uses().pointer, followed.p))
-        || makes_stale(image, followed.p, edge, i, &with_hint(&point.row, followed))
+    if forgets(i.opcode) || (edge.branch && sets(i, i.opcode.uses().pointer, followed.p)) {
+        return true;
+    }
+    let row = with_hint(&point.row, followed);
+    has_edge(i, edge.branch)
+        && !is_stale(pointer_at(&row, followed.p))
+        && is_stale(pointer_at(&after(image, edge.from, &row, edge.branch), followed.p))
 }

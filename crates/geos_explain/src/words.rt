@@ -2,7 +2,8 @@
 
 ghost use Rattle.std.specs.Prelude.{◌≡◌, ◌<◌, ◌+◌, ◌++◌, ◌&&◌, OnOk};
 ghost use Rattle.geos_explain.specs.Places.{IsPlace, place_of};
-ghost use Rattle.geos_explain.specs.Words.{leaves_words, entry_words, wanted_by, callee_words, call_here, wanted_at, wanted_behind, wanted_words, branching_words, edge_words, words, refusal_head, refusal_line};
+ghost use Rattle.geos_explain.specs.Parts.{part_text};
+ghost use Rattle.geos_explain.specs.Words.{leaves_words, entry_words, callee_words, call_here, wanted_behind, wanted_words, branching_words, edge_words, words, refusal_head, refusal_line};
 
 use crate::held::put_exit;
 use crate::lacks::put_lacking;
@@ -15,7 +16,7 @@ use crate::steps::put_unpaid;
 use crate::unset::put_over;
 use crate::uses::{put_held, put_nowhere, put_past, put_slot, put_unmarked};
 use crate::written::put_written;
-use geos_image::{Image, Opcode, Routine, Row};
+use geos_image::{Opcode, Routine, Row};
 use geos_verify::{Rule, after, falls_through, has_edge, has_place};
 use std::alloc::{AllocError, Global};
 
@@ -65,22 +66,23 @@ fn put_entry(
     )
 }
 
-/// These items are wanted by the routine that is called.
-#[tactic(auto, unfolding(crate::specs::Words::wanted_by))]
-fn put_wanted_by<'a>(
+/// These items are wanted by a routine or at a pc.
+#[tactic(auto, unfolding(crate::specs::Words::wanted_words))]
+fn put_wanted<'a>(
     out: &mut Vec<u8>,
     items: &'a [u8],
-    callee: &'a Routine,
+    at: &'a str,
+    what: Part<'a>,
 ) -> Result<(), AllocError>
-    ensures { OnOk result (out.new.items ≡ out.old.items ++ wanted_by items.now callee.now) }
+    ensures { OnOk result (out.new.items ≡ out.old.items ++ wanted_words items.now at.now (part_text what.entry)) }
 {
     put_parts(
         out,
         &[
             Part::Bytes(items),
             Part::Text(is_or_are(items)),
-            Part::Text(" wanted by "),
-            Part::Bytes(callee.name_text()),
+            Part::Text(at),
+            what,
             Part::Text(", and not known here"),
         ],
     )
@@ -98,7 +100,7 @@ fn put_callee(
     if place.i.imm < place.r {
         let mut items = Vec::new(alloc);
         put_lacking(&mut items, place.row, &callee.entry)?;
-        put_wanted_by(out, &items, callee)
+        put_wanted(out, &items, " wanted by ", Part::Bytes(callee.name_text()))
     } else {
         put_parts(
             out,
@@ -123,19 +125,9 @@ fn put_call(alloc: Global, out: &mut Vec<u8>, place: &Place) -> Result<(), Alloc
     }
 }
 
-/// What the row at a pc wants and this one does not say.
-#[tactic(auto, unfolding(crate::specs::Words::wanted_at))]
-fn put_wanted_at(out: &mut Vec<u8>, image: &Image, to: u16, row: &Row) -> Result<(), AllocError>
-    ensures { OnOk result (out.new.items ≡ out.old.items ++ wanted_at image.now to row.now) }
-{
-    match point_at(image, to) {
-        Some(next) => put_lacking(out, row, &next.row),
-        None => Ok(()),
-    }
-}
-
-/// The same at the pc to which the instruction goes along an edge; nothing where it has no such edge.
-#[tactic(auto, unfolding(crate::specs::Words::wanted_behind))]
+/// What the row at the pc to which the instruction goes along an edge wants, and what is known behind it does not say; nothing
+/// where it has no such edge.
+#[tactic(auto, unfolding(crate::specs::Words::wanted_at, crate::specs::Words::wanted_behind))]
 fn put_wanted_behind(
     out: &mut Vec<u8>,
     place: &Place,
@@ -148,30 +140,14 @@ fn put_wanted_behind(
     if !has_edge(place.i, branch) {
         return Ok(());
     }
-    let next = after(place.image, place.pc, place.row, branch);
-    put_wanted_at(out, place.image, to, &next)
-}
-
-/// These items are wanted at a pc.
-#[tactic(auto, unfolding(crate::specs::Words::wanted_words))]
-fn put_wanted<'a>(
-    out: &mut Vec<u8>,
-    lines: &'a [usize],
-    to: u16,
-    items: &'a [u8],
-) -> Result<(), AllocError>
-    ensures { OnOk result (out.new.items ≡ out.old.items ++ wanted_words lines.now to items.now) }
-{
-    put_parts(
-        out,
-        &[
-            Part::Bytes(items),
-            Part::Text(is_or_are(items)),
-            Part::Text(" wanted at"),
-            Part::Pc(lines, to),
-            Part::Text(", and not known here"),
-        ],
-    )
+    match point_at(place.image, to) {
+        Some(next) => put_lacking(
+            out,
+            &after(place.image, place.pc, place.row, branch),
+            &next.row,
+        ),
+        None => Ok(()),
+    }
 }
 
 /// A row does not fit that at the end of the edge to the target.
@@ -182,7 +158,12 @@ fn put_branching(alloc: Global, out: &mut Vec<u8>, place: &Place) -> Result<(), 
 {
     let mut items = Vec::new(alloc);
     put_wanted_behind(&mut items, place, true, place.i.target)?;
-    put_wanted(out, place.lines, place.i.target, &items)
+    put_wanted(
+        out,
+        &items,
+        " wanted at",
+        Part::Pc(place.lines, place.i.target),
+    )
 }
 
 /// A row does not fit that at the end of an edge: the edge to the next instruction is tried first.
@@ -196,7 +177,12 @@ fn put_edge(alloc: Global, out: &mut Vec<u8>, place: &Place) -> Result<(), Alloc
     if items.is_empty() {
         put_branching(alloc, out, place)
     } else {
-        put_wanted(out, place.lines, place.pc + 1, &items)
+        put_wanted(
+            out,
+            &items,
+            " wanted at",
+            Part::Pc(place.lines, place.pc + 1),
+        )
     }
 }
 

@@ -6,7 +6,7 @@ use Rattle.geos_explain.proofs.Told.{told-at}
 use Rattle.geos_explain.proofs.explanation.put_place.Goals as goal
 
 pub returns : goal.returns
-unfolding place_text
+unfolding place_text point_text
 returns c =
     let within = c.args.within.now in
     let explained = explained_of within.explained.now in
