@@ -1,6 +1,6 @@
 //! Lines with calls through spans. Each begins with the `deref` or the `caelt` that gives the span.
 
-ghost use Rattle.std.specs.Prelude.{◌≤◌, IfOk};
+ghost use Rattle.std.specs.Prelude.{◌≤◌};
 ghost use Rattle.geos_kernel.specs.Spans.{IsStanding, IsWritable};
 ghost use Rattle.geos_kernel.specs.View.{IsLocked, MayChange};
 
@@ -12,6 +12,9 @@ use std::alloc::{AllocError, Global};
 use std::fmt::Write;
 use trial_lines::Line;
 use vm_file::Device;
+
+/// What keeps bytes from being read or written that a span has not.
+const PAST_THE_SPAN: &str = "past the span";
 
 /// Whether a word is of a call that begins with a span.
 pub(crate) fn is_span_call(word: &str) -> bool {
@@ -37,20 +40,26 @@ pub(crate) fn span_call<D: Device + Drop>(
         line.word_at(3),
         line.word_at(4),
     ];
-    match word {
-        "copy" if may_change(kernel, name) => copy(kernel, name, c, second, third).into(),
-        "copy" => Answer::NotAsked(NOT_MARKED),
-        _ => match word.strip_prefix("caelt_") {
-            Some(word) => {
-                let (i, n) = (second, 0);
-                let element = kernel.refer(name, Refer::Caelt { c, i, n });
-                access(kernel, name, element, word, third, fourth)
-            }
-            None => {
-                let chunk = kernel.refer(name, Refer::Deref { c, n: 0 });
-                access(kernel, name, chunk, word, second, third)
-            }
+    if word == "copy" {
+        if may_change(kernel, name) {
+            return copy(kernel, name, c, second, third).into();
+        }
+        return Answer::NotAsked(NOT_MARKED);
+    }
+    let (refer, word, at, value) = match word.strip_prefix("caelt_") {
+        Some(word) => {
+            let (i, n) = (second, 0);
+            (Refer::Caelt { c, i, n }, word, third, fourth)
+        }
+        None => (Refer::Deref { c, n: 0 }, word, second, third),
+    };
+    match kernel.refer(name, refer) {
+        Ok(span) => match word {
+            "load8" | "load16" => load(kernel, span, word, at),
+            _ if may_change(kernel, name) => store(kernel, span, word, at, value),
+            _ => Answer::NotAsked(NOT_MARKED),
         },
+        Err(refusal) => Answer::Refused(refusal),
     }
 }
 
@@ -79,37 +88,39 @@ fn copy<D: Device + Drop>(
     Ok(())
 }
 
-/// Reads or writes at an offset of a span.
-fn access<D: Device + Drop>(
+/// Reads at an offset of a span.
+fn load<D: Device + Drop>(kernel: &Kernel<D>, span: Span, word: &str, at: u16) -> Answer
+    requires { IsStanding kernel.now.core span }
+{
+    let left = span.len.saturating_sub(at);
+    match word {
+        "load8" if left > 0 => Answer::Number(u32::from(kernel.load8(span, at))),
+        "load16" if left > 1 => Answer::Number(u32::from(kernel.load16(span, at))),
+        _ => Answer::NotAsked(PAST_THE_SPAN),
+    }
+}
+
+/// Writes at an offset of a span.
+fn store<D: Device + Drop>(
     kernel: &mut Kernel<D>,
-    name: Name,
-    span: Result<Span, Refusal>,
+    span: Span,
     word: &str,
     at: u16,
     value: u16,
 ) -> Answer
-    requires stands { IfOk span (IsStanding kernel.old.core) }
-    requires writable { IfOk span (λ span. MayChange kernel.old.core name → IsWritable kernel.old.core span) }
+    requires { IsWritable kernel.old.core span }
 {
-    let span = match span {
-        Ok(span) => span,
-        Err(refusal) => return Answer::Refused(refusal),
-    };
-    let has_byte = at < span.len;
-    let has_word = has_byte && span.len - at > 1;
+    let left = span.len.saturating_sub(at);
     match word {
-        "load8" if has_byte => Answer::Number(u32::from(kernel.load8(span, at))),
-        "load16" if has_word => Answer::Number(u32::from(kernel.load16(span, at))),
-        "store8" | "store16" if !may_change(kernel, name) => Answer::NotAsked(NOT_MARKED),
-        "store8" if has_byte => {
+        "store8" if left > 0 => {
             kernel.store8(span, at, value.min(255) as u8);
             Answer::Done
         }
-        "store16" if has_word => {
+        "store16" if left > 1 => {
             kernel.store16(span, at, value);
             Answer::Done
         }
-        _ => Answer::NotAsked("past the span"),
+        _ => Answer::NotAsked(PAST_THE_SPAN),
     }
 }
 
