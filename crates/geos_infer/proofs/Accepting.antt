@@ -1,5 +1,5 @@
 -- The points that are found are accepted, where some with the same code are.
-use Rattle.std.proofs.Common.{◌≡◌, ℕ, ◌+◌, ◌*◌, ◌≤◌, Bool, true, false, not, List, [], ◌∷◌, length, Option, Some, None, slice_get, get_or, set, refl, sym, ap, ◌∙◌, subst, arith}
+use Rattle.std.proofs.Common.{◌≡◌, ℕ, ◌+◌, ◌*◌, ◌≤◌, Bool, true, false, not, List, [], ◌∷◌, Option, Some, None, slice_get, get_or, set, refl, sym, ap, ◌∙◌, subst, arith}
 use Rattle.std.specs.Prelude.{◌&&◌, ◌||◌, ◌==◌, nat_le, nat_lt}
 use Rattle.std.specs.List.{list_any}
 use Rattle.std.proofs.lemmas.Bool.{and_parts, or_parts, leb-true, le-leb, eqb-true, not-false}
@@ -15,7 +15,7 @@ use Rattle.geos_image.specs.Parts.{Parts}
 use Rattle.geos_verify.specs.Lists.{all2}
 use Rattle.geos_verify.specs.Rows.{falls_through, branches, at_point, bound, fits, is_plain, row_along, row_branching}
 use Rattle.geos_verify.specs.Touched.{calls, touches}
-use Rattle.geos_verify.specs.Potentials.{pays, pays_setting, pays_taking, pays_calling, budget_of, are_spent, pays_along, pays_branching, is_within}
+use Rattle.geos_verify.specs.Potentials.{pays, pays_setting, pays_taking, pays_calling, budget_of, pays_along, pays_branching, is_within}
 use Rattle.geos_verify.specs.Rules.{returns, leaves_routine, names_empty_slot, entry_misfits, call_misfits, misfits_at, edge_misfits, unpaid_along, unpaid_branching, edge_unpaid, over_budget, tests, refusal}
 use Rattle.geos_verify.proofs.Passed.{Passed, none-refuses}
 use Rattle.geos_infer.specs.Solutions.{call_steps}
@@ -53,15 +53,6 @@ or-true false = refl
 -- no coefficient is left on any counter
 spent-zero : (a b c d : Bool) → all2 (λ is_touched k. not is_touched || k == 0) (a ∷ b ∷ c ∷ d ∷ []) zeros ≡ true
 spent-zero a b c d = rw (or-true (not a), or-true (not b), or-true (not c), or-true (not d)) refl
-
--- the same of four counters
-pub spent-zeros : (touched : List Bool) (q : Potential) → length touched ≡ 4 → q.coefficients ≡ zeros → are_spent touched q ≡ true
-spent-zeros (a ∷ b ∷ c ∷ d ∷ []) q len e = ap (λ (k : List ℕ). all2 (λ is_touched k. not is_touched || k == 0) (a ∷ b ∷ c ∷ d ∷ []) k) e ∙ spent-zero a b c d
-spent-zeros [] q len e = absurd (omega arith)
-spent-zeros (a ∷ []) q len e = absurd (omega arith)
-spent-zeros (a ∷ b ∷ []) q len e = absurd (omega arith)
-spent-zeros (a ∷ b ∷ c ∷ []) q len e = absurd (omega arith)
-spent-zeros (a ∷ b ∷ c ∷ d ∷ x ∷ rest) q len e = absurd (omega arith)
 
 calling-zero : (budget m n : ℕ) (a b c d : Bool) → n + 1 + budget ≤ m → pays_calling budget (a ∷ b ∷ c ∷ d ∷ []) (potential_of m) (potential_of n) ≡ true
 calling-zero budget m n a b c d h =

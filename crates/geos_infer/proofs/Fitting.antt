@@ -2,7 +2,6 @@
 use Rattle.std.proofs.Common.{◌≡◌, ℕ, ◌+◌, ◌*◌, ◌<◌, Bool, true, false, List, length, Option, Some, None, slice_get, refl, sym, ap, ◌∙◌, subst, arith, inl, inr}
 use Rattle.std.specs.Prelude.{◌↔◌, if◌then◌else◌, IfSome}
 use Rattle.std.proofs.lemmas.Bool.{cases_lt}
-use Rattle.std.proofs.lemmas.Option.{none-some}
 use Rattle.geos_image.specs.declared.instr.Instr.{Instr}
 use Rattle.geos_image.specs.declared.row.Row.{Row}
 use Rattle.geos_image.specs.declared.point.Point.{Point}
@@ -41,10 +40,6 @@ after-edge image pc true point row e = rw (e, after) refl
 after-edge image pc false point row e = rw (e, after) refl
 
 module _ (image : Parts) (r : ℕ) (known : List (Option Row)) (pc : ℕ) (branch : Bool) where
-  -- nothing is known there
-  pub unknown-fits : known_at known pc ≡ None → EdgeFits image r known pc branch
-  unknown-fits none to i row edge inside e = absurd (none-some row (sym none ∙ e))
-
   module _ (i : Instr) (lt : pc < length image.points) (there : IfSome (slice_get image.points pc) (λ point. i ≡ point.instr)) where
     point-there : (point : Point) × (slice_get image.points pc ≡ Some point) × (i ≡ point.instr)
     point-there = let found = item_at image.points pc lt in (found.0, found.1, if_some (λ point. i ≡ point.instr) (slice_get image.points pc) found.0 found.1 there)

@@ -1,5 +1,5 @@
 -- Causes for which no rows or no numbers of steps are found for a routine, and what each says.
-use Rattle.std.specs.Prelude.{◌≡◌, ◌≤◌, ℕ, Bool, ◌&&◌, List, [], ◌∷◌, true, false, ◌==◌, Option, Some, None, slice_get}
+use Rattle.std.specs.Prelude.{◌≡◌, ◌≤◌, ℕ, Bool, ◌&&◌, List, [], ◌∷◌, true, false, ◌==◌, Some, slice_get}
 use Rattle.geos_opcodes.specs.declared.opcode.Opcode.{Opcode}
 use Rattle.geos_opcodes.specs.declared.opcode.Opcode.TheVariants.{Setk, Setkw, Loop}
 use Rattle.geos_image.specs.declared.instr.Instr.{Instr}
@@ -97,8 +97,3 @@ Holds image r (TouchedWithin within) = TouchesWithin image r within
 Holds image r StepsPass = taken.StepsPass image r
 Holds image r (NoSteps back) = LeadsBack image r back
 Holds image r Unknown = Unit {0}
-
--- if there is a cause, it holds
-abbrev pub HoldsIf : Parts → ℕ → Option Cause → Type 0
-HoldsIf image r None = Unit {0}
-HoldsIf image r (Some cause) = Holds image r cause
