@@ -22,7 +22,7 @@ use crate::unpaid::WaysIn;
 use crate::ways::{Place, Ways, note_arcs};
 use geos_image::{Image, Potential};
 use geos_verify::Touched;
-use std::alloc::Global;
+use std::alloc::{AllocError, Global};
 
 /// Steps of a routine are counted from its last instruction to its first; `None` where a number is
 /// past what a potential can say.
@@ -122,25 +122,29 @@ fn count_in(
 /// Counts the steps of so many routines, from the last to the first; the first one for which no
 /// number is found, if there is one.
 fn count_all(
+    alloc: Global,
     image: &Image,
     routines: u16,
     known: &Known,
-    tables: &mut Tables,
     potentials: &mut Potentials,
-) -> Option<u16>
+) -> Result<Option<u16>, AllocError>
     requires { routines ≤ length image.now.routines }
-    ensures counted { AreCounted image.now 0 routines (numbers_of potentials.new) }
-    ensures within { IfSome result (λ r. r < routines) }
-    ensures none { IfSome result (NoStepsHoldIn image.now) }
+    ensures counted { IfOk result (λ _. AreCounted image.now 0 routines (numbers_of potentials.new)) }
+    ensures within { IfOk result (λ left. IfSome left (λ r. r < routines)) }
+    ensures none { IfOk result (λ left. IfSome left (NoStepsHoldIn image.now)) }
 {
+    let mut tables = Tables {
+        into: Table::new(alloc, WaysIn::with_left(0))?,
+        ways: Ways::new(alloc, Place::NOTHING)?,
+    };
     let touched = find_touched(image);
     let mut left = None;
     for r in (0..routines).rev() {
-        if !count_in(&body_of(image, r), known, &touched, tables, potentials) {
+        if !count_in(&body_of(image, r), known, &touched, &mut tables, potentials) {
             left = Some(r);
         }
     }
-    left
+    Ok(left)
 }
 
 /// Enough steps at each instruction, and coefficients, where so many routines have rows. `NoRows`
@@ -162,13 +166,7 @@ pub(crate) fn count(
         coefficients: [0; 4],
     };
     let mut potentials = Potentials::new(alloc, nothing)?;
-    let left = {
-        let mut tables = Tables {
-            into: Table::new(alloc, WaysIn::with_left(0))?,
-            ways: Ways::new(alloc, Place::NOTHING)?,
-        };
-        count_all(image, routines, known, &mut tables, &mut potentials)
-    };
+    let left = count_all(alloc, image, routines, known, &mut potentials)?;
     match left {
         Some(r) => Err(InferError::NoRows(r)),
         None if routines < image.count() => Err(InferError::NoRows(routines)),

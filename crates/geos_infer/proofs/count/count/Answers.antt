@@ -5,7 +5,7 @@ use Rattle.geos_infer.proofs.count.count.Goals as goal
 
 pub returns-in-Some-clause-none : goal.returns-in-Some-clause-none
 returns-in-Some-clause-none c = λ r e.
-    let none = if_some (NoStepsHoldIn c.args.image.now) c.count_all-left.result c.in-Some.r c.in-Some.is c.count_all-left.ensures.none in
+    let none = if_some (NoStepsHoldIn c.args.image.now) c.in_ok-left.left c.in-Some.r c.in-Some.is c.in_ok-left.ensures.none in
     let same : c.in-Some.r ≡ r = cc in
     inr (subst (NoStepsHoldIn c.args.image.now) same none)
 
