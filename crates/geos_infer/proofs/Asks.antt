@@ -13,11 +13,11 @@ use Rattle.geos_image.specs.Parts.{Parts}
 use Rattle.geos_verify.specs.declared.asked.Asked.{Asked}
 use Rattle.geos_verify.specs.Lists.{zip2}
 use Rattle.geos_verify.specs.Rows.{bound, branches, has_edge}
-use Rattle.geos_verify.specs.Touched.{calls}
+use Rattle.geos_verify.specs.Touched.{calls, touches}
 use Rattle.geos_verify.specs.Potentials.{asks, asks_setting, asked_along, asked_branching, budget_of}
 use Rattle.geos_verify.proofs.Places.{item_at, if_some}
 use Rattle.geos_infer.specs.declared.edges.Edge.{Edge}
-use Rattle.geos_infer.specs.Causes.{is_loop, loops_on, PassesAt}
+use Rattle.geos_infer.specs.Causes.{is_loop, loops_on, calls_touching, PassesAt}
 use Rattle.geos_infer.specs.Code.{ForwardIn, IsPcOf, edge_end}
 use Rattle.geos_infer.specs.Edges.{leads_ahead, edge_of, edge_ahead}
 use Rattle.geos_infer.specs.Numbers.{Numbers, zeros}
@@ -82,7 +82,7 @@ edge-some limit pc i branch false edge e is =
     let none : edge_ahead limit pc i branch ≡ None = rw e refl in
     absurd (none-some edge (sym none ∙ sym is))
 
-none-ahead : (limit pc : ℕ) (i : Instr) (branch b : Bool) → leads_ahead limit pc i branch ≡ b → None ≡ edge_ahead limit pc i branch → leads_ahead limit pc i branch ≡ false
+pub none-ahead : (limit pc : ℕ) (i : Instr) (branch b : Bool) → leads_ahead limit pc i branch ≡ b → None ≡ edge_ahead limit pc i branch → leads_ahead limit pc i branch ≡ false
 none-ahead limit pc i branch false e is = e
 none-ahead limit pc i branch true e is =
     let there : edge_ahead limit pc i branch ≡ Some (edge_of pc i branch) = rw e refl in
@@ -149,6 +149,16 @@ loops-at image pc i lt there is =
     let own : loops_on i.a i Loop ≡ true = search rules in
     let on : loops_on i.a i i.opcode ≡ true = subst (λ (o : Opcode). loops_on i.a i o ≡ true) (sym (loop-only i.opcode is)) own in
     (found.0, found.1, subst (λ (x : Instr). loops_on i.a x x.opcode ≡ true) same on)
+
+-- a call of a routine that touches a counter
+pub calls-at : (image : Parts) (k pc : ℕ) (i : Instr) → pc < length image.points → IfSome (slice_get image.points pc) (λ point. i ≡ point.instr) → i.opcode ≡ Call → touches image k i.imm ≡ true
+    → PassesAt image pc (calls_touching image k)
+calls-at image k pc i lt there is touched =
+    let found = item_at image.points pc lt in
+    let same : i ≡ found.0.instr = if_some (λ point. i ≡ point.instr) (slice_get image.points pc) found.0 found.1 there in
+    let calls_it : calls i.opcode ≡ true = ap calls is in
+    let both : calls_touching image k i ≡ true = rw (calls_it, touched) refl in
+    (found.0, found.1, subst (λ (x : Instr). calls_touching image k x ≡ true) same both)
 
 -- Both edges of an instruction
 

@@ -21,7 +21,7 @@ use Rattle.geos_infer.specs.declared.flow.Arrival.TheVariants.{Same, Weaker, Apa
 use Rattle.geos_infer.specs.declared.edges.Edge.{Edge as Edge_}
 use Rattle.geos_infer.specs.Edges.{leads_ahead, edge_ahead}
 use Rattle.geos_infer.specs.Flow.{known_at, join_known, put, spread, KnownAt, edge_number, Flowing, AllKnown, Arrives, has_joined, Spreads, StaysBefore, FlowsAnew, HaveFlowed}
-use Rattle.geos_infer.proofs.Asks.{read-ahead}
+use Rattle.geos_infer.proofs.Asks.{none-ahead as no-edge-ahead, read-ahead}
 use Rattle.geos_infer.proofs.Bodies.{lies}
 use Rattle.geos_infer.proofs.Pairwise.{both}
 use Rattle.geos_infer.proofs.Fits.{fits-refl, fits-trans}
@@ -30,12 +30,6 @@ use Rattle.geos_infer.proofs.Cleaning.{clean-least}
 use Rattle.geos_infer.proofs.Ends.{edge-mono, code-at, code-length}
 
 -- The order of edges
-
-number-lt : (k pc : ℕ) (b branch : Bool) → k < pc → edge_number k b < edge_number pc branch
-number-lt k pc true true h = omega arith
-number-lt k pc true false h = omega arith
-number-lt k pc false true h = omega arith
-number-lt k pc false false h = omega arith
 
 number-split : (k pc : ℕ) (b branch : Bool) → edge_number k b < suc (edge_number pc branch) → (edge_number k b < edge_number pc branch) ⊎ ((k ≡ pc) × (b ≡ branch))
 number-split k pc true true h = elim (cases_lt k pc) [ inl lt ↦ inl (omega arith) | inr le ↦ inr (omega arith, refl) ]
@@ -279,6 +273,21 @@ all-reached image r forward routine there want known F small pc within = reached
               let K = F.edges e.pc pc e.branch e.i from.0 e.within (omega arith) e.edge from.1 in
               (K.known_row, K.read)
         ]
+
+-- where no edge leads ahead, nothing goes on
+pub spreads-nowhere : (image : Parts) (limit pc : ℕ) (branch : Bool) (known : List (Option Row)) (edge : Option Edge_) → pc < length image.points → ((x : Edge_) → edge ≡ Some x → ⊥)
+    → IfSome (slice_get image.points pc) (λ point. edge ≡ edge_ahead limit pc point.instr branch) → Spreads image limit pc branch known known true
+spreads-nowhere image limit pc branch known (Some x) lt no_edge h = absurd (no_edge x refl)
+spreads-nowhere image limit pc branch known None lt no_edge h =
+    let found = item_at image.points pc lt in
+    let here = if_some (λ point. None ≡ edge_ahead limit pc point.instr branch) (slice_get image.points pc) found.0 found.1 h in
+    let none = no-edge-ahead limit pc found.0.instr branch (leads_ahead limit pc found.0.instr branch) refl here in
+    let P : Option Point → Type 0 = λ o. IfSome o (λ point. spread image limit pc point.instr branch (known_at known pc) known ≡ Some known) in
+    subst P (sym found.1) (by_known found.0.instr (known_at known pc) none)
+  where
+    by_known : (i : Instr) (at : Option Row) → leads_ahead limit pc i branch ≡ false → spread image limit pc i branch at known ≡ Some known
+    by_known i None none = refl
+    by_known i (Some row) none = rw none refl
 
 -- what a row brings to a place goes on from there
 pub spreads-on : (image : Parts) (limit pc : ℕ) (branch : Bool) (edge : Edge_) (row : Row) (known next : List (Option Row)) (arrival : Arrival) → pc < length image.points → known_at known pc ≡ Some row

@@ -1,10 +1,10 @@
 -- Where control goes from an instruction, within its routine.
-use Rattle.std.specs.Prelude.{◌≡◌, ◌<◌, ℕ, Bool, ◌&&◌, nat_lt, if◌then◌else◌, Option, Some, None, slice_get, IfSome}
+use Rattle.std.specs.Prelude.{◌≡◌, ◌<◌, ℕ, Bool, ◌&&◌, nat_le, nat_lt, if◌then◌else◌, Option, Some, None}
 use Rattle.geos_image.specs.declared.instr.Instr.{Instr}
 use Rattle.geos_image.specs.Parts.{Parts}
 use Rattle.geos_verify.specs.Rows.{HasEdge, has_edge}
 use Rattle.geos_infer.specs.declared.edges.Edge.{Edge}
-use Rattle.geos_infer.specs.Code.{ForwardIn, edge_end}
+use Rattle.geos_infer.specs.Code.{edge_end}
 
 -- the instruction has the edge, and it leads ahead and before the limit
 abbrev pub leads_ahead : ℕ → ℕ → Instr → Bool → Bool
@@ -18,9 +18,10 @@ edge_of pc i branch = record { pc = pc; branch = branch; to = edge_end pc i bran
 abbrev pub edge_ahead : ℕ → ℕ → Instr → Bool → Option Edge
 edge_ahead limit pc i branch = if leads_ahead limit pc i branch then Some (edge_of pc i branch) else None
 
--- it is the edge of the instruction at a pc that leads ahead and before the limit, if routine r has no loops
-abbrev pub IsAheadAlone : Parts → ℕ → ℕ → ℕ → Bool → Option Edge → Type 0
-IsAheadAlone image r limit pc branch edge = ForwardIn image r → IfSome (slice_get image.points pc) (λ point. edge ≡ edge_ahead limit pc point.instr branch)
+-- the same, if it leads to a place from one on and before the limit
+abbrev pub edge_within : ℕ → ℕ → ℕ → Instr → Bool → Option Edge
+edge_within start limit pc i branch =
+    if has_edge i branch && nat_le start (edge_end pc i branch) && nat_lt (edge_end pc i branch) limit then Some (edge_of pc i branch) else None
 
 -- it is this edge of the instruction at the pc, and leads before the limit
 pub record IsInside (image : Parts) (limit pc : ℕ) (branch : Bool) (edge : Edge) : Type 0 where

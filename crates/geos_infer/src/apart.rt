@@ -2,15 +2,14 @@
 
 ghost use Rattle.std.specs.Prelude.{◌≡◌, ◌<◌, IfSome, IfOk, IfErr};
 ghost use Rattle.geos_infer.specs.Flow.{known_at};
-ghost use Rattle.geos_infer.specs.Code.{IsPcOf};
-ghost use Rattle.geos_infer.specs.Why.{LeadsTo, IsComing, IsUnlike, AreApartIf, AllCome};
+ghost use Rattle.geos_infer.specs.Why.{IsComing, IsUnlike, AreApartIf, AllCome};
 
 use crate::body::Body;
 use crate::common::agree;
-use crate::edges::{Edge, edge_end};
+use crate::edges::{Edge, edge_in};
 use crate::table::Known;
 use geos_image::Row;
-use geos_verify::{after, has_edge};
+use geos_verify::after;
 use std::alloc::{AllocError, Global};
 
 /// How control comes to a place.
@@ -31,25 +30,6 @@ pub struct Apart {
     pub second: Coming,
 }
 
-/// Where an edge of the instruction leads, if it has it and it stays in the routine.
-pub(crate) fn lead(body: &Body, pc: u16, branch: bool) -> Option<u16>
-    requires { pc < body.now.end }
-    ensures leads { IfSome result (LeadsTo body.now.image.now pc branch) }
-    ensures stays { IfSome result (IsPcOf body.now.image.now body.now.r) }
-    ensures inside { IfSome result (λ to. to < 4096) }
-{
-    let i = body.image.instr(pc);
-    if !has_edge(i, branch) {
-        return None;
-    }
-    let to = edge_end(pc, i, branch);
-    if body.start <= to && to < body.end {
-        Some(to)
-    } else {
-        None
-    }
-}
-
 /// A place, and how an edge brings control there.
 #[derive(Clone, Copy)]
 struct Brought {
@@ -65,7 +45,7 @@ fn bring(body: &Body, known: &Known, pc: u16, branch: bool) -> Option<Brought>
     ensures inside { IfSome result (λ brought. brought.to < 4096) }
 {
     let row = known.at(pc)?;
-    let to = lead(body, pc, branch)?;
+    let to = edge_in(body, pc, branch)?.to;
     let coming = Coming {
         from: Some(Edge { pc, branch, to }),
         row: after(body.image, pc, &row, branch),

@@ -1,6 +1,6 @@
 //! What the instruction at a pc asks of the potential there.
 
-ghost use Rattle.std.specs.Prelude.{◌≡◌, ◌<◌, max, zip, length};
+ghost use Rattle.std.specs.Prelude.{◌≡◌, ◌<◌, ◌≤◌, max, zip, length};
 ghost use Rattle.geos_verify.specs.Lists.{zip2};
 ghost use Rattle.geos_infer.specs.Numbers.{numbers_of, zeros};
 ghost use Rattle.geos_infer.specs.Count.{asked_steps, asked_coefficients, return_steps, AsksSteps, IsFound};
@@ -20,7 +20,8 @@ pub(crate) fn asked_over(
     pc: u16,
     branch: bool,
 ) -> Option<Asked>
-    requires { pc < body.now.end }
+    requires above { body.now.start ≤ pc }
+    requires below { pc < body.now.end }
     ensures { AsksSteps body.now.image.now body.now.r body.now.end pc branch (numbers_of potentials.now) result }
 {
     let edge = edge_in(body, pc, branch)?;
@@ -107,7 +108,8 @@ pub(crate) fn potential_at(
     potentials: &Potentials,
     pc: u16,
 ) -> Option<Potential>
-    requires { pc < body.now.end }
+    requires above { body.now.start ≤ pc }
+    requires below { pc < body.now.end }
     ensures { IsFound body.now.image.now body.now.r body.now.end pc (numbers_of potentials.now) result }
 {
     let i = body.image.instr(pc);

@@ -4,9 +4,9 @@ ghost use Rattle.std.specs.Prelude.{◌≡◌, ◌<◌, ◌≤◌, ℕ, true, fa
 ghost use Rattle.geos_infer.specs.Causes.{LeadsBack, GoesRound, PassesAt, sets_counter, calls_touching, NotesTouched, LoopsBack, SetsWithin, TouchesWithin, Holds};
 ghost use Rattle.geos_image.specs.declared.point.Point.{Point};
 
-use crate::apart::{Apart, find_apart, lead};
+use crate::apart::{Apart, find_apart};
 use crate::body::{Body, body_of};
-use crate::edges::is_loop;
+use crate::edges::{edge_in, is_loop};
 use crate::spent::{find_touched, touches};
 use crate::table::Table;
 use crate::turns::steps_pass;
@@ -60,7 +60,7 @@ fn back_at(body: &Body, from: u16) -> Option<BackWay>
     ensures leads { IfSome result (LeadsBack body.now.image.now body.now.r) }
     ensures here { IfSome result (λ back. back.from ≡ from) }
 {
-    let to = lead(body, from, true)?;
+    let to = edge_in(body, from, true)?.to;
     if to <= from {
         Some(BackWay { from, to })
     } else {

@@ -4,7 +4,7 @@ ghost use Rattle.std.specs.Prelude.{◌≡◌, ◌<◌, true};
 ghost use Rattle.geos_infer.specs.Code.{ForwardIn};
 
 use crate::body::Body;
-use crate::edges::edge_back;
+use crate::edges::edge_in;
 use crate::flow::{flow, spread};
 use crate::paid::back_edges;
 use crate::seeds::seed_entry;
@@ -21,9 +21,12 @@ fn seed_target(body: &Body, pc: u16, known: &Known, from: &mut Known) -> bool
     let Some(row) = known.at(pc) else {
         return true;
     };
-    let Some(edge) = edge_back(body, pc, true) else {
+    let Some(edge) = edge_in(body, pc, true) else {
         return true;
     };
+    if pc < edge.to {
+        return true;
+    }
     spread(body, edge, &row, from).has_joined()
 }
 

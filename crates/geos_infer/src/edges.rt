@@ -1,9 +1,10 @@
 //! Where control goes from an instruction, within its routine.
 
-ghost use Rattle.std.specs.Prelude.{◌≡◌, ◌<◌, None, false, slice_get, IfSome};
+ghost use Rattle.std.specs.Prelude.{◌≡◌, ◌<◌, ◌≤◌, false, slice_get, IfSome};
 ghost use Rattle.geos_infer.specs.Causes.{is_loop};
-ghost use Rattle.geos_infer.specs.Code.{ForwardIn, edge_end};
-ghost use Rattle.geos_infer.specs.Edges.{edge_ahead, IsAheadAlone, IsInside};
+ghost use Rattle.geos_infer.specs.Code.{ForwardIn, IsPcOf, edge_end};
+ghost use Rattle.geos_infer.specs.Edges.{edge_within, IsInside};
+ghost use Rattle.geos_infer.specs.Why.{LeadsTo};
 
 use crate::body::Body;
 use geos_image::{Instr, Opcode};
@@ -37,52 +38,31 @@ pub(crate) fn edge_end(pc: u16, i: &Instr, branch: bool) -> u16
     if branch { i.target } else { pc + 1 }
 }
 
-/// The edge of the instruction at a pc, if it has it and it leads ahead within the routine.
-pub(crate) fn edge_ahead(body: &Body, pc: u16, branch: bool) -> Option<Edge>
-    requires { pc < body.now.end }
-    ensures value { IfSome (slice_get body.now.image.now.points pc) (λ point. result ≡ edge_ahead body.now.end pc point.instr branch) }
-    ensures inside { IfSome result (IsInside body.now.image.now body.now.end pc branch) }
-{
-    let i = body.image.instr(pc);
-    let to = edge_end(pc, i, branch);
-    if has_edge(i, branch) && pc < to && to < body.end {
-        Some(Edge { pc, branch, to })
-    } else {
-        None
-    }
-}
-
-/// The same, if it leads back or to the instruction itself.
-pub(crate) fn edge_back(body: &Body, pc: u16, branch: bool) -> Option<Edge>
-    requires { pc < body.now.end }
-    ensures never { ForwardIn body.now.image.now body.now.r → result ≡ None }
-    ensures inside { IfSome result (IsInside body.now.image.now body.now.end pc branch) }
-{
-    let i = body.image.instr(pc);
-    let to = edge_end(pc, i, branch);
-    if has_edge(i, branch) && body.start <= to && to <= pc {
-        Some(Edge { pc, branch, to })
-    } else {
-        None
-    }
-}
-
-/// Whether the edge to the target leads back in the routine.
-pub(crate) fn leads_back(body: &Body, pc: u16) -> bool
-    requires { pc < body.now.end }
-    ensures { ForwardIn body.now.image.now body.now.r → result ≡ false }
-{
-    edge_back(body, pc, true).is_some()
-}
-
-/// The edge, wherever in the routine it leads.
+/// The edge of the instruction at a pc, if it has it and it stays in the routine.
 pub(crate) fn edge_in(body: &Body, pc: u16, branch: bool) -> Option<Edge>
     requires { pc < body.now.end }
-    ensures ahead { IsAheadAlone body.now.image.now body.now.r body.now.end pc branch result }
+    ensures value { IfSome (slice_get body.now.image.now.points pc) (λ point. result ≡ edge_within body.now.start body.now.end pc point.instr branch) }
     ensures inside { IfSome result (IsInside body.now.image.now body.now.end pc branch) }
+    ensures leads { IfSome result (λ edge. LeadsTo body.now.image.now pc branch edge.to) }
+    ensures stays { IfSome result (λ edge. IsPcOf body.now.image.now body.now.r edge.to) }
 {
-    match edge_ahead(body, pc, branch) {
-        Some(edge) => Some(edge),
-        None => edge_back(body, pc, branch),
+    let i = body.image.instr(pc);
+    let to = edge_end(pc, i, branch);
+    if has_edge(i, branch) && body.start <= to && to < body.end {
+        Some(Edge { pc, branch, to })
+    } else {
+        None
+    }
+}
+
+/// Whether the edge to the target leads back in the routine, or to the instruction itself.
+pub(crate) fn leads_back(body: &Body, pc: u16) -> bool
+    requires above { body.now.start ≤ pc }
+    requires below { pc < body.now.end }
+    ensures { ForwardIn body.now.image.now body.now.r → result ≡ false }
+{
+    match edge_in(body, pc, true) {
+        Some(edge) => edge.to <= pc,
+        None => false,
     }
 }

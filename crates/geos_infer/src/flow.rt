@@ -1,15 +1,16 @@
 //! Rows flow along the edges that lead ahead.
 
-ghost use Rattle.std.specs.Prelude.{◌≡◌, ◌<◌, true};
+ghost use Rattle.std.specs.Prelude.{◌≡◌, ◌<◌, ◌≤◌, true};
 ghost use Rattle.geos_image.specs.Legal.{is_row};
 ghost use Rattle.geos_verify.specs.Rows.{after};
+ghost use Rattle.geos_infer.specs.Code.{ForwardIn};
 ghost use Rattle.geos_infer.specs.Edges.{IsInside};
 ghost use Rattle.geos_infer.specs.Flow.{row_of, join_known, has_joined, Arrives, Spreads, FlowsOn};
 ghost use Rattle.geos_infer.specs.Joins.{clean};
 
 use crate::body::Body;
 use crate::common::{clean, join};
-use crate::edges::{Edge, edge_ahead};
+use crate::edges::{Edge, edge_in};
 use crate::table::Known;
 use geos_image::{Row, SlotState};
 use geos_verify::after;
@@ -95,15 +96,19 @@ pub(crate) fn spread(body: &Body, edge: Edge, row: &Row, known: &mut Known) -> A
 /// The row that is known at the pc goes along the edge, if that leads ahead; `false` where it has no
 /// join with what is known there.
 fn spread_ahead(body: &Body, pc: u16, branch: bool, known: &mut Known) -> bool
-    requires { pc < body.now.end }
-    ensures { Spreads body.now.image.now body.now.end pc branch known.old known.new result }
+    requires above { body.now.start ≤ pc }
+    requires below { pc < body.now.end }
+    ensures { ForwardIn body.now.image.now body.now.r → Spreads body.now.image.now body.now.end pc branch known.old known.new result }
 {
     let Some(row) = known.at(pc) else {
         return true;
     };
-    let Some(edge) = edge_ahead(body, pc, branch) else {
+    let Some(edge) = edge_in(body, pc, branch) else {
         return true;
     };
+    if edge.to <= pc {
+        return true;
+    }
     spread(body, edge, &row, known).has_joined()
 }
 

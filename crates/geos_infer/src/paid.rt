@@ -10,7 +10,8 @@ use crate::table::{Known, Potentials};
 
 /// Whether an edge is paid for, if the instruction at the pc has it and it stays in the routine.
 fn is_paid(body: &Body, known: &Known, potentials: &Potentials, pc: u16, branch: bool) -> bool
-    requires { pc < body.now.end }
+    requires above { body.now.start ≤ pc }
+    requires below { pc < body.now.end }
 {
     match asked_over(body, known, potentials, pc, branch) {
         Some(asked) => asked.is_paid(&potentials.at(pc)),

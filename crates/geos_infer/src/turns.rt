@@ -5,13 +5,12 @@ ghost use Rattle.geos_infer.specs.Turns.{begin_from, GoOn, AreReached, StayReach
 ghost use Rattle.geos_infer.specs.Taken.{NoneIsAcceptedPast, StepsPass};
 ghost use Rattle.geos_infer.specs.Why.{LeadsTo};
 
-use crate::apart::lead;
 use crate::arcs::taken_at;
 use crate::body::Body;
 use crate::counters::{
     Counter, counter_at, counters_after, number_in, unless_all_changed, untouched, with_counter,
 };
-use crate::edges::is_loop;
+use crate::edges::{edge_in, is_loop};
 use crate::reach::{Reach, Reached, note};
 use crate::spent::touched_by;
 use geos_verify::Touched;
@@ -96,14 +95,14 @@ fn go(loops: &Loops, reached: &mut Reached, pc: u16, branch: bool, high: u16)
     let Some(reach) = reached.at(pc) else {
         return;
     };
-    let Some(to) = lead(&loops.body, pc, branch) else {
+    let Some(edge) = edge_in(&loops.body, pc, branch) else {
         return;
     };
-    if to <= pc || high < to {
+    if edge.to <= pc || high < edge.to {
         return;
     }
     if let Some(next) = go_along(loops, pc, branch, &reach) {
-        note(reached, &loops.longest, to, &next);
+        note(reached, &loops.longest, edge.to, &next);
     }
 }
 

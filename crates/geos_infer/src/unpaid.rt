@@ -3,11 +3,10 @@
 ghost use Rattle.std.specs.Prelude.{◌≡◌, ◌<◌, ◌≤◌, true, List, Bool, IfSome};
 ghost use Rattle.geos_infer.specs.Causes.{LeadsUnpaid, IsUnpaidWay, GoesRound};
 
-use crate::apart::lead;
 use crate::body::Body;
 use crate::cause::BackWay;
 use crate::cycles::has_unpaid_cycle;
-use crate::edges::is_loop;
+use crate::edges::{edge_in, is_loop};
 use crate::table::Table;
 
 /// An edge by which control comes to a place.
@@ -43,8 +42,8 @@ pub(crate) fn lead_unpaid(body: &Body, pc: u16, branch: bool) -> Option<u16>
     if branch && is_loop(body.image.instr(pc).opcode) {
         return None;
     }
-    match lead(body, pc, branch) {
-        Some(to) => Some(to),
+    match edge_in(body, pc, branch) {
+        Some(edge) => Some(edge.to),
         None => None,
     }
 }

@@ -1,6 +1,12 @@
-use Rattle.std.proofs.Common.{ap, ◌∙◌}
-use Rattle.std.specs.Prelude.{is_some}
+use Rattle.std.proofs.Common.{Some, true, arith}
+use Rattle.std.proofs.lemmas.Bool.{lt-leb}
+use Rattle.geos_infer.proofs.Asks.{read-ahead}
+use Rattle.geos_infer.proofs.Back.{ahead-alone}
 use Rattle.geos_infer.proofs.edges.leads_back.Goals as goal
 
-pub returns : goal.returns
-returns c = λ forward. c.is_some.ensures ∙ ap is_some (c.edge_back.ensures.never forward)
+pub returns-in-Some : goal.returns-in-Some
+returns-in-Some c = λ forward.
+    let body = c.args.body.now in
+    let edge = c.in-Some.edge in
+    let found = read-ahead body.image.now body.end c.args.pc true (omega (arith, body.room)) edge (ahead-alone body forward c.args.pc true (Some edge) c.requires.above c.requires.below c.in-Some.ensures.value) in
+    lt-leb edge.to c.args.pc found.4
