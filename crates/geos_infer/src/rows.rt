@@ -28,17 +28,6 @@ struct Tables {
     turns: Table<Turn>,
 }
 
-impl Tables {
-    fn new(alloc: Global) -> Result<Tables, AllocError> {
-        Ok(Tables {
-            found: Known::new(alloc, None)?,
-            others: Known::new(alloc, None)?,
-            from: Known::new(alloc, None)?,
-            turns: Table::new(alloc, Turn::NONE)?,
-        })
-    }
-}
-
 /// Finds what is known in a routine wherever control reaches; `false` where two rows have no join.
 fn search(body: &Body, from: &mut Known, turns: &mut Table<Turn>, found: &mut Known) -> bool
     ensures flows { FlowsAnew body.now.image.now body.now.r found.new result }
@@ -112,18 +101,24 @@ fn find_rows_in(body: &Body, tables: &mut Tables, known: &mut Known) -> bool
 
 /// Finds what is known at each instruction, up to the first routine where two rows have no join;
 /// how many routines there are before it.
-fn find_all_rows(image: &Image, tables: &mut Tables, known: &mut Known) -> u16
-    ensures few { result ≤ length image.now.routines }
-    ensures found { result ≡ length image.now.routines → HaveFlowed image.now known.new result }
-    ensures none { result < length image.now.routines → NoRowsHoldIn image.now result }
-    ensures fit { (r : ℕ) → r < result → FitWhereReached image.now r known.new }
+fn find_all_rows(alloc: Global, image: &Image, known: &mut Known) -> Result<u16, AllocError>
+    ensures few { IfOk result (λ count. count ≤ length image.now.routines) }
+    ensures found { IfOk result (λ count. count ≡ length image.now.routines → HaveFlowed image.now known.new count) }
+    ensures none { IfOk result (λ count. count < length image.now.routines → NoRowsHoldIn image.now count) }
+    ensures fit { IfOk result (λ count. (r : ℕ) → r < count → FitWhereReached image.now r known.new) }
 {
+    let mut tables = Tables {
+        found: Known::new(alloc, None)?,
+        others: Known::new(alloc, None)?,
+        from: Known::new(alloc, None)?,
+        turns: Table::new(alloc, Turn::NONE)?,
+    };
     for r in 0..image.count() {
-        if !find_rows_in(&body_of(image, r), tables, known) {
-            return r;
+        if !find_rows_in(&body_of(image, r), &mut tables, known) {
+            return Ok(r);
         }
     }
-    image.count()
+    Ok(image.count())
 }
 
 /// Finds what is known at each instruction, up to the first routine where two rows have no join;
@@ -135,7 +130,6 @@ pub(crate) fn find_rows(alloc: Global, image: &Image) -> Result<(Known, u16), Al
     ensures fit { IfOk result (λ both. (r : ℕ) → r < both.1 → FitWhereReached image.now r both.0) }
 {
     let mut known = Known::new(alloc, None)?;
-    let mut tables = Tables::new(alloc)?;
-    let routines = find_all_rows(image, &mut tables, &mut known);
+    let routines = find_all_rows(alloc, image, &mut known)?;
     Ok((known, routines))
 }
