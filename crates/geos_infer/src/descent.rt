@@ -1,6 +1,6 @@
 //! Rows that were widened come down again.
 
-ghost use Rattle.std.specs.Prelude.{◌≡◌, ◌<◌, true};
+ghost use Rattle.std.specs.Prelude.{◌≡◌, true};
 ghost use Rattle.geos_infer.specs.Code.{ForwardIn};
 
 use crate::body::Body;
@@ -13,29 +13,18 @@ use crate::table::Known;
 /// What was given up may come back one loop further in at each descent.
 const DESCENTS: u16 = 2;
 
-/// What the edge to the target says, if it leads back, is known at first where it leads; `false`
-/// where two rows have no join.
-fn seed_target(body: &Body, pc: u16, known: &Known, from: &mut Known) -> bool
-    requires { pc < body.now.end }
-{
-    let Some(row) = known.at(pc) else {
-        return true;
-    };
-    let Some(edge) = edge_in(body, pc, true) else {
-        return true;
-    };
-    if pc < edge.to {
-        return true;
-    }
-    spread(body, edge, &row, from).has_joined()
-}
-
-/// Makes what is known at first in a routine its entry row, and what edges that lead back say of
+/// Makes what is known at first in a routine its entry row, and what edges to targets that lead back say of
 /// the rows that are known; `false` where two of them have no join.
 fn seed(body: &Body, known: &Known, from: &mut Known) -> bool {
     seed_entry(body, from);
     for pc in body.start..body.end {
-        if !seed_target(body, pc, known, from) {
+        let Some(row) = known.at(pc) else {
+            continue;
+        };
+        let Some(edge) = edge_in(body, pc, true) else {
+            continue;
+        };
+        if edge.to <= pc && !spread(body, edge, &row, from).has_joined() {
             return false;
         }
     }

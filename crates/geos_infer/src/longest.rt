@@ -28,16 +28,16 @@ fn begin(body: &Body, ways: &mut Ways) {
     }
 }
 
-/// The longest way from a pc over an edge, if that leads ahead, or back, as is asked, and the way is longer than what was known;
-/// whether it is.
+/// The longest way from a pc over an edge, if that is not left out and leads ahead, or back, as is asked, and the way is longer than
+/// what was known; whether it is.
 fn lengthen(ways: &mut Ways, pc: u16, branch: bool, ahead: bool) -> bool
     requires { pc < 4096 }
 {
     let mut here = ways.at(pc);
-    let Some(arc) = here.counted(branch) else {
+    let Some(arc) = here.arc(branch) else {
         return false;
     };
-    if (pc < arc.to) != ahead {
+    if (pc < arc.to) != ahead || (branch && here.free) {
         return false;
     }
     let there = ways.at(arc.to);

@@ -153,16 +153,6 @@ fn raise_round(ways: &mut Ways, from: u16, raise: &Raise) -> bool
     false
 }
 
-/// The units that an edge asks for before it.
-fn asked_units(arc: &Arc, there: &[u32; 4]) -> [u32; 4] {
-    let mut asked = *there;
-    match arc.counting {
-        Counting::Sets(counter, _) if counter < 4 => asked[usize::from(counter)] = 0,
-        _ => {}
-    }
-    asked
-}
-
 /// What the edge from a pc asks for is there; whether that is new.
 fn carry_over(ways: &mut Ways, pc: u16, branch: bool) -> bool
     requires { pc < 4096 }
@@ -171,8 +161,13 @@ fn carry_over(ways: &mut Ways, pc: u16, branch: bool) -> bool
     let Some(arc) = here.arc(branch) else {
         return false;
     };
+    let mut asked = ways.at(arc.to).pay;
+    match arc.counting {
+        Counting::Sets(counter, _) if counter < 4 => asked[usize::from(counter)] = 0,
+        _ => {}
+    }
     let old = here.pay;
-    here.pay = coefficients_join(&old, &asked_units(&arc, &ways.at(arc.to).pay));
+    here.pay = coefficients_join(&old, &asked);
     ways.set(pc, here);
     here.pay != old
 }

@@ -70,15 +70,6 @@ fn strongest(row: &Row) -> Row {
     }
 }
 
-/// A slot with a block of a kind.
-fn held(kind: Kind) -> SlotState {
-    match kind {
-        Kind::MemBlock => SlotState::Mem,
-        Kind::VmBlock => SlotState::Vm { marked: true },
-        Kind::DbGroup => SlotState::Db { marked: true },
-    }
-}
-
 /// The slots before an instruction, where those behind it are such.
 fn slots_before(i: &Instr, behind: &[SlotState; 4]) -> [SlotState; 4]
     requires { FieldsFit i.now.opcode i.now }
@@ -86,7 +77,13 @@ fn slots_before(i: &Instr, behind: &[SlotState; 4]) -> [SlotState; 4]
     let mut slots = *behind;
     match uses_at(i).slot {
         SlotUse::LocksNew(_) | SlotUse::Locks(_) => slots[i.a as usize] = SlotState::Empty,
-        SlotUse::Unlocks(kind) => slots[i.a as usize] = held(kind),
+        SlotUse::Unlocks(kind) => {
+            slots[i.a as usize] = match kind {
+                Kind::MemBlock => SlotState::Mem,
+                Kind::VmBlock => SlotState::Vm { marked: true },
+                Kind::DbGroup => SlotState::Db { marked: true },
+            };
+        }
         _ => (),
     }
     slots

@@ -49,15 +49,6 @@ impl Place {
         if branch { branching } else { along }
     }
 
-    /// The same, unless it is left out.
-    pub(crate) fn counted(&self, branch: bool) -> Option<Arc> {
-        if branch && self.free {
-            None
-        } else {
-            self.arc(branch)
-        }
-    }
-
     /// The edge that the longest way takes first.
     pub(crate) fn next(&self) -> Option<Arc> {
         let branch = self.first?;

@@ -35,20 +35,16 @@ fn counts_alike(i: &Instr, row: &Row, weaker: &Row) -> bool {
     }
 }
 
-/// Whether the weaker row is as good at a pc as the other: what is refused there is refused with both, and a counter is set to as
-/// much.
-fn is_as_good(body: &Body, pc: u16, row: &Row, weaker: &Row) -> bool
-    requires { pc < body.now.end }
-{
-    counts_alike(body.image.instr(pc), row, weaker)
-        && (is_refused(body, pc, row) || !is_refused(body, pc, weaker))
-}
-
-/// Whether that is so at each place that is reached.
+/// Whether the weaker rows are as good at each place that is reached: what is refused there is refused with both, and a counter is
+/// set to as much.
 fn all_as_good(body: &Body, found: &Known, weaker: &Known) -> bool {
     for pc in body.start..body.end {
         if let Some(row) = found.at(pc) {
-            if !is_as_good(body, pc, &clean(&row), &row_of(&weaker.at(pc))) {
+            let row = clean(&row);
+            let weaker = row_of(&weaker.at(pc));
+            if !counts_alike(body.image.instr(pc), &row, &weaker)
+                || is_refused(body, pc, &weaker) && !is_refused(body, pc, &row)
+            {
                 return false;
             }
         }

@@ -3,7 +3,7 @@
 ghost use Rattle.std.specs.Prelude.{◌<◌};
 
 use crate::body::Body;
-use geos_image::{Opcode, Pointer, Row};
+use geos_image::{Opcode, Row};
 
 /// So often a row is joined with what an edge that leads back says, as it is.
 const JOINED: u8 = 16;
@@ -44,19 +44,13 @@ fn next_constant(body: &Body, bound: u16) -> u16 {
     next
 }
 
-/// The bound of a word that is joined for the last of so many times.
-fn wide_bound(body: &Body, times: u8, old: u16, joined: u16) -> u16 {
-    if old == joined {
-        old
-    } else if times <= JOINED + STEPPED {
+/// The bound of a word that changes when it is joined for the last of so many times.
+fn wide_bound(body: &Body, times: u8, joined: u16) -> u16 {
+    if times <= JOINED + STEPPED {
         next_constant(body, joined)
     } else {
         u16::MAX
     }
-}
-
-fn wide_pointer(old: Option<Pointer>, joined: Option<Pointer>) -> Option<Pointer> {
-    if old == joined { old } else { None }
 }
 
 /// What is known at a place that edges which lead back have weakened so many times: the joined row,
@@ -67,10 +61,14 @@ pub(crate) fn widened(body: &Body, times: u8, old: &Row, joined: &Row) -> Row {
     }
     let mut next = *joined;
     for k in 0..8 {
-        next.bounds[k] = wide_bound(body, times, old.bounds[k], joined.bounds[k]);
+        if old.bounds[k] != joined.bounds[k] {
+            next.bounds[k] = wide_bound(body, times, joined.bounds[k]);
+        }
     }
     for k in 0..4 {
-        next.pointers[k] = wide_pointer(old.pointers[k], joined.pointers[k]);
+        if old.pointers[k] != joined.pointers[k] {
+            next.pointers[k] = None;
+        }
     }
     next
 }
