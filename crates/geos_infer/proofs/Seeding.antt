@@ -1,6 +1,6 @@
 -- The entry row of a routine is known where it begins.
-use Rattle.std.proofs.Common.{◌≡◌, ◌≢◌, ℕ, ◌+◌, ◌*◌, ◌<◌, ◌≤◌, Bool, true, false, List, length, Option, Some, None, slice_get, set, refl, sym, ap, ◌∙◌, subst, arith, inl, inr}
-use Rattle.std.proofs.lemmas.Bool.{cases_eq, cases_lt}
+use Rattle.std.proofs.Common.{◌≡◌, ◌≢◌, ℕ, ◌+◌, ◌-◌, ◌*◌, ◌<◌, ◌≤◌, Bool, true, false, List, length, Option, Some, None, slice_get, set, sym, ap, ◌∙◌, subst, arith, inl, inr}
+use Rattle.std.proofs.lemmas.Bool.{cases_lt}
 use Rattle.std.proofs.lemmas.List.{get_or-set_same, get_or-set_other, length-set}
 use Rattle.std.proofs.lemmas.Option.{none-some}
 use Rattle.geos_image.specs.declared.row.Row.{Row}
@@ -15,41 +15,18 @@ use Rattle.geos_infer.proofs.Fits.{fits-refl}
 some-routine : (x y : Routine) → Some x ≡ Some y → x ≡ y
 some-routine x y e = cc
 
--- an entry row is known at a start, and nothing behind it before a pc
-pub record SeededTo (start : ℕ) (entry : Row) (initial known : List (Option Row)) (pc : ℕ) : Type 0 where
-  pub len : length known ≡ length initial
-  pub first : start < pc → known_at known start ≡ Some entry
-  pub only : (k : ℕ) → start < k → k < pc → known_at known k ≡ None
-
-pub seeded-none : (start : ℕ) (entry : Row) (known : List (Option Row)) → SeededTo start entry known known start
-seeded-none start entry known = record { len = refl; first = λ lt. absurd (omega arith); only = λ k low high. absurd (omega arith) }
-
--- what one more place is set to
-pub seeded-first : (start : ℕ) (entry : Row) (initial known : List (Option Row)) (pc more : ℕ) → more ≡ pc + 1 → pc ≡ start → pc < length known → SeededTo start entry initial known pc → SeededTo start entry initial (set known pc (Some entry)) more
-seeded-first start entry initial known pc more one at within S = record {
-  len = length-set known pc (Some entry) ∙ S.len;
-  first = λ lt. ap (known_at (set known pc (Some entry))) (sym at) ∙ get_or-set_same known pc (Some entry) None within;
-  only = λ k low high. absurd (omega arith);
-}
-
-pub seeded-next : (start : ℕ) (entry : Row) (initial known : List (Option Row)) (pc more : ℕ) → more ≡ pc + 1 → start ≤ pc → pc ≢ start → pc < length known → SeededTo start entry initial known pc → SeededTo start entry initial (set known pc None) more
-seeded-next start entry initial known pc more one low other within S = record {
-  len = length-set known pc None ∙ S.len;
-  first = λ lt. (let ne : start ≢ pc = (λ same. other (sym same)) in get_or-set_other known pc start None None ne ∙ S.first (omega arith));
-  only = λ k low high. elim (cases_eq k pc) [
-    | inl same ↦ ap (known_at (set known pc None)) same ∙ get_or-set_same known pc None None within
-    | inr ne ↦ get_or-set_other known pc k None None ne ∙ S.only k low (omega arith)
-  ];
-}
-
-pub seeded-all : (image : Parts) (r start end pc : ℕ) (routine : Routine) (initial known : List (Option Row)) → slice_get image.routines r ≡ Some routine → start ≡ start_of image.routines r → end ≡ start_of image.routines (r + 1) → start < end → end ≤ pc
-    → length (instrs_of image) ≤ length initial → SeededTo start routine.entry initial known pc → Seeded image r known
-seeded-all image r start end pc routine initial known there begins ends some past room S = record {
-  len = (let len = S.len in omega arith);
+-- where nothing is known in a routine but its entry row where it begins
+pub seeded : (image : Parts) (r start end : ℕ) (routine : Routine) (empty known : List (Option Row)) → slice_get image.routines r ≡ Some routine → start ≡ start_of image.routines r → end ≡ start_of image.routines (r + 1)
+    → ((pc : ℕ) → start ≤ pc → pc ≤ end - 1 → known_at empty pc ≡ None) → known ≡ set empty start (Some routine.entry) → start < length known → length (instrs_of image) ≤ length known → Seeded image r known
+seeded image r start end routine empty known there begins ends none is within room = record {
+  len = room;
   entry = λ other at.
-      let is : routine ≡ other = some-routine routine other (sym there ∙ at) in
-      ap (known_at known) (sym begins) ∙ S.first (omega arith) ∙ ap (λ (x : Routine). Some x.entry) is;
-  only = λ k low high. S.only k (omega arith) (omega arith);
+      let same : routine ≡ other = some-routine routine other (sym there ∙ at) in
+      let len = ap length is ∙ length-set empty start (Some routine.entry) in
+      ap (known_at known) (sym begins) ∙ ap (λ (all : List (Option Row)). known_at all start) is ∙ get_or-set_same empty start (Some routine.entry) None (omega arith) ∙ ap (λ (x : Routine). Some x.entry) same;
+  only = λ pc low high.
+      let ne : pc ≢ start = (λ same. absurd (omega arith)) in
+      ap (λ (all : List (Option Row)). known_at all pc) is ∙ get_or-set_other empty start pc (Some routine.entry) None ne ∙ none pc (omega arith) (omega arith);
 }
 
 some-row : (x y : Row) → Some x ≡ Some y → x ≡ y

@@ -10,9 +10,7 @@ use crate::unpaid::{WaysIn, lead_unpaid};
 
 /// Counts the edges into each place of a routine.
 fn count_edges(body: &Body, into: &mut Table<WaysIn>) {
-    for pc in body.start..body.end {
-        into.set(pc, WaysIn::with_left(1));
-    }
+    into.fill(body.start, body.end - 1, WaysIn::with_left(1));
     for pc in body.start..body.end {
         for branch in [false, true] {
             if let Some(to) = lead_unpaid(body, pc, branch) {

@@ -107,15 +107,11 @@ fn round(body: &Body, turns: &mut Table<Turn>, known: &mut Known) -> Arrival {
 /// Rows of a routine flow on along all its edges until nothing new comes to any place; `false` where two
 /// have no join.
 pub(crate) fn flow_on(body: &Body, turns: &mut Table<Turn>, known: &mut Known) -> bool {
-    for pc in body.start..body.end {
-        turns.set(
-            pc,
-            Turn {
-                waits: true,
-                times: 0,
-            },
-        );
-    }
+    let waiting = Turn {
+        waits: true,
+        times: 0,
+    };
+    turns.fill(body.start, body.end - 1, waiting);
     // Each round but the last weakens a row. A row has less than a million things to lose, one of
     // its bounds or lengths by one each, so that the rows of an image are weakened less often.
     for _ in 0..u32::MAX {

@@ -10,14 +10,8 @@ use crate::table::Known;
 pub(crate) fn seed_entry(body: &Body, known: &mut Known)
     ensures { Seeded body.now.image.now body.now.r known.new }
 {
+    known.fill(body.start, body.end - 1, None);
+    known.set(body.start, Some(body.image.routine(body.r).entry));
     // For what its law says.
     known.lengths();
-    let entry = body.image.routine(body.r).entry;
-    for pc in body.start..body.end {
-        if pc == body.start {
-            known.set(pc, Some(entry));
-        } else {
-            known.set(pc, None);
-        }
-    }
 }
