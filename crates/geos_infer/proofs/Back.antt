@@ -2,6 +2,7 @@
 use Rattle.std.proofs.Common.{◌≡◌, ℕ, ◌<◌, ◌≤◌, Bool, true, false, Option, Some, None, slice_get, refl, sym, ap, subst, arith, ◌∙◌}
 use Rattle.std.specs.Prelude.{◌&&◌, nat_le, nat_lt, if◌then◌else◌, IfSome}
 use Rattle.std.proofs.lemmas.Bool.{le-leb, lt-ltb}
+use Rattle.geos_image.specs.declared.instr.Instr.{Instr}
 use Rattle.geos_image.specs.declared.point.Point.{Point}
 use Rattle.geos_verify.proofs.Places.{item_at, if_some}
 use Rattle.geos_verify.specs.Rows.{has_edge}
@@ -35,3 +36,24 @@ ahead-alone body forward pc branch edge low high h =
     let same = within-ahead body.start body.end pc (edge_end pc i branch) (has_edge i branch) low ahead in
     let P : Option Point → Type 0 = λ o. IfSome o (λ point. edge ≡ edge_ahead body.end pc point.instr branch) in
     subst P (sym found.1) (here ∙ ap (λ (b : Bool). if b then Some (edge_of pc i branch) else None) same)
+
+pub not-both : (pc to : ℕ) → pc < to → to ≤ pc → ⊥
+not-both pc to less back = absurd (omega arith)
+
+-- the edge of an instruction that is read at a pc
+module _ (body : Body) (pc : ℕ) (branch : Bool) (i : Instr) (high : pc < body.end) (there : IfSome (slice_get body.image.now.points pc) (λ point. i ≡ point.instr)) where
+  pub within-is : (edge : Option Edge) → edge ≡ edge_within body.start body.end pc i branch → IfSome (slice_get body.image.now.points pc) (λ point. edge ≡ edge_within body.start body.end pc point.instr branch)
+  within-is edge is =
+      let image = body.image.now in
+      let found = item_at image.points pc (omega (arith, body.room)) in
+      let same : i ≡ found.0.instr = if_some (λ point. i ≡ point.instr) (slice_get image.points pc) found.0 found.1 there in
+      let P : Option Point → Type 0 = λ o. IfSome o (λ point. edge ≡ edge_within body.start body.end pc point.instr branch) in
+      subst P (sym found.1) (is ∙ ap (λ (x : Instr). edge_within body.start body.end pc x branch) same)
+
+  pub within-some : (to : ℕ) → to ≡ edge_end pc i branch → has_edge i branch ≡ true → body.start ≤ to → to < body.end
+      → IfSome (slice_get body.image.now.points pc) (λ point. Some (record { pc = pc; branch = branch; to = to }) ≡ edge_within body.start body.end pc point.instr branch)
+  within-some to to_is has low below =
+      let above : nat_le body.start (edge_end pc i branch) ≡ true = subst (λ (n : ℕ). nat_le body.start n ≡ true) to_is (le-leb body.start to low) in
+      let before : nat_lt (edge_end pc i branch) body.end ≡ true = subst (λ (n : ℕ). nat_lt n body.end ≡ true) to_is (lt-ltb to body.end below) in
+      let is : edge_within body.start body.end pc i branch ≡ Some (edge_of pc i branch) = rw (has, above, before) refl in
+      within-is (Some (record { pc = pc; branch = branch; to = to })) (ap (λ (n : ℕ). Some (record { pc = pc; branch = branch; to = n })) to_is ∙ sym is)

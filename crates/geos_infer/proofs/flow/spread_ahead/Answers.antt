@@ -1,6 +1,6 @@
 use Rattle.std.proofs.Common.{Some, None, sym, ◌∙◌, arith}
 use Rattle.geos_infer.proofs.Asks.{read-ahead}
-use Rattle.geos_infer.proofs.Back.{ahead-alone}
+use Rattle.geos_infer.proofs.Back.{ahead-alone, not-both}
 use Rattle.geos_infer.proofs.Flows.{spreads-on, spreads-nowhere}
 use Rattle.geos_infer.proofs.flow.spread_ahead.Goals as goal
 
@@ -14,8 +14,7 @@ returns-then-edge-pc c = λ forward.
     let body = c.args.body.now in
     let edge = c.in-Some-edge_in.edge in
     let found = read-ahead body.image.now body.end c.args.pc c.args.branch (omega (arith, body.room)) edge (ahead-alone body forward c.args.pc c.args.branch (Some edge) c.requires.above c.requires.below c.in-Some-edge_in.ensures.value) in
-    let less = found.4 in
-    absurd (omega (arith, c.if-edge-pc.true))
+    absurd (not-both c.args.pc edge.to found.4 c.if-edge-pc.true)
 
 pub returns : goal.returns
 returns c = λ forward.
