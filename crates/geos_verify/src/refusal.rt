@@ -41,18 +41,19 @@ fn returns(opcode: Opcode) -> bool
 }
 
 #[tactic(auto, unfolding(crate::specs::Rules::leaves_routine))]
-fn leaves_routine(start: u32, routine: &Routine, pc: u32, i: &Instr) -> bool
+fn leaves_routine(start: u16, routine: &Routine, pc: u16, i: &Instr) -> bool
     requires start { start ≤ 4096 }
     requires pc { pc ≤ 4096 }
     ensures value { result ≡ leaves_routine routine.now start pc i.now }
     ensures stays { result ≡ false → falls_through i.now.opcode ≡ true → pc + 1 < start + routine.now.count }
 {
-    falls_through(i.opcode) && !has_place(start, routine, pc + 1)
+    let start = u32::from(start);
+    falls_through(i.opcode) && !has_place(start, routine, u32::from(pc) + 1)
         || branches(i.opcode) && !has_place(start, routine, u32::from(i.target))
 }
 
 #[tactic(auto, unfolding(crate::specs::Rules::entry_misfits))]
-fn entry_misfits(start: u32, routine: &Routine, pc: u32, row: &Row) -> bool
+fn entry_misfits(start: u16, routine: &Routine, pc: u16, row: &Row) -> bool
     ensures { result ≡ entry_misfits routine.now start pc row.now }
 {
     pc == start
@@ -154,30 +155,28 @@ fn edge_unpaid(body: &Body, pc: u16, i: &Instr, row: &Row, potential: &Potential
 }
 
 #[tactic(auto, unfolding(crate::specs::Rules::over_budget))]
-fn over_budget(start: u32, routine: &Routine, pc: u32, potential: &Potential) -> bool
+fn over_budget(start: u16, routine: &Routine, pc: u16, potential: &Potential) -> bool
     ensures { result ≡ over_budget routine.now start pc potential.now }
 {
     pc == start && !is_within(routine.budget, potential)
 }
 
-/// The lowest rule that refuses the point at `pc` of a routine.
-pub(crate) fn refusal(body: &Body, pc: u16) -> Option<Rule>
-    requires { pc < length body.now.image.now.points }
-    ensures { IfSome (slice_get body.now.image.now.points pc) (λ point. result ≡ refusal body.now.image.now body.now.r body.now.routine.now body.now.start pc point) }
+/// The lowest rule that refuses an instruction at `pc` of a routine, with what is known there.
+fn refusal_of(body: &Body, pc: u16, i: &Instr, row: &Row, potential: &Potential) -> Option<Rule>
+    requires there { pc < length body.now.image.now.points }
+    requires fields { FieldsFit i.now.opcode i.now }
+    requires target { TargetFits (length body.now.image.now.points) i.now }
+    requires callee { CalleeFits (length body.now.image.now.routines) i.now }
+    ensures { result ≡ refusal body.now.image.now body.now.r body.now.routine.now body.now.start pc (record { instr = i.now; row = row.now; potential = potential.now }) }
 {
-    let image = body.image;
     let routine = body.routine;
-    let start = u32::from(body.start);
-    let i = image.instr(pc);
-    let row = image.row(pc);
-    let potential = image.potential(pc);
+    let start = body.start;
     let uses = uses_at(i);
-    let at = u32::from(pc);
-    if leaves_routine(start, routine, at, i) {
+    if leaves_routine(start, routine, pc, i) {
         Some(Rule::LeavesRoutine)
     } else if names_empty_slot(row) {
         Some(Rule::NamesEmptySlot)
-    } else if entry_misfits(start, routine, at, row) {
+    } else if entry_misfits(start, routine, pc, row) {
         Some(Rule::EntryMisfit)
     } else if stale_pointer(i, uses.pointer, row) {
         Some(Rule::StalePointer)
@@ -191,7 +190,7 @@ pub(crate) fn refusal(body: &Body, pc: u16) -> Option<Rule>
         Some(Rule::WrongSlot)
     } else if commits_with_held(i, uses.slot, row) {
         Some(Rule::CommitsHeld)
-    } else if call_misfits(image, body.r, i, row) {
+    } else if call_misfits(body.image, body.r, i, row) {
         Some(Rule::CallMisfit)
     } else if exit_misfits(routine, i, row) {
         Some(Rule::ExitMisfit)
@@ -199,9 +198,24 @@ pub(crate) fn refusal(body: &Body, pc: u16) -> Option<Rule>
         Some(Rule::EdgeMisfit)
     } else if edge_unpaid(body, pc, i, row, potential) {
         Some(Rule::EdgeUnpaid)
-    } else if over_budget(start, routine, at, potential) {
+    } else if over_budget(start, routine, pc, potential) {
         Some(Rule::OverBudget)
     } else {
         None
     }
+}
+
+/// The lowest rule that refuses the point at `pc` of a routine.
+pub(crate) fn refusal(body: &Body, pc: u16) -> Option<Rule>
+    requires { pc < length body.now.image.now.points }
+    ensures { IfSome (slice_get body.now.image.now.points pc) (λ point. result ≡ refusal body.now.image.now body.now.r body.now.routine.now body.now.start pc point) }
+{
+    let image = body.image;
+    refusal_of(
+        body,
+        pc,
+        image.instr(pc),
+        image.row(pc),
+        image.potential(pc),
+    )
 }
