@@ -77,6 +77,11 @@ with_bound a n row = record row { bounds = slice_set row.bounds a n }
 abbrev pub or_any : ℕ → ℕ
 or_any n = min n 65535
 
+-- the row with a bound of a word, if there is one
+abbrev pub with_some_bound : ℕ → Option ℕ → Row → Row
+with_some_bound a (Some n) row = with_bound a n row
+with_some_bound a None row = row
+
 -- the row with the bound of the word that an instruction computes
 abbrev pub computed : Instr → Opcode → Row → Row
 computed i Ldi row = with_bound i.a i.imm row

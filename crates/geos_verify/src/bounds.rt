@@ -2,7 +2,7 @@
 
 ghost use Rattle.std.specs.Prelude.{◌≡◌, ◌<◌};
 ghost use Rattle.geos_image.specs.Fields.{FieldsFit};
-ghost use Rattle.geos_verify.specs.Rows.{with_bound, computed, bounded, YieldsFit};
+ghost use Rattle.geos_verify.specs.Rows.{with_bound, with_some_bound, computed, bounded, YieldsFit};
 ghost use Rattle.geos_opcodes.specs.Facts.{facts};
 
 use geos_image::{Instr, Opcode, Row};
@@ -25,24 +25,21 @@ fn result_at(i: &Instr) -> Yields
     i.opcode.facts().yields
 }
 
-/// Bounds the word that an instruction computes.
-fn bound_computed(i: &Instr, row: &mut Row)
+/// The bound of the word that an instruction computes, if it computes one.
+fn computed_bound(i: &Instr, row: &Row) -> Option<u16>
     requires { FieldsFit i.now.opcode i.now }
-    ensures { row.new ≡ computed i.now i.now.opcode row.old }
+    ensures { computed i.now i.now.opcode row.now ≡ with_some_bound i.now.a result row.now }
 {
     match i.opcode {
-        Opcode::Ldi => set_bound(row, i.a, i.imm),
-        Opcode::Add => {
-            let sum = row.bounds[i.b as usize].saturating_add(row.bounds[i.c as usize]);
-            set_bound(row, i.a, sum);
-        }
-        Opcode::Mov => set_bound(row, i.a, row.bounds[i.b as usize]),
-        Opcode::Sub => set_bound(row, i.a, u16::MAX),
-        Opcode::And => set_bound(row, i.a, row.bounds[i.b as usize].min(i.imm)),
-        Opcode::Shr => set_bound(row, i.a, row.bounds[i.b as usize] >> i.imm),
-        Opcode::Muli => set_bound(row, i.a, row.bounds[i.b as usize].saturating_mul(i.imm)),
-        Opcode::Chk => set_bound(row, i.a, row.bounds[i.a as usize].min(i.imm)),
-        _ => (),
+        Opcode::Ldi => Some(i.imm),
+        Opcode::Add => Some(row.bounds[i.b as usize].saturating_add(row.bounds[i.c as usize])),
+        Opcode::Mov => Some(row.bounds[i.b as usize]),
+        Opcode::Sub => Some(u16::MAX),
+        Opcode::And => Some(row.bounds[i.b as usize].min(i.imm)),
+        Opcode::Shr => Some(row.bounds[i.b as usize] >> i.imm),
+        Opcode::Muli => Some(row.bounds[i.b as usize].saturating_mul(i.imm)),
+        Opcode::Chk => Some(row.bounds[i.a as usize].min(i.imm)),
+        _ => None,
     }
 }
 
@@ -53,7 +50,11 @@ pub(crate) fn bound_result(i: &Instr, row: &mut Row)
 {
     match result_at(i) {
         Yields::Nothing => (),
-        Yields::Computed => bound_computed(i, row),
+        Yields::Computed => {
+            if let Some(n) = computed_bound(i, row) {
+                set_bound(row, i.a, n);
+            }
+        }
         Yields::ByteInA => set_bound(row, i.a, 255),
         Yields::WordInA => set_bound(row, i.a, u16::MAX),
         Yields::WordInB => set_bound(row, i.b, u16::MAX),
