@@ -1,12 +1,12 @@
 -- One more element at the end of a list that keeps a rule, or that is put out.
-use Rattle.std.proofs.Common.{◌≡◌, ◌+◌, Bool, true, false, List, [], ◌∷◌, ◌++◌, ℕ, ◌<◌, length, get_or, take, refl, sym, ap, ◌∙◌, append_assoc}
+use Rattle.std.proofs.Common.{◌≡◌, ◌+◌, Bool, true, false, List, [], ◌∷◌, ◌++◌, ℕ, ◌<◌, ◌≤◌, length, get_or, take, refl, sym, ap, subst, ◌∙◌, append_assoc, arith}
 use Rattle.std.specs.Prelude.{◌&&◌}
-use Rattle.std.specs.List.{list_all, flat_map}
+use Rattle.std.specs.List.{list_all, flat_map, All}
 use Rattle.std.proofs.lemmas.Bool.{and_parts}
 use Rattle.std.proofs.lemmas.List.{append-nil}
 use Rattle.std.proofs.lemmas.List.Folds.{list_all-append}
 use Rattle.std.proofs.lemmas.List.Sums.{sum_by_push}
-use Rattle.std.proofs.lemmas.List.{take_more, flat_map_more}
+use Rattle.std.proofs.lemmas.List.{take_more, take_all, flat_map_more}
 use Rattle.geos_image.specs.declared.instr.Instr.{Instr}
 use Rattle.geos_image.specs.declared.row.Row.{Row}
 use Rattle.geos_image.specs.declared.potential.Potential.{Potential}
@@ -54,3 +54,20 @@ pub puts-more : {A : Type 0} (f : A → List ℕ) (xs : List A) (k : ℕ) (d : A
 puts-more f xs k d start old new lt so_far more =
     more ∙ ap (λ front. front ++ f (get_or xs k d)) so_far ∙ flat_map_more f start (take k xs) (get_or xs k d)
     ∙ ap (λ front. start ++ flat_map f front) (sym (take_more xs k d lt))
+
+-- no element's bytes stand there yet
+pub puts-none : {A : Type 0} (f : A → List ℕ) (start : List ℕ) → start ≡ start ++ flat_map f []
+puts-none f start = sym (append-nil start)
+
+-- those of all elements do
+pub puts-all : {A : Type 0} (f : A → List ℕ) (xs : List A) (k : ℕ) (start new : List ℕ) → length xs ≤ k
+    → new ≡ start ++ flat_map f (take k xs) → new ≡ start ++ flat_map f xs
+puts-all f xs k start new le so_far = so_far ∙ ap (λ front. start ++ flat_map f front) (take_all k xs le)
+
+-- no element breaks a rule yet
+pub All-none : {A : Type 0} (P : A → Type 0) → All P []
+All-none P k d lt = absurd (omega arith)
+
+-- none of all does
+pub All-all : {A : Type 0} (P : A → Type 0) (xs : List A) (k : ℕ) → length xs ≤ k → All P (take k xs) → All P xs
+All-all P xs k le h = subst (All P) (take_all k xs le) h
