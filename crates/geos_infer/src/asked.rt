@@ -93,13 +93,6 @@ fn larger64(a: u64, b: u64) -> u64
     a.max(b)
 }
 
-/// The least coefficients that pay for both edges of an instruction.
-fn coefficients_at(along: &Option<Asked>, branching: &Option<Asked>) -> [u32; 4]
-    ensures { result ≡ zip2 max (asked_coefficients along.now) (asked_coefficients branching.now) }
-{
-    coefficients_join(&asked_coefficients(along), &asked_coefficients(branching))
-}
-
 /// The least potential that pays for what the instruction at a pc asks; `None` where its constant is
 /// past what a potential can say.
 pub(crate) fn potential_at(
@@ -115,7 +108,10 @@ pub(crate) fn potential_at(
     let i = body.image.instr(pc);
     let along = asked_over(body, known, potentials, pc, false);
     let branching = asked_over(body, known, potentials, pc, true);
-    let coefficients = coefficients_at(&along, &branching);
+    let coefficients = coefficients_join(
+        &asked_coefficients(&along),
+        &asked_coefficients(&branching),
+    );
     let edges = larger64(owed(&along, &coefficients), owed(&branching, &coefficients));
     match u32::try_from(larger64(return_steps(i), edges)) {
         Ok(constant) => Some(Potential {

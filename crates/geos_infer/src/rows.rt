@@ -1,7 +1,7 @@
 //! What is known at each instruction.
 
 ghost use Rattle.std.specs.Prelude.{◌≡◌, ◌<◌, ◌≤◌, ℕ, true, length, IfOk};
-ghost use Rattle.geos_infer.specs.Flow.{AllKnown, FlowsAnew, HaveFlowed, StaysBefore};
+ghost use Rattle.geos_infer.specs.Flow.{FlowsAnew, HaveFlowed, StaysBefore};
 ghost use Rattle.geos_infer.specs.Reached.{AllFit, FitWhereReached, Keeps};
 ghost use Rattle.geos_infer.specs.Solutions.{NoRowsHoldIn};
 
@@ -12,7 +12,6 @@ use crate::flow::flow;
 use crate::rounds::{Turn, settle};
 use crate::seeds::seed_entry;
 use crate::table::{Known, Table};
-use crate::unreached::fill;
 use crate::weakened::weaken;
 use geos_image::Image;
 use std::alloc::{AllocError, Global};
@@ -59,21 +58,6 @@ fn keep(body: &Body, found: &Known, others: &Known, known: &mut Known)
     }
 }
 
-/// Finds the rows of the places that nothing reaches, and in `weaker` the rows of all as these weaken them;
-/// whether such are to be known in the place of those that were found.
-fn find_others(
-    body: &Body,
-    found: &Known,
-    weaker: &mut Known,
-    turns: &mut Table<Turn>,
-    others: &mut Known,
-) -> bool
-    ensures some { result ≡ true → AllKnown body.now.image.now body.now.r found.now → ⊥ }
-    ensures fit { result ≡ true → AllFit body.now.image.now body.now.r weaker.new }
-{
-    fill(body, found, weaker, turns, others) && weaken(body, found, others, turns, weaker)
-}
-
 /// Finds what is known at each instruction of a routine; `false` where two rows have no join.
 fn find_rows_in(body: &Body, tables: &mut Tables, known: &mut Known) -> bool
     ensures flows { FlowsAnew body.now.image.now body.now.r known.new result }
@@ -85,7 +69,7 @@ fn find_rows_in(body: &Body, tables: &mut Tables, known: &mut Known) -> bool
     }
     // For what its law says.
     known.lengths();
-    if find_others(
+    if weaken(
         body,
         &tables.found,
         &mut tables.from,

@@ -2,6 +2,7 @@
 
 ghost use Rattle.std.specs.Prelude.{◌≡◌, ◌<◌, true};
 ghost use Rattle.geos_image.specs.Fields.{FieldsFit, CalleeFits};
+ghost use Rattle.geos_infer.specs.Flow.{AllKnown};
 ghost use Rattle.geos_infer.specs.Reached.{AllFit};
 
 use crate::arcs::bound_of;
@@ -11,6 +12,7 @@ use crate::fitted::all_fit;
 use crate::flow::row_of;
 use crate::rounds::{Turn, flow_on};
 use crate::table::{Known, Table};
+use crate::unreached::fill;
 use geos_image::{Instr, Opcode, Row};
 use geos_verify::{fits, misuses};
 
@@ -52,18 +54,22 @@ fn all_as_good(body: &Body, found: &Known, weaker: &Known) -> bool {
     true
 }
 
-/// Makes `weaker` the rows of a routine where those of places that nothing reaches have flowed on into the places that are
-/// reached. Whether they fit along all edges, and are as good at each place that is reached: else those that were found are to
-/// stay.
+/// Finds the rows of the places that nothing reaches, and makes `weaker` the rows of a routine where those have flowed on into the
+/// places that are reached. Whether there are such places, and these rows fit along all edges, and are as good at each place that is
+/// reached: else those that were found are to stay.
 pub(crate) fn weaken(
     body: &Body,
     found: &Known,
-    others: &Known,
-    turns: &mut Table<Turn>,
     weaker: &mut Known,
+    turns: &mut Table<Turn>,
+    others: &mut Known,
 ) -> bool
-    ensures { result ≡ true → AllFit body.now.image.now body.now.r weaker.new }
+    ensures some { result ≡ true → AllKnown body.now.image.now body.now.r found.now → ⊥ }
+    ensures fit { result ≡ true → AllFit body.now.image.now body.now.r weaker.new }
 {
+    if !fill(body, found, weaker, turns, others) {
+        return false;
+    }
     for pc in body.start..body.end {
         weaker.set(pc, found.at(pc).or(others.at(pc)));
     }

@@ -29,19 +29,19 @@ returns-clause-fit c = λ e.
     kept-fits image body.r (omega (arith, body.begins, body.ends, body.some)) routine.0 routine.1 c.search.new.found (c.search.ensures.fit c.if-not-search.false) c.args.known.now c.keep-2.new.known K
 
 -- where something is known at each instruction, nothing is weakened
-pub returns-then-find_others-clause-flows : goal.returns-then-find_others-clause-flows
-returns-then-find_others-clause-flows c = λ want forward holds.
+pub returns-then-weaken-clause-flows : goal.returns-then-weaken-clause-flows
+returns-then-weaken-clause-flows c = λ want forward holds.
     let body = c.args.body.now in
     let image = body.image.now in
     let routine = item_at image.routines body.r body.there in
     let F = (c.search.ensures.flows want forward holds).1 in
     let all = all-reached image body.r forward routine.0 routine.1 want c.search.new.found F (omega (arith, code-length image, body.ends, body.room)) in
-    absurd (c.find_others.ensures.some c.if-find_others.true all)
+    absurd (c.weaken.ensures.some c.if-weaken.true all)
 
-pub returns-then-find_others-clause-fit : goal.returns-then-find_others-clause-fit
-returns-then-find_others-clause-fit c = λ e.
+pub returns-then-weaken-clause-fit : goal.returns-then-weaken-clause-fit
+returns-then-weaken-clause-fit c = λ e.
     let body = c.args.body.now in
     let image = body.image.now in
     let routine = item_at image.routines body.r body.there in
-    let K = kept-in body c.find_others.new.weaker c.args.known.now c.keep.new.known c.keep.ensures in
-    kept-fits image body.r (omega (arith, body.begins, body.ends, body.some)) routine.0 routine.1 c.find_others.new.weaker (c.find_others.ensures.fit c.if-find_others.true) c.args.known.now c.keep.new.known K
+    let K = kept-in body c.weaken.new.weaker c.args.known.now c.keep.new.known c.keep.ensures in
+    kept-fits image body.r (omega (arith, body.begins, body.ends, body.some)) routine.0 routine.1 c.weaken.new.weaker (c.weaken.ensures.fit c.if-weaken.true) c.args.known.now c.keep.new.known K
