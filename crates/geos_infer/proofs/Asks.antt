@@ -9,6 +9,7 @@ use Rattle.geos_image.specs.declared.instr.Instr.{Instr}
 use Rattle.geos_image.specs.declared.row.Row.{Row}
 use Rattle.geos_image.specs.declared.potential.Potential.{Potential}
 use Rattle.geos_image.specs.declared.point.Point.{Point}
+use Rattle.geos_image.specs.declared.routine.Routine.{Routine}
 use Rattle.geos_image.specs.Parts.{Parts}
 use Rattle.geos_verify.specs.declared.asked.Asked.{Asked}
 use Rattle.geos_verify.specs.Lists.{zip2}
@@ -23,6 +24,7 @@ use Rattle.geos_infer.specs.Edges.{leads_ahead, edge_of, edge_ahead}
 use Rattle.geos_infer.specs.Numbers.{Numbers, zeros}
 use Rattle.geos_infer.specs.Count.{edge_steps, return_steps, steps_at, ZerosFrom, asked_steps, asked_coefficients, AsksFor, HasSteps}
 use Rattle.geos_infer.specs.Solutions.{call_steps, most_steps}
+use Rattle.geos_infer.specs.Taken.{taken_at}
 use Rattle.geos_infer.proofs.Ends.{code-at}
 
 -- Where no counter counts behind an edge, it asks for steps alone
@@ -134,6 +136,10 @@ pub loop-only : (opcode : Opcode) → is_loop opcode ≡ true → opcode ≡ Loo
 loop-only Loop e = refl
 loop-only _ e = absurd (false≢true e)
 
+no-call : (opcode : Opcode) → (opcode ≡ Call → ⊥) → calls opcode ≡ false
+no-call Call other = absurd (other refl)
+no-call _ other = refl
+
 -- there is no LOOP
 pub no-loop : (image : Parts) (r : ℕ) → ForwardIn image r → (pc : ℕ) (i : Instr) → IsPcOf image r pc → pc < length image.points → IfSome (slice_get image.points pc) (λ point. i ≡ point.instr) → i.opcode ≢ Loop
 no-loop image r forward pc i within lt there =
@@ -141,24 +147,47 @@ no-loop image r forward pc i within lt there =
     let same : i ≡ found.0.instr = if_some (λ point. i ≡ point.instr) (slice_get image.points pc) found.0 found.1 there in
     forward.no_loop pc i within (code-at image pc found.0 found.1 ∙ ap (λ (x : Instr). Some x) (sym same))
 
--- a LOOP is one on its own counter
-pub loops-at : (image : Parts) (pc : ℕ) (i : Instr) → pc < length image.points → IfSome (slice_get image.points pc) (λ point. i ≡ point.instr) → is_loop i.opcode ≡ true → PassesAt image pc (λ x. loops_on i.a x x.opcode)
-loops-at image pc i lt there is =
-    let found = item_at image.points pc lt in
-    let same : i ≡ found.0.instr = if_some (λ point. i ≡ point.instr) (slice_get image.points pc) found.0 found.1 there in
-    let own : loops_on i.a i Loop ≡ true = search rules in
-    let on : loops_on i.a i i.opcode ≡ true = subst (λ (o : Opcode). loops_on i.a i o ≡ true) (sym (loop-only i.opcode is)) own in
-    (found.0, found.1, subst (λ (x : Instr). loops_on i.a x x.opcode ≡ true) same on)
+-- What is read at a pc
 
--- a call of a routine that touches a counter
-pub calls-at : (image : Parts) (k pc : ℕ) (i : Instr) → pc < length image.points → IfSome (slice_get image.points pc) (λ point. i ≡ point.instr) → i.opcode ≡ Call → touches image k i.imm ≡ true
-    → PassesAt image pc (calls_touching image k)
-calls-at image k pc i lt there is touched =
-    let found = item_at image.points pc lt in
-    let same : i ≡ found.0.instr = if_some (λ point. i ≡ point.instr) (slice_get image.points pc) found.0 found.1 there in
-    let calls_it : calls i.opcode ≡ true = ap calls is in
-    let both : calls_touching image k i ≡ true = rw (calls_it, touched) refl in
-    (found.0, found.1, subst (λ (x : Instr). calls_touching image k x ≡ true) same both)
+module _ (image : Parts) (pc : ℕ) (i : Instr) (lt : pc < length image.points) (there : IfSome (slice_get image.points pc) (λ point. i ≡ point.instr)) where
+  -- it passes a test there that it passes
+  pub passes-at : (test : Instr → Bool) → test i ≡ true → PassesAt image pc test
+  passes-at test passes =
+      let found = item_at image.points pc lt in
+      let same : i ≡ found.0.instr = if_some (λ point. i ≡ point.instr) (slice_get image.points pc) found.0 found.1 there in
+      (found.0, found.1, subst (λ (x : Instr). test x ≡ true) same passes)
+
+  -- a LOOP is one on its own counter
+  pub loops-at : is_loop i.opcode ≡ true → PassesAt image pc (λ x. loops_on i.a x x.opcode)
+  loops-at is =
+      let own : loops_on i.a i Loop ≡ true = search rules in
+      passes-at (λ x. loops_on i.a x x.opcode) (subst (λ (o : Opcode). loops_on i.a i o ≡ true) (sym (loop-only i.opcode is)) own)
+
+  -- a call of a routine that touches a counter
+  pub calls-at : (k : ℕ) → i.opcode ≡ Call → touches image k i.imm ≡ true → PassesAt image pc (calls_touching image k)
+  calls-at k is touched =
+      let calls_it : calls i.opcode ≡ true = ap calls is in
+      passes-at (calls_touching image k) (rw (calls_it, touched) refl)
+
+  -- it takes a step, and what a call takes beside it
+  taken-is : (steps : ℕ) → steps ≡ 1 + call_steps image i → steps ≡ taken_at image pc
+  taken-is steps is =
+      let found = item_at image.points pc lt in
+      let same : i ≡ found.0.instr = if_some (λ point. i ≡ point.instr) (slice_get image.points pc) found.0 found.1 there in
+      let at : taken_at image pc ≡ 1 + call_steps image found.0.instr = ap (λ (o : Option Point). elim o [ None ↦ 0 | Some point ↦ 1 + call_steps image point.instr ]) found.1 in
+      is ∙ ap (λ (x : Instr). 1 + call_steps image x) same ∙ sym at
+
+  pub taken-call : (routine : Routine) → i.opcode ≡ Call → slice_get image.routines i.imm ≡ Some routine → 1 + routine.budget ≡ taken_at image pc
+  taken-call routine is read =
+      let calls_it : calls i.opcode ≡ true = ap calls is in
+      let budget : budget_of image i.imm ≡ routine.budget = ap (λ (o : Option Routine). elim o [ None ↦ 0 | Some x ↦ x.budget ]) read in
+      let steps : call_steps image i ≡ routine.budget = rw calls_it budget in
+      taken-is (1 + routine.budget) (ap (λ (n : ℕ). 1 + n) (sym steps))
+
+  pub taken-else : (i.opcode ≡ Call → ⊥) → 1 ≡ taken_at image pc
+  taken-else other =
+      let steps : call_steps image i ≡ 0 = rw (no-call i.opcode other) refl in
+      taken-is 1 (ap (λ (n : ℕ). 1 + n) (sym steps))
 
 -- Both edges of an instruction
 
