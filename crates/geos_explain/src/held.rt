@@ -2,7 +2,7 @@
 
 ghost use Rattle.std.specs.Prelude.{◌≡◌, ◌<◌, ◌++◌, OnOk, length};
 ghost use Rattle.geos_explain.specs.Places.{IsPlace, place_of};
-ghost use Rattle.geos_explain.specs.Held.{is_held_at, slot_at, slots_at, fills_at, fills_here, also, since_below, since_text, since_at, sinces_at, also_wanted, else_wanted, kept_words, unmet_words, exit_words};
+ghost use Rattle.geos_explain.specs.Held.{is_held_at, slot_at, slots_at, fills_at, fills_here, also, since_below, since_at, sinces_at, also_wanted, else_wanted, kept_words, unmet_words, exit_words};
 
 use crate::lacks::{lacking, put_lacking};
 use crate::numbers::is_or_are;
@@ -128,14 +128,19 @@ fn held_since(place: &Place, a: u8) -> Since
     since
 }
 
-/// Since where the slot is held; of several places, one.
-fn put_since_text(out: &mut Vec<u8>, lines: &[usize], a: u8, s: Since) -> Result<(), AllocError>
-    ensures { OnOk result (out.new.items ≡ out.old.items ++ since_text lines.now a s) }
+/// Since where a slot is held that must not be; of several places, one.
+#[tactic(auto, unfolding(crate::specs::Held::since_at))]
+fn put_since_at(out: &mut Vec<u8>, which: HeldAt, place: &Place, a: u8) -> Result<(), AllocError>
+    requires { IsPlace (place_of place.now) }
+    ensures { OnOk result (out.new.items ≡ out.old.items ++ since_at which (place_of place.now) a) }
 {
-    let (since, behind) = match s {
+    if !is_held_at(which, place, a) {
+        return Ok(());
+    }
+    let (since, behind) = match held_since(place, a) {
         Since::Nowhere => (Part::Text(" the in line"), ""),
-        Since::Once(from) => (Part::Pc(lines, from), ""),
-        Since::Often(last) => (Part::Pc(lines, last), " or another place"),
+        Since::Once(from) => (Part::Pc(place.lines, from), ""),
+        Since::Often(last) => (Part::Pc(place.lines, last), " or another place"),
     };
     put_parts(
         out,
@@ -147,19 +152,6 @@ fn put_since_text(out: &mut Vec<u8>, lines: &[usize], a: u8, s: Since) -> Result
             Part::Text(behind),
         ],
     )
-}
-
-/// The same of a slot that is held and must not be.
-#[tactic(auto, unfolding(crate::specs::Held::since_at))]
-fn put_since_at(out: &mut Vec<u8>, which: HeldAt, place: &Place, a: u8) -> Result<(), AllocError>
-    requires { IsPlace (place_of place.now) }
-    ensures { OnOk result (out.new.items ≡ out.old.items ++ since_at which (place_of place.now) a) }
-{
-    if is_held_at(which, place, a) {
-        put_since_text(out, place.lines, a, held_since(place, a))
-    } else {
-        Ok(())
-    }
 }
 
 /// The same of each slot.

@@ -3,7 +3,7 @@
 ghost use Rattle.std.specs.Prelude.{◌≡◌, ◌++◌, OnOk};
 ghost use Rattle.geos_explain.specs.Places.{IsPlace, place_of};
 ghost use Rattle.geos_explain.specs.declared.ways.Way.TheVariants.{Along};
-ghost use Rattle.geos_explain.specs.Stale.{if_stale, stale_used, pointer_item, is_refusable, refused_on, way_text, meeting_place, known_from, not_from, meeting_item, named, name_at, call_loss, moved_words, use_loss, how_lost, lost_by, label_wish, refused_at, unset_words, unreached_words, merged_words, loss_words, trace_item, stale_words};
+ghost use Rattle.geos_explain.specs.Stale.{if_stale, stale_used, pointer_item, refused_on, way_text, meeting_place, known_from, not_from, meeting_item, named, name_at, call_loss, moved_words, use_loss, how_lost, lost_by, label_wish, refused_at, unset_words, unreached_words, merged_words, loss_words, trace_item, stale_words};
 
 use crate::edges::Edge;
 use crate::numbers::put_pc;
@@ -50,23 +50,16 @@ fn put_pointer(out: &mut Vec<u8>, pointer: Option<u8>) -> Result<(), AllocError>
     }
 }
 
-/// Whether the instruction at the pc can be refused, and goes to its label then.
+/// The pc of the instruction whose refusal the way is, if it is one: it can be refused, and goes to its label then.
 #[tactic(auto, unfolding(crate::specs::Stale::is_refusable))]
-fn is_refusable(image: &Image, from: u16) -> bool
-    ensures { result ≡ is_refusable image.now from }
-{
-    match point_at(image, from) {
-        Some(point) => point.instr.opcode.operands().refusable,
-        None => false,
-    }
-}
-
-/// The pc of the instruction whose refusal the way is, if it is one.
 fn refused_on(image: &Image, way: Way) -> Option<u16>
     ensures { result ≡ refused_on image.now way }
 {
     match way {
-        Way::Along(edge) if edge.branch && is_refusable(image, edge.from) => Some(edge.from),
+        Way::Along(edge) if edge.branch => match point_at(image, edge.from) {
+            Some(point) if point.instr.opcode.operands().refusable => Some(edge.from),
+            _ => None,
+        },
         _ => None,
     }
 }

@@ -2,7 +2,7 @@
 
 ghost use Rattle.std.specs.Prelude.{◌≡◌, ◌<◌, ◌++◌, OnOk, IfOk, length};
 ghost use Rattle.geos_explain.specs.Places.{explained_of};
-ghost use Rattle.geos_explain.specs.Texts.{last_begun, noted_of, noted_at, is_line_of, numbered, line_text, next_pc, text_explanation};
+ghost use Rattle.geos_explain.specs.Texts.{last_begun, noted_at, is_line_of, numbered, line_text, next_pc, text_explanation};
 
 use crate::explained::Explained;
 use crate::explanation::put_noted;
@@ -28,35 +28,8 @@ fn last_begun(image: &Image, pc: u16) -> Option<u16>
     last
 }
 
-/// What is said of the instruction at a pc of a routine.
-#[tactic(auto, unfolding(crate::specs::Texts::noted_of))]
-fn put_noted_of(
-    alloc: Global,
-    out: &mut Vec<u8>,
-    explained: &Explained,
-    pc: u16,
-    r: u16,
-) -> Result<(), AllocError>
-    requires { pc < length explained.now.image.now.points }
-    ensures { OnOk result (out.new.items ≡ out.old.items ++ noted_of (explained_of explained.now) pc r) }
-{
-    if r < explained.image.count() {
-        let routine = explained.image.routine(r);
-        let _start = explained.image.start(r);
-        let within = ExplainedRoutine {
-            explained,
-            r,
-            routine,
-        };
-        let place = place_at(&within, pc);
-        put_noted(alloc, out, explained.reject, &place)
-    } else {
-        Ok(())
-    }
-}
-
-/// The same of the routine that the pc lies in.
-#[tactic(auto, unfolding(crate::specs::Texts::noted_at))]
+/// What is said of the instruction at a pc of the routine that it lies in.
+#[tactic(auto, unfolding(crate::specs::Texts::noted_at, crate::specs::Texts::noted_of))]
 fn put_noted_at(
     alloc: Global,
     out: &mut Vec<u8>,
@@ -66,10 +39,21 @@ fn put_noted_at(
     requires { pc < length explained.now.image.now.points }
     ensures { OnOk result (out.new.items ≡ out.old.items ++ noted_at (explained_of explained.now) pc) }
 {
-    match last_begun(explained.image, pc) {
-        Some(r) => put_noted_of(alloc, out, explained, pc, r),
-        None => Ok(()),
+    let Some(r) = last_begun(explained.image, pc) else {
+        return Ok(());
+    };
+    if r >= explained.image.count() {
+        return Ok(());
     }
+    let routine = explained.image.routine(r);
+    let _start = explained.image.start(r);
+    let within = ExplainedRoutine {
+        explained,
+        r,
+        routine,
+    };
+    let place = place_at(&within, pc);
+    put_noted(alloc, out, explained.reject, &place)
 }
 
 /// Whether the table has the line as that of the instruction at the pc.

@@ -3,7 +3,7 @@
 ghost use Rattle.std.specs.Prelude.{◌≡◌, Some, slice_get};
 ghost use Rattle.geos_explain.specs.Places.{IsPlace, place_of};
 ghost use Rattle.geos_explain.specs.Lost.{WhatIsSaidHolds};
-ghost use Rattle.geos_explain.specs.Trace.{meeting_at, end_at, passed, hint_at, back_by, back_along, back_from, next_round, rounds, begun, along_lost, traced};
+ghost use Rattle.geos_explain.specs.Trace.{meeting_at, end_at, passed, hint_at, back_by, back_along, back_from, next_round, rounds, along_lost, traced};
 
 use crate::arrivals::{Arrivals, all_arrivals, arrival};
 use crate::edges::{Edge, end_of};
@@ -198,24 +198,6 @@ fn step_rounds(trace: &mut Trace, place: &Place, p: u8)
     }
 }
 
-/// The place itself is passed.
-fn begun(place: &Place, p: u8) -> Trace
-    requires { IsPlace (place_of place.now) }
-    ensures { result ≡ begun (place_of place.now) p }
-{
-    let mut trace = Trace {
-        arrivals: all_arrivals(place, p),
-        passed: no_marks(),
-        goes_on: false,
-        found: false,
-        meeting: None,
-        end: None,
-        lost: None,
-    };
-    pass(&mut trace, place, p, place.pc);
-    trace
-}
-
 /// A step back along a way that does not bring the pointer, unless it is known why not; nothing else was passed before.
 #[tactic(auto, unfolding(crate::specs::Trace::aside))]
 fn step_along_lost(trace: &mut Trace, place: &Place, p: u8, lost: Way)
@@ -243,7 +225,16 @@ pub(crate) fn traced(place: &Place, p: u8) -> Trace
     requires { IsPlace (place_of place.now) }
     ensures { result ≡ traced (place_of place.now) p }
 {
-    let mut trace = begun(place, p);
+    let mut trace = Trace {
+        arrivals: all_arrivals(place, p),
+        passed: no_marks(),
+        goes_on: false,
+        found: false,
+        meeting: None,
+        end: None,
+        lost: None,
+    };
+    pass(&mut trace, place, p, place.pc);
     step_rounds(&mut trace, place, p);
     match trace.meeting {
         Some(meeting) => {

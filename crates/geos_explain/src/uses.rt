@@ -275,12 +275,20 @@ pub(crate) fn put_unmarked(out: &mut Vec<u8>, i: &Instr, row: &Row) -> Result<()
 }
 
 /// A block is locked into a slot that is held.
-#[tactic(auto, unfolding(crate::specs::Uses::held_words))]
+#[tactic(auto, unfolding(crate::specs::Uses::held_words, crate::specs::Uses::state_item))]
 pub(crate) fn put_held(out: &mut Vec<u8>, i: &Instr, row: &Row) -> Result<(), AllocError>
     ensures { OnOk result (out.new.items ≡ out.old.items ++ held_words i.now row.now) }
 {
-    put_state(out, i.a, row)?;
-    out.extend_from_slice(b" is held here, and an empty slot is wanted")
+    put_parts(
+        out,
+        &[
+            Part::Text(" s"),
+            Part::Register(i.a),
+            Part::Text("="),
+            Part::Text(state_word(slot_state(row, i.a))),
+            Part::Text(" is held here, and an empty slot is wanted"),
+        ],
+    )
 }
 
 /// What the instruction wants of its slot, or of two.

@@ -3,7 +3,7 @@
 ghost use Rattle.std.specs.Prelude.{◌≡◌, ◌<◌, ◌+◌, ◌++◌, ◌&&◌, OnOk};
 ghost use Rattle.geos_explain.specs.Places.{IsPlace, place_of};
 ghost use Rattle.geos_explain.specs.Parts.{part_text};
-ghost use Rattle.geos_explain.specs.Words.{leaves_words, entry_words, callee_words, call_here, wanted_behind, wanted_words, branching_words, edge_words, words, refusal_head, refusal_line};
+ghost use Rattle.geos_explain.specs.Words.{leaves_words, entry_words, call_here, wanted_behind, wanted_words, branching_words, edge_words, words, refusal_head, refusal_line};
 
 use crate::held::put_exit;
 use crate::lacks::put_lacking;
@@ -88,41 +88,29 @@ fn put_wanted<'a>(
     )
 }
 
-/// The routine that is called does not stand before that of the place, or its entry row wants more than the row says.
-fn put_callee(
-    alloc: Global,
-    out: &mut Vec<u8>,
-    place: &Place,
-    callee: &Routine,
-) -> Result<(), AllocError>
-    ensures { OnOk result (out.new.items ≡ out.old.items ++ callee_words (place_of place.now) callee.now) }
-{
-    if place.i.imm < place.r {
-        let mut items = Vec::new(alloc);
-        put_lacking(&mut items, place.row, &callee.entry)?;
-        put_wanted(out, &items, " wanted by ", Part::Bytes(callee.name_text()))
-    } else {
-        put_parts(
-            out,
-            &[
-                Part::Text(" "),
-                Part::Bytes(callee.name_text()),
-                Part::Text(" does not stand before this routine"),
-            ],
-        )
-    }
-}
-
-/// The same of the routine that a call names.
+/// The routine that a call names does not stand before that of the place, or its entry row wants more than the row says.
 #[tactic(auto, unfolding(crate::specs::Words::call_here))]
 fn put_call(alloc: Global, out: &mut Vec<u8>, place: &Place) -> Result<(), AllocError>
     requires { IsPlace (place_of place.now) }
     ensures { OnOk result (out.new.items ≡ out.old.items ++ call_here (place_of place.now)) }
 {
-    match place.i.opcode {
-        Opcode::Call => put_callee(alloc, out, place, place.image.routine(place.i.imm)),
-        _ => Ok(()),
+    let Opcode::Call = place.i.opcode else {
+        return Ok(());
+    };
+    let callee = place.image.routine(place.i.imm);
+    if place.i.imm < place.r {
+        let mut items = Vec::new(alloc);
+        put_lacking(&mut items, place.row, &callee.entry)?;
+        return put_wanted(out, &items, " wanted by ", Part::Bytes(callee.name_text()));
     }
+    put_parts(
+        out,
+        &[
+            Part::Text(" "),
+            Part::Bytes(callee.name_text()),
+            Part::Text(" does not stand before this routine"),
+        ],
+    )
 }
 
 /// What the row at the pc to which the instruction goes along an edge wants, and what is known behind it does not say; nothing
