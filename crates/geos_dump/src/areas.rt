@@ -8,7 +8,7 @@ ghost use Rattle.vm_file.specs.Reading.{is_second};
 use vm_file::{Device, Disk};
 
 /// The two areas of a file.
-#[derive(Clone, Copy, Debug, PartialEq, Eq)]
+#[derive(Clone, Copy)]
 pub struct Areas {
     /// The size of each, in bytes.
     pub size: u32,

@@ -7,7 +7,7 @@ use thiserror::Error;
 use vm_file::Disk;
 
 /// Why a file was not told.
-#[derive(Clone, Copy, Debug, Drop, PartialEq, Eq, Error)]
+#[derive(Clone, Copy, Debug, Drop, Error)]
 pub enum DumpError {
     /// The device failed, or gave bytes that are no heap under the block's handle.
     #[error("disk")]

@@ -16,7 +16,7 @@ use std::alloc::{AllocError, Global};
 use vm_file::{Device, Directory, VmFile};
 
 /// How much is told of a block.
-#[derive(Clone, Copy, Debug, PartialEq, Eq)]
+#[derive(Clone, Copy)]
 pub enum Detail {
     /// A line for each block.
     Lines,
