@@ -1,8 +1,8 @@
 //! Bytes in hexadecimal, as `xxd` prints them.
 
-ghost use Rattle.std.specs.Prelude.{◌≡◌, ◌+◌, ◌*◌, ◌<◌, ◌≤◌, ◌^◌, ◌++◌, OnOk, flat_map, length, map};
+ghost use Rattle.std.specs.Prelude.{◌≡◌, ◌+◌, ◌*◌, ◌<◌, ◌≤◌, ◌^◌, ◌++◌, OnOk, codes, flat_map, length, map, slice_get};
 ghost use Rattle.std.specs.List.{range_with_len};
-ghost use Rattle.geos_dump.specs.HexLines.{column_text, digits_of, hex_line, hex_lines, offset_text, shown};
+ghost use Rattle.geos_dump.specs.HexLines.{cell_text, column_text, digits_of, hex_line, hex_lines, offset_text, shown};
 
 use std::alloc::AllocError;
 
@@ -13,14 +13,13 @@ const DIGITS: [u8; 16] = *b"0123456789abcdef";
 const BYTES_IN_LINE: usize = 16;
 
 /// The two digits of a byte.
-fn put_digits(out: &mut Vec<u8>, byte: u8) -> Result<(), AllocError>
-    ensures { OnOk result (out.new.items ≡ out.old.items ++ digits_of byte) }
+fn digits_of(byte: u8) -> [u8; 2]
+    ensures { result ≡ digits_of byte }
 {
-    let digits = [
+    [
         DIGITS[usize::from(byte / 16)],
         DIGITS[usize::from(byte % 16)],
-    ];
-    out.extend_from_slice(&digits)
+    ]
 }
 
 /// The offset of a line's first byte, in eight digits.
@@ -28,34 +27,41 @@ fn put_offset(out: &mut Vec<u8>, at: usize) -> Result<(), AllocError>
     requires { at < 65536 }
     ensures { OnOk result (out.new.items ≡ out.old.items ++ offset_text at) }
 {
-    out.extend_from_slice(b"0000")?;
-    put_digits(out, (at / 256) as u8)?;
-    put_digits(out, (at % 256) as u8)?;
-    out.extend_from_slice(b": ")
+    let [a, b] = digits_of((at / 256) as u8);
+    let [c, d] = digits_of((at % 256) as u8);
+    out.extend_from_slice(&[b'0', b'0', b'0', b'0', a, b, c, d, b':', b' '])
 }
 
-/// The column of a line with a number: its byte, or blanks where there is none.
+/// The digits of the byte with a number, or blanks where there is none.
+fn cell_of(bytes: &[u8], k: usize) -> [u8; 2]
+    ensures { result ≡ cell_text (slice_get bytes.now k) }
+{
+    match bytes.get(k) {
+        Some(byte) => digits_of(*byte),
+        None => *b"  ",
+    }
+}
+
+/// The column of a line with a number.
 fn put_column(out: &mut Vec<u8>, bytes: &[u8], k: usize) -> Result<(), AllocError>
     ensures { OnOk result (out.new.items ≡ out.old.items ++ column_text bytes.now k) }
 {
-    match bytes.get(k) {
-        Some(byte) => put_digits(out, *byte)?,
-        None => out.extend_from_slice(b"  ")?,
-    }
+    out.extend_from_slice(&cell_of(bytes, k))?;
     if k % 2 == 1 {
-        out.extend_from_slice(b" ")?;
+        out.extend_from_slice(b" ")
+    } else {
+        Ok(())
     }
-    Ok(())
 }
 
-/// The columns of a line.
+/// The columns of a line, and a blank.
 fn put_columns(out: &mut Vec<u8>, bytes: &[u8]) -> Result<(), AllocError>
-    ensures { OnOk result (out.new.items ≡ out.old.items ++ flat_map (column_text bytes.now) (range_with_len 0 16)) }
+    ensures { OnOk result (out.new.items ≡ out.old.items ++ flat_map (column_text bytes.now) (range_with_len 0 16) ++ codes " ") }
 {
     for k in 0..BYTES_IN_LINE {
         put_column(out, bytes, k)?;
     }
-    Ok(())
+    out.extend_from_slice(b" ")
 }
 
 /// A byte as a line shows it: itself where it can be printed.
@@ -69,14 +75,14 @@ fn shown(byte: u8) -> u8
     }
 }
 
-/// The bytes of a line, as they are shown.
+/// The bytes of a line as they are shown, and its end.
 fn put_shown(out: &mut Vec<u8>, bytes: &[u8]) -> Result<(), AllocError>
-    ensures { OnOk result (out.new.items ≡ out.old.items ++ map shown bytes.now) }
+    ensures { OnOk result (out.new.items ≡ out.old.items ++ map shown bytes.now ++ codes "\n") }
 {
     for byte in bytes {
         out.push(shown(*byte))?;
     }
-    Ok(())
+    out.extend_from_slice(b"\n")
 }
 
 /// A line of at most 16 bytes, of which the first stands at an offset.
@@ -86,9 +92,7 @@ fn put_hex_line(out: &mut Vec<u8>, at: usize, bytes: &[u8]) -> Result<(), AllocE
 {
     put_offset(out, at)?;
     put_columns(out, bytes)?;
-    out.extend_from_slice(b" ")?;
-    put_shown(out, bytes)?;
-    out.extend_from_slice(b"\n")
+    put_shown(out, bytes)
 }
 
 /// Bytes, sixteen in a line.
