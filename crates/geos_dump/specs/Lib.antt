@@ -1,3 +1,4 @@
+pub mod Parts
 pub mod HexLines
 pub mod DumpText
 pub mod Sides

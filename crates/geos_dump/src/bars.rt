@@ -4,12 +4,13 @@ ghost use Rattle.std.specs.Prelude.{◌≡◌};
 
 use std::alloc::AllocError;
 
-/// A bar of so many columns, of which the first ones are used.
+/// A bar of so many columns, of which the first ones are used, from a blank to the end of its line.
 pub(crate) fn put_bar(out: &mut Vec<u8>, used: usize, columns: usize) -> Result<(), AllocError> {
+    out.push(b' ')?;
     for k in 0..columns {
         out.push(if k < used { b'#' } else { b'.' })?;
     }
-    Ok(())
+    out.extend_from_slice(b"\n")
 }
 
 /// The columns that a part of a whole takes, where the whole takes so many; one at least.

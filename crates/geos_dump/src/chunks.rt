@@ -7,7 +7,7 @@ ghost use Rattle.geos_model.specs.Heap.{IsHeap};
 ghost use Rattle.geos_dump.specs.DumpText.{chunks_from, chunk_dump, chunk_text};
 
 use crate::hex::put_hex_lines;
-use crate::numbers::put_numbered;
+use crate::parts::{Part, put_parts};
 use lmem_block::{locate, next};
 use std::alloc::AllocError;
 
@@ -27,8 +27,15 @@ fn bytes_of(block: &[u8], c: u16) -> &[u8]
 fn put_chunk(out: &mut Vec<u8>, c: u16, bytes: &[u8]) -> Result<(), AllocError>
     ensures { OnOk result (out.new.items ≡ out.old.items ++ chunk_text (record { c = c; bytes = bytes.now })) }
 {
-    put_numbered(out, " ", usize::from(c))?;
-    put_numbered(out, ":", bytes.len())
+    put_parts(
+        out,
+        &[
+            Part::Text(" "),
+            Part::Number(usize::from(c)),
+            Part::Text(":"),
+            Part::Number(bytes.len()),
+        ],
+    )
 }
 
 /// The handle and the length of each chunk of a block.
@@ -49,8 +56,14 @@ fn put_chunk_dump(out: &mut Vec<u8>, c: u16, bytes: &[u8]) -> Result<(), AllocEr
     requires { length bytes.now < 65536 }
     ensures { OnOk result (out.new.items ≡ out.old.items ++ chunk_dump (record { c = c; bytes = bytes.now })) }
 {
-    put_numbered(out, "chunk ", usize::from(c))?;
-    out.extend_from_slice(b"\n")?;
+    put_parts(
+        out,
+        &[
+            Part::Text("chunk "),
+            Part::Number(usize::from(c)),
+            Part::Text("\n"),
+        ],
+    )?;
     put_hex_lines(out, bytes)
 }
 

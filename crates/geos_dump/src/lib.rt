@@ -7,7 +7,7 @@ mod bars;
 mod chunks;
 mod error;
 mod hex;
-mod numbers;
+mod parts;
 mod picture;
 mod sides;
 mod text;

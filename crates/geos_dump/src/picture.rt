@@ -9,8 +9,8 @@ ghost use Rattle.geos_dump.specs.Sides.{Causes, IsOnlyRead, directory_on};
 use crate::areas::Areas;
 use crate::bars::{columns_of, put_bar, put_number_right, put_right};
 use crate::error::DumpError;
-use crate::numbers::put_numbered;
-use crate::sides::{Listed, Side, count, directory, entry_at, read_block};
+use crate::parts::{Part, put_parts};
+use crate::sides::{Listed, Side, count, directory, entry_at, read_block, word_of};
 use crate::text::put_directory_line;
 use geos_model::MOST_BLOCK_BYTES;
 use lmem_block::total_free;
@@ -49,27 +49,24 @@ fn longest<D: Device + Drop>(file: &VmFile<D>, side: Side) -> u16 {
     sizes.max().unwrap_or(0)
 }
 
-/// The name of the area that is read.
-fn name_of(areas: Areas) -> &'static str {
-    if areas.second { "B" } else { "A" }
-}
-
-/// The line of the areas: which one is read, and how much of it the pair takes.
-fn put_areas(out: &mut Vec<u8>, areas: Areas, pair: u32) -> Result<(), AllocError> {
-    put_numbered(out, "areas of ", areas.size as usize)?;
-    out.extend_from_slice(b" bytes, ")?;
-    out.extend_from_slice(name_of(areas).as_bytes())?;
-    put_numbered(out, " is read, ", pair as usize)?;
-    out.extend_from_slice(b" taken\n")
-}
-
-/// The bar of the area that is read, of which the pair takes so many bytes.
+/// The line of the area that is read, and its bar, of which the pair takes so many bytes.
 fn put_area(out: &mut Vec<u8>, areas: Areas, pair: u32, width: u16) -> Result<(), AllocError> {
     let columns = usize::from(width.saturating_sub(2));
-    out.extend_from_slice(name_of(areas).as_bytes())?;
-    out.extend_from_slice(b" ")?;
-    put_bar(out, columns_of(pair, areas.size, columns), columns)?;
-    out.extend_from_slice(b"\n")
+    let name = if areas.second { "B" } else { "A" };
+    put_parts(
+        out,
+        &[
+            Part::Text("areas of "),
+            Part::Number(areas.size as usize),
+            Part::Text(" bytes, "),
+            Part::Text(name),
+            Part::Text(" is read, "),
+            Part::Number(pair as usize),
+            Part::Text(" taken\n"),
+            Part::Text(name),
+        ],
+    )?;
+    put_bar(out, columns_of(pair, areas.size, columns), columns)
 }
 
 /// The line of a block of which so many bytes are used.
@@ -84,9 +81,7 @@ fn put_row(out: &mut Vec<u8>, entry: Entry, used: u16, scale: Scale) -> Result<(
     }
     put_number_right(out, 6, entry.len)?;
     put_number_right(out, 6, used)?;
-    out.extend_from_slice(b" ")?;
-    put_bar(out, columns_of(u32::from(used), size, columns), columns)?;
-    out.extend_from_slice(b"\n")
+    put_bar(out, columns_of(u32::from(used), size, columns), columns)
 }
 
 /// The bytes of a block that are not free.
@@ -149,7 +144,7 @@ fn put_directory<D: Device + Drop>(
     ensures cause { Causes (D.medium.honest file.old.device) (D.medium.failed file.old.device) (D.medium.failed file.new.device) result }
 {
     out.extend_from_slice(b"\n")?;
-    put_directory_line(out, side, directory(file, side))?;
+    put_directory_line(out, word_of(side), directory(file, side))?;
     if count(file, side) > 0 {
         out.extend_from_slice(b"handle   uid  size  used\n")?;
     }
@@ -185,7 +180,6 @@ pub fn map<D: Device + Drop>(
     let mut buffer = vec![in alloc; 0u8; MOST_BLOCK_BYTES]?;
     let mut out = Vec::new(alloc);
     let pair = taken(file, Side::Current) + taken(file, Side::Saved);
-    put_areas(&mut out, areas, pair)?;
     put_area(&mut out, areas, pair, width)?;
     put_directory(&mut out, file, Side::Current, scale, &mut buffer)?;
     put_directory(&mut out, file, Side::Saved, scale, &mut buffer)?;

@@ -9,7 +9,7 @@ ghost use Rattle.geos_dump.specs.Sides.{Causes, IsOnlyRead, block_of, contents_o
 
 use crate::chunks::{put_chunk_dumps, put_chunks};
 use crate::error::DumpError;
-use crate::numbers::put_numbered;
+use crate::parts::{Part, put_parts};
 use crate::sides::{Listed, Side, count, directory, entry_at, read_block, word_of};
 use geos_model::MOST_BLOCK_BYTES;
 use std::alloc::{AllocError, Global};
@@ -29,10 +29,17 @@ fn put_block_line(out: &mut Vec<u8>, h: u16, uid: u16, bytes: &[u8]) -> Result<(
     requires { IsHeap bytes.now }
     ensures { OnOk result (out.new.items ≡ out.old.items ++ block_line (record { h = h; uid = uid; bytes = bytes.now })) }
 {
-    put_numbered(out, "", usize::from(h))?;
-    put_numbered(out, " uid ", usize::from(uid))?;
-    put_numbered(out, " size ", bytes.len())?;
-    out.extend_from_slice(b" chunks")?;
+    put_parts(
+        out,
+        &[
+            Part::Number(usize::from(h)),
+            Part::Text(" uid "),
+            Part::Number(usize::from(uid)),
+            Part::Text(" size "),
+            Part::Number(bytes.len()),
+            Part::Text(" chunks"),
+        ],
+    )?;
     put_chunks(out, bytes)?;
     out.extend_from_slice(b"\n")
 }
@@ -77,20 +84,28 @@ fn put_block<D: Device + Drop>(
     Ok(())
 }
 
-/// The line of the directory on a side.
+/// The line of a directory, behind a word.
 pub(crate) fn put_directory_line(
     out: &mut Vec<u8>,
-    side: Side,
+    word: &str,
     directory: &Directory,
 ) -> Result<(), AllocError>
-    ensures { OnOk result (out.new.items ≡ out.old.items ++ directory_line (side_word side) directory.now) }
+    ensures { OnOk result (out.new.items ≡ out.old.items ++ directory_line word.now directory.now) }
 {
     let (group, item) = directory.map_item;
-    out.extend_from_slice(word_of(side).as_bytes())?;
-    put_numbered(out, " map ", usize::from(directory.map_block))?;
-    put_numbered(out, " item ", usize::from(group))?;
-    put_numbered(out, " ", usize::from(item))?;
-    out.extend_from_slice(b"\n")
+    put_parts(
+        out,
+        &[
+            Part::Text(word),
+            Part::Text(" map "),
+            Part::Number(usize::from(directory.map_block)),
+            Part::Text(" item "),
+            Part::Number(usize::from(group)),
+            Part::Text(" "),
+            Part::Number(usize::from(item)),
+            Part::Text("\n"),
+        ],
+    )
 }
 
 /// The blocks of a directory.
@@ -128,7 +143,7 @@ fn put_directory<D: Device + Drop>(
     ensures looks { IsOnlyRead D.medium file.old file.new }
     ensures cause { Causes (D.medium.honest file.old.device) (D.medium.failed file.old.device) (D.medium.failed file.new.device) result }
 {
-    put_directory_line(out, side, directory(file, side))?;
+    put_directory_line(out, word_of(side), directory(file, side))?;
     put_blocks(out, detail, file, side, buffer)
 }
 

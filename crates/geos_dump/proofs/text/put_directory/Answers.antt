@@ -12,5 +12,5 @@ returns-clause-text g c = λ h.
     let line = directory_line word c.directory.result.now in
     let blocks = flat_map (block_text c.args.detail) (contents_on c.args.side (pair_of g.D.Device.medium.image c.args.file.now)).blocks in
     on_ok_weaker c.put_blocks.result
-    (λ e. e ∙ ap (λ t. t ++ blocks) c.in_ok-put_directory_line.ensures ∙ append_assoc out line blocks ∙ ap (λ d. out ++ (directory_line word d ++ blocks)) (sym c.directory.ensures.lists))
+    (λ e. e ∙ ap (λ t. t ++ blocks) (c.in_ok-put_directory_line.ensures ∙ ap (λ w. out ++ directory_line w c.directory.result.now) c.word_of.ensures) ∙ append_assoc out line blocks ∙ ap (λ d. out ++ (directory_line word d ++ blocks)) (sym c.directory.ensures.lists))
     (c.put_blocks.ensures.text h)
