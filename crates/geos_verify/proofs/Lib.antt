@@ -4,3 +4,4 @@ pub mod Four
 pub mod Noted
 pub mod Passed
 pub mod Places
+pub mod Within
