@@ -57,6 +57,15 @@ struct Tables {
     ways: Ways,
 }
 
+impl Tables {
+    fn new(alloc: Global) -> Result<Tables, AllocError> {
+        Ok(Tables {
+            into: Table::new(alloc, WaysIn::with_left(0))?,
+            ways: Ways::new(alloc, Place::NOTHING)?,
+        })
+    }
+}
+
 /// The potentials of a routine are the steps of the longest ways, and what units pay for; `false` where a number is past
 /// what a potential can say.
 fn put_ways(body: &Body, ways: &Ways, potentials: &mut Potentials) -> bool {
@@ -133,10 +142,7 @@ fn count_all(
     ensures within { IfOk result (λ left. IfSome left (λ r. r < routines)) }
     ensures none { IfOk result (λ left. IfSome left (NoStepsHoldIn image.now)) }
 {
-    let mut tables = Tables {
-        into: Table::new(alloc, WaysIn::with_left(0))?,
-        ways: Ways::new(alloc, Place::NOTHING)?,
-    };
+    let mut tables = Tables::new(alloc)?;
     let touched = find_touched(image);
     let mut left = None;
     for r in (0..routines).rev() {

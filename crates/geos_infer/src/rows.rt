@@ -27,6 +27,17 @@ struct Tables {
     turns: Table<Turn>,
 }
 
+impl Tables {
+    fn new(alloc: Global) -> Result<Tables, AllocError> {
+        Ok(Tables {
+            found: Known::new(alloc, None)?,
+            others: Known::new(alloc, None)?,
+            from: Known::new(alloc, None)?,
+            turns: Table::new(alloc, Turn::NONE)?,
+        })
+    }
+}
+
 /// Finds what is known in a routine wherever control reaches; `false` where two rows have no join.
 fn search(body: &Body, from: &mut Known, turns: &mut Table<Turn>, found: &mut Known) -> bool
     ensures flows { FlowsAnew body.now.image.now body.now.r found.new result }
@@ -91,12 +102,7 @@ fn find_all_rows(alloc: Global, image: &Image, known: &mut Known) -> Result<u16,
     ensures none { IfOk result (λ count. count < length image.now.routines → NoRowsHoldIn image.now count) }
     ensures fit { IfOk result (λ count. (r : ℕ) → r < count → FitWhereReached image.now r known.new) }
 {
-    let mut tables = Tables {
-        found: Known::new(alloc, None)?,
-        others: Known::new(alloc, None)?,
-        from: Known::new(alloc, None)?,
-        turns: Table::new(alloc, Turn::NONE)?,
-    };
+    let mut tables = Tables::new(alloc)?;
     for r in 0..image.count() {
         if !find_rows_in(&body_of(image, r), &mut tables, known) {
             return Ok(r);
