@@ -1,12 +1,13 @@
 -- What is known at places comes there.
-use Rattle.std.proofs.Common.{◌≡◌, ℕ, ◌<◌, List, ◌∷◌, length, Option, Some, None, set, sym, ap, ◌∙◌, subst, inl, inr}
+use Rattle.std.proofs.Common.{◌≡◌, ℕ, ◌<◌, Bool, List, ◌∷◌, length, Option, Some, None, set, sym, ap, ◌∙◌, subst, inl, inr}
 use Rattle.std.proofs.lemmas.Bool.{cases_eq, cases_lt}
 use Rattle.std.proofs.lemmas.List.{get_or-set_same, get_or-set_other, set_past}
 use Rattle.geos_image.specs.declared.row.Row.{Row}
 use Rattle.geos_image.specs.Parts.{Parts}
+use Rattle.geos_verify.specs.Rows.{after}
 use Rattle.geos_infer.specs.Flow.{known_at}
 use Rattle.geos_infer.specs.declared.edges.Edge.{Edge}
-use Rattle.geos_infer.specs.Why.{Comes, ComesBy, IsComing, AllCome}
+use Rattle.geos_infer.specs.Why.{LeadsTo, Comes, ComesBy, AllCome}
 
 some-row : (x y : Row) → Some x ≡ Some y → x ≡ y
 some-row x y e = cc
@@ -29,7 +30,7 @@ all_come-set image r known to row all comes = elim (cases_lt to (length known)) 
 ]
 
 -- what comes along an edge comes to where it leads
-comes-by : (image : Parts) (r : ℕ) (edge : Edge) (row : Row) → ComesBy image r edge row → Comes image r edge.to row
+pub comes-by : (image : Parts) (r : ℕ) (edge : Edge) (row : Row) → ComesBy image r edge row → Comes image r edge.to row
 comes-by image r edge row by = record {
   routine = by.comes.routine;
   there = by.comes.there;
@@ -37,7 +38,11 @@ comes-by image r edge row by = record {
   way = (by.before, by.comes.way, by.leads, by.row_is);
 }
 
--- and what comes to a place, along an edge or at the beginning, does
-pub comes-in : (image : Parts) (r to : ℕ) (from : Option Edge) (row : Row) → IsComing image r to (record { from = from; row = row }) → Comes image r to row
-comes-in image r to None row comes = comes
-comes-in image r to (Some edge) row by = subst (λ (n : ℕ). Comes image r n row) by.0 (comes-by image r edge row by.1)
+-- a row comes along the edge of the instruction at a pc
+pub comes-along : (image : Parts) (r pc : ℕ) (branch : Bool) (edge : Edge) (before row : Row) → edge.pc ≡ pc → edge.branch ≡ branch → Comes image r pc before → LeadsTo image pc branch edge.to → row ≡ after image pc before branch → ComesBy image r edge row
+comes-along image r pc branch edge before row pc_is branch_is comes leads row_is = record {
+  before = before;
+  comes = subst (λ (n : ℕ). Comes image r n before) (sym pc_is) comes;
+  leads = subst (λ (n : ℕ). LeadsTo image n edge.branch edge.to) (sym pc_is) (subst (λ (b : Bool). LeadsTo image pc b edge.to) (sym branch_is) leads);
+  row_is = row_is ∙ ap (λ (n : ℕ). after image n before branch) (sym pc_is) ∙ ap (after image edge.pc before) (sym branch_is);
+}

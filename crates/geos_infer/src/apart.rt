@@ -2,7 +2,7 @@
 
 ghost use Rattle.std.specs.Prelude.{◌≡◌, ◌<◌, IfSome, IfOk, IfErr};
 ghost use Rattle.geos_infer.specs.Flow.{known_at};
-ghost use Rattle.geos_infer.specs.Why.{IsComing, IsUnlike, AreApartIf, AllCome};
+ghost use Rattle.geos_infer.specs.Why.{ComesBy, IsUnlike, AreApartIf, AllCome};
 
 use crate::body::Body;
 use crate::common::agree;
@@ -30,38 +30,41 @@ pub struct Apart {
     pub second: Coming,
 }
 
-/// A place, and how an edge brings control there.
+/// An edge, and the row that control brings along it.
 #[derive(Clone, Copy)]
 struct Brought {
-    to: u16,
-    coming: Coming,
+    edge: Edge,
+    row: Row,
 }
 
 /// What control brings along an edge, where something is known at the edge's beginning.
 fn bring(body: &Body, known: &Known, pc: u16, branch: bool) -> Option<Brought>
     requires here { pc < body.now.end }
     requires come { AllCome body.now.image.now body.now.r known.now }
-    ensures comes { IfSome result (λ brought. IsComing body.now.image.now body.now.r brought.to brought.coming) }
-    ensures inside { IfSome result (λ brought. brought.to < 4096) }
+    ensures by { IfSome result (λ brought. ComesBy body.now.image.now body.now.r brought.edge brought.row) }
+    ensures inside { IfSome result (λ brought. brought.edge.to < 4096) }
 {
-    let row = known.at(pc)?;
-    let to = edge_in(body, pc, branch)?.to;
-    let coming = Coming {
-        from: Some(Edge { pc, branch, to }),
-        row: after(body.image, pc, &row, branch),
-    };
-    Some(Brought { to, coming })
+    let before = known.at(pc)?;
+    let edge = edge_in(body, pc, branch)?;
+    Some(Brought {
+        edge,
+        row: after(body.image, pc, &before, branch),
+    })
 }
 
 /// How an edge brings a row to the same place as another comes to, with slots that differ.
 fn edge_unlike(body: &Body, known: &Known, pc: u16, branch: bool, other: &Brought) -> Option<Coming>
     requires here { pc < body.now.end }
     requires come { AllCome body.now.image.now body.now.r known.now }
-    ensures { IfSome result (λ coming. IsUnlike body.now.image.now body.now.r other.now.to other.now.coming.row coming) }
+    ensures { IfSome result (λ coming. IsUnlike body.now.image.now body.now.r other.now.edge.to other.now.row coming) }
 {
     match bring(body, known, pc, branch) {
-        Some(brought) if brought.to == other.to && !agree(&brought.coming.row, &other.coming.row) =>
-            { Some(brought.coming) }
+        Some(brought) if brought.edge.to == other.edge.to && !agree(&brought.row, &other.row) => {
+            Some(Coming {
+                from: Some(brought.edge),
+                row: brought.row,
+            })
+        }
         _ => None,
     }
 }
@@ -69,10 +72,10 @@ fn edge_unlike(body: &Body, known: &Known, pc: u16, branch: bool, other: &Brough
 /// The first way on which control comes so: where the routine begins, or along an edge.
 fn first_unlike(body: &Body, known: &Known, other: &Brought) -> Option<Coming>
     requires { AllCome body.now.image.now body.now.r known.now }
-    ensures { IfSome result (λ coming. IsUnlike body.now.image.now body.now.r other.now.to other.now.coming.row coming) }
+    ensures { IfSome result (λ coming. IsUnlike body.now.image.now body.now.r other.now.edge.to other.now.row coming) }
 {
     let entry = body.image.routine(body.r).entry;
-    if other.to == body.start && !agree(&entry, &other.coming.row) {
+    if other.edge.to == body.start && !agree(&entry, &other.row) {
         return Some(Coming {
             from: None,
             row: entry,
@@ -98,9 +101,12 @@ fn apart_at(body: &Body, known: &Known, edge: Edge) -> Option<Apart>
     let second = bring(body, known, edge.pc, edge.branch)?;
     let first = first_unlike(body, known, &second)?;
     Some(Apart {
-        to: second.to,
+        to: second.edge.to,
         first,
-        second: second.coming,
+        second: Coming {
+            from: Some(second.edge),
+            row: second.row,
+        },
     })
 }
 
@@ -115,13 +121,13 @@ fn go(body: &Body, known: &mut Known, pc: u16, branch: bool) -> Result<bool, Edg
     let Some(brought) = bring(body, known, pc, branch) else {
         return Ok(false);
     };
-    let Brought { to, coming } = brought;
+    let to = brought.edge.to;
     match known.at(to) {
         None => {
-            known.set(to, Some(coming.row));
+            known.set(to, Some(brought.row));
             Ok(true)
         }
-        Some(old) if agree(&old, &coming.row) => Ok(false),
+        Some(old) if agree(&old, &brought.row) => Ok(false),
         Some(_) => Err(Edge { pc, branch, to }),
     }
 }
