@@ -38,10 +38,6 @@ pub map-step : (start middle after : List ℕ) (f : ℕ → ℕ) (xs : List ℕ)
 map-step start middle after f xs k y lt so_far pushed is =
     pushed ∙ ap (λ t. t ++ y ∷ []) so_far ∙ append_assoc start (map f (take k xs)) (y ∷ []) ∙ ap (λ t. start ++ t) (ap (λ x. map f (take k xs) ++ x ∷ []) is ∙ sym (map_more f xs k 0 lt))
 
--- a text behind another one
-pub both-texts : (empty first second x y z : List ℕ) → empty ≡ [] → first ≡ empty ++ x → second ≡ first ++ y → y ≡ z → second ≡ x ++ z
-both-texts empty first second x y z none one two is = two ∙ ap (λ t. t ++ y) (one ∙ ap (λ t. t ++ x) none) ∙ ap (λ t. x ++ t) is
-
 -- sixteen bytes from an offset on, or as many as there are
 pub cut-line : (bytes : List ℕ) (at end : ℕ) → end ≡ min (length bytes) (at + 16) → take (end - at) (drop at bytes) ≡ take 16 (drop at bytes)
 cut-line bytes at end is = elim (cases_lt (length bytes) (at + 16)) [

@@ -2,3 +2,4 @@ pub mod Parts
 pub mod HexLines
 pub mod DumpText
 pub mod Sides
+pub mod Tellings

@@ -10,6 +10,7 @@ mod hex;
 mod parts;
 mod picture;
 mod sides;
+mod telling;
 mod text;
 
 pub use areas::{Areas, read_areas};

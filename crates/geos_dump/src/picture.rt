@@ -1,21 +1,21 @@
 //! A picture of a file in text.
 
-ghost use Rattle.std.specs.Prelude.{◌≡◌, ◌+◌, ◌*◌, ◌≤◌, ◌<◌, ◌^◌, length};
-ghost use Rattle.geos_model.specs.Heap.{IsHeap, most_block_bytes};
+ghost use Rattle.std.specs.Prelude.{◌≡◌, ◌+◌, ◌*◌, ◌<◌, ◌^◌, length};
+ghost use Rattle.geos_model.specs.Heap.{IsHeap};
 ghost use Rattle.vm_file.specs.Outcomes.{ReadsOnly};
-ghost use Rattle.vm_file.specs.State.{HasBlock, pair_of};
-ghost use Rattle.geos_dump.specs.Sides.{Causes, IsOnlyRead, directory_on};
+ghost use Rattle.vm_file.specs.State.{pair_of};
+ghost use Rattle.geos_dump.specs.Sides.{Causes};
 
 use crate::areas::Areas;
 use crate::bars::{columns_of, put_bar, put_number_right, put_right};
 use crate::error::DumpError;
 use crate::parts::{Part, put_parts};
-use crate::sides::{Listed, Side, count, directory, entry_at, read_block, word_of};
+use crate::sides::{Side, count, directory, entry_at};
+use crate::telling::{Telling, put_directories};
 use crate::text::put_directory_line;
-use geos_model::MOST_BLOCK_BYTES;
 use lmem_block::total_free;
 use std::alloc::{AllocError, Global};
-use vm_file::{Device, Entry, GROUP_UID, VmFile};
+use vm_file::{Device, Directory, Entry, GROUP_UID, VmFile};
 
 /// The least width of a picture, in columns.
 pub const LEAST_WIDTH: u16 = 60;
@@ -25,7 +25,7 @@ const FRONT: u16 = 25;
 
 /// How the bars of blocks are drawn.
 #[derive(Clone, Copy)]
-struct Scale {
+pub(crate) struct Scale {
     /// The size of the longest block, in bytes.
     longest: u16,
     /// The columns that its bar takes.
@@ -70,7 +70,12 @@ fn put_area(out: &mut Vec<u8>, areas: Areas, pair: u32, width: u16) -> Result<()
 }
 
 /// The line of a block of which so many bytes are used.
-fn put_row(out: &mut Vec<u8>, entry: Entry, used: u16, scale: Scale) -> Result<(), AllocError> {
+pub(crate) fn put_row(
+    out: &mut Vec<u8>,
+    entry: Entry,
+    used: u16,
+    scale: Scale,
+) -> Result<(), AllocError> {
     let size = u32::from(entry.len);
     let columns = columns_of(size, u32::from(scale.longest), usize::from(scale.columns));
     put_number_right(out, 6, entry.h)?;
@@ -85,70 +90,26 @@ fn put_row(out: &mut Vec<u8>, entry: Entry, used: u16, scale: Scale) -> Result<(
 }
 
 /// The bytes of a block that are not free.
-fn used_bytes(block: &[u8]) -> u16
+pub(crate) fn used_bytes(block: &[u8]) -> u16
     requires heap { IsHeap block.now }
     requires size { length block.now < 65536 }
 {
     block.len() as u16 - total_free(block)
 }
 
-/// Reads a block, and draws it.
-fn put_block<D: Device + Drop>(
+/// The line of a directory and, where it has blocks, that of their columns, behind an empty line.
+pub(crate) fn put_columns_line(
     out: &mut Vec<u8>,
-    file: &mut VmFile<D>,
-    block: Listed,
-    scale: Scale,
-    buffer: &mut [u8],
-) -> Result<(), DumpError>
-    requires listed { HasBlock (directory_on block.side file.old) block.entry.h block.entry.len }
-    requires room { block.entry.len ≤ length buffer.old }
-    ensures looks { IsOnlyRead D.medium file.old file.new }
-    ensures cause { Causes (D.medium.honest file.old.device) (D.medium.failed file.old.device) (D.medium.failed file.new.device) result }
-{
-    let Listed { side, entry } = block;
-    let bytes = &mut buffer[..usize::from(entry.len)];
-    read_block(file, side, entry.h, bytes)?;
-    put_row(out, entry, used_bytes(bytes), scale)?;
-    Ok(())
-}
-
-/// The blocks of a directory.
-fn put_blocks<D: Device + Drop>(
-    out: &mut Vec<u8>,
-    file: &mut VmFile<D>,
-    side: Side,
-    scale: Scale,
-    buffer: &mut [u8],
-) -> Result<(), DumpError>
-    requires room { length buffer.old ≡ most_block_bytes }
-    ensures looks { IsOnlyRead D.medium file.old file.new }
-    ensures cause { Causes (D.medium.honest file.old.device) (D.medium.failed file.old.device) (D.medium.failed file.new.device) result }
-{
-    for i in 0..count(file, side) {
-        let entry = entry_at(file, side, i);
-        put_block(out, file, Listed { side, entry }, scale, buffer)?;
-    }
-    Ok(())
-}
-
-/// A directory, its columns and its blocks, behind an empty line.
-fn put_directory<D: Device + Drop>(
-    out: &mut Vec<u8>,
-    file: &mut VmFile<D>,
-    side: Side,
-    scale: Scale,
-    buffer: &mut [u8],
-) -> Result<(), DumpError>
-    requires room { length buffer.old ≡ most_block_bytes }
-    ensures looks { IsOnlyRead D.medium file.old file.new }
-    ensures cause { Causes (D.medium.honest file.old.device) (D.medium.failed file.old.device) (D.medium.failed file.new.device) result }
-{
+    word: &str,
+    directory: &Directory,
+) -> Result<(), AllocError> {
     out.extend_from_slice(b"\n")?;
-    put_directory_line(out, word_of(side), directory(file, side))?;
-    if count(file, side) > 0 {
-        out.extend_from_slice(b"handle   uid  size  used\n")?;
+    put_directory_line(out, word, directory)?;
+    if directory.entries.is_empty() {
+        Ok(())
+    } else {
+        out.extend_from_slice(b"handle   uid  size  used\n")
     }
-    put_blocks(out, file, side, scale, buffer)
 }
 
 /// A picture of a file that is read in the given area: how much of the area the pair takes, and
@@ -177,11 +138,9 @@ pub fn map<D: Device + Drop>(
         longest: longest(file, Side::Current).max(longest(file, Side::Saved)),
         columns: width.saturating_sub(FRONT),
     };
-    let mut buffer = vec![in alloc; 0u8; MOST_BLOCK_BYTES]?;
     let mut out = Vec::new(alloc);
     let pair = taken(file, Side::Current) + taken(file, Side::Saved);
     put_area(&mut out, areas, pair, width)?;
-    put_directory(&mut out, file, Side::Current, scale, &mut buffer)?;
-    put_directory(&mut out, file, Side::Saved, scale, &mut buffer)?;
+    put_directories(alloc, &mut out, Telling::Picture(scale), file)?;
     Ok(out)
 }

@@ -1,0 +1,135 @@
+//! What is told of a file: the text of what it keeps, or a picture of how full its blocks are.
+
+ghost use Rattle.std.specs.Prelude.{◌≡◌, ◌≤◌, ◌<◌, OnOk, flat_map, length};
+ghost use Rattle.geos_model.specs.Heap.{IsHeap, most_block_bytes};
+ghost use Rattle.vm_file.specs.State.{HasBlock, pair_of};
+ghost use Rattle.geos_dump.specs.DumpText.{block_text, directory_line, directory_text, dump_text};
+ghost use Rattle.geos_dump.specs.Sides.{Causes, IsOnlyRead, block_of, contents_on, directory_on, side_word};
+ghost use Rattle.geos_dump.specs.Tellings.{Writes};
+
+use crate::error::DumpError;
+use crate::picture::{Scale, put_columns_line, put_row, used_bytes};
+use crate::sides::{Listed, Side, count, directory, entry_at, read_block, word_of};
+use crate::text::{Detail, put_block_text, put_directory_line};
+use geos_model::MOST_BLOCK_BYTES;
+use std::alloc::{AllocError, Global};
+use vm_file::{Device, Directory, Entry, VmFile};
+
+/// What is told of a file.
+#[derive(Clone, Copy)]
+pub(crate) enum Telling {
+    /// The text of what it keeps.
+    Text(Detail),
+    /// A picture of how full its blocks are.
+    Picture(Scale),
+}
+
+/// What is told of a block.
+fn put_told(
+    out: &mut Vec<u8>,
+    telling: Telling,
+    entry: Entry,
+    bytes: &[u8],
+) -> Result<(), AllocError>
+    requires heap { IsHeap bytes.now }
+    requires size { length bytes.now < 65536 }
+    ensures { OnOk result (Writes telling (λ detail. block_text detail (record { h = entry.h; uid = entry.uid; bytes = bytes.now })) out.old.items out.new.items) }
+{
+    match telling {
+        Telling::Text(detail) => put_block_text(out, detail, entry.h, entry.uid, bytes),
+        Telling::Picture(scale) => put_row(out, entry, used_bytes(bytes), scale),
+    }
+}
+
+/// What stands in front of the blocks of a directory.
+fn put_head(
+    out: &mut Vec<u8>,
+    telling: Telling,
+    word: &str,
+    directory: &Directory,
+) -> Result<(), AllocError>
+    ensures { OnOk result (Writes telling (λ _. directory_line word.now directory.now) out.old.items out.new.items) }
+{
+    match telling {
+        Telling::Text(_) => put_directory_line(out, word, directory),
+        Telling::Picture(_) => put_columns_line(out, word, directory),
+    }
+}
+
+/// Reads a block, and tells of it.
+fn put_block<D: Device + Drop>(
+    out: &mut Vec<u8>,
+    telling: Telling,
+    file: &mut VmFile<D>,
+    block: Listed,
+    buffer: &mut [u8],
+) -> Result<(), DumpError>
+    requires listed { HasBlock (directory_on block.side file.old) block.entry.h block.entry.len }
+    requires room { block.entry.len ≤ length buffer.old }
+    ensures text { D.medium.honest file.old.device → OnOk result (Writes telling
+        (λ detail. block_text detail (block_of block.entry (contents_on block.side (pair_of D.medium.image file.old)).blocks)) out.old.items out.new.items) }
+    ensures looks { IsOnlyRead D.medium file.old file.new }
+    ensures cause { Causes (D.medium.honest file.old.device) (D.medium.failed file.old.device) (D.medium.failed file.new.device) result }
+{
+    let Listed { side, entry } = block;
+    let bytes = &mut buffer[..usize::from(entry.len)];
+    read_block(file, side, entry.h, bytes)?;
+    put_told(out, telling, entry, bytes)?;
+    Ok(())
+}
+
+/// The blocks of a directory.
+fn put_blocks<D: Device + Drop>(
+    out: &mut Vec<u8>,
+    telling: Telling,
+    file: &mut VmFile<D>,
+    side: Side,
+    buffer: &mut [u8],
+) -> Result<(), DumpError>
+    requires room { length buffer.old ≡ most_block_bytes }
+    ensures text { D.medium.honest file.old.device → OnOk result (Writes telling
+        (λ detail. flat_map (block_text detail) (contents_on side (pair_of D.medium.image file.old)).blocks) out.old.items out.new.items) }
+    ensures looks { IsOnlyRead D.medium file.old file.new }
+    ensures cause { Causes (D.medium.honest file.old.device) (D.medium.failed file.old.device) (D.medium.failed file.new.device) result }
+{
+    for i in 0..count(file, side) {
+        let entry = entry_at(file, side, i);
+        put_block(out, telling, file, Listed { side, entry }, buffer)?;
+    }
+    Ok(())
+}
+
+/// A directory with its blocks.
+fn put_directory<D: Device + Drop>(
+    out: &mut Vec<u8>,
+    telling: Telling,
+    file: &mut VmFile<D>,
+    side: Side,
+    buffer: &mut [u8],
+) -> Result<(), DumpError>
+    requires room { length buffer.old ≡ most_block_bytes }
+    ensures text { D.medium.honest file.old.device → OnOk result (Writes telling
+        (λ detail. directory_text detail (side_word side) (contents_on side (pair_of D.medium.image file.old))) out.old.items out.new.items) }
+    ensures looks { IsOnlyRead D.medium file.old file.new }
+    ensures cause { Causes (D.medium.honest file.old.device) (D.medium.failed file.old.device) (D.medium.failed file.new.device) result }
+{
+    put_head(out, telling, word_of(side), directory(file, side))?;
+    put_blocks(out, telling, file, side, buffer)
+}
+
+/// The current directory and the saved one, whose blocks are read through one buffer of the
+/// greatest block's size.
+pub(crate) fn put_directories<D: Device + Drop>(
+    alloc: Global,
+    out: &mut Vec<u8>,
+    telling: Telling,
+    file: &mut VmFile<D>,
+) -> Result<(), DumpError>
+    ensures text { D.medium.honest file.old.device → OnOk result (Writes telling (λ detail. dump_text detail (pair_of D.medium.image file.old)) out.old.items out.new.items) }
+    ensures looks { IsOnlyRead D.medium file.old file.new }
+    ensures cause { Causes (D.medium.honest file.old.device) (D.medium.failed file.old.device) (D.medium.failed file.new.device) result }
+{
+    let mut buffer = vec![in alloc; 0u8; MOST_BLOCK_BYTES]?;
+    put_directory(out, telling, file, Side::Current, &mut buffer)?;
+    put_directory(out, telling, file, Side::Saved, &mut buffer)
+}
