@@ -6,7 +6,7 @@ ghost use Rattle.geos_source.specs.Faults.{why_number, least, first, at_line};
 use std::fmt;
 
 /// Why a line is faulty.
-#[derive(Clone, Copy, Debug, PartialEq, Eq)]
+#[derive(Clone, Copy, Debug)]
 pub enum Why {
     /// The first word behind the labels is none that a line can begin with.
     UnknownWord,
@@ -43,7 +43,7 @@ impl Why {
 }
 
 /// A faulty line of a text.
-#[derive(Clone, Copy, Debug, PartialEq, Eq)]
+#[derive(Clone, Copy, Debug)]
 pub struct BadLine {
     /// Its number, from 1.
     pub line: usize,

@@ -15,7 +15,6 @@ use crate::progress::{Progress, TextRoutine};
 use geos_image::Instr;
 use geos_text::MOST_BYTES;
 use std::alloc::{AllocError, Global};
-use thiserror::Error;
 
 /// The code of a text.
 #[derive(Drop)]
@@ -27,13 +26,11 @@ pub struct Parsed {
 }
 
 /// Why a text is not parsed.
-#[derive(Debug, Drop, Error)]
+#[derive(Drop)]
 pub enum ParseError {
     /// The first faulty line.
-    #[error("{0}")]
     BadLine(BadLine),
     /// The allocator refused memory.
-    #[error("memory")]
     Memory,
 }
 

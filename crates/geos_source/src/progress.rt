@@ -9,7 +9,7 @@ use crate::fault::{BadLine, Why, at_line, first, least};
 use geos_image::{Instr, MOST_INSTRS, Routine, Row};
 
 /// A routine of a text.
-#[derive(Clone, Copy, Debug, PartialEq, Eq)]
+#[derive(Clone, Copy)]
 pub struct TextRoutine {
     /// The number of the line that begins it, from 1.
     pub line: usize,
