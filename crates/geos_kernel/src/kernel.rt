@@ -199,6 +199,7 @@ impl<D: Device + Drop> Kernel<D> {
     /// block would need more than 65,520 bytes, `NoRoom` where it must grow and no stretch of the
     /// region has room for it, though no other block is left that could be discarded. Spans into the
     /// block are stale after it, also where it is refused.
+    #[inline(always)]
     pub fn change(&mut self, name: Name, change: Change) -> Result<(), Refusal>
         requires locked { IsLocked self.old.core name }
         requires marked { MayChange self.old.core name }
@@ -214,6 +215,7 @@ impl<D: Device + Drop> Kernel<D> {
     /// Makes a chunk in a locked block, as the value says, and answers its handle: the lowest
     /// one of the block that is free. A block of the VM file is marked. `TooBig` and `NoRoom` as
     /// `change`. Spans into the block are stale after it, also where it is refused.
+    #[inline(always)]
     pub fn make(&mut self, name: Name, make: Make) -> Result<u16, Refusal>
         requires locked { IsLocked self.old.core name }
         requires marked { MayChange self.old.core name }

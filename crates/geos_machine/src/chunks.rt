@@ -14,6 +14,8 @@ use geos_kernel::{Ask, Change, Kernel, Make, Span};
 use vm_file::Device;
 
 /// The change that an instruction makes of chunks, or of items.
+// In place, so that the compiler makes one of this match and of that by which the change is made.
+#[inline(always)]
 pub(crate) fn change_at(m: &Machine, i: &Instr) -> Change
     requires fields { FieldsFit i.now.opcode i.now }
     requires changes { (changes_chunks i.now.opcode || changes_item i.now.opcode) ≡ true }
@@ -65,6 +67,8 @@ pub(crate) fn change_at(m: &Machine, i: &Instr) -> Change
 }
 
 /// The chunk that an instruction makes.
+// In place, as a change is.
+#[inline(always)]
 fn make_at(m: &Machine, i: &Instr) -> Make
     requires fields { FieldsFit i.now.opcode i.now }
     requires makes { makes_chunks i.now.opcode ≡ true }

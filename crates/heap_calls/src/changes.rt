@@ -33,6 +33,8 @@ use vm_file::Device;
 /// was.
 ///
 /// A block of the file is not marked by it: that is to be done before, or at once behind it.
+// Made in place, as the calls of it in the kernel and the machine are, so that the caller's choice of the change is known here.
+#[inline(always)]
 pub fn change<D: Device + Drop>(
     vm: &VmBlocks<D>,
     blocks: &mut Blocks,

@@ -21,6 +21,8 @@ use vm_file::Device;
 /// Makes a chunk in a block that is in memory, and answers its handle: the lowest one of the block
 /// that is free. The block grows, and others are discarded, as `change` has it; `TooBig` and
 /// `NoRoom` too. A block of the file is not marked by it.
+// Made in place, as a change is.
+#[inline(always)]
 pub fn make<D: Device + Drop>(
     vm: &VmBlocks<D>,
     blocks: &mut Blocks,
