@@ -7,7 +7,7 @@ ghost use Rattle.geos_infer.specs.Why.{ComesBy, IsUnlike, AreApartIf, AllCome};
 use crate::body::Body;
 use crate::common::agree;
 use crate::edges::{Edge, edge_in};
-use crate::table::Known;
+use crate::table::{Known, Table};
 use geos_image::Row;
 use geos_verify::after;
 use std::alloc::{AllocError, Global};
@@ -110,9 +110,15 @@ fn apart_at(body: &Body, known: &Known, edge: Edge) -> Option<Apart>
     })
 }
 
-/// What is known at a pc goes along an edge: a row is known at the place where that leads now, whether one was or not. Whether
-/// that is new; `Err` where slots differ.
-fn go(body: &Body, known: &mut Known, pc: u16, branch: bool) -> Result<bool, Edge>
+/// What is known at a pc goes along an edge: a row is known at the place where that leads now, and waits to go on, unless one
+/// was known there. Whether that is new; `Err` where slots differ.
+fn go(
+    body: &Body,
+    known: &mut Known,
+    waits: &mut Table<bool>,
+    pc: u16,
+    branch: bool,
+) -> Result<bool, Edge>
     requires here { pc < body.now.end }
     requires come { AllCome body.now.image.now body.now.r known.old }
     ensures come { AllCome body.now.image.now body.now.r known.new }
@@ -125,6 +131,7 @@ fn go(body: &Body, known: &mut Known, pc: u16, branch: bool) -> Result<bool, Edg
     match known.at(to) {
         None => {
             known.set(to, Some(brought.row));
+            waits.set(to, true);
             Ok(true)
         }
         Some(old) if agree(&old, &brought.row) => Ok(false),
@@ -132,16 +139,19 @@ fn go(body: &Body, known: &mut Known, pc: u16, branch: bool) -> Result<bool, Edg
     }
 }
 
-/// The same along each edge of the routine, once.
-fn go_all(body: &Body, known: &mut Known) -> Result<bool, Edge>
+/// All that waits goes on along its edges. Each place does so once, whichever way control takes.
+fn go_all(body: &Body, known: &mut Known, waits: &mut Table<bool>) -> Result<bool, Edge>
     requires { AllCome body.now.image.now body.now.r known.old }
     ensures come { AllCome body.now.image.now body.now.r known.new }
     ensures inside { IfErr result (λ edge. edge.pc < body.now.end) }
 {
     let mut further = false;
     for pc in body.start..body.end {
-        further |= go(body, known, pc, false)?;
-        further |= go(body, known, pc, true)?;
+        if waits.at(pc) {
+            waits.set(pc, false);
+            further |= go(body, known, waits, pc, false)?;
+            further |= go(body, known, waits, pc, true)?;
+        }
     }
     Ok(further)
 }
@@ -152,8 +162,10 @@ pub(crate) fn find_apart(alloc: Global, body: &Body) -> Result<Option<Apart>, Al
 {
     let mut known = Known::new(alloc, None)?;
     known.set(body.start, Some(body.image.routine(body.r).entry));
+    let mut waits = Table::new(alloc, false)?;
+    waits.set(body.start, true);
     for _ in body.start..body.end {
-        match go_all(body, &mut known) {
+        match go_all(body, &mut known, &mut waits) {
             Ok(true) => {}
             Ok(false) => break,
             Err(edge) => return Ok(apart_at(body, &known, edge)),

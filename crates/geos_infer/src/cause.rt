@@ -210,7 +210,8 @@ pub fn find_cause(alloc: Global, image: &Image, r: u16) -> Result<Cause, AllocEr
     }
     let unpaid = {
         let mut into = Table::new(alloc, WaysIn::with_left(0))?;
-        find_round(&body, &mut into)
+        let mut listed = Table::new(alloc, 0)?;
+        find_round(&body, &mut into, &mut listed)
     };
     if let Some(back) = unpaid {
         return Ok(Cause::NoLoop(back));

@@ -54,6 +54,7 @@ fn has_loops(body: &Body) -> bool
 #[derive(Drop)]
 struct Tables {
     into: Table<WaysIn>,
+    listed: Table<u16>,
     ways: Ways,
 }
 
@@ -61,6 +62,7 @@ impl Tables {
     fn new(alloc: Global) -> Result<Tables, AllocError> {
         Ok(Tables {
             into: Table::new(alloc, WaysIn::with_left(0))?,
+            listed: Table::new(alloc, 0)?,
             ways: Ways::new(alloc, Place::NOTHING)?,
         })
     }
@@ -98,7 +100,7 @@ fn count_loops(
     tables: &mut Tables,
     potentials: &mut Potentials,
 ) -> bool {
-    if has_unpaid_cycle(body, &mut tables.into) {
+    if has_unpaid_cycle(body, &mut tables.into, &mut tables.listed) {
         return false;
     }
     let ways = &mut tables.ways;

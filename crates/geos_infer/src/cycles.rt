@@ -7,10 +7,11 @@ use crate::body::Body;
 use crate::paid::back_edges;
 use crate::table::Table;
 use crate::unpaid::{WaysIn, lead_unpaid};
+use geos_image::MOST_INSTRS;
 
 /// Counts the edges into each place of a routine.
 fn count_edges(body: &Body, into: &mut Table<WaysIn>) {
-    into.fill(body.start, body.end - 1, WaysIn::with_left(1));
+    into.fill(body.start, body.end - 1, WaysIn::with_left(0));
     for pc in body.start..body.end {
         for branch in [false, true] {
             if let Some(to) = lead_unpaid(body, pc, branch) {
@@ -20,40 +21,67 @@ fn count_edges(body: &Body, into: &mut Table<WaysIn>) {
     }
 }
 
-/// Takes the edges from each place away that no edge is left into; how many places these are.
-fn take_edges(body: &Body, into: &mut Table<WaysIn>) -> u16 {
-    let mut places: u16 = 0;
-    for pc in body.start..body.end {
-        if into.at(pc).left == 1 {
-            into.set(pc, WaysIn::with_left(0));
-            for branch in [false, true] {
-                if let Some(to) = lead_unpaid(body, pc, branch) {
-                    into.set(to, WaysIn::with_left(into.at(to).left.saturating_sub(1)));
-                }
+/// Puts a pc behind those that are listed; how many are listed then.
+fn list(listed: &mut Table<u16>, count: u16, pc: u16) -> u16 {
+    if MOST_INSTRS <= count {
+        return count;
+    }
+    listed.set(count, pc);
+    count + 1
+}
+
+/// Takes the edges from a listed place away, and lists the places that no edge is left into; how
+/// many are listed then.
+fn take_edges(
+    body: &Body,
+    pc: u16,
+    into: &mut Table<WaysIn>,
+    listed: &mut Table<u16>,
+    count: u16,
+) -> u16
+    requires { pc < body.now.end }
+{
+    let mut count = count;
+    for branch in [false, true] {
+        if let Some(to) = lead_unpaid(body, pc, branch) {
+            let left = into.at(to).left.saturating_sub(1);
+            into.set(to, WaysIn::with_left(left));
+            if left == 0 {
+                count = list(listed, count, to);
             }
-            places = places.saturating_add(1);
         }
     }
-    places
+    count
 }
 
 /// Whether control can go round in a routine and never take a LOOP's way to its target: no number
-/// of steps is enough for that. The table is only written.
-pub(crate) fn has_unpaid_cycle(body: &Body, into: &mut Table<WaysIn>) -> bool
+/// of steps is enough for that. It looks at each edge twice. The tables are only written.
+pub(crate) fn has_unpaid_cycle(
+    body: &Body,
+    into: &mut Table<WaysIn>,
+    listed: &mut Table<u16>,
+) -> bool
     ensures { ForwardIn body.now.image.now body.now.r → result ≡ false }
 {
     if back_edges(body) == 0 {
         return false;
     }
     count_edges(body, into);
-    let mut places = body.end - body.start;
-    // Places that are on no cycle and behind none go one after another.
-    for _ in body.start..body.end {
-        let taken = take_edges(body, into);
-        if taken == 0 {
-            break;
+    let mut count = 0;
+    for pc in body.start..body.end {
+        if into.at(pc).left == 0 {
+            count = list(listed, count, pc);
         }
-        places = places.saturating_sub(taken);
     }
-    0 < places
+    // Places that are on no cycle and behind none are listed one after another.
+    for at in 0..body.end - body.start {
+        if count <= at {
+            return true;
+        }
+        let pc = listed.at(at);
+        if pc < body.end {
+            count = take_edges(body, pc, into, listed, count);
+        }
+    }
+    false
 }

@@ -20,7 +20,7 @@ struct Came {
 /// The edges into a place.
 #[derive(Clone, Copy)]
 pub(crate) struct WaysIn {
-    /// One more than are left; 0 where those from the place are taken away.
+    /// How many are left; those from a place into which none is are taken away.
     pub(crate) left: u16,
     /// One of those that are left, once such are noted.
     came: Option<Came>,
@@ -147,10 +147,14 @@ fn back_on_round(body: &Body, into: &Table<WaysIn>, place: u16) -> Option<BackWa
 }
 
 /// A way back from whose end control can come to it again and no counter pays for that, if there is one.
-pub(crate) fn find_round(body: &Body, into: &mut Table<WaysIn>) -> Option<BackWay>
+pub(crate) fn find_round(
+    body: &Body,
+    into: &mut Table<WaysIn>,
+    listed: &mut Table<u16>,
+) -> Option<BackWay>
     ensures { IfSome result (λ back. GoesRound body.now.image.now body.now.r back.from back.to) }
 {
-    if !has_unpaid_cycle(body, into) {
+    if !has_unpaid_cycle(body, into, listed) {
         return None;
     }
     note_all(body, into);
