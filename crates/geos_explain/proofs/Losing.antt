@@ -163,10 +163,10 @@ module _ (place : Place) (p : ℕ) where
       let comes = agrees reached (is_reached place.image edge.from) in
       let has = has_edge point.instr edge.branch in
       let known_there = is_as known (pointer_at (after place.image edge.from point.row edge.branch) p) in
-      let last = and_parts (ends && comes && has) known_there is in
-      let third = and_parts (ends && comes) has last.0 in
-      let first = and_parts ends comes third.0 in
-      (record { point = point; there = there; has = third.1; ends = eqb-true _ _ first.0; is = last.1 }, first.1)
+      let first = and_parts ends (comes && has && known_there) is in
+      let last = and_parts (comes && has) known_there first.1 in
+      let second = and_parts comes has last.0 in
+      (record { point = point; there = there; has = second.1; ends = eqb-true _ _ first.0; is = last.1 }, second.0)
 
   -- each way that there may be is such a one
   abbrev AllFound : Bool → Bool → Option Way → ℕ → Type 0

@@ -26,12 +26,15 @@ abbrev pub is_as : Bool → Option Pointer → Bool
 is_as true pointer = not (is_stale pointer)
 is_as false pointer = is_stale pointer
 
--- the edge of the instruction is a way that is sought: control comes along it as is asked, and behind it the pointer is known as
--- is asked
-abbrev pub is_sought : Place → Sought → Edge → Point → Bool
-is_sought place sought edge point =
-    end_of edge point.instr == sought.to && agrees sought.reached (is_reached place.image edge.from) && has_edge point.instr edge.branch
+-- control comes along the edge of the instruction as is asked, and behind it the pointer is known as is asked
+abbrev pub is_as_sought : Place → Sought → Edge → Point → Bool
+is_as_sought place sought edge point =
+    agrees sought.reached (is_reached place.image edge.from) && has_edge point.instr edge.branch
     && is_as sought.known (pointer_at (after place.image edge.from point.row edge.branch) sought.p)
+
+-- the edge of the instruction is a way that is sought
+abbrev pub is_sought : Place → Sought → Edge → Point → Bool
+is_sought place sought edge point = end_of edge point.instr == sought.to && is_as_sought place sought edge point
 
 -- the first way of the instruction at a pc that is sought
 abbrev pub way_of : Place → Sought → ℕ → Point → Option Way

@@ -3,7 +3,7 @@
 ghost use Rattle.std.specs.Prelude.{◌≡◌, ◌<◌, Some, length, slice_get, IfSome};
 ghost use Rattle.geos_verify.specs.Rows.{is_stale};
 ghost use Rattle.geos_explain.specs.Places.{IsPlace, place_of};
-ghost use Rattle.geos_explain.specs.Ways.{is_as, is_sought, way_at, way_to, bringing, losing, with_hint, sets, forgets, loses};
+ghost use Rattle.geos_explain.specs.Ways.{is_as, is_as_sought, is_sought, way_at, way_to, bringing, losing, with_hint, sets, forgets, loses};
 
 use crate::edges::{Edge, end_of};
 use crate::led::is_reached;
@@ -62,18 +62,15 @@ fn is_as(known: bool, pointer: Option<Pointer>) -> bool
     }
 }
 
-/// Whether the edge of the instruction is a way that is sought: control comes along it as is asked, and behind it the pointer
-/// is known as is asked. Few edges pass the test of the numbers, so it comes first.
-fn is_sought(place: &Place, sought: Sought, edge: Edge, point: &Point) -> bool
+/// Whether control comes along the edge of the instruction as is asked, and behind it the pointer is known as is asked.
+fn is_as_sought(place: &Place, sought: Sought, edge: Edge, point: &Point) -> bool
     requires { slice_get place.now.image.now.points edge.from ≡ Some point.now }
-    ensures { result ≡ is_sought (place_of place.now) sought edge point.now }
+    ensures { result ≡ is_as_sought (place_of place.now) sought edge point.now }
 {
-    end_of(edge, &point.instr) == usize::from(sought.to)
-        && agrees(
-            sought.reached,
-            is_reached(place.image, place.marks, edge.from),
-        )
-        && has_edge(&point.instr, edge.branch)
+    agrees(
+        sought.reached,
+        is_reached(place.image, place.marks, edge.from),
+    ) && has_edge(&point.instr, edge.branch)
         && is_as(
             sought.known,
             pointer_at(
@@ -81,6 +78,15 @@ fn is_sought(place: &Place, sought: Sought, edge: Edge, point: &Point) -> bool
                 sought.p,
             ),
         )
+}
+
+/// Whether the edge of the instruction is a way that is sought. Few edges pass the test of the numbers, so it comes first, and
+/// apart from the rest, which would be in the way of the loop over all edges.
+fn is_sought(place: &Place, sought: Sought, edge: Edge, point: &Point) -> bool
+    requires { slice_get place.now.image.now.points edge.from ≡ Some point.now }
+    ensures { result ≡ is_sought (place_of place.now) sought edge point.now }
+{
+    end_of(edge, &point.instr) == usize::from(sought.to) && is_as_sought(place, sought, edge, point)
 }
 
 /// The first way of the instruction at a pc that is sought, if there is an instruction.
