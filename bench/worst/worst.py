@@ -126,11 +126,19 @@ def forks(n):
     yield f"l{n}: {COPIES[0]}"
 
 
+def back(n):
+    """Jumps each of which leads to the one before it in the text."""
+    yield "JMP l1"
+    yield f"l{n + 1}: RET"
+    yield from (f"l{k}: JMP l{k + 1}" for k in range(n, 0, -1))
+
+
 def texts():
     """Each text with what it is."""
     yield "4,095 additions", [HEAD, *[ADD] * 4095, "RET"]
     yield "31 routines of 127 CALLs", calls(32, 128)
     yield "4,090 LOOPs to one head", [HEAD, "SETK k0 1", "h: LDI w0 1", *["LOOP k0 h"] * 4090, "RET"]
+    yield "4,094 jumps back", [HEAD, *back(4094)]
     yield "each instruction a label", [HEAD, *(f"l{i}: BEQ w0 w1 l{i + 1}" for i in range(4095)), "l4095: RET"]
     yield "pointers lost 4,089 additions before", [HEAD, *LOSES, *[ADD] * 4089, *COPIES]
     yield "pointers lost 2,044 forks before", [HEAD, *LOSES, *forks(2044), *COPIES[1:]]
