@@ -5,7 +5,7 @@ use Rattle.std.proofs.lemmas.Bool.{cases_eq}
 use Rattle.geos_model.specs.Block.{chunks}
 use Rattle.geos_model.specs.Chunks.{need}
 use Rattle.geos_model.specs.Edits.{Edit}
-use Rattle.geos_model.specs.Names.{vm}
+use Rattle.geos_model.specs.Names.{vm, group_uid}
 use Rattle.geos_model.specs.Refusals.{first_refusal}
 use Rattle.geos_model.specs.declared.refusal.Refusal.{Refusal}
 use Rattle.geos_model.specs.declared.refusal.Refusal.TheVariants as refusal
@@ -17,7 +17,6 @@ use Rattle.block_handles.specs.Store.{Block, Store, IsBlock, IsThere, block_at, 
 use Rattle.block_handles.specs.Stretch.{HasNoRoom}
 use Rattle.block_handles.proofs.Laws.{handle_of_there}
 use Rattle.vm_file.specs.Device.{Medium}
-use Rattle.vm_file.specs.Directories.{group_uid}
 use Rattle.vm_file.specs.Outcomes.{ReadsOnly}
 use Rattle.vm_file.specs.State.{FileState, pair_of}
 use Rattle.vm_blocks.specs.declared.entries.Held.{Held}

@@ -2,7 +2,8 @@
 use Rattle.std.proofs.Common.{◌≡◌, ◌≢◌, ◌∙◌, ℕ, List, Option, Some, None, true, false, refl, ap, arith}
 use Rattle.std.specs.Prelude.{◌==◌, IsSomeAnd, is_none, option_map}
 use Rattle.std.proofs.lemmas.Bool.Decides.{nat_tests}
-use Rattle.geos_table.specs.Directories.{VmBlock, group_uid, uid_in}
+use Rattle.geos_table.specs.Directories.{VmBlock, uid_in}
+use Rattle.geos_model.specs.Names.{group_uid}
 use Rattle.geos_table.specs.Given.{given_memory}
 use Rattle.geos_table.specs.Memory.{Memory, at_handle, is_group, listed_at}
 use Rattle.geos_table.proofs.LegalGiven.{entry-told_given, listed-given}

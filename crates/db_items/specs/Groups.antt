@@ -1,12 +1,11 @@
 -- Groups, and how one is brought into memory.
 use Rattle.std.specs.Prelude.{◌≡◌, ℕ, IsSomeAnd, IfSome, OnErr, OnOk, Result, Err}
-use Rattle.geos_model.specs.Names.{vm}
+use Rattle.geos_model.specs.Names.{vm, group_uid}
 use Rattle.geos_model.specs.declared.refusal.Refusal.{Refusal}
 use Rattle.geos_model.specs.declared.refusal.Refusal.TheVariants.{BadHandle, Disk, NoRoom, Short}
 use Rattle.geos_table.specs.VmCalls.{bring}
 use Rattle.block_handles.specs.Store.{Store, IsThere}
 use Rattle.vm_file.specs.Device.{Medium, Rose}
-use Rattle.vm_file.specs.Directories.{group_uid}
 use Rattle.vm_file.specs.Outcomes.{ReadsOnly}
 use Rattle.vm_file.specs.State.{pair_of}
 use Rattle.vm_blocks.specs.Bring.{Brought, Keeps, NotBrought}

@@ -2,7 +2,7 @@
 ghost use Rattle.std.specs.Prelude.{◌≡◌, ◌⊎◌, ◌<◌, ◌↔◌, ℕ, Err, IsTrue, IfOk, IfErr, OnOk, OnErr};
 ghost use Rattle.block_handles.specs.Store.{locks_of};
 ghost use Rattle.geos_table.specs.ItemCalls.{gfree, gnew};
-ghost use Rattle.vm_file.specs.Directories.{group_uid};
+ghost use Rattle.geos_model.specs.Names.{group_uid};
 ghost use Rattle.vm_blocks.specs.Blocks.{Adds, AllListed, IsLowestUnlisted, LacksRoomForNew, without_held};
 ghost use Rattle.vm_blocks.specs.Bring.{Drops};
 ghost use Rattle.vm_blocks.specs.DoesRow.{DoesRow};

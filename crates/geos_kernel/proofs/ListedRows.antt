@@ -5,7 +5,7 @@ use Rattle.std.proofs.lemmas.Bool.Decides.{nat_tests}
 use Rattle.geos_model.specs.declared.name.Owner.TheVariants.{Vm}
 use Rattle.geos_model.specs.declared.refusal.Refusal.{Refusal}
 use Rattle.geos_model.specs.declared.refusal.Refusal.TheVariants as refusal
-use Rattle.geos_model.specs.Names.{vm}
+use Rattle.geos_model.specs.Names.{vm, group_uid}
 use Rattle.geos_model.specs.Refusals.{first_refusal}
 use Rattle.geos_table.specs.Calls.{is_in_use, locks_full}
 use Rattle.geos_table.specs.Directories.{VmBlock}
@@ -15,7 +15,6 @@ use Rattle.geos_table.specs.Memory.{Memory, is_group, listed_at, locks_of, lowes
 use Rattle.geos_table.specs.VmCalls.{does, free_listed, is_reserved, lock_listed, names_group, new_listed, no_listed, vfind, vfree, vlock, vnew, vsetmap, without_listed}
 use Rattle.block_handles.specs.Store.{Store}
 use Rattle.vm_file.specs.Device.{Medium}
-use Rattle.vm_file.specs.Directories.{group_uid}
 use Rattle.vm_blocks.specs.declared.entries.Held.{Held}
 use Rattle.vm_blocks.specs.Blocks.{uid_of}
 use Rattle.vm_blocks.specs.DoesRow.{DoesRow}

@@ -15,3 +15,7 @@ mem h = named Mem h
 -- the block of the VM file with a handle
 abbrev pub vm : ℕ → Name
 vm h = named Vm h
+
+-- the user ID by which a block of the VM file is a group
+abbrev pub group_uid : ℕ
+group_uid = 65280

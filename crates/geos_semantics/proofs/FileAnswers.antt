@@ -4,7 +4,8 @@ use Rattle.std.specs.Prelude.{is_none, option_map, unwrap_or, position, drop, If
 use Rattle.std.proofs.lemmas.Bool.{cases_lt}
 use Rattle.std.proofs.lemmas.List.{get_or_past, length-drop}
 use Rattle.std.proofs.lemmas.List.Quantifiers.{position-Some}
-use Rattle.geos_table.specs.Directories.{VmBlock, group_uid, uid_in}
+use Rattle.geos_table.specs.Directories.{VmBlock, uid_in}
+use Rattle.geos_model.specs.Names.{group_uid}
 use Rattle.geos_table.specs.Handles.{at_handle}
 use Rattle.geos_table.specs.Memory.{Memory, listed_at}
 use Rattle.geos_table.specs.Legal.{IsLegalListed, IsMemory}

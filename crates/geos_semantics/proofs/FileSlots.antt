@@ -7,8 +7,8 @@ use Rattle.geos_model.specs.declared.name.Name.{Name}
 use Rattle.geos_model.specs.declared.name.Owner.{Owner}
 use Rattle.geos_model.specs.declared.name.Owner.TheVariants as owner
 use Rattle.geos_model.specs.declared.refusal.Refusal.{Refusal}
-use Rattle.geos_model.specs.Names.{named, vm}
-use Rattle.geos_table.specs.Directories.{group_uid, uid_in}
+use Rattle.geos_model.specs.Names.{named, vm, group_uid}
+use Rattle.geos_table.specs.Directories.{uid_in}
 use Rattle.geos_table.specs.Directories as directories
 use Rattle.geos_table.specs.Memory.{Memory, Block, listed_at, is_group, is_marked, with_mark, block_of, chunks_in, locks_in, locks_of}
 use Rattle.geos_table.specs.Legal.{IsMemory}

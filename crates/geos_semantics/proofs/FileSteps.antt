@@ -4,9 +4,9 @@ use Rattle.std.specs.Prelude.{◌==◌, is_none}
 use Rattle.std.proofs.lemmas.Bool.{ltb-false}
 use Rattle.geos_model.specs.declared.name.Owner.{Owner}
 use Rattle.geos_model.specs.declared.name.Owner.TheVariants as owner
-use Rattle.geos_model.specs.Names.{vm}
+use Rattle.geos_model.specs.Names.{vm, group_uid}
 use Rattle.geos_model.specs.Refusals.{first_refusal}
-use Rattle.geos_table.specs.Directories.{group_uid, uid_in, is_marked_in}
+use Rattle.geos_table.specs.Directories.{uid_in, is_marked_in}
 use Rattle.geos_table.specs.Handles.{at_handle}
 use Rattle.geos_table.specs.Memory.{Memory, owned_block, locks_in, chunks_in, locks_of}
 use Rattle.geos_table.specs.Legal.{IsMemory}

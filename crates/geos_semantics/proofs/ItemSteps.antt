@@ -2,9 +2,8 @@
 use Rattle.std.proofs.Common.{◌≡◌, ℕ, ◌+◌, true, Option, None, List, ◌∷◌, refl, subst}
 use Rattle.std.proofs.lemmas.Bool.{not-false}
 use Rattle.geos_model.specs.declared.refusal.Refusal.{Refusal}
-use Rattle.geos_model.specs.Names.{vm}
+use Rattle.geos_model.specs.Names.{vm, group_uid}
 use Rattle.geos_model.specs.Refusals.{first_refusal}
-use Rattle.geos_table.specs.Directories.{group_uid}
 use Rattle.geos_table.specs.Memory.{is_group, with_mark, chunks_at}
 use Rattle.geos_table.specs.Legal.{IsMemory}
 use Rattle.geos_table.specs.Effects.{Choice, Call, bringing}

@@ -4,8 +4,8 @@ use Rattle.std.specs.Prelude.{◌==◌, cond, not, is_none, IsSome, option_map}
 use Rattle.geos_model.specs.declared.name.Name.{Name}
 use Rattle.geos_model.specs.declared.name.Owner.{Owner}
 use Rattle.geos_model.specs.declared.name.Owner.TheVariants.{Mem, Vm}
-use Rattle.geos_model.specs.Names.{vm}
-use Rattle.geos_table.specs.Directories.{VmBlock, group_uid, uid_in, is_marked_in, marked_block}
+use Rattle.geos_model.specs.Names.{vm, group_uid}
+use Rattle.geos_table.specs.Directories.{VmBlock, uid_in, is_marked_in, marked_block}
 use Rattle.geos_table.specs.Memory.{Memory, listed_at, with_listed, is_group, is_marked, with_mark, owned_block, block_of, chunks_in, rechunked_block, with_chunks}
 use Rattle.geos_table.specs.Legal.{IsMemory}
 use Rattle.geos_table.specs.Effects.{Nothing, InBlock}

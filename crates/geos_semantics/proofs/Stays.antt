@@ -4,8 +4,8 @@ use Rattle.std.specs.Prelude.{◌==◌, not, IsSome, is_none, option_map}
 use Rattle.geos_model.specs.declared.name.Name.{Name}
 use Rattle.geos_model.specs.declared.name.Owner.{Owner}
 use Rattle.geos_model.specs.declared.name.Owner.TheVariants as owner
-use Rattle.geos_model.specs.Names.{named, mem, vm}
-use Rattle.geos_table.specs.Directories.{VmBlock, group_uid, uid_in, is_marked_in, relisted}
+use Rattle.geos_model.specs.Names.{named, mem, vm, group_uid}
+use Rattle.geos_table.specs.Directories.{VmBlock, uid_in, is_marked_in, relisted}
 use Rattle.geos_table.specs.Handles.{at_handle}
 use Rattle.geos_table.specs.Memory.{Block, Memory, listed_at, is_group, is_marked, owned_block, with_owned_block, block_of, with_block}
 use Rattle.geos_table.specs.Given.{given_memory}

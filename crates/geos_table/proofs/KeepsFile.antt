@@ -5,9 +5,9 @@ use Rattle.std.proofs.lemmas.Bool.{eq-eqb, ne_eqb, eqb-true, eqb-false}
 use Rattle.geos_model.specs.declared.name.Owner.TheVariants.{Vm}
 use Rattle.geos_model.specs.declared.refusal.Refusal.{Refusal}
 use Rattle.geos_model.specs.declared.refusal.Refusal.TheVariants as refusal
-use Rattle.geos_model.specs.Names.{vm}
+use Rattle.geos_model.specs.Names.{vm, group_uid}
 use Rattle.geos_model.specs.Refusals.{first_refusal}
-use Rattle.geos_table.specs.Directories.{VmBlock, KeptBlock, Directory, group_uid, uid_in, marked_block, without_block}
+use Rattle.geos_table.specs.Directories.{VmBlock, KeptBlock, Directory, uid_in, marked_block, without_block}
 use Rattle.geos_table.specs.VmFile.{Pair, doubted}
 use Rattle.geos_table.specs.Memory.{Memory, listed_at, with_cur, is_group, with_mark, locks_of, with_locks, lowest_handle}
 use Rattle.geos_table.specs.Effects.{Choice, Call, outcome, most_locks, bringing}

@@ -10,9 +10,9 @@ use Rattle.geos_model.specs.declared.name.Owner.{Owner}
 use Rattle.geos_model.specs.declared.name.Owner.TheVariants.{Mem, Vm}
 use Rattle.geos_model.specs.declared.refusal.Refusal.{Refusal}
 use Rattle.geos_model.specs.declared.refusal.Refusal.TheVariants as refusal
-use Rattle.geos_model.specs.Names.{named, mem, vm}
+use Rattle.geos_model.specs.Names.{named, mem, vm, group_uid}
 use Rattle.geos_model.specs.Refusals.{first_refusal}
-use Rattle.geos_table.specs.Directories.{VmBlock, KeptBlock, Directory, group_uid, uid_in, is_marked_in, marked_block, kept_block, idle_block}
+use Rattle.geos_table.specs.Directories.{VmBlock, KeptBlock, Directory, uid_in, is_marked_in, marked_block, kept_block, idle_block}
 use Rattle.geos_table.specs.VmFile.{Pair}
 use Rattle.geos_table.specs.Memory.{Block, Memory, at_handle, with_entry_at, lowest_of, new_heap, listed_at, with_listed, with_mark, is_marked, with_owned_block, block_of, with_block, locks_in, locks_of, lowest_handle, locked_block, rechunked_block, with_locks, with_chunks, chunks_at}
 use Rattle.geos_table.specs.Given.{given_memory}

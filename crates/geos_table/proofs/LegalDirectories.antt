@@ -4,7 +4,8 @@ use Rattle.std.specs.Prelude.{IfSome, IsSomeAnd, option_map}
 use Rattle.std.proofs.lemmas.Bool.{eq-eqb}
 use Rattle.std.proofs.lemmas.List.{length-map, length-replicate}
 use Rattle.geos_table.specs.Handles.{at_handle, with_entry_at}
-use Rattle.geos_table.specs.Directories.{VmBlock, KeptBlock, Directory, group_uid, kept_block, idle_block, with_each, without_block, no_directory}
+use Rattle.geos_table.specs.Directories.{VmBlock, KeptBlock, Directory, kept_block, idle_block, with_each, without_block, no_directory}
+use Rattle.geos_model.specs.Names.{group_uid}
 use Rattle.geos_table.specs.VmFile.{Pair, Kept, Sure, Unsure, doubted, empty_file}
 use Rattle.geos_table.specs.Legal.{IsLegalListed, IsLegalKept, uid_at, IsLegalDirectory, IsCurrent, IsStored, IsPair, ArePairs, IsFile}
 use Rattle.geos_table.proofs.Laws.{entry-other}

@@ -10,7 +10,8 @@ use Rattle.geos_model.specs.declared.name.Owner.TheVariants.{Mem, Vm}
 use Rattle.geos_model.specs.declared.name.Name.{Name}
 use Rattle.geos_model.specs.Chunks.{need}
 use Rattle.geos_table.specs.Handles.{at_handle}
-use Rattle.geos_table.specs.Directories.{VmBlock, Directory, group_uid, is_marked_in, is_held}
+use Rattle.geos_table.specs.Directories.{VmBlock, Directory, is_marked_in, is_held}
+use Rattle.geos_model.specs.Names.{group_uid}
 use Rattle.geos_table.specs.Memory.{Memory, listed_at, owned_block, block_of, locks_in, locks_of, is_marked}
 use Rattle.geos_table.specs.Given.{is_byte, is_chunk, can_hold, refilled, given_chunks, given_entry, given_entries, given_memory}
 use Rattle.geos_table.specs.Legal.{AreBytes, IsChunk, AreChunks, IsLegalListed, uid_at, IsCurrent, IsMemory}

@@ -23,10 +23,6 @@ pub record Directory (B : Type 0) : Type 0 where
   pub map_group : ℕ
   pub map_item : ℕ
 
--- the user ID of groups
-abbrev pub group_uid : ℕ
-group_uid = 65280
-
 -- the user ID of a listed block, 0 where there is none
 abbrev pub uid_in : Option VmBlock → ℕ
 uid_in None = 0

@@ -3,8 +3,7 @@
 use Rattle.std.specs.Prelude.{ℕ, ◌+◌, Bool, true, ◌&&◌, not, ◌==◌, if◌then◌else◌, [], ◌∷◌, ◌++◌}
 use Rattle.geos_model.specs.declared.refusal.Refusal.{Refusal}
 use Rattle.geos_model.specs.declared.refusal.Refusal.TheVariants.{BadHandle, Range}
-use Rattle.geos_model.specs.Names.{vm}
-use Rattle.geos_table.specs.Directories.{group_uid}
+use Rattle.geos_model.specs.Names.{vm, group_uid}
 use Rattle.geos_table.specs.Memory.{Memory, with_cur, is_group, with_mark, locks_of, with_locks}
 use Rattle.geos_table.specs.Effects.{Call, Reference, Staleness, Nothing, InBlock, tells, bringing}
 use Rattle.geos_table.specs.Calls.{locks_full, lalloc, lfree, lrealloc, lins, ldel, deref}

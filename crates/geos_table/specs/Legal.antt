@@ -3,7 +3,8 @@ use Rattle.std.specs.Prelude.{◌≡◌, ◌≢◌, ℕ, ◌%◌, ◌<◌, ◌�
 pub use Rattle.geos_model.specs.Bytes.{AreBytes}
 use Rattle.geos_model.specs.Chunks.{need}
 use Rattle.geos_model.specs.Heap.{most_block_bytes}
-use Rattle.geos_table.specs.Directories.{VmBlock, KeptBlock, Directory, group_uid}
+use Rattle.geos_table.specs.Directories.{VmBlock, KeptBlock, Directory}
+use Rattle.geos_model.specs.Names.{group_uid}
 use Rattle.geos_table.specs.VmFile.{Pair, Kept, Sure, Unsure, VmFile}
 use Rattle.geos_table.specs.Memory.{Heap, Block, Memory, at_handle}
 use Rattle.geos_table.specs.Effects.{most_locks}

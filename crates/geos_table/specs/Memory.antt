@@ -5,7 +5,8 @@ use Rattle.geos_model.specs.declared.name.Owner.TheVariants.{Mem, Vm}
 use Rattle.geos_model.specs.declared.name.Name.{Name}
 pub use Rattle.geos_table.specs.Handles.{at_handle, with_entry_at, lowest_of}
 pub use Rattle.geos_table.specs.Blocks.{Heap, Block, locks_in, size_in, chunks_in, new_heap, locked_block, rechunked_block}
-use Rattle.geos_table.specs.Directories.{VmBlock, Directory, group_uid, uid_in, is_marked_in, relisted, marked_block}
+use Rattle.geos_table.specs.Directories.{VmBlock, Directory, uid_in, is_marked_in, relisted, marked_block}
+use Rattle.geos_model.specs.Names.{group_uid}
 use Rattle.geos_table.specs.VmFile.{VmFile}
 
 -- the blocks of global memory, that of handle 1 first; the VM file; and the length of the

@@ -4,8 +4,8 @@ use Rattle.std.specs.Prelude.{ℕ, ◌+◌, suc, Bool, true, false, ◌&&◌, no
 use Rattle.geos_model.specs.declared.name.Owner.TheVariants.{Vm}
 use Rattle.geos_model.specs.declared.refusal.Refusal.{Refusal}
 use Rattle.geos_model.specs.declared.refusal.Refusal.TheVariants as refusal
-use Rattle.geos_model.specs.Names.{vm}
-use Rattle.geos_table.specs.Directories.{VmBlock, KeptBlock, Directory, group_uid, uid_in, kept_block, idle_block, with_each, without_block}
+use Rattle.geos_model.specs.Names.{vm, group_uid}
+use Rattle.geos_table.specs.Directories.{VmBlock, KeptBlock, Directory, uid_in, kept_block, idle_block, with_each, without_block}
 use Rattle.geos_table.specs.VmFile.{Pair, Sure, pair_length, is_unsure, doubted}
 use Rattle.geos_table.specs.Memory.{Memory, new_heap, listed_at, with_cur, with_listed, is_group, with_mark, locks_of, with_locks, lowest_handle}
 use Rattle.geos_table.specs.Effects.{Choice, Effect, Call, Nothing, unchanged, tells, cannot_make, bringing}

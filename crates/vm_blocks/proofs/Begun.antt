@@ -6,7 +6,8 @@ use Rattle.std.proofs.lemmas.List.{length-map}
 use Rattle.std.proofs.lemmas.List.Elements.{All-drop, All-nil, All-take}
 use Rattle.std.proofs.lemmas.List.FromFn.{length-map-range_with_len}
 use Rattle.geos_model.specs.Bytes.{AreBytes}
-use Rattle.geos_table.specs.Directories.{KeptBlock, group_uid, idle_block, with_each}
+use Rattle.geos_table.specs.Directories.{KeptBlock, idle_block, with_each}
+use Rattle.geos_model.specs.Names.{group_uid}
 use Rattle.geos_table.specs.Directories as model
 use Rattle.geos_table.specs.Handles.{at_handle}
 use Rattle.geos_table.specs.Legal.{ArePairs, IsLegalKept, IsPair, IsStored}

@@ -2,7 +2,8 @@
 use Rattle.std.proofs.Common.{◌≡◌, ◌≢◌, ℕ, zero, suc, ◌<◌, [], Option, Some, None, true, false, not, ◌&&◌, refl, arith}
 use Rattle.std.specs.Prelude.{◌==◌, Ok, IsSomeAnd, is_none, option_map}
 use Rattle.std.proofs.lemmas.Bool.Decides.{nat_tests}
-use Rattle.geos_table.specs.Directories.{VmBlock, Directory, group_uid, uid_in}
+use Rattle.geos_table.specs.Directories.{VmBlock, Directory, uid_in}
+use Rattle.geos_model.specs.Names.{group_uid}
 use Rattle.geos_table.specs.ItemCalls.{isetmap}
 use Rattle.geos_table.specs.Legal.{IsCurrent}
 use Rattle.geos_table.specs.Memory.{Memory, is_group, listed_at, with_cur}

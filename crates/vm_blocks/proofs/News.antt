@@ -3,7 +3,7 @@ use Rattle.std.proofs.Common.{◌≡◌, ◌≢◌, ◌∙◌, ℕ, ◌<◌, len
 use Rattle.std.specs.Prelude.{IsSomeAnd}
 use Rattle.std.proofs.lemmas.Bool.{cases_eq}
 use Rattle.std.proofs.lemmas.List.{length-replicate}
-use Rattle.geos_model.specs.Names.{vm}
+use Rattle.geos_model.specs.Names.{vm, group_uid}
 use Rattle.block_handles.specs.Change.{with_locks}
 use Rattle.block_handles.specs.Layout.{IsLaidOut}
 use Rattle.block_handles.specs.Names.{IsHandle}
@@ -11,7 +11,6 @@ use Rattle.block_handles.specs.Store.{Block, Store, block_at, bytes_in, IsBlock,
 use Rattle.block_handles.proofs.Laws.{laid-with_bytes, with_locks-same}
 use Rattle.block_handles.proofs.Layouts.{there_small}
 use Rattle.vm_file.specs.Device.{Medium}
-use Rattle.vm_file.specs.Directories.{group_uid}
 use Rattle.vm_file.specs.State.{FileState}
 use Rattle.vm_blocks.specs.declared.entries.Held.{Held}
 use Rattle.vm_blocks.specs.View.{VmState, held_at, vm_slot, with_held}

@@ -6,7 +6,8 @@ use Rattle.std.proofs.lemmas.Bool.Decides.{nat_tests}
 use Rattle.std.proofs.lemmas.List.{get_or-drop}
 use Rattle.std.proofs.lemmas.List.Sums.{position_or_len_is}
 use Rattle.geos_model.specs.declared.refusal.Refusal.{Refusal}
-use Rattle.geos_table.specs.Directories.{VmBlock, group_uid}
+use Rattle.geos_table.specs.Directories.{VmBlock}
+use Rattle.geos_model.specs.Names.{group_uid}
 use Rattle.geos_table.specs.Directories as model
 use Rattle.geos_table.specs.Effects.{Call, effect_of, outcome}
 use Rattle.geos_table.specs.ItemCalls.{igetmap}

@@ -6,7 +6,7 @@ use Rattle.block_handles.specs.Layout.{IsLaidOut}
 use Rattle.block_handles.specs.Names.{IsHandle}
 use Rattle.block_handles.specs.Store.{Block, Store, block_at}
 use Rattle.vm_file.specs.Device.{Medium}
-use Rattle.vm_file.specs.Directories.{group_uid}
+use Rattle.geos_model.specs.Names.{group_uid}
 use Rattle.vm_file.specs.State.{FileState, HasBlock}
 use Rattle.vm_blocks.specs.declared.entries.Held.{Held}
 use Rattle.vm_blocks.specs.View.{VmState, bytes_read, held_at, vm_slot}

@@ -5,7 +5,7 @@ ghost use Rattle.block_handles.specs.Names.{IsHandle};
 ghost use Rattle.block_handles.specs.Store.{Store};
 ghost use Rattle.geos_table.specs.Memory.{Memory, is_marked};
 ghost use Rattle.geos_table.specs.VmCalls.{vuid};
-ghost use Rattle.vm_file.specs.Directories.{group_uid};
+ghost use Rattle.geos_model.specs.Names.{group_uid};
 ghost use Rattle.vm_file.specs.State.{Finds};
 ghost use Rattle.vm_blocks.specs.Blocks.{uid_of, is_marked_in};
 ghost use Rattle.vm_blocks.specs.DoesRow.{DoesRow};

@@ -3,7 +3,7 @@ ghost use Rattle.std.specs.Prelude.{◌≡◌, ◌≢◌, ◌↔◌, ℕ, Ok, If
 ghost use Rattle.block_handles.specs.Store.{Store};
 ghost use Rattle.geos_table.specs.ItemCalls.{igetmap, isetmap};
 ghost use Rattle.geos_table.specs.VmCalls.{vfind, vgetmap, vsetmap};
-ghost use Rattle.vm_file.specs.Directories.{group_uid};
+ghost use Rattle.geos_model.specs.Names.{group_uid};
 ghost use Rattle.vm_blocks.specs.Blocks.{AllListed, HasUid, IsLowestUnlisted, IsNextWith, NoneWith};
 ghost use Rattle.vm_blocks.specs.DoesRow.{DoesRow};
 ghost use Rattle.vm_blocks.specs.Tied.{IsTied};

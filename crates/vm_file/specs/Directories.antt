@@ -4,14 +4,11 @@ use Rattle.std.specs.List.{list_any}
 use Rattle.vm_file.specs.declared.directory.Entry.{Entry}
 use Rattle.vm_file.specs.declared.directory.Directory.{Directory}
 use Rattle.geos_model.specs.Heap.{is_block_size}
+use Rattle.geos_model.specs.Names.{group_uid}
 
 -- the greatest handle, and the greatest number of blocks
 abbrev pub most_blocks : ℕ
 most_blocks = 1024
-
--- the user ID of groups
-abbrev pub group_uid : ℕ
-group_uid = 65280
 
 -- a block that is no group has this handle
 abbrev pub has_block : List Entry → ℕ → Bool
