@@ -2,7 +2,7 @@
 //! the fields a, b, c, d, imm and target, in this order, without those of unused fields.
 
 ghost use Rattle.std.specs.Prelude.{◌≡◌};
-ghost use Rattle.geos_opcodes.specs.Fields.{operand_at, register_letter};
+ghost use Rattle.geos_opcodes.specs.Fields.{operand_at};
 
 use crate::opcode::{Opcode, Operand};
 
@@ -40,20 +40,5 @@ pub fn operand_at(opcode: Opcode, field: Field) -> Operand
         Field::D => operands.d,
         Field::Imm => operands.imm,
         Field::Target => operands.target,
-    }
-}
-
-/// The letter of a register; `None` for an operand that is no register. The registers of a kind
-/// are numbered below `Operand::limit`.
-pub fn register_letter(operand: Operand) -> Option<u8>
-    ensures { result ≡ register_letter operand }
-{
-    match operand {
-        Operand::Word => Some(b'w'),
-        Operand::Counter => Some(b'k'),
-        Operand::Slot => Some(b's'),
-        Operand::Pointer => Some(b'p'),
-        Operand::Unused | Operand::Number | Operand::Shift | Operand::Routine | Operand::Label =>
-            None,
     }
 }

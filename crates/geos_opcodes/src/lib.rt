@@ -10,6 +10,6 @@ mod opcode;
 mod uses;
 
 pub use facts::{CounterUse, Facts, Flow, OPCODES, Yields};
-pub use fields::{FIELDS, Field, operand_at, register_letter};
+pub use fields::{FIELDS, Field, operand_at};
 pub use opcode::{Opcode, Operand, Operands};
 pub use uses::{Kind, Offset, PointerUse, SlotUse, Uses, Width};
