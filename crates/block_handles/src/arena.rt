@@ -16,7 +16,7 @@ pub(crate) const SLOTS: usize = 2048;
 const GRANULE: u32 = 64;
 
 /// Where a block lies, and how often it is locked.
-#[derive(Clone, Copy, Debug, PartialEq, Eq)]
+#[derive(Clone, Copy)]
 pub(crate) struct Entry {
     pub(crate) place: u32,
     pub(crate) size: u32,

@@ -12,7 +12,7 @@ use crate::pack::{pack_down, pack_up};
 use crate::stretch::{Stretch, next_roomy, roomiest};
 
 /// A free range of the region, in which the next block is placed.
-#[derive(Clone, Copy, Debug, PartialEq, Eq)]
+#[derive(Clone, Copy)]
 pub(crate) struct Gap {
     pub(crate) at: u32,
     pub(crate) end: u32,

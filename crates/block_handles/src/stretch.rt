@@ -8,7 +8,7 @@ use crate::arena::Arena;
 
 /// A part of the region that no other locked block reaches into, and how many bytes it has
 /// beside the unlocked blocks that lie in it.
-#[derive(Clone, Copy, Debug, PartialEq, Eq)]
+#[derive(Clone, Copy)]
 pub(crate) struct Stretch {
     pub(crate) from: u32,
     pub(crate) until: u32,
