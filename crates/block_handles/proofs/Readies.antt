@@ -1,21 +1,37 @@
 -- That blocks lie as they should and the gap is free, after what calls do.
-use Rattle.std.proofs.Common.{◌≡◌, ◌≢◌, ℕ, ◌+◌, ◌-◌, ◌≤◌, ◌<◌, ◌⊎◌, ◌/◌, ◌%◌, Option, slice_index, List, length, replicate, slice_index_or, None, refl, ap, sym, subst, ◌∙◌, arith, inl, inr, length-append}
+use Rattle.std.proofs.Common.{◌≡◌, ◌≢◌, ℕ, ◌+◌, ◌-◌, ◌≤◌, ◌<◌, ◌⊎◌, ◌/◌, ◌%◌, Option, slice_index, List, length, set, replicate, slice_index_or, None, refl, ap, sym, subst, ◌∙◌, arith, inl, inr, length-append}
 use Rattle.std.proofs.lemmas.List.{length-replicate, get_or-set_same, get_or-set_other}
 use Rattle.std.proofs.lemmas.Nat.Bits.{bit_at-lt}
 use Rattle.std.proofs.lemmas.Bool.{cases_eq}
 use Rattle.block_handles.specs.declared.room.Gap.{Gap}
 use Rattle.block_handles.specs.Store.{Block, Store, block_at, bytes_in, bytes_of, IsBlock, IsThere, size_of, place_of, end_of}
-use Rattle.block_handles.specs.Change.{with_block, new_block, grown_block, with_locks, after_write, with_bytes}
-use Rattle.block_handles.specs.Gap.{IsGap, IsReady, MakesRoom}
-use Rattle.block_handles.specs.Joined.{Joins}
+use Rattle.block_handles.specs.Change.{LockedStay, with_block, new_block, grown_block, with_locks, after_write, with_bytes}
+use Rattle.block_handles.specs.Calls.{Grows, Makes}
+use Rattle.block_handles.specs.Gap.{IsGap, IsGapBut, IsReady, MakesRoom}
+use Rattle.block_handles.specs.Joined.{Joins, Reaches}
 use Rattle.block_handles.specs.Bits.{bit_of, SetsBit}
 use Rattle.block_handles.specs.Used.{IsUsed, IsFreeCount, IsKept}
-use Rattle.block_handles.specs.Layout.{Apart, IsLaidOut, IsFree}
+use Rattle.block_handles.specs.Layout.{Apart, IsEmpty, IsLaidOut, IsFree, IsFreeBut}
+use Rattle.block_handles.specs.Packing.{IsEdge}
 use Rattle.block_handles.specs.Stretch.{all_sizes}
 use Rattle.block_handles.proofs.Layouts.{Differs, with_block-differs, there_small, there_of_size, size_of_none, with_locks-shape, SameShape, laid-same, free-same}
 use Rattle.block_handles.proofs.Counting.{sizes-fit, sizes-same, sizes-with_block}
 use Rattle.block_handles.proofs.Packs.{size_along}
 use Rattle.block_handles.proofs.Writes.{after_write-shape, with_bytes-shape}
+
+-- a region with no block is one gap, and no bit is set
+pub ready-empty : (S : Store) (len : ℕ) → IsEmpty S len → IsReady S (record { at = 0; end = len })
+ready-empty S len e = record {
+  laid = e.laid;
+  room = record {
+    ordered = omega arith;
+    inside = omega (arith, e.long);
+    free = λ j. let z : size_of S j ≡ 0 = ap (λ b. length (bytes_in b)) (e.none j) in inl (omega (arith, z, e.laid.none j z));
+  };
+}
+
+pub used-empty : (S : Store) (len : ℕ) (words : List ℕ) → IsEmpty S len → length words ≡ 32 → ((slot : ℕ) → bit_of words slot ≡ 0) → IsUsed S words
+used-empty S len words e long none = record { long = long; there = λ j small is. absurd (omega (arith, is, none j)); none = λ j small is there. subst IsBlock (e.none j) there }
 
 pub ready-same : (S S' : Store) (gap : Gap) → SameShape S S' → IsReady S gap → IsReady S' gap
 ready-same S S' gap shape r = record {
@@ -73,6 +89,43 @@ used-blocks S S' words e u = used-same S S' words (λ j h. subst (λ bs. IsBlock
 
 length-grown : (S : Store) (slot size : ℕ) → size_of S slot ≤ size → length (bytes_in (grown_block S slot size)) ≡ size
 length-grown S slot size more = omega (arith, length-append (bytes_of S slot) (replicate (size - size_of S slot) 0), length-replicate {A = ℕ} (size - size_of S slot) 0, more)
+
+-- no block crosses the end of a gap
+pub edge-gap : (S : Store) (gap : Gap) → IsGap S gap → IsEdge S gap.end
+edge-gap S gap g j = by (g.free j)
+  where
+    by : (end_of S j ≤ gap.at) ⊎ (gap.end ≤ place_of S j) → (end_of S j ≤ gap.end) ⊎ (gap.end ≤ place_of S j)
+    by (inl q) = inl (omega (arith, q, g.ordered))
+    by (inr q) = inr q
+
+-- no other block lies where a block is to lie
+pub room-free : (old mid : Store) (slot size : ℕ) (gap : Gap) → MakesRoom old mid slot size gap → IsFreeBut mid slot gap.at (gap.at + size)
+room-free old mid slot size gap m j ne = by (m.free j ne)
+  where
+    by : (end_of mid j ≤ gap.at) ⊎ (gap.end ≤ place_of mid j) → (end_of mid j ≤ gap.at) ⊎ (gap.at + size ≤ place_of mid j)
+    by (inl q) = inl q
+    by (inr q) = inr (omega (arith, q, m.room))
+
+-- what a block that is put there leaves of the others
+module _ (old mid new : Store) (slot size : ℕ) (gap : Gap) (m : MakesRoom old mid slot size gap) (laid : IsLaidOut new) where
+  stays : (b : Option Block) → new ≡ with_block mid slot b gap.at → LockedStay old new slot
+  stays b e j ne locked = ap (λ s. place_of s j) e ∙ get_or-set_other mid.places slot j gap.at 0 ne ∙ m.stay j ne locked
+
+  pub grows : new ≡ with_block mid slot (grown_block mid slot size) gap.at → Grows old new slot size
+  grows e = record {
+    blocks = ap (λ s. s.blocks) e ∙ ap (λ bs. let s : Store = record { blocks = bs; places = mid.places; len = mid.len } in set bs slot (grown_block s slot size)) m.blocks;
+    stay = stays (grown_block mid slot size) e;
+    laid = laid;
+    len = ap (λ s. s.len) e ∙ m.len;
+  }
+
+  pub makes : new ≡ with_block mid slot (new_block size) gap.at → Makes old new slot size
+  makes e = record {
+    blocks = ap (λ s. s.blocks) e ∙ ap (λ bs. set bs slot (new_block size)) m.blocks;
+    stay = stays (new_block size) e;
+    laid = laid;
+    len = ap (λ s. s.len) e ∙ m.len;
+  }
 
 -- bytes that a block takes of those that are free
 pub count-taken : (S S' : Store) (free more : ℕ) → IsFreeCount S free → all_sizes S' ≡ all_sizes S + more → S'.len ≡ S.len → IsLaidOut S' → (more ≤ free) × IsFreeCount S' (free - more)
@@ -184,19 +237,27 @@ module _ (S : Store) (slot : ℕ) (laid : IsLaidOut S) (there : IsThere S slot) 
   nowhere : (a b j : ℕ) → size_of S j ≡ 0 → (end_of S j ≤ a) ⊎ (b ≤ place_of S j)
   nowhere a b j z = inl (omega (arith, z, laid.none j z))
 
+  -- what is free is so with the block that lies right before it, but for that
+  before : (gap : Gap) (place end : ℕ) → place ≡ place_of S slot → end ≡ end_of S slot → end ≡ gap.at → IsFree S gap.at gap.end → IsFreeBut S slot place gap.end
+  before gap place end ep ee meets free j ne = by (free j) (laid.apart j slot ne)
+    where
+      by : (end_of S j ≤ gap.at) ⊎ (gap.end ≤ place_of S j) → Apart S j slot → (end_of S j ≤ place) ⊎ (gap.end ≤ place_of S j)
+      by (inr q) a = inr q
+      by (inl q) (inl a) = inl (omega (arith, a, ep))
+      by (inl q) (inr a) = nowhere place gap.end j (omega (arith, q, a, ee, meets))
+
+  pub reached-gap : (gap gap' : Gap) (place end : ℕ) → place ≡ place_of S slot → end ≡ end_of S slot → IsGap S gap → Reaches gap place end gap' → IsGapBut S slot gap'
+  reached-gap gap gap' place end ep ee g (inl (meets, is)) =
+      let at : gap'.at ≡ place = ap (λ x. x.at) is in let stop : gap'.end ≡ gap.end = ap (λ x. x.end) is in
+      record { ordered = omega (arith, at, stop, ep, ee, meets, g.ordered); inside = omega (arith, stop, g.inside); free = rw (at, stop) (before gap place end ep ee meets g.free) }
+  reached-gap gap gap' place end ep ee g (inr is) =
+      let at : gap'.at ≡ gap.at = ap (λ x. x.at) is in let stop : gap'.end ≡ gap.end = ap (λ x. x.end) is in
+      record { ordered = omega (arith, at, stop, g.ordered); inside = omega (arith, stop, g.inside); free = rw (at, stop) (λ j ne. g.free j) }
+
   freed-gap : (gap gap' : Gap) (place end : ℕ) → place ≡ place_of S slot → end ≡ end_of S slot → IsGap S gap → Joins gap place end gap' → IsGap F gap'
   freed-gap gap gap' place end ep ee g (inl (meets, is)) =
       let at : gap'.at ≡ place = ap (λ x. x.at) is in let stop : gap'.end ≡ gap.end = ap (λ x. x.end) is in
-      record {
-        ordered = omega (arith, at, stop, ep, ee, meets, g.ordered);
-        inside = omega (arith, stop, g.inside);
-        free = rw (at, stop) (freed-range place gap.end (λ j ne. by j (g.free j) (laid.apart j slot ne)));
-      }
-    where
-      by : (j : ℕ) → (end_of S j ≤ gap.at) ⊎ (gap.end ≤ place_of S j) → Apart S j slot → (end_of S j ≤ place) ⊎ (gap.end ≤ place_of S j)
-      by j (inr q) a = inr q
-      by j (inl q) (inl a) = inl (omega (arith, a, ep))
-      by j (inl q) (inr a) = nowhere place gap.end j (omega (arith, q, a, ee, meets))
+      record { ordered = omega (arith, at, stop, ep, ee, meets, g.ordered); inside = omega (arith, stop, g.inside); free = rw (at, stop) (freed-range place gap.end (before gap place end ep ee meets g.free)) }
   freed-gap gap gap' place end ep ee g (inr (inl (meets, is))) =
       let at : gap'.at ≡ gap.at = ap (λ x. x.at) is in let stop : gap'.end ≡ end = ap (λ x. x.end) is in
       record {

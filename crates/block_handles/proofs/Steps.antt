@@ -1,7 +1,7 @@
 -- What each step of an arena leaves: its fields are sound, and the store is as promised.
 use Rattle.std.proofs.Common.{◌≡◌, ◌≢◌, ℕ, ◌+◌, ◌-◌, ◌/◌, ◌%◌, ◌≤◌, ◌<◌, List, ◌++◌, length, replicate, Option, Some, None, slice_index_or, slice_set, refl, ap, sym, subst, ◌∙◌, arith, length-append}
 use Rattle.std.specs.Prelude.{IfSome}
-use Rattle.std.proofs.lemmas.List.{length-replicate, get_or-set_other, set-get_or}
+use Rattle.std.proofs.lemmas.List.{length-map, length-replicate, get_or-set_other, set-get_or}
 use Rattle.lmem_raw.specs.Bytes.{part, with_part}
 use Rattle.lmem_raw.proofs.Parts.{length-with_part, part-same}
 use Rattle.block_handles.specs.declared.arena.Entry.{Entry}
@@ -154,7 +154,20 @@ module _ (region : List ℕ) (table : List (Option Entry)) (index : List (Option
       subst (λ s. (i < 2048) × (IsThere s i → ⊥) → at + size ≤ s.len → IsFreeBut s i at (at + size) → Step region' (slice_set table i (Some (record { place = at; size = size; locks = 0 }))) (slice_set index (at / 64) (Some i)) (with_block s i (new_block size) at))
       view (λ slot room free. create-step region table index sound i at size slot.0 slot.1 legal room free region' eq) slot room free
 
+  -- the granule of an offset stands in the index
+  pub granule_seen : (at : ℕ) → at ≤ seen.len → at / 64 < length index
+  granule_seen at low = omega (arith, low, sound.indexed.long, ap (λ s. s.len) view)
+
+  pub entry_seen : IsThere seen i → IsEntry (slice_index_or table i None)
+  entry_seen there = entry_there region table i (subst (λ s. IsThere s i) (sym view) there)
+
   module _ (e : Entry) (is : slice_index_or table i None ≡ Some e) where
+    pub slot_seen : i < length table
+    slot_seen = omega (arith, slot-small region table index sound i e is, sound.laid.slots, length-map table (block_in region))
+
+    pub lies_seen : e.place + e.size ≤ seen.len
+    lies_seen = omega (arith, in-region region table index sound i e is, ap (λ s. s.len) view)
+
     pub remove_seen : Step region (slice_set table i None) (slice_set index (e.place / 64) None) (with_block seen i None 0)
     remove_seen = subst (λ s. Step region (slice_set table i None) (slice_set index (e.place / 64) None) (with_block s i None 0)) view (remove-step region table index sound i e is)
 

@@ -1,12 +1,13 @@
-use Rattle.std.proofs.Common.{arith, rules}
+use Rattle.std.proofs.Common.{arith}
 use Rattle.block_handles.proofs.Counting.{sizes-none}
+use Rattle.block_handles.proofs.Readies.{ready-empty, used-empty}
 use Rattle.block_handles.proofs.Blocks.new.Goals as goal
 
 pub invariant_of-result : goal.invariant_of-result
 invariant_of-result c =
     let e = c.in_ok-new.ensures in
     record {
-      ready = search rules;
-      used = search rules;
+      ready = ready-empty c.in_ok-new.field-0 _ e;
+      used = used-empty c.in_ok-new.field-0 _ _ e c.in_ok-new-2.ensures.0 c.in_ok-new-2.ensures.1;
       count = record { counted = omega (arith, e.long, sizes-none c.in_ok-new.field-0 e.none); short = omega (arith, e.long, c.ranges.region.fits) };
     }
