@@ -11,7 +11,7 @@ use crate::places::PlacedDirectory;
 use crate::reader::is_heap_of;
 
 /// Which pair of directories a commit keeps.
-#[derive(Clone, Copy, Debug, Drop, PartialEq, Eq)]
+#[derive(Clone, Copy, Drop)]
 pub enum How {
     /// The given current directory, and the saved one as it was.
     Update,
@@ -32,7 +32,7 @@ pub trait Source {
 }
 
 /// No block is in memory.
-#[derive(Clone, Copy, Drop)]
+#[derive(Drop)]
 pub(crate) struct Nothing;
 
 impl Source for Nothing {

@@ -11,7 +11,7 @@ pub const MOST_BLOCKS: usize = 1024;
 pub const GROUP_UID: u16 = 0xff00;
 
 /// A block of a file, as its directory lists it.
-#[derive(Clone, Copy, Debug, Default, PartialEq, Eq)]
+#[derive(Clone, Copy, Default)]
 pub struct Entry {
     /// The block's handle, from 1 to 1,024.
     pub h: u16,
