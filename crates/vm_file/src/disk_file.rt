@@ -24,6 +24,12 @@ pub struct FileDevice {
     may_lack: bool,
 }
 
+impl From<io::Error> for Disk {
+    fn from(_: io::Error) -> Disk {
+        Disk
+    }
+}
+
 impl FileDevice {
     ghost use Rattle.vm_file.specs.DiskFile.{failures_of, len_of, may_lack};
 
@@ -42,7 +48,7 @@ impl FileDevice {
     {
         let mut how = OpenOptions::new();
         how.read(true).write(true).create_new(true);
-        let file = how.open(rt, path).map_err(|_| Disk)?;
+        let file = how.open(rt, path)?;
         if make_last(rt, &file, path, len).is_err() {
             let _ = fs::remove_file(rt, path);
             return Err(Disk);
@@ -62,7 +68,7 @@ impl FileDevice {
     {
         let mut how = OpenOptions::new();
         how.read(true).write(true);
-        let file = how.open(rt, path).map_err(|_| Disk)?;
+        let file = how.open(rt, path)?;
         FileDevice::opened(file)
     }
 
@@ -76,7 +82,7 @@ impl FileDevice {
         ensures failures { IfOk result (λ device. failures_of device ≡ 0) }
         ensures may_lack { IfOk result (λ device. may_lack device ≡ false) }
     {
-        let file = File::open(rt, path).map_err(|_| Disk)?;
+        let file = File::open(rt, path)?;
         FileDevice::opened(file)
     }
 
@@ -99,7 +105,7 @@ impl FileDevice {
         ensures failures { IfOk result (λ device. failures_of device ≡ 0) }
         ensures may_lack { IfOk result (λ device. may_lack device ≡ false) }
     {
-        let len = file.metadata().map_err(|_| Disk)?.len();
+        let len = file.metadata()?.len();
         Ok(FileDevice::new(file, len))
     }
 
