@@ -42,6 +42,10 @@ over medium = record {
   may_have_left = λ start device. medium.may_have_left (inner_of start) (inner_of device);
 }
 
+-- a call that fails counts once, whether it failed below or on order
+abbrev pub CountsOver : {D T E : Type 0} → (D → ℕ) → FaultDevice D → FaultDevice D → Result T E → Type 0
+CountsOver failed old new result = Counts (all_failures (failed (inner_of old)) (own_of old)) (all_failures (failed (inner_of new)) (own_of new)) result
+
 -- a call was counted, and what is to fail stays
 pub record CountsCall {D : Type 0} (old new : FaultDevice D) : Type 0 where
   pub calls : calls_of new ≡ one_more (calls_of old)

@@ -1,7 +1,7 @@
 //! A device whose calls fail on order, for tests.
 ghost use Rattle.std.specs.Prelude.{◌≡◌, ◌+◌, ◌≤◌, length, true, false, OnOk};
 ghost use Rattle.lmem_raw.specs.Bytes.{part, with_part};
-ghost use Rattle.vm_file.specs.Device.{Counts, Only, all_failures, one_more};
+ghost use Rattle.vm_file.specs.Device.{Only, one_more};
 ghost use Rattle.vm_file.specs.Faulty.{is_due};
 ghost use Rattle.vm_file.specs.Outcomes.{ReadsOnly, WritesOnly};
 
@@ -72,7 +72,7 @@ fn is_due(calls: &mut u64, call: u64, rest: bool) -> bool
 }
 
 impl<D: Device + Drop> Device for FaultDevice<D> {
-    ghost use Rattle.vm_file.specs.Faulty.{CountsCall, FailsAlone, FailsHalf, PassesOn, inner_of, is_next_due, over, own_of};
+    ghost use Rattle.vm_file.specs.Faulty.{CountsCall, CountsOver, FailsAlone, FailsHalf, PassesOn, inner_of, is_next_due, over};
 
     ghost medium = { over D.medium };
 
@@ -89,7 +89,7 @@ impl<D: Device + Drop> Device for FaultDevice<D> {
         ensures within { OnOk result (at + length into.old ≤ length (D.medium.image (inner_of self.old))) }
         ensures bytes { D.medium.honest (inner_of self.old) → OnOk result (into.new ≡ part (D.medium.image (inner_of self.old)) at (length into.old)) }
         ensures reads { ReadsOnly (over D.medium) self.old self.new }
-        ensures cause { Counts (all_failures (D.medium.failed (inner_of self.old)) (own_of self.old)) (all_failures (D.medium.failed (inner_of self.new)) (own_of self.new)) result }
+        ensures cause { CountsOver D.medium.failed self.old self.new result }
         ensures counted { CountsCall self.old self.new }
         ensures due { is_next_due self.old ≡ true → FailsAlone self.old self.new result × (into.new ≡ into.old) }
         ensures passed { is_next_due self.old ≡ false → PassesOn D.medium.failed self.old self.new result }
@@ -107,7 +107,7 @@ impl<D: Device + Drop> Device for FaultDevice<D> {
         ensures within { OnOk result (at + length bytes.now ≤ length (D.medium.image (inner_of self.old))) }
         ensures written { D.medium.honest (inner_of self.old) → OnOk result (D.medium.image (inner_of self.new) ≡ with_part (D.medium.image (inner_of self.old)) at bytes.now) }
         ensures writes { WritesOnly (over D.medium) at (length bytes.now) self.old self.new }
-        ensures cause { Counts (all_failures (D.medium.failed (inner_of self.old)) (own_of self.old)) (all_failures (D.medium.failed (inner_of self.new)) (own_of self.new)) result }
+        ensures cause { CountsOver D.medium.failed self.old self.new result }
         ensures counted { CountsCall self.old self.new }
         ensures due { is_next_due self.old ≡ true → FailsHalf D.medium at bytes.now self.old self.new result }
         ensures passed { is_next_due self.old ≡ false → PassesOn D.medium.failed self.old self.new result }
@@ -128,7 +128,7 @@ impl<D: Device + Drop> Device for FaultDevice<D> {
     fn sync(&mut self) -> Result<(), Disk>
         ensures durable { D.medium.honest (inner_of self.old) → OnOk result (Only (D.medium.image (inner_of self.new)) (D.medium.may_leave (inner_of self.new))) }
         ensures reads { ReadsOnly (over D.medium) self.old self.new }
-        ensures cause { Counts (all_failures (D.medium.failed (inner_of self.old)) (own_of self.old)) (all_failures (D.medium.failed (inner_of self.new)) (own_of self.new)) result }
+        ensures cause { CountsOver D.medium.failed self.old self.new result }
         ensures counted { CountsCall self.old self.new }
         ensures due { is_next_due self.old ≡ true → FailsAlone self.old self.new result }
         ensures passed { is_next_due self.old ≡ false → PassesOn D.medium.failed self.old self.new result }
