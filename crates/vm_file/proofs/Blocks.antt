@@ -10,7 +10,7 @@ use Rattle.geos_model.specs.Block.{handle_word}
 use Rattle.geos_model.specs.Heap.{IsHeap}
 use Rattle.vm_file.specs.declared.directory.Entry.{Entry}
 use Rattle.vm_file.specs.Committing.{Shows}
-use Rattle.vm_file.specs.Contents.{Block, block_spelling, is_filled}
+use Rattle.vm_file.specs.Contents.{Block, Contents, block_spelling, contents_spelling, is_filled}
 use Rattle.vm_file.specs.Directories.{entries_length}
 use Rattle.geos_model.proofs.HeapTests.{both, heap-sound}
 use Rattle.vm_file.proofs.Lengths.{entries_length-more}
@@ -36,6 +36,14 @@ block_appended e bytes ws old mid new is long head body =
     let words = word_bytes e.h ++ word_bytes e.uid ++ word_bytes (length ws) in
     let spelled : (old ++ words) ++ ws ≡ old ++ block_spelling (let b : Block = record { h = e.h; uid = e.uid; bytes = ws } in b) = append_assoc old words ws in
     subst P (sym is) (body ∙ ap (λ xs. xs ++ ws) (subst H (sym long) head) ∙ spelled)
+
+-- the count, the blocks and the maps behind what was there are a directory
+pub contents_appended : (c : Contents) (n : ℕ) (old one two new : List ℕ) → n ≡ length c.blocks → one ≡ old ++ word_bytes n → two ≡ one ++ flat_map block_spelling c.blocks →
+    new ≡ two ++ (word_bytes c.map_block ++ word_bytes c.map_item.0 ++ word_bytes c.map_item.1) → new ≡ old ++ contents_spelling c
+contents_appended c n old one two new count first second third =
+    let blocks = flat_map block_spelling c.blocks in let maps = word_bytes c.map_block ++ word_bytes c.map_item.0 ++ word_bytes c.map_item.1 in
+    let grouped : ((old ++ word_bytes (length c.blocks)) ++ blocks) ++ maps ≡ old ++ contents_spelling c = simp append_assoc in
+    third ∙ ap (λ xs. xs ++ maps) (second ∙ ap (λ xs. xs ++ blocks) (first ∙ ap (λ k. old ++ word_bytes k) count)) ∙ grouped
 
 -- a block that is not resident is filled where its bytes are a heap under its handle
 pub filled_stored : (h uid : ℕ) (o : Option (List ℕ)) (stored : List ℕ) → o ≡ None → is_filled (let b : Block = record { h = h; uid = uid; bytes = unwrap_or o stored } in b) ≡ true →

@@ -10,7 +10,7 @@ use Rattle.vm_file.specs.Contents.{Pair, pair_in, pair_spelling}
 use Rattle.vm_file.specs.Device.{FailedOnce, Medium, Passes, Rose}
 use Rattle.vm_file.specs.Kept.{Kept}
 use Rattle.vm_file.specs.Outcomes.{ReadsOnly}
-use Rattle.vm_file.specs.State.{FileState, Finds, IsOther, pair_of}
+use Rattle.vm_file.specs.State.{FileState, Finds, IsOther, ReadsFile, pair_of}
 use Rattle.vm_file.proofs.Kept.{cut_is, finds_either, finds_same, kept_alike, kept_sure, kept_torn, same_saved, written_alike, written_nothing, written_on}
 use Rattle.vm_file.proofs.Moments.{weaker, goes_on, at_any_moment}
 
@@ -68,8 +68,10 @@ module _ {D : Type 0} (medium : Medium D) (how : How) (resident : ℕ → Option
       memory_first = not_begun Memory (λ is. absurd cc) ((λ is. absurd cc), (λ is. absurd cc)) ((λ is. absurd cc), (λ both. let big = both.1 in absurd (omega arith)))
 
       -- what it needs is read: the file is as it was, but for its device
-      module _ (mid : FileState D) (same : mid ≡ (let f : FileState D = record old { device = mid.device } in f)) (pair : pair_of medium.image mid ≡ pair_of medium.image old)
-          (reads : ReadsOnly medium old.device mid.device) where
+      module _ (mid : FileState D) {T E : Type 0} (outcome : Result T E) (r : ReadsFile medium old mid outcome) where
+        abbrev reads : ReadsOnly medium old.device mid.device
+        reads = r.read.only
+
         abbrev pub after : Pair
         after = kept_after medium.image resident how cur old
 
@@ -79,25 +81,25 @@ module _ {D : Type 0} (medium : Medium D) (how : How) (resident : ℕ → Option
         stopped_at : (new : D) → Passes medium.may_have_left old.device new (FindsOr medium.image old after) → medium.honest old.device → (c : List ℕ) → medium.may_have_left old.device new c → FindsOr medium.image old after c
         stopped_at new passes h = at_any_moment medium.may_have_left old.device new _ passes (λ x l. inl (finds h x (at_once x l)))
 
-        pub read_failed : FailedOnce (medium.failed old.device) (medium.failed mid.device) → (medium.honest old.device → Rose (medium.failed old.device) (medium.failed mid.device))
+        pub read_failed : (medium.honest old.device → Rose (medium.failed old.device) (medium.failed mid.device))
             → (NeedsNoRead resident how cur old.saved → ⊥) → CommitsFile medium how resident cur old mid (Err Disk)
-        read_failed once cause no_read = record {
+        read_failed cause no_read = record {
           unsure = ((λ is. absurd cc), (λ is. absurd cc));
           too_big = ((λ is. absurd cc), (λ both. let big = both.1 in absurd (omega arith)));
           done = tt;
-          refused = subst (λ (f : FileState D). f ≡ record old { device = f.device; sure = f.sure }) (sym same) refl;
-          pair = λ h. pair;
-          kept = λ h. inl (kept_alike medium.image old mid same reads.same);
+          refused = subst (λ (f : FileState D). f ≡ record old { device = f.device; sure = f.sure }) (sym r.same) refl;
+          pair = λ h. r.pair;
+          kept = λ h. inl (kept_alike medium.image old mid r.same reads.same);
           bytes = λ h. tt;
           torn = λ h is. written_nothing medium.image old mid.sure _ reads.same;
-          other = λ h was unsure. (let is = ap (λ (f : FileState D). f.sure) same in absurd cc);
+          other = λ h was unsure. (let is = ap (λ (f : FileState D). f.sure) r.same in absurd cc);
           any_moment = before_reads;
           stopped = λ h. stopped_at mid.device (before_reads h) h;
-          stop = λ h c l. finds_same medium.image old mid c same reads.same (finds h c (reads.stop h c l));
+          stop = λ h c l. finds_same medium.image old mid c r.same reads.same (finds h c (reads.stop h c l));
           stays = reads.stays;
           was = reads.was;
           ok = tt;
-          once = once;
+          once = r.read.once;
           cause = λ h is. cause h;
           no_read = λ needs is. absurd (no_read needs);
         }
@@ -110,11 +112,11 @@ module _ {D : Type 0} (medium : Medium D) (how : How) (resident : ℕ → Option
             (stays : medium.honest mid.device → medium.honest new.device) (was : medium.honest new.device → medium.honest mid.device)
             (once : FailedOnce (medium.failed mid.device) (medium.failed new.device)) where
           cut : medium.honest old.device → pair_in (current_after how cur mid.saved) (saved_after how cur mid.saved) bytes ≡ after
-          cut h = cut_is how cur old.saved mid.saved after bytes (same_saved medium.image old mid same) (spelled h)
+          cut h = cut_is how cur old.saved mid.saved after bytes (same_saved medium.image old mid r.same) (spelled h)
 
           passes : medium.honest old.device → Passes medium.may_have_left old.device new.device (FindsOr medium.image old after)
           passes h = goes_on medium.may_have_left old.device mid.device new.device _ (before_reads h)
-              (weaker medium.may_have_left mid.device new.device _ _ (λ x l. finds_either medium.image old (pair_of medium.image mid) _ after x sure pair (cut h) l) (any_moment (reads.stays h)))
+              (weaker medium.may_have_left mid.device new.device _ _ (λ x l. finds_either medium.image old (pair_of medium.image mid) _ after x sure r.pair (cut h) l) (any_moment (reads.stays h)))
 
           counted : FailedOnce (medium.failed old.device) (medium.failed new.device)
           counted = subst (λ n. FailedOnce n (medium.failed new.device)) count once
@@ -125,11 +127,11 @@ module _ {D : Type 0} (medium : Medium D) (how : How) (resident : ℕ → Option
           selected done now written ok = record {
             unsure = ((λ is. absurd cc), (λ is. absurd cc));
             too_big = ((λ is. absurd cc), (λ both. let big = both.1 in absurd (omega arith)));
-            done = subst (λ (f : FileState D). new ≡ record { device = new.device; area = f.area; second = not f.second; sure = true; current = current_after how cur f.saved; saved = saved_after how cur f.saved }) same done;
+            done = subst (λ (f : FileState D). new ≡ record { device = new.device; area = f.area; second = not f.second; sure = true; current = current_after how cur f.saved; saved = saved_after how cur f.saved }) r.same done;
             refused = tt;
             pair = λ h. now (reads.stays h) ∙ cut h;
             kept = λ h. kept_sure medium.image new _ (ap (λ (f : FileState D). f.sure) done) (now (reads.stays h) ∙ cut h);
-            bytes = λ h. subst (λ ws. medium.image new.device ≡ image_after medium.image ws mid) (spelled h).spelled (written (reads.stays h)) ∙ written_alike medium.image (pair_spelling after) old mid same reads.same;
+            bytes = λ h. subst (λ ws. medium.image new.device ≡ image_after medium.image ws mid) (spelled h).spelled (written (reads.stays h)) ∙ written_alike medium.image (pair_spelling after) old mid r.same reads.same;
             torn = λ h is. absurd cc;
             other = λ h was unsure. (let is = ap (λ (f : FileState D). f.sure) done in absurd cc);
             any_moment = passes;
@@ -151,11 +153,11 @@ module _ {D : Type 0} (medium : Medium D) (how : How) (resident : ℕ → Option
             unsure = ((λ is. absurd cc), (λ is. absurd cc));
             too_big = ((λ is. absurd cc), (λ both. let big = both.1 in absurd (omega arith)));
             done = tt;
-            refused = subst (λ (f : FileState D). new ≡ record f { device = new.device; sure = new.sure }) same left;
-            pair = λ h. now (reads.stays h) ∙ pair;
-            kept = λ h. kept_torn medium.image old new after sure (now (reads.stays h) ∙ pair) (holds h);
+            refused = subst (λ (f : FileState D). new ≡ record f { device = new.device; sure = new.sure }) r.same left;
+            pair = λ h. now (reads.stays h) ∙ r.pair;
+            kept = λ h. kept_torn medium.image old new after sure (now (reads.stays h) ∙ r.pair) (holds h);
             bytes = λ h. tt;
-            torn = λ h is. written_on medium.image old mid new.sure _ same reads.same (torn (reads.stays h));
+            torn = λ h is. written_on medium.image old mid new.sure _ r.same reads.same (torn (reads.stays h));
             other = λ h was. holds h;
             any_moment = passes;
             stopped = λ h. stopped_at new.device (passes h) h;

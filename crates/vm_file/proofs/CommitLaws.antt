@@ -7,8 +7,8 @@ use Rattle.lmem_raw.proofs.Parts.{with_part-split}
 use Rattle.vm_file.specs.declared.directory.Directory.{Directory}
 use Rattle.vm_file.specs.declared.commit.How.{How}
 use Rattle.vm_file.specs.declared.commit.How.TheVariants.{Update, Save, Revert}
-use Rattle.vm_file.specs.Committing.{FindsOneOf, Spells, current_after, saved_after}
-use Rattle.vm_file.specs.Contents.{Pair, pair_in, listed}
+use Rattle.vm_file.specs.Committing.{FindsOneOf, IsContentsOf, Spells, current_after, saved_after}
+use Rattle.vm_file.specs.Contents.{Contents, Pair, contents_spelling, listed, pair_in}
 use Rattle.vm_file.specs.Device.{AfterWrite, Medium, Only, Passes, Touched}
 use Rattle.vm_file.specs.Directories.{is_directory, directory_length}
 use Rattle.vm_file.specs.Outcomes.{WritesOnly}
@@ -58,6 +58,10 @@ pair_cut x y q bytes rest at spells =
     let again : pair_at at (bytes ++ rest) ≡ Ok q = ap (λ l. pair_at at (l ++ rest)) spells.spelled ∙ pair_again q at rest spells.cur_legal spells.saved_legal in
     let cut = (pair_ok at (bytes ++ rest) q again).there in
     (again, ap (λ d. pair_in d y (bytes ++ rest)) (sym spells.cur_listed) ∙ ap (λ d. pair_in (listed q.cur) d (bytes ++ rest)) (sym spells.saved_listed) ∙ cut)
+
+-- two legal directories that are spelled in turn
+pub spells_pair : (x y : Directory) (a b : Contents) (bytes : List ℕ) → bytes ≡ contents_spelling a ++ contents_spelling b → IsContentsOf x a → IsContentsOf y b → Spells x y (let q : Pair = record { cur = a; saved = b } in q) bytes
+spells_pair x y a b bytes is one two = record { spelled = is; cur_legal = one.legal; saved_legal = two.legal; cur_listed = one.lists; saved_listed = two.lists }
 
 pub pair_whole : (x y : Directory) (q : Pair) (bytes : List ℕ) → Spells x y q bytes → pair_in x y bytes ≡ q
 pair_whole x y q bytes spells = ap (pair_in x y) (sym (append-nil bytes)) ∙ (pair_cut x y q bytes [] 0 spells).1

@@ -1,7 +1,10 @@
 -- How a run of device calls goes on, and what a stop at some moment of it leaves.
-use Rattle.std.proofs.Common.{inl, inr, ⊎_elim, ℕ, List, refl, ◌∙◌}
-use Rattle.vm_file.specs.Device.{Medium, Passes}
-use Rattle.vm_file.specs.Outcomes.{ReadsOnly}
+use Rattle.std.proofs.Common.{◌≡◌, ◌+◌, ◌-◌, ◌^◌, inl, inr, ⊎_elim, ℕ, List, Result, Ok, refl, ◌∙◌, subst, arith}
+use Rattle.std.proofs.lemmas.Bool.{cases_lt}
+use Rattle.std.proofs.lemmas.Result.{on_ok_weaker}
+use Rattle.vm_file.specs.declared.error.OpenError.{OpenError}
+use Rattle.vm_file.specs.Device.{FailedOnce, Medium, Passes, Rose, one_more}
+use Rattle.vm_file.specs.Outcomes.{IsCaused, ReadsOnly, ReadsToFailure}
 
 module _ {D : Type 0} (left : D → D → List ℕ → Type 0) where
   pub weaker : (old new : D) (P Q : List ℕ → Type 0) → ((c : List ℕ) → P c → Q c) → Passes left old new P → Passes left old new Q
@@ -27,3 +30,26 @@ reads_then medium a b c r s = record {
   stop = (λ h x l. r.stop h x (s.stop (r.stays h) x l));
   time = (λ h d x l. (elim (s.time (r.stays h) d x l) [ inl p ↦ r.time h d x p | inr n ↦ inr (r.stop h x n) ]));
 }
+
+-- the same up to the first call that fails
+pub reads_well : {D T E : Type 0} (medium : Medium D) (a b : D) (x : T) → ReadsOnly medium a b → medium.failed b ≡ medium.failed a → ReadsToFailure {E = E} medium a b (Ok x)
+reads_well medium a b x only ok = record { only = only; ok = ok; once = inl ok }
+
+pub reads_on : {D T E : Type 0} (medium : Medium D) (a b c : D) (result : Result T E) → ReadsOnly medium a b → medium.failed b ≡ medium.failed a →
+    ReadsToFailure medium b c result → ReadsToFailure medium a c result
+reads_on medium a b c result only ok then = record {
+  only = reads_then medium a b c only then.only;
+  ok = on_ok_weaker result (λ e. e ∙ ok) then.ok;
+  once = subst (λ (k : ℕ). FailedOnce k (medium.failed c)) ok then.once;
+}
+
+-- a count that is one more has risen
+pub rose : (before now : ℕ) → now ≡ one_more before → Rose before now
+rose before now is = elim (cases_lt (before + 1) (2 ^ 64 - 1)) [
+  | inl less ↦ inl (omega (arith, is))
+  | inr most ↦ inr (omega (arith, is))
+]
+
+-- an error has the same cause where nothing failed before
+pub caused_on : (e : OpenError) (before mid now : ℕ) → mid ≡ before → IsCaused mid now e → IsCaused before now e
+caused_on e before mid now same caused = subst (λ (k : ℕ). IsCaused k now e) same caused

@@ -6,11 +6,12 @@ use borrow.Author.Tests.{ltb-true}
 use Rattle.vm_file.specs.declared.opened.Opened.{Opened}
 use Rattle.vm_file.specs.Contents.{Pair, pair_in}
 use Rattle.vm_file.specs.Device.{Medium, Only, Touched}
-use Rattle.vm_file.specs.Outcomes.{ReadsOnly}
+use Rattle.vm_file.specs.Outcomes.{ReadsOnly, ReadsToFailure}
 use Rattle.vm_file.specs.Opening.{IsOpened, listed_file}
 use Rattle.vm_file.specs.Reading.{◌>>=◌, header_at, selector_at, pair_at, file_at, File, is_second, base_of, area_of}
-use Rattle.vm_file.specs.State.{FileState, IsOther, IsSound, Leaves, file_of}
+use Rattle.vm_file.specs.State.{FileState, IsOther, IsSound, Leaves, ReadsFile, file_of}
 use Rattle.geos_model.proofs.HeapTests.{lt-ltb}
+use Rattle.vm_file.proofs.Moments.{reads_on}
 use Rattle.vm_file.proofs.ReadLaws.{after, cond_ok, ok_is, pair_ok}
 use Rattle.vm_file.proofs.SpellLaws.{goes}
 use Rattle.vm_file.proofs.Touches.{touched_not}
@@ -119,4 +120,21 @@ module _ {D : Type 0} (medium : Medium D) where
             pair = ap (λ xs. pair_at (base_of f.area f.second) (area_of xs f.area f.second)) reads.same ∙ was.pair ∙ ap (λ xs. let r : Result Pair ℕ = Ok (cut xs) in r) (sym reads.same);
             leaves = read_leaves (reads.was h) was.leaves;
           });
+    }
+
+  -- a file of which a call read the device, and one of which another did behind it
+  module _ {T E : Type 0} (result : Result T E) where
+    pub read_file : (f old : FileState D) (new : D) → f ≡ old → ReadsToFailure medium f.device new result →
+        ReadsFile medium old (let g : FileState D = record { device = new; area = f.area; second = f.second; sure = f.sure; current = f.current; saved = f.saved } in g) result
+    read_file f old new same read = subst (λ (g : FileState D). ReadsFile medium g (let x : FileState D = record { device = new; area = f.area; second = f.second; sure = f.sure; current = f.current; saved = f.saved } in x) result) same (record {
+      same = refl;
+      pair = ap (λ xs. pair_in f.current f.saved (area_of xs f.area f.second)) read.only.same;
+      read = read;
+    })
+
+    pub file_on : (a b c : FileState D) {X : Type 0} (x : X) → ReadsFile {E = E} medium a b (Ok x) → ReadsFile medium b c result → ReadsFile medium a c result
+    file_on a b c x one two = record {
+      same = two.same ∙ ap (λ (g : FileState D). let f : FileState D = record { device = c.device; area = g.area; second = g.second; sure = g.sure; current = g.current; saved = g.saved } in f) one.same;
+      pair = two.pair ∙ one.pair;
+      read = reads_on medium a.device b.device c.device result one.read.only one.read.ok two.read;
     }

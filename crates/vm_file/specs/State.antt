@@ -1,10 +1,11 @@
 -- What contracts see of a file that is open.
-use Rattle.std.specs.Prelude.{◌≡◌, ◌⊎◌, ℕ, ◌+◌, ◌≤◌, ◌<◌, Bool, true, not, ◌==◌, List, [], ◌∷◌, length, take, find, Ok, slice_index, if◌then◌else◌, MatchBool, IsSomeAnd}
+use Rattle.std.specs.Prelude.{◌≡◌, ◌⊎◌, ℕ, ◌+◌, ◌≤◌, ◌<◌, Bool, true, not, ◌==◌, List, [], ◌∷◌, length, take, find, Result, Ok, slice_index, if◌then◌else◌, MatchBool, IsSomeAnd}
 use Rattle.vm_file.specs.declared.directory.Entry.{Entry}
 use Rattle.vm_file.specs.declared.directory.Directory.{Directory}
 use Rattle.vm_file.specs.Contents.{Block, Pair, listed, pair_in}
 use Rattle.vm_file.specs.Device.{Medium, Touched}
 use Rattle.vm_file.specs.Directories.{is_directory, directory_length}
+use Rattle.vm_file.specs.Outcomes.{ReadsToFailure}
 use Rattle.vm_file.specs.Reading.{File, header_at, pair_at, is_area, is_second, base_of, area_of, found}
 
 -- the device; the area size; whether the second area is read; whether it is sure what the device holds; and the current and the saved directory
@@ -61,6 +62,12 @@ pub record IsSound {D : Type 0} (medium : Medium D) (f : FileState D) : Type 0 w
   pub fits : directory_length f.current + directory_length f.saved ≤ f.area
   pub within : base_of f.area f.second + (directory_length f.current + directory_length f.saved) ≤ length (medium.image f.device)
   pub holds : medium.honest f.device → Holds medium f
+
+-- a file of which a call reads the device, up to the first call of it that fails
+pub record ReadsFile {D T E : Type 0} (medium : Medium D) (old new : FileState D) (result : Result T E) : Type 0 where
+  pub same : new ≡ record old { device = new.device }
+  pub pair : pair_of medium.image new ≡ pair_of medium.image old
+  pub read : ReadsToFailure medium old.device new.device result
 
 -- a directory lists a block with this handle, of so many bytes
 abbrev pub HasBlock : Directory → ℕ → ℕ → Type 0

@@ -51,7 +51,7 @@ impl<D: Device + Drop> VmFile<D> {
     ghost use Rattle.vm_file.specs.Kept.{SureOf, kept_of};
     ghost use Rattle.vm_file.specs.Spelling.{empty_contents, empty_pair, new_file};
     ghost use Rattle.vm_file.specs.Reading.{is_area};
-    ghost use Rattle.vm_file.specs.State.{FileState, Finds, HasBlock, IsOther, ListsPair, bytes_of_block, file_of, pair_of};
+    ghost use Rattle.vm_file.specs.State.{FileState, Finds, HasBlock, IsOther, ListsPair, ReadsFile, bytes_of_block, file_of, pair_of};
 
     /// Makes a file on a device: writes the header, the selector and two empty directories,
     /// and ends with a `sync`. `area` is a legal area size, and the device has room for the file
@@ -289,13 +289,9 @@ impl<D: Device + Drop> VmFile<D> {
             → IsContentsOf cur.now (contents_from (S.resident_bytes source.now) (pair_of D.medium.image self.old).cur.blocks cur.now) }
         ensures len { OnOk result (vec_len into.new ≡ vec_len into.old + directory_length cur.now) }
         ensures room { vec_capacity into.old ≤ vec_capacity into.new }
-        ensures same { self.new ≡ record self.old { device = self.new.device } }
-        ensures pair { pair_of D.medium.image self.new ≡ pair_of D.medium.image self.old }
-        ensures ok { OnOk result (D.medium.failed self.new.device ≡ D.medium.failed self.old.device) }
-        ensures once { FailedOnce (D.medium.failed self.old.device) (D.medium.failed self.new.device) }
+        ensures read { ReadsFile D.medium self.old self.new result }
         ensures cause { D.medium.honest self.old.device → OnErr result (Rose (D.medium.failed self.old.device) (D.medium.failed self.new.device)) }
         ensures resident { AreResident (S.resident_bytes source.now) cur.now.entries.items → OnErr result ⊥ }
-        ensures reads { ReadsOnly D.medium self.old.device self.new.device }
     {
         let from = base_of(self.area, self.second) + 2;
         let kept = Placed {
@@ -313,13 +309,9 @@ impl<D: Device + Drop> VmFile<D> {
         ensures legal { D.medium.honest self.old.device → IsContentsOf self.old.saved (pair_of D.medium.image self.old).saved }
         ensures len { OnOk result (vec_len into.new ≡ vec_len into.old + directory_length self.old.saved) }
         ensures room { vec_capacity into.old ≤ vec_capacity into.new }
-        ensures same { self.new ≡ record self.old { device = self.new.device } }
-        ensures pair { pair_of D.medium.image self.new ≡ pair_of D.medium.image self.old }
-        ensures ok { OnOk result (D.medium.failed self.new.device ≡ D.medium.failed self.old.device) }
-        ensures once { FailedOnce (D.medium.failed self.old.device) (D.medium.failed self.new.device) }
+        ensures read { ReadsFile D.medium self.old self.new result }
         ensures cause { D.medium.honest self.old.device → OnErr result (Rose (D.medium.failed self.old.device) (D.medium.failed self.new.device)) }
         ensures no_block { self.old.saved.entries.items ≡ [] → OnErr result ⊥ }
-        ensures reads { ReadsOnly D.medium self.old.device self.new.device }
     {
         let first = u64::from(directory_length(self.current.directory()));
         let from = base_of(self.area, self.second) + first + 2;
@@ -344,13 +336,9 @@ impl<D: Device + Drop> VmFile<D> {
         ensures len { OnOk result (vec_len into.new ≡ length_after how cur.now self.old.saved) }
         ensures spelled { D.medium.honest self.old.device → OnOk result (Spells (current_after how cur.now self.old.saved) (saved_after how cur.now self.old.saved)
             (kept_after D.medium.image (S.resident_bytes source.now) how cur.now self.old) into.new.items) }
-        ensures same { self.new ≡ record self.old { device = self.new.device } }
-        ensures pair { pair_of D.medium.image self.new ≡ pair_of D.medium.image self.old }
-        ensures ok { OnOk result (D.medium.failed self.new.device ≡ D.medium.failed self.old.device) }
-        ensures once { FailedOnce (D.medium.failed self.old.device) (D.medium.failed self.new.device) }
+        ensures read { ReadsFile D.medium self.old self.new result }
         ensures cause { D.medium.honest self.old.device → OnErr result (Rose (D.medium.failed self.old.device) (D.medium.failed self.new.device)) }
         ensures no_read { NeedsNoRead (S.resident_bytes source.now) how cur.now self.old.saved → OnErr result ⊥ }
-        ensures reads { ReadsOnly D.medium self.old.device self.new.device }
     {
         match how {
             How::Update => match self.spell_current(cur, source, into) {

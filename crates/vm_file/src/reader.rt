@@ -5,8 +5,8 @@ ghost use Rattle.geos_model.specs.Heap.{IsHeap, most_block_bytes};
 ghost use Rattle.lmem_raw.specs.Bytes.{part};
 ghost use Rattle.vm_file.specs.Contents.{entry_of, listed};
 ghost use Rattle.vm_file.specs.Directories.{AreMaps, are_entries, directory_length, entries_length, is_directory, is_entry};
-ghost use Rattle.vm_file.specs.Device.{FailedOnce, Rose};
-ghost use Rattle.vm_file.specs.Outcomes.{Causes, CausesDisk, CausesNoBlock, IsHeapUnder, ReadsOnly, Tells, items_of};
+ghost use Rattle.vm_file.specs.Device.{Rose};
+ghost use Rattle.vm_file.specs.Outcomes.{Causes, CausesDisk, CausesNoBlock, IsHeapUnder, ReadsOnly, ReadsToFailure, Tells, items_of};
 ghost use Rattle.vm_file.specs.Reading.{block_at, blocks_at, contents_at, count_at, maps_at};
 
 use crate::device::{Device, Disk};
@@ -66,9 +66,7 @@ pub(crate) fn read_block<D: Device>(
     ensures heap { OnOk result (IsHeapUnder h into.new) }
     ensures no_block { CausesNoBlock h (D.medium.failed device.old) (D.medium.failed device.new) into.new result }
     ensures bytes { D.medium.honest device.old → OnOk result (into.new ≡ part (D.medium.image device.old) at (length into.old)) }
-    ensures reads { ReadsOnly D.medium device.old device.new }
-    ensures ok { OnOk result (D.medium.failed device.new ≡ D.medium.failed device.old) }
-    ensures once { FailedOnce (D.medium.failed device.old) (D.medium.failed device.new) }
+    ensures read { ReadsToFailure D.medium device.old device.new result }
     ensures cause { D.medium.honest device.old
         → IsHeap (part (D.medium.image device.old) at (length into.old))
         → handle_word (part (D.medium.image device.old) at (length into.old)) ≡ h

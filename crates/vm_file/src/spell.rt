@@ -9,9 +9,9 @@ ghost use Rattle.geos_model.specs.Heap.{IsHeap};
 ghost use Rattle.lmem_raw.specs.Bytes.{part};
 ghost use Rattle.vm_file.specs.Committing.{AreResident, HasLength, placed_block, placed_contents};
 ghost use Rattle.vm_file.specs.Contents.{block_spelling, contents_spelling, is_filled};
-ghost use Rattle.vm_file.specs.Device.{FailedOnce, Rose};
+ghost use Rattle.vm_file.specs.Device.{Rose};
 ghost use Rattle.vm_file.specs.Directories.{directory_length, entries_length};
-ghost use Rattle.vm_file.specs.Outcomes.{ReadsOnly};
+ghost use Rattle.vm_file.specs.Outcomes.{ReadsToFailure};
 
 use crate::commit::Source;
 use crate::device::{Device, Disk};
@@ -54,9 +54,7 @@ fn read_from<D: Device>(
     requires { at ≤ length into.old }
     ensures long { length into.new ≡ length into.old }
     ensures bytes { D.medium.honest device.old → OnOk result (into.new ≡ take at into.old ++ part (D.medium.image device.old) from (length into.old - at)) }
-    ensures reads { ReadsOnly D.medium device.old device.new }
-    ensures ok { OnOk result (D.medium.failed device.new ≡ D.medium.failed device.old) }
-    ensures once { FailedOnce (D.medium.failed device.old) (D.medium.failed device.new) }
+    ensures read { ReadsToFailure D.medium device.old device.new result }
     ensures cause { D.medium.honest device.old
         → IsHeap (part (D.medium.image device.old) from (length into.old - at))
         → handle_word (part (D.medium.image device.old) from (length into.old - at)) ≡ h
@@ -77,9 +75,7 @@ fn append_block<D: Device>(
     ensures items { D.medium.honest device.old → OnOk result (into.new.items ≡ into.old.items ++ part (D.medium.image device.old) from n) }
     ensures len { vec_len into.new ≡ vec_len into.old + n }
     ensures room { vec_capacity into.old ≤ vec_capacity into.new }
-    ensures reads { ReadsOnly D.medium device.old device.new }
-    ensures ok { OnOk result (D.medium.failed device.new ≡ D.medium.failed device.old) }
-    ensures once { FailedOnce (D.medium.failed device.old) (D.medium.failed device.new) }
+    ensures read { ReadsToFailure D.medium device.old device.new result }
     ensures cause { D.medium.honest device.old
         → IsHeap (part (D.medium.image device.old) from n)
         → handle_word (part (D.medium.image device.old) from n) ≡ h
@@ -114,9 +110,7 @@ fn spell_block<D: Device, S: Source>(
         ≡ into.old.items ++ block_spelling (placed_block (S.resident_bytes source.now) (D.medium.image device.old) kept.now e)) }
     ensures len { vec_len into.new ≡ vec_len into.old + (6 + e.len) }
     ensures room { vec_capacity into.old ≤ vec_capacity into.new }
-    ensures reads { ReadsOnly D.medium device.old device.new }
-    ensures ok { OnOk result (D.medium.failed device.new ≡ D.medium.failed device.old) }
-    ensures once { FailedOnce (D.medium.failed device.old) (D.medium.failed device.new) }
+    ensures read { ReadsToFailure D.medium device.old device.new result }
     ensures resident { IsSome (S.resident_bytes source.now e.h) → OnErr result ⊥ }
     ensures cause { D.medium.honest device.old
         → is_filled (placed_block (S.resident_bytes source.now) (D.medium.image device.old) kept.now e) ≡ true
@@ -151,9 +145,7 @@ fn spell_blocks<D: Device, S: Source>(
         ++ flat_map block_spelling (map (placed_block (S.resident_bytes source.now) (D.medium.image device.old) kept.now) entries.now)) }
     ensures len { OnOk result (vec_len into.new ≡ vec_len into.old + entries_length entries.now) }
     ensures room { vec_capacity into.old ≤ vec_capacity into.new }
-    ensures reads { ReadsOnly D.medium device.old device.new }
-    ensures ok { OnOk result (D.medium.failed device.new ≡ D.medium.failed device.old) }
-    ensures once { FailedOnce (D.medium.failed device.old) (D.medium.failed device.new) }
+    ensures read { ReadsToFailure D.medium device.old device.new result }
     ensures resident { AreResident (S.resident_bytes source.now) entries.now → OnErr result ⊥ }
     ensures cause { D.medium.honest device.old
         → list_all is_filled (map (placed_block (S.resident_bytes source.now) (D.medium.image device.old) kept.now) entries.now) ≡ true
@@ -183,9 +175,7 @@ pub(crate) fn spell_directory<D: Device, S: Source>(
         ++ contents_spelling (placed_contents (S.resident_bytes source.now) (D.medium.image device.old) kept.now directory.now)) }
     ensures len { OnOk result (vec_len into.new ≡ vec_len into.old + directory_length directory.now) }
     ensures room { vec_capacity into.old ≤ vec_capacity into.new }
-    ensures reads { ReadsOnly D.medium device.old device.new }
-    ensures ok { OnOk result (D.medium.failed device.new ≡ D.medium.failed device.old) }
-    ensures once { FailedOnce (D.medium.failed device.old) (D.medium.failed device.new) }
+    ensures read { ReadsToFailure D.medium device.old device.new result }
     ensures resident { AreResident (S.resident_bytes source.now) directory.now.entries.items → OnErr result ⊥ }
     ensures cause { D.medium.honest device.old
         → list_all is_filled (placed_contents (S.resident_bytes source.now) (D.medium.image device.old) kept.now directory.now).blocks ≡ true

@@ -7,7 +7,7 @@ use Rattle.vm_file.specs.Directories.{directory_length}
 use Rattle.vm_file.specs.Outcomes.{Tells}
 use Rattle.vm_file.specs.Reading.{contents_at}
 use Rattle.vm_file.proofs.Lengths.{stretch, drop-stretch}
-use Rattle.vm_file.proofs.Moments.{reads_then}
+use Rattle.vm_file.proofs.Moments.{caused_on, reads_then}
 use Rattle.vm_file.proofs.OpenSteps.{pair_stop_first, pair_stop_second, pair_read}
 use Rattle.vm_file.proofs.opened.read_pair.Goals as goal
 
@@ -51,3 +51,9 @@ pub returns-in-Ok-read_directory-2-clause-reads : goal.returns-in-Ok-read_direct
 returns-in-Ok-read_directory-2-clause-reads g c =
     let d = g.D.Device in
     reads_then d.medium c.args.device.now c.read_directory.new.device c.read_directory-2.new.device c.in-Ok-read_directory.ensures.reads c.in-Ok-read_directory-2.ensures.reads
+
+pub returns-clause-cause : goal.returns-clause-cause
+returns-clause-cause g c = caused_on _ _ _ _ c.in-Ok-read_directory.ensures.cause c.in-Err-read_directory-2.ensures.cause
+
+pub returns-in-Ok-read_directory-2-clause-cause : goal.returns-in-Ok-read_directory-2-clause-cause
+returns-in-Ok-read_directory-2-clause-cause g c = c.in-Ok-read_directory-2.ensures.cause ∙ c.in-Ok-read_directory.ensures.cause

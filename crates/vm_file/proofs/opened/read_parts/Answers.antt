@@ -10,6 +10,7 @@ use Rattle.vm_file.specs.Reading.{header_at, selector_at, pair_at, base_of, area
 use Rattle.vm_file.proofs.Lengths.{stretch}
 use Rattle.vm_file.proofs.EntrySteps.{ok_only}
 use Rattle.vm_file.proofs.OpenSteps.{file_stop_header, file_stop_selector, file_stop_pair, file_read, area-stretch, area-past}
+use Rattle.vm_file.proofs.Moments.{caused_on, reads_then}
 use Rattle.vm_file.proofs.opened.read_parts.Goals as goal
 
 pub returns-in-Err-clause-exact : goal.returns-in-Err-clause-exact
@@ -67,3 +68,24 @@ returns-in-Err-read_pair-clause-exact g c = λ h.
     (ok_only (selector_at image) selector (subst S r.reads.same (s.exact (r.reads.stays h))))
     (read_area P image (g.D.Device.medium.image c.read_selector.new.device) c.in-Ok.area selector c.base_of-base.result c.len-len.result c.min-end.result c.base_of-base.ensures.exact (s.reads.same ∙ r.reads.same) c.len-len.ensures.length c.if-len-base.false
     (c.min-end.ensures ∙ ap (λ k. min c.len-len.result (c.base_of-base.result + k)) c.from.ensures) (c.in-Err-read_pair.ensures.exact (s.reads.stays (r.reads.stays h))))
+
+pub returns-in-Err-read_selector-clause-reads : goal.returns-in-Err-read_selector-clause-reads
+returns-in-Err-read_selector-clause-reads g c = reads_then g.D.Device.medium _ _ _ c.in-Ok.ensures.reads c.in-Err-read_selector.ensures.reads
+
+pub returns-in-Err-read_selector-clause-cause : goal.returns-in-Err-read_selector-clause-cause
+returns-in-Err-read_selector-clause-cause g c = caused_on _ _ _ _ c.in-Ok.ensures.cause c.in-Err-read_selector.ensures.cause
+
+pub returns-then-len-base-clause-reads : goal.returns-then-len-base-clause-reads
+returns-then-len-base-clause-reads g c = reads_then g.D.Device.medium _ _ _ c.in-Ok.ensures.reads c.in-Ok-read_selector.ensures.reads
+
+pub returns-in-Err-read_pair-clause-reads : goal.returns-in-Err-read_pair-clause-reads
+returns-in-Err-read_pair-clause-reads g c = reads_then g.D.Device.medium _ _ _ (reads_then g.D.Device.medium _ _ _ c.in-Ok.ensures.reads c.in-Ok-read_selector.ensures.reads) c.in-Err-read_pair.ensures.reads
+
+pub returns-in-Err-read_pair-clause-cause : goal.returns-in-Err-read_pair-clause-cause
+returns-in-Err-read_pair-clause-cause g c = caused_on _ _ _ _ (c.in-Ok-read_selector.ensures.cause ∙ c.in-Ok.ensures.cause) c.in-Err-read_pair.ensures.cause
+
+pub returns-in-Ok-read_pair-clause-reads : goal.returns-in-Ok-read_pair-clause-reads
+returns-in-Ok-read_pair-clause-reads g c = reads_then g.D.Device.medium _ _ _ (reads_then g.D.Device.medium _ _ _ c.in-Ok.ensures.reads c.in-Ok-read_selector.ensures.reads) c.in-Ok-read_pair.ensures.reads
+
+pub returns-in-Ok-read_pair-clause-cause : goal.returns-in-Ok-read_pair-clause-cause
+returns-in-Ok-read_pair-clause-cause g c = c.in-Ok-read_pair.ensures.cause ∙ (c.in-Ok-read_selector.ensures.cause ∙ c.in-Ok.ensures.cause)

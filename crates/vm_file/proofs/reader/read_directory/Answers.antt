@@ -9,6 +9,7 @@ use Rattle.vm_file.specs.Reading.{count_at, blocks_at, maps_at}
 use Rattle.geos_model.proofs.HeapTests.{and-true}
 use Rattle.vm_file.proofs.Lengths.{stretch, drop-stretch}
 use Rattle.vm_file.proofs.EntrySteps.{contents_stop_any, contents_stop_blocks, contents_stop_maps_any, contents_read, ok_only}
+use Rattle.vm_file.proofs.Moments.{caused_on, reads_then}
 use Rattle.vm_file.proofs.reader.read_directory.Goals as goal
 
 pub returns-in-Err-clause-exact : goal.returns-in-Err-clause-exact
@@ -78,3 +79,21 @@ returns-in-Ok-read_maps-clause-legal g c =
     let maps = subst A c.deref-2.ensures.0 r3.1 in
     let len = c.from.ensures ∙ c.entries_length.ensures.exact ∙ ap entries_length c.deref.ensures.0 in
     (and-true _ _ (and-true _ _ (and-true _ _ r2.legal.0 maps.0) maps.1) maps.2, omega (arith, r3.0, len))
+
+pub returns-in-Err-read_entries-clause-reads : goal.returns-in-Err-read_entries-clause-reads
+returns-in-Err-read_entries-clause-reads g c = reads_then g.D.Device.medium _ _ _ c.in-Ok.ensures.reads c.in-Err-read_entries.ensures.reads
+
+pub returns-in-Err-read_entries-clause-cause : goal.returns-in-Err-read_entries-clause-cause
+returns-in-Err-read_entries-clause-cause g c = caused_on _ _ _ _ c.in-Ok.ensures.cause c.in-Err-read_entries.ensures.cause
+
+pub returns-in-Err-read_maps-clause-reads : goal.returns-in-Err-read_maps-clause-reads
+returns-in-Err-read_maps-clause-reads g c = reads_then g.D.Device.medium _ _ _ (reads_then g.D.Device.medium _ _ _ c.in-Ok.ensures.reads c.in-Ok-read_entries.ensures.reads) c.in-Err-read_maps.ensures.reads
+
+pub returns-in-Err-read_maps-clause-cause : goal.returns-in-Err-read_maps-clause-cause
+returns-in-Err-read_maps-clause-cause g c = caused_on _ _ _ _ (c.in-Ok-read_entries.ensures.cause ∙ c.in-Ok.ensures.cause) c.in-Err-read_maps.ensures.cause
+
+pub returns-in-Ok-read_maps-clause-reads : goal.returns-in-Ok-read_maps-clause-reads
+returns-in-Ok-read_maps-clause-reads g c = reads_then g.D.Device.medium _ _ _ (reads_then g.D.Device.medium _ _ _ c.in-Ok.ensures.reads c.in-Ok-read_entries.ensures.reads) c.in-Ok-read_maps.ensures.reads
+
+pub returns-in-Ok-read_maps-clause-cause : goal.returns-in-Ok-read_maps-clause-cause
+returns-in-Ok-read_maps-clause-cause g c = c.in-Ok-read_maps.ensures.cause ∙ (c.in-Ok-read_entries.ensures.cause ∙ c.in-Ok.ensures.cause)

@@ -8,7 +8,7 @@ use Rattle.vm_file.specs.Outcomes.{Tells}
 use Rattle.vm_file.specs.Reading.{block_at}
 use Rattle.vm_file.proofs.Lengths.{stretch, last_handle, last_handle-push, are_entries-push, entries_length-append}
 use Rattle.vm_file.proofs.EntrySteps.{Told, told_more, told_stop}
-use Rattle.vm_file.proofs.Moments.{reads_then}
+use Rattle.vm_file.proofs.Moments.{caused_on, reads_then}
 use Rattle.vm_file.proofs.reader.read_entries.Goals as goal
 
 pub returns-in-Err-clause-exact : goal.returns-in-Err-clause-exact
@@ -39,3 +39,9 @@ loop-preserved g c =
       count = c.in-Ok.ensures.cause ∙ i.count;
       told = (λ h. subst R (sym added) (subst Q (sym c.from.ensures) (told_more (d.medium.image c.args.device.now) c.args.at c.args.end c.args.count c.loop.counter c.loop.last c.loop.from items e c.loop-test.true c.in-Ok.ensures.legal.1 (i.told h) (subst P i.reads.same (c.in-Ok.ensures.exact (i.reads.stays h))))));
     }
+
+pub returns-in-Err-clause-reads : goal.returns-in-Err-clause-reads
+returns-in-Err-clause-reads g c = reads_then g.D.Device.medium _ _ _ c.loop.invariant.reads c.in-Err.ensures.reads
+
+pub returns-in-Err-clause-cause : goal.returns-in-Err-clause-cause
+returns-in-Err-clause-cause g c = caused_on _ _ _ _ c.loop.invariant.count c.in-Err.ensures.cause

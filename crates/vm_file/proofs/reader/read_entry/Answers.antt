@@ -3,10 +3,12 @@ use Rattle.std.proofs.lemmas.Bool.{false≢true}
 use Rattle.geos_model.specs.Block.{handle_word}
 use Rattle.geos_model.specs.Heap.{IsHeap}
 use Rattle.vm_file.specs.declared.directory.Entry.{Entry}
+use Rattle.vm_file.specs.declared.error.OpenError.TheVariants.{Disk}
 use Rattle.vm_file.specs.Reading.{head_at}
 use Rattle.vm_file.proofs.Lengths.{stretch, length-stretch, drop-stretch, take-stretch}
 use Rattle.vm_file.proofs.ReadLaws.{head_ok, entry_size}
 use Rattle.vm_file.proofs.ReadSteps.{front_head, block_stops, block_short, block_bad, block_good}
+use Rattle.vm_file.proofs.Moments.{caused_on, reads_then, rose}
 use Rattle.vm_file.proofs.reader.read_entry.Goals as goal
 
 -- what the bytes in front of a stretch tell is what the stretch tells
@@ -84,3 +86,15 @@ returns-else-is_heap_of-clause-exact g c = λ h.
     let H : List ℕ → Type 0 = λ x. IsHeap x in
     block_bad c.args.last c.args.at s e (told c.args.last c.args.at s (take c.in-Ok.n c.fill.new.into) c.head_at.result (c.in-Ok.ensures.front h) c.head_at.ensures ∙ c.in-Ok-head_at.is)
     (λ heap handle. false≢true (sym c.if-is_heap_of.false ∙ c.is_heap_of.ensures.1 (subst H (sym there) heap, ap handle_word there ∙ handle)))
+
+pub returns-in-Err-read_at-clause-reads : goal.returns-in-Err-read_at-clause-reads
+returns-in-Err-read_at-clause-reads g c = reads_then g.D.Device.medium _ _ _ c.in-Ok.ensures.reads c.in-Err-read_at.ensures.reads
+
+pub returns-in-Err-read_at-clause-cause : goal.returns-in-Err-read_at-clause-cause
+returns-in-Err-read_at-clause-cause g c = caused_on Disk _ _ _ c.in-Ok.ensures.cause (rose _ _ c.in-Err-read_at.ensures.cause.err)
+
+pub returns-then-is_heap_of-clause-reads : goal.returns-then-is_heap_of-clause-reads
+returns-then-is_heap_of-clause-reads g c = reads_then g.D.Device.medium _ _ _ c.in-Ok.ensures.reads c.in-Ok-read_at.ensures.reads
+
+pub returns-else-is_heap_of-clause-reads : goal.returns-else-is_heap_of-clause-reads
+returns-else-is_heap_of-clause-reads g c = reads_then g.D.Device.medium _ _ _ c.in-Ok.ensures.reads c.in-Ok-read_at.ensures.reads

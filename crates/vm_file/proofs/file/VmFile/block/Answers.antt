@@ -12,7 +12,7 @@ use Rattle.vm_file.proofs.StateLaws.{read_sound}
 use Rattle.vm_file.proofs.file.VmFile.block.Goals as goal
 
 pub invariant_of-self : goal.invariant_of-self
-invariant_of-self g c = (let d = g.D.Device in read_sound d.medium _ c.read_block.new.device c.self.invariant c.read_block.ensures.reads)
+invariant_of-self g c = (let d = g.D.Device in read_sound d.medium _ c.read_block.new.device c.self.invariant c.read_block.ensures.read.only)
 
 pub place-requires : goal.place-requires
 place-requires g c =
@@ -39,12 +39,12 @@ returns-clause-cause g c =
     subst G c.self.view_is (λ h. let heap = current_heap d.medium _ c.self.invariant c.args.h n h has in c.read_block.ensures.cause h (subst P (sym there) heap.0) (ap handle_word there ∙ heap.1))
 
 pub returns-clause-any_moment : goal.returns-clause-any_moment
-returns-clause-any_moment g c = let d = g.D.Device in finds_during d.medium _ _ c.self.view_is c.self.invariant _ c.read_block.ensures.reads
+returns-clause-any_moment g c = let d = g.D.Device in finds_during d.medium _ _ c.self.view_is c.self.invariant _ c.read_block.ensures.read.only
 
 pub returns-clause-stop : goal.returns-clause-stop
-returns-clause-stop g c = let d = g.D.Device in finds_after d.medium _ _ c.self.view_is c.self.invariant _ c.read_block.ensures.reads
+returns-clause-stop g c = let d = g.D.Device in finds_after d.medium _ _ c.self.view_is c.self.invariant _ c.read_block.ensures.read.only
 
 pub returns-clause-stopped : goal.returns-clause-stopped
 returns-clause-stopped g c =
     let d = g.D.Device in
-    finds_at_stop d.medium _ _ c.self.view_is c.self.invariant _ c.read_block.ensures.reads (g.met.D.Device.at_once c.args.self.now.device)
+    finds_at_stop d.medium _ _ c.self.view_is c.self.invariant _ c.read_block.ensures.read.only (g.met.D.Device.at_once c.args.self.now.device)

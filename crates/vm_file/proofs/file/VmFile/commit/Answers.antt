@@ -12,7 +12,7 @@ select-requires-clause-spelled g c =
     let after = kept_after d.medium.image resident how cur old in
     let S : List ℕ → Type 0 = λ l. Spells (current_after how cur old.saved) (saved_after how cur old.saved) after l in
     let spells = λ (h : d.medium.honest old.device). subst S (sym c.deref.ensures.value) (r.spelled h) in
-    λ h. cut_spells how cur old.saved mid.saved after c.deref.result.now (same_saved d.medium.image old mid r.same) (spells (r.reads.was h))
+    λ h. cut_spells how cur old.saved mid.saved after c.deref.result.now (same_saved d.medium.image old mid r.read.same) (spells (r.read.read.only.was h))
 
 pub returns-then-not-self : goal.returns-then-not-self
 returns-then-not-self g c =
@@ -43,7 +43,7 @@ returns-in-Err-spell g c =
     let Fits : FileState g.row.D.Denot → Type 0 = λ f. length_after how cur f.saved ≤ f.area in
     let r = c.in-Err-spell.ensures in
     read_failed d.medium how resident cur old (finds_before d.medium _ _ c.self.view_is c.self.invariant) (g.met.D.Device.at_once old.device) (subst T c.self.view_is c.if-not-self.false)
-    (subst Fits c.self.view_is (subst (λ n. n ≤ c.self.inside.area) c.length_after-length.ensures.exact c.if-self-length.false)) c.spell.new.self r.same r.pair r.reads r.once r.cause r.no_read
+    (subst Fits c.self.view_is (subst (λ n. n ≤ c.self.inside.area) c.length_after-length.ensures.exact c.if-self-length.false)) c.spell.new.self _ r.read r.cause r.no_read
 
 pub returns-in-Ok-select : goal.returns-in-Ok-select
 returns-in-Ok-select g c =
@@ -53,8 +53,8 @@ returns-in-Ok-select g c =
     let r = c.in-Ok-spell.ensures in let s = c.in-Ok-select.ensures in
     let S : List ℕ → Type 0 = λ l. Spells (current_after how cur old.saved) (saved_after how cur old.saved) (kept_after d.medium.image resident how cur old) l in
     selected d.medium how resident cur old (finds_before d.medium _ _ c.self.view_is c.self.invariant) (g.met.D.Device.at_once old.device) (subst T c.self.view_is c.if-not-self.false)
-    (subst Fits c.self.view_is (subst (λ n. n ≤ c.self.inside.area) c.length_after-length.ensures.exact c.if-self-length.false)) c.spell.new.self r.same r.pair r.reads
-    c.select.new.self c.deref.result.now r.ok (λ h. subst S (sym c.deref.ensures.value) (r.spelled h)) s.any_moment s.stop s.honest s.was_honest s.once s.done s.pair s.bytes s.cause
+    (subst Fits c.self.view_is (subst (λ n. n ≤ c.self.inside.area) c.length_after-length.ensures.exact c.if-self-length.false)) c.spell.new.self _ r.read
+    c.select.new.self c.deref.result.now r.read.read.ok (λ h. subst S (sym c.deref.ensures.value) (r.spelled h)) s.any_moment s.stop s.honest s.was_honest s.once s.done s.pair s.bytes s.cause
 
 pub returns : goal.returns
 returns g c =
@@ -64,5 +64,5 @@ returns g c =
     let r = c.in-Ok-spell.ensures in let s = c.in-Err-select.ensures in
     let S : List ℕ → Type 0 = λ l. Spells (current_after how cur old.saved) (saved_after how cur old.saved) (kept_after d.medium.image resident how cur old) l in
     not_selected d.medium how resident cur old (finds_before d.medium _ _ c.self.view_is c.self.invariant) (g.met.D.Device.at_once old.device) (subst T c.self.view_is c.if-not-self.false)
-    (subst Fits c.self.view_is (subst (λ n. n ≤ c.self.inside.area) c.length_after-length.ensures.exact c.if-self-length.false)) c.spell.new.self r.same r.pair r.reads
-    c.select.new.self c.deref.result.now r.ok (λ h. subst S (sym c.deref.ensures.value) (r.spelled h)) s.any_moment s.stop s.honest s.was_honest s.once s.kept s.pair s.torn s.other s.cause
+    (subst Fits c.self.view_is (subst (λ n. n ≤ c.self.inside.area) c.length_after-length.ensures.exact c.if-self-length.false)) c.spell.new.self _ r.read
+    c.select.new.self c.deref.result.now r.read.read.ok (λ h. subst S (sym c.deref.ensures.value) (r.spelled h)) s.any_moment s.stop s.honest s.was_honest s.once s.kept s.pair s.torn s.other s.cause

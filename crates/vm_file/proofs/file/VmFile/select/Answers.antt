@@ -3,7 +3,7 @@ use Rattle.lmem_raw.specs.Bytes.{with_part}
 use Rattle.vm_file.specs.declared.directory.Directory.{Directory}
 use Rattle.vm_file.specs.Committing.{FindsOneOf, MayHaveWritten, Spells, current_after, image_after, saved_after, length_after}
 use Rattle.vm_file.specs.Contents.{Pair, pair_in}
-use Rattle.vm_file.specs.Device.{Passes}
+use Rattle.vm_file.specs.Device.{FailedOnce, Passes, Rose}
 use Rattle.vm_file.specs.Outcomes.{WritesOnly}
 use Rattle.vm_file.specs.Spelling.{selector_of}
 use Rattle.vm_file.specs.State.{FileState, Finds, IsOther, IsSound, pair_of}
@@ -181,3 +181,51 @@ returns-in-Err-write_durably-clause-torn g c =
     let w = subst W c.base_of-base.ensures.exact c.in-Ok.ensures.writes in
     let G : FileState g.row.D.Denot → Type 0 = λ x. d.medium.honest x.device → MayHaveWritten d.medium.image x false (d.medium.image c.write_durably-2.new.device) in
     subst G c.self.view_is (λ h. written_both d.medium.image f (d.medium.image c.write_durably.new.device) _ n (subst A (sym c.self.view_is) c.requires.fits.1) (w.torn h) (c.write_durably-2.ensures.writes.torn (w.stays h)))
+
+-- what is said of the device is said of it as the file's fields have it
+module _ (g : Over) (before seen : FileState g.row.D.Denot) (same : before ≡ seen) where
+  stays : (new : g.row.D.Denot) → (g.D.Device.medium.honest before.device → g.D.Device.medium.honest new) → g.D.Device.medium.honest seen.device → g.D.Device.medium.honest new
+  stays new is = (let G : FileState g.row.D.Denot → Type 0 = λ f. g.D.Device.medium.honest f.device → g.D.Device.medium.honest new in subst G same is)
+
+  was : (new : g.row.D.Denot) → (g.D.Device.medium.honest new → g.D.Device.medium.honest before.device) → g.D.Device.medium.honest new → g.D.Device.medium.honest seen.device
+  was new is = (let G : FileState g.row.D.Denot → Type 0 = λ f. g.D.Device.medium.honest new → g.D.Device.medium.honest f.device in subst G same is)
+
+  counted : (P : ℕ → Type 0) → P (g.D.Device.medium.failed before.device) → P (g.D.Device.medium.failed seen.device)
+  counted P is = (let G : FileState g.row.D.Denot → Type 0 = λ f. P (g.D.Device.medium.failed f.device) in subst G same is)
+
+pub returns-in-Err-clause-honest : goal.returns-in-Err-clause-honest
+returns-in-Err-clause-honest g c = stays g _ _ c.self.view_is _ c.in-Err.ensures.writes.stays
+
+pub returns-in-Err-clause-was_honest : goal.returns-in-Err-clause-was_honest
+returns-in-Err-clause-was_honest g c = was g _ _ c.self.view_is _ c.in-Err.ensures.writes.was
+
+pub returns-in-Err-write_durably-clause-honest : goal.returns-in-Err-write_durably-clause-honest
+returns-in-Err-write_durably-clause-honest g c = stays g _ _ c.self.view_is _ (λ h. c.in-Err-write_durably.ensures.writes.stays (c.in-Ok.ensures.writes.stays h))
+
+pub returns-in-Err-write_durably-clause-was_honest : goal.returns-in-Err-write_durably-clause-was_honest
+returns-in-Err-write_durably-clause-was_honest g c = was g _ _ c.self.view_is _ (λ h. c.in-Ok.ensures.writes.was (c.in-Err-write_durably.ensures.writes.was h))
+
+pub returns-in-Err-write_durably-clause-cause : goal.returns-in-Err-write_durably-clause-cause
+returns-in-Err-write_durably-clause-cause g c =
+    let R : ℕ → Type 0 = λ k. Rose k (g.D.Device.medium.failed c.write_durably-2.new.device) in
+    counted g _ _ c.self.view_is R (subst R c.in-Ok.ensures.cause c.in-Err-write_durably.ensures.cause)
+
+pub returns-in-Err-write_durably-clause-once : goal.returns-in-Err-write_durably-clause-once
+returns-in-Err-write_durably-clause-once g c =
+    let F : ℕ → Type 0 = λ k. FailedOnce k (g.D.Device.medium.failed c.write_durably-2.new.device) in
+    counted g _ _ c.self.view_is F (subst F c.in-Ok.ensures.cause c.in-Err-write_durably.ensures.once)
+
+pub returns-in-Ok-write_durably-clause-honest : goal.returns-in-Ok-write_durably-clause-honest
+returns-in-Ok-write_durably-clause-honest g c = stays g _ _ c.self.view_is _ (λ h. c.in-Ok-write_durably.ensures.writes.stays (c.in-Ok.ensures.writes.stays h))
+
+pub returns-in-Ok-write_durably-clause-was_honest : goal.returns-in-Ok-write_durably-clause-was_honest
+returns-in-Ok-write_durably-clause-was_honest g c = was g _ _ c.self.view_is _ (λ h. c.in-Ok.ensures.writes.was (c.in-Ok-write_durably.ensures.writes.was h))
+
+pub returns-in-Ok-write_durably-clause-done : goal.returns-in-Ok-write_durably-clause-done
+returns-in-Ok-write_durably-clause-done g c =
+    let i = c.self.inside in let w = c.write_durably-2.new.device in
+    let S : FileState g.row.D.Denot → Type 0 = λ f. f.sure ≡ true in
+    let sure : i.sure ≡ true = subst S (sym c.self.view_is) c.requires.sure in
+    let made : FileState g.row.D.Denot = record { device = w; area = i.area; second = not i.second; sure = i.sure; current = c.keep.new.current; saved = c.keep.new.saved } in
+    let G : FileState g.row.D.Denot → Type 0 = λ f. made ≡ record { device = w; area = f.area; second = not f.second; sure = true; current = current_after c.args.how c.args.cur.now f.saved; saved = saved_after c.args.how c.args.cur.now f.saved } in
+    subst G c.self.view_is (λ k. record { device = w; area = i.area; second = not i.second; sure = sure k; current = c.keep.ensures.current k; saved = c.keep.ensures.saved k })

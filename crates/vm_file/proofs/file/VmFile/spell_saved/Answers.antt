@@ -12,11 +12,14 @@ use Rattle.geos_model.proofs.HeapTests.{both}
 use Rattle.vm_file.proofs.Listing.{pair_listed}
 use Rattle.vm_file.proofs.ReadLaws.{pair_ok}
 use Rattle.vm_file.proofs.Sources.{saved_contents}
-use Rattle.vm_file.proofs.StateLaws.{read_sound}
+use Rattle.vm_file.proofs.StateLaws.{read_file, read_sound}
 use Rattle.vm_file.proofs.file.VmFile.spell_saved.Goals as goal
 
 pub invariant_of-self : goal.invariant_of-self
-invariant_of-self g c = (let d = g.D.Device in read_sound d.medium _ c.spell_directory.new.device c.self.invariant c.spell_directory.ensures.reads)
+invariant_of-self g c = (let d = g.D.Device in read_sound d.medium _ c.spell_directory.new.device c.self.invariant c.spell_directory.ensures.read.only)
+
+pub returns-clause-read : goal.returns-clause-read
+returns-clause-read g c = (let d = g.D.Device in read_file d.medium _ _ _ c.spell_directory.new.device c.self.view_is c.spell_directory.ensures.read)
 
 pub returns-clause-items : goal.returns-clause-items
 returns-clause-items g c =
