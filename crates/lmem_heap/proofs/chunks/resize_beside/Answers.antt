@@ -1,8 +1,8 @@
-use Rattle.std.proofs.Common.{◌≡◌, ℕ, ◌+◌, ◌≤◌, Some, None, length, set, get_or, refl, ap, sym, ◌∙◌, subst, arith}
+use Rattle.std.proofs.Common.{◌≡◌, ℕ, ◌+◌, ◌%◌, ◌≤◌, Some, None, length, set, get_or, refl, ap, sym, ◌∙◌, subst, arith}
 use Rattle.lmem_raw.specs.Bytes.{part}
 use Rattle.geos_model.specs.Bytes.{word}
 use Rattle.geos_model.specs.Chunks.{entry_bytes, resized}
-use Rattle.geos_model.specs.Block.{chunks}
+use Rattle.geos_model.specs.Block.{chunks, entries, entry}
 use Rattle.geos_model.proofs.Costs.{cost-fours}
 use Rattle.geos_model.proofs.Sums.{count-chunks}
 use Rattle.geos_model.proofs.Words.{part-shifted}
@@ -76,3 +76,24 @@ returns-in-None c =
           ∙ ap (λ xs. set xs i (Some old)) left.chunks ∙ set-twice (chunks b) i None (Some old) ∙ set-same (chunks b) i (Some old) None (omega (arith, count)) here;
       handle = f.handle ∙ ap (λ y. word y 0) e ∙ left.handle;
     }
+
+pub fill-rest-requires-clause-hole : goal.fill-rest-requires-clause-hole
+fill-rest-requires-clause-hole c = c.in-Some.ensures.room.beside
+
+pub fill-rest-requires-clause-room : goal.fill-rest-requires-clause-room
+fill-rest-requires-clause-room c = omega (arith, c.in-Some.ensures.room.room, c.cost-size.ensures)
+
+pub fill-rest-requires-clause-known : goal.fill-rest-requires-clause-known
+fill-rest-requires-clause-known c = omega (arith, c.in-Some.ensures.room.count, c.left_by-hole.ensures.count, c.requires.known)
+
+pub fill-rest-requires-clause-free : goal.fill-rest-requires-clause-free
+fill-rest-requires-clause-free c = c.in-Some.ensures.room.each c.args.i (omega (arith, c.left_by-hole.ensures.count, c.requires.known)) ∙ c.left_by-hole.ensures.free
+
+pub give_back-requires-clause-fours : goal.give_back-requires-clause-fours
+give_back-requires-clause-fours c = ap (λ x. x % 4) c.fill-rest.ensures.place.2 ∙ c.in-Some.ensures.room.fours
+
+pub fill-requires-clause-known : goal.fill-requires-clause-known
+fill-requires-clause-known c = omega (arith, ap entries c.in-None.ensures.room, c.left_by-hole.ensures.count, c.requires.known)
+
+pub fill-requires-clause-free : goal.fill-requires-clause-free
+fill-requires-clause-free c = ap (λ b. entry b c.args.i) c.in-None.ensures.room ∙ c.left_by-hole.ensures.free

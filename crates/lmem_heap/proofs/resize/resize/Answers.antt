@@ -1,8 +1,9 @@
-use Rattle.std.proofs.Common.{ℕ, None, Some, replicate, ap, arith}
+use Rattle.std.proofs.Common.{ℕ, ◌≤◌, None, Some, length, replicate, ap, subst, arith}
 use Rattle.std.proofs.lemmas.List.{length-replicate}
-use Rattle.geos_model.specs.Chunks.{cost}
+use Rattle.geos_model.specs.Chunks.{cost, entry_bytes, resized, sixteens}
 use Rattle.geos_model.specs.Block.{chunks}
 use Rattle.geos_model.proofs.Costs.{cost-over}
+use Rattle.geos_model.proofs.Resizes.{length-resized}
 use Rattle.geos_model.proofs.Sums.{count-chunks}
 use Rattle.geos_model.proofs.Lowest.{block-used, used-set}
 use Rattle.lmem_heap.proofs.resize.resize.Goals as goal
@@ -26,3 +27,8 @@ resize_chunk-requires-clause-room c =
     let m = ap cost long in
     let s = used-set cs c.args.i (Some (replicate c.args.n 0)) (omega (arith, count)) in
     omega (arith, s, c.used_with-used.ensures.value (replicate c.args.n 0) long, block-used b c.requires.heap, m, c.in_ok-room_for.ensures.0)
+
+pub returns-clause-fits : goal.returns-clause-fits
+returns-clause-fits c =
+    let bytes = resized (entry_bytes (chunks c.args.block.now) c.args.i) c.args.n in
+    subst (λ (k : ℕ). sixteens k ≤ length c.args.block.now) (c.used_with-used.ensures.value bytes (length-resized _ c.args.n)) c.in_ok-room_for.ensures.1
