@@ -1,13 +1,16 @@
-use Rattle.std.proofs.Common.{ℕ, length, ap, sym, ◌∙◌, subst, arith}
+use Rattle.std.proofs.Common.{ℕ, [], ◌∷◌, length, ap, sym, ◌∙◌, subst, arith}
 use Rattle.lmem_raw.specs.Bytes.{part}
 use Rattle.geos_model.specs.Block.{chunks}
 use Rattle.geos_model.specs.Chunks.{bytes_of, with_resized_part}
 use Rattle.geos_model.specs.Arrays.{spelled}
-use Rattle.geos_model.specs.ArrayEdits.{with_array}
+use Rattle.geos_model.specs.ArrayEdits.{is_fixed, is_past, no_array, with_array}
+use Rattle.geos_model.proofs.ArrayTests.{fixed-refused}
 use Rattle.geos_model.proofs.ChunkItems.{written-twice}
 use Rattle.lmem_heap.specs.Refusals.{IsRoomError}
+use Rattle.chunk_array.specs.ArrayErrors.{IsArrayError}
 use Rattle.chunk_array.specs.Refits.{with_refit}
 use Rattle.chunk_array.proofs.ReadBack.{resizes}
+use Rattle.chunk_array.proofs.Refusing.{first-stays}
 use Rattle.chunk_array.proofs.Resizing.{passes, same, changed-need, refits}
 use Rattle.chunk_array.proofs.resize.resize_element.Goals as goal
 
@@ -44,3 +47,18 @@ returns-clause-fits c =
 
 pub returns-clause-array : goal.returns-clause-array
 returns-clause-array c = let ok = returns-clause-ok c in resizes (chunks c.args.block.now) (chunks c.put_offsets.new.block) c.args.chunk c.args.index c.args.len ok.0 ok.1
+
+pub returns-in-Err-BadChunk-clause-refused : goal.returns-in-Err-BadChunk-clause-refused
+returns-in-Err-BadChunk-clause-refused c =
+    let cs = chunks c.args.block.now in let tests = no_array cs c.args.chunk in
+    first-stays tests (is_fixed cs c.args.chunk ∷ is_past cs c.args.chunk c.args.index ∷ []) _ (subst (λ e. IsArrayError e tests) c.in-Err-BadChunk.field-0-is c.in-Err-BadChunk.ensures)
+
+pub returns-in-Err-BadArray-clause-refused : goal.returns-in-Err-BadArray-clause-refused
+returns-in-Err-BadArray-clause-refused c =
+    let cs = chunks c.args.block.now in let tests = no_array cs c.args.chunk in
+    first-stays tests (is_fixed cs c.args.chunk ∷ is_past cs c.args.chunk c.args.index ∷ []) _ (subst (λ e. IsArrayError e tests) c.in-Err-BadArray.field-0-is c.in-Err-BadArray.ensures)
+
+pub returns-then-found-ne0-clause-refused : goal.returns-then-found-ne0-clause-refused
+returns-then-found-ne0-clause-refused c =
+    let cs = chunks c.args.block.now in let found = c.in-Ok.found in let f = c.in-Ok.ensures in
+    fixed-refused cs c.args.chunk (part c.args.block.now found.at found.len) f.shape.array f.bytes f.shape.is (is_past cs c.args.chunk c.args.index ∷ []) (λ e. c.if-found-ne0.true (sym f.shape.size ∙ e))
