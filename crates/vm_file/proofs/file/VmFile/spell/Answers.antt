@@ -1,12 +1,14 @@
-use Rattle.std.proofs.Common.{◌≡◌, ◌∙◌, ◌++◌, ap, sym, subst}
-use Rattle.std.specs.Prelude.{OnOk}
-use Rattle.std.specs.Vec.{vec_items}
+use Rattle.std.proofs.Common.{◌≡◌, ◌∙◌, ℕ, ◌≤◌, ◌++◌, arith, ap, sym, subst}
+use Rattle.std.specs.Prelude.{OnErr, OnOk}
+use Rattle.std.specs.Vec.{vec_items, vec_len}
 use Rattle.std.proofs.lemmas.Result.{on_ok_weaker}
 use Rattle.vm_file.specs.declared.commit.How.{How}
 use Rattle.vm_file.specs.declared.directory.Directory.{Directory}
-use Rattle.vm_file.specs.Committing.{IsContentsOf, Spells, contents_from, current_after, kept_after, saved_after}
+use Rattle.vm_file.specs.Committing.{IsContentsOf, NeedsNoRead, Spells, contents_from, current_after, kept_after, length_after, saved_after}
 use Rattle.vm_file.specs.Contents.{contents_spelling}
-use Rattle.vm_file.specs.State.{pair_of}
+use Rattle.vm_file.specs.Device.{Rose}
+use Rattle.vm_file.specs.Directories.{directory_length}
+use Rattle.vm_file.specs.State.{FileState, pair_of}
 use Rattle.vm_file.proofs.CommitLaws.{spells_pair}
 use Rattle.vm_file.proofs.StateLaws.{file_on}
 use Rattle.vm_file.proofs.file.VmFile.spell.Goals as goal
@@ -40,3 +42,52 @@ returns-in-Ok-spell_saved-clause-spelled g c = λ h.
     let one = c.in-Ok-spell_saved.ensures in let x = (pair_of d.medium.image old).saved in
     let S : How → Type 0 = λ k. Spells (current_after k cur old.saved) (saved_after k cur old.saved) (kept_after d.medium.image resident k cur old) (vec_items c.put_again-in-Ok-spell_saved.new.into) in
     subst S (sym c.in-Revert.is) (spells_pair old.saved old.saved x x _ (c.put_again-in-Ok-spell_saved.ensures.items ∙ ap (λ xs. xs ++ xs) (one.items h ∙ ap (λ xs. xs ++ contents_spelling x) c.requires.empty.0)) (one.legal h) (one.legal h))
+
+-- what is asked of the room, where it is known which pair is kept
+room_of : (how way : How) (cur saved : Directory) (room : ℕ) → how ≡ way → length_after how cur saved ≤ room → length_after way cur saved ≤ room
+room_of how way cur saved room is fits = subst (λ (k : How). length_after k cur saved ≤ room) is fits
+
+pub spell_current-requires-clause-room : goal.spell_current-requires-clause-room
+spell_current-requires-clause-room g c = omega (arith, room_of _ _ _ _ _ c.in-Update.is c.requires.room, c.requires.empty.1)
+
+pub spell_saved-requires : goal.spell_saved-requires
+spell_saved-requires g c =
+    let one = c.in-Ok.ensures in
+    omega (arith, room_of _ _ _ _ _ c.in-Update.is c.requires.room, c.requires.empty.1, one.len, one.room, ap (λ (f : FileState g.row.D.Denot). directory_length f.saved) one.read.same)
+
+pub spell_current-requires-in-Save-clause-room : goal.spell_current-requires-in-Save-clause-room
+spell_current-requires-in-Save-clause-room g c = omega (arith, room_of _ _ _ _ _ c.in-Save.is c.requires.room, c.requires.empty.1)
+
+pub returns-in-Ok-clause-len : goal.returns-in-Ok-clause-len
+returns-in-Ok-clause-len g c =
+    let one = c.in-Ok.ensures in let cur = c.args.cur.now in let saved = c.args.self.now.saved in
+    let same = ap (λ (f : FileState g.row.D.Denot). directory_length f.saved) one.read.same in
+    let L : How → Type 0 = λ k. OnOk c.spell_saved.result (vec_len c.spell_saved.new.into ≡ length_after k cur saved) in
+    subst L (sym c.in-Update.is) (on_ok_weaker c.spell_saved.result (λ len. omega (arith, len, one.len, c.requires.empty.1, same)) c.spell_saved.ensures.len)
+
+pub returns-in-Ok-clause-cause : goal.returns-in-Ok-clause-cause
+returns-in-Ok-clause-cause g c = λ h.
+    let one = c.in-Ok.ensures in
+    let R : ℕ → Type 0 = λ k. OnErr c.spell_saved.result (Rose k (g.D.Device.medium.failed c.spell_saved.new.self.device)) in
+    subst R one.read.read.ok (c.spell_saved.ensures.cause (one.read.read.only.stays h))
+
+pub returns-in-Ok-clause-no_read : goal.returns-in-Ok-clause-no_read
+returns-in-Ok-clause-no_read g c =
+    let resident = g.S.Source.resident_bytes c.args.source.now in
+    let N : How → Type 0 = λ k. NeedsNoRead resident k c.args.cur.now c.args.self.now.saved → OnErr c.spell_saved.result ⊥ in
+    subst N (sym c.in-Update.is) (λ needs. c.spell_saved.ensures.no_block (ap (λ (f : FileState g.row.D.Denot). f.saved.entries.items) c.in-Ok.ensures.read.same ∙ needs.1))
+
+pub returns-in-Err-clause-no_read : goal.returns-in-Err-clause-no_read
+returns-in-Err-clause-no_read g c =
+    let N : How → Type 0 = λ k. NeedsNoRead (g.S.Source.resident_bytes c.args.source.now) k c.args.cur.now c.args.self.now.saved → ⊥ in
+    subst N (sym c.in-Update.is) (λ needs. c.in-Err.ensures.resident needs.0)
+
+pub returns-in-Err-spell_current-clause-no_read : goal.returns-in-Err-spell_current-clause-no_read
+returns-in-Err-spell_current-clause-no_read g c =
+    let N : How → Type 0 = λ k. NeedsNoRead (g.S.Source.resident_bytes c.args.source.now) k c.args.cur.now c.args.self.now.saved → ⊥ in
+    subst N (sym c.in-Save.is) c.in-Err-spell_current.ensures.resident
+
+pub returns-in-Err-spell_saved-clause-no_read : goal.returns-in-Err-spell_saved-clause-no_read
+returns-in-Err-spell_saved-clause-no_read g c =
+    let N : How → Type 0 = λ k. NeedsNoRead (g.S.Source.resident_bytes c.args.source.now) k c.args.cur.now c.args.self.now.saved → ⊥ in
+    subst N (sym c.in-Revert.is) c.in-Err-spell_saved.ensures.no_block
