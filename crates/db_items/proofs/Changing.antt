@@ -22,12 +22,14 @@ use Rattle.vm_file.specs.State.{FileState, pair_of}
 use Rattle.vm_blocks.specs.declared.entries.Held.{Held}
 use Rattle.vm_blocks.specs.Blocks.{marked}
 use Rattle.vm_blocks.specs.Bring.{NotBrought}
+use Rattle.vm_blocks.specs.Bringing.{ReadsDevice}
 use Rattle.vm_blocks.specs.DoesRow.{DoesRow, DoesRowAlone}
 use Rattle.vm_blocks.specs.FileOf.{IsMemoryOf}
 use Rattle.vm_blocks.specs.Keeping.{IsChanged}
 use Rattle.vm_blocks.specs.Room.{LacksRoom, NoneIdle, RemainOrNoRoom}
 use Rattle.vm_blocks.specs.Tied.{IsTied}
 use Rattle.vm_blocks.specs.View.{VmState, held_at, vm_slot, with_device, with_held}
+use Rattle.vm_blocks.proofs.Bringing.{reads-as}
 use Rattle.vm_blocks.proofs.Marking.{stays-changed}
 use Rattle.vm_blocks.proofs.Thinning.{tied-thins}
 use Rattle.vm_blocks.proofs.Wanting.{discards-remain, remain-more, same-remain}
@@ -36,7 +38,7 @@ use Rattle.heap_calls.specs.Heaps as heaps
 use Rattle.heap_calls.specs.Others.{KeepsOthers}
 use Rattle.heap_calls.proofs.Kept.{vm-keeps}
 use Rattle.heap_calls.proofs.Regrown.{rechunked-other}
-use Rattle.db_items.specs.Groups.{BringsGroup, IsGroup, ReadsDevice}
+use Rattle.db_items.specs.Groups.{BringsGroup, IsGroup}
 use Rattle.db_items.specs.Items.{ChangesItem, LacksItemRoom, room_wanted}
 use Rattle.db_items.proofs.Asking.{AsksInside, carries-no_disk}
 use Rattle.db_items.proofs.Keeping.{keeps-then}
@@ -81,10 +83,6 @@ not_brought-locks s t g not = elim (no-block (block_at s (vm_slot g))) [
     gone None absent = refl
     gone (Some b) absent = absurd (absent tt)
 
--- it is not there, where it is not refused of one that is
-pub not_brought-absent : (s t : Store) (g : ℕ) → NotBrought s t g → (IsThere s (vm_slot g) → ⊥) → IsThere t (vm_slot g) → ⊥
-not_brought-absent s t g not away there = subst IsBlock (not.absent away) there
-
 -- What room is wanted
 
 module _ {A : Type 0} (edit : List (Option (List ℕ)) → Edit A) where
@@ -100,12 +98,8 @@ module _ {A : Type 0} (edit : List (Option (List ℕ)) → Edit A) where
 -- The device was only read
 
 module _ {D : Type 0} (medium : Medium D) (v : VmState D) where
-  -- it medium.failed in the same cases
-  pub reads-as : {P Q : Type 0} (w : VmState D) → (Q → P) → (P → Q) → ReadsDevice medium P v w → ReadsDevice medium Q v w
-  reads-as w back forth r = record { pair = r.pair; reads = r.reads; cause = λ good fails. r.cause good (back fails); counted = λ never. r.counted (λ p. never (forth p)) }
-
   -- it did not fail, and the file went on as it was
-  pub reads-on : {P Q : Type 0} (w x : VmState D) → x.file ≡ w.file → (P → ⊥) → (Q → ⊥) → ReadsDevice medium P v w → ReadsDevice medium Q v x
+  pub reads-on : {P Q : Type 0} (w x : VmState D) → x.file ≡ w.file → (P → ⊥) → (Q → ⊥) → ReadsDevice medium P v.file w.file → ReadsDevice medium Q v.file x.file
   reads-on w x same passed never r = record {
     pair = ap (pair_of medium.image) same ∙ r.pair;
     reads = subst (λ (f : FileState D). ReadsOnly medium v.file.device f.device) (sym same) r.reads;
@@ -125,23 +119,23 @@ module _ {D : Type 0} (medium : Medium D) (v : VmState D) where
       -- the group was not brought
       pub item-not_brought : (why : Refusal) → IsTied medium v s → Brings (Err why) → ChangesItem medium (on_group g call) edit g (Err why) v w s t
       item-not_brought why tied b = record {
-        tied = b.tied;
+        tied = b.brings.tied;
         row = row (group-or v g);
-        listed = b.same;
+        listed = b.brings.same;
         no_group = λ none. (let n = b.no_group none in (refused-so why refusal.BadHandle n.0, n.1, n.2));
-        keeps = b.keeps;
-        wanted = λ there. same-remain s t g _ (b.err.stays there);
-        locks = not_brought-locks s t g b.err;
-        refused = λ there. ap (λ u. block_at u (vm_slot g)) (b.err.stays there);
-        stays = λ other there. b.err.stays there;
-        there = λ there. (ap (λ (x : VmState D). x.file) (b.there there).0, λ e. (b.there there).1 (refused-so why refusal.Disk e));
-        absent = λ e. not_brought-absent s t g b.err (λ there. (b.there there).1 (refused-so why refusal.Disk e));
-        no_room = λ e. room (b.no_room (refused-so why refusal.NoRoom e)) (group-or v g) e;
-        device = reads-as w (refused-so why refusal.Disk) (refused-so why refusal.Disk) b.device;
+        keeps = b.brings.keeps;
+        wanted = λ there. same-remain s t g _ (b.brings.err.stays there);
+        locks = not_brought-locks s t g b.brings.err;
+        refused = λ there. ap (λ u. block_at u (vm_slot g)) (b.brings.err.stays there);
+        stays = λ other there. b.brings.err.stays there;
+        there = λ there. (ap (λ (x : VmState D). x.file) (b.brings.there there), λ e. (b.there there).1 (refused-so why refusal.Disk e));
+        absent = λ e. b.brings.absent (refused-so why refusal.Disk e);
+        no_room = λ e. (let is = refused-so why refusal.NoRoom e in room (λ there. (b.there there).0 is) (b.brings.no_room is) (group-or v g) e);
+        device = reads-as medium v.file w.file (refused-so why refusal.Disk) (refused-so why refusal.Disk) b.brings.device;
       }
         where
           row : IsGroup v g ⊎ (IsGroup v g → ⊥) → DoesRow medium (on_group g call) (Err why) v s w t
-          row (inl group) = not_brought-row medium v w s t g b.tied (still-group b.same group) call on why (b.row group)
+          row (inl group) = not_brought-row medium v w s t g b.brings.tied (still-group b.brings.same group) call on why (b.row group)
           row (inr none) =
               let n = b.no_group none in
               let is : why ≡ refusal.BadHandle = (let x = n.0 in cc) in
@@ -149,8 +143,8 @@ module _ {D : Type 0} (medium : Medium D) (v : VmState D) where
               (subst (λ x. DoesRow medium (on_group g call) (Err refusal.BadHandle) v s x t) (sym n.1)
               (subst (DoesRow medium (on_group g call) (Err refusal.BadHandle) v s v) (sym n.2) (no_group-row medium v s g tied none call on)))
 
-          room : (IsThere s (vm_slot g) → ⊥) × IfSome (held_at v g) (λ e. LacksRoom v s t (vm g) e.len) → IsGroup v g ⊎ (IsGroup v g → ⊥) → ◌≡◌ {A = Result A Refusal} (Err why) (Err refusal.NoRoom) → LacksItemRoom v t g edit
-          room n (inl group) e = record { none = none (held_at v g) group n.1; no_room = wanted-away edit (HasNoRoom t (vm_slot g)) (held_at v g) (block_at t (vm_slot g)) (b.err.absent n.0) group (lacks (held_at v g) n.1) }
+          room : (IsThere s (vm_slot g) → ⊥) → IfSome (held_at v g) (λ e. LacksRoom v s t (vm g) e.len) → IsGroup v g ⊎ (IsGroup v g → ⊥) → ◌≡◌ {A = Result A Refusal} (Err why) (Err refusal.NoRoom) → LacksItemRoom v t g edit
+          room away lacking (inl group) e = record { none = none (held_at v g) group lacking; no_room = wanted-away edit (HasNoRoom t (vm_slot g)) (held_at v g) (block_at t (vm_slot g)) (b.brings.err.absent away) group (lacks (held_at v g) lacking) }
             where
               none : (o : Option Held) → IsSomeAnd o (λ e. e.uid ≡ group_uid) → IfSome o (λ e. LacksRoom v s t (vm g) e.len) → NoneIdle v t g
               none None group l = absurd group
@@ -159,7 +153,7 @@ module _ {D : Type 0} (medium : Medium D) (v : VmState D) where
               lacks : (o : Option Held) → IfSome o (λ e. LacksRoom v s t (vm g) e.len) → IfSome o (λ e. HasNoRoom t (vm_slot g) e.len)
               lacks None l = tt
               lacks (Some e) l = l.no_room
-          room n (inr none) e = let x = (b.no_group none).0 in absurd cc
+          room away lacking (inr none) e = let x = (b.no_group none).0 in absurd cc
 
       -- it was
       module _ (b : Brings (Ok tt)) (u : Store) (keeps : KeepsOthers w t u (vm g)) where
@@ -167,15 +161,15 @@ module _ {D : Type 0} (medium : Medium D) (v : VmState D) where
         group = b.known
 
         others : (k : ℕ) → k ≢ g → held_at w k ≡ held_at v k
-        others k ne = ap (λ (x : VmState D). held_at x k) b.same
+        others k ne = ap (λ (x : VmState D). held_at x k) b.brings.same
 
         remain : (grows : Bool) (r : Result A Refusal) → Carries grows w edit t u (vm g) r → IsThere s (vm_slot g) → RemainOrNoRoom s u g (need (edit (chunks (bytes_of s (vm_slot g)))).chunks)
         remain grows r carries there =
             subst (λ x. RemainOrNoRoom x u g (need (edit (chunks (bytes_of x (vm_slot g)))).chunks)) (b.ok.stays there)
-            (carries-remain w edit t u g (handle_of_there t t (vm g) refl b.tied.laid b.ok.there) b.ok.there grows r carries)
+            (carries-remain w edit t u g (handle_of_there t t (vm g) refl b.brings.tied.laid b.ok.there) b.ok.there grows r carries)
 
         same-file : IsThere s (vm_slot g) → w.file ≡ v.file
-        same-file there = ap (λ (x : VmState D). x.file) (b.there there).0
+        same-file there = ap (λ (x : VmState D). x.file) (b.brings.there there)
 
         -- its chunks have changed, and it is marked
         pub item-changed : (grows : Bool) (x : VmState D) (a : A) → Carries grows w edit t u (vm g) (Ok a) → IsTied medium x u → x ≡ with_held w g (option_map marked (held_at w g)) → ((n : Memory) → IsMemoryOf medium w u n → IsMemoryOf medium x u (with_mark n g true))
@@ -184,13 +178,13 @@ module _ {D : Type 0} (medium : Medium D) (v : VmState D) where
             let file : x.file ≡ w.file = ap (λ (y : VmState D). y.file) marks in
             let device : x.file.device ≡ w.file.device = ap (λ (f : FileState D). f.device) file in
             let now : VmState D = with_held v g (option_map marked (held_at v g)) in
-            let was : x ≡ with_device now w.file.device = marks ∙ ap (λ (y : VmState D). with_held y g (option_map marked (held_at y g))) b.same in
+            let was : x ≡ with_device now w.file.device = marks ∙ ap (λ (y : VmState D). with_held y g (option_map marked (held_at y g))) b.brings.same in
             record {
               tied = tied;
-              row = on_group-ok medium v w s t g b.tied (still-group b.same group) call on (b.row group) u x a device row memory;
+              row = on_group-ok medium v w s t g b.brings.tied (still-group b.brings.same group) call on (b.row group) u x a device row memory;
               listed = was ∙ ap (with_device now) (sym device);
               no_group = λ none. absurd (none group);
-              keeps = keeps-then v w s t u g others b.keeps (vm-keeps w t u g keeps.others);
+              keeps = keeps-then v w s t u g others b.brings.keeps (vm-keeps w t u g keeps.others);
               wanted = remain grows (Ok a) carries;
               locks = keeps.locks ∙ b.ok.locks;
               refused = tt;
@@ -198,7 +192,7 @@ module _ {D : Type 0} (medium : Medium D) (v : VmState D) where
               there = λ there. (file ∙ same-file there, λ e. absurd cc);
               absent = λ e. absurd cc;
               no_room = λ e. absurd cc;
-              device = reads-on w x file (λ e. absurd cc) (λ e. absurd cc) b.device;
+              device = reads-on w x file (λ e. absurd cc) (λ e. absurd cc) b.brings.device;
             }
 
         -- they have not
@@ -207,10 +201,10 @@ module _ {D : Type 0} (medium : Medium D) (v : VmState D) where
             → ChangesItem medium (on_group g call) edit g (Err why) v w s u
         item-refused grows why asks carries stays row = record {
           tied = tied grows carries;
-          row = on_group-err medium v w s t g b.tied (still-group b.same group) call on (b.row group) u why row;
-          listed = b.same;
+          row = on_group-err medium v w s t g b.brings.tied (still-group b.brings.same group) call on (b.row group) u why row;
+          listed = b.brings.same;
           no_group = λ none. absurd (none group);
-          keeps = keeps-then v w s t u g others b.keeps (vm-keeps w t u g keeps.others);
+          keeps = keeps-then v w s t u g others b.brings.keeps (vm-keeps w t u g keeps.others);
           wanted = remain grows (Err why) carries;
           locks = keeps.locks ∙ b.ok.locks;
           refused = λ there. own grows carries ∙ ap (λ x. block_at x (vm_slot g)) (b.ok.stays there);
@@ -218,15 +212,15 @@ module _ {D : Type 0} (medium : Medium D) (v : VmState D) where
           there = λ there. (same-file there, no_disk);
           absent = λ e. absurd (no_disk e);
           no_room = λ e. room grows carries e;
-          device = reads-on w w refl (λ e. absurd cc) no_disk b.device;
+          device = reads-on w w refl (λ e. absurd cc) no_disk b.brings.device;
         }
           where
             no_disk : ◌≡◌ {A = Result A Refusal} (Err why) (Err refusal.Disk) → ⊥
             no_disk e = let is : why ≡ refusal.Disk = cc in carries-no_disk edit w t u (vm g) grows why asks carries is
 
             tied : (x : Bool) → Carries x w edit t u (vm g) (Err why) → IsTied medium w u
-            tied true c = subst (IsTied medium w) (sym c.grows.1) (tied-thins medium w t c.mid g b.tied c.thins)
-            tied false c = subst (IsTied medium w) (sym c.1) b.tied
+            tied true c = subst (IsTied medium w) (sym c.grows.1) (tied-thins medium w t c.mid g b.brings.tied c.thins)
+            tied false c = subst (IsTied medium w) (sym c.1) b.brings.tied
 
             own : (x : Bool) → Carries x w edit t u (vm g) (Err why) → block_at u (vm_slot g) ≡ block_at t (vm_slot g)
             own true c = ap (λ x. block_at x (vm_slot g)) c.grows.1 ∙ c.own
@@ -242,7 +236,7 @@ module _ {D : Type 0} (medium : Medium D) (v : VmState D) where
                 let is : why ≡ refusal.NoRoom = cc in
                 let none : NoneIdle w u g = c.none e in
                 record {
-                  none = subst (λ (x : VmState D). NoneIdle x u g) b.same none;
+                  none = subst (λ (x : VmState D). NoneIdle x u g) b.brings.same none;
                   no_room = subst (HasNoRoom u (vm_slot g)) (sym (wanted-there edit (held_at v g) (block_at u (vm_slot g)) keeps.there group))
                       (subst (λ x. HasNoRoom x (vm_slot g) (need (edit (heaps.chunks_at x (vm g))).chunks)) (sym c.grows.1) (lacks c is c.grows.0));
                 }
@@ -252,12 +246,12 @@ module _ {D : Type 0} (medium : Medium D) (v : VmState D) where
         pub item-unmarked : IsChanged medium w u g
         item-unmarked = record {
           before = t;
-          tied = b.tied;
+          tied = b.brings.tied;
           was = b.ok.there;
           keeps = vm-keeps w t u g keeps.others;
           there = keeps.there;
           heap = keeps.heap;
-          word = keeps.handle ∙ (stays-changed medium w t g b.tied b.ok.there).word;
+          word = keeps.handle ∙ (stays-changed medium w t g b.brings.tied b.ok.there).word;
         }
 
 -- a group that was brought holds a heap

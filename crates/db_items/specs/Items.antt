@@ -16,12 +16,13 @@ use Rattle.vm_file.specs.Device.{Medium}
 use Rattle.vm_blocks.specs.declared.entries.Held.{Held}
 use Rattle.vm_blocks.specs.Blocks.{marked}
 use Rattle.vm_blocks.specs.Bring.{Keeps, LockedMore}
+use Rattle.vm_blocks.specs.Bringing.{ReadsDevice}
 use Rattle.vm_blocks.specs.DoesRow.{DoesRow}
 use Rattle.vm_blocks.specs.Room.{LacksRoom, NoneIdle, RemainOrNoRoom}
 use Rattle.vm_blocks.specs.Tied.{IsTied}
 use Rattle.vm_blocks.specs.View.{VmState, held_at, vm_slot, with_device, with_held}
 use Rattle.heap_calls.specs.Edits.{Finds}
-use Rattle.db_items.specs.Groups.{ReadsDevice, RefusesNoGroup}
+use Rattle.db_items.specs.Groups.{RefusesNoGroup}
 
 -- what a group needs for a call: its listed length where it is not in memory, else what its chunks
 -- need after the call
@@ -59,7 +60,7 @@ pub record ChangesItem {D A : Type 0} (medium : Medium D)
   pub there : IsThere s (vm_slot g) → (w.file ≡ v.file) × (result ≡ Err Disk → ⊥)
   pub absent : result ≡ Err Disk → IsThere t (vm_slot g) → ⊥
   pub no_room : result ≡ Err NoRoom → LacksItemRoom v t g edit
-  pub device : ReadsDevice medium (result ≡ Err Disk) v w
+  pub device : ReadsDevice medium (result ≡ Err Disk) v.file w.file
 
 -- the reference to an item that was found: the whole of it
 abbrev pub refers_to : ℕ → ℕ → Result (ℕ × ℕ) Refusal → Result Reference Refusal
@@ -87,4 +88,4 @@ pub record LocksItem {D : Type 0} (medium : Medium D)
   pub finds : OnOk result (Finds (refer i n) (bytes_of t (vm_slot g)) result)
   pub within : IfOk result (λ place. (place.0 + place.1 ≤ length (bytes_of t (vm_slot g))) × (n ≤ place.1))
   pub no_room : result ≡ Err NoRoom → IfSome (held_at v g) (λ e. LacksRoom v s t (vm g) e.len)
-  pub device : ReadsDevice medium (result ≡ Err Disk) v w
+  pub device : ReadsDevice medium (result ≡ Err Disk) v.file w.file

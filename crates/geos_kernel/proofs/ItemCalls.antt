@@ -18,9 +18,10 @@ use Rattle.block_handles.proofs.Laws.{handle_of_there, same-name}
 use Rattle.block_handles.proofs.Layouts.{there_of_locks}
 use Rattle.vm_file.specs.Device.{Medium}
 use Rattle.vm_blocks.specs.Bring.{Keeps, LockedMore}
+use Rattle.vm_blocks.specs.Bringing.{ReadsDevice}
 use Rattle.vm_blocks.specs.View.{VmState, vm_slot}
 use Rattle.heap_calls.proofs.Changing.{goes-free}
-use Rattle.db_items.specs.Groups.{IsGroup, ReadsDevice}
+use Rattle.db_items.specs.Groups.{IsGroup}
 use Rattle.db_items.specs.Items.{ChangesItem, LocksItem, refers_to}
 use Rattle.db_items.proofs.Told.{group-told, is_group-given}
 use Rattle.geos_kernel.specs.Kernel.{Calls, IsKernel, NeverFell}
@@ -50,7 +51,7 @@ ilock-stands medium v w s t g i n at len locks =
 
 module _ {D : Type 0} (medium : Medium D) (v w : VmState D) (s t : Store) (g : ℕ) (k : IsKernel medium v s) where
   -- an medium.honest device has medium.failed more often, or as often
-  item-lasts : {A : Type 0} (r : Result A Refusal) → ReadsDevice medium (r ≡ Err refusal.Disk) v w → NeverFell (medium.honest v.file.device) (core_of medium v s) (core_of medium w t)
+  item-lasts : {A : Type 0} (r : Result A Refusal) → ReadsDevice medium (r ≡ Err refusal.Disk) v.file w.file → NeverFell (medium.honest v.file.device) (core_of medium v s) (core_of medium w t)
   item-lasts r device = stayed-or-rose (medium.honest v.file.device) (r ≡ Err refusal.Disk) (medium.failed v.file.device) (medium.failed w.file.device) (refused-disk r) device.cause device.counted
 
   -- spans in other blocks stay

@@ -13,8 +13,8 @@ use Rattle.geos_table.specs.VmFile.{VmFile}
 use Rattle.block_handles.specs.Change.{with_lock_more}
 use Rattle.block_handles.specs.Store.{Store, IsThere, place_of}
 use Rattle.vm_file.specs.Device.{Medium}
+use Rattle.vm_blocks.specs.Bringing.{ReadsDevice}
 use Rattle.vm_blocks.specs.View.{VmState, vm_slot, with_device}
-use Rattle.db_items.specs.Groups.{ReadsDevice}
 use Rattle.db_items.specs.Items.{ChangesItem, LacksItemRoom, LocksItem, listed_after, refers_to}
 use Rattle.geos_kernel.specs.declared.span.Span.{Span}
 use Rattle.geos_kernel.specs.Files.{CallsItem, InMemory, ReadsFile}
@@ -45,7 +45,7 @@ module _ {D : Type 0} (medium : Medium D) (v w : VmState D) (s t : Store) (k : K
   abbrev new : KernelOn D
   new = kernel_of medium w t
 
-  reads-file : {fails ends : Type 0} → (ends → fails) → (fails → ends) → w.file ≡ (with_device v w.file.device).file → ReadsDevice medium fails v w → ReadsFile medium ends old new
+  reads-file : {fails ends : Type 0} → (ends → fails) → (fails → ends) → w.file ≡ (with_device v w.file.device).file → ReadsDevice medium fails v.file w.file → ReadsFile medium ends old new
   reads-file one other same device = record {
     reads = device.reads;
     file = same;

@@ -16,6 +16,7 @@ pub mod Wanting
 pub mod Table
 pub mod Counts
 pub mod LockRows
+pub mod Bringing
 pub mod Told
 pub mod MapRows
 pub mod FreeRows

@@ -1,10 +1,12 @@
 -- How a block comes into memory, and is locked there.
-use Rattle.std.specs.Prelude.{◌≡◌, ◌≢◌, ℕ, ◌+◌, ◌<◌, ◌⊎◌, List, length, None}
+use Rattle.std.specs.Prelude.{◌≡◌, ◌≢◌, ℕ, ◌+◌, ◌<◌, ◌⊎◌, List, length, None, MatchResult, Result}
 use Rattle.geos_model.specs.Block.{handle_word}
 use Rattle.geos_model.specs.Heap.{IsHeap}
-use Rattle.block_handles.specs.Change.{with_bytes}
+use Rattle.block_handles.specs.Change.{with_bytes, with_lock_more}
 use Rattle.block_handles.specs.Layout.{IsLaidOut}
 use Rattle.block_handles.specs.Store.{Store, IsThere, block_at, bytes_of, locks_of, place_of, size_of}
+use Rattle.vm_blocks.specs.declared.error.LockError.{LockError}
+use Rattle.vm_blocks.specs.declared.error.LockError.TheVariants.{Locked}
 use Rattle.vm_blocks.specs.View.{VmState, vm_slot}
 use Rattle.vm_blocks.specs.Room.{Goes}
 
@@ -51,3 +53,7 @@ pub record LockedMore (old new : Store) (h : ℕ) : Type 0 where
   pub locks : locks_of new (vm_slot h) ≡ locks_of old (vm_slot h) + 1
   pub bytes : IsThere old (vm_slot h) → bytes_of new (vm_slot h) ≡ bytes_of old (vm_slot h)
   pub place : IsThere old (vm_slot h) → place_of new (vm_slot h) ≡ place_of old (vm_slot h)
+
+-- a block that is in memory is locked once more, or its count is full, and nothing changes
+abbrev pub LocksThere : ℕ → Result (Unit {0}) LockError → Store → Store → Type 0
+LocksThere h result old new = MatchResult result (λ _. new ≡ with_lock_more old (vm_slot h)) (λ why. (why ≡ Locked) × (new ≡ old))

@@ -2,6 +2,7 @@ pub mod View
 pub mod Tied
 pub mod Room
 pub mod Bring
+pub mod Bringing
 pub mod Blocks
 pub mod Listed
 pub mod Groups

@@ -24,6 +24,12 @@ abbrev pub of_bring : Result (Unit {0}) BringError → Result (Unit {0}) Refusal
 of_bring (Ok done) = Ok tt
 of_bring (Err why) = Err (why_not_brought why)
 
+-- why a block that was not brought was not locked
+abbrev pub lock_error_of : BringError → LockError
+lock_error_of bring.BadHandle = lock.BadHandle
+lock_error_of bring.NoRoom = lock.NoRoom
+lock_error_of bring.Disk = lock.Disk
+
 -- why a block was not locked
 abbrev pub why_not_locked : LockError → Refusal
 why_not_locked lock.BadHandle = refusal.BadHandle

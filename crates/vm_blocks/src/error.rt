@@ -1,6 +1,6 @@
 //! Why calls on VM blocks refuse.
 ghost use Rattle.std.specs.Prelude.{◌≡◌};
-ghost use Rattle.vm_blocks.specs.Refused.{why_not_brought, why_not_freed, why_not_locked, why_not_made};
+ghost use Rattle.vm_blocks.specs.Refused.{lock_error_of, why_not_brought, why_not_freed, why_not_locked, why_not_made};
 
 use geos_model::Refusal;
 use thiserror::Error;
@@ -65,6 +65,19 @@ impl LockError {
             LockError::Locked => Refusal::Locked,
             LockError::NoRoom => Refusal::NoRoom,
             LockError::Disk => Refusal::Disk,
+        }
+    }
+}
+
+/// A block that was not brought is not locked, for the same reason.
+impl From<BringError> for LockError {
+    ghost from_gives = { λ why e. e ≡ lock_error_of why };
+
+    fn from(why: BringError) -> LockError {
+        match why {
+            BringError::BadHandle => LockError::BadHandle,
+            BringError::NoRoom => LockError::NoRoom,
+            BringError::Disk => LockError::Disk,
         }
     }
 }

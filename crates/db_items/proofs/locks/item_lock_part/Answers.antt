@@ -26,7 +26,7 @@ returns-in-Err g c =
 pub find-requires : goal.find-requires
 find-requires g c =
     let d = g.D.Device in let t = c.bring_group.new.blocks in let b = c.in-Ok.ensures in
-    subst IsHeap (sym (c.bytes.ensures ∙ ap (λ n. bytes_of t (slot_of n)) c.vm.ensures)) (holds-heap d.medium c.bring_group.new.vm t c.args.g b.tied b.ok.there).heap
+    subst IsHeap (sym (c.bytes.ensures ∙ ap (λ n. bytes_of t (slot_of n)) c.vm.ensures)) (holds-heap d.medium c.bring_group.new.vm t c.args.g b.brings.tied b.ok.there).heap
 
 pub returns-in-Err-find : goal.returns-in-Err-find
 returns-in-Err-find g c =

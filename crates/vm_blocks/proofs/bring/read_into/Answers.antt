@@ -1,4 +1,4 @@
-use Rattle.std.proofs.Common.{◌≡◌, length, ap, sym, subst, ◌∙◌}
+use Rattle.std.proofs.Common.{◌≡◌, length, ap, refl, sym, subst, ◌∙◌}
 use Rattle.block_handles.specs.Change.{with_bytes}
 use Rattle.block_handles.specs.Names.{slot_of}
 use Rattle.block_handles.specs.Store.{Store, bytes_of, place_of, size_of}
@@ -28,3 +28,9 @@ returns-in-Ok-clause-values g c =
     let new : Store = with_bytes old (slot_of c.vm.result) c.block.new.into in
     let r = c.region.ensures in
     subst AreBytes (sym (r.region.blocks slot)) (bytes-part c.region.result.now (place_of new slot) (size_of new slot) r.bytes)
+
+pub returns-in-Ok-clause-device : goal.returns-in-Ok-clause-device
+returns-in-Ok-clause-device g c = let e = c.in-Ok.ensures in record { pair = e.pair; reads = e.reads; cause = λ good is. absurd cc; counted = λ never. e.ok }
+
+pub returns-in-Err-clause-device : goal.returns-in-Err-clause-device
+returns-in-Err-clause-device g c = let e = c.in-Err.ensures in record { pair = e.pair; reads = e.reads; cause = λ good is. e.cause good; counted = λ never. absurd (never refl) }

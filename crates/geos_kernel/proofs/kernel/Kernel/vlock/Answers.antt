@@ -23,7 +23,7 @@ invariant_of-self g c =
     let d = g.D.Device in let v = c.self.inside.vm in let s = c.self.inside.blocks in
     let done = c.vlock-locked in let w = done.new.self in let t = done.new.blocks in let r = done.result in let e = done.ensures in
     let h = c.args.h in
-    spared-kernel d.medium v w s t c.self.invariant (lock-spares v s t h r e.keeps e.ok e.err).beside (lock_listed h) (of_lock r) e.tied e.row
+    spared-kernel d.medium v w s t c.self.invariant (lock-spares v s t h r e.brings.keeps e.ok e.brings.err).beside (lock_listed h) (of_lock r) e.brings.tied e.row
 
 pub returns-clause-calls : goal.returns-clause-calls
 returns-clause-calls g c =
@@ -32,24 +32,24 @@ returns-clause-calls g c =
     let h = c.args.h in
     let none : IsGroup v h → ⊥ = λ group. (let is : false ≡ true = c.if-is_group.ensures.1 group in absurd cc) in
     let row = lock-row d.medium v s c.self.invariant.tied h none w t (of_lock r) e.row in
-    let lasts = lock-lasts (d.medium.honest v.file.device) (d.medium.failed v.file.device) (d.medium.failed w.file.device) r e.cause e.counted in
-    rw c.of_lock.ensures (calls-seen d.medium v s c.args.self.now c.self.view_is (calls-beside d.medium v w s t row e.reads.stays lasts (lock-spares v s t h r e.keeps e.ok e.err)))
+    let lasts = lock-lasts (d.medium.honest v.file.device) (d.medium.failed v.file.device) (d.medium.failed w.file.device) r e.brings.device.cause e.brings.device.counted in
+    rw c.of_lock.ensures (calls-seen d.medium v s c.args.self.now c.self.view_is (calls-beside d.medium v w s t row e.brings.device.reads.stays lasts (lock-spares v s t h r e.brings.keeps e.ok e.brings.err)))
 
 pub returns-clause-in_memory : goal.returns-clause-in_memory
 returns-clause-in_memory g c =
     let d = g.D.Device in let v = c.self.inside.vm in let s = c.self.inside.blocks in
     let done = c.vlock-locked in let w = done.new.self in let t = done.new.blocks in let h = c.args.h in let e = done.ensures in
-    rw c.of_lock.ensures (lock-in_memory d.medium v w s t c.args.self.now c.self.view_is h (t ≡ with_lock_more s (vm_slot h)) done.result e.there e.disk)
+    rw c.of_lock.ensures (lock-in_memory d.medium v w s t c.args.self.now c.self.view_is h (t ≡ with_lock_more s (vm_slot h)) done.result (λ was. (e.brings.there was, e.there was)) e.brings.absent)
 
 pub returns-clause-locks : goal.returns-clause-locks
 returns-clause-locks g c =
     let d = g.D.Device in let v = c.self.inside.vm in let s = c.self.inside.blocks in
-    let done = c.vlock-locked in let w = done.new.self in let t = done.new.blocks in let r = done.result in let h = c.args.h in
-    let more = lock-more d.medium v w s t c.args.self.now c.self.view_is h (t ≡ with_lock_more s (vm_slot h)) r done.ensures.there in
+    let done = c.vlock-locked in let w = done.new.self in let t = done.new.blocks in let r = done.result in let h = c.args.h in let e = done.ensures in
+    let more = lock-more d.medium v w s t c.args.self.now c.self.view_is h (t ≡ with_lock_more s (vm_slot h)) r (λ was. (e.brings.there was, e.there was)) in
     rw c.of_lock.ensures (subst (λ k. IsThere k.core.blocks (vm_slot h) → OnOk (of_lock r) (t ≡ with_lock_more k.core.blocks (vm_slot h))) c.self.view_is more)
 
 pub returns-clause-refused : goal.returns-clause-refused
 returns-clause-refused g c =
     let d = g.D.Device in let v = c.self.inside.vm in let s = c.self.inside.blocks in
     let done = c.vlock-locked in let w = done.new.self in let t = done.new.blocks in let h = c.args.h in let e = done.ensures in
-    rw c.of_lock.ensures (lock-refused d.medium v w s t c.args.self.now c.self.view_is h (t ≡ with_lock_more s (vm_slot h)) done.result e.there (λ bad. e.unlisted (e.bad_handle.0 bad)) e.locked.0)
+    rw c.of_lock.ensures (lock-refused d.medium v w s t c.args.self.now c.self.view_is h (t ≡ with_lock_more s (vm_slot h)) done.result (λ was. (e.brings.there was, e.there was)) (λ bad. e.brings.unlisted (e.bad_handle.0 bad)) e.locked.0)
