@@ -83,6 +83,9 @@ module _ {D : Type 0} (v : VmState D) (old new : Store) (h size : ℕ) (q : IsHa
   pub made-block : block_at new (vm_slot h) ≡ new_block size
   made-block = ap (λ bs. get_or bs (vm_slot h) None) made.makes.blocks ∙ get_or-set_same made.mid.blocks (vm_slot h) (new_block size) None small
 
+  pub made-size : size_of new (vm_slot h) ≡ size
+  made-size = ap (λ o. length (bytes_in o)) made-block ∙ length-replicate {A = ℕ} size 0
+
   pub made-other : (slot : ℕ) → slot ≢ vm_slot h → block_at new slot ≡ block_at made.mid slot
   made-other slot ne = ap (λ bs. get_or bs slot None) made.makes.blocks ∙ get_or-set_other made.mid.blocks (vm_slot h) slot (new_block size) None ne
 
@@ -154,9 +157,6 @@ module _ {D : Type 0} (medium : Medium D) (v : VmState D) (s : Store) (h : ℕ) 
 
   -- it was made, and read
   module _ (m t : Store) (made : DiscardsAndMakes v s m (vm h) e.len) where
-    made-size : size_of m (vm_slot h) ≡ e.len
-    made-size = ap (λ o. length (bytes_in o)) (made-block v s m h e.len q made) ∙ length-replicate {A = ℕ} e.len 0
-
     module _ (fills : Fills m t h) where
       pub filled-keeps : Keeps v s t h
       filled-keeps = keeps-more v s m t h (made-keeps v s m h e.len q made)
@@ -184,7 +184,7 @@ module _ {D : Type 0} (medium : Medium D) (v : VmState D) (s : Store) (h : ℕ) 
           heap = fills.heap;
           handle = fills.handle;
           kept = λ c. absent-is.kept;
-          clean = λ c. record { long = fills.long ∙ made-size; same = λ good. sym (ap bytes_in filled-is) ∙ read good };
+          clean = λ c. record { long = fills.long ∙ made-size v s m h e.len q made; same = λ good. sym (ap bytes_in filled-is) ∙ read good };
         }
 
         filled-tied : IsTied medium v t

@@ -5,13 +5,14 @@ use Rattle.std.proofs.lemmas.Bool.{cases_lt}
 use Rattle.block_handles.specs.declared.error.RoomError.{RoomError}
 use Rattle.block_handles.specs.declared.error.RoomError.TheVariants.{NoRoom, TooBig}
 use Rattle.block_handles.specs.Change.{with_locks}
-use Rattle.block_handles.specs.Names.{IsHandle}
+use Rattle.block_handles.specs.Names.{IsHandle, slot_of}
 use Rattle.block_handles.specs.Store.{Store, IsBlock, IsThere, block_at}
 use Rattle.block_handles.specs.Stretch.{HasNoRoom}
 use Rattle.block_handles.proofs.Laws.{with_locks-other}
 use Rattle.geos_model.specs.Heap.{most_block_bytes}
 use Rattle.geos_model.specs.Names.{vm}
-use Rattle.vm_blocks.specs.Room.{DiscardsForRoom, DiscardsOne, DiscardsAndMakes, RemainOrNoRoom, Thins}
+use Rattle.geos_model.specs.declared.name.Name.{Name}
+use Rattle.vm_blocks.specs.Room.{DiscardsForRoom, DiscardsOne, DiscardsAndMakes, LacksRoom, NoneIdle, RemainOrNoRoom, Thins, own_handle}
 use Rattle.vm_blocks.specs.Blocks.{IsLowestUnlisted}
 use Rattle.vm_blocks.specs.View.{VmState, held_at, vm_slot}
 use Rattle.vm_blocks.proofs.Brings.{made-other}
@@ -29,6 +30,17 @@ discards-more {D} v a b c but slot size thins before no_room one = inr (record {
     first : DiscardsForRoom v a b but slot size → HasNoRoom a slot size
     first (inl same) = subst (λ s. HasNoRoom s slot size) same no_room
     first (inr went) = went.first
+
+-- none is left that may be discarded, and there is no room
+pub lacks-room : {D : Type 0} (v : VmState D) (old now last new : Store) (name : Name) (size but : ℕ) → but ≡ own_handle name → last ≡ now → Thins v old now (own_handle name) → HasNoRoom now (slot_of name) size
+    → (new ≡ last) × NoneIdle v last but → LacksRoom v old new name size
+lacks-room v old now last new name size but own same thins no_room none =
+    let is : new ≡ now = none.0 ∙ same in
+    record {
+      thins = subst (λ s. Thins v old s (own_handle name)) (sym is) thins;
+      none = subst (λ s. NoneIdle v s (own_handle name)) (sym none.0) (subst (NoneIdle v last) own none.1);
+      no_room = subst (λ s. HasNoRoom s (slot_of name) size) (sym is) no_room;
+    }
 
 module _ (s t : Store) (h size : ℕ) where
   pub same-remain : t ≡ s → RemainOrNoRoom s t h size

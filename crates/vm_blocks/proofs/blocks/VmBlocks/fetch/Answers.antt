@@ -1,23 +1,29 @@
-use Rattle.std.proofs.Common.{◌≡◌, ℕ, sym, subst}
+use Rattle.std.proofs.Common.{◌≡◌, ℕ, ap, sym, subst}
 use Rattle.std.specs.Prelude.{Err, OnOk}
 use Rattle.geos_model.specs.Heap.{IsBlockSize}
 use Rattle.geos_model.specs.Names.{vm}
 use Rattle.geos_model.specs.declared.name.Name.{Name}
-use Rattle.block_handles.specs.Names.{slot_of}
-use Rattle.block_handles.specs.Store.{bytes_of}
+use Rattle.block_handles.specs.Names.{IsHandle, slot_of}
+use Rattle.block_handles.specs.Store.{IsBlock, IsThere, bytes_of, locks_in}
+use Rattle.vm_file.specs.State.{HasBlock}
 use Rattle.vm_blocks.specs.declared.error.BringError.TheVariants as error
 use Rattle.vm_blocks.specs.Bringing.{ReadsDevice}
 use Rattle.vm_blocks.specs.Room.{DiscardsAndMakes, DiscardsForRoom, LacksRoom, own_handle}
 use Rattle.vm_blocks.specs.View.{VmState, bytes_read, vm_slot}
 use Rattle.vm_blocks.proofs.Bringing.{Fetches, lacks-fetches, read-fetches}
-use Rattle.vm_blocks.proofs.Brings.{absent-is, made-room}
+use Rattle.vm_blocks.proofs.Brings.{absent-is, made-block, made-room, made-size}
 use Rattle.vm_blocks.proofs.blocks.VmBlocks.fetch.Goals as goal
 
-pub make_room-requires-clause-size : goal.make_room-requires-clause-size
-make_room-requires-clause-size g c =
-    let d = g.D.Device in
-    let a = absent-is d.medium c.args.self.now c.args.blocks.now c.args.h c.args.held c.requires.handle c.requires.tied c.requires.listed c.requires.absent in
-    subst IsBlockSize (sym c.from.ensures) a.size
+pub make_room-requires : goal.make_room-requires
+make_room-requires g c =
+    let d = g.D.Device in let q = c.requires in let h = c.args.h in
+    let size : IsBlockSize c.args.held.len = (absent-is d.medium c.args.self.now c.args.blocks.now h c.args.held q.handle q.tied q.listed q.absent).size in
+    record {
+      tied = q.tied;
+      handle = subst (λ (name : Name). IsHandle name.h) (sym c.vm.ensures) q.handle;
+      absent = subst (λ (name : Name). IsThere c.args.blocks.now (slot_of name) → ⊥) (sym c.vm.ensures) q.absent;
+      size = subst IsBlockSize (sym c.from.ensures) size;
+    }
 
 pub returns-in-Err : goal.returns-in-Err
 returns-in-Err g c =
@@ -28,6 +34,18 @@ returns-in-Err g c =
     let wanted = subst (Wanted (vm h)) c.from.ensures (subst (λ name. Wanted name c.from.result) c.vm.ensures c.in-Err.ensures.wanted) in
     let f = lacks-fetches d.medium now old h e q.handle q.tied q.listed q.absent mid lacks wanted in
     record { brings = f.brings; known = f.known; ok = f.ok; row = f.row }
+
+pub read_into-requires : goal.read_into-requires
+read_into-requires g c =
+    let d = g.D.Device in let now = c.args.self.now in let old = c.args.blocks.now in let mid = c.make_room.new.blocks in let h = c.args.h in let e = c.args.held in let q = c.requires in
+    let made = made-room now old mid c.vm.result h c.vm.ensures (subst (DiscardsAndMakes now old mid c.vm.result) c.from.ensures c.in-Ok.ensures.ok) in
+    let block = made-block now old mid h e.len q.handle made in
+    let kept = (absent-is d.medium now old h e q.handle q.tied q.listed q.absent).kept in
+    record {
+      there = subst IsBlock (sym block) tt;
+      free = ap locks_in block;
+      listed = subst (HasBlock c.self.inside.file.current h) (sym (made-size now old mid h e.len q.handle made)) (subst (λ (w : VmState g.row.D.Denot). HasBlock w.file.current h e.len) (sym c.self.view_is) kept);
+    }
 
 pub returns : goal.returns
 returns g c =
