@@ -1,14 +1,16 @@
 -- The calls that look at chunks.
-use Rattle.std.proofs.Common.{◌≡◌, ℕ, Bool, cond, List, [], ◌∷◌, length, drop, Option, Some, None, refl, sym, ap, ◌∙◌, arith, length-take, length-drop}
-use Rattle.std.specs.Prelude.{Ok, Err, nat_lt, true, false, option_map}
+use Rattle.std.proofs.Common.{◌≡◌, ℕ, ◌+◌, ◌≤◌, Bool, cond, List, [], ◌∷◌, length, drop, Option, Some, None, refl, sym, ap, ◌∙◌, arith, length-take, length-drop}
+use Rattle.std.specs.Prelude.{Ok, Err, IfOk, is_none, nat_lt, true, false, option_map}
+use Rattle.std.proofs.lemmas.Bool.Decides.{nat_tests}
 use Rattle.lmem_raw.specs.Bytes.{part}
 use Rattle.geos_model.specs.declared.refusal.Refusal.{Refusal}
-use Rattle.geos_model.specs.declared.refusal.Refusal.TheVariants.{Short}
+use Rattle.geos_model.specs.declared.refusal.Refusal.TheVariants.{BadChunk, Short}
 use Rattle.geos_model.specs.Refusals.{first_refusal}
 use Rattle.geos_model.specs.Block as block
-use Rattle.geos_model.specs.Edits.{Edit, Part}
+use Rattle.geos_model.specs.Chunks.{chunk_of}
+use Rattle.geos_model.specs.Edits.{Edit, Part, length_of, refer}
 use Rattle.geos_model.specs.ArrayEdits.{element_of, no_element, refer_element}
-use Rattle.geos_table.proofs.Laws.{first_refusal-passed}
+use Rattle.geos_table.proofs.Laws.{first_refusal-came, first_refusal-passed}
 use Rattle.geos_model.proofs.Places.{chunk-place}
 use Rattle.chunk_array.specs.declared.error.ArrayError.{ArrayError}
 use Rattle.chunk_array.specs.declared.error.ArrayError.TheVariants as array
@@ -38,6 +40,32 @@ enough-finds edit bytes place n few many = told (nat_lt place.1 n) refl
     told : (b : Bool) → nat_lt place.1 n ≡ b → Finds edit bytes (cond b (Err Short) (Ok place))
     told true is = few is
     told false is = many is
+
+-- and it lies in the block, and has so many
+pub enough-within : (k n : ℕ) (place : ℕ × ℕ) → place.0 + place.1 ≤ k → IfOk (enough place n) (λ p. (p.0 + p.1 ≤ k) × (n ≤ p.1))
+enough-within k n place inside = told (nat_lt place.1 n) refl
+  where
+    told : (b : Bool) → nat_lt place.1 n ≡ b → IfOk (cond b (Err Short) (Ok place)) (λ p. (p.0 + p.1 ≤ k) × (n ≤ p.1))
+    told true is = tt
+    told false is = (inside, grind (arith, nat_tests))
+
+pub deref-finds : (bytes : List ℕ) (c n at len : ℕ) → block.IsPlaced bytes c at len → chunk_of (block.chunks bytes) c ≡ Some (part bytes at len) → at + len ≤ length bytes → Finds (refer c n) bytes (enough (at, len) n)
+deref-finds bytes c n at len placed chunk within =
+    let cs = block.chunks bytes in
+    let whole : length (part bytes at len) ≡ len = omega (arith, within, length-take len (drop at bytes), length-drop at bytes) in
+    let same : length_of cs c ≡ len = rw chunk whole in
+    let there : is_none (chunk_of cs c) ≡ false = ap is_none chunk in
+    let tests : Bool → Bool → List (Bool × Refusal) = λ a b. (a, BadChunk) ∷ (b, Short) ∷ [] in
+    let told : (b : Bool) → nat_lt len n ≡ b → first_refusal (tests (is_none (chunk_of cs c)) (nat_lt (length_of cs c) n)) ≡ first_refusal (tests false b) =
+    λ b is. ap (λ a. first_refusal (tests a (nat_lt (length_of cs c) n))) there ∙ ap (λ k. first_refusal (tests false (nat_lt k n))) same ∙ ap (λ x. first_refusal (tests false x)) is in
+    enough-finds (refer c n) bytes (at, len) n (told true)
+    (λ fits. (told false fits, sym same, record { whole = part bytes at len; chunk = chunk; fits = omega (arith, same, whole); place = λ some. rw placed (omega arith) }))
+
+-- an element is refused, and so is what refers to it
+pub element-refused : (bytes : List ℕ) (c i n : ℕ) (why : ElementError) → IsElementError why (no_element (block.chunks bytes) c i) → first_refusal (refer_element c i n (block.chunks bytes)).refusals ≡ Some (why_no_element why)
+element-refused bytes c i n why h =
+    let tests : List (Bool × Refusal) = (nat_lt (length (element_of (block.chunks bytes) c i)) n, Short) ∷ [] in
+    first_refusal-came (no_element (block.chunks bytes) c i) tests (why_no_element why) (element-refuses why (no_element (block.chunks bytes) c i) h)
 
 pub element-finds : (bytes : List ℕ) (c i n at len : ℕ) → first_refusal (no_element (block.chunks bytes) c i) ≡ None → HasElement bytes c i at len → Finds (refer_element c i n) bytes (enough (at, len) n)
 element-finds bytes c i n at len passed h =
