@@ -64,11 +64,14 @@ module _ (old mid : Store) (slot size : ℕ) (there : IsThere old slot) (g : Gro
   grown : block_at mid slot ≡ grown_block old slot size
   grown = ap (λ bs. get_or bs slot None) g.blocks ∙ get_or-set_same old.blocks slot (grown_block old slot size) None (inside old slot there)
 
-  grown-there : IsThere mid slot
+  pub grown-there : IsThere mid slot
   grown-there = subst IsBlock (sym grown) tt
 
   grown-bytes : bytes_of mid slot ≡ bytes_of old slot ++ replicate (size - size_of old slot) 0
   grown-bytes = ap bytes_in grown
+
+  pub grown-size : size_of old slot < size → size_of mid slot ≡ size
+  grown-size less = ap length grown-bytes ∙ length-append (bytes_of old slot) (replicate (size - size_of old slot) 0) ∙ omega (arith, length-replicate {A = ℕ} (size - size_of old slot) 0, less)
 
   -- in front stand its own bytes
   pub grown-front : (was : List ℕ) (old_size : ℕ) → old_size ≡ size_of old slot → was ≡ bytes_of mid slot → take old_size was ≡ bytes_of old slot
@@ -80,7 +83,6 @@ module _ (old mid : Store) (slot size : ℕ) (there : IsThere old slot) (g : Gro
       → block.chunks ws ≡ block.chunks (take old_size was) → Rechunks old (with_bytes mid slot ws) slot (block.chunks (bytes_of old slot)) size
   grown-heap was ws old_size less same value long heap some handle spells =
       let first = grown-front was old_size same value in
-      let wide : size_of mid slot ≡ size = ap length grown-bytes ∙ length-append (bytes_of old slot) (replicate (size - size_of old slot) 0) ∙ omega (arith, length-replicate {A = ℕ} (size - size_of old slot) 0, less) in
       record {
         bytes = ws;
         blocks = with_bytes-set mid.blocks slot ws grown-there (long ∙ ap length value) ∙ ap (λ bs. set bs slot (Some (record { locks = locks_of mid slot; bytes = ws }))) g.blocks ∙ set-set old.blocks slot (grown_block old slot size) (Some (record { locks = locks_of mid slot; bytes = ws }))
@@ -91,7 +93,7 @@ module _ (old mid : Store) (slot size : ℕ) (there : IsThere old slot) (g : Gro
         heap = heap;
         handle = handle ∙ sym (handle-take was old_size some) ∙ ap block.handle_word first;
         spells = spells ∙ ap block.chunks first;
-        long = long ∙ ap length value ∙ wide;
+        long = long ∙ ap length value ∙ grown-size less;
       }
 
 -- Chunks that a block has got

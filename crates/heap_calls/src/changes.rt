@@ -6,11 +6,9 @@ ghost use Rattle.geos_model.specs.Heap.{IsCompact};
 ghost use Rattle.block_handles.specs.Names.{slot_of};
 ghost use Rattle.block_handles.specs.Store.{bytes_of};
 ghost use Rattle.geos_table.specs.ChunkCalls.{change_edit, change_row, may_grow};
-ghost use Rattle.vm_blocks.specs.DoesRow.{DoesRow};
-ghost use Rattle.vm_blocks.specs.Tied.{IsTied};
+ghost use Rattle.heap_calls.specs.Calls.{CallsChunks, HoldsTied};
 ghost use Rattle.heap_calls.specs.Edits.{Carries, DiscardsAndEdits, IsOwn, Tries};
 ghost use Rattle.heap_calls.specs.Heaps.{HoldsHeap};
-ghost use Rattle.heap_calls.specs.Others.{IsMarkedIfVm, KeepsOthers};
 ghost use Rattle.heap_calls.specs.declared.obstacle.Obstacle.TheVariants.{Room};
 
 use crate::growth::make_room;
@@ -41,16 +39,10 @@ pub fn change<D: Device + Drop>(
     name: Name,
     change: Change,
 ) -> Result<(), Refusal>
-    requires tied { IsTied D.medium vm.now blocks.old }
-    requires heap { HoldsHeap blocks.old name }
+    requires { HoldsTied D.medium vm.now blocks.old name }
     ensures carries { Carries (may_grow change) vm.now (change_edit change) blocks.old blocks.new name result }
-    // Only a lack of room is refused after others were discarded.
-    ensures refused { (result ≡ Err Refusal.NoRoom → ⊥) → OnErr result (blocks.new ≡ blocks.old) }
-    // Other blocks are as they were, or were discarded; and table, region and file stay tied.
-    ensures keeps { KeepsOthers vm.now blocks.old blocks.new name }
-    ensures tied { IsMarkedIfVm vm.now name → IsTied D.medium vm.now blocks.new }
-    // Its row of the table of calls, in each memory that the model may have before it.
-    ensures row { DoesRow D.medium (change_row name change) result vm.now blocks.old vm.now blocks.new }
+    // Its row of the table of calls, in each memory that the model may have before it; and what it leaves of all else.
+    ensures calls { CallsChunks D.medium (change_row name change) name result vm.now blocks.old blocks.new }
 {
     let done = match try_change(blocks, name, change) {
         Ok(()) => Ok(()),
@@ -72,8 +64,7 @@ fn grow_and_change<D: Device + Drop>(
     change: Change,
     room: RoomError,
 ) -> Result<(), Refusal>
-    requires tied { IsTied D.medium vm.now blocks.old }
-    requires heap { HoldsHeap blocks.old name }
+    requires holds { HoldsTied D.medium vm.now blocks.old name }
     requires tried { Tries (change_edit change) blocks.old blocks.old name (Err (Room room)) }
     ensures comes { DiscardsAndEdits vm.now (change_edit change) blocks.old blocks.new name result }
     ensures refused { (result ≡ Err Refusal.NoRoom → ⊥) → OnErr result (blocks.new ≡ blocks.old) }

@@ -2,8 +2,8 @@
 
 ghost use Rattle.std.specs.Prelude.{◌≡◌, ◌<◌, ◌≤◌, ◌%◌};
 ghost use Rattle.geos_model.specs.Heap.{most_block_bytes};
-ghost use Rattle.vm_blocks.specs.Tied.{IsTied};
-ghost use Rattle.heap_calls.specs.Heaps.{HoldsHeap, AsksFor, Enlarges, GivesRoom, size_at};
+ghost use Rattle.heap_calls.specs.Calls.{HoldsTied};
+ghost use Rattle.heap_calls.specs.Heaps.{AsksFor, Enlarges, GivesRoom, size_at};
 
 use block_handles::Blocks;
 use geos_model::{Name, Refusal};
@@ -19,8 +19,7 @@ fn enlarge<D: Device + Drop>(
     name: Name,
     size: u16,
 ) -> Result<(), Refusal>
-    requires tied { IsTied D.medium vm.now blocks.old }
-    requires heap { HoldsHeap blocks.old name }
+    requires holds { HoldsTied D.medium vm.now blocks.old name }
     requires larger { size_at blocks.old name < size }
     requires legal { (size ≤ most_block_bytes) × (size % 16 ≡ 0) }
     ensures { Enlarges vm.now blocks.old blocks.new name size result }
@@ -41,8 +40,7 @@ pub(crate) fn make_room<D: Device + Drop>(
     name: Name,
     room: RoomError,
 ) -> Result<(), Refusal>
-    requires tied { IsTied D.medium vm.now blocks.old }
-    requires heap { HoldsHeap blocks.old name }
+    requires holds { HoldsTied D.medium vm.now blocks.old name }
     requires asks { AsksFor room (size_at blocks.old name) }
     ensures { GivesRoom vm.now room result blocks.old blocks.new name }
 {

@@ -2,11 +2,9 @@
 
 ghost use Rattle.std.specs.Prelude.{◌≡◌, Err, OnErr};
 ghost use Rattle.geos_table.specs.ChunkCalls.{make_edit, make_row};
-ghost use Rattle.vm_blocks.specs.DoesRow.{DoesRow};
-ghost use Rattle.vm_blocks.specs.Tied.{IsTied};
+ghost use Rattle.heap_calls.specs.Calls.{CallsChunks, HoldsTied};
 ghost use Rattle.heap_calls.specs.Edits.{DiscardsAndEdits, Tries};
 ghost use Rattle.heap_calls.specs.Heaps.{HoldsHeap};
-ghost use Rattle.heap_calls.specs.Others.{IsMarkedIfVm, KeepsOthers};
 ghost use Rattle.heap_calls.specs.declared.obstacle.Obstacle.TheVariants.{Room};
 
 use crate::growth::make_room;
@@ -29,22 +27,17 @@ pub fn make<D: Device + Drop>(
     name: Name,
     make: Make,
 ) -> Result<u16, Refusal>
-    requires tied { IsTied D.medium vm.now blocks.old }
-    requires heap { HoldsHeap blocks.old name }
+    requires { HoldsTied D.medium vm.now blocks.old name }
     ensures comes { DiscardsAndEdits vm.now (make_edit make) blocks.old blocks.new name result }
-    // Only a lack of room is refused after others were discarded.
-    ensures refused { (result ≡ Err Refusal.NoRoom → ⊥) → OnErr result (blocks.new ≡ blocks.old) }
-    // Other blocks are as they were, or were discarded; and table, region and file stay tied.
-    ensures keeps { KeepsOthers vm.now blocks.old blocks.new name }
-    ensures tied { IsMarkedIfVm vm.now name → IsTied D.medium vm.now blocks.new }
-    // Its row of the table of calls, in each memory that the model may have before it.
-    ensures row { DoesRow D.medium (make_row name make) result vm.now blocks.old vm.now blocks.new }
+    // Its row of the table of calls, in each memory that the model may have before it; and what it leaves of all else.
+    ensures calls { CallsChunks D.medium (make_row name make) name result vm.now blocks.old blocks.new }
 {
     let made = match try_make(blocks, name, make) {
         Ok(c) => Ok(c),
         Err(Obstacle::Refused(refusal)) => Err(refusal),
         Err(Obstacle::Room(room)) => grow_and_make(vm, blocks, name, make, room),
     };
+    // what lies in the region are bytes, as the block is to spell
     let _ = blocks.region();
     made
 }
@@ -59,8 +52,7 @@ fn grow_and_make<D: Device + Drop>(
     make: Make,
     room: RoomError,
 ) -> Result<u16, Refusal>
-    requires tied { IsTied D.medium vm.now blocks.old }
-    requires heap { HoldsHeap blocks.old name }
+    requires holds { HoldsTied D.medium vm.now blocks.old name }
     requires tried { Tries (make_edit make) blocks.old blocks.old name (Err (Room room)) }
     ensures comes { DiscardsAndEdits vm.now (make_edit make) blocks.old blocks.new name result }
     ensures refused { (result ≡ Err Refusal.NoRoom → ⊥) → OnErr result (blocks.new ≡ blocks.old) }

@@ -24,24 +24,19 @@ returns-clause-carries g c =
           rw (w.blocks-is, w.done-is) (carries-grown v grows edit old e.new.blocks name c.requires.tied.laid e.result may (subst (λ s. DiscardsAndEdits v edit s e.new.blocks name e.result) i.ensures.tries.1 e.ensures.comes)))
     ]
 
-pub returns-clause-refused : goal.returns-clause-refused
-returns-clause-refused g c = elim c.match-try_change.branch [
-  | in-Ok w ↦ rw (w.blocks-is, w.done-is) (λ other. tt)
-  | in-Err-Refused w ↦ rw (w.blocks-is, w.done-is) (λ other. w.in-Err-Refused.ensures.tries.1)
-  | in-Err-Room w ↦ rw (w.blocks-is, w.done-is, ← w.in-Err-Room.ensures.tries.1) w.grow_and_change-done.ensures.refused
-]
-
-pub returns-clause-keeps : goal.returns-clause-keeps
-returns-clause-keeps g c =
-    let q = c.requires in carries-keeps c.args.vm.now (change_edit c.args.change) c.args.blocks.now c.match-try_change.blocks c.args.name q.tied.laid q.heap (may_grow c.args.change) c.match-try_change.done (returns-clause-carries g c)
-
-pub returns-clause-tied : goal.returns-clause-tied
-returns-clause-tied g c = λ marked.
-    let d = g.D.Device in let q = c.requires in
-    named-tied d.medium c.args.vm.now c.args.blocks.now c.match-try_change.blocks c.args.name q.tied q.heap.there (returns-clause-keeps g c) marked
-
-pub returns-clause-row : goal.returns-clause-row
-returns-clause-row g c =
-    let d = g.D.Device in let q = c.requires in let new = c.match-try_change.blocks in
-    carries-row d.medium c.args.vm.now (change_edit c.args.change) c.args.blocks.now new c.args.name q.tied q.heap (may_grow c.args.change) c.match-try_change.done (returns-clause-carries g c)
-    (where_ok c.match-try_change.done (values-of new (slot_of c.args.name) c.region.result.now c.region.ensures.region c.region.ensures.bytes))
+pub returns-clause-calls : goal.returns-clause-calls
+returns-clause-calls g c =
+    let d = g.D.Device in let q = c.requires in let v = c.args.vm.now in let edit = change_edit c.args.change in let name = c.args.name in let old = c.args.blocks.now in
+    let done = c.match-try_change.done in let new = c.match-try_change.blocks in
+    let carries = returns-clause-carries g c in
+    let keeps = carries-keeps v edit old new name q.tied.laid q.heap (may_grow c.args.change) done carries in
+    record {
+      refused = elim c.match-try_change.branch [
+        | in-Ok w ↦ rw (w.blocks-is, w.done-is) (λ other. tt)
+        | in-Err-Refused w ↦ rw (w.blocks-is, w.done-is) (λ other. w.in-Err-Refused.ensures.tries.1)
+        | in-Err-Room w ↦ rw (w.blocks-is, w.done-is, ← w.in-Err-Room.ensures.tries.1) w.grow_and_change-done.ensures.refused
+      ];
+      keeps = keeps;
+      tied = λ marked. named-tied d.medium v old new name q.tied q.heap.there keeps marked;
+      row = carries-row d.medium v edit old new name q.tied q.heap (may_grow c.args.change) done carries (where_ok done (values-of new (slot_of name) c.region.result.now c.region.ensures.region c.region.ensures.bytes));
+    }

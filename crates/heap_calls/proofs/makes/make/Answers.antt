@@ -23,24 +23,19 @@ returns-clause-comes g c =
           rw (w.blocks-is, w.made-is) (subst (λ s. DiscardsAndEdits v edit s m.new.blocks name m.result) w.in-Err-Room.ensures.1 m.ensures.comes))
     ]
 
-pub returns-clause-refused : goal.returns-clause-refused
-returns-clause-refused g c = elim c.match-try_make.branch [
-  | in-Ok w ↦ rw (w.blocks-is, w.made-is) (λ other. tt)
-  | in-Err-Refused w ↦ rw (w.blocks-is, w.made-is) (λ other. w.in-Err-Refused.ensures.1)
-  | in-Err-Room w ↦ rw (w.blocks-is, w.made-is, ← w.in-Err-Room.ensures.1) w.grow_and_make-made.ensures.refused
-]
-
-pub returns-clause-keeps : goal.returns-clause-keeps
-returns-clause-keeps g c =
-    let q = c.requires in comes-keeps c.args.vm.now (make_edit c.args.make) c.args.blocks.now c.match-try_make.blocks c.args.name q.tied.laid q.heap c.match-try_make.made (returns-clause-comes g c)
-
-pub returns-clause-tied : goal.returns-clause-tied
-returns-clause-tied g c = λ marked.
-    let d = g.D.Device in let q = c.requires in
-    named-tied d.medium c.args.vm.now c.args.blocks.now c.match-try_make.blocks c.args.name q.tied q.heap.there (returns-clause-keeps g c) marked
-
-pub returns-clause-row : goal.returns-clause-row
-returns-clause-row g c =
-    let d = g.D.Device in let q = c.requires in let new = c.match-try_make.blocks in
-    comes-row d.medium c.args.vm.now (make_edit c.args.make) c.args.blocks.now new c.args.name q.tied q.heap c.match-try_make.made (returns-clause-comes g c)
-    (where_ok c.match-try_make.made (values-of new (slot_of c.args.name) c.region.result.now c.region.ensures.region c.region.ensures.bytes))
+pub returns-clause-calls : goal.returns-clause-calls
+returns-clause-calls g c =
+    let d = g.D.Device in let q = c.requires in let v = c.args.vm.now in let edit = make_edit c.args.make in let name = c.args.name in let old = c.args.blocks.now in
+    let made = c.match-try_make.made in let new = c.match-try_make.blocks in
+    let comes = returns-clause-comes g c in
+    let keeps = comes-keeps v edit old new name q.tied.laid q.heap made comes in
+    record {
+      refused = elim c.match-try_make.branch [
+        | in-Ok w ↦ rw (w.blocks-is, w.made-is) (λ other. tt)
+        | in-Err-Refused w ↦ rw (w.blocks-is, w.made-is) (λ other. w.in-Err-Refused.ensures.1)
+        | in-Err-Room w ↦ rw (w.blocks-is, w.made-is, ← w.in-Err-Room.ensures.1) w.grow_and_make-made.ensures.refused
+      ];
+      keeps = keeps;
+      tied = λ marked. named-tied d.medium v old new name q.tied q.heap.there keeps marked;
+      row = comes-row d.medium v edit old new name q.tied q.heap made comes (where_ok made (values-of new (slot_of name) c.region.result.now c.region.ensures.region c.region.ensures.bytes));
+    }

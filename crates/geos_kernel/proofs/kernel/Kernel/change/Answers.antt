@@ -21,14 +21,14 @@ invariant_of-self g c =
     let d = g.D.Device in let v = c.self.inside.vm in let s = c.self.inside.blocks in let done = c.change in
     let holds = seen-heap d.medium v s c.args.self.now c.self.view_is c.args.name c.self.invariant c.requires.locked in
     let marked = subst (λ k. MayChange k.core c.args.name) (sym c.self.view_is) c.requires.marked in
-    others-kernel d.medium v s done.new.blocks c.args.name c.self.invariant holds done.ensures.keeps (change_row c.args.name c.args.change) done.result (done.ensures.tied marked) done.ensures.row
+    others-kernel d.medium v s done.new.blocks c.args.name c.self.invariant holds done.ensures.calls.keeps (change_row c.args.name c.args.change) done.result (done.ensures.calls.tied marked) done.ensures.calls.row
 
 pub returns-clause-calls : goal.returns-clause-calls
 returns-clause-calls g c =
     let d = g.D.Device in let v = c.self.inside.vm in let s = c.self.inside.blocks in let done = c.change in
     let holds = seen-heap d.medium v s c.args.self.now c.self.view_is c.args.name c.self.invariant c.requires.locked in
     calls-seen d.medium v s c.args.self.now c.self.view_is
-    (others-calls d.medium v s done.new.blocks c.args.name c.self.invariant holds done.ensures.keeps (change_row c.args.name c.args.change) done.result (λ choice m. (change-shape c.args.name c.args.change (given_memory choice.given m) choice).1) done.ensures.row)
+    (others-calls d.medium v s done.new.blocks c.args.name c.self.invariant holds done.ensures.calls.keeps (change_row c.args.name c.args.change) done.result (λ choice m. (change-shape c.args.name c.args.change (given_memory choice.given m) choice).1) done.ensures.calls.row)
 
 pub returns-clause-no_room : goal.returns-clause-no_room
 returns-clause-no_room g c = λ refused.
@@ -40,7 +40,7 @@ pub returns-clause-vm : goal.returns-clause-vm
 returns-clause-vm g c = blocks-alone g.D.Device.medium c.self.inside.vm c.self.inside.blocks c.change.new.blocks c.args.self.now c.self.view_is
 
 pub returns-clause-refused : goal.returns-clause-refused
-returns-clause-refused g c = subst (λ k. StaysIfRefused c.change.result k.core.blocks c.change.new.blocks) c.self.view_is c.change.ensures.refused
+returns-clause-refused g c = subst (λ k. StaysIfRefused c.change.result k.core.blocks c.change.new.blocks) c.self.view_is c.change.ensures.calls.refused
 
 pub returns-clause-remain : goal.returns-clause-remain
 returns-clause-remain g c = λ stays.

@@ -17,14 +17,14 @@ invariant_of-self g c =
     let d = g.D.Device in let v = c.self.inside.vm in let s = c.self.inside.blocks in let done = c.make in
     let holds = seen-heap d.medium v s c.args.self.now c.self.view_is c.args.name c.self.invariant c.requires.locked in
     let marked = subst (λ k. MayChange k.core c.args.name) (sym c.self.view_is) c.requires.marked in
-    others-kernel d.medium v s done.new.blocks c.args.name c.self.invariant holds done.ensures.keeps (make_row c.args.name c.args.make) done.result (done.ensures.tied marked) done.ensures.row
+    others-kernel d.medium v s done.new.blocks c.args.name c.self.invariant holds done.ensures.calls.keeps (make_row c.args.name c.args.make) done.result (done.ensures.calls.tied marked) done.ensures.calls.row
 
 pub returns-clause-calls : goal.returns-clause-calls
 returns-clause-calls g c =
     let d = g.D.Device in let v = c.self.inside.vm in let s = c.self.inside.blocks in let done = c.make in
     let holds = seen-heap d.medium v s c.args.self.now c.self.view_is c.args.name c.self.invariant c.requires.locked in
     calls-seen d.medium v s c.args.self.now c.self.view_is
-    (others-calls d.medium v s done.new.blocks c.args.name c.self.invariant holds done.ensures.keeps (make_row c.args.name c.args.make) done.result (λ choice m. refl) done.ensures.row)
+    (others-calls d.medium v s done.new.blocks c.args.name c.self.invariant holds done.ensures.calls.keeps (make_row c.args.name c.args.make) done.result (λ choice m. refl) done.ensures.calls.row)
 
 pub returns-clause-no_room : goal.returns-clause-no_room
 returns-clause-no_room g c = λ refused.
@@ -36,4 +36,4 @@ pub returns-clause-vm : goal.returns-clause-vm
 returns-clause-vm g c = blocks-alone g.D.Device.medium c.self.inside.vm c.self.inside.blocks c.make.new.blocks c.args.self.now c.self.view_is
 
 pub returns-clause-refused : goal.returns-clause-refused
-returns-clause-refused g c = subst (λ k. StaysIfRefused c.make.result k.core.blocks c.make.new.blocks) c.self.view_is c.make.ensures.refused
+returns-clause-refused g c = subst (λ k. StaysIfRefused c.make.result k.core.blocks c.make.new.blocks) c.self.view_is c.make.ensures.calls.refused
