@@ -13,7 +13,7 @@ use Rattle.geos_model.specs.Heap.{most_block_bytes}
 use Rattle.geos_model.specs.Names.{vm}
 use Rattle.geos_model.specs.declared.name.Name.{Name}
 use Rattle.vm_blocks.specs.Room.{DiscardsForRoom, DiscardsOne, DiscardsAndMakes, LacksRoom, NoneIdle, RemainOrNoRoom, Thins, own_handle}
-use Rattle.vm_blocks.specs.Blocks.{IsLowestUnlisted}
+use Rattle.vm_blocks.specs.Blocks.{AllListed, IsLowestUnlisted}
 use Rattle.vm_blocks.specs.View.{VmState, held_at, vm_slot}
 use Rattle.vm_blocks.proofs.Brings.{made-other}
 use Rattle.vm_blocks.proofs.Slots.{slot-one}
@@ -71,6 +71,10 @@ listed-more P Q (Some e) step h = step e h
 -- room was made for a block
 pub made-remain : {D : Type 0} (v : VmState D) (s t : Store) (h size : ℕ) → IsHandle h → DiscardsAndMakes v s t (vm h) size → RemainOrNoRoom s t h size
 made-remain v s t h size q made = remain-more s made.mid h size t q (made-other v s t h size q made) (discards-remain s made.mid h size v made.wanted)
+
+-- where a handle is not listed, not all are
+pub not-all : {D : Type 0} (v : VmState D) (h : ℕ) → IsLowestUnlisted v h → AllListed v → ⊥
+not-all v h low all = (let some = all h low.handle in let none : is_some (held_at v h) ≡ false = ap is_some low.free in absurd cc)
 
 -- the handle of a new block is one alone
 pub lowest-one : {D : Type 0} (v : VmState D) (h k : ℕ) → IsLowestUnlisted v h → IsLowestUnlisted v k → h ≡ k

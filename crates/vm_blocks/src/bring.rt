@@ -39,6 +39,7 @@ fn read_into<D: Device + Drop>(
 {
     match file.block(h, blocks.bytes_mut(Name::vm(h))) {
         Ok(()) => {
+            // what lies in the region are bytes, as the model's chunks are to be
             let _ = blocks.region();
             Ok(())
         }

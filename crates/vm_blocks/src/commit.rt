@@ -43,6 +43,7 @@ fn keep<D: Device + Drop>(
     ensures lists { Lists D.medium.image file.old }
     ensures legal { is_directory file.old.saved ≡ true }
 {
+    // what is known of both directories is known to those alone who look at them
     let _ = file.current();
     let _ = file.saved();
     file.commit(how, cur, &Resident { blocks })

@@ -94,7 +94,6 @@ impl<D: Device + Drop> VmBlocks<D> {
         // Each memory that the model may have before it goes on, with the mark.
         ensures memory { (m : Memory) → IsMemoryOf D.medium self.old blocks.now m → IsMemoryOf D.medium self.new blocks.now (with_mark m h true) }
     {
-        let _ = blocks.has(Name::vm(h));
         match self.held(h) {
             Some(held) => self.put(
                 h,

@@ -46,6 +46,7 @@ impl<D: Device + Drop> VmBlocks<D> {
         ensures row { uid ≢ group_uid → (s : Store) → IsTied D.medium self.now s
             → DoesRow D.medium (vfind start uid) (Ok result) self.now s self.now s }
     {
+        // that the table's length is known
         let _ = &self.entries;
         for h in 1..Name::HANDLES + 1 {
             if h > start && self.has_uid(h, uid) {

@@ -6,7 +6,7 @@ use Rattle.block_handles.specs.Store.{IsThere, locks_of}
 use Rattle.vm_blocks.specs.View.{vm_slot}
 use Rattle.vm_blocks.proofs.Counts.{locked-more, locked-tied}
 use Rattle.vm_blocks.proofs.NewRows.{new-does, new-done}
-use Rattle.vm_blocks.proofs.Wanting.{locked-remain, lowest-one}
+use Rattle.vm_blocks.proofs.Wanting.{locked-remain, lowest-one, not-all}
 use Rattle.vm_blocks.proofs.News.{locked-adds, locks-new, there-new}
 use Rattle.vm_blocks.proofs.blocks.VmBlocks.vnew.Given.{Over}
 use Rattle.vm_blocks.proofs.blocks.VmBlocks.vnew.Goals.{After-lock}
@@ -23,28 +23,35 @@ taken g c =
     let more = locked-more t u (slot_of c.vm.result) c.lock.result e.ok e.bad_handle e.locked there (λ full. absurd (omega (arith, none, full))) in
     more ∙ ap (λ n. with_locks t (slot_of c.vm.result) (n + 1)) none ∙ ap (λ k. with_locks t k 1) slot
 
-pub returns-in-Ok-clause-ok : goal.returns-in-Ok-clause-ok
-returns-in-Ok-clause-ok g c =
-    locked-adds c.args.self.now c.vnew_unlocked.new.self c.args.blocks.now c.vnew_unlocked.new.blocks c.lock.new.self c.args.uid c.in-Ok.h c.in-Ok.ensures.ok (taken g (goal.at.returns-in-Ok-clause-ok g c).After-lock)
+pub returns-in-Ok : goal.returns-in-Ok
+returns-in-Ok g c =
+    let d = g.D.Device in let now = c.args.self.now in let s = c.args.blocks.now in let w = c.vnew_unlocked.new.self in let t = c.vnew_unlocked.new.blocks in let u = c.lock.new.self in
+    let h = c.in-Ok.h in let adds = c.in-Ok.ensures.ok in let low = adds.lowest in
+    let is = taken g (goal.at.returns-in-Ok g c).After-lock in
+    let more = locked-adds now w s t u c.args.uid h adds is in
+    let word : c.args.uid < 65536 = omega arith in
+    record {
+      tied = locked-tied d.medium w t u h 1 low.handle c.vnew_unlocked.ensures.tied (there-new t h 0 adds.is) is;
+      ok = more;
+      no_handle = ((λ none. absurd cc), (λ all. absurd (not-all now h low all)));
+      no_room = λ none. absurd cc;
+      wanted = λ k other. locked-remain s t u k 64 1 other.handle (is ∙ ap (λ j. with_locks t (vm_slot j) 1) (lowest-one now h k low other)) (c.vnew_unlocked.ensures.wanted k other);
+      stays = λ none. absurd cc;
+      err = tt;
+      row = new-done d.medium now s c.requires c.args.uid 1 h w u word (omega arith) more;
+    }
 
-pub returns-in-Ok-clause-wanted : goal.returns-in-Ok-clause-wanted
-returns-in-Ok-clause-wanted g c = λ h low.
-    let s = c.args.blocks.now in let t = c.vnew_unlocked.new.blocks in let u = c.lock.new.self in
-    let is = taken g (goal.at.returns-in-Ok-clause-wanted g c).After-lock in
-    locked-remain s t u h 64 1 low.handle (is ∙ ap (λ k. with_locks t (vm_slot k) 1) (lowest-one c.args.self.now c.in-Ok.h h c.in-Ok.ensures.ok.lowest low)) (c.vnew_unlocked.ensures.wanted h low)
-
-pub returns-in-Ok-clause-row : goal.returns-in-Ok-clause-row
-returns-in-Ok-clause-row g c =
-    let d = g.D.Device in let word : c.args.uid < 65536 = omega arith in
-    new-done d.medium c.args.self.now c.args.blocks.now c.requires c.args.uid 1 c.in-Ok.h c.vnew_unlocked.new.self c.lock.new.self word (omega arith) (returns-in-Ok-clause-ok g c)
-
-pub returns-in-Err-clause-row : goal.returns-in-Err-clause-row
-returns-in-Err-clause-row g c =
+pub returns-in-Err : goal.returns-in-Err
+returns-in-Err g c =
     let d = g.D.Device in let now = c.args.self.now in let s = c.args.blocks.now in let w = c.vnew_unlocked.new.self in let t = c.vnew_unlocked.new.blocks in let e = c.in-Err.ensures in
     let word : c.args.uid < 65536 = omega arith in
-    new-does d.medium now w s t c.args.uid 1 (Err c.in-Err.error) c.requires word (omega arith) tt e.no_handle.0 e.no_room e.stays e.err
-
-pub returns-in-Ok-clause-tied : goal.returns-in-Ok-clause-tied
-returns-in-Ok-clause-tied g c =
-    let d = g.D.Device in let t = c.vnew_unlocked.new.blocks in let h = c.in-Ok.h in let adds = c.in-Ok.ensures.ok in
-    locked-tied d.medium c.vnew_unlocked.new.self t c.lock.new.self h 1 adds.lowest.handle c.vnew_unlocked.ensures.tied (there-new t h 0 adds.is) (taken g (goal.at.returns-in-Ok-clause-tied g c).After-lock)
+    record {
+      tied = e.tied;
+      ok = tt;
+      no_handle = e.no_handle;
+      no_room = e.no_room;
+      wanted = e.wanted;
+      stays = e.stays;
+      err = e.err;
+      row = new-does d.medium now w s t c.args.uid 1 (Err c.in-Err.error) c.requires word (omega arith) tt e.no_handle.0 e.no_room e.stays e.err;
+    }

@@ -1,43 +1,59 @@
-use Rattle.std.proofs.Common.{rules, ◌<◌, refl, subst, sym, arith}
+use Rattle.std.proofs.Common.{rules, ◌≡◌, ◌<◌, refl, subst, sym, arith}
+use Rattle.vm_blocks.specs.Blocks.{Adds, AllListed}
 use Rattle.vm_blocks.specs.Room.{RemainOrNoRoom}
 use Rattle.vm_blocks.specs.Tied.{IsTied}
-use Rattle.vm_blocks.proofs.News.{added-tied}
-use Rattle.vm_blocks.proofs.Wanting.{lowest-one, same-remain}
-use Rattle.vm_blocks.specs.Blocks.{Adds, AllListed}
 use Rattle.vm_blocks.proofs.NewRows.{new-crowded, new-done, new-full}
+use Rattle.vm_blocks.proofs.News.{added-tied}
+use Rattle.vm_blocks.proofs.Thinning.{tied-thins}
+use Rattle.vm_blocks.proofs.Wanting.{lowest-one, not-all, same-remain}
 use Rattle.vm_blocks.proofs.blocks.VmBlocks.vnew_unlocked.Goals as goal
 
-pub returns-in_default-clause-row : goal.returns-in_default-clause-row
-returns-in_default-clause-row g c =
-    let d = g.D.Device in let now = c.args.self.now in
+pub returns-in_default : goal.returns-in_default
+returns-in_default g c =
+    let d = g.D.Device in let now = c.args.self.now in let s = c.args.blocks.now in
     let all : AllListed now = search rules in
-    new-full d.medium now c.args.blocks.now c.requires c.args.uid 0 all
+    record {
+      tied = c.requires;
+      ok = tt;
+      no_handle = ((λ is. all), (λ listed. refl));
+      no_room = λ is. absurd cc;
+      wanted = λ h low. same-remain s s h 64 refl;
+      stays = λ is. refl;
+      err = refl;
+      row = new-full d.medium now s c.requires c.args.uid 0 all;
+    }
 
-pub returns-in-Err-clause-row : goal.returns-in-Err-clause-row
-returns-in-Err-clause-row g c =
-    let d = g.D.Device in let now = c.args.self.now in
-    new-crowded d.medium now c.args.blocks.now c.requires c.args.uid 0 c.in-Some.h c.make_heap.new.blocks c.in-Some.ensures.found c.in-Err.ensures.err
+pub make_heap-requires : goal.make_heap-requires
+make_heap-requires g c = let low = c.in-Some.ensures.found in record { tied = c.requires; handle = low.handle; free = low.free }
 
-pub returns-clause-row : goal.returns-clause-row
-returns-clause-row g c =
+pub returns-in-Err : goal.returns-in-Err
+returns-in-Err g c =
+    let d = g.D.Device in let now = c.args.self.now in let s = c.args.blocks.now in let t = c.make_heap.new.blocks in let h = c.in-Some.h in
+    let low = c.in-Some.ensures.found in let lacks = c.in-Err.ensures.err in
+    record {
+      tied = tied-thins d.medium now s t h c.requires lacks.thins;
+      ok = tt;
+      no_handle = ((λ is. absurd cc), (λ all. absurd (not-all now h low all)));
+      no_room = λ is. record { h = h; lowest = low; lacks = lacks };
+      wanted = λ k other. subst (λ j. RemainOrNoRoom s t j 64) (lowest-one now h k low other) c.make_heap.ensures.wanted;
+      stays = λ is. absurd cc;
+      err = refl;
+      row = new-crowded d.medium now s c.requires c.args.uid 0 h t low lacks;
+    }
+
+pub returns : goal.returns
+returns g c =
     let d = g.D.Device in let now = c.args.self.now in let s = c.args.blocks.now in let w = c.put.new.self in let t = c.make_heap.new.blocks in let h = c.in-Some.h in
+    let low = c.in-Some.ensures.found in let made = c.in-Ok.ensures in
     let word : c.args.uid < 65536 = omega arith in
-    let adds : Adds now w s t c.args.uid 0 h = record { lowest = c.in-Some.ensures.found; state = c.put.ensures; keeps = c.in-Ok.ensures.keeps; is = c.in-Ok.ensures.ok } in
-    new-done d.medium now s c.requires c.args.uid 0 h w t word (omega arith) adds
-
-pub returns-in_default-clause-wanted : goal.returns-in_default-clause-wanted
-returns-in_default-clause-wanted g c = λ h low. same-remain c.args.blocks.now c.args.blocks.now h 64 refl
-
-pub returns-in-Err-clause-wanted : goal.returns-in-Err-clause-wanted
-returns-in-Err-clause-wanted g c = λ h low.
-    subst (λ k. RemainOrNoRoom c.args.blocks.now c.make_heap.new.blocks k 64) (lowest-one c.args.self.now c.in-Some.h h c.in-Some.ensures.found low) c.make_heap.ensures.wanted
-
-pub returns-clause-wanted : goal.returns-clause-wanted
-returns-clause-wanted g c = λ h low.
-    subst (λ k. RemainOrNoRoom c.args.blocks.now c.make_heap.new.blocks k 64) (lowest-one c.args.self.now c.in-Some.h h c.in-Some.ensures.found low) c.make_heap.ensures.wanted
-
-pub returns-clause-tied : goal.returns-clause-tied
-returns-clause-tied g c =
-    let d = g.D.Device in let now = c.args.self.now in let h = c.in-Some.h in let low = c.in-Some.ensures.found in
-    subst (λ w. IsTied d.medium w c.make_heap.new.blocks) (sym c.put.ensures)
-    (added-tied d.medium now c.args.blocks.now c.make_heap.new.blocks h c.args.uid low.handle c.requires low.free c.in-Ok.ensures.keeps c.in-Ok.ensures.ok)
+    let adds : Adds now w s t c.args.uid 0 h = record { lowest = low; state = c.put.ensures; keeps = made.keeps; is = made.ok } in
+    record {
+      tied = subst (λ x. IsTied d.medium x t) (sym c.put.ensures) (added-tied d.medium now s t h c.args.uid low.handle c.requires low.free made.keeps made.ok);
+      ok = adds;
+      no_handle = ((λ is. absurd cc), (λ all. absurd (not-all now h low all)));
+      no_room = λ is. absurd cc;
+      wanted = λ k other. subst (λ j. RemainOrNoRoom s t j 64) (lowest-one now h k low other) c.make_heap.ensures.wanted;
+      stays = λ is. absurd cc;
+      err = tt;
+      row = new-done d.medium now s c.requires c.args.uid 0 h w t word (omega arith) adds;
+    }
