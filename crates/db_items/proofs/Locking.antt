@@ -15,12 +15,11 @@ use Rattle.block_handles.specs.Store.{Store, bytes_in, bytes_of, locks_of}
 use Rattle.block_handles.proofs.Laws.{handle_of_there, with_locks-same}
 use Rattle.block_handles.proofs.Layouts.{there_small}
 use Rattle.vm_file.specs.Device.{Medium}
-use Rattle.vm_blocks.specs.Bringing.{ReadsDevice}
 use Rattle.vm_blocks.specs.DoesRow.{DoesRow}
 use Rattle.vm_blocks.specs.Tied.{IsTied}
 use Rattle.vm_blocks.specs.Room.{RemainOrNoRoom}
 use Rattle.vm_blocks.specs.View.{VmState, held_at, vm_slot, with_device}
-use Rattle.vm_blocks.proofs.Bringing.{reads-as}
+use Rattle.vm_blocks.proofs.Bringing.{reads-as, reads-nothing}
 use Rattle.vm_blocks.proofs.Counts.{keeps-locked, locked-tied, locks-more}
 use Rattle.vm_blocks.proofs.LockRows.{not-brought-few}
 use Rattle.vm_blocks.proofs.Wanting.{always-listed, listed-more, locked-remain, same-remain}
@@ -49,8 +48,8 @@ module _ {D : Type 0} (medium : Medium D) (v : VmState D) (g i n : ℕ) (s : Sto
   Locks r w t = LocksItem medium g i n r v w s t
 
   -- the count is full
-  pub lock-full : IsTied medium v s → IsGroup v g → locks_of s (vm_slot g) ≡ 65535 → ReadsDevice medium (◌≡◌ {A = Result (ℕ × ℕ) Refusal} (Err refusal.Locked) (Err refusal.Disk)) v.file v.file → Locks (Err refusal.Locked) v s
-  lock-full tied group many device = record {
+  pub lock-full : IsTied medium v s → IsGroup v g → locks_of s (vm_slot g) ≡ 65535 → Locks (Err refusal.Locked) v s
+  lock-full tied group many = record {
     tied = tied;
     row = lock_full-row medium v s g i n tied group many;
     same = refl;
@@ -66,7 +65,7 @@ module _ {D : Type 0} (medium : Medium D) (v : VmState D) (g i n : ℕ) (s : Sto
     finds = tt;
     within = tt;
     no_room = λ e. absurd cc;
-    device = device;
+    device = reads-nothing medium _ v.file (λ e. absurd cc);
   }
 
   module _ (w : VmState D) (t : Store) (few : IsGroup v g → locks_of s (vm_slot g) ≢ 65535) where

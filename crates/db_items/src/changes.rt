@@ -60,6 +60,7 @@ pub fn item_make<D: Device + Drop>(
         Ok(item) => item,
         Err(refusal) => return Err(refusal),
     };
+    // as in `item_change`
     let _ = blocks.region();
     vm.vdirty_changed(blocks, g);
     Ok(item)

@@ -1,4 +1,4 @@
-use Rattle.std.proofs.Common.{◌≡◌, ◌≢◌, ◌∙◌, ◌+◌, ◌≤◌, length, ap, rules, sym, subst}
+use Rattle.std.proofs.Common.{◌≡◌, ◌≢◌, ◌∙◌, ◌+◌, ◌≤◌, length, ap, sym, subst}
 use Rattle.std.specs.Prelude.{Err, Ok}
 use Rattle.geos_model.specs.Edits.{refer}
 use Rattle.geos_model.specs.Heap.{IsHeap}
@@ -15,7 +15,7 @@ use Rattle.db_items.proofs.locks.item_lock_part.Goals as goal
 pub returns-then-is_full : goal.returns-then-is_full
 returns-then-is_full g c =
     let d = g.D.Device in let full = c.is_full.ensures.0 c.if-is_full.true in
-    lock-full d.medium c.args.vm.now c.args.g c.args.i c.args.n c.args.blocks.now c.requires full.0 full.1 (search rules)
+    lock-full d.medium c.args.vm.now c.args.g c.args.i c.args.n c.args.blocks.now c.requires full.0 full.1
 
 pub returns-in-Err : goal.returns-in-Err
 returns-in-Err g c =
