@@ -1,19 +1,24 @@
 -- Calls on a block of the file that is in memory, by what was done below; and those that change nothing.
-use Rattle.std.proofs.Common.{◌≡◌, ◌∙◌, ℕ, ◌<◌, refl, ap, arith, subst}
-use Rattle.std.specs.Prelude.{MatchResult, OnErr, OnOk, Result, Ok, Err}
+use Rattle.std.proofs.Common.{◌≡◌, ◌∙◌, ℕ, ◌<◌, Option, None, Some, refl, ap, sym, arith, subst}
+use Rattle.std.specs.Prelude.{◌↔◌, IfSome, IsSomeAnd, MatchResult, OnErr, OnOk, Result, Ok, Err}
+use Rattle.geos_model.specs.Names.{vm}
 use Rattle.geos_model.specs.declared.refusal.Refusal.{Refusal}
 use Rattle.geos_model.specs.declared.refusal.Refusal.TheVariants as refusal
 use Rattle.block_handles.specs.Store.{Store, IsThere, locks_of}
 use Rattle.block_handles.proofs.Layouts.{there_of_locks}
 use Rattle.vm_file.specs.Device.{Medium}
 use Rattle.vm_file.specs.State.{FileState}
+use Rattle.vm_blocks.specs.declared.entries.Held.{Held}
 use Rattle.vm_blocks.specs.declared.error.LockError.{LockError}
 use Rattle.vm_blocks.specs.declared.error.LockError.TheVariants as lock
+use Rattle.vm_blocks.specs.Bringing.{ReadsDevice}
 use Rattle.vm_blocks.specs.Refused.{of_lock}
-use Rattle.vm_blocks.specs.View.{VmState, vm_slot}
+use Rattle.vm_blocks.specs.Room.{LacksRoom, NoneIdle}
+use Rattle.vm_blocks.specs.View.{VmState, held_at, vm_slot, with_device}
 use Rattle.db_items.specs.Groups.{IsGroup, RefusesNoGroup}
-use Rattle.geos_kernel.specs.Files.{InMemory}
-use Rattle.geos_kernel.specs.View.{KernelOn, file_over, kernel_of, seen}
+use Rattle.geos_kernel.specs.Files.{AsksNothing, InMemory, ReadsFile}
+use Rattle.geos_kernel.specs.Kernel.{HasNoRoomIn, ListedHasNoRoom}
+use Rattle.geos_kernel.specs.View.{KernelOn, core_of, file_over, kernel_of, seen}
 
 on-there : {A : Type 0} (r : Result A Refusal) (P Q : Type 0) → OnErr r (P → Q) → P → OnErr r Q
 on-there (Ok answer) P Q stays there = tt
@@ -27,6 +32,9 @@ module _ {D : Type 0} (medium : Medium D) (v w : VmState D) (s t : Store) (k : K
     refused = λ was other. on-there r (IsThere s (vm_slot h)) (t ≡ s) (stays other) was;
     absent = absent;
   })
+
+  pub asks-nothing : w.file ≡ v.file → AsksNothing k (kernel_of medium w t)
+  asks-nothing file = subst (λ x. AsksNothing x (kernel_of medium w t)) is (record { device = ap (λ (f : FileState D). f.device) file; file = ap (λ (f : FileState D). file_over (seen medium f.device) f) file })
 
   pub nothing-changed : w ≡ v → t ≡ s → kernel_of medium w t ≡ k
   nothing-changed vm blocks = ap (λ x. kernel_of medium x t) vm ∙ ap (kernel_of medium v) blocks ∙ is
@@ -57,6 +65,31 @@ module _ {D : Type 0} (medium : Medium D) (v w : VmState D) (s t : Store) (k : K
     pub lock-more : (r : Result (Unit {0}) LockError) → IfThere r → IsThere s (vm_slot h) → OnOk (of_lock r) more
     lock-more (Ok done) there was = (there was).1
     lock-more (Err why) there was = tt
+
+    room-so : (r : Result (Unit {0}) LockError) → of_lock r ≡ Err refusal.NoRoom → r ≡ Err lock.NoRoom
+    room-so (Err lock.NoRoom) e = refl
+    room-so (Ok done) e = absurd cc
+    room-so (Err _) e = absurd cc
+
+    -- what it reads of the device
+    pub lock-device : (r : Result (Unit {0}) LockError) → w ≡ with_device v w.file.device → ReadsDevice medium (r ≡ Err lock.Disk) v.file w.file → ReadsFile medium (of_lock r ≡ Err refusal.Disk) k (kernel_of medium w t)
+    lock-device r same device = subst (λ x. ReadsFile medium (of_lock r ≡ Err refusal.Disk) x (kernel_of medium w t)) is (record {
+      reads = device.reads;
+      file = ap (λ (x : VmState D). x.file) same;
+      cause = λ good failed. device.cause good (disk-so r failed);
+      counted = λ never. device.counted (λ failed. never (ap of_lock failed));
+    })
+
+    -- where it has no room
+    pub lock-no_room : (r : Result (Unit {0}) LockError) → w ≡ with_device v w.file.device → ((r ≡ Err lock.BadHandle) ↔ (held_at v h ≡ None)) → (r ≡ Err lock.NoRoom → IfSome (held_at v h) (λ held. LacksRoom v s t (vm h) held.len))
+        → of_lock r ≡ Err refusal.NoRoom → ListedHasNoRoom (core_of medium w t) h
+    lock-no_room r same bad lacks e = on (held_at v h) refl (lacks (room-so r e))
+      where
+        on : (o : Option Held) → held_at v h ≡ o → IfSome o (λ held. LacksRoom v s t (vm h) held.len) → ListedHasNoRoom (core_of medium w t) h
+        on None none lacking = let why = bad.1 none in let other = room-so r e in absurd cc
+        on (Some held) listed lacking =
+            subst (λ o. IsSomeAnd o (λ held. HasNoRoomIn (core_of medium w t) (vm h) held.len)) (sym (ap (λ (x : VmState D). held_at x h) same ∙ listed))
+            (record { none = subst (λ (x : VmState D). NoneIdle x t h) (sym same) lacking.none; no_room = lacking.no_room })
 
     -- a refusal but for room or the device
     pub lock-refused : (r : Result (Unit {0}) LockError) → IfThere r → (r ≡ Err lock.BadHandle → (w ≡ v) × (t ≡ s)) → (r ≡ Err lock.Locked → locks_of s (vm_slot h) ≡ 65535)

@@ -1,5 +1,5 @@
 -- The calls on blocks of the file, and on the file, by what was done below.
-use Rattle.std.proofs.Common.{◌≡◌, ℕ, ◌<◌, ◌⊎◌, Option, Some, None, refl, sym, ap, arith, subst, inl, inr}
+use Rattle.std.proofs.Common.{◌≡◌, ◌∙◌, ℕ, ◌<◌, ◌⊎◌, Option, Some, None, refl, sym, ap, arith, subst, inl, inr}
 use Rattle.std.specs.Prelude.{Result, Ok, Err, ◌↔◌, IfOk, IfErr, OnErr, OnOk}
 use Rattle.geos_model.specs.declared.name.Name.{Name}
 use Rattle.geos_model.specs.declared.name.Owner.TheVariants.{Vm}
@@ -21,15 +21,18 @@ use Rattle.vm_blocks.specs.declared.error.LockError.{LockError}
 use Rattle.vm_blocks.specs.declared.error.LockError.TheVariants as lock
 use Rattle.vm_blocks.specs.declared.error.NewError.{NewError}
 use Rattle.vm_blocks.specs.declared.error.NewError.TheVariants as new
-use Rattle.vm_blocks.specs.Blocks.{Adds, LacksRoomForNew, without_held}
+use Rattle.vm_blocks.specs.Blocks.{Adds, LacksRoomForNew, is_marked_in, new_held, without_held}
 use Rattle.vm_blocks.specs.Bring.{Drops, Keeps, LockedMore, NotBrought}
 use Rattle.vm_blocks.specs.DoesRow.{DoesRow}
 use Rattle.vm_blocks.specs.Listed.{NoneLocked, StoreAfter}
+use Rattle.vm_blocks.specs.Refused.{of_new}
 use Rattle.vm_blocks.specs.Tied.{IsTied, TiedAt}
 use Rattle.vm_blocks.specs.View.{VmState, held_at, vm_slot}
+use Rattle.vm_blocks.proofs.News.{locks-new}
+use Rattle.vm_blocks.proofs.Table.{held-same}
 use Rattle.db_items.specs.Groups.{IsGroup, RefusesNoGroup}
 use Rattle.geos_kernel.specs.Kernel.{Calls, HasRisen, IsKernel}
-use Rattle.geos_kernel.specs.View.{KernelOn, core_of, kernel_of, seen, vm_over}
+use Rattle.geos_kernel.specs.View.{IsLocked, IsMarked, KernelOn, core_of, kernel_of, seen, vm_over}
 use Rattle.geos_kernel.proofs.Listed.{Spares, SparesMem, StaysLocked, calls-beside, commit-spares, drops-spares, keeps-spares, kernel-beside, more-locked, not-locked, same-spares, thins-spares}
 use Rattle.geos_kernel.proofs.Seen.{risen, row-known}
 
@@ -119,6 +122,13 @@ module _ {D : Type 0} (medium : Medium D) (v w : VmState D) (s t : Store) (uid n
   made-group (Ok h) ok why room stays err = IsMade h ok
   made-group (Err e) ok (inl is) room stays err = HasNoHandle (stays (ap Err is)) err
   made-group (Err e) ok (inr is) room stays err = HasNoRoom (room (ap Err is)) err
+
+  -- it is locked and marked
+  pub made-ready : (r : Result ℕ NewError) → IfOk r (Adds v w s t uid 1) → IfOk (of_new r) (λ h. IsLocked (core_of medium w t) (vm_name h) × IsMarked (core_of medium w t) h)
+  made-ready (Ok h) adds =
+      let marked : held_at w h ≡ Some (new_held uid) = ap (λ (x : VmState D). held_at x h) adds.state ∙ held-same v.entries h (Some (new_held uid)) adds.lowest.handle k.tied.long in
+      (omega (arith, locks-new t h 1 adds.is), ap is_marked_in marked)
+  made-ready (Err why) adds = tt
 
 -- Blocks that go
 

@@ -80,6 +80,7 @@ impl<D: Device + Drop> Kernel<D> {
         if n == 0 {
             return;
         }
+        // what lies in the region are bytes, as a block that is copied to is to spell
         let _ = blocks.region();
         blocks.copy(from.at, to.at, u32::from(n));
     }

@@ -17,7 +17,7 @@ const AREA: u32 = 65_536;
 fn see_device<D: Device + Drop>(kernel: &Kernel<D>)
     ensures { failed_in kernel.now.core ≡ D.medium.failed kernel.now.device }
 {
-    let _region = kernel.blocks.region();
+    let _ = &kernel.blocks;
 }
 
 /// A kernel without a block, in a region of `region` bytes, 65,536 to 16,777,216, on a new VM

@@ -142,6 +142,7 @@ impl<D: Device + Drop> Kernel<D> {
         ensures unlocked { (f : model_file.VmFile) → IsFileOf (D.medium.honest self.now.device) self.now.core f
             → NoneLocked self.now.core.blocks ↔ ((h : ℕ) → model.locks_of (memory_of self.now.core f) (vm h) ≡ 0) }
     {
+        // what lies in the region are bytes
         let _region = self.blocks.region();
     }
 

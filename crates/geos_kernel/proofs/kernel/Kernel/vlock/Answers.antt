@@ -9,7 +9,7 @@ use Rattle.db_items.specs.Groups.{IsGroup}
 use Rattle.geos_kernel.proofs.Listed.{calls-beside}
 use Rattle.geos_kernel.proofs.ListedRows.{lock-group-row, lock-row}
 use Rattle.geos_kernel.proofs.Seen.{calls-seen}
-use Rattle.geos_kernel.proofs.There.{lock-in_memory, lock-more, lock-refused}
+use Rattle.geos_kernel.proofs.There.{lock-device, lock-in_memory, lock-more, lock-no_room, lock-refused}
 use Rattle.geos_kernel.proofs.VmCalls.{lock-lasts, lock-spares, spared-kernel, told-calls}
 use Rattle.geos_kernel.proofs.kernel.Kernel.vlock.Goals as goal
 
@@ -53,3 +53,15 @@ returns-clause-refused g c =
     let d = g.D.Device in let v = c.self.inside.vm in let s = c.self.inside.blocks in
     let done = c.vlock-locked in let w = done.new.self in let t = done.new.blocks in let h = c.args.h in let e = done.ensures in
     rw c.of_lock.ensures (lock-refused d.medium v w s t c.args.self.now c.self.view_is h (t ≡ with_lock_more s (vm_slot h)) done.result (λ was. (e.brings.there was, e.there was)) (λ bad. e.brings.unlisted (e.bad_handle.0 bad)) e.locked.0)
+
+pub returns-clause-no_room : goal.returns-clause-no_room
+returns-clause-no_room g c =
+    let d = g.D.Device in let v = c.self.inside.vm in let s = c.self.inside.blocks in
+    let done = c.vlock-locked in let w = done.new.self in let t = done.new.blocks in let h = c.args.h in let e = done.ensures in
+    rw c.of_lock.ensures (lock-no_room d.medium v w s t c.args.self.now c.self.view_is h (t ≡ with_lock_more s (vm_slot h)) done.result e.brings.same e.bad_handle e.brings.no_room)
+
+pub returns-clause-device : goal.returns-clause-device
+returns-clause-device g c =
+    let d = g.D.Device in let v = c.self.inside.vm in let s = c.self.inside.blocks in
+    let done = c.vlock-locked in let w = done.new.self in let t = done.new.blocks in let h = c.args.h in let b = done.ensures.brings in
+    rw c.of_lock.ensures (lock-device d.medium v w s t c.args.self.now c.self.view_is h (t ≡ with_lock_more s (vm_slot h)) done.result b.same b.device)

@@ -4,6 +4,7 @@ use Rattle.vm_blocks.specs.View.{VmState, held_at}
 use Rattle.geos_kernel.proofs.Listed.{same-spares}
 use Rattle.geos_kernel.proofs.ListedRows.{not-some, vsetmap-group-row, vsetmap-unlisted-row}
 use Rattle.geos_kernel.proofs.Seen.{calls-seen}
+use Rattle.geos_kernel.proofs.There.{asks-nothing}
 use Rattle.geos_kernel.proofs.VmCalls.{quiet-calls, spared-kernel, told-calls}
 use Rattle.geos_kernel.specs.Kernel.{Remain}
 use Rattle.geos_kernel.proofs.Remaining.{same-remain}
@@ -38,3 +39,8 @@ returns-clause-calls g c =
 
 pub returns-clause-remain : goal.returns-clause-remain
 returns-clause-remain g c = subst (λ k. Remain k.core.blocks c.self.inside.blocks 0) c.self.view_is (same-remain c.self.inside.blocks c.self.inside.blocks 0 refl)
+
+pub returns-clause-device : goal.returns-clause-device
+returns-clause-device g c =
+    let s = c.self.inside.blocks in
+    asks-nothing g.D.Device.medium c.self.inside.vm c.set_map.new.self s s c.args.self.now c.self.view_is (ap (λ (x : VmState g.row.D.Denot). x.file) c.set_map.ensures.state)
