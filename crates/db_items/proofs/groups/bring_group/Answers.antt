@@ -1,5 +1,5 @@
 use Rattle.std.proofs.Common.{◌≡◌, ap, false, true, refl, sym, subst}
-use Rattle.std.specs.Prelude.{Err}
+use Rattle.std.specs.Prelude.{Err, Ok, Result}
 use Rattle.geos_model.specs.declared.refusal.Refusal.{Refusal}
 use Rattle.geos_model.specs.declared.refusal.Refusal.TheVariants as refusal
 use Rattle.vm_blocks.specs.declared.error.BringError.{BringError}
@@ -26,15 +26,38 @@ not-short error.BadHandle e = absurd cc
 not-short error.NoRoom e = absurd cc
 not-short error.Disk e = absurd cc
 
+-- Answers that are not the same
+
+abbrev Answer : Type 0
+Answer = Result (Unit {0}) Refusal
+
+bad-room : ◌≡◌ {A = Answer} (Err refusal.BadHandle) (Err refusal.NoRoom) → ⊥
+bad-room e = absurd cc
+
+bad-disk : ◌≡◌ {A = Answer} (Err refusal.BadHandle) (Err refusal.Disk) → ⊥
+bad-disk e = absurd cc
+
+bad-short : ◌≡◌ {A = Answer} (Err refusal.BadHandle) (Err refusal.Short) → ⊥
+bad-short e = absurd cc
+
+done-not : (why : Refusal) → ◌≡◌ {A = Answer} (Ok tt) (Err why) → ⊥
+done-not why e = absurd cc
+
+refused-not : (why : BringError) → ◌≡◌ {A = Result (Unit {0}) BringError} (Err why) (Ok tt) → ⊥
+refused-not why e = absurd cc
+
+err-same : (a b : Refusal) → ◌≡◌ {A = Answer} (Err a) (Err b) → a ≡ b
+err-same a b e = cc
+
 pub returns-then-not-is_group : goal.returns-then-not-is_group
 returns-then-not-is_group g c =
     let d = g.D.Device in let now = c.args.vm.now in let s = c.args.blocks.now in let h = c.args.g in
     record {
-      brings = nothing-brings d.medium refusal.NoRoom refusal.Disk h (Err refusal.BadHandle) now s c.requires (not-changed s h) (λ is. absurd cc) (λ is. absurd cc);
+      brings = nothing-brings d.medium refusal.NoRoom refusal.Disk h (Err refusal.BadHandle) now s c.requires (not-changed s h) bad-room bad-disk;
       no_group = λ none. (refl, refl, refl);
       known = tt;
-      not_short = λ is. absurd cc;
-      there = λ there. (λ is. absurd cc, λ is. absurd cc);
+      not_short = bad-short;
+      there = λ there. (bad-room, bad-disk);
       row = λ group. (let no : false ≡ true = c.if-not-is_group.ensures.1 group in absurd cc);
       ok = tt;
     }
@@ -48,8 +71,8 @@ returns-in-Err g c =
       brings = brings-as d.medium error.NoRoom error.Disk why refusal.NoRoom refusal.Disk (why_not_brought why) h now w s t (room-why why) (disk-why why) (λ is. ap why_not_brought is) e.brings;
       no_group = λ none. absurd (none group);
       known = tt;
-      not_short = λ is. not-short why (let same : why_not_brought why ≡ refusal.Short = cc in same);
-      there = λ there. (let known = e.known there in absurd cc);
+      not_short = λ is. not-short why (err-same (why_not_brought why) refusal.Short is);
+      there = λ there. absurd (refused-not why (e.known there));
       row = λ known. e.row;
       ok = tt;
     } in
@@ -63,8 +86,8 @@ returns-in-Ok g c =
       brings = brings-on d.medium error.NoRoom error.Disk refusal.NoRoom refusal.Disk c.args.g c.args.vm.now c.bring.new.self c.args.blocks.now c.bring.new.blocks e.brings;
       no_group = λ none. absurd (none group);
       known = group;
-      not_short = λ is. absurd cc;
-      there = λ there. (λ is. absurd cc, λ is. absurd cc);
+      not_short = done-not refusal.Short;
+      there = λ there. (done-not refusal.NoRoom, done-not refusal.Disk);
       row = λ known. e.row;
       ok = e.ok;
     }

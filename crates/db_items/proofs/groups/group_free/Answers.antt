@@ -18,6 +18,13 @@ locked-why : (why : FreeError) → (◌≡◌ {A = Result (Unit {0}) Refusal} (E
 locked-why error.BadHandle = ((λ e. absurd cc), (λ e. absurd cc))
 locked-why error.Locked = ((λ e. refl), (λ e. refl))
 
+-- a group that was freed was not refused
+freed-not : (why : Refusal) → ◌≡◌ {A = Result (Unit {0}) Refusal} (Ok tt) (Err why) → ⊥
+freed-not why e = absurd cc
+
+freed-no : (why : FreeError) → ◌≡◌ {A = Result (Unit {0}) FreeError} (Ok tt) (Err why) → ⊥
+freed-no why e = absurd cc
+
 pub returns-then-not-is_group : goal.returns-then-not-is_group
 returns-then-not-is_group g c =
     let d = g.D.Device in
@@ -41,7 +48,7 @@ returns-in-Ok g c =
       tied = e.tied;
       row = free-row d.medium v s h c.requires group c.vfree.new.self c.vfree.new.blocks (Ok tt) e.row;
       no_group = λ none. absurd (none group);
-      locked = λ was. ((λ is. absurd cc), (λ some. (let is = e.locked.1 some in absurd cc)));
+      locked = λ was. (λ is. absurd (freed-not refusal.Locked is), λ some. absurd (freed-no error.Locked (e.locked.1 some)));
       state = e.state;
       drops = e.drops;
       err = tt;

@@ -1,5 +1,5 @@
 use Rattle.std.proofs.Common.{◌≡◌, ◌⊎◌, ℕ, ap, inl, inr, refl, sym, subst}
-use Rattle.std.specs.Prelude.{◌↔◌, Err, IfErr, Result}
+use Rattle.std.specs.Prelude.{◌↔◌, Err, IfErr, Ok, Result}
 use Rattle.geos_model.specs.declared.refusal.Refusal.{Refusal}
 use Rattle.geos_model.specs.declared.refusal.Refusal.TheVariants as refusal
 use Rattle.geos_table.specs.ItemCalls.{gnew}
@@ -33,6 +33,13 @@ record Made {D : Type 0} (medium : Medium D) (r : Result ℕ Refusal) (v w : VmS
   pub no_room : r ≡ Err refusal.NoRoom → LacksRoomForNew v s t
   pub stays : r ≡ Err refusal.NoHandle → t ≡ s
 
+-- a group that was made was not refused
+made-not : (h : ℕ) (why : Refusal) → ◌≡◌ {A = Result ℕ Refusal} (Ok h) (Err why) → ⊥
+made-not h why e = absurd cc
+
+made-no : (h : ℕ) (why : NewError) → ◌≡◌ {A = Result ℕ NewError} (Ok h) (Err why) → ⊥
+made-no h why e = absurd cc
+
 pub returns-in-Ok : goal.returns-in-Ok
 returns-in-Ok g c =
     let e = c.in-Ok.ensures in
@@ -41,10 +48,10 @@ returns-in-Ok g c =
       row = e.row;
       ok = e.ok;
       why = tt;
-      no_handle = ((λ is. absurd cc), (λ all. (let none = e.no_handle.1 all in absurd cc)));
-      no_room = λ is. absurd cc;
+      no_handle = (λ is. absurd (made-not c.in-Ok.g refusal.NoHandle is), λ all. absurd (made-no c.in-Ok.g error.NoHandle (e.no_handle.1 all)));
+      no_room = λ is. absurd (made-not c.in-Ok.g refusal.NoRoom is);
       wanted = e.wanted;
-      stays = λ is. absurd cc;
+      stays = λ is. absurd (made-not c.in-Ok.g refusal.NoHandle is);
       err = tt;
       file = ap (λ (x : VmState g.row.D.Denot). x.file) e.ok.state;
     }

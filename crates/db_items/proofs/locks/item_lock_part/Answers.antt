@@ -1,5 +1,5 @@
-use Rattle.std.proofs.Common.{◌≡◌, ◌≢◌, ◌∙◌, ◌+◌, ◌≤◌, length, ap, sym, subst}
-use Rattle.std.specs.Prelude.{Err, Ok}
+use Rattle.std.proofs.Common.{Bool, false, ◌≡◌, ◌≢◌, ◌∙◌, ◌+◌, ◌≤◌, length, ap, sym, subst}
+use Rattle.std.specs.Prelude.{Err, IsTrue, Ok}
 use Rattle.geos_model.specs.Edits.{refer}
 use Rattle.geos_model.specs.Heap.{IsHeap}
 use Rattle.block_handles.specs.Change.{with_locks}
@@ -12,6 +12,10 @@ use Rattle.db_items.proofs.Changing.{holds-heap}
 use Rattle.db_items.proofs.Locking.{lock-found, lock-full, lock-not_brought, lock-refused}
 use Rattle.db_items.proofs.locks.item_lock_part.Goals as goal
 
+-- a test that failed does not hold
+not-full : (full : Bool) → full ≡ false → IsTrue full → ⊥
+not-full full failed holds = absurd cc
+
 pub returns-then-is_full : goal.returns-then-is_full
 returns-then-is_full g c =
     let d = g.D.Device in let full = c.is_full.ensures.0 c.if-is_full.true in
@@ -21,7 +25,7 @@ pub returns-in-Err : goal.returns-in-Err
 returns-in-Err g c =
     let d = g.D.Device in
     lock-not_brought d.medium c.args.vm.now c.args.g c.args.i c.args.n c.args.blocks.now c.bring_group.new.vm c.bring_group.new.blocks
-    (λ group many. let full = c.is_full.ensures.1 (group, many) in let none = c.if-is_full.false in absurd cc) c.in-Err.refusal c.requires c.in-Err.ensures
+    (λ group many. not-full c.is_full.result c.if-is_full.false (c.is_full.ensures.1 (group, many))) c.in-Err.refusal c.requires c.in-Err.ensures
 
 pub find-requires : goal.find-requires
 find-requires g c =
@@ -34,7 +38,7 @@ returns-in-Err-find g c =
     let bytes = c.bytes.ensures ∙ ap (λ n. bytes_of t (slot_of n)) c.vm.ensures in
     let finds = subst (λ xs. Finds (refer c.args.i c.args.n) xs (Err c.in-Err-find.why)) bytes c.in-Err-find.ensures.finds in
     lock-refused d.medium c.args.vm.now c.args.g c.args.i c.args.n c.args.blocks.now c.bring_group.new.vm t
-    (λ group many. let full = c.is_full.ensures.1 (group, many) in let none = c.if-is_full.false in absurd cc) c.in-Ok.ensures c.in-Err-find.why finds
+    (λ group many. not-full c.is_full.result c.if-is_full.false (c.is_full.ensures.1 (group, many))) c.in-Ok.ensures c.in-Err-find.why finds
 
 pub returns : goal.returns
 returns g c =
@@ -44,7 +48,7 @@ returns g c =
     let finds = subst (λ xs. Finds (refer c.args.i c.args.n) xs (Ok c.in-Ok-find.place)) bytes found.finds in
     let within = subst (λ xs. (c.in-Ok-find.place.0 + c.in-Ok-find.place.1 ≤ length xs) × (c.args.n ≤ c.in-Ok-find.place.1)) bytes found.within in
     let slot : slot_of c.vm-2.result ≡ vm_slot h = ap slot_of c.vm-2.ensures in
-    let few : locks_of t (slot_of c.vm-2.result) ≢ 65535 = (λ many. let full = c.is_full.ensures.1 (b.known, sym b.ok.locks ∙ sym (ap (locks_of t) slot) ∙ many) in let none = c.if-is_full.false in absurd cc) in
+    let few : locks_of t (slot_of c.vm-2.result) ≢ 65535 = (λ many. not-full c.is_full.result c.if-is_full.false (c.is_full.ensures.1 (b.known, sym b.ok.locks ∙ sym (ap (locks_of t) slot) ∙ many))) in
     let more = locked-more t u (slot_of c.vm-2.result) c.lock.result e.ok e.bad_handle e.locked (subst (IsThere t) (sym slot) b.ok.there) few in
     lock-found d.medium c.args.vm.now h c.args.i c.args.n s c.bring_group.new.vm t
-    (λ group many. let full = c.is_full.ensures.1 (group, many) in let none = c.if-is_full.false in absurd cc) b u c.in-Ok-find.place (more ∙ ap (λ k. with_locks t k (locks_of t k + 1)) slot) finds within
+    (λ group many. not-full c.is_full.result c.if-is_full.false (c.is_full.ensures.1 (group, many))) b u c.in-Ok-find.place (more ∙ ap (λ k. with_locks t k (locks_of t k + 1)) slot) finds within
