@@ -1,12 +1,9 @@
 -- What the commands on the bytes of texts and images answer.
-use Rattle.std.specs.Prelude.{◌≡◌, ◌⊎◌, ℕ, Bool, ◌==◌, List, [], Ok, Err, Option, codes}
+use Rattle.std.specs.Prelude.{◌≡◌, ◌⊎◌, ℕ, Bool, ◌==◌, List, [], Ok, Option, codes}
 use Rattle.std.specs.List.{starts_with}
-use Rattle.geos_image.specs.declared.error.ReadError.{ReadError}
-use Rattle.geos_image.specs.declared.error.ReadError.TheVariants as read
 use Rattle.geos_image.specs.Parts.{Parts}
 use Rattle.geos_image.specs.Reading.{image_at}
 use Rattle.geos_verify.specs.declared.rule.Reject.{Reject}
-use Rattle.geos_verify.specs.Rules.{Accepted, FirstRefusal}
 use Rattle.geos_listing.specs.Listing.{listing}
 use Rattle.geos_explain.specs.Explanation.{explanation, IsVerdict}
 use Rattle.geos_explain.specs.Texts.{text_explanation}
@@ -14,8 +11,6 @@ use Rattle.geos_source.specs.InstrLines.{instr_lines}
 use Rattle.geos_causes.specs.Causes.{cause_text}
 use Rattle.geos_infer.specs.declared.cause.Cause.{Cause}
 use Rattle.geos_asm.specs.Assembling.{IsAssembled, IsTextOf, IsCauseOf}
-use Rattle.geos.specs.declared.fault.CheckFault.{CheckFault}
-use Rattle.geos.specs.declared.fault.CheckFault.TheVariants.{BadImage, Rejected, Memory}
 
 -- the bytes spell an image that is one of the text
 abbrev pub IsAssembledAs : List ℕ → List ℕ → Type 0
@@ -43,18 +38,6 @@ IsCauseTold text line told = (told ≡ []) ⊎ ((cause : Cause) × IsCauseOf tex
 abbrev pub begins_as_image : List ℕ → Bool
 begins_as_image bytes = starts_with (λ a b. a == b) bytes (codes "GRT1")
 
--- the bytes spell an image that the verifier accepts
-abbrev pub IsAccepted : List ℕ → Type 0
-IsAccepted bytes = (image : Parts) × (image_at bytes ≡ Ok image) × Accepted image
-
--- the fault is due: the first one of the bytes, or the first refusal of the image that they
--- spell; or there was no memory
-abbrev pub IsDue : List ℕ → CheckFault → Type 0
-IsDue bytes (BadImage at) = image_at bytes ≡ Err at
-IsDue bytes (Rejected reject) = (image : Parts) × (image_at bytes ≡ Ok image) × FirstRefusal image reject
-IsDue bytes Memory = Unit {0}
-
--- why bytes are no image
-abbrev pub of_read : ReadError → CheckFault
-of_read (read.BadImage at) = BadImage at
-of_read read.Memory = Memory
+-- the bytes spell an image, and the refusal is its first, or there is none
+abbrev pub IsJudged : List ℕ → Option Reject → Type 0
+IsJudged bytes reject = (image : Parts) × (image_at bytes ≡ Ok image) × IsVerdict image reject

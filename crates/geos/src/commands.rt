@@ -3,9 +3,8 @@
 ghost use Rattle.std.specs.Prelude.{◌≡◌, IfOk, IfErr};
 ghost use Rattle.geos_asm.specs.Assembling.{IsWhyNoImage};
 ghost use Rattle.geos_image.specs.Reading.{image_at, Fails};
-ghost use Rattle.geos.specs.Commands.{IsAssembledAs, IsListed, IsAccepted, IsDue, IsExplained, IsExplainedText, IsCauseTold, begins_as_image};
+ghost use Rattle.geos.specs.Commands.{IsAssembledAs, IsListed, IsJudged, IsExplained, IsExplainedText, IsCauseTold, begins_as_image};
 
-use crate::fault::CheckFault;
 use geos_asm::{AssembleError, assemble, list, why_no_rows};
 use geos_causes::explain_cause;
 use geos_explain::{explain, explain_text};
@@ -32,15 +31,16 @@ pub(crate) fn list_bytes(alloc: Global, bytes: &[u8]) -> Result<Vec<u8>, ReadErr
     Ok(list(alloc, &image)?)
 }
 
-/// Whether the bytes spell an image that the verifier accepts; if not, why.
-pub(crate) fn check_bytes(alloc: Global, bytes: &[u8]) -> Result<(), CheckFault>
-    ensures accepted { IfOk result (λ _. IsAccepted bytes.now) }
-    ensures due { IfErr result (IsDue bytes.now) }
+/// The first refusal of the image that the bytes spell, if the verifier refuses it.
+/// `ReadError::BadImage` where they spell none.
+pub(crate) fn check_bytes(alloc: Global, bytes: &[u8]) -> Result<Option<Reject>, ReadError>
+    ensures judged { IfOk result (IsJudged bytes.now) }
+    ensures fault { IfErr result (λ fault. Fails fault (image_at bytes.now)) }
 {
     let image = geos_image::read(alloc, bytes)?;
     match check(image) {
-        Ok(_checked) => Ok(()),
-        Err((_image, reject)) => Err(CheckFault::Rejected(reject)),
+        Ok(_checked) => Ok(None),
+        Err((_image, reject)) => Ok(Some(reject)),
     }
 }
 

@@ -30,11 +30,13 @@ pub(crate) fn list<'a>(rt: &HostRuntime, path: &'a str) -> Result<(), RequestFau
     Ok(print(rt, &text)?)
 }
 
-/// Prints `accepted` where the image may run.
+/// Prints `accepted` where the image may run, and else says where it is refused.
 pub(crate) fn check<'a>(rt: &HostRuntime, path: &'a str) -> Result<(), RequestFault<'a>> {
     let bytes = read(rt, path, MOST_READ)?;
-    check_bytes(rt.alloc(), &bytes)?;
-    Ok(print(rt, b"accepted\n")?)
+    match check_bytes(rt.alloc(), &bytes)? {
+        None => Ok(print(rt, b"accepted\n")?),
+        Some(reject) => Err(RequestFault::Reject(reject)),
+    }
 }
 
 /// What there is to say of a text. Where no rows are found for it, it prints why.

@@ -2,7 +2,6 @@
 #![tactic(auto)]
 
 mod commands;
-mod fault;
 mod files;
 mod images;
 mod request_fault;

@@ -1,10 +1,9 @@
 //! Why a request was not carried out.
 
-use crate::fault::CheckFault;
 use geos_asm::AssembleError;
+use geos_cli::ScriptFault;
 use geos_dump::DumpError;
 use geos_image::ReadError;
-use geos_input::ScriptFault;
 use geos_shell::StreamFault;
 use geos_verify::Reject;
 use thiserror::Error;
@@ -25,18 +24,15 @@ pub(crate) enum RequestFault<'a> {
     /// The bytes are no image.
     #[error(transparent)]
     Read(#[from] ReadError),
-    /// The image may not run.
-    #[error(transparent)]
-    Check(#[from] CheckFault),
     /// The verifier refuses the image.
     #[error(transparent)]
-    Reject(#[from] Reject),
+    Reject(Reject),
     /// The VM file was not made.
     #[error(transparent)]
-    Create(#[from] CreateError),
+    Create(CreateError),
     /// The VM file was not opened.
     #[error(transparent)]
-    Open(#[from] OpenError),
+    Open(OpenError),
     /// The VM file was not shown.
     #[error(transparent)]
     Dump(#[from] DumpError),
