@@ -1,5 +1,6 @@
 //! What runs routines: a session, and a script on a VM file of the system.
 
+ghost use Rattle.vm_blocks.specs.Listed.{NoneLocked};
 ghost use Rattle.geos_shell.specs.Limits.{IsRegion};
 
 use crate::files::{Locked, lock_and_open, opened};
@@ -8,21 +9,47 @@ use crate::request_fault::RequestFault;
 use geos_cli::{Counted, ScriptFault, run_script, run_session};
 use geos_kernel::Kernel;
 use geos_shell::{Sharing, read};
+use std::alloc::Global;
 use std::io;
-use std::io::{BufWriter, Write};
+use std::io::{BufWriter, Printer, Write};
 use vm_file::{FileDevice, VmFile};
+
+/// Standard output behind a buffer, with what is asked of it counted. `ScriptFault::Memory` where
+/// there is none for the buffer.
+fn output(
+    rt: &HostRuntime,
+) -> Result<Counted<BufWriter<Printer<'_, HostRuntime>, Global>>, ScriptFault> {
+    match BufWriter::new(rt.alloc(), io::writer(rt)) {
+        Ok(writer) => Ok(Counted::new(writer)),
+        Err(_) => Err(ScriptFault::Memory),
+    }
+}
 
 /// Runs a session on the standard streams.
 pub(crate) fn session(rt: &HostRuntime) -> Result<(), ScriptFault> {
-    let mut input = Counted::new(rt.stdin());
-    let Ok(writer) = BufWriter::new(rt.alloc(), io::writer(rt)) else {
-        return Err(ScriptFault::Memory);
-    };
-    run_session(rt.alloc(), &mut input, &mut Counted::new(writer))
+    let mut out = output(rt)?;
+    run_session(rt.alloc(), &mut Counted::new(rt.stdin()), &mut out)
+}
+
+/// Runs a script with an image on a kernel of whose VM file no block is locked.
+fn run_on(
+    rt: &HostRuntime,
+    image: &[u8],
+    script: &[u8],
+    kernel: &mut Kernel<FileDevice>,
+) -> Result<(), ScriptFault>
+    requires { NoneLocked kernel.old.core.blocks }
+{
+    let mut out = output(rt)?;
+    run_script(rt.alloc(), image, script, kernel, &mut out)?;
+    match out.flush() {
+        Ok(()) => Ok(()),
+        Err(_) => Err(ScriptFault::Write),
+    }
 }
 
 /// Runs a script with an image on an open VM file, with so many bytes for blocks in memory.
-fn run_on(
+fn run_in(
     rt: &HostRuntime,
     image: &[u8],
     script: &[u8],
@@ -31,17 +58,9 @@ fn run_on(
 ) -> Result<(), ScriptFault>
     requires { IsRegion region }
 {
-    let Ok(mut kernel) = Kernel::new(rt.alloc(), region, file) else {
-        return Err(ScriptFault::Memory);
-    };
-    let Ok(writer) = BufWriter::new(rt.alloc(), io::writer(rt)) else {
-        return Err(ScriptFault::Memory);
-    };
-    let mut out = Counted::new(writer);
-    run_script(rt.alloc(), image, script, &mut kernel, &mut out)?;
-    match out.flush() {
-        Ok(()) => Ok(()),
-        Err(_) => Err(ScriptFault::Write),
+    match Kernel::new(rt.alloc(), region, file) {
+        Ok(mut kernel) => run_on(rt, image, script, &mut kernel),
+        Err(_) => Err(ScriptFault::Memory),
     }
 }
 
@@ -63,5 +82,5 @@ pub(crate) fn run<'a>(
     } = lock_and_open(rt, file, Sharing::Alone)?;
     let file = opened(rt, device)?;
     let script = read(rt, script, MOST_READ)?;
-    Ok(run_on(rt, &image, &script, region, file)?)
+    Ok(run_in(rt, &image, &script, region, file)?)
 }
