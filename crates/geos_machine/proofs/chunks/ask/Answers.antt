@@ -13,7 +13,7 @@ ask-requires g c =
     rw c.requires.a (slot-locked honest i c.args.kernel.now.core c.args.m.now (mem 0) c.requires.ready (λ beside pc safe. ask-held i _ safe c.requires.asks))
 
 pub bounds-m-i : goal.bounds-m-i
-bounds-m-i g c = ask-word c.args.i.now.opcode c.args.i.now c.requires.asks c.requires.fields
+bounds-m-i g c = ask-word c.args.i.now.opcode c.requires.asks c.args.i.now c.requires.fields
 
 pub returns-in-Ok : goal.returns-in-Ok
 returns-in-Ok g c =

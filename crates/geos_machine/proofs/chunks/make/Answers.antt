@@ -19,7 +19,7 @@ make-requires-clause-marked g c =
     rw c.requires.a (slot-may-change honest i c.args.kernel.now.core c.args.m.now (mem 0) c.requires.ready (λ beside pc safe. make-marked i _ safe c.requires.makes))
 
 pub bounds-m-i : goal.bounds-m-i
-bounds-m-i g c = make-word c.args.i.now.opcode c.args.i.now c.requires.makes c.requires.fields
+bounds-m-i g c = make-word c.args.i.now.opcode c.requires.makes c.args.i.now c.requires.fields
 
 pub returns-in-Ok-clause-works : goal.returns-in-Ok-clause-works
 returns-in-Ok-clause-works g c =
