@@ -1,5 +1,5 @@
 -- A script that ran or was stopped, as the script of a session.
-use Rattle.std.proofs.Common.{◌≡◌, ◌≤◌, ◌∙◌, ℕ, List, length, Option, None, subst, sym, inl, inr}
+use Rattle.std.proofs.Common.{◌≡◌, ◌≤◌, ◌∙◌, ℕ, List, length, Option, None, arith, subst, sym, inl, inr}
 use Rattle.std.specs.Prelude.{Result, Ok, Err, IfOk, IfErr, IsErrAnd}
 use Rattle.std.specs.Str.Lines.{lines}
 use Rattle.std.specs.Io.KnownBytes.{Keeps}
@@ -11,7 +11,7 @@ use Rattle.geos_kernel.specs.View.{KernelState, memory_of, IsFileOf}
 use Rattle.geos_kernel.specs.Kernel.{IsChosen}
 use Rattle.geos_image.specs.Parts.{Parts}
 use Rattle.geos_input.specs.Hex.{hex_fault, image_bytes, script_lines, IsBadHex}
-use Rattle.geos_cli.specs.Script.{commands_of, Runs, Stops, Loads, RunsScript, RanScript, StoppedScript}
+use Rattle.geos_cli.specs.Script.{commands_of, Runs, Stops, Loads, EndsBy, RunsScript, RanScript, StoppedScript, ScriptEndsBy}
 use Rattle.geos_text.specs.Words.{most_bytes}
 use Rattle.geos_input.specs.Reading.{Reads}
 use Rattle.geos_cli.proofs.Prints.{prints-wider, part-wider}
@@ -88,6 +88,17 @@ module _ (honest : Type 0) (bytes items image script : List ℕ) (kernel later :
   session-due a b (text, leads, appends) =
       let h = (leads (empty_file 65536) tied).3 in
       (short, digits, in-session (λ i ls m. (parts : Parts) × Loads i ls parts) (h.1.0, h.1.1))
+
+  -- the script ended with a fault
+  pub session-ends : length script ≤ length bytes → (fault : ScriptFault) → ScriptEndsBy image script fault → EndsBytes bytes fault
+  session-ends shorter TooLong h = omega (arith, shorter, h)
+  session-ends shorter (BadHex line) h = absurd h.1
+  session-ends shorter (BadImage at) h = (short, digits, in-session (λ i ls m. EndsBy i ls (BadImage at)) h.1)
+  session-ends shorter (Rejected pc rule) h = (short, digits, in-session (λ i ls m. EndsBy i ls (Rejected pc rule)) h.1)
+  session-ends shorter (BadScript line) h = (short, digits, in-session (λ i ls m. EndsBy i ls (BadScript line)) h.1)
+  session-ends shorter Read h = absurd h.1
+  session-ends shorter Write h = (short, digits, in-session (λ i ls m. EndsBy i ls Write) h.1)
+  session-ends shorter Memory h = tt
 
   -- the script was stopped
   pub session-stopped : (a b : Option (List ℕ)) → StoppedScript honest image script kernel later a b → StoppedBytes bytes a b

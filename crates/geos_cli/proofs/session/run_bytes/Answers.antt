@@ -2,7 +2,7 @@ use Rattle.std.proofs.Common.{ap}
 use Rattle.block_handles.specs.Store.{locks_in}
 use Rattle.vm_blocks.specs.View.{vm_slot}
 use Rattle.geos_cli.specs.Session.{EndsBytes}
-use Rattle.geos_cli.proofs.Sessions.{passed-on, if-ok, if-fault, hex-ends, if-write, session-due, session-ran, session-unflushed, session-stopped}
+use Rattle.geos_cli.proofs.Sessions.{passed-on, if-ok, if-fault, hex-ends, if-write, session-due, session-ends, session-ran, session-unflushed, session-stopped}
 use Rattle.geos_cli.proofs.session.run_bytes.Goals as goal
 
 pub returns-in_err-image-clause-due : goal.returns-in_err-image-clause-due
@@ -26,3 +26,9 @@ returns-in-Ok-clause-due g c =
 
 pub run_script-requires : goal.run_script-requires
 run_script-requires g c = record { unlocked = λ h p. ap locks_in (c.in_ok-kernel.ensures.store.none (vm_slot h)) }
+
+pub returns-clause-due : goal.returns-clause-due
+returns-clause-due g c =
+    session-ends _ _ _ _ _ _ c.run_script.new.kernel.core c.in_ok-kernel.ensures.honest c.requires c.in_ok-image.ensures.good
+    c.in_ok-image.ensures.image c.in_ok-image.ensures.script c.deref.ensures.value c.in_ok-kernel.ensures.tied
+    c.in_ok-kernel.ensures.memory c.in_ok-image.ensures.short _ c.in-Err.ensures.due
