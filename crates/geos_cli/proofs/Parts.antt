@@ -1,16 +1,35 @@
--- What a failed write leaves of a longer text.
-use Rattle.std.proofs.Common.{◌≡◌, ◌<◌, ℕ, suc, List, [], ◌∷◌, ◌++◌, length, take, drop, get_or, sym, ap, ◌∙◌, arith, subst, append_assoc, append-nil, length-append, take-append-drop, drop-cons}
+-- What a failed write leaves of a longer text, and of the count of failures.
+use Rattle.std.proofs.Common.{◌≡◌, ◌≢◌, ◌<◌, ℕ, suc, List, [], ◌∷◌, ◌++◌, length, take, drop, get_or, sym, ap, ◌∙◌, arith, subst, append_assoc, append-nil, length-append, take-append-drop, drop-cons}
 use Rattle.std.specs.Prelude.{Option, Result, Ok, Err, IfOk, IfErr, decimal}
 use Rattle.std.specs.Io.KnownBytes.{Appends}
 use Rattle.std.proofs.KnownBytes.{Appends-nil, Appends-trans}
 use Rattle.std.proofs.lemmas.Grind.{flat_map-append}
+use Rattle.geos_input.specs.declared.fault.ScriptFault.{ScriptFault}
+use Rattle.geos_input.specs.declared.fault.ScriptFault.TheVariants.{Write}
 use Rattle.geos_input.specs.Counted.{AppendsPart}
+use Rattle.geos_input.specs.Fault.{KeptUnless}
+use Rattle.vm_file.specs.Device.{Rose}
 use Rattle.geos_cli.specs.Script.{printed}
 
 -- what holds at all holds at each error
 pub IfErr-any : {A E : Type 0} {P : Type 0} (result : Result A E) → P → IfErr result (λ _. P)
 IfErr-any (Ok x) p = tt
 IfErr-any (Err e) p = p
+
+-- where no other fault comes than the writer's, what is said of others holds
+pub only-write : {A : Type 0} (P Q : Type 0) (result : Result A ScriptFault) → IfErr result (λ fault. (fault ≡ Write) × P) → IfErr result (λ fault. fault ≢ Write → Q)
+only-write P Q (Ok x) h = tt
+only-write P Q (Err e) h = λ other. absurd (other h.0)
+
+-- the count of failures was kept, and then rose with the writer's fault
+pub rose-since : {A : Type 0} (a b c : ℕ) (result : Result A ScriptFault) → b ≡ a → IfErr result (λ fault. (fault ≡ Write) × Rose b c) → IfErr result (λ fault. fault ≡ Write → Rose a c)
+rose-since a b c (Ok x) same h = tt
+rose-since a b c (Err e) same h = λ is. subst (λ n. Rose n c) same h.1
+
+-- it was kept, unless the writer failed
+pub kept-since : {A : Type 0} (P : Type 0) (a b c : ℕ) (result : Result A ScriptFault) → b ≡ a → IfOk result (λ _. c ≡ b) → IfErr result (λ fault. (fault ≡ Write) × P) → KeptUnless Write result a c
+kept-since P a b c (Ok x) same kept h = kept ∙ same
+kept-since P a b c (Err e) same kept h = λ other. absurd (other h.0)
 
 -- a part of bytes that stand between others is a part of all of them
 pub part-between : (a b c : Option (List ℕ)) (front bytes behind : List ℕ) → Appends a b front → AppendsPart b c bytes → AppendsPart a c (front ++ (bytes ++ behind))

@@ -2,6 +2,7 @@ use Rattle.std.proofs.Common.{ap}
 use Rattle.block_handles.specs.Store.{locks_in}
 use Rattle.vm_blocks.specs.View.{vm_slot}
 use Rattle.geos_cli.specs.Session.{EndsBytes}
+use Rattle.geos_cli.proofs.Parts.{only-write, rose-since, kept-since}
 use Rattle.geos_cli.proofs.Sessions.{passed-on, if-ok, if-fault, hex-ends, if-write, session-due, session-ends, session-ran, session-unflushed, session-stopped}
 use Rattle.geos_cli.proofs.session.run_bytes.Goals as goal
 
@@ -23,6 +24,18 @@ returns-clause-stopped g c is =
 pub returns-in-Ok-clause-due : goal.returns-in-Ok-clause-due
 returns-in-Ok-clause-due g c =
     if-write _ (EndsBytes c.args.bytes.now) c.flush.result c.flush.ensures.failed (session-due _ _ _ _ _ _ _ c.in_ok-kernel.ensures.honest c.requires c.in_ok-image.ensures.good c.in_ok-image.ensures.image c.in_ok-image.ensures.script c.deref.ensures.value c.in_ok-kernel.ensures.tied c.in_ok-kernel.ensures.memory _ _ c.in-Ok.ensures.ran)
+
+pub returns-in-Ok-clause-nothing_written : goal.returns-in-Ok-clause-nothing_written
+returns-in-Ok-clause-nothing_written g c = only-write _ _ c.flush.result c.flush.ensures.failed
+
+pub returns-in-Ok-clause-not_asked : goal.returns-in-Ok-clause-not_asked
+returns-in-Ok-clause-not_asked g c = only-write _ _ c.flush.result c.flush.ensures.failed
+
+pub returns-in-Ok-clause-writer_failed : goal.returns-in-Ok-clause-writer_failed
+returns-in-Ok-clause-writer_failed g c = rose-since _ _ _ c.flush.result c.in-Ok.ensures.writer_kept c.flush.ensures.failed
+
+pub returns-in-Ok-clause-writer_kept : goal.returns-in-Ok-clause-writer_kept
+returns-in-Ok-clause-writer_kept g c = kept-since _ _ _ _ c.flush.result c.in-Ok.ensures.writer_kept c.flush.ensures.kept c.flush.ensures.failed
 
 pub run_script-requires : goal.run_script-requires
 run_script-requires g c = record { unlocked = λ h p. ap locks_in (c.in_ok-kernel.ensures.store.none (vm_slot h)) }
