@@ -4,6 +4,7 @@ ghost use Rattle.std.specs.Prelude.{◌<◌};
 
 use crate::arcs::{Arc, Counting};
 use crate::body::Body;
+use crate::edges::is_loop;
 use crate::paid::back_edges;
 use crate::ways::Ways;
 use geos_image::{Instr, Opcode};
@@ -68,7 +69,8 @@ fn is_free(i: &Instr, costly: &[bool; 4]) -> bool {
     }
 }
 
-/// Notes which counters cost something at each place of a routine, and at which LOOPs theirs does not.
+/// Notes which counters cost something at each place of a routine, at which LOOPs theirs does not, and how many other LOOPs there
+/// are before each place.
 pub(crate) fn note_costly(body: &Body, ways: &mut Ways) {
     // A way that passes no place twice goes along each edge back once at most.
     for _ in 0..back_edges(body) + 2 {
@@ -76,9 +78,15 @@ pub(crate) fn note_costly(body: &Body, ways: &mut Ways) {
             break;
         }
     }
+    let mut loops: u16 = 0;
     for pc in body.start..body.end {
+        let i = body.image.instr(pc);
         let mut place = ways.at(pc);
-        place.free = is_free(body.image.instr(pc), &place.costly);
+        place.free = is_free(i, &place.costly);
+        place.loops = loops;
+        if is_loop(i.opcode) && !place.free {
+            loops = loops.saturating_add(1);
+        }
         ways.set(pc, place);
     }
 }

@@ -25,6 +25,7 @@ mod reach;
 mod rounds;
 mod rows;
 mod seeds;
+mod spans;
 mod spent;
 mod table;
 mod turns;

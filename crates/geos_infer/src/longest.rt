@@ -1,10 +1,9 @@
-//! The longest ways from each place of a routine, where units of counters pay for so much; and ways round that they do not pay for.
+//! The longest ways from each of some places, where units of counters pay for so much; and ways round that they do not pay for.
+//! Edges that lead from these places to others are left out.
 
 ghost use Rattle.std.specs.Prelude.{◌<◌};
 
-use crate::asked::return_steps;
-use crate::body::Body;
-use crate::paid::back_edges;
+use crate::spans::Span;
 use crate::ways::{Ways, cost};
 use geos_image::MOST_INSTRS;
 
@@ -18,11 +17,11 @@ enum Growth {
     Round(u16),
 }
 
-/// Each way ends where it begins: a return takes a step.
-fn begin(body: &Body, ways: &mut Ways) {
-    for pc in body.start..body.end {
+/// Each way ends where it begins.
+fn begin(span: &Span, ways: &mut Ways) {
+    for pc in span.start..span.end {
         let mut place = ways.at(pc);
-        place.steps = return_steps(body.image.instr(pc));
+        place.steps = place.ending;
         place.first = None;
         ways.set(pc, place);
     }
@@ -30,14 +29,14 @@ fn begin(body: &Body, ways: &mut Ways) {
 
 /// The longest way from a pc over an edge, if that is not left out and leads ahead, or back, as is asked, and the way is longer than
 /// what was known; whether it is.
-fn lengthen(ways: &mut Ways, pc: u16, branch: bool, ahead: bool) -> bool
+fn lengthen(span: &Span, ways: &mut Ways, pc: u16, branch: bool, ahead: bool) -> bool
     requires { pc < 4096 }
 {
     let mut here = ways.at(pc);
     let Some(arc) = here.arc(branch) else {
         return false;
     };
-    if (pc < arc.to) != ahead || (branch && here.free) {
+    if !span.has(arc.to) || (pc < arc.to) != ahead || (branch && here.free) {
         return false;
     }
     let there = ways.at(arc.to);
@@ -53,11 +52,11 @@ fn lengthen(ways: &mut Ways, pc: u16, branch: bool, ahead: bool) -> bool
 }
 
 /// Goes over the edges that lead ahead, from the last to the first; whether some way is longer.
-fn go_ahead(body: &Body, ways: &mut Ways) -> bool {
+fn go_ahead(span: &Span, ways: &mut Ways) -> bool {
     let mut longer = false;
-    for pc in (body.start..body.end).rev() {
-        longer |= lengthen(ways, pc, false, true);
-        longer |= lengthen(ways, pc, true, true);
+    for pc in (span.start..span.end).rev() {
+        longer |= lengthen(span, ways, pc, false, true);
+        longer |= lengthen(span, ways, pc, true, true);
     }
     longer
 }
@@ -83,13 +82,13 @@ fn round_from(ways: &mut Ways, from: u16, mark: u16) -> Option<u16>
 }
 
 /// A pc from which the longest way comes back to it.
-fn find_round(body: &Body, ways: &mut Ways) -> Option<u16> {
-    for pc in body.start..body.end {
+fn find_round(span: &Span, ways: &mut Ways) -> Option<u16> {
+    for pc in span.start..span.end {
         let mut place = ways.at(pc);
         place.passed = 0;
         ways.set(pc, place);
     }
-    for pc in body.start..body.end {
+    for pc in span.start..span.end {
         if let Some(at) = round_from(ways, pc, pc + 1) {
             return Some(at);
         }
@@ -115,10 +114,10 @@ fn leads_to(ways: &Ways, from: u16, to: u16) -> bool
 }
 
 /// Goes over the edge to the target, if it leads back.
-fn go_back_from(ways: &mut Ways, pc: u16) -> Growth
+fn go_back_from(span: &Span, ways: &mut Ways, pc: u16) -> Growth
     requires { pc < 4096 }
 {
-    if !lengthen(ways, pc, true, false) {
+    if !lengthen(span, ways, pc, true, false) {
         return Growth::Same;
     }
     match ways.at(pc).next() {
@@ -128,10 +127,10 @@ fn go_back_from(ways: &mut Ways, pc: u16) -> Growth
 }
 
 /// Goes over the edges that lead back, from the first to the last, so that the loops in a loop come before it.
-fn go_back(body: &Body, ways: &mut Ways) -> Growth {
+fn go_back(span: &Span, ways: &mut Ways) -> Growth {
     let mut growth = Growth::Same;
-    for pc in body.start..body.end {
-        match go_back_from(ways, pc) {
+    for pc in span.start..span.end {
+        match go_back_from(span, ways, pc) {
             Growth::Same => {}
             Growth::Longer => growth = Growth::Longer,
             Growth::Round(at) => return Growth::Round(at),
@@ -141,25 +140,25 @@ fn go_back(body: &Body, ways: &mut Ways) -> Growth {
 }
 
 /// Goes over all edges once.
-fn go_on(body: &Body, ways: &mut Ways) -> Growth {
-    let longer = go_ahead(body, ways);
+fn go_on(span: &Span, ways: &mut Ways) -> Growth {
+    let longer = go_ahead(span, ways);
     if longer {
-        if let Some(at) = find_round(body, ways) {
+        if let Some(at) = find_round(span, ways) {
             return Growth::Round(at);
         }
     }
-    match go_back(body, ways) {
+    match go_back(span, ways) {
         Growth::Same if longer => Growth::Longer,
         growth => growth,
     }
 }
 
-/// Finds the longest way from each pc of a routine; a pc from which the longest comes back to it, if ways have no end.
-pub(crate) fn find_longest(body: &Body, ways: &mut Ways) -> Option<u16> {
-    begin(body, ways);
+/// Finds the longest way from each of the places; one from which the longest comes back to it, if ways have no end.
+pub(crate) fn find_longest(span: &Span, ways: &mut Ways) -> Option<u16> {
+    begin(span, ways);
     // A way that passes no place twice goes along each edge back once at most, and the last time nothing is longer.
-    for _ in 0..back_edges(body) + 2 {
-        match go_on(body, ways) {
+    for _ in 0..u64::from(span.back) + 2 {
+        match go_on(span, ways) {
             Growth::Same => return None,
             Growth::Longer => {}
             Growth::Round(at) => return Some(at),

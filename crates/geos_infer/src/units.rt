@@ -6,9 +6,12 @@ use crate::arcs::{Arc, Counting};
 use crate::asked::coefficients_join;
 use crate::body::Body;
 use crate::longest::find_longest;
-use crate::paid::back_edges;
+use crate::spans::{Span, span_of};
 use crate::ways::{Ways, cost};
 use geos_image::{MOST_INSTRS, Opcode};
+
+/// So many times as many places as a routine has may be gone over where the loops are searched one by one.
+const SEARCHES: u32 = 32;
 
 /// What a way round costs, what the units of counters pay of that, how many it takes of each counter, and which it sets.
 #[derive(Clone, Copy)]
@@ -94,21 +97,21 @@ fn lacking(round: &Round, counter: u8) -> u64 {
     }
 }
 
-/// By how much units of a counter are raised, in a routine with so many LOOPs.
+/// By how much units of a counter are raised.
 #[derive(Clone, Copy)]
 struct Raise {
     counter: u8,
     by: u64,
-    loops: u16,
+    /// The number of LOOPs, where units that are raised more often are doubled.
+    loops: Option<u16>,
 }
 
-/// The unit of a counter at a LOOP, so much more; twice as much at least, where it was raised more often than there are LOOPs.
+/// The unit of a counter at a LOOP, so much more; twice as much at least, where it was raised too often.
 fn raised_unit(unit: u32, raised: u16, raise: &Raise) -> Option<u32> {
     let more = u64::from(unit).saturating_add(raise.by);
-    let next = if raised <= raise.loops {
-        more
-    } else {
-        more.max(u64::from(unit).saturating_mul(2))
+    let next = match raise.loops {
+        Some(loops) if loops < raised => more.max(u64::from(unit).saturating_mul(2)),
+        _ => more,
     };
     u32::try_from(next).ok()
 }
@@ -128,7 +131,9 @@ fn raise_at(ways: &mut Ways, pc: u16, arc: &Arc, raise: &Raise) -> bool
         return false;
     };
     place.pay[usize::from(counter)] = unit;
-    place.raised = place.raised.saturating_add(1);
+    if raise.loops.is_some() {
+        place.raised = place.raised.saturating_add(1);
+    }
     ways.set(pc, place);
     true
 }
@@ -172,28 +177,28 @@ fn carry_over(ways: &mut Ways, pc: u16, branch: bool) -> bool
     here.pay != old
 }
 
-/// The same over each edge of a routine, from the last to the first.
-fn carry_once(body: &Body, ways: &mut Ways) -> bool {
+/// The same over each edge from one of the places, from the last to the first.
+fn carry_once(span: &Span, ways: &mut Ways) -> bool {
     let mut changed = false;
-    for pc in (body.start..body.end).rev() {
+    for pc in (span.start..span.end).rev() {
         changed |= carry_over(ways, pc, false);
         changed |= carry_over(ways, pc, true);
     }
     changed
 }
 
-/// Units are carried back to each place from which they are asked for.
-fn carry(body: &Body, ways: &mut Ways) {
+/// Units are carried back to each of the places from which they are asked for.
+fn carry(span: &Span, ways: &mut Ways) {
     // A way that passes no place twice goes along each edge back once at most.
-    for _ in 0..back_edges(body) + 2 {
-        if !carry_once(body, ways) {
+    for _ in 0..u64::from(span.back) + 2 {
+        if !carry_once(span, ways) {
             return;
         }
     }
 }
 
 /// Raises what a unit pays for, so that the way round from a pc is paid for; `false` where no counter can pay for it.
-fn pay(body: &Body, ways: &mut Ways, at: u16, loops: u16) -> bool {
+fn pay(span: &Span, ways: &mut Ways, at: u16, loops: Option<u16>) -> bool {
     if 4096 <= at {
         return false;
     }
@@ -209,8 +214,60 @@ fn pay(body: &Body, ways: &mut Ways, at: u16, loops: u16) -> bool {
     if !raise_round(ways, at, &raise) {
         return false;
     }
-    carry(body, ways);
+    carry(span, ways);
     true
+}
+
+/// Pays for one way round after another among some places, until the longest way from each of them ends, or what is left of the
+/// room for searches is too little; how much is left then. None is where a way can't be paid for: that is left to `pay_all`.
+fn pay_among(span: &Span, ways: &mut Ways, room: u32) -> u32 {
+    if 1 < span.back {
+        carry(span, ways);
+    }
+    let mut left = room;
+    for _ in 0..room {
+        if left < span.length() {
+            return 0;
+        }
+        left = left.saturating_sub(span.length());
+        match find_longest(span, ways) {
+            Some(at) => {
+                if !pay(span, ways, at, None) {
+                    return 0;
+                }
+            }
+            None => return left,
+        }
+    }
+    left
+}
+
+/// The place where an edge leads back to from a pc, if a way round may go along it and lack something: there is a LOOP between them.
+fn back_from(ways: &Ways, pc: u16) -> Option<u16>
+    requires { pc < 4096 }
+{
+    let here = ways.at(pc);
+    let arc = here.arc(true)?;
+    let takes = matches!(arc.counting, Counting::Takes(_));
+    if here.free || pc < arc.to || (!takes && ways.at(arc.to).loops == here.loops) {
+        return None;
+    }
+    Some(arc.to)
+}
+
+/// Pays for the ways round among the places of each loop, from where an edge leads back to up to where it begins: so loops one after
+/// another take no more than the length of each. Ways round through other places are left, and those of loops that are too long for
+/// the room that is left.
+fn pay_inside(body: &Body, ways: &mut Ways) {
+    let mut room = SEARCHES * u32::from(body.end - body.start);
+    for pc in body.start..body.end {
+        if let Some(to) = back_from(ways, pc) {
+            if u32::from(pc.saturating_sub(to)) < room {
+                let span = span_of(ways, to, pc + 1);
+                room = pay_among(&span, ways, room);
+            }
+        }
+    }
 }
 
 /// How many LOOPs a routine has.
@@ -227,13 +284,16 @@ fn count_loops(body: &Body) -> u16 {
 /// Pays for one way round after another, until the longest way from each place ends; `false` where a way can't be paid for.
 pub(crate) fn pay_all(body: &Body, ways: &mut Ways) -> bool {
     let loops = count_loops(body);
+    pay_inside(body, ways);
+    let all = span_of(ways, body.start, body.end);
+    carry(&all, ways);
     let times = u64::from(loops);
     // Each time a LOOP is raised. One is raised as often as there are LOOPs, and from then on its unit is doubled, so that it
     // is past what a potential can say after 32 times more.
     for _ in 0..times.saturating_mul(times + 34).saturating_add(1) {
-        match find_longest(body, ways) {
+        match find_longest(&all, ways) {
             Some(at) => {
-                if !pay(body, ways, at, loops) {
+                if !pay(&all, ways, at, Some(loops)) {
                     return false;
                 }
             }
@@ -272,6 +332,6 @@ pub(crate) fn pay_free(body: &Body, ways: &mut Ways) -> bool {
             return false;
         }
     }
-    carry(body, ways);
+    carry(&span_of(ways, body.start, body.end), ways);
     true
 }

@@ -1,0 +1,42 @@
+//! Places of a routine that are searched by themselves: those from one pc up to another.
+
+ghost use Rattle.std.specs.Prelude.{◌<◌, ◌≤◌};
+
+use crate::ways::Ways;
+
+/// The places from one pc up to another.
+#[derive(Clone, Copy)]
+pub(crate) struct Span {
+    pub(crate) start: u16,
+    pub(crate) end: u16,
+    /// How many edges lead back among them.
+    pub(crate) back: u32,
+    ghost room: { end ≤ 4096 },
+}
+
+impl Span {
+    /// Whether a pc is one of the places.
+    pub(crate) fn has(&self, pc: u16) -> bool {
+        self.start <= pc && pc < self.end
+    }
+
+    /// How many places there are.
+    pub(crate) fn length(&self) -> u32 {
+        u32::from(self.end.saturating_sub(self.start))
+    }
+}
+
+/// The places from one pc up to another.
+pub(crate) fn span_of(ways: &Ways, start: u16, end: u16) -> Span
+    requires { end ≤ 4096 }
+{
+    let mut back: u32 = 0;
+    for pc in start..end {
+        if let Some(arc) = ways.at(pc).arc(true) {
+            if start <= arc.to && arc.to <= pc {
+                back = back.saturating_add(1);
+            }
+        }
+    }
+    Span { start, end, back }
+}
