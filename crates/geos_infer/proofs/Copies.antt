@@ -1,8 +1,8 @@
 -- Lists that are made item after item from the routines and points of an image.
-use Rattle.std.proofs.Common.{◌≡◌, ◌∙◌, ◌<◌, ◌≤◌, ℕ, zero, suc, ◌+◌, List, [], ◌∷◌, ◌++◌, length, take, replicate, Option, Some, true, slice_get, get_or, map, set, refl, sym, ap, subst, add-one, arith, inl, inr}
+use Rattle.std.proofs.Common.{◌≡◌, ◌∙◌, ◌<◌, ◌≤◌, ℕ, zero, suc, ◌+◌, ◌-◌, List, [], ◌∷◌, ◌++◌, length, take, replicate, Option, Some, true, slice_get, get_or, map, set, refl, sym, ap, subst, add-one, arith, inl, inr}
 use Rattle.std.specs.Prelude.{IfSome, slice_index, slice_index_or}
 use Rattle.std.proofs.lemmas.Bool.{cases_eq}
-use Rattle.std.proofs.lemmas.List.{get_or-set_same, get_or-set_other, length-append, map-set, length-replicate, replicate_more, take_all}
+use Rattle.std.proofs.lemmas.List.{get_or-set_same, get_or-set_other, length-append, map-set, length-replicate, take_all}
 use Rattle.std.proofs.lemmas.Option.{slice_get_within}
 use Rattle.geos_image.specs.declared.instr.Instr.{Instr}
 use Rattle.geos_image.specs.declared.point.Point.{Point}
@@ -19,8 +19,16 @@ use borrow.Author.Count.{below_more}
 -- The same item everywhere
 
 module _ {A : Type 0} (x : A) where
-  pub same-more : (items next : List A) (n : ℕ) → items ≡ replicate n x → next ≡ items ++ x ∷ [] → next ≡ replicate (n + 1) x
-  same-more items next n e more = more ∙ ap (λ (xs : List A). xs ++ x ∷ []) e ∙ replicate_more n x
+  take_none : (n : ℕ) (xs : List A) → xs ≡ [] → take n xs ≡ []
+  take_none zero xs e = refl
+  take_none (suc n) [] e = refl
+  take_none (suc n) (x ∷ xs) e = absurd cc
+
+  -- a list that had no items is filled up
+  pub same-filled : (items next : List A) (len n : ℕ) → items ≡ [] → len ≡ 0 → next ≡ take n items ++ replicate (n - len) x → next ≡ replicate n x
+  same-filled items next len n none zero_is e =
+      let all : n - len ≡ n = omega (arith, zero_is) in
+      e ∙ ap (λ (k : ℕ). take n items ++ replicate k x) all ∙ ap (λ (xs : List A). xs ++ replicate n x) (take_none n items none)
 
   pub same-length : (items : List A) (n : ℕ) → items ≡ replicate n x → length items ≡ n
   same-length items n e = ap length e ∙ length-replicate n x

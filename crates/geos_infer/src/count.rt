@@ -50,21 +50,35 @@ fn has_loops(body: &Body) -> bool
     false
 }
 
-/// Tables that counting writes.
+/// What counting in routines with loops takes.
 #[derive(Drop)]
 struct Tables {
+    touched: Touched,
     into: Table<WaysIn>,
     listed: Table<u16>,
     ways: Ways,
 }
 
 impl Tables {
-    fn new(alloc: Global) -> Result<Tables, AllocError> {
+    fn new(alloc: Global, image: &Image) -> Result<Tables, AllocError> {
         Ok(Tables {
+            touched: find_touched(image),
             into: Table::new(alloc, WaysIn::with_left(0))?,
             listed: Table::new(alloc, 0)?,
             ways: Ways::new(alloc, Place::NOTHING)?,
         })
+    }
+
+    /// What counting in so many routines takes, if one of them has loops.
+    fn wanted(alloc: Global, image: &Image, routines: u16) -> Result<Option<Tables>, AllocError>
+        requires { routines ≤ length image.now.routines }
+    {
+        for r in 0..routines {
+            if has_loops(&body_of(image, r)) {
+                return Ok(Some(Tables::new(alloc, image)?));
+            }
+        }
+        Ok(None)
     }
 }
 
@@ -96,14 +110,13 @@ fn put_ways(body: &Body, ways: &Ways, potentials: &mut Potentials) -> bool {
 fn count_loops(
     body: &Body,
     known: &Known,
-    touched: &Touched,
     tables: &mut Tables,
     potentials: &mut Potentials,
 ) -> bool {
     if has_unpaid_cycle(body, &mut tables.into, &mut tables.listed) {
         return false;
     }
-    let ways = &mut tables.ways;
+    let Tables { touched, ways, .. } = tables;
     note_arcs(body, known, touched, ways);
     note_costly(body, ways);
     pay_all(body, ways)
@@ -113,20 +126,21 @@ fn count_loops(
         && calls_are_spent(body, touched, potentials)
 }
 
-/// Counts the steps of a routine; `false` where no number of them is found to be enough.
+/// Counts the steps of a routine; `false` where no number of them is found to be enough. There are tables if it has loops.
 fn count_in(
     body: &Body,
     known: &Known,
-    touched: &Touched,
-    tables: &mut Tables,
+    tables: &mut Option<Tables>,
     potentials: &mut Potentials,
 ) -> bool
     ensures { CountsOn body.now.image.now body.now.r (numbers_of potentials.old) (numbers_of potentials.new) result }
 {
-    if has_loops(body) {
-        count_loops(body, known, touched, tables, potentials)
-    } else {
-        sweep(body, known, potentials).is_some()
+    if !has_loops(body) {
+        return sweep(body, known, potentials).is_some();
+    }
+    match tables {
+        Some(tables) => count_loops(body, known, tables, potentials),
+        None => false,
     }
 }
 
@@ -144,11 +158,10 @@ fn count_all(
     ensures within { IfOk result (λ left. IfSome left (λ r. r < routines)) }
     ensures none { IfOk result (λ left. IfSome left (NoStepsHoldIn image.now)) }
 {
-    let mut tables = Tables::new(alloc)?;
-    let touched = find_touched(image);
+    let mut tables = Tables::wanted(alloc, image, routines)?;
     let mut left = None;
     for r in (0..routines).rev() {
-        if !count_in(&body_of(image, r), known, &touched, &mut tables, potentials) {
+        if !count_in(&body_of(image, r), known, &mut tables, potentials) {
             left = Some(r);
         }
     }

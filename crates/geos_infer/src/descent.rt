@@ -1,12 +1,8 @@
 //! Rows that were widened come down again.
 
-ghost use Rattle.std.specs.Prelude.{◌≡◌, true};
-ghost use Rattle.geos_infer.specs.Code.{ForwardIn};
-
 use crate::body::Body;
 use crate::edges::edge_in;
 use crate::flow::{flow, spread};
-use crate::paid::back_edges;
 use crate::seeds::seed_entry;
 use crate::table::Known;
 
@@ -31,14 +27,9 @@ fn seed(body: &Body, known: &Known, from: &mut Known) -> bool {
     true
 }
 
-/// Where edges of a routine lead back, rows flow again, from what those edges say of the rows that
-/// are known: they fit what is known, and still hold. `false` where two have no join.
-pub(crate) fn descend(body: &Body, from: &mut Known, known: &mut Known) -> bool
-    ensures { ForwardIn body.now.image.now body.now.r → (result ≡ true) × (known.new ≡ known.old) }
-{
-    if back_edges(body) == 0 {
-        return true;
-    }
+/// Rows flow again, from what the edges that lead back say of the rows that are known: they fit what is
+/// known, and still hold. `false` where two have no join.
+pub(crate) fn descend(body: &Body, from: &mut Known, known: &mut Known) -> bool {
     for _ in 0..DESCENTS {
         if !seed(body, known, from) {
             return false;

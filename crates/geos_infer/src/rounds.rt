@@ -1,13 +1,11 @@
 //! Rows flow on along the edges that lead back, until nothing new comes to any place.
 
-ghost use Rattle.std.specs.Prelude.{◌≡◌, ◌<◌, true};
-ghost use Rattle.geos_infer.specs.Code.{ForwardIn};
+ghost use Rattle.std.specs.Prelude.{◌<◌};
 ghost use Rattle.geos_infer.specs.Edges.{IsInside};
 
 use crate::body::Body;
 use crate::edges::{Edge, edge_in};
 use crate::flow::{Arrival, spread};
-use crate::paid::back_edges;
 use crate::table::{Known, Table};
 use crate::widening::widened;
 use geos_image::Row;
@@ -122,14 +120,4 @@ pub(crate) fn flow_on(body: &Body, turns: &mut Table<Turn>, known: &mut Known) -
         }
     }
     false
-}
-
-/// The same where edges of the routine lead back; else rows have flowed along all edges already.
-pub(crate) fn settle(body: &Body, turns: &mut Table<Turn>, known: &mut Known) -> bool
-    ensures { ForwardIn body.now.image.now body.now.r → (result ≡ true) × (known.new ≡ known.old) }
-{
-    if back_edges(body) == 0 {
-        return true;
-    }
-    flow_on(body, turns, known)
 }

@@ -1,27 +1,28 @@
 //! What is known at each instruction.
 
 ghost use Rattle.std.specs.Prelude.{◌≡◌, ◌<◌, ◌≤◌, ℕ, true, length, IfOk};
+ghost use Rattle.geos_infer.specs.Code.{ForwardIn};
 ghost use Rattle.geos_infer.specs.Flow.{FlowsAnew, HaveFlowed, StaysBefore};
 ghost use Rattle.geos_infer.specs.Reached.{AllFit, FitWhereReached, Keeps};
 ghost use Rattle.geos_infer.specs.Solutions.{NoRowsHoldIn};
 
 use crate::body::{Body, body_of};
 use crate::descent::descend;
+use crate::edges::{edge_in, leads_back};
 use crate::fitted::all_fit;
 use crate::flow::flow;
-use crate::rounds::{Turn, settle};
+use crate::paid::back_edges;
+use crate::rounds::{Turn, flow_on};
 use crate::seeds::seed_entry;
 use crate::table::{Known, Table};
 use crate::weakened::weaken;
 use geos_image::Image;
 use std::alloc::{AllocError, Global};
 
-/// What is written anew for each routine.
+/// What is written anew for each routine in which edges lead back, or that may have places that nothing reaches.
 #[derive(Drop)]
 struct Tables {
-    /// What is known where control reaches.
-    found: Known,
-    /// The rows of the other places.
+    /// The rows of the places that nothing reaches.
     others: Known,
     from: Known,
     turns: Table<Turn>,
@@ -30,16 +31,52 @@ struct Tables {
 impl Tables {
     fn new(alloc: Global) -> Result<Tables, AllocError> {
         Ok(Tables {
-            found: Known::new(alloc, None)?,
             others: Known::new(alloc, None)?,
             from: Known::new(alloc, None)?,
             turns: Table::new(alloc, Turn::NONE)?,
         })
     }
+
+    /// The tables that an image takes, if some routine of it does: one in which an edge leads back, or control does not go on
+    /// from each instruction to the next.
+    fn wanted(alloc: Global, image: &Image) -> Result<Option<Tables>, AllocError> {
+        for r in 0..image.count() {
+            if !leads_ahead(&body_of(image, r)) {
+                return Ok(Some(Tables::new(alloc)?));
+            }
+        }
+        Ok(None)
+    }
+}
+
+/// Whether control goes on from each instruction of a routine to the next, and no edge leads back.
+fn leads_ahead(body: &Body) -> bool {
+    for pc in body.start..body.end - 1 {
+        if edge_in(body, pc, false).is_none() || leads_back(body, pc) {
+            return false;
+        }
+    }
+    !leads_back(body, body.end - 1)
+}
+
+/// Rows of a routine flow on along the edges that lead back, and come down again; `false` where two have no join. Where none leads
+/// back they have flowed along all edges already. There are tables if one does.
+fn settle(body: &Body, tables: &mut Option<Tables>, known: &mut Known) -> bool
+    ensures { ForwardIn body.now.image.now body.now.r → (result ≡ true) × (known.new ≡ known.old) }
+{
+    if back_edges(body) == 0 {
+        return true;
+    }
+    match tables {
+        Some(tables) => {
+            flow_on(body, &mut tables.turns, known) && descend(body, &mut tables.from, known)
+        }
+        None => false,
+    }
 }
 
 /// Finds what is known in a routine wherever control reaches; `false` where two rows have no join.
-fn search(body: &Body, from: &mut Known, turns: &mut Table<Turn>, found: &mut Known) -> bool
+fn search(body: &Body, tables: &mut Option<Tables>, found: &mut Known) -> bool
     ensures flows { FlowsAnew body.now.image.now body.now.r found.new result }
     ensures fit { result ≡ true → AllFit body.now.image.now body.now.r found.new }
 {
@@ -47,10 +84,7 @@ fn search(body: &Body, from: &mut Known, turns: &mut Table<Turn>, found: &mut Kn
     if !flow(body, found) {
         return false;
     }
-    if !settle(body, turns, found) {
-        return false;
-    }
-    if !descend(body, from, found) {
+    if !settle(body, tables, found) {
         return false;
     }
     // Rows that flowed till nothing new came fit along all edges, and still do when they have come
@@ -70,19 +104,28 @@ fn keep(body: &Body, found: &Known, others: &Known, known: &mut Known)
 }
 
 /// Finds what is known at each instruction of a routine; `false` where two rows have no join.
-fn find_rows_in(body: &Body, tables: &mut Tables, known: &mut Known) -> bool
+fn find_rows_in(
+    body: &Body,
+    tables: &mut Option<Tables>,
+    found: &mut Known,
+    known: &mut Known,
+) -> bool
     ensures flows { FlowsAnew body.now.image.now body.now.r known.new result }
     ensures fit { result ≡ true → FitWhereReached body.now.image.now body.now.r known.new }
     ensures stays { StaysBefore body.now.start known.old known.new }
 {
-    if !search(body, &mut tables.from, &mut tables.turns, &mut tables.found) {
+    if !search(body, tables, found) {
         return false;
     }
     // For what its law says.
     known.lengths();
+    let Some(tables) = tables else {
+        keep(body, found, found, known);
+        return true;
+    };
     if weaken(
         body,
-        &tables.found,
+        found,
         &mut tables.from,
         &mut tables.turns,
         &mut tables.others,
@@ -90,7 +133,7 @@ fn find_rows_in(body: &Body, tables: &mut Tables, known: &mut Known) -> bool
         keep(body, &tables.from, &tables.others, known);
         return true;
     }
-    keep(body, &tables.found, &tables.others, known);
+    keep(body, found, &tables.others, known);
     true
 }
 
@@ -102,9 +145,10 @@ fn find_all_rows(alloc: Global, image: &Image, known: &mut Known) -> Result<u16,
     ensures none { IfOk result (λ count. count < length image.now.routines → NoRowsHoldIn image.now count) }
     ensures fit { IfOk result (λ count. (r : ℕ) → r < count → FitWhereReached image.now r known.new) }
 {
-    let mut tables = Tables::new(alloc)?;
+    let mut tables = Tables::wanted(alloc, image)?;
+    let mut found = Known::new(alloc, None)?;
     for r in 0..image.count() {
-        if !find_rows_in(&body_of(image, r), &mut tables, known) {
+        if !find_rows_in(&body_of(image, r), &mut tables, &mut found, known) {
             return Ok(r);
         }
     }

@@ -34,9 +34,7 @@ impl<T: Copy> Table<T> {
         ensures { IfOk result (λ table. (pc : ℕ) → slice_index_or table pc item ≡ item) }
     {
         let mut items = Vec::new(alloc);
-        for _ in 0..MOST_INSTRS {
-            items.push(item)?;
-        }
+        items.resize(MOST_INSTRS as usize, item)?;
         Ok(Table { items })
     }
 

@@ -18,9 +18,6 @@ returns-then-not-flow-clause-flows c = λ want forward holds.
 pub returns-then-not-settle-clause-flows : goal.returns-then-not-settle-clause-flows
 returns-then-not-settle-clause-flows c = λ want forward holds. absurd (false≢true (sym c.if-not-settle.true ∙ (c.settle.ensures forward).0))
 
-pub returns-then-not-descend-clause-flows : goal.returns-then-not-descend-clause-flows
-returns-then-not-descend-clause-flows c = λ want forward holds. absurd (false≢true (sym c.if-not-descend.true ∙ (c.descend.ensures forward).0))
-
 pub returns-clause-flows : goal.returns-clause-flows
 returns-clause-flows c = λ want forward holds.
     let body = c.args.body.now in
@@ -28,6 +25,6 @@ returns-clause-flows c = λ want forward holds.
     let routine = item_at image.routines body.r body.there in
     let start = seeds-flow image body.r routine.0 want c.seed_entry.new.known routine.1 holds c.seed_entry.ensures in
     let F = c.flow.ensures want forward holds start in
-    let same = (c.descend.ensures forward).1 ∙ (c.settle.ensures forward).1 in
+    let same = (c.settle.ensures forward).1 in
     let flowed = subst (λ (known : List (Option Row)). Flowing image body.r want known (2 * start_of image.routines (body.r + 1))) (sym same) F.1 in
     (c.all_fit.ensures.flowing want flowed, flowed)
