@@ -75,7 +75,7 @@ pub record Entered (code : List Instr) (to : ℕ) : Type 0 where
   pub edge : Edge code pc branch to i
 
 -- a routine begins at the pc
-pub record Begins (routines : List Routine) (pc : ℕ) : Type 0 where
+pub record RoutineBegins (routines : List Routine) (pc : ℕ) : Type 0 where
   pub r : ℕ
   pub routine : Routine
   pub there : slice_get routines r ≡ Some routine
@@ -85,4 +85,4 @@ pub record Begins (routines : List Routine) (pc : ℕ) : Type 0 where
 pub record Forward (image : Parts) : Type 0 where
   pub no_loop : (pc : ℕ) (i : Instr) → slice_get (instrs_of image) pc ≡ Some i → i.opcode ≢ Loop
   pub ahead : (pc to : ℕ) (branch : Bool) (i : Instr) → Edge (instrs_of image) pc branch to i → pc < to
-  pub entered : (pc : ℕ) (i : Instr) → slice_get (instrs_of image) pc ≡ Some i → Begins image.routines pc ⊎ Entered (instrs_of image) pc
+  pub entered : (pc : ℕ) (i : Instr) → slice_get (instrs_of image) pc ≡ Some i → RoutineBegins image.routines pc ⊎ Entered (instrs_of image) pc

@@ -26,7 +26,7 @@ IsWay image start entry (edge ∷ edges) pc row =
     (before : Row) × IsWay image start entry edges edge.0 before × LeadsTo image edge.0 edge.1 pc × (row ≡ after image edge.0 before edge.1)
 
 -- control comes to a pc with a row, from where the routine begins, along some edges
-pub record Comes (image : Parts) (r pc : ℕ) (row : Row) : Type 0 where
+pub record ComesFromStart (image : Parts) (r pc : ℕ) (row : Row) : Type 0 where
   pub routine : Routine
   pub there : slice_get image.routines r ≡ Some routine
   pub edges : List (ℕ × Bool)
@@ -35,13 +35,13 @@ pub record Comes (image : Parts) (r pc : ℕ) (row : Row) : Type 0 where
 -- it comes along an edge
 pub record ComesBy (image : Parts) (r : ℕ) (edge : Edge) (row : Row) : Type 0 where
   pub before : Row
-  pub comes : Comes image r edge.pc before
+  pub comes : ComesFromStart image r edge.pc before
   pub leads : LeadsTo image edge.pc edge.branch edge.to
   pub row_is : row ≡ after image edge.pc before edge.branch
 
 -- it comes to a pc along an edge, or there the routine begins
 abbrev pub IsComing : Parts → ℕ → ℕ → Coming → Type 0
-IsComing image r to coming = elim coming.from [ None ↦ Comes image r to coming.row | Some edge ↦ (edge.to ≡ to) × ComesBy image r edge coming.row ]
+IsComing image r to coming = elim coming.from [ None ↦ ComesFromStart image r to coming.row | Some edge ↦ (edge.to ≡ to) × ComesBy image r edge coming.row ]
 
 -- control comes to a place on two ways, with slots that differ in more than marks
 pub record AreApart (image : Parts) (r : ℕ) (apart : Apart) : Type 0 where
@@ -56,7 +56,7 @@ AreApartIf image r (Some apart) = AreApart image r apart
 
 -- what is known at each pc comes there
 abbrev pub AllCome : Parts → ℕ → List (Option Row) → Type 0
-AllCome image r known = (pc : ℕ) (row : Row) → known_at known pc ≡ Some row → Comes image r pc row
+AllCome image r known = (pc : ℕ) (row : Row) → known_at known pc ≡ Some row → ComesFromStart image r pc row
 
 -- control comes to a place so, with slots that differ from those of a row
 pub record IsUnlike (image : Parts) (r to : ℕ) (row : Row) (coming : Coming) : Type 0 where

@@ -29,7 +29,7 @@ abbrev pub LegalInstr : Names → Instr → Type 0
 LegalInstr names i = (routines instrs : ℕ) → TableBelow routines names.routines → TableBelow instrs names.labels → is_instr routines instrs i ≡ true
 
 -- the routine may stand behind those that are complete, as soon as it has an instruction
-pub record Begins (done : List TextRoutine) (r : Routine) : Type 0 where
+pub record MayStandBehind (done : List TextRoutine) (r : Routine) : Type 0 where
   pub name : is_name r.name ≡ true
   pub new : is_named r.name (map routine_of done) ≡ false
   pub entry : is_row r.entry ≡ true
@@ -40,9 +40,9 @@ abbrev pub Current : Part → List TextRoutine → Option TextRoutine → Type 0
 Current Outside done None = Unit {0}
 Current Outside done (Some r) = ⊥
 Current (Head line has_in has_out) done None = ⊥
-Current (Head line has_in has_out) done (Some r) = Begins done r.routine
+Current (Head line has_in has_out) done (Some r) = MayStandBehind done r.routine
 Current Body done None = ⊥
-Current Body done (Some r) = Begins done r.routine × (0 < r.routine.count)
+Current Body done (Some r) = MayStandBehind done r.routine × (0 < r.routine.count)
 
 -- what lines without fault declare, beside what they say, where names stand for these
 pub record Told (names : Names) (d : Declared) (t : Draft) : Type 0 where

@@ -14,7 +14,7 @@ use Rattle.geos_source.specs.Declarations.{Declared, one_more_instr}
 use Rattle.geos_source.specs.Texts.{Draft, misplaced_in, misplaced_out, take_in, take_out, drop_labels, outside, with_instr_at}
 use Rattle.geos_source.specs.Skeletons.{routine_of}
 use Rattle.geos_source.proofs.Pushed.{counts-push, is_named-push}
-use Rattle.geos_source.proofs.Told.{LegalInstr, Begins, Current, Told}
+use Rattle.geos_source.proofs.Told.{LegalInstr, MayStandBehind, Current, Told}
 
 -- a draft of these parts
 abbrev pub drafted : List TextRoutine → List Instr → Part → Option TextRoutine → Option ℕ → Option BadLine → Draft
@@ -59,9 +59,9 @@ module _ (names : Names) (d : Declared) (routines : List TextRoutine) (code : Li
   in_part-told Body current waiting fault n row h placed none legal = absurd cc
   in_part-told (Head line has_in has_out) None waiting fault n row h placed none legal = absurd h.part
   in_part-told (Head line has_in has_out) (Some r) waiting fault n row h placed none legal =
-      let b : Begins routines r.routine = h.part in
+      let b : MayStandBehind routines r.routine = h.part in
       let s : TextRoutine = record { line = r.line; routine = record r.routine { entry = row } } in
-      let begins : Begins routines s.routine = record { name = b.name; new = b.new; entry = legal; exit = b.exit } in
+      let begins : MayStandBehind routines s.routine = record { name = b.name; new = b.new; entry = legal; exit = b.exit } in
       rows-told (Head line has_in has_out) (Head line true has_out) r s waiting fault _ h none begins refl refl
 
   -- a line `out`
@@ -72,13 +72,13 @@ module _ (names : Names) (d : Declared) (routines : List TextRoutine) (code : Li
   out_part-told Body current waiting fault n row h placed none legal = absurd cc
   out_part-told (Head line has_in has_out) None waiting fault n row h placed none legal = absurd h.part
   out_part-told (Head line has_in has_out) (Some r) waiting fault n row h placed none legal =
-      let b : Begins routines r.routine = h.part in
+      let b : MayStandBehind routines r.routine = h.part in
       let s : TextRoutine = record { line = r.line; routine = record r.routine { exit = row } } in
-      let begins : Begins routines s.routine = record { name = b.name; new = b.new; entry = b.entry; exit = legal } in
+      let begins : MayStandBehind routines s.routine = record { name = b.name; new = b.new; entry = b.entry; exit = legal } in
       rows-told (Head line has_in has_out) (Head line has_in true) r s waiting fault _ h none begins refl refl
 
   -- the routine that has begun has one more instruction
-  counted-told : (part : Part) (r : TextRoutine) (waiting : Option ℕ) (fault other : Option BadLine) (i : Instr) → Told names d (drafted routines code part (Some r) waiting fault) → Begins routines r.routine
+  counted-told : (part : Part) (r : TextRoutine) (waiting : Option ℕ) (fault other : Option BadLine) (i : Instr) → Told names d (drafted routines code part (Some r) waiting fault) → MayStandBehind routines r.routine
       → length code < 4096 → LegalInstr names i
       → Told names (one_more_instr d) (drafted routines (code ++ i ∷ []) Body (Some (record { line = r.line; routine = record r.routine { count = min (r.routine.count + 1) 4096 } })) None other)
   counted-told part r waiting fault other i h b room legal =
