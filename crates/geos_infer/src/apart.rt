@@ -7,7 +7,7 @@ ghost use Rattle.geos_infer.specs.Why.{ComesBy, IsUnlike, AreApartIf, AllCome};
 use crate::body::Body;
 use crate::common::agree;
 use crate::edges::{Edge, edge_in};
-use crate::table::{Known, Table};
+use crate::table::{Known, Table, two_tables};
 use geos_image::Row;
 use geos_verify::after;
 use std::alloc::{AllocError, Global};
@@ -156,20 +156,27 @@ fn go_all(body: &Body, known: &mut Known, waits: &mut Table<bool>) -> Result<boo
     Ok(further)
 }
 
+/// From what is known at first, rows go along all edges; the first place that is found where slots differ then.
+fn first_apart(body: &Body, known: &mut Known, waits: &mut Table<bool>) -> Option<Apart>
+    requires { AllCome body.now.image.now body.now.r known.old }
+    ensures { AreApartIf body.now.image.now body.now.r result }
+{
+    for _ in body.start..body.end {
+        match go_all(body, known, waits) {
+            Ok(true) => {}
+            Ok(false) => return None,
+            Err(edge) => return apart_at(body, known, edge),
+        }
+    }
+    None
+}
+
 /// The first place that is found to which control comes on two ways, with slots that differ in more than marks.
 pub(crate) fn find_apart(alloc: Global, body: &Body) -> Result<Option<Apart>, AllocError>
     ensures { IfOk result (AreApartIf body.now.image.now body.now.r) }
 {
-    let mut known = Known::new(alloc, None)?;
+    let (mut known, mut waits) = two_tables(alloc, None, false)?;
     known.set(body.start, Some(body.image.routine(body.r).entry));
-    let mut waits = Table::new(alloc, false)?;
     waits.set(body.start, true);
-    for _ in body.start..body.end {
-        match go_all(body, &mut known, &mut waits) {
-            Ok(true) => {}
-            Ok(false) => break,
-            Err(edge) => return Ok(apart_at(body, &known, edge)),
-        }
-    }
-    Ok(None)
+    Ok(first_apart(body, &mut known, &mut waits))
 }

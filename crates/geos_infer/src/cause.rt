@@ -8,9 +8,8 @@ use crate::apart::{Apart, find_apart};
 use crate::body::{Body, body_of};
 use crate::edges::{edge_in, is_loop};
 use crate::spent::{find_touched, touches};
-use crate::table::Table;
 use crate::turns::steps_pass;
-use crate::unpaid::{WaysIn, find_round};
+use crate::unpaid::find_round;
 use geos_image::{Image, Instr, Opcode};
 use geos_verify::Touched;
 use std::alloc::{AllocError, Global};
@@ -208,12 +207,7 @@ pub fn find_cause(alloc: Global, image: &Image, r: u16) -> Result<Cause, AllocEr
     if let Some(apart) = find_apart(alloc, &body)? {
         return Ok(Cause::SlotsDiffer(apart));
     }
-    let unpaid = {
-        let mut into = Table::new(alloc, WaysIn::with_left(0))?;
-        let mut listed = Table::new(alloc, 0)?;
-        find_round(&body, &mut into, &mut listed)
-    };
-    if let Some(back) = unpaid {
+    if let Some(back) = find_round(alloc, &body)? {
         return Ok(Cause::NoLoop(back));
     }
     cause_of_steps(alloc, &body, &find_touched(image))

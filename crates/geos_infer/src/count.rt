@@ -16,7 +16,7 @@ use crate::edges::{is_loop, leads_back};
 use crate::error::InferError;
 use crate::paid::are_paid;
 use crate::spent::{calls_are_spent, find_touched};
-use crate::table::{Known, Potentials, Table};
+use crate::table::{Known, Potentials, Table, two_tables};
 use crate::units::{pay_all, pay_free};
 use crate::unpaid::WaysIn;
 use crate::ways::{Place, Ways, note_arcs};
@@ -61,11 +61,13 @@ struct Tables {
 
 impl Tables {
     fn new(alloc: Global, image: &Image) -> Result<Tables, AllocError> {
+        let ways = Ways::new(alloc, Place::NOTHING)?;
+        let (into, listed) = two_tables(alloc, WaysIn::with_left(0), 0)?;
         Ok(Tables {
             touched: find_touched(image),
-            into: Table::new(alloc, WaysIn::with_left(0))?,
-            listed: Table::new(alloc, 0)?,
-            ways: Ways::new(alloc, Place::NOTHING)?,
+            into,
+            listed,
+            ways,
         })
     }
 

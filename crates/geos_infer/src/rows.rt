@@ -14,7 +14,7 @@ use crate::flow::flow;
 use crate::paid::back_edges;
 use crate::rounds::{Turn, flow_on};
 use crate::seeds::seed_entry;
-use crate::table::{Known, Table};
+use crate::table::{Known, Table, two_tables};
 use crate::weakened::weaken;
 use geos_image::Image;
 use std::alloc::{AllocError, Global};
@@ -30,10 +30,12 @@ struct Tables {
 
 impl Tables {
     fn new(alloc: Global) -> Result<Tables, AllocError> {
+        let turns = Table::new(alloc, Turn::NONE)?;
+        let (others, from) = two_tables(alloc, None, None)?;
         Ok(Tables {
-            others: Known::new(alloc, None)?,
-            from: Known::new(alloc, None)?,
-            turns: Table::new(alloc, Turn::NONE)?,
+            others,
+            from,
+            turns,
         })
     }
 

@@ -74,3 +74,17 @@ impl<T: Copy> Table<T> {
         }
     }
 }
+
+/// Two tables, each of which has one item everywhere.
+pub(crate) fn two_tables<T: Copy, U: Copy>(
+    alloc: Global,
+    one: T,
+    other: U,
+) -> Result<(Table<T>, Table<U>), AllocError>
+    ensures one { IfOk result (λ both. (pc : ℕ) → slice_index_or both.0 pc one ≡ one) }
+    ensures other { IfOk result (λ both. (pc : ℕ) → slice_index_or both.1 pc other ≡ other) }
+{
+    let first = Table::new(alloc, one)?;
+    let second = Table::new(alloc, other)?;
+    Ok((first, second))
+}

@@ -13,6 +13,7 @@ use crate::counters::{
 use crate::edges::{edge_in, is_loop};
 use crate::reach::{Reach, Reached, note};
 use crate::spent::touched_by;
+use crate::table::two_tables;
 use geos_verify::Touched;
 use std::alloc::{AllocError, Global};
 
@@ -197,13 +198,12 @@ fn some_pass(body: &Body, reached: &Reached) -> bool
     false
 }
 
-/// Whether on some way in a routine more steps are taken than a potential can say.
-pub(crate) fn steps_pass(alloc: Global, body: &Body, touched: &Touched) -> Result<bool, AllocError>
-    ensures { IfOk result (λ passes. passes ≡ true → StepsPass body.now.image.now body.now.r) }
+/// Whether on some way in a routine more steps are taken than a potential can say, by tables of which nothing is known.
+fn pass_by(body: &Body, touched: &Touched, turns: &mut Reached, reached: &mut Reached) -> bool
+    requires { AreTurns body.now.image.now body.now.r turns.old }
+    ensures { result ≡ true → StepsPass body.now.image.now body.now.r }
 {
-    let mut turns = Reached::new(alloc, None)?;
-    let mut reached = Reached::new(alloc, None)?;
-    let longest = note_turns(body, touched, &mut turns, &mut reached);
+    let longest = note_turns(body, touched, turns, reached);
     let last = body.end - 1;
     let nothing = Reach {
         steps: 0,
@@ -213,11 +213,19 @@ pub(crate) fn steps_pass(alloc: Global, body: &Body, touched: &Touched) -> Resul
     let loops = Loops {
         body: *body,
         touched,
-        turns: &turns,
+        turns,
         longest,
     };
-    go_all(&loops, &mut reached, body.start, last);
-    Ok(some_pass(body, &reached))
+    go_all(&loops, reached, body.start, last);
+    some_pass(body, reached)
+}
+
+/// Whether on some way in a routine more steps are taken than a potential can say.
+pub(crate) fn steps_pass(alloc: Global, body: &Body, touched: &Touched) -> Result<bool, AllocError>
+    ensures { IfOk result (λ passes. passes ≡ true → StepsPass body.now.image.now body.now.r) }
+{
+    let (mut turns, mut reached) = two_tables(alloc, None, None)?;
+    Ok(pass_by(body, touched, &mut turns, &mut reached))
 }
 
 /// A law: where on some way in a routine more steps are taken than a potential can say, no image with that code is accepted.

@@ -1,13 +1,14 @@
 //! Ways round that no counter pays for.
 
-ghost use Rattle.std.specs.Prelude.{◌≡◌, ◌<◌, ◌≤◌, true, List, Bool, IfSome};
+ghost use Rattle.std.specs.Prelude.{◌≡◌, ◌<◌, ◌≤◌, true, List, Bool, IfSome, IfOk};
 ghost use Rattle.geos_infer.specs.Causes.{LeadsUnpaid, IsUnpaidWay, GoesRound};
 
 use crate::body::Body;
 use crate::cause::BackWay;
 use crate::cycles::has_unpaid_cycle;
 use crate::edges::{edge_in, is_loop};
-use crate::table::Table;
+use crate::table::{Table, two_tables};
+use std::alloc::{AllocError, Global};
 
 /// An edge by which control comes to a place.
 #[derive(Clone, Copy)]
@@ -146,12 +147,8 @@ fn back_on_round(body: &Body, into: &Table<WaysIn>, place: u16) -> Option<BackWa
     None
 }
 
-/// A way back from whose end control can come to it again and no counter pays for that, if there is one.
-pub(crate) fn find_round(
-    body: &Body,
-    into: &mut Table<WaysIn>,
-    listed: &mut Table<u16>,
-) -> Option<BackWay>
+/// A way back on a way round that no counter pays for, by tables that are only written.
+fn round_by(body: &Body, into: &mut Table<WaysIn>, listed: &mut Table<u16>) -> Option<BackWay>
     ensures { IfSome result (λ back. GoesRound body.now.image.now body.now.r back.from back.to) }
 {
     if !has_unpaid_cycle(body, into, listed) {
@@ -160,4 +157,12 @@ pub(crate) fn find_round(
     note_all(body, into);
     let place = place_on_round(body, into)?;
     back_on_round(body, into, place)
+}
+
+/// A way back from whose end control can come to it again and no counter pays for that, if there is one.
+pub(crate) fn find_round(alloc: Global, body: &Body) -> Result<Option<BackWay>, AllocError>
+    ensures { IfOk result (λ found. IfSome found (λ back. GoesRound body.now.image.now body.now.r back.from back.to)) }
+{
+    let (mut into, mut listed) = two_tables(alloc, WaysIn::with_left(0), 0)?;
+    Ok(round_by(body, &mut into, &mut listed))
 }

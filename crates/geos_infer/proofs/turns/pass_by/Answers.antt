@@ -2,7 +2,7 @@ use Rattle.std.proofs.Common.{◌-◌, None, refl}
 use Rattle.geos_infer.specs.declared.counters.Counter.TheVariants.{Is}
 use Rattle.geos_infer.specs.Turns.{all_are, begin_from}
 use Rattle.geos_infer.proofs.Onward.{begins-from}
-use Rattle.geos_infer.proofs.turns.steps_pass.Goals as goal
+use Rattle.geos_infer.proofs.turns.pass_by.Goals as goal
 
 pub some_pass-requires : goal.some_pass-requires
 some_pass-requires c =
