@@ -21,7 +21,7 @@ enum Growth {
 fn begin(span: &Span, ways: &mut Ways) {
     for pc in span.start..span.end {
         let mut place = ways.at(pc);
-        place.steps = place.ending;
+        place.steps = u64::from(place.returns);
         place.first = None;
         ways.set(pc, place);
     }
@@ -121,7 +121,7 @@ fn go_back_from(span: &Span, ways: &mut Ways, pc: u16) -> Growth
         return Growth::Same;
     }
     match ways.at(pc).next() {
-        Some(arc) if leads_to(ways, arc.to, pc) => Growth::Round(pc),
+        Some(arc) if span.loops && leads_to(ways, arc.to, pc) => Growth::Round(pc),
         _ => Growth::Longer,
     }
 }
@@ -142,7 +142,7 @@ fn go_back(span: &Span, ways: &mut Ways) -> Growth {
 /// Goes over all edges once.
 fn go_on(span: &Span, ways: &mut Ways) -> Growth {
     let longer = go_ahead(span, ways);
-    if longer {
+    if longer && span.loops {
         if let Some(at) = find_round(span, ways) {
             return Growth::Round(at);
         }

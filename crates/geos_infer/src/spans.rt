@@ -2,6 +2,7 @@
 
 ghost use Rattle.std.specs.Prelude.{◌<◌, ◌≤◌};
 
+use crate::arcs::{Arc, Counting};
 use crate::ways::Ways;
 
 /// The places from one pc up to another.
@@ -11,6 +12,8 @@ pub(crate) struct Span {
     pub(crate) end: u16,
     /// How many edges lead back among them.
     pub(crate) back: u32,
+    /// Whether there are LOOPs whose ways to their targets are not left out: without one there are no ways round.
+    pub(crate) loops: bool,
     ghost room: { end ≤ 4096 },
 }
 
@@ -26,17 +29,30 @@ impl Span {
     }
 }
 
+/// Whether an edge is a LOOP's way to its target.
+pub(crate) fn takes(arc: &Arc) -> bool {
+    matches!(arc.counting, Counting::Takes(_))
+}
+
 /// The places from one pc up to another.
 pub(crate) fn span_of(ways: &Ways, start: u16, end: u16) -> Span
     requires { end ≤ 4096 }
 {
     let mut back: u32 = 0;
+    let mut loops = false;
     for pc in start..end {
-        if let Some(arc) = ways.at(pc).arc(true) {
+        let here = ways.at(pc);
+        if let Some(arc) = here.arc(true) {
             if start <= arc.to && arc.to <= pc {
                 back = back.saturating_add(1);
             }
+            loops |= !here.free && takes(&arc);
         }
     }
-    Span { start, end, back }
+    Span {
+        start,
+        end,
+        back,
+        loops,
+    }
 }

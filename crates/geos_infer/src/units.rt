@@ -6,7 +6,7 @@ use crate::arcs::{Arc, Counting};
 use crate::asked::coefficients_join;
 use crate::body::Body;
 use crate::longest::find_longest;
-use crate::spans::{Span, span_of};
+use crate::spans::{Span, span_of, takes};
 use crate::ways::{Ways, cost};
 use geos_image::{MOST_INSTRS, Opcode};
 
@@ -248,8 +248,7 @@ fn back_from(ways: &Ways, pc: u16) -> Option<u16>
 {
     let here = ways.at(pc);
     let arc = here.arc(true)?;
-    let takes = matches!(arc.counting, Counting::Takes(_));
-    if here.free || pc < arc.to || (!takes && ways.at(arc.to).loops == here.loops) {
+    if here.free || pc < arc.to || (!takes(&arc) && ways.at(arc.to).loops == here.loops) {
         return None;
     }
     Some(arc.to)

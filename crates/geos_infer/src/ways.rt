@@ -16,10 +16,10 @@ pub(crate) struct Place {
     pub(crate) costly: [bool; 4],
     /// Whether the way to its target is left out: a LOOP whose counter costs nothing.
     pub(crate) free: bool,
+    /// Whether a way that ends there takes a step: a return.
+    pub(crate) returns: bool,
     /// How many LOOPs there are before it in the routine whose ways to their targets are not left out.
     pub(crate) loops: u16,
-    /// The steps of a way that ends there: a return takes one.
-    pub(crate) ending: u64,
     /// What a unit of each counter pays for.
     pub(crate) pay: [u32; 4],
     /// How many times a LOOP's unit was raised.
@@ -41,8 +41,8 @@ impl Place {
         arcs: [None, None],
         costly: [false; 4],
         free: false,
+        returns: false,
         loops: 0,
-        ending: 0,
         pay: [0; 4],
         raised: 0,
         steps: 0,
@@ -72,7 +72,7 @@ pub(crate) fn note_arcs(body: &Body, known: &Known, touched: &Touched, ways: &mu
         let mut place = Place::NOTHING;
         place.arcs = [along, branching];
         place.costly = [pc == body.start; 4];
-        place.ending = return_steps(body.image.instr(pc));
+        place.returns = return_steps(body.image.instr(pc)) != 0;
         ways.set(pc, place);
     }
 }
