@@ -25,7 +25,7 @@ fn points_of(
 ) -> Result<Vec<Point>, AllocError>
     ensures { IfOk result (λ points. PointsOf image.now known.now (numbers_of potentials.now) points.items) }
 {
-    let mut points = Vec::new(alloc);
+    let mut points = Vec::with_capacity(alloc, image.len() as usize)?;
     for pc in 0..image.len() {
         points.push(Point {
             instr: *image.instr(pc),

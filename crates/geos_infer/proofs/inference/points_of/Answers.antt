@@ -5,7 +5,7 @@ use Rattle.geos_infer.proofs.Copies.{numbers-at, made-none, made-more, made-all,
 use Rattle.geos_infer.proofs.inference.points_of.Goals as goal
 
 pub loop-pc-init : goal.loop-pc-init
-loop-pc-init c = made-none c.args.image.now c.args.known.now (numbers_of c.args.potentials.now) c.new-points.result.items c.new-points.ensures.items
+loop-pc-init c = made-none c.args.image.now c.args.known.now (numbers_of c.args.potentials.now) c.in_ok-points.points.items c.in_ok-points.ensures.items
 
 pub loop-pc-preserved : goal.loop-pc-preserved
 loop-pc-preserved c =
