@@ -14,7 +14,7 @@ use std::alloc::{AllocError, Global};
 fn routines_of(alloc: Global, routines: &[TextRoutine]) -> Result<Vec<Routine>, AllocError>
     ensures { IfOk result (λ made. made.items ≡ map routine_of routines.now) }
 {
-    let mut made = Vec::new(alloc);
+    let mut made = Vec::with_capacity(alloc, routines.len())?;
     for routine in routines {
         made.push(routine.routine)?;
     }
@@ -25,7 +25,7 @@ fn routines_of(alloc: Global, routines: &[TextRoutine]) -> Result<Vec<Routine>, 
 fn points_of(alloc: Global, instrs: &[Instr]) -> Result<Vec<Point>, AllocError>
     ensures { IfOk result (λ points. points.items ≡ map blank_point instrs.now) }
 {
-    let mut points = Vec::new(alloc);
+    let mut points = Vec::with_capacity(alloc, instrs.len())?;
     for instr in instrs {
         let potential = Potential {
             constant: 0,
