@@ -1,5 +1,6 @@
 -- Why no rows or no numbers of steps are found, in an author's words.
-use Rattle.std.specs.Prelude.{ℕ, ◌==◌, Bool, false, ◌&&◌, ◌||◌, if◌then◌else◌, List, [], ◌++◌, Option, Some, None, slice_index_or, codes, decimal}
+use Rattle.std.specs.Prelude.{ℕ, ◌==◌, Bool, false, ◌&&◌, ◌||◌, if◌then◌else◌, List, [], ◌∷◌, ◌++◌, Option, Some, None, slice_index_or, codes, decimal}
+use Rattle.std.specs.List.{concat}
 use Rattle.geos_image.specs.declared.row.SlotState.{SlotState}
 use Rattle.geos_image.specs.declared.row.SlotState.TheVariants.{Empty}
 use Rattle.geos_listing.specs.Rows.{texts_below, state_word}
@@ -60,38 +61,42 @@ apart_text lines apart = meeting_text lines apart.to ++ coming_text lines apart.
 
 -- a way leads back
 unfoldable pub back_text : List ℕ → BackWay → List ℕ
-back_text lines back = (pc_text lines back.from ++ codes " goes back to") ++ pc_text lines back.to
+back_text lines back = concat (pc_text lines back.from ∷ codes " goes back to" ∷ pc_text lines back.to ∷ [])
+
+-- that this is within the loop of a way that leads back
+abbrev pub own_loop_text : List ℕ → BackWay → List ℕ
+own_loop_text lines back = codes ", within its own loop:" ++ back_text lines back
 
 -- a counter is set
 unfoldable pub set_text : List ℕ → Within → List ℕ
-set_text lines within = codes "k" ++ decimal within.counter ++ codes " is set at" ++ pc_text lines within.at
+set_text lines within = concat (codes "k" ∷ decimal within.counter ∷ codes " is set at" ∷ pc_text lines within.at ∷ [])
 
 -- a counter is set within its loop
 unfoldable pub within_text : List ℕ → Within → List ℕ
-within_text lines within = set_text lines within ++ codes ", within its own loop:" ++ back_text lines within.back
+within_text lines within = set_text lines within ++ own_loop_text lines within.back
 
 -- a call touches a counter
 unfoldable pub call_text : List ℕ → Within → List ℕ
-call_text lines within = codes "the call at" ++ pc_text lines within.at ++ codes " touches k" ++ decimal within.counter
+call_text lines within = concat (codes "the call at" ∷ pc_text lines within.at ∷ codes " touches k" ∷ decimal within.counter ∷ [])
 
 -- a call touches a counter within its loop
 unfoldable pub touched_text : List ℕ → Within → List ℕ
-touched_text lines within = call_text lines within ++ codes ", within its own loop:" ++ back_text lines within.back
+touched_text lines within = call_text lines within ++ own_loop_text lines within.back
 
 -- nothing pays for a way back
-unfoldable pub no_loop_text : List ℕ → BackWay → List ℕ
+abbrev pub no_loop_text : List ℕ → BackWay → List ℕ
 no_loop_text lines back = codes "nothing pays for the way back:" ++ back_text lines back
 
 -- a way takes more steps than a potential can say
-unfoldable pub steps_pass_text : List ℕ
+abbrev pub steps_pass_text : List ℕ
 steps_pass_text = codes "the steps pass 4,294,967,295"
 
 -- no numbers of steps were found
-unfoldable pub no_steps_text : List ℕ → BackWay → List ℕ
+abbrev pub no_steps_text : List ℕ → BackWay → List ℕ
 no_steps_text lines back = codes "no steps were found for the loop:" ++ back_text lines back
 
 -- the same where there is no loop
-unfoldable pub unknown_text : List ℕ
+abbrev pub unknown_text : List ℕ
 unknown_text = codes "no steps were found"
 
 -- why no rows or no numbers of steps are found

@@ -1,28 +1,17 @@
 //! Why no rows or no numbers of steps are found, in an author's words.
 
-ghost use Rattle.std.specs.Prelude.{◌≡◌, ◌++◌, OnOk, IfOk, codes};
-ghost use Rattle.geos_explain.specs.Numbers.{pc_text};
-ghost use Rattle.geos_causes.specs.Causes.{state_text, differing_item, differing_items, is_from, refusal_text, edge_text, coming_from, coming_text, meeting_text, other_text, set_text, call_text, touched_text, no_loop_text, steps_pass_text, no_steps_text, unknown_text, apart_text, back_text, within_text, cause_words, cause_text};
+ghost use Rattle.std.specs.Prelude.{◌≡◌, ◌++◌, OnOk, IfOk};
+ghost use Rattle.geos_causes.specs.Causes.{differing_item, differing_items, is_from, edge_text, coming_from, coming_text, touched_text, apart_text, back_text, within_text, cause_words, cause_text};
 
-use geos_explain::{put_numbered, put_pc};
+use geos_explain::pc_part;
 use geos_image::SlotState;
 use geos_infer::{Apart, BackWay, Cause, Coming, Edge, Within};
 use geos_listing::state_word;
+use geos_text::{Part, put_parts};
 use geos_verify::{is_empty, slot_fits};
 use std::alloc::{AllocError, Global};
 
-/// What a slot holds.
-fn put_state_text(out: &mut Vec<u8>, state: SlotState) -> Result<(), AllocError>
-    ensures { OnOk result (out.new.items ≡ out.old.items ++ state_text state) }
-{
-    if is_empty(state) {
-        return out.extend_from_slice(b" empty");
-    }
-    out.extend_from_slice(b"=")?;
-    out.extend_from_slice(state_word(state).as_bytes())
-}
-
-/// A slot, where two states of it differ in more than the mark.
+/// A slot, where two states of it differ in more than the mark, and what it holds in the first.
 fn put_differing(
     out: &mut Vec<u8>,
     i: usize,
@@ -31,11 +20,14 @@ fn put_differing(
 ) -> Result<(), AllocError>
     ensures { OnOk result (out.new.items ≡ out.old.items ++ differing_item i state other) }
 {
+    let slot = Part::Numbered(" s", i as u64);
     if slot_fits(state, other) || slot_fits(other, state) {
-        return Ok(());
+        Ok(())
+    } else if is_empty(state) {
+        put_parts(out, &[slot, Part::Text(" empty")])
+    } else {
+        put_parts(out, &[slot, Part::Text("="), Part::Text(state_word(state))])
     }
-    put_numbered(out, " s", i as u64)?;
-    put_state_text(out, state)
 }
 
 /// The slots of a row that differ in more than marks from those of another.
@@ -53,14 +45,6 @@ fn put_all_differing(
     Ok(())
 }
 
-/// A pc, and what stands behind it.
-fn put_pc_and(out: &mut Vec<u8>, lines: &[usize], pc: u16, behind: &str) -> Result<(), AllocError>
-    ensures { OnOk result (out.new.items ≡ out.old.items ++ pc_text lines.now pc ++ behind.now) }
-{
-    put_pc(out, lines, pc)?;
-    out.extend_from_slice(behind.as_bytes())
-}
-
 /// Whether control comes from the instruction at a pc.
 fn is_from(edge: Option<Edge>, pc: u16) -> bool
     ensures { result ≡ is_from edge pc }
@@ -71,16 +55,8 @@ fn is_from(edge: Option<Edge>, pc: u16) -> bool
     }
 }
 
-/// Where an instruction is refused.
-#[tactic(auto, unfolding(crate::specs::Causes::refusal_text))]
-fn put_refusal(out: &mut Vec<u8>, lines: &[usize], pc: u16) -> Result<(), AllocError>
-    ensures { OnOk result (out.new.items ≡ out.old.items ++ refusal_text lines.now pc) }
-{
-    out.extend_from_slice(b" where")?;
-    put_pc_and(out, lines, pc, " is refused:")
-}
-
 /// Where an edge comes from; where another comes from the same instruction, which of the two is that of its refusal.
+#[tactic(auto, unfolding(crate::specs::Causes::refusal_text))]
 fn put_edge(
     out: &mut Vec<u8>,
     lines: &[usize],
@@ -89,10 +65,14 @@ fn put_edge(
 ) -> Result<(), AllocError>
     ensures { OnOk result (out.new.items ≡ out.old.items ++ edge_text lines.now edge other) }
 {
+    let place = pc_part(lines, edge.pc);
     if edge.branch && is_from(other, edge.pc) {
-        put_refusal(out, lines, edge.pc)
+        put_parts(
+            out,
+            &[Part::Text(" where"), place, Part::Text(" is refused:")],
+        )
     } else {
-        put_pc_and(out, lines, edge.pc, ":")
+        put_parts(out, &[place, Part::Text(":")])
     }
 }
 
@@ -127,130 +107,71 @@ fn put_coming(
     put_all_differing(out, &coming.row.slots, &other.row.slots)
 }
 
-/// The place where ways meet.
-#[tactic(auto, unfolding(crate::specs::Causes::meeting_text))]
-fn put_meeting_text(out: &mut Vec<u8>, lines: &[usize], to: u16) -> Result<(), AllocError>
-    ensures { OnOk result (out.new.items ≡ out.old.items ++ meeting_text lines.now to) }
-{
-    out.extend_from_slice(b"at")?;
-    put_pc_and(out, lines, to, ",")
-}
-
-/// The other way.
-#[tactic(auto, unfolding(crate::specs::Causes::other_text))]
-fn put_other_way(
-    out: &mut Vec<u8>,
-    lines: &[usize],
-    coming: &Coming,
-    other: &Coming,
-) -> Result<(), AllocError>
-    ensures { OnOk result (out.new.items ≡ out.old.items ++ other_text lines.now coming.now other.now) }
-{
-    out.extend_from_slice(b";")?;
-    put_coming(out, lines, coming, other)
-}
-
 /// Slots differ where ways meet.
-#[tactic(auto, unfolding(crate::specs::Causes::apart_text))]
+#[tactic(auto, unfolding(crate::specs::Causes::meeting_text, crate::specs::Causes::other_text, crate::specs::Causes::apart_text))]
 fn put_apart(out: &mut Vec<u8>, lines: &[usize], apart: &Apart) -> Result<(), AllocError>
     ensures { OnOk result (out.new.items ≡ out.old.items ++ apart_text lines.now apart.now) }
 {
-    put_meeting_text(out, lines, apart.to)?;
+    put_parts(
+        out,
+        &[Part::Text("at"), pc_part(lines, apart.to), Part::Text(",")],
+    )?;
     put_coming(out, lines, &apart.first, &apart.second)?;
-    put_other_way(out, lines, &apart.second, &apart.first)
-}
-
-/// A way leads back.
-#[tactic(auto, unfolding(crate::specs::Causes::back_text))]
-fn put_back(out: &mut Vec<u8>, lines: &[usize], back: &BackWay) -> Result<(), AllocError>
-    ensures { OnOk result (out.new.items ≡ out.old.items ++ back_text lines.now back.now) }
-{
-    put_pc_and(out, lines, back.from, " goes back to")?;
-    put_pc(out, lines, back.to)
+    out.extend_from_slice(b";")?;
+    put_coming(out, lines, &apart.second, &apart.first)
 }
 
 /// A text, and a way that leads back.
-fn put_and_back(
+#[tactic(auto, unfolding(crate::specs::Causes::back_text))]
+fn put_back(
     out: &mut Vec<u8>,
     text: &str,
     lines: &[usize],
     back: &BackWay,
 ) -> Result<(), AllocError>
-    ensures { OnOk result (out.new.items ≡ out.old.items ++ text.now ++ back_text lines.now back.now) }
+    ensures { OnOk result (out.new.items ≡ out.old.items ++ (text.now ++ back_text lines.now back.now)) }
 {
-    out.extend_from_slice(text.as_bytes())?;
-    put_back(out, lines, back)
-}
-
-/// A counter is set.
-#[tactic(auto, unfolding(crate::specs::Causes::set_text))]
-fn put_set(out: &mut Vec<u8>, lines: &[usize], within: &Within) -> Result<(), AllocError>
-    ensures { OnOk result (out.new.items ≡ out.old.items ++ set_text lines.now within.now) }
-{
-    put_numbered(out, "k", u64::from(within.counter))?;
-    out.extend_from_slice(b" is set at")?;
-    put_pc(out, lines, within.at)
+    put_parts(
+        out,
+        &[
+            Part::Text(text),
+            pc_part(lines, back.from),
+            Part::Text(" goes back to"),
+            pc_part(lines, back.to),
+        ],
+    )
 }
 
 /// A counter is set within its loop.
-#[tactic(auto, unfolding(crate::specs::Causes::within_text))]
+#[tactic(auto, unfolding(crate::specs::Causes::set_text, crate::specs::Causes::within_text))]
 fn put_within(out: &mut Vec<u8>, lines: &[usize], within: &Within) -> Result<(), AllocError>
     ensures { OnOk result (out.new.items ≡ out.old.items ++ within_text lines.now within.now) }
 {
-    put_set(out, lines, within)?;
-    put_and_back(out, ", within its own loop:", lines, &within.back)
-}
-
-/// A call touches a counter.
-#[tactic(auto, unfolding(crate::specs::Causes::call_text))]
-fn put_call(out: &mut Vec<u8>, lines: &[usize], within: &Within) -> Result<(), AllocError>
-    ensures { OnOk result (out.new.items ≡ out.old.items ++ call_text lines.now within.now) }
-{
-    out.extend_from_slice(b"the call at")?;
-    put_pc(out, lines, within.at)?;
-    put_numbered(out, " touches k", u64::from(within.counter))
+    put_parts(
+        out,
+        &[
+            Part::Numbered("k", within.counter as u64),
+            Part::Text(" is set at"),
+            pc_part(lines, within.at),
+        ],
+    )?;
+    put_back(out, ", within its own loop:", lines, &within.back)
 }
 
 /// A call touches a counter within its loop.
-#[tactic(auto, unfolding(crate::specs::Causes::touched_text))]
+#[tactic(auto, unfolding(crate::specs::Causes::call_text, crate::specs::Causes::touched_text))]
 fn put_touched(out: &mut Vec<u8>, lines: &[usize], within: &Within) -> Result<(), AllocError>
     ensures { OnOk result (out.new.items ≡ out.old.items ++ touched_text lines.now within.now) }
 {
-    put_call(out, lines, within)?;
-    put_and_back(out, ", within its own loop:", lines, &within.back)
-}
-
-/// Nothing pays for a way back.
-#[tactic(auto, unfolding(crate::specs::Causes::no_loop_text))]
-fn put_no_loop(out: &mut Vec<u8>, lines: &[usize], back: &BackWay) -> Result<(), AllocError>
-    ensures { OnOk result (out.new.items ≡ out.old.items ++ no_loop_text lines.now back.now) }
-{
-    out.extend_from_slice(b"nothing pays for the way back:")?;
-    put_back(out, lines, back)
-}
-
-/// A way takes more steps than a potential can say.
-#[tactic(auto, unfolding(crate::specs::Causes::steps_pass_text))]
-fn put_steps_pass(out: &mut Vec<u8>) -> Result<(), AllocError>
-    ensures { OnOk result (out.new.items ≡ out.old.items ++ steps_pass_text) }
-{
-    out.extend_from_slice(b"the steps pass 4,294,967,295")
-}
-
-/// No numbers of steps were found.
-#[tactic(auto, unfolding(crate::specs::Causes::no_steps_text))]
-fn put_no_steps(out: &mut Vec<u8>, lines: &[usize], back: &BackWay) -> Result<(), AllocError>
-    ensures { OnOk result (out.new.items ≡ out.old.items ++ no_steps_text lines.now back.now) }
-{
-    put_and_back(out, "no steps were found for the loop:", lines, back)
-}
-
-/// The same where there is no loop.
-#[tactic(auto, unfolding(crate::specs::Causes::unknown_text))]
-fn put_unknown(out: &mut Vec<u8>) -> Result<(), AllocError>
-    ensures { OnOk result (out.new.items ≡ out.old.items ++ unknown_text) }
-{
-    out.extend_from_slice(b"no steps were found")
+    put_parts(
+        out,
+        &[
+            Part::Text("the call at"),
+            pc_part(lines, within.at),
+            Part::Numbered(" touches k", within.counter as u64),
+        ],
+    )?;
+    put_back(out, ", within its own loop:", lines, &within.back)
 }
 
 /// Why no rows or no numbers of steps are found.
@@ -259,12 +180,12 @@ fn put_cause(out: &mut Vec<u8>, lines: &[usize], cause: &Cause) -> Result<(), Al
 {
     match cause {
         Cause::SlotsDiffer(apart) => put_apart(out, lines, apart),
-        Cause::NoLoop(back) => put_no_loop(out, lines, back),
+        Cause::NoLoop(back) => put_back(out, "nothing pays for the way back:", lines, back),
         Cause::SetWithin(within) => put_within(out, lines, within),
         Cause::TouchedWithin(within) => put_touched(out, lines, within),
-        Cause::StepsPass => put_steps_pass(out),
-        Cause::NoSteps(back) => put_no_steps(out, lines, back),
-        Cause::Unknown => put_unknown(out),
+        Cause::StepsPass => out.extend_from_slice(b"the steps pass 4,294,967,295"),
+        Cause::NoSteps(back) => put_back(out, "no steps were found for the loop:", lines, back),
+        Cause::Unknown => out.extend_from_slice(b"no steps were found"),
     }
 }
 

@@ -2,35 +2,22 @@
 use Rattle.std.proofs.Common.{◌≡◌, ◌<◌, ℕ, zero, suc, ◌+◌, ◌-◌, List, [], ◌∷◌, ◌++◌, length, get_or, map, take, drop, inl, inr, length-drop, sym, ap, ◌∙◌, append_assoc, arith}
 use Rattle.std.specs.Prelude.{min}
 use Rattle.std.specs.List.{flat_map, range_with_len}
-use Rattle.std.proofs.lemmas.List.{take_all, take_more, map_more, append-nil}
+use Rattle.std.proofs.lemmas.List.{take_all, flat_map_more, map_more}
 use Rattle.std.proofs.lemmas.Bool.{cases_lt}
-use Rattle.std.proofs.lemmas.Grind.{flat_map-append}
 
 -- one number more
 range-more : (a n j : ℕ) → a + n ≡ j → range_with_len a (suc n) ≡ range_with_len a n ++ j ∷ []
 range-more a zero j is = ap (λ k. k ∷ []) (omega (arith, is))
 range-more a (suc n) j is = ap (λ ks. a ∷ ks) (range-more (a + 1) n j (omega (arith, is)))
 
--- what is said of one item more was written
-said : {X : Type 0} (start middle after piece : List ℕ) (f : X → List ℕ) (front all : List X) (x : X) → all ≡ front ++ x ∷ []
-    → middle ≡ start ++ flat_map f front → after ≡ middle ++ piece → piece ≡ f x → after ≡ start ++ flat_map f all
-said start middle after piece f front all x more so_far written is =
-    let whole : flat_map f all ≡ flat_map f front ++ f x =
-    ap (flat_map f) more ∙ flat_map-append f front (x ∷ []) ∙ ap (λ bytes. flat_map f front ++ bytes) (append-nil (f x)) in
-    written ∙ ap (λ bytes. bytes ++ piece) so_far ∙ append_assoc start (flat_map f front) piece ∙ ap (λ bytes. start ++ (flat_map f front ++ bytes)) is ∙ ap (λ bytes. start ++ bytes) (sym whole)
-
--- the same of the next number
+-- what is said of the next number was written
 pub count-step : (start middle after piece : List ℕ) (f : ℕ → List ℕ) (k : ℕ)
     → middle ≡ start ++ flat_map f (range_with_len 0 k) → after ≡ middle ++ piece → piece ≡ f k → after ≡ start ++ flat_map f (range_with_len 0 (k + 1))
 count-step start middle after piece f k so_far written is =
+    let front = range_with_len 0 k in
     let next : k + 1 ≡ suc k = omega arith in let one : range_with_len 0 (k + 1) ≡ range_with_len 0 (suc k) = ap (range_with_len 0) next in
-    said start middle after piece f (range_with_len 0 k) (range_with_len 0 (k + 1)) k (one ∙ range-more 0 k k (omega arith)) so_far written is
-
--- the same of the next item of a list
-pub take-step : {X : Type 0} (start middle after piece : List ℕ) (f : X → List ℕ) (xs : List X) (k : ℕ) (d : X) → k < length xs
-    → middle ≡ start ++ flat_map f (take k xs) → after ≡ middle ++ piece → piece ≡ f (get_or xs k d) → after ≡ start ++ flat_map f (take (k + 1) xs)
-take-step start middle after piece f xs k d lt so_far written is =
-    said start middle after piece f (take k xs) (take (k + 1) xs) (get_or xs k d) (take_more xs k d lt) so_far written is
+    written ∙ ap (λ t. t ++ piece) so_far ∙ ap (λ t. (start ++ flat_map f front) ++ t) is
+    ∙ flat_map_more f start front k ∙ ap (λ ks. start ++ flat_map f ks) (sym (one ∙ range-more 0 k k (omega arith)))
 
 -- a list that is made item by item has one more
 pub map-step : (start middle after : List ℕ) (f : ℕ → ℕ) (xs : List ℕ) (k y : ℕ) → k < length xs

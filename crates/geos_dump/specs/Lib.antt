@@ -1,4 +1,3 @@
-pub mod Parts
 pub mod HexLines
 pub mod DumpText
 pub mod Sides

@@ -7,7 +7,7 @@ ghost use Rattle.geos_model.specs.Heap.{IsHeap};
 ghost use Rattle.geos_dump.specs.DumpText.{chunks_from, chunk_dump, chunk_text};
 
 use crate::hex::put_hex_lines;
-use crate::parts::{Part, put_parts};
+use geos_text::{Part, put_parts};
 use lmem_block::{locate, next};
 use std::alloc::AllocError;
 
@@ -30,10 +30,8 @@ fn put_chunk(out: &mut Vec<u8>, c: u16, bytes: &[u8]) -> Result<(), AllocError>
     put_parts(
         out,
         &[
-            Part::Text(" "),
-            Part::Number(usize::from(c)),
-            Part::Text(":"),
-            Part::Number(bytes.len()),
+            Part::Numbered(" ", c as u64),
+            Part::Numbered(":", bytes.len() as u64),
         ],
     )
 }
@@ -56,14 +54,7 @@ fn put_chunk_dump(out: &mut Vec<u8>, c: u16, bytes: &[u8]) -> Result<(), AllocEr
     requires { length bytes.now < 65536 }
     ensures { OnOk result (out.new.items ≡ out.old.items ++ chunk_dump (record { c = c; bytes = bytes.now })) }
 {
-    put_parts(
-        out,
-        &[
-            Part::Text("chunk "),
-            Part::Number(usize::from(c)),
-            Part::Text("\n"),
-        ],
-    )?;
+    put_parts(out, &[Part::Numbered("chunk ", c as u64), Part::Text("\n")])?;
     put_hex_lines(out, bytes)
 }
 

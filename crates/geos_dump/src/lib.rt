@@ -7,7 +7,6 @@ mod bars;
 mod chunks;
 mod error;
 mod hex;
-mod parts;
 mod picture;
 mod sides;
 mod telling;

@@ -9,10 +9,10 @@ ghost use Rattle.geos_dump.specs.Sides.{Causes};
 use crate::areas::Areas;
 use crate::bars::{columns_of, put_bar, put_number_right, put_right};
 use crate::error::DumpError;
-use crate::parts::{Part, put_parts};
 use crate::sides::{Side, count, directory, entry_at};
 use crate::telling::{Telling, put_directories};
 use crate::text::put_directory_line;
+use geos_text::{Part, put_parts};
 use lmem_block::total_free;
 use std::alloc::{AllocError, Global};
 use vm_file::{Device, Directory, Entry, GROUP_UID, VmFile};
@@ -56,12 +56,10 @@ fn put_area(out: &mut Vec<u8>, areas: Areas, pair: u32, width: u16) -> Result<()
     put_parts(
         out,
         &[
-            Part::Text("areas of "),
-            Part::Number(areas.size as usize),
+            Part::Numbered("areas of ", areas.size as u64),
             Part::Text(" bytes, "),
             Part::Text(name),
-            Part::Text(" is read, "),
-            Part::Number(pair as usize),
+            Part::Numbered(" is read, ", pair as u64),
             Part::Text(" taken\n"),
             Part::Text(name),
         ],

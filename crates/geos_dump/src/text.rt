@@ -9,8 +9,8 @@ ghost use Rattle.geos_dump.specs.Sides.{Causes};
 
 use crate::chunks::{put_chunk_dumps, put_chunks};
 use crate::error::DumpError;
-use crate::parts::{Part, put_parts};
 use crate::telling::{Telling, put_directories};
+use geos_text::{Part, put_parts};
 use std::alloc::{AllocError, Global};
 use vm_file::{Device, Directory, VmFile};
 
@@ -31,11 +31,9 @@ fn put_block_line(out: &mut Vec<u8>, h: u16, uid: u16, bytes: &[u8]) -> Result<(
     put_parts(
         out,
         &[
-            Part::Number(usize::from(h)),
-            Part::Text(" uid "),
-            Part::Number(usize::from(uid)),
-            Part::Text(" size "),
-            Part::Number(bytes.len()),
+            Part::Numbered("", h as u64),
+            Part::Numbered(" uid ", uid as u64),
+            Part::Numbered(" size ", bytes.len() as u64),
             Part::Text(" chunks"),
         ],
     )?;
@@ -74,12 +72,9 @@ pub(crate) fn put_directory_line(
         out,
         &[
             Part::Text(word),
-            Part::Text(" map "),
-            Part::Number(usize::from(directory.map_block)),
-            Part::Text(" item "),
-            Part::Number(usize::from(group)),
-            Part::Text(" "),
-            Part::Number(usize::from(item)),
+            Part::Numbered(" map ", directory.map_block as u64),
+            Part::Numbered(" item ", group as u64),
+            Part::Numbered(" ", item as u64),
             Part::Text("\n"),
         ],
     )

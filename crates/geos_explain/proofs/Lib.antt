@@ -3,5 +3,4 @@ mod Losing
 mod Noted
 mod Places
 mod Reached
-mod Sentences
 mod Told

@@ -1,5 +1,5 @@
 -- What is said of the point at a pc, and of one point after another.
-use Rattle.std.proofs.Common.{◌≡◌, ◌<◌, ◌≤◌, ℕ, suc, ◌+◌, false, List, [], ◌∷◌, ◌++◌, length, length-append, slice_get, refl, ap, ◌∙◌, append_assoc, arith}
+use Rattle.std.proofs.Common.{◌≡◌, ◌<◌, ◌≤◌, ℕ, false, List, [], ◌∷◌, ◌++◌, length, length-append, slice_get, refl, ap, append_assoc, arith}
 use Rattle.std.specs.Prelude.{IfSome, ◌==◌, if◌then◌else◌}
 use Rattle.std.specs.Option.{option_map_or}
 use Rattle.std.proofs.lemmas.Bool.{ne_eqb}
@@ -7,7 +7,6 @@ use Rattle.geos_image.specs.declared.instr.Instr.{Instr}
 use Rattle.geos_image.specs.declared.row.Row.{Row}
 use Rattle.geos_image.specs.declared.potential.Potential.{Potential}
 use Rattle.geos_image.specs.declared.point.Point.{Point}
-use Rattle.geos_listing.specs.Rows.{texts_below}
 use Rattle.geos_listing.proofs.Limits.{item_at}
 use Rattle.geos_explain.specs.Places.{Place}
 
@@ -43,11 +42,3 @@ items-some before after [] behind written some = absurd (omega (arith, ap length
 items-some before after (x ∷ items) behind written some =
     let filled : (length (x ∷ items) == 0) ≡ false = ne_eqb (length (x ∷ items)) 0 (λ none. omega (arith, none)) in
     rw (filled, written) (append_assoc before (x ∷ items) behind)
-
--- one more text was written
-pub texts_below-step : (start middle after : List ℕ) (text : ℕ → List ℕ) (k : ℕ) → middle ≡ start ++ texts_below k text → after ≡ middle ++ text k
-    → after ≡ start ++ texts_below (k + 1) text
-unfolding texts_below
-texts_below-step start middle after text k so_far written =
-    let next : suc k ≡ k + 1 = omega arith in
-    written ∙ ap (λ bytes. bytes ++ text k) so_far ∙ append_assoc start (texts_below k text) (text k) ∙ ap (λ n. start ++ texts_below n text) next

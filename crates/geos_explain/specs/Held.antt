@@ -1,5 +1,6 @@
 -- Which slots are still held at a return, and since where.
-use Rattle.std.specs.Prelude.{ℕ, zero, suc, Bool, false, ◌&&◌, not, nat_lt, if◌then◌else◌, ◌==◌, List, [], ◌++◌, Some, None, length, slice_get, codes, decimal}
+use Rattle.std.specs.Prelude.{ℕ, zero, suc, Bool, false, ◌&&◌, not, nat_lt, if◌then◌else◌, ◌==◌, List, [], ◌∷◌, ◌++◌, Some, None, length, slice_get, codes, decimal}
+use Rattle.std.specs.List.{concat}
 use Rattle.geos_image.specs.declared.point.Point.{Point}
 use Rattle.geos_image.specs.Parts.{Parts, start_of}
 use Rattle.geos_listing.specs.Rows.{texts_below, row_items}
@@ -59,11 +60,20 @@ unfoldable pub since_below : Place → ℕ → ℕ → Since
 since_below place a zero = Nowhere
 since_below place a (suc n) = also place.pc (since_below place a n) n (fills_here place a n)
 
--- since where a slot is held; of several places, one
+-- where a slot becomes held; of several places, one
+abbrev pub since_place : List ℕ → Since → List ℕ
+since_place lines Nowhere = codes " the in line"
+since_place lines (Once from) = pc_text lines from
+since_place lines (Often last) = pc_text lines last
+
+-- that there are others, if there are
+abbrev pub or_another : Since → List ℕ
+or_another (Often last) = codes " or another place"
+or_another since = []
+
+-- since where a slot is held
 abbrev pub since_text : List ℕ → ℕ → Since → List ℕ
-since_text lines a Nowhere = codes "; s" ++ decimal a ++ codes " is held since" ++ codes " the in line" ++ []
-since_text lines a (Once from) = codes "; s" ++ decimal a ++ codes " is held since" ++ pc_text lines from ++ []
-since_text lines a (Often last) = codes "; s" ++ decimal a ++ codes " is held since" ++ pc_text lines last ++ codes " or another place"
+since_text lines a since = concat (codes "; s" ∷ decimal a ∷ codes " is held since" ∷ since_place lines since ∷ or_another since ∷ [])
 
 -- the same of a slot that is held and must not be
 unfoldable pub since_at : HeldAt → Place → ℕ → List ℕ
@@ -76,7 +86,7 @@ sinces_at which place = texts_below 4 (λ a. since_at which place a)
 
 -- what else the exit row wants
 unfoldable pub also_wanted : List ℕ → List ℕ
-also_wanted items = if length items == 0 then [] else codes ";" ++ items ++ is_or_are items ++ codes " wanted by the exit row, and not known here"
+also_wanted items = if length items == 0 then [] else concat (codes ";" ∷ items ∷ is_or_are items ∷ codes " wanted by the exit row, and not known here" ∷ [])
 
 -- what else the exit row of a place wants
 unfoldable pub else_wanted : Place → List ℕ

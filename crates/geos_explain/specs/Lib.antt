@@ -3,7 +3,6 @@ pub mod Edges
 pub mod Led
 pub mod Places
 pub mod Notes
-pub mod Parts
 pub mod Lacks
 pub mod Uses
 pub mod Held

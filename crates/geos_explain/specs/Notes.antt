@@ -1,6 +1,6 @@
 -- What stands behind an instruction: what its row knows, and its potential.
-use Rattle.std.specs.Prelude.{ℕ, Bool, ◌&&◌, ◌==◌, if◌then◌else◌, List, [], ◌++◌, Some, None, slice_get, length, slice_index, codes, decimal}
-use Rattle.std.specs.List.{list_all}
+use Rattle.std.specs.Prelude.{ℕ, Bool, ◌&&◌, ◌==◌, if◌then◌else◌, List, [], ◌∷◌, ◌++◌, Some, None, slice_get, length, slice_index, codes, decimal}
+use Rattle.std.specs.List.{concat, list_all}
 use Rattle.geos_image.specs.declared.row.Row.{Row}
 use Rattle.geos_image.specs.declared.potential.Potential.{Potential}
 use Rattle.geos_listing.specs.Rows.{texts_below, row_items}
@@ -22,14 +22,17 @@ coefficient_text k n = if n == 0 then [] else codes " + " ++ decimal n ++ codes 
 abbrev pub coefficients_text : List ℕ → List ℕ
 coefficients_text coefficients = texts_below 4 (λ k. coefficient_text k (slice_index coefficients k))
 
+-- so many steps, and so many for each that is on a counter
+unfoldable pub steps_text : ℕ → List ℕ → List ℕ
+steps_text n coefficients = codes " " ++ decimal n ++ coefficients_text coefficients
+
 -- a potential stands for just one step
 unfoldable pub is_one : Potential → Bool
 is_one p = p.constant == 1 && list_all (λ n. n == 0) p.coefficients
 
 -- the steps that a potential stands for
 unfoldable pub potential_text : Potential → List ℕ
-potential_text p =
-    codes " " ++ decimal p.constant ++ coefficients_text p.coefficients ++ steps_word (is_one p)
+potential_text p = steps_text p.constant p.coefficients ++ steps_word (is_one p)
 
 -- a routine and a pc
 unfoldable pub where_text : Routine → ℕ → List ℕ
@@ -53,4 +56,4 @@ note place = note_head place ++ known_here place ++ potential_text place.potenti
 
 -- the potential is above the budget
 unfoldable pub budget_words : Routine → Potential → List ℕ
-budget_words routine p = potential_text p ++ (verb (is_one p) ++ codes " owed from here, the budget is " ++ decimal routine.budget)
+budget_words routine p = potential_text p ++ concat (verb (is_one p) ∷ codes " owed from here, the budget is " ∷ decimal routine.budget ∷ [])

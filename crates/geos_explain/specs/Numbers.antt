@@ -1,6 +1,6 @@
 -- The words that go with a number of steps or of items, and what a place is called.
-use Rattle.std.specs.Prelude.{ℕ, Bool, ◌==◌, if◌then◌else◌, List, ◌++◌, Some, None, slice_get, codes, decimal}
-use Rattle.std.specs.List.{count_by}
+use Rattle.std.specs.Prelude.{ℕ, Bool, ◌==◌, if◌then◌else◌, List, [], ◌∷◌, ◌++◌, Some, None, slice_get, codes, decimal}
+use Rattle.std.specs.List.{concat, count_by}
 
 -- one text where there is just one thing, else the other
 abbrev pub either : Bool → List ℕ → List ℕ → List ℕ
@@ -36,7 +36,7 @@ is_or_are items = verb (items_in items == 1)
 
 -- items, that it is or that they are, and what
 unfoldable pub are_text : List ℕ → List ℕ → List ℕ
-are_text items what = items ++ is_or_are items ++ what
+are_text items what = concat (items ∷ is_or_are items ∷ what ∷ [])
 
 -- a target as the reader has it: in an author's text its line, else the label that the listing gives it
 unfoldable pub label_text : List ℕ → ℕ → List ℕ

@@ -1,5 +1,6 @@
 -- Which pointers may be stale where they are used, and where and by what they became so.
-use Rattle.std.specs.Prelude.{ℕ, ◌==◌, Bool, false, ◌&&◌, if◌then◌else◌, List, [], ◌++◌, Option, Some, None, slice_get, codes, decimal}
+use Rattle.std.specs.Prelude.{ℕ, ◌==◌, Bool, false, ◌&&◌, if◌then◌else◌, List, [], ◌∷◌, ◌++◌, Option, Some, None, slice_get, codes, decimal}
+use Rattle.std.specs.List.{concat}
 use Rattle.std.specs.Option.{option_map_or}
 use Rattle.geos_image.specs.declared.instr.Instr.{Instr}
 use Rattle.geos_image.specs.declared.row.Row.{Row}
@@ -94,8 +95,8 @@ name_at image r = option_map_or name_of (slice_get image.routines r) []
 -- a call leaves nothing but the exit row, which does not know the pointer
 unfoldable pub call_loss : Parts → ℕ → ℕ → List ℕ
 call_loss image p r =
-    codes " leaves what the out line of " ++ name_at image r ++ codes " says, and it does not say p" ++ decimal p
-    ++ codes ": say it in the out line, or fetch it again"
+    concat (codes " leaves what the out line of " ∷ name_at image r ∷ codes " says, and it does not say p" ∷ decimal p
+    ∷ codes ": say it in the out line, or fetch it again" ∷ [])
 
 -- the instruction was to set the pointer and was refused
 unfoldable pub refused_loss : ℕ → List ℕ
@@ -106,8 +107,8 @@ unfoldable pub moved_words : ℕ → ℕ → ℕ → List ℕ
 moved_words p a b =
     if a == b
     then codes " may have moved what is behind p" ++ decimal p ++ codes ": fetch it again"
-    else codes " may have moved what is behind p" ++ decimal p ++ codes ", since s" ++ decimal a ++ codes " and s" ++ decimal b
-    ++ codes " may hold one block: fetch it again, or tell them apart by SNE s" ++ decimal a ++ codes " s" ++ decimal b
+    else concat (codes " may have moved what is behind p" ∷ decimal p ∷ codes ", since s" ∷ decimal a ∷ codes " and s" ∷ decimal b
+    ∷ codes " may hold one block: fetch it again, or tell them apart by SNE s" ∷ decimal a ∷ codes " s" ∷ decimal b ∷ [])
 
 -- what an instruction did to a pointer into slot b by what it does to its slot
 unfoldable pub use_loss : Instr → SlotUse → ℕ → ℕ → List ℕ
@@ -159,8 +160,8 @@ unreached_words place to =
 -- each way to a pc brings the pointer, which is not known there
 unfoldable pub merged_words : Place → ℕ → ℕ → List ℕ
 merged_words place p to =
-    codes "; each way to" ++ pc_text place.lines to ++ codes " knows p" ++ decimal p
-    ++ codes ", and it is not known there, as where it leads into two slots: fetch it again"
+    concat (codes "; each way to" ∷ pc_text place.lines to ∷ codes " knows p" ∷ decimal p
+    ∷ codes ", and it is not known there, as where it leads into two slots: fetch it again" ∷ [])
 
 -- why a pointer is not known, where no instruction lost it
 abbrev pub end_words : Place → ℕ → Option Meeting → Option End → List ℕ

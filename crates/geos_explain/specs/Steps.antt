@@ -1,5 +1,6 @@
 -- What is said where an edge is not paid for.
-use Rattle.std.specs.Prelude.{ℕ, ◌+◌, nat_le, ◌==◌, if◌then◌else◌, List, [], ◌++◌, Option, Some, None, slice_index, slice_get, codes, decimal}
+use Rattle.std.specs.Prelude.{ℕ, ◌+◌, nat_le, ◌==◌, if◌then◌else◌, List, [], ◌∷◌, ◌++◌, Option, Some, None, slice_index, slice_get, codes, decimal}
+use Rattle.std.specs.List.{concat}
 use Rattle.geos_opcodes.specs.declared.opcode.Opcode.{Opcode}
 use Rattle.geos_opcodes.specs.declared.opcode.Opcode.TheVariants.{Call, Ret}
 use Rattle.geos_image.specs.declared.potential.Potential.{Potential}
@@ -10,21 +11,21 @@ use Rattle.geos_listing.specs.Instrs.{name_of}
 use Rattle.geos_verify.specs.Rows.{falls_through, branches}
 use Rattle.geos_verify.specs.declared.asked.Asked.{Asked}
 use Rattle.geos_verify.specs.Potentials.{asked_along, asked_branching, left_with, is_paid}
-use Rattle.geos_explain.specs.Notes.{coefficients_text}
+use Rattle.geos_explain.specs.Notes.{steps_text}
 use Rattle.geos_explain.specs.Numbers.{steps_word, verb}
 use Rattle.geos_explain.specs.Places.{Place}
 
 -- so many steps are owed, and so many are left
 abbrev pub owed_words : ℕ → ℕ → List ℕ
 owed_words owed left =
-    codes " " ++ decimal owed ++ steps_word (owed == 1) ++ verb (owed == 1) ++ codes " owed from here, "
-    ++ decimal left ++ verb (left == 1) ++ codes " left"
+    concat (codes " " ∷ decimal owed ∷ steps_word (owed == 1) ∷ verb (owed == 1) ∷ codes " owed from here, "
+    ∷ decimal left ∷ verb (left == 1) ∷ codes " left" ∷ [])
 
 -- the same in whole, with what each counter must pay, and pays
 abbrev pub whole_words : Asked → Potential → List ℕ
 whole_words asked p =
-    codes " " ++ decimal asked.steps ++ coefficients_text asked.coefficients ++ codes " steps are owed from here, with "
-    ++ decimal (left_with asked.counter p) ++ coefficients_text p.coefficients ++ codes " left"
+    steps_text asked.steps asked.coefficients ++ codes " steps are owed from here, with"
+    ++ steps_text (left_with asked.counter p) p.coefficients ++ codes " left"
 
 -- what is asked and not left: steps, or else what counters pay
 abbrev pub asked_words : Asked → Potential → List ℕ

@@ -1,5 +1,6 @@
 -- Which counters are still to pay at a routine's beginning, and which LOOP takes from them though nothing sets them.
-use Rattle.std.specs.Prelude.{ℕ, zero, suc, ◌+◌, Bool, false, ◌&&◌, not, nat_lt, if◌then◌else◌, ◌==◌, List, [], ◌++◌, Some, None, length, slice_get, slice_index, codes, decimal}
+use Rattle.std.specs.Prelude.{ℕ, zero, suc, ◌+◌, Bool, false, ◌&&◌, not, nat_lt, if◌then◌else◌, ◌==◌, List, [], ◌∷◌, ◌++◌, Some, None, length, slice_get, slice_index, codes, decimal}
+use Rattle.std.specs.List.{concat}
 use Rattle.geos_opcodes.specs.declared.facts.CounterUse.{CounterUse}
 use Rattle.geos_opcodes.specs.declared.facts.CounterUse.TheVariants.{SetTo, SetToWord, CountsDown}
 use Rattle.geos_opcodes.specs.Facts.{facts}
@@ -59,7 +60,7 @@ searched image k pc (suc n) = search_on image k (searched image k pc n)
 -- the counter is not set on the way to an instruction that takes from it, where there is such an instruction
 abbrev pub found_text : List ℕ → ℕ → Search → List ℕ
 found_text lines k (Found pc) =
-    codes "; k" ++ decimal k ++ codes " is not set on the way to LOOP at" ++ pc_text lines pc ++ codes ": set it first by SETK or SETKW"
+    concat (codes "; k" ∷ decimal k ∷ codes " is not set on the way to LOOP at" ∷ pc_text lines pc ∷ codes ": set it first by SETK or SETKW" ∷ [])
 found_text lines k _ = []
 
 -- the same of a counter that still pays at a place

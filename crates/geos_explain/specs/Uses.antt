@@ -1,5 +1,6 @@
 -- What is wrong with the slots and pointers that an instruction uses, rule by rule.
-use Rattle.std.specs.Prelude.{ℕ, Bool, ◌-◌, nat_lt, nat_le, ◌==◌, if◌then◌else◌, List, [], map, ◌++◌, Option, Some, None, codes, decimal}
+use Rattle.std.specs.Prelude.{ℕ, Bool, ◌-◌, nat_lt, nat_le, ◌==◌, if◌then◌else◌, List, [], ◌∷◌, map, ◌++◌, Option, Some, None, codes, decimal}
+use Rattle.std.specs.List.{concat}
 use Rattle.geos_image.specs.declared.instr.Instr.{Instr}
 use Rattle.geos_image.specs.declared.row.Row.{Row}
 use Rattle.geos_image.specs.declared.row.Pointer.{Pointer}
@@ -24,7 +25,7 @@ use Rattle.geos_explain.specs.Numbers.{either, bytes_word, verb, items_in}
 
 -- a slot, and what the row says that it holds
 unfoldable pub state_item : ℕ → Row → List ℕ
-state_item a row = codes " s" ++ decimal a ++ codes "=" ++ state_word (slot_state row a)
+state_item a row = concat (codes " s" ∷ decimal a ∷ codes "=" ∷ state_word (slot_state row a) ∷ [])
 
 -- the pointer, where it leads into an empty slot
 abbrev pub nowhere_only : List SlotState → Option Pointer → Option Pointer
@@ -45,8 +46,8 @@ nowhere_words row = nowhere_items (row_items (leading_nowhere row))
 -- so many bytes are wanted behind a pointer, and how many are known there
 unfoldable pub short_words : ℕ → ℕ → Row → List ℕ
 short_words p wanted row =
-    codes " " ++ decimal wanted ++ bytes_word (wanted == 1) ++ verb (wanted == 1) ++ codes " wanted behind p" ++ decimal p
-    ++ codes ", and " ++ decimal (least_at row p) ++ verb (least_at row p == 1) ++ codes " known there"
+    concat (codes " " ∷ decimal wanted ∷ bytes_word (wanted == 1) ∷ verb (wanted == 1) ∷ codes " wanted behind p" ∷ decimal p
+    ∷ codes ", and " ∷ decimal (least_at row p) ∷ verb (least_at row p == 1) ∷ codes " known there" ∷ [])
 
 -- a word may be any number
 abbrev pub is_any : ℕ → Bool
@@ -57,18 +58,18 @@ unfoldable pub index_known : ℕ → ℕ → List ℕ
 index_known w most =
     if is_any most
     then codes " nothing is known of w" ++ decimal w ++ codes ", the index"
-    else codes " w" ++ decimal w ++ codes "<=" ++ decimal most ++ codes " is known of the index"
+    else concat (codes " w" ∷ decimal w ∷ codes "<=" ∷ decimal most ∷ codes " is known of the index" ∷ [])
 
 -- what must be known of it for a read or a write so wide; nothing serves where fewer bytes are there
 unfoldable pub index_wanted : ℕ → ℕ → ℕ → List ℕ
 index_wanted w wide least =
     if nat_le wide least
-    then codes ", and w" ++ decimal w ++ codes "<=" ++ decimal (least - wide) ++ codes " is wanted"
+    then concat (codes ", and w" ∷ decimal w ∷ codes "<=" ∷ decimal (least - wide) ∷ codes " is wanted" ∷ [])
     else codes ", and none is low enough"
 
 -- how many bytes are known behind a pointer
 unfoldable pub known_bytes : ℕ → ℕ → List ℕ
-known_bytes p least = codes ": p" ++ decimal p ++ codes " is known to have " ++ decimal least ++ bytes_word (least == 1)
+known_bytes p least = concat (codes ": p" ∷ decimal p ∷ codes " is known to have " ∷ decimal least ∷ bytes_word (least == 1) ∷ [])
 
 -- an index may be too high for the bytes behind its pointer
 unfoldable pub index_words : ℕ → ℕ → ℕ → ℕ → ℕ → List ℕ
@@ -105,8 +106,8 @@ unfoldable pub unmarked_words : Instr → PointerUse → Row → List ℕ
 unmarked_words i pointer row =
     let a = changed_slot i pointer row in
     let state = slot_state row a in
-    codes " s" ++ decimal a ++ codes "=" ++ state_word state ++ codes " is changed here, and may not be marked yet: "
-    ++ mark_word state ++ codes " s" ++ decimal a ++ codes " marks it"
+    concat (codes " s" ∷ decimal a ∷ codes "=" ∷ state_word state ∷ codes " is changed here, and may not be marked yet: "
+    ∷ mark_word state ∷ codes " s" ∷ decimal a ∷ codes " marks it" ∷ [])
 
 -- a block is locked into a slot that is held
 unfoldable pub held_words : Instr → Row → List ℕ

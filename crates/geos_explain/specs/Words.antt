@@ -1,5 +1,6 @@
 -- What is wrong at a point that is refused, in a line of plain words, rule by rule.
-use Rattle.std.specs.Prelude.{ℕ, Bool, ◌+◌, true, false, ◌&&◌, not, nat_lt, if◌then◌else◌, ◌==◌, List, [], ◌++◌, Some, None, length, slice_get, codes}
+use Rattle.std.specs.Prelude.{ℕ, Bool, ◌+◌, true, false, ◌&&◌, not, nat_lt, if◌then◌else◌, ◌==◌, List, [], ◌∷◌, ◌++◌, Some, None, length, slice_get, codes}
+use Rattle.std.specs.List.{concat}
 use Rattle.geos_opcodes.specs.declared.opcode.Opcode.{Opcode}
 use Rattle.geos_opcodes.specs.declared.opcode.Opcode.TheVariants.{Call}
 use Rattle.geos_image.specs.declared.row.Row.{Row}
@@ -38,7 +39,7 @@ entry_words routine row =
 
 -- these items are wanted by a routine or at a pc
 unfoldable pub wanted_words : List ℕ → List ℕ → List ℕ → List ℕ
-wanted_words items at what = items ++ is_or_are items ++ at ++ what ++ codes ", and not known here"
+wanted_words items at what = concat (items ∷ is_or_are items ∷ at ∷ what ∷ codes ", and not known here" ∷ [])
 
 -- the routine that is called does not stand before that of the place, or its entry row wants more than the row says
 abbrev pub callee_words : Place → Routine → List ℕ

@@ -1,18 +1,19 @@
 //! Which slots are held that must not be, and since where.
 
 ghost use Rattle.std.specs.Prelude.{◌≡◌, ◌<◌, ◌++◌, OnOk, length};
+ghost use Rattle.geos_text.specs.Parts.{part_text};
 ghost use Rattle.geos_explain.specs.Places.{IsPlace, place_of};
-ghost use Rattle.geos_explain.specs.Held.{is_held_at, slot_at, slots_at, fills_at, fills_here, also, since_below, since_at, sinces_at, also_wanted, else_wanted, kept_words, unmet_words, exit_words};
+ghost use Rattle.geos_explain.specs.Held.{is_held_at, slot_at, slots_at, fills_at, fills_here, also, since_below, since_place, or_another, since_at, sinces_at, also_wanted, else_wanted, kept_words, unmet_words, exit_words};
 
 use crate::lacks::{lacking, put_lacking};
-use crate::numbers::is_or_are;
-use crate::parts::{Part, put_are, put_parts};
+use crate::numbers::{is_or_are, pc_part, put_are};
 use crate::place::Place;
 use crate::points::point_at;
 use crate::routines::comes_alike;
 use crate::uses::put_state;
 use geos_image::Image;
 use geos_listing::put_items;
+use geos_text::{Part, put_parts};
 use geos_verify::{after, falls_through, has_place, is_empty, is_of_file, slot_state};
 use std::alloc::{AllocError, Global};
 
@@ -128,6 +129,26 @@ fn held_since(place: &Place, a: u8) -> Since
     since
 }
 
+/// Where a slot becomes held; of several places, one.
+fn since_part(lines: &[usize], since: Since) -> Part<'static>
+    ensures { part_text result ≡ since_place lines.now since }
+{
+    match since {
+        Since::Nowhere => Part::Text(" the in line"),
+        Since::Once(from) | Since::Often(from) => pc_part(lines, from),
+    }
+}
+
+/// That there are others, if there are.
+fn or_another(since: Since) -> &'static str
+    ensures { result.now ≡ or_another since }
+{
+    match since {
+        Since::Often(_) => " or another place",
+        _ => "",
+    }
+}
+
 /// Since where a slot is held that must not be; of several places, one.
 #[tactic(auto, unfolding(crate::specs::Held::since_at))]
 fn put_since_at(out: &mut Vec<u8>, which: HeldAt, place: &Place, a: u8) -> Result<(), AllocError>
@@ -137,19 +158,14 @@ fn put_since_at(out: &mut Vec<u8>, which: HeldAt, place: &Place, a: u8) -> Resul
     if !is_held_at(which, place, a) {
         return Ok(());
     }
-    let (since, behind) = match held_since(place, a) {
-        Since::Nowhere => (Part::Text(" the in line"), ""),
-        Since::Once(from) => (Part::Pc(place.lines, from), ""),
-        Since::Often(last) => (Part::Pc(place.lines, last), " or another place"),
-    };
+    let since = held_since(place, a);
     put_parts(
         out,
         &[
-            Part::Text("; s"),
-            Part::Register(a),
+            Part::Numbered("; s", a as u64),
             Part::Text(" is held since"),
-            since,
-            Part::Text(behind),
+            since_part(place.lines, since),
+            Part::Text(or_another(since)),
         ],
     )
 }

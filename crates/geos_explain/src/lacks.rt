@@ -5,7 +5,8 @@ ghost use Rattle.geos_verify.specs.Lists.{zip2};
 ghost use Rattle.geos_explain.specs.Lacks.{lacking_bound, lacking_slot, lacking_pointer, lacking_pair, lacking, held_item, held_items, lacking_items, LacksNothingWhereItFits};
 
 use geos_image::{Pointer, Row, SlotState};
-use geos_listing::{put_items, put_numbered};
+use geos_listing::put_items;
+use geos_text::put_numbered;
 use geos_verify::{is_empty, pointer_fits, slot_fits};
 use std::alloc::AllocError;
 

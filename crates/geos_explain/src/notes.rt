@@ -2,14 +2,14 @@
 
 ghost use Rattle.std.specs.Prelude.{◌≡◌, ◌++◌, OnOk};
 ghost use Rattle.geos_explain.specs.Places.{IsPlace, place_of};
-ghost use Rattle.geos_explain.specs.Notes.{coefficient_text, coefficients_text, is_one, potential_text, where_text, note_head, known_here, note, budget_words};
+ghost use Rattle.geos_explain.specs.Notes.{coefficient_text, coefficients_text, steps_text, is_one, potential_text, where_text, note_head, known_here, note, budget_words};
 
 use crate::led::is_reached;
 use crate::numbers::either;
-use crate::parts::{Part, put_parts};
 use crate::place::Place;
 use geos_image::{Potential, Routine};
-use geos_listing::{put_items, put_numbered};
+use geos_listing::put_items;
+use geos_text::{Part, put_numbered, put_parts};
 use std::alloc::AllocError;
 
 /// So many steps for each that is on counter k, unless there are none.
@@ -25,13 +25,26 @@ fn put_coefficient(out: &mut Vec<u8>, k: usize, n: u32) -> Result<(), AllocError
 
 /// Those for each counter.
 #[tactic(auto, unfolding(geos_listing::specs::Rows::texts_below))]
-pub(crate) fn put_coefficients(out: &mut Vec<u8>, coefficients: &[u32; 4]) -> Result<(), AllocError>
+fn put_coefficients(out: &mut Vec<u8>, coefficients: &[u32; 4]) -> Result<(), AllocError>
     ensures { OnOk result (out.new.items ≡ out.old.items ++ coefficients_text coefficients.now) }
 {
     for k in 0..coefficients.len() {
         put_coefficient(out, k, coefficients[k])?;
     }
     Ok(())
+}
+
+/// So many steps, and so many for each that is on a counter.
+#[tactic(auto, unfolding(crate::specs::Notes::steps_text))]
+pub(crate) fn put_steps(
+    out: &mut Vec<u8>,
+    n: u64,
+    coefficients: &[u32; 4],
+) -> Result<(), AllocError>
+    ensures { OnOk result (out.new.items ≡ out.old.items ++ steps_text n coefficients.now) }
+{
+    put_numbered(out, " ", n)?;
+    put_coefficients(out, coefficients)
 }
 
 /// Whether the potential stands for just one step.
@@ -47,15 +60,8 @@ fn is_one(potential: &Potential) -> bool
 fn put_potential(out: &mut Vec<u8>, potential: &Potential) -> Result<(), AllocError>
     ensures { OnOk result (out.new.items ≡ out.old.items ++ potential_text potential.now) }
 {
-    put_parts(
-        out,
-        &[
-            Part::Text(" "),
-            Part::Number(u64::from(potential.constant)),
-            Part::Coefficients(&potential.coefficients),
-            Part::Text(either(is_one(potential), " step", " steps")),
-        ],
-    )
+    put_steps(out, u64::from(potential.constant), &potential.coefficients)?;
+    out.extend_from_slice(either(is_one(potential), " step", " steps").as_bytes())
 }
 
 /// The routine and the pc.
@@ -68,8 +74,7 @@ fn put_where(out: &mut Vec<u8>, routine: &Routine, pc: u16) -> Result<(), AllocE
         &[
             Part::Text(" ; "),
             Part::Bytes(routine.name_text()),
-            Part::Text(" "),
-            Part::Number(u64::from(pc)),
+            Part::Numbered(" ", pc as u64),
             Part::Text(":"),
         ],
     )
@@ -129,8 +134,7 @@ pub(crate) fn put_budget(
         out,
         &[
             Part::Text(either(is_one(potential), " is", " are")),
-            Part::Text(" owed from here, the budget is "),
-            Part::Number(u64::from(routine.budget)),
+            Part::Numbered(" owed from here, the budget is ", routine.budget as u64),
         ],
     )
 }

@@ -1,9 +1,10 @@
 //! The words that go with a number of steps or of items, and what a place is called.
 
 ghost use Rattle.std.specs.Prelude.{◌≡◌, ◌==◌, ◌++◌, OnOk};
-ghost use Rattle.geos_explain.specs.Numbers.{either, items_in, is_or_are, label_text, pc_text};
+ghost use Rattle.geos_text.specs.Parts.{part_text};
+ghost use Rattle.geos_explain.specs.Numbers.{either, items_in, is_or_are, are_text, label_text, pc_text};
 
-use geos_listing::put_numbered;
+use geos_text::{Part, put_parts};
 use std::alloc::AllocError;
 
 /// One text where there is just one thing, else the other.
@@ -35,24 +36,40 @@ pub(crate) fn is_or_are(items: &[u8]) -> &'static str
 }
 
 /// A target as the reader has it: in an author's text its line, else the label that the listing gives it.
-#[tactic(auto, unfolding(crate::specs::Numbers::label_text))]
-pub(crate) fn put_label(out: &mut Vec<u8>, lines: &[usize], target: u16) -> Result<(), AllocError>
-    ensures { OnOk result (out.new.items ≡ out.old.items ++ label_text lines.now target) }
+pub(crate) fn label_part(lines: &[usize], target: u16) -> Part<'static>
+    ensures { part_text result ≡ label_text lines.now target }
 {
     match lines.get(usize::from(target)) {
-        Some(line) => put_numbered(out, " line ", *line as u64),
-        None => put_numbered(out, " L", u64::from(target)),
+        Some(line) => Part::Numbered(" line ", *line as u64),
+        None => Part::Numbered(" L", target as u64),
     }
 }
 
 /// A pc as the reader has it: in an author's text its line, else itself. `lines` has the number of each instruction's line,
-/// or nothing. An error says that an allocation was refused.
-#[tactic(auto, unfolding(crate::specs::Numbers::pc_text))]
-pub fn put_pc(out: &mut Vec<u8>, lines: &[usize], pc: u16) -> Result<(), AllocError>
-    ensures { OnOk result (out.new.items ≡ out.old.items ++ pc_text lines.now pc) }
+/// or nothing.
+pub fn pc_part(lines: &[usize], pc: u16) -> Part<'static>
+    ensures { part_text result ≡ pc_text lines.now pc }
 {
     match lines.get(usize::from(pc)) {
-        Some(line) => put_numbered(out, " line ", *line as u64),
-        None => put_numbered(out, " ", u64::from(pc)),
+        Some(line) => Part::Numbered(" line ", *line as u64),
+        None => Part::Numbered(" ", pc as u64),
     }
+}
+
+/// Items, that it is or that they are, and what.
+pub(crate) fn put_are<'a>(
+    out: &mut Vec<u8>,
+    items: &'a [u8],
+    what: &'a str,
+) -> Result<(), AllocError>
+    ensures { OnOk result (out.new.items ≡ out.old.items ++ are_text items.now what.now) }
+{
+    put_parts(
+        out,
+        &[
+            Part::Bytes(items),
+            Part::Text(is_or_are(items)),
+            Part::Text(what),
+        ],
+    )
 }

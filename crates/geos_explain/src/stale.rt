@@ -6,16 +6,15 @@ ghost use Rattle.geos_explain.specs.declared.ways.Way.TheVariants.{Along};
 ghost use Rattle.geos_explain.specs.Stale.{if_stale, stale_used, pointer_item, refused_on, way_text, meeting_place, known_from, not_from, meeting_item, named, name_at, call_loss, moved_words, use_loss, how_lost, lost_by, label_wish, refused_at, unset_words, unreached_words, merged_words, loss_words, trace_item, stale_words};
 
 use crate::edges::Edge;
-use crate::numbers::put_pc;
-use crate::parts::{Part, put_parts};
+use crate::numbers::pc_part;
 use crate::place::Place;
 use crate::points::point_at;
 use crate::trace::{End, Meeting, Trace, hint_at, traced};
 use crate::uses::slot_behind;
 use crate::ways::{Followed, Way, forgets, is_stale, sets, with_hint};
 use geos_image::{Image, Instr, Point, Routine, Row};
-use geos_listing::put_numbered;
 use geos_opcodes::{PointerUse, SlotUse};
+use geos_text::{Part, put_numbered, put_parts};
 use geos_verify::{pointer_at, uses_at};
 use std::alloc::AllocError;
 
@@ -74,13 +73,13 @@ fn put_way(out: &mut Vec<u8>, place: &Place, way: Way) -> Result<(), AllocError>
             out,
             &[
                 Part::Text(" where"),
-                Part::Pc(place.lines, from),
+                pc_part(place.lines, from),
                 Part::Text(" is refused"),
             ],
         ),
         None => match way {
             Way::Entry => out.extend_from_slice(b" the in line"),
-            Way::Along(edge) => put_pc(out, place.lines, edge.from),
+            Way::Along(edge) => put_parts(out, &[pc_part(place.lines, edge.from)]),
         },
     }
 }
@@ -92,7 +91,7 @@ fn put_meeting_place(out: &mut Vec<u8>, place: &Place, to: u16) -> Result<(), Al
     if to == place.pc {
         return out.extend_from_slice(b";");
     }
-    put_parts(out, &[Part::Text("; at"), Part::Pc(place.lines, to)])
+    put_parts(out, &[Part::Text("; at"), pc_part(place.lines, to)])
 }
 
 /// Of ways that meet one brings the pointer.
@@ -102,11 +101,7 @@ fn put_known_from(out: &mut Vec<u8>, place: &Place, p: u8, m: &Meeting) -> Resul
 {
     put_parts(
         out,
-        &[
-            Part::Text(" p"),
-            Part::Register(p),
-            Part::Text(" is known from"),
-        ],
+        &[Part::Numbered(" p", p as u64), Part::Text(" is known from")],
     )?;
     put_way(out, place, m.known)
 }
@@ -151,7 +146,7 @@ fn put_named(out: &mut Vec<u8>, lines: &[usize], from: u16, point: &Point) -> Re
             Part::Text("; "),
             Part::Text(point.instr.opcode.word()),
             Part::Text(" at"),
-            Part::Pc(lines, from),
+            pc_part(lines, from),
         ],
     )
 }
@@ -178,8 +173,7 @@ fn put_call_loss(out: &mut Vec<u8>, image: &Image, p: u8, r: u16) -> Result<(), 
         &[
             Part::Text(" leaves what the out line of "),
             Part::Bytes(name_at(image, r)),
-            Part::Text(" says, and it does not say p"),
-            Part::Register(p),
+            Part::Numbered(" says, and it does not say p", p as u64),
             Part::Text(": say it in the out line, or fetch it again"),
         ],
     )
@@ -190,26 +184,21 @@ fn put_call_loss(out: &mut Vec<u8>, image: &Image, p: u8, r: u16) -> Result<(), 
 fn put_moved(out: &mut Vec<u8>, p: u8, a: u8, b: u8) -> Result<(), AllocError>
     ensures { OnOk result (out.new.items ≡ out.old.items ++ moved_words p a b) }
 {
-    let moved = Part::Text(" may have moved what is behind p");
+    let moved = Part::Numbered(" may have moved what is behind p", p as u64);
     if a == b {
-        return put_parts(
-            out,
-            &[moved, Part::Register(p), Part::Text(": fetch it again")],
-        );
+        return put_parts(out, &[moved, Part::Text(": fetch it again")]);
     }
     put_parts(
         out,
         &[
             moved,
-            Part::Register(p),
-            Part::Text(", since s"),
-            Part::Register(a),
-            Part::Text(" and s"),
-            Part::Register(b),
-            Part::Text(" may hold one block: fetch it again, or tell them apart by SNE s"),
-            Part::Register(a),
-            Part::Text(" s"),
-            Part::Register(b),
+            Part::Numbered(", since s", a as u64),
+            Part::Numbered(" and s", b as u64),
+            Part::Numbered(
+                " may hold one block: fetch it again, or tell them apart by SNE s",
+                a as u64,
+            ),
+            Part::Numbered(" s", b as u64),
         ],
     )
 }
@@ -231,10 +220,7 @@ fn put_use_loss(out: &mut Vec<u8>, i: &Instr, slot: SlotUse, p: u8, b: u8) -> Re
         ),
         _ => (" leaves p", " stale: fetch it again"),
     };
-    put_parts(
-        out,
-        &[Part::Text(before), Part::Register(p), Part::Text(behind)],
-    )
+    put_parts(out, &[Part::Numbered(before, p as u64), Part::Text(behind)])
 }
 
 /// How the instruction lost the pointer, at its target or else on the next instruction.
@@ -257,8 +243,10 @@ fn put_how_lost(
         put_parts(
             out,
             &[
-                Part::Text(" goes to its label where it is refused, and has not set p"),
-                Part::Register(p),
+                Part::Numbered(
+                    " goes to its label where it is refused, and has not set p",
+                    p as u64,
+                ),
                 Part::Text(": give it another label"),
             ],
         )
@@ -303,7 +291,7 @@ fn put_label_wish(
             out,
             &[
                 Part::Text(", or give"),
-                Part::Pc(place.lines, from),
+                pc_part(place.lines, from),
                 Part::Text(" another label"),
             ],
         ),
@@ -324,8 +312,7 @@ fn put_unset(
     put_parts(
         out,
         &[
-            Part::Text("; p"),
-            Part::Register(p),
+            Part::Numbered("; p", p as u64),
             Part::Text(" is not set on the way from the start of the routine: fetch it first"),
         ],
     )?;
@@ -336,8 +323,7 @@ fn put_unset(
     put_parts(
         out,
         &[
-            Part::Text(", or say p"),
-            Part::Register(p),
+            Part::Numbered(", or say p", p as u64),
             Part::Text(" in the in line"),
         ],
     )
@@ -355,7 +341,7 @@ fn put_unreached(out: &mut Vec<u8>, place: &Place, to: u16) -> Result<(), AllocE
         out,
         &[
             Part::Text("; nothing leads to"),
-            Part::Pc(place.lines, to),
+            pc_part(place.lines, to),
             Part::Text(": take it out"),
         ],
     )
@@ -370,9 +356,8 @@ fn put_merged(out: &mut Vec<u8>, place: &Place, p: u8, to: u16) -> Result<(), Al
         out,
         &[
             Part::Text("; each way to"),
-            Part::Pc(place.lines, to),
-            Part::Text(" knows p"),
-            Part::Register(p),
+            pc_part(place.lines, to),
+            Part::Numbered(" knows p", p as u64),
             Part::Text(
                 ", and it is not known there, as where it leads into two slots: fetch it again",
             ),

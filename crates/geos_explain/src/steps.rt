@@ -2,45 +2,42 @@
 
 ghost use Rattle.std.specs.Prelude.{◌≡◌, ◌++◌, OnOk};
 ghost use Rattle.geos_explain.specs.Places.{IsPlace, place_of};
-ghost use Rattle.geos_explain.specs.Steps.{asked_words, asks_along, asks_branching, paying_item, paying_items, touched_words, last_words, unpaid_words};
+ghost use Rattle.geos_explain.specs.Steps.{whole_words, asked_words, asks_along, asks_branching, paying_item, paying_items, touched_words, last_words, unpaid_words};
 
+use crate::notes::put_steps;
 use crate::numbers::either;
-use crate::parts::{Part, put_parts};
 use crate::place::Place;
 use crate::points::point_at;
 use geos_image::{Opcode, Potential, Routine};
-use geos_listing::put_numbered;
+use geos_text::{Part, put_numbered, put_parts};
 use geos_verify::{Asked, asked_along, asked_branching, branches, falls_through};
 use std::alloc::AllocError;
 
+/// What is asked and left in whole, with what each counter must pay, and pays.
+fn put_whole(out: &mut Vec<u8>, asked: &Asked, p: &Potential) -> Result<(), AllocError>
+    ensures { OnOk result (out.new.items ≡ out.old.items ++ whole_words asked.now p.now) }
+{
+    put_steps(out, asked.steps, &asked.coefficients)?;
+    out.extend_from_slice(b" steps are owed from here, with")?;
+    put_steps(out, asked.left(p), &p.coefficients)?;
+    out.extend_from_slice(b" left")
+}
+
 /// What is asked and not left: steps, or else what counters pay, which is told with what each must pay, and pays.
-fn put_asked<'a>(out: &mut Vec<u8>, asked: &'a Asked, p: &'a Potential) -> Result<(), AllocError>
+fn put_asked(out: &mut Vec<u8>, asked: &Asked, p: &Potential) -> Result<(), AllocError>
     ensures { OnOk result (out.new.items ≡ out.old.items ++ asked_words asked.now p.now) }
 {
     let left = asked.left(p);
     if asked.steps <= left {
-        return put_parts(
-            out,
-            &[
-                Part::Text(" "),
-                Part::Number(asked.steps),
-                Part::Coefficients(&asked.coefficients),
-                Part::Text(" steps are owed from here, with "),
-                Part::Number(left),
-                Part::Coefficients(&p.coefficients),
-                Part::Text(" left"),
-            ],
-        );
+        return put_whole(out, asked, p);
     }
     put_parts(
         out,
         &[
-            Part::Text(" "),
-            Part::Number(asked.steps),
+            Part::Numbered(" ", asked.steps),
             Part::Text(either(asked.steps == 1, " step", " steps")),
             Part::Text(either(asked.steps == 1, " is", " are")),
-            Part::Text(" owed from here, "),
-            Part::Number(left),
+            Part::Numbered(" owed from here, ", left),
             Part::Text(either(left == 1, " is", " are")),
             Part::Text(" left"),
         ],

@@ -7,10 +7,9 @@ ghost use Rattle.geos_explain.specs.Texts.{last_begun, noted_at, is_line_of, num
 use crate::explained::Explained;
 use crate::explanation::put_noted;
 use crate::led::reached;
-use crate::parts::{Part, put_parts};
 use crate::routines::{ExplainedRoutine, place_at};
 use geos_image::Image;
-use geos_text::first_line;
+use geos_text::{Part, first_line, put_parts};
 use geos_verify::Reject;
 use std::alloc::{AllocError, Global};
 
@@ -82,7 +81,7 @@ fn put_numbered_line(out: &mut Vec<u8>, line: &Line) -> Result<(), AllocError>
     put_parts(
         out,
         &[
-            Part::Number(line.number as u64),
+            Part::Numbered("", line.number as u64),
             Part::Text("\t"),
             Part::Bytes(line.text),
         ],

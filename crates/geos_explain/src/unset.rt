@@ -5,11 +5,12 @@ ghost use Rattle.geos_explain.specs.Places.{place_of};
 ghost use Rattle.geos_explain.specs.Unset.{takes, gives, pays_at, next_search, search_on, searched, unset_item, unset_items, over_words};
 
 use crate::notes::put_budget;
-use crate::parts::{Part, put_parts};
+use crate::numbers::pc_part;
 use crate::place::Place;
 use crate::points::point_at;
 use geos_image::{Image, Instr};
 use geos_opcodes::CounterUse;
+use geos_text::{Part, put_parts};
 use geos_verify::{branches, falls_through};
 use std::alloc::AllocError;
 
@@ -121,10 +122,9 @@ fn put_unset_item(out: &mut Vec<u8>, place: &Place, k: u8) -> Result<(), AllocEr
         Search::Found(pc) => put_parts(
             out,
             &[
-                Part::Text("; k"),
-                Part::Register(k),
+                Part::Numbered("; k", k as u64),
                 Part::Text(" is not set on the way to LOOP at"),
-                Part::Pc(place.lines, pc),
+                pc_part(place.lines, pc),
                 Part::Text(": set it first by SETK or SETKW"),
             ],
         ),

@@ -7,10 +7,10 @@ ghost use Rattle.geos_verify.specs.Uses.{OffsetFits};
 ghost use Rattle.geos_explain.specs.Uses.{state_item, nowhere_only, leading_nowhere, nowhere_words, short_words, index_known, index_wanted, known_bytes, index_words, reach_words, past_words, slot_behind, changed_slot, mark_word, unmarked_words, held_words, slot_wish, serving, other_item, slot_words};
 
 use crate::numbers::{either, is_one_item};
-use crate::parts::{Part, put_parts};
 use geos_image::{Instr, Pointer, Row, SlotState};
 use geos_listing::{put_items, state_word};
 use geos_opcodes::{Kind, Offset, PointerUse, SlotUse, Width};
+use geos_text::{Part, put_parts};
 use geos_verify::{bytes_in, leads_nowhere, least_at, pointer_at, reach, slot_state, uses_at};
 use std::alloc::{AllocError, Global};
 
@@ -22,8 +22,7 @@ pub(crate) fn put_state(out: &mut Vec<u8>, a: u8, row: &Row) -> Result<(), Alloc
     put_parts(
         out,
         &[
-            Part::Text(" s"),
-            Part::Register(a),
+            Part::Numbered(" s", a as u64),
             Part::Text("="),
             Part::Text(state_word(slot_state(row, a))),
         ],
@@ -80,14 +79,11 @@ fn put_short(out: &mut Vec<u8>, p: u8, wanted: u32, row: &Row) -> Result<(), All
     put_parts(
         out,
         &[
-            Part::Text(" "),
-            Part::Number(u64::from(wanted)),
+            Part::Numbered(" ", wanted as u64),
             Part::Text(either(wanted == 1, " byte", " bytes")),
             Part::Text(either(wanted == 1, " is", " are")),
-            Part::Text(" wanted behind p"),
-            Part::Register(p),
-            Part::Text(", and "),
-            Part::Number(u64::from(least)),
+            Part::Numbered(" wanted behind p", p as u64),
+            Part::Numbered(", and ", least as u64),
             Part::Text(either(least == 1, " is", " are")),
             Part::Text(" known there"),
         ],
@@ -110,8 +106,7 @@ fn put_index_known(out: &mut Vec<u8>, index: Index) -> Result<(), AllocError>
         return put_parts(
             out,
             &[
-                Part::Text(" nothing is known of w"),
-                Part::Register(index.w),
+                Part::Numbered(" nothing is known of w", index.w as u64),
                 Part::Text(", the index"),
             ],
         );
@@ -119,10 +114,8 @@ fn put_index_known(out: &mut Vec<u8>, index: Index) -> Result<(), AllocError>
     put_parts(
         out,
         &[
-            Part::Text(" w"),
-            Part::Register(index.w),
-            Part::Text("<="),
-            Part::Number(u64::from(index.most)),
+            Part::Numbered(" w", index.w as u64),
+            Part::Numbered("<=", index.most as u64),
             Part::Text(" is known of the index"),
         ],
     )
@@ -137,10 +130,8 @@ fn put_index_wanted(out: &mut Vec<u8>, w: u8, wide: u16, least: u16) -> Result<(
         put_parts(
             out,
             &[
-                Part::Text(", and w"),
-                Part::Register(w),
-                Part::Text("<="),
-                Part::Number(u64::from(least - wide)),
+                Part::Numbered(", and w", w as u64),
+                Part::Numbered("<=", (least - wide) as u64),
                 Part::Text(" is wanted"),
             ],
         )
@@ -157,10 +148,8 @@ fn put_known_bytes(out: &mut Vec<u8>, p: u8, least: u16) -> Result<(), AllocErro
     put_parts(
         out,
         &[
-            Part::Text(": p"),
-            Part::Register(p),
-            Part::Text(" is known to have "),
-            Part::Number(u64::from(least)),
+            Part::Numbered(": p", p as u64),
+            Part::Numbered(" is known to have ", least as u64),
             Part::Text(either(least == 1, " byte", " bytes")),
         ],
     )
@@ -261,14 +250,12 @@ pub(crate) fn put_unmarked(out: &mut Vec<u8>, i: &Instr, row: &Row) -> Result<()
     put_parts(
         out,
         &[
-            Part::Text(" s"),
-            Part::Register(a),
+            Part::Numbered(" s", a as u64),
             Part::Text("="),
             Part::Text(state_word(state)),
             Part::Text(" is changed here, and may not be marked yet: "),
             Part::Text(mark_word(state)),
-            Part::Text(" s"),
-            Part::Register(a),
+            Part::Numbered(" s", a as u64),
             Part::Text(" marks it"),
         ],
     )
@@ -282,8 +269,7 @@ pub(crate) fn put_held(out: &mut Vec<u8>, i: &Instr, row: &Row) -> Result<(), Al
     put_parts(
         out,
         &[
-            Part::Text(" s"),
-            Part::Register(i.a),
+            Part::Numbered(" s", i.a as u64),
             Part::Text("="),
             Part::Text(state_word(slot_state(row, i.a))),
             Part::Text(" is held here, and an empty slot is wanted"),

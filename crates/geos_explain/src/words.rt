@@ -1,14 +1,13 @@
 //! What is wrong at a point that is refused, rule by rule.
 
 ghost use Rattle.std.specs.Prelude.{◌≡◌, ◌<◌, ◌+◌, ◌++◌, ◌&&◌, OnOk};
+ghost use Rattle.geos_text.specs.Parts.{part_text};
 ghost use Rattle.geos_explain.specs.Places.{IsPlace, place_of};
-ghost use Rattle.geos_explain.specs.Parts.{part_text};
 ghost use Rattle.geos_explain.specs.Words.{leaves_words, entry_words, call_here, wanted_behind, wanted_words, branching_words, edge_words, words, refusal_head, refusal_line};
 
 use crate::held::put_exit;
 use crate::lacks::put_lacking;
-use crate::numbers::is_or_are;
-use crate::parts::{Part, put_are, put_parts};
+use crate::numbers::{is_or_are, label_part, pc_part, put_are};
 use crate::place::Place;
 use crate::points::point_at;
 use crate::stale::put_stale;
@@ -17,6 +16,7 @@ use crate::unset::put_over;
 use crate::uses::{put_held, put_nowhere, put_past, put_slot, put_unmarked};
 use crate::written::put_written;
 use geos_image::{Opcode, Routine, Row};
+use geos_text::{Part, put_parts};
 use geos_verify::{Rule, after, falls_through, has_edge, has_place};
 use std::alloc::{AllocError, Global};
 
@@ -34,7 +34,7 @@ fn put_leaves(out: &mut Vec<u8>, place: &Place) -> Result<(), AllocError>
         put_parts(
             out,
             &[
-                Part::Label(place.lines, place.i.target),
+                label_part(place.lines, place.i.target),
                 Part::Text(" stands outside of the routine"),
             ],
         )
@@ -150,7 +150,7 @@ fn put_branching(alloc: Global, out: &mut Vec<u8>, place: &Place) -> Result<(), 
         out,
         &items,
         " wanted at",
-        Part::Pc(place.lines, place.i.target),
+        pc_part(place.lines, place.i.target),
     )
 }
 
@@ -169,7 +169,7 @@ fn put_edge(alloc: Global, out: &mut Vec<u8>, place: &Place) -> Result<(), Alloc
             out,
             &items,
             " wanted at",
-            Part::Pc(place.lines, place.pc + 1),
+            pc_part(place.lines, place.pc + 1),
         )
     }
 }

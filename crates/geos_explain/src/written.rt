@@ -6,8 +6,8 @@ ghost use Rattle.geos_explain.specs.Written.{written_head, written_words};
 
 use crate::held::{HeldAt, put_sinces_at, put_slots_at};
 use crate::numbers::{either, is_one_item, is_or_are};
-use crate::parts::{Part, put_parts};
 use crate::place::Place;
+use geos_text::{Part, put_parts};
 use std::alloc::{AllocError, Global};
 
 /// These slots are held where the file is written.

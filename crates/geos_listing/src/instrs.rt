@@ -4,9 +4,9 @@ ghost use Rattle.std.specs.Prelude.{◌≡◌, ◌<◌, ◌++◌, OnOk, length};
 ghost use Rattle.geos_opcodes.specs.Facts.{limit};
 ghost use Rattle.geos_listing.specs.Instrs.{KeepsLimits, operand_text, operands_text, instr_code, instr_line};
 
-use crate::numbers::put_numbered;
 use geos_image::{Image, Instr, value_at};
 use geos_opcodes::{FIELDS, Operand, operand_at};
+use geos_text::put_numbered;
 use std::alloc::AllocError;
 
 /// An operand, and a blank in front of it; nothing for a field that is unused.

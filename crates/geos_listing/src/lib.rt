@@ -5,12 +5,10 @@
 
 mod instrs;
 mod listing;
-mod numbers;
 mod rows;
 mod targets;
 
 pub use instrs::put_code;
 pub use listing::{list, put_label_line, put_routine_line};
-pub use numbers::put_numbered;
 pub use rows::{put_items, put_row, state_word};
 pub use targets::{Targets, targets_of};

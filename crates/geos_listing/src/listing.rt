@@ -9,10 +9,10 @@ ghost use Rattle.geos_listing.specs.Instrs.{MarksTargets, label_line};
 ghost use Rattle.geos_listing.specs.Listing.{public_text, routine_line, place_text, listed_routine, listing};
 
 use crate::instrs::put_instr;
-use crate::numbers::put_numbered;
 use crate::rows::put_row;
 use crate::targets::{Targets, targets_of};
 use geos_image::{Image, Routine};
+use geos_text::put_numbered;
 use std::alloc::{AllocError, Global};
 
 /// Appends the line of a label, where one names the pc.

@@ -6,8 +6,8 @@ ghost use Rattle.geos_image.specs.declared.row.SlotState.TheVariants.{Empty};
 ghost use Rattle.geos_image.specs.Ranges.{IsWord, PointerFits, RowFits};
 ghost use Rattle.geos_listing.specs.Rows.{texts_below, bound_item, held_item, state_word, slot_item, pointer_item, pair_item, pair_slots, pair_items, row_items, row_line};
 
-use crate::numbers::put_numbered;
 use geos_image::{Pointer, Row, SlotState};
+use geos_text::put_numbered;
 use std::alloc::{AllocError, Global};
 
 /// The slots of each pair of a row.

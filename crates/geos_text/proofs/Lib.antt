@@ -2,3 +2,4 @@ pub mod Examples
 pub mod LineLaws
 pub mod NumberLaws
 pub mod WordLaws
+pub mod Texts

@@ -5,7 +5,7 @@ use Rattle.vm_file.specs.State.{pair_of}
 use Rattle.geos_dump.specs.DumpText.{block_text}
 use Rattle.geos_dump.specs.Sides.{block_of, contents_on, no_block}
 use Rattle.geos_dump.proofs.Looks.{causes_error, look_then}
-use Rattle.geos_dump.proofs.Texts.{take-step}
+use Rattle.geos_text.proofs.Texts.{flat_map-step}
 use Rattle.geos_dump.proofs.telling.put_blocks.Goals as goal
 
 pub returns-in_err-put_block-clause-cause : goal.returns-in_err-put_block-clause-cause
@@ -20,7 +20,7 @@ loop-i-preserved g c =
     record {
       looks = look_then d.medium f c.loop-i.file c.put_block.new.file i.looks c.in_ok-put_block.ensures.looks;
       count = c.in_ok-put_block.ensures.cause ∙ i.count;
-      text = (λ h detail told. take-step c.args.out.now.items c.loop-i.out.items c.put_block.new.out.items (block_text detail (block_of c.entry_at-entry.result (contents_on c.args.side (pair_of d.medium.image c.loop-i.file)).blocks))
+      text = (λ h detail told. flat_map-step c.args.out.now.items c.loop-i.out.items c.put_block.new.out.items (block_text detail (block_of c.entry_at-entry.result (contents_on c.args.side (pair_of d.medium.image c.loop-i.file)).blocks))
           (block_text detail) blocks c.loop-i.i no_block (omega (arith, c.loop-i-test.true, c.count-i-end.ensures.blocks)) (i.text h detail told)
           (c.in_ok-put_block.ensures.text (i.looks.reads.stays h) detail told) (ap (block_text detail) is));
     }

@@ -4,4 +4,4 @@ use Rattle.geos_explain.proofs.uses.put_known_bytes.Goals as goal
 
 pub returns : goal.returns
 unfolding known_bytes
-returns c = rw (sym c.either.ensures, sym c.from.ensures) c.put_parts.ensures
+returns c = rw (sym c.either.ensures) c.put_parts.ensures

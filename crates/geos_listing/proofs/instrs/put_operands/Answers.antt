@@ -4,7 +4,7 @@ use Rattle.geos_opcodes.specs.declared.fields.Field.TheVariants.{A}
 use Rattle.geos_opcodes.specs.Fields.{fields, operand_at}
 use Rattle.geos_image.specs.Fields.{value_at}
 use Rattle.geos_listing.specs.Instrs.{operand_text}
-use Rattle.geos_listing.proofs.Texts.{flat_map-step}
+use Rattle.geos_text.proofs.Texts.{flat_map-step}
 use Rattle.geos_listing.proofs.instrs.put_operands.Goals as goal
 
 pub loop-field-preserved : goal.loop-field-preserved

@@ -1,6 +1,6 @@
 use Rattle.std.proofs.Common.{sym}
 use Rattle.geos_explain.specs.Numbers.{are_text}
-use Rattle.geos_explain.proofs.parts.put_are.Goals as goal
+use Rattle.geos_explain.proofs.numbers.put_are.Goals as goal
 
 pub returns : goal.returns
 unfolding are_text
