@@ -1,11 +1,11 @@
 //! What is told of a file: the text of what it keeps, or a picture of how full its blocks are.
 
-ghost use Rattle.std.specs.Prelude.{◌≡◌, ◌≤◌, ◌<◌, OnOk, flat_map, length};
+ghost use Rattle.std.specs.Prelude.{◌≡◌, ◌≤◌, ◌<◌, OnOk, length};
 ghost use Rattle.geos_model.specs.Heap.{IsHeap, most_block_bytes};
-ghost use Rattle.vm_file.specs.State.{HasBlock, pair_of};
-ghost use Rattle.geos_dump.specs.DumpText.{block_text, directory_line, directory_text, dump_text};
-ghost use Rattle.geos_dump.specs.Sides.{Causes, IsOnlyRead, block_of, contents_on, directory_on, side_word};
-ghost use Rattle.geos_dump.specs.Tellings.{Writes};
+ghost use Rattle.vm_file.specs.State.{HasBlock};
+ghost use Rattle.geos_dump.specs.DumpText.{block_text, directory_line, dump_text};
+ghost use Rattle.geos_dump.specs.Sides.{directory_on};
+ghost use Rattle.geos_dump.specs.Tellings.{IsTold, Writes, blocks_text, listed_text, side_text};
 
 use crate::error::DumpError;
 use crate::picture::{Scale, put_columns_line, put_row, used_bytes};
@@ -66,10 +66,7 @@ fn put_block<D: Device + Drop>(
 ) -> Result<(), DumpError>
     requires listed { HasBlock (directory_on block.side file.old) block.entry.h block.entry.len }
     requires room { block.entry.len ≤ length buffer.old }
-    ensures text { D.medium.honest file.old.device → OnOk result (Writes telling
-        (λ detail. block_text detail (block_of block.entry (contents_on block.side (pair_of D.medium.image file.old)).blocks)) out.old.items out.new.items) }
-    ensures looks { IsOnlyRead D.medium file.old file.new }
-    ensures cause { Causes (D.medium.honest file.old.device) (D.medium.failed file.old.device) (D.medium.failed file.new.device) result }
+    ensures { IsTold D.medium telling (listed_text block) file.old file.new out.old.items out.new.items result }
 {
     let Listed { side, entry } = block;
     let bytes = &mut buffer[..usize::from(entry.len)];
@@ -87,10 +84,7 @@ fn put_blocks<D: Device + Drop>(
     buffer: &mut [u8],
 ) -> Result<(), DumpError>
     requires room { length buffer.old ≡ most_block_bytes }
-    ensures text { D.medium.honest file.old.device → OnOk result (Writes telling
-        (λ detail. flat_map (block_text detail) (contents_on side (pair_of D.medium.image file.old)).blocks) out.old.items out.new.items) }
-    ensures looks { IsOnlyRead D.medium file.old file.new }
-    ensures cause { Causes (D.medium.honest file.old.device) (D.medium.failed file.old.device) (D.medium.failed file.new.device) result }
+    ensures { IsTold D.medium telling (blocks_text side) file.old file.new out.old.items out.new.items result }
 {
     for i in 0..count(file, side) {
         let entry = entry_at(file, side, i);
@@ -108,10 +102,7 @@ fn put_directory<D: Device + Drop>(
     buffer: &mut [u8],
 ) -> Result<(), DumpError>
     requires room { length buffer.old ≡ most_block_bytes }
-    ensures text { D.medium.honest file.old.device → OnOk result (Writes telling
-        (λ detail. directory_text detail (side_word side) (contents_on side (pair_of D.medium.image file.old))) out.old.items out.new.items) }
-    ensures looks { IsOnlyRead D.medium file.old file.new }
-    ensures cause { Causes (D.medium.honest file.old.device) (D.medium.failed file.old.device) (D.medium.failed file.new.device) result }
+    ensures { IsTold D.medium telling (side_text side) file.old file.new out.old.items out.new.items result }
 {
     put_head(out, telling, word_of(side), directory(file, side))?;
     put_blocks(out, telling, file, side, buffer)
@@ -125,9 +116,7 @@ pub(crate) fn put_directories<D: Device + Drop>(
     telling: Telling,
     file: &mut VmFile<D>,
 ) -> Result<(), DumpError>
-    ensures text { D.medium.honest file.old.device → OnOk result (Writes telling (λ detail. dump_text detail (pair_of D.medium.image file.old)) out.old.items out.new.items) }
-    ensures looks { IsOnlyRead D.medium file.old file.new }
-    ensures cause { Causes (D.medium.honest file.old.device) (D.medium.failed file.old.device) (D.medium.failed file.new.device) result }
+    ensures { IsTold D.medium telling dump_text file.old file.new out.old.items out.new.items result }
 {
     let mut buffer = vec![in alloc; 0u8; MOST_BLOCK_BYTES]?;
     put_directory(out, telling, file, Side::Current, &mut buffer)?;
