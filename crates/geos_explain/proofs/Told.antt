@@ -1,8 +1,10 @@
 -- What is said of the point at a pc, and of one point after another.
-use Rattle.std.proofs.Common.{◌≡◌, ◌<◌, ◌≤◌, ℕ, false, List, [], ◌∷◌, ◌++◌, length, length-append, slice_get, refl, ap, append_assoc, arith}
-use Rattle.std.specs.Prelude.{IfSome, ◌==◌, if◌then◌else◌}
+use Rattle.std.proofs.Common.{◌≡◌, ◌<◌, ◌≤◌, ℕ, false, List, [], ◌∷◌, ◌++◌, length, length-append, drop, slice_get, Result, refl, sym, ap, ◌∙◌, append_assoc, arith}
+use Rattle.std.specs.Prelude.{IfSome, OnOk, ◌==◌, if◌then◌else◌}
 use Rattle.std.specs.Option.{option_map_or}
 use Rattle.std.proofs.lemmas.Bool.{ne_eqb}
+use Rattle.std.proofs.lemmas.List.{drop_at}
+use Rattle.std.proofs.lemmas.Result.{on_ok_weaker}
 use Rattle.geos_image.specs.declared.instr.Instr.{Instr}
 use Rattle.geos_image.specs.declared.row.Row.{Row}
 use Rattle.geos_image.specs.declared.potential.Potential.{Potential}
@@ -42,3 +44,10 @@ items-some before after [] behind written some = absurd (omega (arith, ap length
 items-some before after (x ∷ items) behind written some =
     let filled : (length (x ∷ items) == 0) ≡ false = ne_eqb (length (x ∷ items)) 0 (λ none. omega (arith, none)) in
     rw (filled, written) (append_assoc before (x ∷ items) behind)
+
+-- items that were written, and behind them what is said of them
+pub behind-items : {T E : Type 0} (result : Result T E) (start mid after items : List ℕ) (n : ℕ) (say : List ℕ → List ℕ) → n ≡ length start → mid ≡ start ++ items
+    → OnOk result (after ≡ mid ++ say (drop n mid)) → OnOk result (after ≡ start ++ (items ++ say items))
+behind-items result start mid after items n say long written said =
+    let same : drop n mid ≡ items = ap (drop n) written ∙ drop_at start items n (sym long) in
+    on_ok_weaker result (λ is. is ∙ ap (λ t. mid ++ say t) same ∙ ap (λ t. t ++ say items) written ∙ append_assoc start items (say items)) said

@@ -7,7 +7,7 @@ use Rattle.geos_listing.specs.Rows.{texts_below, row_items}
 use Rattle.geos_verify.specs.Rows.{after, falls_through, is_empty, slot_state}
 use Rattle.geos_verify.specs.Rules.{has_place, is_of_file}
 use Rattle.geos_explain.specs.Lacks.{lacking, lacking_items}
-use Rattle.geos_explain.specs.Numbers.{is_or_are, are_text, pc_text}
+use Rattle.geos_explain.specs.Numbers.{are_behind, are_text, pc_text}
 use Rattle.geos_explain.specs.Places.{Place, comes_alike}
 use Rattle.geos_explain.specs.Uses.{state_item}
 use Rattle.geos_explain.specs.declared.held.HeldAt.{HeldAt}
@@ -86,16 +86,19 @@ sinces_at which place = texts_below 4 (λ a. since_at which place a)
 
 -- what else the exit row wants
 unfoldable pub also_wanted : List ℕ → List ℕ
-also_wanted items = if length items == 0 then [] else concat (codes ";" ∷ items ∷ is_or_are items ∷ codes " wanted by the exit row, and not known here" ∷ [])
+also_wanted items = if length items == 0 then [] else codes ";" ++ are_text items (codes " wanted by the exit row, and not known here")
 
 -- what else the exit row of a place wants
 unfoldable pub else_wanted : Place → List ℕ
 else_wanted place = also_wanted (row_items (lacking place.row place.routine.exit))
 
--- slots are still held at the return, since where, and what else the exit row wants
-unfoldable pub kept_words : Place → List ℕ
-kept_words place =
-    are_text (slots_at Return place) (codes " still held at the return") ++ sinces_at Return place ++ else_wanted place
+-- that slots are still held at the return, since where, and what else the exit row wants
+unfoldable pub kept_behind : Place → List ℕ
+kept_behind place = are_behind (slots_at Return place) (codes " still held at the return") ++ sinces_at Return place ++ else_wanted place
+
+-- the same behind these slots
+abbrev pub kept_words : Place → List ℕ
+kept_words place = slots_at Return place ++ kept_behind place
 
 -- the exit row wants more than the row says
 unfoldable pub unmet_words : Place → List ℕ

@@ -34,9 +34,13 @@ items_in items = count_by is_blank items
 unfoldable pub is_or_are : List ℕ → List ℕ
 is_or_are items = verb (items_in items == 1)
 
+-- that it is or that they are, behind items, and what
+abbrev pub are_behind : List ℕ → List ℕ → List ℕ
+are_behind items what = concat (is_or_are items ∷ what ∷ [])
+
 -- items, that it is or that they are, and what
-unfoldable pub are_text : List ℕ → List ℕ → List ℕ
-are_text items what = concat (items ∷ is_or_are items ∷ what ∷ [])
+abbrev pub are_text : List ℕ → List ℕ → List ℕ
+are_text items what = items ++ are_behind items what
 
 -- a target as the reader has it: in an author's text its line, else the label that the listing gives it
 unfoldable pub label_text : List ℕ → ℕ → List ℕ

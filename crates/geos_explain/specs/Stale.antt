@@ -67,17 +67,13 @@ way_text place way = elim (refused_on place.image way) [
 abbrev pub meeting_place : Place → ℕ → List ℕ
 meeting_place place to = if to == place.pc then codes ";" else codes "; at" ++ pc_text place.lines to
 
--- of ways that meet one brings a pointer
-unfoldable pub known_from : Place → ℕ → Meeting → List ℕ
-known_from place p m = codes " p" ++ decimal p ++ codes " is known from" ++ way_text place m.known
-
--- and another does not
-unfoldable pub not_from : Place → Meeting → List ℕ
-not_from place m = codes ", and not from" ++ way_text place m.lost
+-- the same, and that one of the ways brings a pointer
+unfoldable pub meeting_head : Place → ℕ → ℕ → List ℕ
+meeting_head place p to = concat (meeting_place place to ∷ codes " p" ∷ decimal p ∷ codes " is known from" ∷ [])
 
 -- where ways meet, of which one brings a pointer, and another does not
 unfoldable pub meeting_words : Place → ℕ → Meeting → List ℕ
-meeting_words place p m = meeting_place place m.to ++ known_from place p m ++ not_from place m
+meeting_words place p m = meeting_head place p m.to ++ way_text place m.known ++ (codes ", and not from" ++ way_text place m.lost)
 
 -- the same, if ways meet
 abbrev pub meeting_item : Place → ℕ → Option Meeting → List ℕ

@@ -37,9 +37,13 @@ entry_words routine row =
     then codes " a public routine begins and ends with empty slots and stale pointers"
     else are_text (lacking_items routine.entry row) (codes " wanted here, and not known from the entry row")
 
+-- that items are wanted by a routine or at a pc
+abbrev pub wanted_behind_items : List ℕ → List ℕ → List ℕ → List ℕ
+wanted_behind_items items at what = concat (is_or_are items ∷ at ∷ what ∷ codes ", and not known here" ∷ [])
+
 -- these items are wanted by a routine or at a pc
 unfoldable pub wanted_words : List ℕ → List ℕ → List ℕ → List ℕ
-wanted_words items at what = concat (items ∷ is_or_are items ∷ at ∷ what ∷ codes ", and not known here" ∷ [])
+wanted_words items at what = items ++ wanted_behind_items items at what
 
 -- the routine that is called does not stand before that of the place, or its entry row wants more than the row says
 abbrev pub callee_words : Place → Routine → List ℕ

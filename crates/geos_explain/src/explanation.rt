@@ -22,7 +22,6 @@ use std::alloc::{AllocError, Global};
 /// place.
 #[tactic(auto, unfolding(crate::specs::Explanation::noted))]
 pub(crate) fn put_noted(
-    alloc: Global,
     out: &mut Vec<u8>,
     reject: Option<Reject>,
     place: &Place,
@@ -33,14 +32,13 @@ pub(crate) fn put_noted(
     put_note(out, place)?;
     out.extend_from_slice(b"\n")?;
     match reject {
-        Some(reject) if reject.pc == place.pc => put_refusal_line(alloc, out, place, reject.rule),
+        Some(reject) if reject.pc == place.pc => put_refusal_line(out, place, reject.rule),
         _ => Ok(()),
     }
 }
 
 /// The instruction at a pc, behind its label where another leads to it, with what is known there, and what is wrong with it.
 fn put_place(
-    alloc: Global,
     out: &mut Vec<u8>,
     targets: &Targets,
     within: &ExplainedRoutine,
@@ -53,13 +51,12 @@ fn put_place(
     put_label_line(out, within.explained.image, targets, pc)?;
     let place = place_at(within, pc);
     put_code(out, place.image, place.i)?;
-    put_noted(alloc, out, within.explained.reject, &place)
+    put_noted(out, within.explained.reject, &place)
 }
 
 /// So many of the routine's instructions, from a pc.
 #[tactic(auto, unfolding(geos_listing::specs::Rows::texts_below))]
 fn put_places(
-    alloc: Global,
     out: &mut Vec<u8>,
     targets: &Targets,
     within: &ExplainedRoutine,
@@ -71,24 +68,23 @@ fn put_places(
         (λ k. place_text (explained_of within.now.explained.now) within.now.r within.now.routine.now (start + k))) }
 {
     for k in 0..within.routine.count {
-        put_place(alloc, out, targets, within, start + k)?;
+        put_place(out, targets, within, start + k)?;
     }
     Ok(())
 }
 
 /// The routine's line, its entry row and its exit row.
 #[tactic(auto, unfolding(crate::specs::Explanation::head_text))]
-fn put_head(alloc: Global, out: &mut Vec<u8>, routine: &Routine) -> Result<(), AllocError>
+fn put_head(out: &mut Vec<u8>, routine: &Routine) -> Result<(), AllocError>
     ensures { OnOk result (out.new.items ≡ out.old.items ++ head_text routine.now) }
 {
     put_routine_line(out, routine)?;
-    put_row(alloc, out, "in", &routine.entry)?;
-    put_row(alloc, out, "out", &routine.exit)
+    put_row(out, "in", &routine.entry)?;
+    put_row(out, "out", &routine.exit)
 }
 
 /// The same, and its instructions.
 fn put_routine(
-    alloc: Global,
     out: &mut Vec<u8>,
     targets: &Targets,
     explained: &Explained,
@@ -100,14 +96,14 @@ fn put_routine(
     ensures { OnOk result (out.new.items ≡ out.old.items ++ numbered_routine (explained_of explained.now) r) }
 {
     let routine = explained.image.routine(r);
-    put_head(alloc, out, routine)?;
+    put_head(out, routine)?;
     let start = explained.image.start(r);
     let within = ExplainedRoutine {
         explained,
         r,
         routine,
     };
-    put_places(alloc, out, targets, &within, start)
+    put_places(out, targets, &within, start)
 }
 
 /// The listing of the image, behind each instruction what is known there, and a line for the
@@ -127,7 +123,7 @@ pub fn explain(alloc: Global, image: &Image, reject: Option<Reject>) -> Result<V
     };
     let mut out = Vec::new(alloc);
     for r in 0..image.count() {
-        put_routine(alloc, &mut out, &targets, &explained, r)?;
+        put_routine(&mut out, &targets, &explained, r)?;
     }
     Ok(out)
 }

@@ -1,12 +1,12 @@
 //! Which slots are held that must not be, and since where.
 
-ghost use Rattle.std.specs.Prelude.{◌≡◌, ◌<◌, ◌++◌, OnOk, length};
+ghost use Rattle.std.specs.Prelude.{◌≡◌, ◌<◌, ◌≤◌, ◌++◌, OnOk, drop, length};
 ghost use Rattle.geos_text.specs.Parts.{part_text};
 ghost use Rattle.geos_explain.specs.Places.{IsPlace, place_of};
-ghost use Rattle.geos_explain.specs.Held.{is_held_at, slot_at, slots_at, fills_at, fills_here, also, since_below, since_place, or_another, since_at, sinces_at, also_wanted, else_wanted, kept_words, unmet_words, exit_words};
+ghost use Rattle.geos_explain.specs.Held.{is_held_at, slot_at, slots_at, fills_at, fills_here, also, since_below, since_place, or_another, since_at, sinces_at, else_wanted, kept_behind, unmet_words, exit_words};
 
 use crate::lacks::{lacking, put_lacking};
-use crate::numbers::{is_or_are, pc_part, put_are};
+use crate::numbers::{pc_part, put_are};
 use crate::place::Place;
 use crate::points::point_at;
 use crate::routines::comes_alike;
@@ -15,7 +15,7 @@ use geos_image::Image;
 use geos_listing::put_items;
 use geos_text::{Part, put_parts};
 use geos_verify::{after, falls_through, has_place, is_empty, is_of_file, slot_state};
-use std::alloc::{AllocError, Global};
+use std::alloc::AllocError;
 
 /// Where in a routine a slot becomes held.
 #[derive(Clone, Copy)]
@@ -187,71 +187,53 @@ pub(crate) fn put_sinces_at(
 }
 
 /// What else the exit row wants.
-#[tactic(auto, unfolding(crate::specs::Held::also_wanted))]
-fn put_also_wanted(out: &mut Vec<u8>, items: &[u8]) -> Result<(), AllocError>
-    ensures { OnOk result (out.new.items ≡ out.old.items ++ also_wanted items.now) }
-{
-    if items.is_empty() {
-        return Ok(());
-    }
-    put_parts(
-        out,
-        &[
-            Part::Text(";"),
-            Part::Bytes(items),
-            Part::Text(is_or_are(items)),
-            Part::Text(" wanted by the exit row, and not known here"),
-        ],
-    )
-}
-
-/// What else the exit row wants.
-#[tactic(auto, unfolding(crate::specs::Held::else_wanted))]
-fn put_else_wanted(alloc: Global, out: &mut Vec<u8>, place: &Place) -> Result<(), AllocError>
+#[tactic(auto, unfolding(crate::specs::Held::also_wanted, crate::specs::Held::else_wanted))]
+fn put_else_wanted(out: &mut Vec<u8>, place: &Place) -> Result<(), AllocError>
     ensures { OnOk result (out.new.items ≡ out.old.items ++ else_wanted (place_of place.now)) }
 {
-    let mut items = Vec::new(alloc);
-    put_items(&mut items, &lacking(place.row, &place.routine.exit))?;
-    put_also_wanted(out, &items)
+    out.extend_from_slice(b";")?;
+    let before = out.len();
+    put_items(out, &lacking(place.row, &place.routine.exit))?;
+    if out.len() == before {
+        out.truncate(before - 1);
+        return Ok(());
+    }
+    put_are(out, before, " wanted by the exit row, and not known here")
 }
 
 /// Slots are still held at the return, since where, and what else the exit row wants.
 #[tactic(auto, unfolding(crate::specs::Held::kept_words))]
-fn put_kept_words(
-    alloc: Global,
-    out: &mut Vec<u8>,
-    place: &Place,
-    kept: &[u8],
-) -> Result<(), AllocError>
+fn put_kept_words(out: &mut Vec<u8>, place: &Place, before: usize) -> Result<(), AllocError>
     requires place { IsPlace (place_of place.now) }
-    requires kept { kept.now ≡ slots_at HeldAt.Return (place_of place.now) }
-    ensures { OnOk result (out.new.items ≡ out.old.items ++ kept_words (place_of place.now)) }
+    requires before { before ≤ length out.old.items }
+    requires kept { drop before out.old.items ≡ slots_at HeldAt.Return (place_of place.now) }
+    ensures { OnOk result (out.new.items ≡ out.old.items ++ kept_behind (place_of place.now)) }
 {
-    put_are(out, kept, " still held at the return")?;
+    put_are(out, before, " still held at the return")?;
     put_sinces_at(out, HeldAt::Return, place)?;
-    put_else_wanted(alloc, out, place)
+    put_else_wanted(out, place)
 }
 
 /// The exit row wants more than the row says.
 #[tactic(auto, unfolding(crate::specs::Held::unmet_words))]
-fn put_unmet(alloc: Global, out: &mut Vec<u8>, place: &Place) -> Result<(), AllocError>
+fn put_unmet(out: &mut Vec<u8>, place: &Place) -> Result<(), AllocError>
     ensures { OnOk result (out.new.items ≡ out.old.items ++ unmet_words (place_of place.now)) }
 {
-    let mut items = Vec::new(alloc);
-    put_lacking(&mut items, place.row, &place.routine.exit)?;
-    put_are(out, &items, " wanted by the exit row, and not known here")
+    let before = out.len();
+    put_lacking(out, place.row, &place.routine.exit)?;
+    put_are(out, before, " wanted by the exit row, and not known here")
 }
 
 /// The row does not fit the exit row: slots are still held, or else it wants more.
 #[tactic(auto, unfolding(crate::specs::Held::exit_words))]
-pub(crate) fn put_exit(alloc: Global, out: &mut Vec<u8>, place: &Place) -> Result<(), AllocError>
+pub(crate) fn put_exit(out: &mut Vec<u8>, place: &Place) -> Result<(), AllocError>
     requires { IsPlace (place_of place.now) }
     ensures { OnOk result (out.new.items ≡ out.old.items ++ exit_words (place_of place.now)) }
 {
-    let mut kept = Vec::new(alloc);
-    put_slots_at(&mut kept, HeldAt::Return, place)?;
-    if kept.is_empty() {
-        return put_unmet(alloc, out, place);
+    let before = out.len();
+    put_slots_at(out, HeldAt::Return, place)?;
+    if out.len() == before {
+        return put_unmet(out, place);
     }
-    put_kept_words(alloc, out, place, &kept)
+    put_kept_words(out, place, before)
 }

@@ -1,8 +1,8 @@
 //! The words that go with a number of steps or of items, and what a place is called.
 
-ghost use Rattle.std.specs.Prelude.{◌≡◌, ◌==◌, ◌++◌, OnOk};
+ghost use Rattle.std.specs.Prelude.{◌≡◌, ◌≤◌, ◌==◌, ◌++◌, drop, length, OnOk};
 ghost use Rattle.geos_text.specs.Parts.{part_text};
-ghost use Rattle.geos_explain.specs.Numbers.{either, items_in, is_or_are, are_text, label_text, pc_text};
+ghost use Rattle.geos_explain.specs.Numbers.{either, items_in, is_or_are, are_behind, label_text, pc_text};
 
 use geos_text::{Part, put_parts};
 use std::alloc::AllocError;
@@ -56,20 +56,19 @@ pub fn pc_part(lines: &[usize], pc: u16) -> Part<'static>
     }
 }
 
-/// Items, that it is or that they are, and what.
-pub(crate) fn put_are<'a>(
-    out: &mut Vec<u8>,
-    items: &'a [u8],
-    what: &'a str,
-) -> Result<(), AllocError>
-    ensures { OnOk result (out.new.items ≡ out.old.items ++ are_text items.now what.now) }
+/// What was written from a place on.
+pub(crate) fn written_from(out: &Vec<u8>, before: usize) -> &[u8]
+    requires { before ≤ length out.now.items }
+    ensures { result.now ≡ drop before out.now.items }
 {
-    put_parts(
-        out,
-        &[
-            Part::Bytes(items),
-            Part::Text(is_or_are(items)),
-            Part::Text(what),
-        ],
-    )
+    &out[before..]
+}
+
+/// That it is or that they are, behind the items that were written from a place on, and what.
+pub(crate) fn put_are(out: &mut Vec<u8>, before: usize, what: &str) -> Result<(), AllocError>
+    requires { before ≤ length out.old.items }
+    ensures { OnOk result (out.new.items ≡ out.old.items ++ are_behind (drop before out.old.items) what.now) }
+{
+    let verb = is_or_are(written_from(out, before));
+    put_parts(out, &[Part::Text(verb), Part::Text(what)])
 }

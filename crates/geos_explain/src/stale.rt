@@ -3,7 +3,7 @@
 ghost use Rattle.std.specs.Prelude.{◌≡◌, ◌++◌, OnOk};
 ghost use Rattle.geos_explain.specs.Places.{IsPlace, place_of};
 ghost use Rattle.geos_explain.specs.declared.ways.Way.TheVariants.{Along};
-ghost use Rattle.geos_explain.specs.Stale.{if_stale, stale_used, pointer_item, refused_on, way_text, meeting_place, known_from, not_from, meeting_item, named, name_at, call_loss, moved_words, use_loss, how_lost, lost_by, label_wish, refused_at, unset_words, unreached_words, merged_words, loss_words, trace_item, stale_words};
+ghost use Rattle.geos_explain.specs.Stale.{if_stale, stale_used, pointer_item, refused_on, way_text, meeting_head, meeting_item, named, name_at, call_loss, moved_words, use_loss, how_lost, lost_by, label_wish, refused_at, unset_words, unreached_words, merged_words, loss_words, trace_item, stale_words};
 
 use crate::edges::Edge;
 use crate::numbers::pc_part;
@@ -63,56 +63,43 @@ fn refused_on(image: &Image, way: Way) -> Option<u16>
     }
 }
 
-/// Where a way comes from, and whether its instruction is refused there.
+/// A text, and where a way comes from, and whether its instruction is refused there.
 #[tactic(auto, unfolding(crate::specs::Stale::way_text))]
-fn put_way(out: &mut Vec<u8>, place: &Place, way: Way) -> Result<(), AllocError>
-    ensures { OnOk result (out.new.items ≡ out.old.items ++ way_text (place_of place.now) way) }
+fn put_way(out: &mut Vec<u8>, front: &str, place: &Place, way: Way) -> Result<(), AllocError>
+    ensures { OnOk result (out.new.items ≡ out.old.items ++ (front.now ++ way_text (place_of place.now) way)) }
 {
+    let front = Part::Text(front);
     match refused_on(place.image, way) {
         Some(from) => put_parts(
             out,
             &[
+                front,
                 Part::Text(" where"),
                 pc_part(place.lines, from),
                 Part::Text(" is refused"),
             ],
         ),
         None => match way {
-            Way::Entry => out.extend_from_slice(b" the in line"),
-            Way::Along(edge) => put_parts(out, &[pc_part(place.lines, edge.from)]),
+            Way::Entry => put_parts(out, &[front, Part::Text(" the in line")]),
+            Way::Along(edge) => put_parts(out, &[front, pc_part(place.lines, edge.from)]),
         },
     }
 }
 
-/// Where ways meet, unless it is here.
-fn put_meeting_place(out: &mut Vec<u8>, place: &Place, to: u16) -> Result<(), AllocError>
-    ensures { OnOk result (out.new.items ≡ out.old.items ++ meeting_place (place_of place.now) to) }
+/// Where ways meet, unless it is here, and that one brings the pointer.
+#[tactic(auto, unfolding(crate::specs::Stale::meeting_head))]
+fn put_meeting_head(out: &mut Vec<u8>, place: &Place, p: u8, to: u16) -> Result<(), AllocError>
+    ensures { OnOk result (out.new.items ≡ out.old.items ++ meeting_head (place_of place.now) p to) }
 {
+    let pointer = Part::Numbered(" p", p as u64);
+    let known = Part::Text(" is known from");
     if to == place.pc {
-        return out.extend_from_slice(b";");
+        return put_parts(out, &[Part::Text(";"), pointer, known]);
     }
-    put_parts(out, &[Part::Text("; at"), pc_part(place.lines, to)])
-}
-
-/// Of ways that meet one brings the pointer.
-#[tactic(auto, unfolding(crate::specs::Stale::known_from))]
-fn put_known_from(out: &mut Vec<u8>, place: &Place, p: u8, m: &Meeting) -> Result<(), AllocError>
-    ensures { OnOk result (out.new.items ≡ out.old.items ++ known_from (place_of place.now) p m.now) }
-{
     put_parts(
         out,
-        &[Part::Numbered(" p", p as u64), Part::Text(" is known from")],
-    )?;
-    put_way(out, place, m.known)
-}
-
-/// And another does not.
-#[tactic(auto, unfolding(crate::specs::Stale::not_from))]
-fn put_not_from(out: &mut Vec<u8>, place: &Place, m: &Meeting) -> Result<(), AllocError>
-    ensures { OnOk result (out.new.items ≡ out.old.items ++ not_from (place_of place.now) m.now) }
-{
-    put_parts(out, &[Part::Text(", and not from")])?;
-    put_way(out, place, m.lost)
+        &[Part::Text("; at"), pc_part(place.lines, to), pointer, known],
+    )
 }
 
 /// Where ways meet, if they do, of which one brings the pointer, and another does not.
@@ -127,9 +114,9 @@ fn put_meeting_item(
 {
     match meeting {
         Some(m) => {
-            put_meeting_place(out, place, m.to)?;
-            put_known_from(out, place, p, &m)?;
-            put_not_from(out, place, &m)
+            put_meeting_head(out, place, p, m.to)?;
+            put_way(out, "", place, m.known)?;
+            put_way(out, ", and not from", place, m.lost)
         }
         None => Ok(()),
     }

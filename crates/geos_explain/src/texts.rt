@@ -29,12 +29,7 @@ fn last_begun(image: &Image, pc: u16) -> Option<u16>
 
 /// What is said of the instruction at a pc of the routine that it lies in.
 #[tactic(auto, unfolding(crate::specs::Texts::noted_at, crate::specs::Texts::noted_of))]
-fn put_noted_at(
-    alloc: Global,
-    out: &mut Vec<u8>,
-    explained: &Explained,
-    pc: u16,
-) -> Result<(), AllocError>
+fn put_noted_at(out: &mut Vec<u8>, explained: &Explained, pc: u16) -> Result<(), AllocError>
     requires { pc < length explained.now.image.now.points }
     ensures { OnOk result (out.new.items ≡ out.old.items ++ noted_at (explained_of explained.now) pc) }
 {
@@ -52,7 +47,7 @@ fn put_noted_at(
         routine,
     };
     let place = place_at(&within, pc);
-    put_noted(alloc, out, explained.reject, &place)
+    put_noted(out, explained.reject, &place)
 }
 
 /// Whether the table has the line as that of the instruction at the pc.
@@ -92,7 +87,6 @@ fn put_numbered_line(out: &mut Vec<u8>, line: &Line) -> Result<(), AllocError>
 /// its own, or nothing.
 #[tactic(auto, unfolding(crate::specs::Texts::line_text))]
 fn put_line(
-    alloc: Global,
     out: &mut Vec<u8>,
     explained: &Explained,
     pc: u16,
@@ -102,7 +96,7 @@ fn put_line(
 {
     put_numbered_line(out, line)?;
     if is_line_of(explained.lines, pc, line.number) && pc < explained.image.len() {
-        put_noted_at(alloc, out, explained, pc)
+        put_noted_at(out, explained, pc)
     } else {
         out.extend_from_slice(b"\n")
     }
@@ -148,7 +142,7 @@ pub fn explain_text(
         let (text, behind) = first_line(rest);
         rest = behind;
         number += 1;
-        put_line(alloc, &mut out, &explained, pc, &Line { number, text })?;
+        put_line(&mut out, &explained, pc, &Line { number, text })?;
         pc = next_pc(lines, pc, number);
     }
     Ok(out)

@@ -6,13 +6,13 @@ ghost use Rattle.geos_opcodes.specs.Facts.{uses_of};
 ghost use Rattle.geos_verify.specs.Uses.{OffsetFits};
 ghost use Rattle.geos_explain.specs.Uses.{state_item, nowhere_only, leading_nowhere, nowhere_words, short_words, index_known, index_wanted, known_bytes, index_words, reach_words, past_words, slot_behind, changed_slot, mark_word, unmarked_words, held_words, slot_wish, serving, other_item, slot_words};
 
-use crate::numbers::{either, is_one_item};
+use crate::numbers::{either, is_one_item, written_from};
 use geos_image::{Instr, Pointer, Row, SlotState};
 use geos_listing::{put_items, state_word};
 use geos_opcodes::{Kind, Offset, PointerUse, SlotUse, Width};
 use geos_text::{Part, put_parts};
 use geos_verify::{bytes_in, leads_nowhere, least_at, pointer_at, reach, slot_state, uses_at};
-use std::alloc::{AllocError, Global};
+use std::alloc::AllocError;
 
 /// A slot, and what the row says that it holds.
 #[tactic(auto, unfolding(crate::specs::Uses::state_item))]
@@ -57,17 +57,17 @@ fn leading_nowhere(row: &Row) -> Row
 
 /// The pointers of the row that lead into empty slots do so.
 #[tactic(auto, unfolding(crate::specs::Uses::nowhere_words, crate::specs::Uses::nowhere_items))]
-pub(crate) fn put_nowhere(alloc: Global, out: &mut Vec<u8>, row: &Row) -> Result<(), AllocError>
+pub(crate) fn put_nowhere(out: &mut Vec<u8>, row: &Row) -> Result<(), AllocError>
     ensures { OnOk result (out.new.items ≡ out.old.items ++ nowhere_words row.now) }
 {
-    let mut items = Vec::new(alloc);
-    put_items(&mut items, &leading_nowhere(row))?;
+    let before = out.len();
+    put_items(out, &leading_nowhere(row))?;
     let tail = either(
-        is_one_item(&items),
+        is_one_item(written_from(out, before)),
         " leads into an empty slot",
         " lead into empty slots",
     );
-    put_parts(out, &[Part::Bytes(&items), Part::Text(tail)])
+    out.extend_from_slice(tail.as_bytes())
 }
 
 /// So many bytes are wanted behind a pointer, and how many are known there.

@@ -1,13 +1,13 @@
 //! What is wrong at a point that is refused, rule by rule.
 
-ghost use Rattle.std.specs.Prelude.{◌≡◌, ◌<◌, ◌+◌, ◌++◌, ◌&&◌, OnOk};
+ghost use Rattle.std.specs.Prelude.{◌≡◌, ◌<◌, ◌≤◌, ◌+◌, ◌++◌, ◌&&◌, drop, length, OnOk};
 ghost use Rattle.geos_text.specs.Parts.{part_text};
 ghost use Rattle.geos_explain.specs.Places.{IsPlace, place_of};
-ghost use Rattle.geos_explain.specs.Words.{leaves_words, entry_words, call_here, wanted_behind, wanted_words, branching_words, edge_words, words, refusal_head, refusal_line};
+ghost use Rattle.geos_explain.specs.Words.{leaves_words, entry_words, call_here, wanted_behind, wanted_behind_items, branching_words, edge_words, words, refusal_head, refusal_line};
 
 use crate::held::put_exit;
 use crate::lacks::put_lacking;
-use crate::numbers::{is_or_are, label_part, pc_part, put_are};
+use crate::numbers::{is_or_are, label_part, pc_part, put_are, written_from};
 use crate::place::Place;
 use crate::points::point_at;
 use crate::stale::put_stale;
@@ -18,7 +18,7 @@ use crate::written::put_written;
 use geos_image::{Opcode, Routine, Row};
 use geos_text::{Part, put_parts};
 use geos_verify::{Rule, after, falls_through, has_edge, has_place};
-use std::alloc::{AllocError, Global};
+use std::alloc::AllocError;
 
 /// Control leaves the routine.
 #[tactic(auto, unfolding(crate::specs::Words::leaves_words))]
@@ -44,43 +44,38 @@ fn put_leaves(out: &mut Vec<u8>, place: &Place) -> Result<(), AllocError>
 /// The row wants more than the routine's entry row says, or the routine is public and wants or
 /// leaves what a caller from outside does not have.
 #[tactic(auto, unfolding(crate::specs::Words::entry_words))]
-fn put_entry(
-    alloc: Global,
-    out: &mut Vec<u8>,
-    routine: &Routine,
-    row: &Row,
-) -> Result<(), AllocError>
+fn put_entry(out: &mut Vec<u8>, routine: &Routine, row: &Row) -> Result<(), AllocError>
     ensures { OnOk result (out.new.items ≡ out.old.items ++ entry_words routine.now row.now) }
 {
-    let mut items = Vec::new(alloc);
-    put_lacking(&mut items, &routine.entry, row)?;
-    if items.is_empty() {
+    let before = out.len();
+    put_lacking(out, &routine.entry, row)?;
+    if out.len() == before {
         return out.extend_from_slice(
             b" a public routine begins and ends with empty slots and stale pointers",
         );
     }
     put_are(
         out,
-        &items,
+        before,
         " wanted here, and not known from the entry row",
     )
 }
 
-/// These items are wanted by a routine or at a pc.
-#[tactic(auto, unfolding(crate::specs::Words::wanted_words))]
+/// The items that were written from a place on are wanted by a routine or at a pc.
 fn put_wanted<'a>(
     out: &mut Vec<u8>,
-    items: &'a [u8],
+    before: usize,
     at: &'a str,
     what: Part<'a>,
 ) -> Result<(), AllocError>
-    ensures { OnOk result (out.new.items ≡ out.old.items ++ wanted_words items.now at.now (part_text what.entry)) }
+    requires { before ≤ length out.old.items }
+    ensures { OnOk result (out.new.items ≡ out.old.items ++ wanted_behind_items (drop before out.old.items) at.now (part_text what.entry)) }
 {
+    let verb = is_or_are(written_from(out, before));
     put_parts(
         out,
         &[
-            Part::Bytes(items),
-            Part::Text(is_or_are(items)),
+            Part::Text(verb),
             Part::Text(at),
             what,
             Part::Text(", and not known here"),
@@ -90,7 +85,7 @@ fn put_wanted<'a>(
 
 /// The routine that a call names does not stand before that of the place, or its entry row wants more than the row says.
 #[tactic(auto, unfolding(crate::specs::Words::call_here))]
-fn put_call(alloc: Global, out: &mut Vec<u8>, place: &Place) -> Result<(), AllocError>
+fn put_call(out: &mut Vec<u8>, place: &Place) -> Result<(), AllocError>
     requires { IsPlace (place_of place.now) }
     ensures { OnOk result (out.new.items ≡ out.old.items ++ call_here (place_of place.now)) }
 {
@@ -99,9 +94,9 @@ fn put_call(alloc: Global, out: &mut Vec<u8>, place: &Place) -> Result<(), Alloc
     };
     let callee = place.image.routine(place.i.imm);
     if place.i.imm < place.r {
-        let mut items = Vec::new(alloc);
-        put_lacking(&mut items, place.row, &callee.entry)?;
-        return put_wanted(out, &items, " wanted by ", Part::Bytes(callee.name_text()));
+        let before = out.len();
+        put_lacking(out, place.row, &callee.entry)?;
+        return put_wanted(out, before, " wanted by ", Part::Bytes(callee.name_text()));
     }
     put_parts(
         out,
@@ -140,15 +135,15 @@ fn put_wanted_behind(
 
 /// A row does not fit that at the end of the edge to the target.
 #[tactic(auto, unfolding(crate::specs::Words::branching_words))]
-fn put_branching(alloc: Global, out: &mut Vec<u8>, place: &Place) -> Result<(), AllocError>
+fn put_branching(out: &mut Vec<u8>, place: &Place) -> Result<(), AllocError>
     requires { IsPlace (place_of place.now) }
     ensures { OnOk result (out.new.items ≡ out.old.items ++ branching_words (place_of place.now)) }
 {
-    let mut items = Vec::new(alloc);
-    put_wanted_behind(&mut items, place, true, place.i.target)?;
+    let before = out.len();
+    put_wanted_behind(out, place, true, place.i.target)?;
     put_wanted(
         out,
-        &items,
+        before,
         " wanted at",
         pc_part(place.lines, place.i.target),
     )
@@ -156,18 +151,18 @@ fn put_branching(alloc: Global, out: &mut Vec<u8>, place: &Place) -> Result<(), 
 
 /// A row does not fit that at the end of an edge: the edge to the next instruction is tried first.
 #[tactic(auto, unfolding(crate::specs::Words::edge_words))]
-fn put_edge(alloc: Global, out: &mut Vec<u8>, place: &Place) -> Result<(), AllocError>
+fn put_edge(out: &mut Vec<u8>, place: &Place) -> Result<(), AllocError>
     requires { IsPlace (place_of place.now) }
     ensures { OnOk result (out.new.items ≡ out.old.items ++ edge_words (place_of place.now)) }
 {
-    let mut items = Vec::new(alloc);
-    put_wanted_behind(&mut items, place, false, place.pc + 1)?;
-    if items.is_empty() {
-        put_branching(alloc, out, place)
+    let before = out.len();
+    put_wanted_behind(out, place, false, place.pc + 1)?;
+    if out.len() == before {
+        put_branching(out, place)
     } else {
         put_wanted(
             out,
-            &items,
+            before,
             " wanted at",
             pc_part(place.lines, place.pc + 1),
         )
@@ -176,24 +171,24 @@ fn put_edge(alloc: Global, out: &mut Vec<u8>, place: &Place) -> Result<(), Alloc
 
 /// What is wrong at the place, by the rule.
 #[tactic(auto, unfolding(crate::specs::Words::words))]
-fn put_words(alloc: Global, out: &mut Vec<u8>, place: &Place, rule: Rule) -> Result<(), AllocError>
+fn put_words(out: &mut Vec<u8>, place: &Place, rule: Rule) -> Result<(), AllocError>
     requires { IsPlace (place_of place.now) }
     ensures { OnOk result (out.new.items ≡ out.old.items ++ words (place_of place.now) rule) }
 {
     let (i, row) = (place.i, place.row);
     match rule {
         Rule::LeavesRoutine => put_leaves(out, place),
-        Rule::NamesEmptySlot => put_nowhere(alloc, out, row),
-        Rule::EntryMisfit => put_entry(alloc, out, place.routine, row),
+        Rule::NamesEmptySlot => put_nowhere(out, row),
+        Rule::EntryMisfit => put_entry(out, place.routine, row),
         Rule::StalePointer => put_stale(out, place),
         Rule::PassesEnd => put_past(out, i, row),
         Rule::ChangesUnmarked => put_unmarked(out, i, row),
         Rule::LocksIntoHeld => put_held(out, i, row),
         Rule::WrongSlot => put_slot(out, i, row),
-        Rule::CommitsHeld => put_written(alloc, out, place),
-        Rule::CallMisfit => put_call(alloc, out, place),
-        Rule::ExitMisfit => put_exit(alloc, out, place),
-        Rule::EdgeMisfit => put_edge(alloc, out, place),
+        Rule::CommitsHeld => put_written(out, place),
+        Rule::CallMisfit => put_call(out, place),
+        Rule::ExitMisfit => put_exit(out, place),
+        Rule::EdgeMisfit => put_edge(out, place),
         Rule::EdgeUnpaid => put_unpaid(out, place),
         Rule::OverBudget => put_over(out, place),
     }
@@ -224,7 +219,6 @@ fn refusal_head(rule: Rule) -> &'static str
 /// The line of the refusal by the rule.
 #[tactic(auto, unfolding(crate::specs::Words::refusal_line))]
 pub(crate) fn put_refusal_line(
-    alloc: Global,
     out: &mut Vec<u8>,
     place: &Place,
     rule: Rule,
@@ -233,6 +227,6 @@ pub(crate) fn put_refusal_line(
     ensures { OnOk result (out.new.items ≡ out.old.items ++ refusal_line (place_of place.now) rule) }
 {
     out.extend_from_slice(refusal_head(rule).as_bytes())?;
-    put_words(alloc, out, place, rule)?;
+    put_words(out, place, rule)?;
     out.extend_from_slice(b"\n")
 }

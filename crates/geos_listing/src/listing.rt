@@ -89,7 +89,6 @@ pub fn put_routine_line(out: &mut Vec<u8>, routine: &Routine) -> Result<(), Allo
 }
 
 fn put_routine(
-    alloc: Global,
     out: &mut Vec<u8>,
     image: &Image,
     targets: &Targets,
@@ -103,8 +102,8 @@ fn put_routine(
 {
     let routine = image.routine(r);
     put_routine_line(out, routine)?;
-    put_row(alloc, out, "in", &routine.entry)?;
-    put_row(alloc, out, "out", &routine.exit)?;
+    put_row(out, "in", &routine.entry)?;
+    put_row(out, "out", &routine.exit)?;
     put_places(out, image, targets, image.start(r), routine.count)
 }
 
@@ -118,7 +117,7 @@ pub fn list(alloc: Global, image: &Image) -> Result<Vec<u8>, AllocError>
     let targets = targets_of(image);
     let mut out = Vec::new(alloc);
     for r in 0..image.count() {
-        put_routine(alloc, &mut out, image, &targets, r)?;
+        put_routine(&mut out, image, &targets, r)?;
     }
     Ok(out)
 }

@@ -8,7 +8,7 @@ ghost use Rattle.geos_listing.specs.Rows.{texts_below, bound_item, held_item, st
 
 use geos_image::{Pointer, Row, SlotState};
 use geos_text::put_numbered;
-use std::alloc::{AllocError, Global};
+use std::alloc::AllocError;
 
 /// The slots of each pair of a row.
 const PAIRS: [(u64, u64); 6] = [(0, 1), (0, 2), (0, 3), (1, 2), (1, 3), (2, 3)];
@@ -133,16 +133,17 @@ pub fn put_items(out: &mut Vec<u8>, row: &Row) -> Result<(), AllocError>
 }
 
 /// Appends the line of the row, which begins with the word; none for the open row.
-pub fn put_row(alloc: Global, out: &mut Vec<u8>, word: &str, row: &Row) -> Result<(), AllocError>
+pub fn put_row(out: &mut Vec<u8>, word: &str, row: &Row) -> Result<(), AllocError>
     ensures value { OnOk result (out.new.items ≡ out.old.items ++ row_line word.now row.now) }
     ensures fits { OnOk result (RowFits row.now) }
 {
-    let mut items = Vec::new(alloc);
-    put_items(&mut items, row)?;
-    if items.is_empty() {
+    let before = out.len();
+    out.extend_from_slice(word.as_bytes())?;
+    let empty = out.len();
+    put_items(out, row)?;
+    if out.len() == empty {
+        out.truncate(before);
         return Ok(());
     }
-    out.extend_from_slice(word.as_bytes())?;
-    out.extend_from_slice(&items)?;
     out.extend_from_slice(b"\n")
 }
