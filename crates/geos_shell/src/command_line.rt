@@ -13,9 +13,17 @@ enum ArgText {
     /// A word that the command wants: its name, and what it is.
     Word(&'static str, &'static str),
     /// A number that it may be given.
-    Number(Number),
+    Number(NumberText),
     /// A flag that it may be given: its name, and what it does.
     Flag(&'static str, &'static str),
+}
+
+/// A number that a command may be given: its name and limits, what it is, and what it is where it is not given.
+#[derive(Clone, Copy)]
+struct NumberText {
+    number: Number,
+    about: &'static str,
+    default: &'static str,
 }
 
 /// A command: its name, what it does, what stands behind the name, and what there is to add.
@@ -58,6 +66,24 @@ const CHUNKS: ArgText = ArgText::Flag(
     "Prints the bytes of each chunk too, as `xxd` does",
 );
 
+const AREA_SIZE: ArgText = ArgText::Number(NumberText {
+    number: AREA,
+    about: "How many bytes each of its two areas has, a multiple of 512, 512 to 16777216",
+    default: "1048576",
+});
+
+const REGION_SIZE: ArgText = ArgText::Number(NumberText {
+    number: REGION,
+    about: "How many bytes of memory the blocks have, 65536 to 16777216",
+    default: "1048576",
+});
+
+const LINE_WIDTH: ArgText = ArgText::Number(NumberText {
+    number: WIDTH,
+    about: "How many columns a line has, 60 to 1000",
+    default: "80",
+});
+
 static COMMANDS: [CommandText; 8] = [
     CommandText {
         name: "asm",
@@ -86,13 +112,13 @@ static COMMANDS: [CommandText; 8] = [
     CommandText {
         name: "new",
         about: "Makes a VM file without a block",
-        args: &[NEW_FILE, ArgText::Number(AREA)],
+        args: &[NEW_FILE, AREA_SIZE],
         more: More::Made,
     },
     CommandText {
         name: "run",
         about: "Runs a script on a VM file",
-        args: &[IMAGE, FILE, SCRIPT, ArgText::Number(REGION)],
+        args: &[IMAGE, FILE, SCRIPT, REGION_SIZE],
         more: More::Runs,
     },
     CommandText {
@@ -104,7 +130,7 @@ static COMMANDS: [CommandText; 8] = [
     CommandText {
         name: "map",
         about: "Draws a VM file: how full its areas and blocks are",
-        args: &[FILE, ArgText::Number(WIDTH)],
+        args: &[FILE, LINE_WIDTH],
         more: More::Mapped,
     },
 ];
@@ -115,13 +141,19 @@ fn wanted<'a>(alloc: Global, name: &'a str, about: &'a str) -> Arg<'a> {
 }
 
 /// A number that a command may be given.
-fn number_of<'a>(alloc: Global, number: &Number) -> Arg<'a> {
-    Arg::new(alloc, number.name)
-        .long(number.name)
+fn number_of<'a>(alloc: Global, text: &NumberText) -> Arg<'a> {
+    let Number {
+        name,
+        least,
+        most,
+        ..
+    } = text.number;
+    Arg::new(alloc, name)
+        .long(name)
         .value_name("N")
-        .help(number.about)
-        .value_parser(ValueParser::unsigned(u64::from(number.least), u64::from(number.most)))
-        .default_value(number.default)
+        .help(text.about)
+        .value_parser(ValueParser::unsigned(u64::from(least), u64::from(most)))
+        .default_value(text.default)
 }
 
 /// A flag that a command may be given.

@@ -5,7 +5,7 @@ use crate::help::USAGES;
 use std::alloc::{AllocError, Global};
 
 /// Why words that `clap` takes ask for nothing.
-#[derive(Drop)]
+#[derive(Clone, Copy)]
 pub(crate) enum Misuse {
     /// The number behind `--name` is no multiple of its unit.
     NoMultiple { name: &'static str, unit: u32 },

@@ -3,6 +3,7 @@
 use std::alloc::{AllocError, Global};
 use std::fs::{self, File, Permissions};
 use std::io::{self, ErrorKind, Write};
+use std::os::unix::fs::PermissionsExt;
 use std::path::{Path, PathBuf};
 
 /// The most links that are followed from one to the next.
@@ -31,10 +32,11 @@ fn behind_links(rt: &HostRuntime, path: &str) -> io::Result<PathBuf> {
 }
 
 /// What is of use of what the system says of a file.
-#[derive(Drop)]
+#[derive(Clone, Copy)]
 struct Attributes {
     is_file: bool,
-    permissions: Permissions,
+    /// Its permissions, as bits.
+    mode: u32,
 }
 
 /// What the system says of a file, if there is one. An error where it does not say so: else its
@@ -43,7 +45,7 @@ fn found(rt: &HostRuntime, path: &str) -> io::Result<Option<Attributes>> {
     match fs::metadata(rt, path) {
         Ok(found) => Ok(Some(Attributes {
             is_file: found.is_file(),
-            permissions: found.permissions(),
+            mode: found.permissions().mode(),
         })),
         Err(error) if error.kind() == ErrorKind::NotFound => Ok(None),
         Err(error) => Err(error),
@@ -69,24 +71,32 @@ fn beside(rt: &HostRuntime, path: &str) -> io::Result<(String, File)> {
     Err(io::Error::from(ErrorKind::AlreadyExists))
 }
 
-/// Writes the bytes, and waits until they are in the file, which gets the permissions.
-fn fill(mut file: File, permissions: Option<Permissions>, bytes: &[u8]) -> io::Result<()> {
-    if let Some(permissions) = permissions {
-        file.set_permissions(permissions)?;
+/// Writes the bytes, and waits until they are in the file, which gets the permissions of another, if there is one; and renames it.
+fn fill(
+    rt: &HostRuntime,
+    name: &str,
+    mut file: File,
+    path: Path<'_>,
+    there: Option<Attributes>,
+    bytes: &[u8],
+) -> io::Result<()> {
+    if let Some(there) = there {
+        file.set_permissions(Permissions::from_mode(there.mode))?;
     }
     file.write_all(bytes)?;
-    file.sync_all()
+    file.sync_all()?;
+    fs::rename(rt, name, path)
 }
 
-/// Puts the bytes beside the file with the path, and renames the whole one, which gets the permissions.
+/// Puts the bytes beside the file with the path, and renames the whole one, which gets the permissions of the one that is there.
 fn put_whole(
     rt: &HostRuntime,
     path: Path<'_>,
-    permissions: Option<Permissions>,
+    there: Option<Attributes>,
     bytes: &[u8],
 ) -> io::Result<()> {
     let (name, file) = beside(rt, path.as_str())?;
-    let done = fill(file, permissions, bytes).and_then(|()| fs::rename(rt, name.as_str(), path));
+    let done = fill(rt, name.as_str(), file, path, there, bytes);
     if done.is_err() {
         let _ = fs::remove_file(rt, name.as_str());
     }
@@ -98,20 +108,23 @@ fn write_into(rt: &HostRuntime, path: &str, bytes: &[u8]) -> io::Result<()> {
     fs::create(rt, path)?.write_all(bytes)
 }
 
+/// Puts the bytes in the place of the file that the path leads to, which is there, if so is said; or makes it.
+fn replace_file(rt: &HostRuntime, path: &str, is_there: bool, bytes: &[u8]) -> io::Result<()> {
+    let named = behind_links(rt, path)?;
+    let there = found(rt, named.as_str())?;
+    if is_there && there.is_none() {
+        return write_into(rt, path, bytes);
+    }
+    put_whole(rt, named.as_path(), there, bytes)
+}
+
 /// Puts the bytes in the place of the file's, or makes the file: they are written beside it, and
 /// the whole file is renamed. A link stays, and the file that it leads to is replaced; the permissions
 /// stay. After an error the file is as it was. What is no file, as a device or a pipe, is written into,
 /// and so is a file that has no name any more.
 pub(crate) fn replace(rt: &HostRuntime, path: &str, bytes: &[u8]) -> io::Result<()> {
-    let led_to = found(rt, path)?;
-    if led_to.as_ref().is_some_and(|led_to| !led_to.is_file) {
-        return write_into(rt, path, bytes);
+    match found(rt, path)? {
+        Some(led_to) if !led_to.is_file => write_into(rt, path, bytes),
+        led_to => replace_file(rt, path, led_to.is_some(), bytes),
     }
-    let named = behind_links(rt, path)?;
-    let there = found(rt, named.as_str())?;
-    if led_to.is_some() && there.is_none() {
-        return write_into(rt, path, bytes);
-    }
-    let permissions = there.map(|there| there.permissions);
-    put_whole(rt, named.as_path(), permissions, bytes)
 }

@@ -102,6 +102,17 @@ fn map_of<'a>(words: &ArgMatches<'a>) -> Result<Request<'a>, Misuse>
     }
 }
 
+/// What a command on an image alone asks for.
+fn of_image<'a>(name: &str, image: &'a str) -> Request<'a>
+    ensures { KeepsLimits result }
+{
+    match name {
+        "list" => Request::List(image),
+        "check" => Request::Check(image),
+        _ => Request::Explain(image),
+    }
+}
+
 /// What a command without a number asks for.
 fn unnumbered_of<'a>(name: &str, words: &ArgMatches<'a>) -> Request<'a>
     ensures { KeepsLimits result }
@@ -111,13 +122,11 @@ fn unnumbered_of<'a>(name: &str, words: &ArgMatches<'a>) -> Request<'a>
             text: word(words, "IN"),
             image: word(words, "OUT"),
         },
-        "list" => Request::List(word(words, "IMAGE")),
-        "check" => Request::Check(word(words, "IMAGE")),
         "dump" => Request::Dump {
             file: word(words, "FILE"),
             chunks: words.get_flag("chunks"),
         },
-        _ => Request::Explain(word(words, "IMAGE")),
+        _ => of_image(name, word(words, "IMAGE")),
     }
 }
 
