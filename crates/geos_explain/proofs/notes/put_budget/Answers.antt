@@ -1,4 +1,4 @@
-use Rattle.std.proofs.Common.{sym, ◌++◌}
+use Rattle.std.proofs.Common.{sym}
 use Rattle.std.specs.Prelude.{[], ◌∷◌, codes, decimal}
 use Rattle.std.specs.List.{concat}
 use Rattle.std.proofs.lemmas.List.{append_assoc}
