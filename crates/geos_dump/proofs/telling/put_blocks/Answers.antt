@@ -5,7 +5,6 @@ use Rattle.vm_file.specs.State.{pair_of}
 use Rattle.geos_text.proofs.Texts.{flat_map-step}
 use Rattle.geos_dump.specs.DumpText.{block_text}
 use Rattle.geos_dump.specs.Sides.{contents_on, no_block}
-use Rattle.geos_dump.specs.Tellings.{listed_text}
 use Rattle.geos_dump.proofs.Looks.{look_then, tells_error}
 use Rattle.geos_dump.proofs.telling.put_blocks.Goals as goal
 
