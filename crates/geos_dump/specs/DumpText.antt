@@ -1,5 +1,6 @@
 -- The text of what a VM file keeps.
 use Rattle.std.specs.Prelude.{ℕ, ◌+◌, List, [], ◌∷◌, ◌++◌, Option, Some, None, length, flat_map, codes, decimal}
+use Rattle.std.specs.List.{concat}
 use Rattle.geos_model.specs.Block.{chunks}
 use Rattle.vm_file.specs.declared.directory.Directory.{Directory}
 use Rattle.vm_file.specs.Contents.{Block, Contents, Pair, listed}
@@ -24,11 +25,13 @@ chunks_of b = chunks_from 16 (chunks b.bytes)
 
 -- a chunk behind a blank: its handle and its length
 abbrev pub chunk_text : Chunk → List ℕ
-chunk_text k = codes " " ++ decimal k.c ++ codes ":" ++ decimal (length k.bytes)
+chunk_text k = concat (codes " " ∷ decimal k.c ∷ codes ":" ∷ decimal (length k.bytes) ∷ [])
 
 -- the line of a block: its handle, its user ID, its size and its chunks
 abbrev pub block_line : Block → List ℕ
-block_line b = decimal b.h ++ codes " uid " ++ decimal b.uid ++ codes " size " ++ decimal (length b.bytes) ++ codes " chunks" ++ flat_map chunk_text (chunks_of b) ++ codes "\n"
+block_line b =
+    concat (decimal b.h ∷ codes " uid " ∷ decimal b.uid ∷ codes " size " ∷ decimal (length b.bytes) ∷ codes " chunks" ∷ [])
+    ++ flat_map chunk_text (chunks_of b) ++ codes "\n"
 
 -- the bytes of a chunk below a line with its handle
 abbrev pub chunk_dump : Chunk → List ℕ
@@ -41,7 +44,8 @@ block_text Bytes b = block_line b ++ flat_map chunk_dump (chunks_of b)
 
 -- the line of a directory: a word, its map block, and the group and the chunk of its map item
 abbrev pub directory_line : List ℕ → Directory → List ℕ
-directory_line word d = word ++ codes " map " ++ decimal d.map_block ++ codes " item " ++ decimal d.map_item.0 ++ codes " " ++ decimal d.map_item.1 ++ codes "\n"
+directory_line word d =
+    concat (word ∷ codes " map " ∷ decimal d.map_block ∷ codes " item " ∷ decimal d.map_item.0 ∷ codes " " ∷ decimal d.map_item.1 ∷ codes "\n" ∷ [])
 
 -- a directory: its line, and its blocks
 abbrev pub directory_text : Detail → List ℕ → Contents → List ℕ
