@@ -63,13 +63,12 @@ way_text place way = elim (refused_on place.image way) [
   | Some from ↦ codes " where" ++ pc_text place.lines from ++ codes " is refused"
 ]
 
--- where ways meet, unless it is here
-abbrev pub meeting_place : Place → ℕ → List ℕ
-meeting_place place to = if to == place.pc then codes ";" else codes "; at" ++ pc_text place.lines to
-
--- the same, and that one of the ways brings a pointer
+-- where ways meet, unless it is here, and that one of them brings a pointer
 unfoldable pub meeting_head : Place → ℕ → ℕ → List ℕ
-meeting_head place p to = concat (meeting_place place to ∷ codes " p" ∷ decimal p ∷ codes " is known from" ∷ [])
+meeting_head place p to =
+    if to == place.pc
+    then concat (codes ";" ∷ codes " p" ∷ decimal p ∷ codes " is known from" ∷ [])
+    else concat (codes "; at" ∷ pc_text place.lines to ∷ codes " p" ∷ decimal p ∷ codes " is known from" ∷ [])
 
 -- where ways meet, of which one brings a pointer, and another does not
 unfoldable pub meeting_words : Place → ℕ → Meeting → List ℕ
