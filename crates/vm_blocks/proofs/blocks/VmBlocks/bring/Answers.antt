@@ -1,4 +1,4 @@
-use Rattle.std.proofs.Common.{rules, ◌≡◌, ℕ, None, Some, false, refl, subst, sym, ◌∙◌}
+use Rattle.std.proofs.Common.{◌≡◌, ℕ, None, Some, false, refl, subst, sym, ◌∙◌}
 use Rattle.std.specs.Prelude.{Err, IsTrue, Ok}
 use Rattle.geos_model.specs.Names.{vm}
 use Rattle.geos_model.specs.declared.name.Name.{Name}
@@ -17,7 +17,7 @@ not-there s h name is has there = (let yes : IsTrue false = has (subst (λ (n : 
 pub returns-in_default : goal.returns-in_default
 returns-in_default g c =
     let d = g.D.Device in let now = c.args.self.now in let s = c.args.blocks.now in let h = c.args.h in
-    let none : held_at now h ≡ None = search rules in
+    let none : held_at now h ≡ None = sym c.in_default.ensures.held in
     record {
       brings = nothing-brings d.medium error.NoRoom error.Disk h (Err error.BadHandle) now s c.requires (not-changed s h) (λ is. absurd cc) (λ is. absurd cc);
       bad_handle = ((λ is. none), (λ is. refl));

@@ -1,4 +1,4 @@
-use Rattle.std.proofs.Common.{rules, ◌≡◌, ◌<◌, ◌∙◌, None, ap, sym, subst, arith}
+use Rattle.std.proofs.Common.{◌≡◌, ◌<◌, ◌∙◌, None, ap, sym, subst, arith}
 use Rattle.block_handles.specs.Names.{slot_of}
 use Rattle.block_handles.specs.Store.{locks_of}
 use Rattle.vm_blocks.specs.View.{VmState, held_at, vm_slot}
@@ -24,7 +24,7 @@ returns-clause-tied g c =
 pub returns-in_default-clause-row : goal.returns-in_default-clause-row
 returns-in_default-clause-row g c =
     let d = g.D.Device in let now = c.args.self.now in let h = c.args.h in
-    let none : held_at now h ≡ None = search rules in
+    let none : held_at now h ≡ None = sym c.in_default.ensures.held in
     free-unknown d.medium now c.args.blocks.now h c.requires none
 
 pub returns-then-locks-gt0-clause-row : goal.returns-then-locks-gt0-clause-row

@@ -1,5 +1,7 @@
-use Rattle.std.specs.Prelude.{Err}
-use Rattle.std.proofs.Common.{◌≡◌, ◌∙◌, ◌+◌, ◌<◌, ap, sym, subst, arith}
+use Rattle.std.specs.Prelude.{Err, Ok, Result}
+use Rattle.vm_blocks.specs.declared.error.NewError.{NewError}
+use Rattle.vm_blocks.specs.declared.error.NewError.TheVariants.{NoHandle, NoRoom}
+use Rattle.std.proofs.Common.{◌≡◌, ◌∙◌, ℕ, ◌+◌, ◌<◌, ap, sym, subst, arith}
 use Rattle.block_handles.specs.Change.{with_locks}
 use Rattle.block_handles.specs.Names.{slot_of}
 use Rattle.block_handles.specs.Store.{IsThere, locks_of}
@@ -23,6 +25,10 @@ taken g c =
     let more = locked-more t u (slot_of c.vm.result) c.lock.result e.ok e.bad_handle e.locked there (λ full. absurd (omega (arith, none, full))) in
     more ∙ ap (λ n. with_locks t (slot_of c.vm.result) (n + 1)) none ∙ ap (λ k. with_locks t k 1) slot
 
+-- a block that was made was not refused
+made-not : (h : ℕ) (why : NewError) → ◌≡◌ {A = Result ℕ NewError} (Ok h) (Err why) → ⊥
+made-not h why e = absurd cc
+
 pub returns-in-Ok : goal.returns-in-Ok
 returns-in-Ok g c =
     let d = g.D.Device in let now = c.args.self.now in let s = c.args.blocks.now in let w = c.vnew_unlocked.new.self in let t = c.vnew_unlocked.new.blocks in let u = c.lock.new.self in
@@ -33,10 +39,10 @@ returns-in-Ok g c =
     record {
       tied = locked-tied d.medium w t u h 1 low.handle c.vnew_unlocked.ensures.tied (there-new t h 0 adds.is) is;
       ok = more;
-      no_handle = ((λ none. absurd cc), (λ all. absurd (not-all now h low all)));
-      no_room = λ none. absurd cc;
+      no_handle = ((λ none. absurd (made-not h NoHandle none)), (λ all. absurd (not-all now h low all)));
+      no_room = λ none. absurd (made-not h NoRoom none);
       wanted = λ k other. locked-remain s t u k 64 1 other.handle (is ∙ ap (λ j. with_locks t (vm_slot j) 1) (lowest-one now h k low other)) (c.vnew_unlocked.ensures.wanted k other);
-      stays = λ none. absurd cc;
+      stays = λ none. absurd (made-not h NoHandle none);
       err = tt;
       row = new-done d.medium now s c.requires c.args.uid 1 h w u word (omega arith) more;
     }
