@@ -71,21 +71,13 @@ fn beside(rt: &HostRuntime, path: &str) -> io::Result<(String, File)> {
     Err(io::Error::from(ErrorKind::AlreadyExists))
 }
 
-/// Writes the bytes, and waits until they are in the file, which gets the permissions of another, if there is one; and renames it.
-fn fill(
-    rt: &HostRuntime,
-    name: &str,
-    mut file: File,
-    path: Path<'_>,
-    there: Option<Attributes>,
-    bytes: &[u8],
-) -> io::Result<()> {
+/// Writes the bytes, and waits until they are in the file, which gets the permissions of the one that is there.
+fn fill(mut file: File, there: Option<Attributes>, bytes: &[u8]) -> io::Result<()> {
     if let Some(there) = there {
         file.set_permissions(Permissions::from_mode(there.mode))?;
     }
     file.write_all(bytes)?;
-    file.sync_all()?;
-    fs::rename(rt, name, path)
+    file.sync_all()
 }
 
 /// Puts the bytes beside the file with the path, and renames the whole one, which gets the permissions of the one that is there.
@@ -96,7 +88,10 @@ fn put_whole(
     bytes: &[u8],
 ) -> io::Result<()> {
     let (name, file) = beside(rt, path.as_str())?;
-    let done = fill(rt, name.as_str(), file, path, there, bytes);
+    let done = match fill(file, there, bytes) {
+        Ok(()) => fs::rename(rt, name.as_str(), path),
+        failed => failed,
+    };
     if done.is_err() {
         let _ = fs::remove_file(rt, name.as_str());
     }
