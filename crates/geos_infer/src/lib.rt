@@ -32,6 +32,7 @@ mod turns;
 mod units;
 mod unpaid;
 mod unreached;
+mod waiting;
 mod ways;
 mod weakened;
 mod widening;

@@ -12,9 +12,10 @@ use crate::edges::{edge_in, leads_back};
 use crate::fitted::all_fit;
 use crate::flow::flow;
 use crate::paid::back_edges;
-use crate::rounds::{Turn, flow_on};
+use crate::rounds::flow_on;
 use crate::seeds::seed_entry;
-use crate::table::{Known, Table, two_tables};
+use crate::table::{Known, two_tables};
+use crate::waiting::Waiting;
 use crate::weakened::weaken;
 use geos_image::Image;
 use std::alloc::{AllocError, Global};
@@ -25,17 +26,17 @@ struct Tables {
     /// The rows of the places that nothing reaches.
     others: Known,
     from: Known,
-    turns: Table<Turn>,
+    waiting: Waiting,
 }
 
 impl Tables {
     fn new(alloc: Global) -> Result<Tables, AllocError> {
-        let turns = Table::new(alloc, Turn::NONE)?;
+        let waiting = Waiting::new(alloc)?;
         let (others, from) = two_tables(alloc, None, None)?;
         Ok(Tables {
             others,
             from,
-            turns,
+            waiting,
         })
     }
 
@@ -61,6 +62,16 @@ fn leads_ahead(body: &Body) -> bool {
     !leads_back(body, body.end - 1)
 }
 
+/// What is known where an edge leads back has yet to go along it; along the others it has gone.
+fn wait_to_go_back(body: &Body, waiting: &mut Waiting) {
+    waiting.clear(body);
+    for pc in body.start..body.end {
+        if leads_back(body, pc) {
+            waiting.wait(pc);
+        }
+    }
+}
+
 /// Rows of a routine flow on along the edges that lead back, and come down again; `false` where two have no join. Where none leads
 /// back they have flowed along all edges already. There are tables if one does.
 fn settle(body: &Body, tables: &mut Option<Tables>, known: &mut Known) -> bool
@@ -70,8 +81,10 @@ fn settle(body: &Body, tables: &mut Option<Tables>, known: &mut Known) -> bool
         return true;
     }
     match tables {
-        Some(tables) => {
-            flow_on(body, &mut tables.turns, known) && descend(body, &mut tables.from, known)
+        Some(Tables { from, waiting, .. }) => {
+            wait_to_go_back(body, waiting);
+            // Rows that were not widened are the strongest that hold: none comes down again.
+            flow_on(body, waiting, known) && (!waiting.has_widened() || descend(body, from, known))
         }
         None => false,
     }
@@ -129,7 +142,7 @@ fn find_rows_in(
         body,
         found,
         &mut tables.from,
-        &mut tables.turns,
+        &mut tables.waiting,
         &mut tables.others,
     ) {
         keep(body, &tables.from, &tables.others, known);

@@ -8,8 +8,9 @@ use crate::body::Body;
 use crate::common::clean;
 use crate::edges::edge_in;
 use crate::flow::Arrival;
-use crate::rounds::{Turn, pass};
-use crate::table::{Known, Table};
+use crate::rounds::pass;
+use crate::table::Known;
+use crate::waiting::{Bounds, Waiting};
 use geos_image::{Instr, Opcode, Pointer, Row, SlotState};
 use geos_opcodes::{Kind, SlotUse};
 use geos_verify::uses_at;
@@ -126,13 +127,7 @@ fn guess(body: &Body, known: &Known, from: &mut Known) {
 }
 
 /// What is known at a place goes along the edges to places that nothing reaches; whether something came of that.
-fn pass_lone(
-    body: &Body,
-    pc: u16,
-    known: &Known,
-    turns: &mut Table<Turn>,
-    others: &mut Known,
-) -> bool
+fn pass_lone(body: &Body, pc: u16, known: &Known, waiting: &mut Waiting, others: &mut Known) -> bool
     requires { pc < body.now.end }
 {
     let Some(row) = others.at(pc) else {
@@ -142,7 +137,7 @@ fn pass_lone(
     for branch in [false, true] {
         if let Some(edge) = edge_in(body, pc, branch) {
             if known.at(edge.to).is_none() {
-                if let Arrival::Weaker = pass(body, edge, &row, turns, others) {
+                if let Arrival::Weaker = pass(body, edge, &row, waiting, others) {
                     changed = true;
                 }
             }
@@ -157,23 +152,19 @@ fn round(
     body: &Body,
     known: &Known,
     from: &Known,
-    turns: &mut Table<Turn>,
+    waiting: &mut Waiting,
     others: &mut Known,
 ) -> bool {
     let mut changed = false;
-    for pc in body.start..body.end {
-        let Turn { waits, times } = turns.at(pc);
-        if waits {
-            turns.set(
-                pc,
-                Turn {
-                    waits: false,
-                    times,
-                },
-            );
+    let Bounds { first, last } = waiting.begin_round();
+    for pc in first..body.end {
+        if last.max(waiting.last()) < pc {
+            break;
+        }
+        if waiting.take(pc) {
             if let Some(row) = others.at(pc).or(from.at(pc)) {
                 others.set(pc, Some(clean(&row)));
-                changed |= pass_lone(body, pc, known, turns, others);
+                changed |= pass_lone(body, pc, known, waiting, others);
             }
         }
     }
@@ -186,7 +177,7 @@ pub(crate) fn fill(
     body: &Body,
     known: &Known,
     from: &mut Known,
-    turns: &mut Table<Turn>,
+    waiting: &mut Waiting,
     others: &mut Known,
 ) -> bool
     ensures { result ≡ true → AllKnown body.now.image.now body.now.r known.now → ⊥ }
@@ -194,15 +185,17 @@ pub(crate) fn fill(
     if all_known(body, known) {
         return false;
     }
+    waiting.clear(body);
     for pc in body.start..body.end {
-        let waits = known.at(pc).is_none();
-        turns.set(pc, Turn { waits, times: 0 });
+        if known.at(pc).is_none() {
+            waiting.wait(pc);
+        }
         others.set(pc, None);
     }
     guess(body, known, from);
     // Each round but the last weakens a row, as in `rounds`.
     for _ in 0..u32::MAX {
-        if !round(body, known, from, turns, others) {
+        if !round(body, known, from, waiting, others) {
             break;
         }
     }

@@ -10,9 +10,10 @@ use crate::body::Body;
 use crate::common::clean;
 use crate::fitted::all_fit;
 use crate::flow::row_of;
-use crate::rounds::{Turn, flow_on};
-use crate::table::{Known, Table};
+use crate::rounds::flow_on;
+use crate::table::Known;
 use crate::unreached::fill;
+use crate::waiting::Waiting;
 use geos_image::{Instr, Opcode, Row};
 use geos_verify::{fits, misuses};
 
@@ -61,19 +62,21 @@ pub(crate) fn weaken(
     body: &Body,
     found: &Known,
     weaker: &mut Known,
-    turns: &mut Table<Turn>,
+    waiting: &mut Waiting,
     others: &mut Known,
 ) -> bool
     ensures some { result ≡ true → AllKnown body.now.image.now body.now.r found.now → ⊥ }
     ensures fit { result ≡ true → AllFit body.now.image.now body.now.r weaker.new }
 {
-    if !fill(body, found, weaker, turns, others) {
+    if !fill(body, found, weaker, waiting, others) {
         return false;
     }
+    waiting.clear(body);
     for pc in body.start..body.end {
         weaker.set(pc, found.at(pc).or(others.at(pc)));
+        waiting.wait(pc);
     }
-    if !flow_on(body, turns, weaker) {
+    if !flow_on(body, waiting, weaker) {
         return false;
     }
     all_as_good(body, found, weaker) && all_fit(body, weaker)

@@ -6,7 +6,7 @@ use crate::body::Body;
 use geos_image::{Opcode, Row};
 
 /// So often a row is joined with what an edge that leads back says, as it is.
-const JOINED: u8 = 16;
+pub(crate) const JOINED: u8 = 16;
 
 /// So often, from then on, a bound that changes goes on to a constant of the routine.
 const STEPPED: u8 = 8;
