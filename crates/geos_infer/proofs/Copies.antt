@@ -2,7 +2,7 @@
 use Rattle.std.proofs.Common.{◌≡◌, ◌∙◌, ◌<◌, ◌≤◌, ℕ, zero, suc, ◌+◌, ◌-◌, List, [], ◌∷◌, ◌++◌, length, take, replicate, Option, Some, true, slice_get, get_or, map, set, refl, sym, ap, subst, add-one, arith, inl, inr}
 use Rattle.std.specs.Prelude.{IfSome, slice_index, slice_index_or}
 use Rattle.std.proofs.lemmas.Bool.{cases_eq}
-use Rattle.std.proofs.lemmas.List.{get_or-set_same, get_or-set_other, length-append, map-set, length-replicate, take_all}
+use Rattle.std.proofs.lemmas.List.{get_or-set_same, get_or-set_other, length-append, length-set, append_assoc, replicate-append-replicate, set-append_left, map-set, length-replicate, take_all}
 use Rattle.std.proofs.lemmas.Option.{slice_get_within}
 use Rattle.geos_image.specs.declared.instr.Instr.{Instr}
 use Rattle.geos_image.specs.declared.point.Point.{Point}
@@ -16,30 +16,37 @@ use Rattle.geos_infer.specs.Numbers.{Numbers, steps_of, coefficients_of, numbers
 use Rattle.geos_infer.specs.Points.{PointsOf, RoutinesOf}
 use borrow.Author.Count.{below_more}
 
--- The same item everywhere
+-- The same item everywhere, where none is written
 
 module _ {A : Type 0} (x : A) where
-  take_none : (n : ℕ) (xs : List A) → xs ≡ [] → take n xs ≡ []
-  take_none zero xs e = refl
-  take_none (suc n) [] e = refl
-  take_none (suc n) (x ∷ xs) e = absurd cc
-
-  -- a list that had no items is filled up
-  pub same-filled : (items next : List A) (len n : ℕ) → items ≡ [] → len ≡ 0 → next ≡ take n items ++ replicate (n - len) x → next ≡ replicate n x
-  same-filled items next len n none zero_is e =
-      let all : n - len ≡ n = omega (arith, zero_is) in
-      e ∙ ap (λ (k : ℕ). take n items ++ replicate k x) all ∙ ap (λ (xs : List A). xs ++ replicate n x) (take_none n items none)
-
-  pub same-length : (items : List A) (n : ℕ) → items ≡ replicate n x → length items ≡ n
-  same-length items n e = ap length e ∙ length-replicate n x
-
   copy_at : (n pc : ℕ) → get_or (replicate n x) pc x ≡ x
   copy_at zero pc = refl
   copy_at (suc n) zero = refl
   copy_at (suc n) (suc pc) = copy_at n pc
 
-  pub same-at : (items : List A) (n pc : ℕ) → items ≡ replicate n x → get_or items pc x ≡ x
-  same-at items n pc e = ap (λ (xs : List A). get_or xs pc x) e ∙ copy_at n pc
+  -- where no items are written, it is at each place
+  pub same-everywhere : (items : List A) (n pc : ℕ) → items ≡ [] → get_or (items ++ replicate n x) pc x ≡ x
+  same-everywhere items n pc none = ap (λ (xs : List A). get_or (xs ++ replicate n x) pc x) none ∙ copy_at n pc
+
+  -- items, and behind them the same one up to so many
+  abbrev pub filled : ℕ → List A → List A
+  filled n items = items ++ replicate (n - length items) x
+
+  -- with so many more of them written
+  pub longer : (k : ℕ) (old items : List A) → items ≡ old ++ replicate k x → length items ≡ length old + k
+  longer k old items is = ap length is ∙ length-append old (replicate k x) ∙ ap (λ (m : ℕ). length old + m) (length-replicate k x)
+
+  pub filled-reach : (n k : ℕ) (old items : List A) → length old + k ≤ n → items ≡ old ++ replicate k x → filled n items ≡ filled n old
+  filled-reach n k old items le is =
+      let rest : k + (n - length items) ≡ n - length old = omega (arith, longer k old items is) in
+      ap (λ (xs : List A). xs ++ replicate (n - length items) x) is
+      ∙ append_assoc old (replicate k x) (replicate (n - length items) x)
+      ∙ ap (λ (xs : List A). old ++ xs) (replicate-append-replicate k (n - length items) x ∙ ap (λ (m : ℕ). replicate m x) rest)
+
+  -- one of them may be set
+  pub filled-set : (n pc : ℕ) (y : A) (items : List A) → pc < length items → filled n (set items pc y) ≡ set (filled n items) pc y
+  filled-set n pc y items lt =
+      ap (λ (m : ℕ). set items pc y ++ replicate (n - m) x) (length-set items pc y) ∙ sym (set-append_left items (replicate (n - length items) x) pc y lt)
 
   -- it is at one more place
   pub filled-more : (items : List A) (low pc : ℕ) → pc < length items → ((k : ℕ) (other : A) → low ≤ k → k < pc → get_or items k other ≡ x)

@@ -1,15 +1,19 @@
 //! Tables by pc.
 
-ghost use Rattle.std.specs.Prelude.{◌≡◌, ◌<◌, ◌≤◌, ℕ, length, slice_index_or, slice_set, IfOk};
+ghost use Rattle.std.specs.Prelude.{◌≡◌, ◌<◌, ◌≤◌, ◌+◌, ◌-◌, ◌++◌, ℕ, length, replicate, slice_index_or, slice_set, IfOk};
+ghost use Rattle.std.specs.Vec.{vec_len, vec_capacity};
 
 use geos_image::{MOST_INSTRS, Potential, Row};
 use std::alloc::{AllocError, Global};
 use std::marker::Model;
 
-/// An item for each pc that there may be in an image.
+/// An item for each pc that there may be in an image. Room is there for all of them, but memory is written only up to the highest pc
+/// at which an item was set: tables of short images, and those that nothing is set in, take next to no time.
 #[derive(Drop)]
 pub(crate) struct Table<T: Copy> {
     items: Vec<T>,
+    /// The item at each pc behind those.
+    rest: T,
 }
 
 /// What is known at each pc.
@@ -19,13 +23,27 @@ pub(crate) type Known = Table<Option<Row>>;
 pub(crate) type Potentials = Table<Potential>;
 
 impl<T: Copy> Model for Table<T> {
-    ghost use Rattle.std.specs.Prelude.{◌≡◌, List, length};
+    ghost use Rattle.std.specs.Prelude.{◌≡◌, ◌≤◌, ◌-◌, ◌++◌, List, length, replicate};
+    ghost use Rattle.std.specs.Vec.{vec_capacity};
 
     ghost Value = { List T };
 
-    ghost view = { λ t. t.items.items };
+    ghost view = { λ t. t.items.items ++ replicate (4096 - length t.items.items) t.rest };
 
-    ghost invariant = { λ t. length t.items.items ≡ 4096 };
+    ghost invariant = { λ t. record { few : length t.items.items ≤ 4096; room : 4096 ≤ vec_capacity t.items } };
+}
+
+/// Puts an item behind others until one lies at a pc. There is room for it.
+#[inline(never)]
+fn reach<T: Copy>(items: &mut Vec<T>, pc: u16, rest: T)
+    requires few { vec_len items.old ≤ pc }
+    requires room { pc < vec_capacity items.old }
+    ensures items { items.new.items ≡ items.old.items ++ replicate (pc + 1 - vec_len items.old) rest }
+    ensures room { vec_capacity items.new ≡ vec_capacity items.old }
+{
+    for _ in items.len()..pc as usize + 1 {
+        items.push_reserved(rest);
+    }
 }
 
 impl<T: Copy> Table<T> {
@@ -33,9 +51,8 @@ impl<T: Copy> Table<T> {
     pub(crate) fn new(alloc: Global, item: T) -> Result<Table<T>, AllocError>
         ensures { IfOk result (λ table. (pc : ℕ) → slice_index_or table pc item ≡ item) }
     {
-        let mut items = Vec::new(alloc);
-        items.resize(MOST_INSTRS as usize, item)?;
-        Ok(Table { items })
+        let items = Vec::with_capacity(alloc, MOST_INSTRS as usize)?;
+        Ok(Table { items, rest: item })
     }
 
     /// A law: there is room for each pc that there may be.
@@ -51,7 +68,18 @@ impl<T: Copy> Table<T> {
         requires { pc < 4096 }
         ensures { (other : T) → result ≡ slice_index_or self.now pc other }
     {
-        self.items[pc as usize]
+        *self.get(pc)
+    }
+
+    /// The item at a pc, where it lies: for items of many bytes, of which little is looked at.
+    pub(crate) fn get(&self, pc: u16) -> &T
+        requires { pc < 4096 }
+        ensures { (other : T) → result.now ≡ slice_index_or self.now pc other }
+    {
+        match self.items.get(pc as usize) {
+            Some(item) => item,
+            None => &self.rest,
+        }
     }
 
     /// Sets the item at a pc.
@@ -59,6 +87,9 @@ impl<T: Copy> Table<T> {
         requires { pc < 4096 }
         ensures { self.new ≡ slice_set self.old pc item }
     {
+        if self.items.len() <= pc as usize {
+            reach(&mut self.items, pc, self.rest);
+        }
         self.items[pc as usize] = item;
     }
 
