@@ -5,9 +5,8 @@ ghost use Rattle.std.specs.Prelude.{◌<◌};
 use crate::arcs::{Arc, Counting};
 use crate::body::Body;
 use crate::edges::is_loop;
-use crate::paid::back_edges;
 use crate::ways::Ways;
-use geos_image::{Instr, Opcode};
+use geos_image::{Instr, MOST_INSTRS, Opcode};
 
 /// The counters, with what is said of one of them in the place of that.
 fn with_counter(counters: &[bool; 4], counter: u8, costs: bool) -> [bool; 4] {
@@ -37,15 +36,19 @@ fn costly_behind(arc: &Arc, here: &[bool; 4]) -> [bool; 4] {
 fn go_along(ways: &mut Ways, pc: u16, branch: bool) -> bool
     requires { pc < 4096 }
 {
-    let here = ways.at(pc);
+    let here = ways.place(pc);
     let Some(arc) = here.arc(branch) else {
         return false;
     };
-    let mut there = ways.at(arc.to);
-    let old = there.costly;
-    there.costly = either(&old, &costly_behind(&arc, &here.costly));
-    ways.set(arc.to, there);
-    there.costly != old
+    let there = ways.place(arc.to);
+    let costly = either(&there.costly, &costly_behind(&arc, &here.costly));
+    if costly == there.costly {
+        return false;
+    }
+    let mut costlier = *there;
+    costlier.costly = costly;
+    ways.set_place(arc.to, costlier);
+    true
 }
 
 /// The same over each edge of a routine.
@@ -72,8 +75,8 @@ fn is_free(i: &Instr, costly: &[bool; 4]) -> bool {
 /// Notes which counters cost something at each place of a routine, at which LOOPs theirs does not, and how many other LOOPs there
 /// are before each place.
 pub(crate) fn note_costly(body: &Body, ways: &mut Ways) {
-    // A way that passes no place twice goes along each edge back once at most.
-    for _ in 0..back_edges(body) + 2 {
+    // A way that passes no place twice goes along each edge back once at most, and the last time nothing is new.
+    for _ in 0..MOST_INSTRS + 2 {
         if !go_along_all(body, ways) {
             break;
         }
@@ -81,12 +84,12 @@ pub(crate) fn note_costly(body: &Body, ways: &mut Ways) {
     let mut loops: u16 = 0;
     for pc in body.start..body.end {
         let i = body.image.instr(pc);
-        let mut place = ways.at(pc);
+        let mut place = *ways.place(pc);
         place.free = is_free(i, &place.costly);
         place.loops = loops;
         if is_loop(i.opcode) && !place.free {
             loops = loops.saturating_add(1);
         }
-        ways.set(pc, place);
+        ways.set_place(pc, place);
     }
 }

@@ -19,7 +19,7 @@ use crate::spent::{calls_are_spent, find_touched};
 use crate::table::{Known, Potentials, Table, two_tables};
 use crate::units::{pay_all, pay_free};
 use crate::unpaid::WaysIn;
-use crate::ways::{Place, Ways, note_arcs};
+use crate::ways::{Ways, note_arcs};
 use geos_image::{Image, Potential};
 use geos_verify::Touched;
 use std::alloc::{AllocError, Global};
@@ -61,7 +61,7 @@ struct Tables {
 
 impl Tables {
     fn new(alloc: Global, image: &Image) -> Result<Tables, AllocError> {
-        let ways = Ways::new(alloc, Place::NOTHING)?;
+        let ways = Ways::new(alloc)?;
         let (into, listed) = two_tables(alloc, WaysIn::with_left(0), 0)?;
         Ok(Tables {
             touched: find_touched(image),
@@ -88,21 +88,14 @@ impl Tables {
 /// what a potential can say.
 fn put_ways(body: &Body, ways: &Ways, potentials: &mut Potentials) -> bool {
     for pc in body.start..body.end {
-        let Place {
-            steps,
-            pay: coefficients,
-            ..
-        } = ways.at(pc);
-        let Ok(constant) = u32::try_from(steps) else {
+        let Ok(constant) = u32::try_from(ways.way(pc).steps) else {
             return false;
         };
-        potentials.set(
-            pc,
-            Potential {
-                constant,
-                coefficients,
-            },
-        );
+        let potential = Potential {
+            constant,
+            coefficients: ways.place(pc).pay,
+        };
+        potentials.set(pc, potential);
     }
     true
 }

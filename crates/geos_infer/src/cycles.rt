@@ -4,10 +4,22 @@ ghost use Rattle.std.specs.Prelude.{◌≡◌, ◌<◌, false};
 ghost use Rattle.geos_infer.specs.Code.{ForwardIn};
 
 use crate::body::Body;
-use crate::paid::back_edges;
+use crate::edges::{is_loop, leads_back};
 use crate::table::Table;
 use crate::unpaid::{WaysIn, lead_unpaid};
 use geos_image::MOST_INSTRS;
+
+/// Whether an edge leads back in a routine that is no LOOP's way to its target.
+fn leads_back_unpaid(body: &Body) -> bool
+    ensures { ForwardIn body.now.image.now body.now.r → result ≡ false }
+{
+    for pc in body.start..body.end {
+        if !is_loop(body.image.instr(pc).opcode) && leads_back(body, pc) {
+            return true;
+        }
+    }
+    false
+}
 
 /// Counts the edges into each place of a routine.
 fn count_edges(body: &Body, into: &mut Table<WaysIn>) {
@@ -63,7 +75,7 @@ pub(crate) fn has_unpaid_cycle(
 ) -> bool
     ensures { ForwardIn body.now.image.now body.now.r → result ≡ false }
 {
-    if back_edges(body) == 0 {
+    if !leads_back_unpaid(body) {
         return false;
     }
     count_edges(body, into);

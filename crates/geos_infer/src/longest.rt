@@ -4,7 +4,7 @@
 ghost use Rattle.std.specs.Prelude.{◌<◌};
 
 use crate::spans::Span;
-use crate::ways::{Ways, cost};
+use crate::ways::{Way, Ways, cost};
 use geos_image::MOST_INSTRS;
 
 /// What came of going over edges.
@@ -20,10 +20,8 @@ enum Growth {
 /// Each way ends where it begins.
 fn begin(span: &Span, ways: &mut Ways) {
     for pc in span.start..span.end {
-        let mut place = ways.at(pc);
-        place.steps = u64::from(place.returns);
-        place.first = None;
-        ways.set(pc, place);
+        let steps = u64::from(ways.place(pc).returns);
+        ways.set_way(pc, Way::ending(steps));
     }
 }
 
@@ -32,22 +30,29 @@ fn begin(span: &Span, ways: &mut Ways) {
 fn lengthen(span: &Span, ways: &mut Ways, pc: u16, branch: bool, ahead: bool) -> bool
     requires { pc < 4096 }
 {
-    let mut here = ways.at(pc);
+    let here = ways.place(pc);
     let Some(arc) = here.arc(branch) else {
         return false;
     };
     if !span.has(arc.to) || (pc < arc.to) != ahead || (branch && here.free) {
         return false;
     }
-    let there = ways.at(arc.to);
-    let (costs, paid) = cost(&arc, &here.pay, &there.pay);
-    let steps = there.steps.saturating_add(costs).saturating_sub(paid);
-    if steps <= here.steps {
+    let (costs, paid) = cost(&arc, &here.pay, &ways.place(arc.to).pay);
+    let steps = ways
+        .way(arc.to)
+        .steps
+        .saturating_add(costs)
+        .saturating_sub(paid);
+    let way = ways.way(pc);
+    if steps <= way.steps {
         return false;
     }
-    here.steps = steps;
-    here.first = Some(branch);
-    ways.set(pc, here);
+    let longer = Way {
+        steps,
+        first: Some(branch),
+        ..way
+    };
+    ways.set_way(pc, longer);
     true
 }
 
@@ -67,16 +72,16 @@ fn round_from(ways: &mut Ways, from: u16, mark: u16) -> Option<u16>
 {
     let mut at = from;
     for _ in 0..MOST_INSTRS {
-        let mut place = ways.at(at);
-        if place.passed == mark {
+        let mut way = ways.way(at);
+        if way.passed == mark {
             return Some(at);
         }
-        if place.passed != 0 {
+        if way.passed != 0 {
             return None;
         }
-        place.passed = mark;
-        ways.set(at, place);
-        at = place.next()?.to;
+        way.passed = mark;
+        ways.set_way(at, way);
+        at = ways.next(at)?.to;
     }
     None
 }
@@ -84,9 +89,9 @@ fn round_from(ways: &mut Ways, from: u16, mark: u16) -> Option<u16>
 /// A pc from which the longest way comes back to it.
 fn find_round(span: &Span, ways: &mut Ways) -> Option<u16> {
     for pc in span.start..span.end {
-        let mut place = ways.at(pc);
-        place.passed = 0;
-        ways.set(pc, place);
+        let mut way = ways.way(pc);
+        way.passed = 0;
+        ways.set_way(pc, way);
     }
     for pc in span.start..span.end {
         if let Some(at) = round_from(ways, pc, pc + 1) {
@@ -105,7 +110,7 @@ fn leads_to(ways: &Ways, from: u16, to: u16) -> bool
         if at == to {
             return true;
         }
-        match ways.at(at).next() {
+        match ways.next(at) {
             Some(arc) => at = arc.to,
             None => return false,
         }
@@ -120,7 +125,7 @@ fn go_back_from(span: &Span, ways: &mut Ways, pc: u16) -> Growth
     if !lengthen(span, ways, pc, true, false) {
         return Growth::Same;
     }
-    match ways.at(pc).next() {
+    match ways.next(pc) {
         Some(arc) if span.loops && leads_to(ways, arc.to, pc) => Growth::Round(pc),
         _ => Growth::Longer,
     }
@@ -139,29 +144,30 @@ fn go_back(span: &Span, ways: &mut Ways) -> Growth {
     growth
 }
 
-/// Goes over all edges once.
-fn go_on(span: &Span, ways: &mut Ways) -> Growth {
-    let longer = go_ahead(span, ways);
-    if longer && span.loops {
-        if let Some(at) = find_round(span, ways) {
-            return Growth::Round(at);
-        }
-    }
-    match go_back(span, ways) {
-        Growth::Same if longer => Growth::Longer,
-        growth => growth,
+/// Goes over the edges that lead ahead, where one that leads back has made some way longer: the place where a way comes back, if one
+/// does.
+fn go_ahead_again(span: &Span, ways: &mut Ways) -> Option<u16> {
+    if go_ahead(span, ways) && span.loops {
+        find_round(span, ways)
+    } else {
+        None
     }
 }
 
 /// Finds the longest way from each of the places; one from which the longest comes back to it, if ways have no end.
 pub(crate) fn find_longest(span: &Span, ways: &mut Ways) -> Option<u16> {
     begin(span, ways);
+    // From the last place to the first, so that no way ahead is left to be longer.
+    go_ahead(span, ways);
     // A way that passes no place twice goes along each edge back once at most, and the last time nothing is longer.
     for _ in 0..u64::from(span.back) + 2 {
-        match go_on(span, ways) {
+        match go_back(span, ways) {
             Growth::Same => return None,
             Growth::Longer => {}
             Growth::Round(at) => return Some(at),
+        }
+        if let Some(at) = go_ahead_again(span, ways) {
+            return Some(at);
         }
     }
     None

@@ -41,7 +41,7 @@ pub(crate) fn span_of(ways: &Ways, start: u16, end: u16) -> Span
     let mut back: u32 = 0;
     let mut loops = false;
     for pc in start..end {
-        let here = ways.at(pc);
+        let here = ways.place(pc);
         if let Some(arc) = here.arc(true) {
             if start <= arc.to && arc.to <= pc {
                 back = back.saturating_add(1);

@@ -35,7 +35,7 @@ impl Round {
 fn with_arc(round: &Round, ways: &Ways, pc: u16, arc: &Arc) -> Round
     requires { pc < 4096 }
 {
-    let (costs, paid) = cost(arc, &ways.at(pc).pay, &ways.at(arc.to).pay);
+    let (costs, paid) = cost(arc, &ways.place(pc).pay, &ways.place(arc.to).pay);
     let mut next = *round;
     next.costs = next.costs.saturating_add(costs);
     next.paid = next.paid.saturating_add(paid);
@@ -59,7 +59,7 @@ fn round_at(ways: &Ways, from: u16) -> Round
     let mut round = Round::NOTHING;
     let mut at = from;
     for _ in 0..MOST_INSTRS {
-        let Some(arc) = ways.at(at).next() else {
+        let Some(arc) = ways.next(at) else {
             return round;
         };
         round = with_arc(&round, ways, at, &arc);
@@ -126,7 +126,7 @@ fn raise_at(ways: &mut Ways, pc: u16, arc: &Arc, raise: &Raise) -> bool
     if counter != raise.counter || 4 <= counter {
         return true;
     }
-    let mut place = ways.at(pc);
+    let mut place = *ways.place(pc);
     let Some(unit) = raised_unit(place.pay[usize::from(counter)], place.raised, raise) else {
         return false;
     };
@@ -134,7 +134,7 @@ fn raise_at(ways: &mut Ways, pc: u16, arc: &Arc, raise: &Raise) -> bool
     if raise.loops.is_some() {
         place.raised = place.raised.saturating_add(1);
     }
-    ways.set(pc, place);
+    ways.set_place(pc, place);
     true
 }
 
@@ -144,7 +144,7 @@ fn raise_round(ways: &mut Ways, from: u16, raise: &Raise) -> bool
 {
     let mut at = from;
     for _ in 0..MOST_INSTRS {
-        let Some(arc) = ways.at(at).next() else {
+        let Some(arc) = ways.next(at) else {
             return false;
         };
         if !raise_at(ways, at, &arc, raise) {
@@ -162,19 +162,23 @@ fn raise_round(ways: &mut Ways, from: u16, raise: &Raise) -> bool
 fn carry_over(ways: &mut Ways, pc: u16, branch: bool) -> bool
     requires { pc < 4096 }
 {
-    let mut here = ways.at(pc);
+    let here = ways.place(pc);
     let Some(arc) = here.arc(branch) else {
         return false;
     };
-    let mut asked = ways.at(arc.to).pay;
+    let mut asked = ways.place(arc.to).pay;
     match arc.counting {
         Counting::Sets(counter, _) if counter < 4 => asked[usize::from(counter)] = 0,
         _ => {}
     }
-    let old = here.pay;
-    here.pay = coefficients_join(&old, &asked);
-    ways.set(pc, here);
-    here.pay != old
+    let pay = coefficients_join(&here.pay, &asked);
+    if pay == here.pay {
+        return false;
+    }
+    let mut paying = *here;
+    paying.pay = pay;
+    ways.set_place(pc, paying);
+    true
 }
 
 /// The same over each edge from one of the places, from the last to the first.
@@ -246,9 +250,9 @@ fn pay_among(span: &Span, ways: &mut Ways, room: u32) -> u32 {
 fn back_from(ways: &Ways, pc: u16) -> Option<u16>
     requires { pc < 4096 }
 {
-    let here = ways.at(pc);
+    let here = ways.place(pc);
     let arc = here.arc(true)?;
-    if here.free || pc < arc.to || (!takes(&arc) && ways.at(arc.to).loops == here.loops) {
+    if here.free || pc < arc.to || (!takes(&arc) && ways.place(arc.to).loops == here.loops) {
         return None;
     }
     Some(arc.to)
@@ -302,35 +306,41 @@ pub(crate) fn pay_all(body: &Body, ways: &mut Ways) -> bool {
     false
 }
 
-/// Sets what a unit has to pay for at a LOOP whose counter costs nothing, if the instruction at a pc is one; `false` where that is
-/// past what a potential can say.
+/// Sets what a unit has to pay for at the LOOP at a pc, whose counter costs nothing; `false` where that is past what a potential can
+/// say.
 fn pay_free_at(body: &Body, ways: &mut Ways, pc: u16) -> bool
     requires { pc < body.now.end }
 {
     let counter = body.image.instr(pc).a;
-    let mut here = ways.at(pc);
-    if !here.free || 4 <= counter {
-        return true;
-    }
+    let mut here = *ways.place(pc);
     let Some(arc) = here.arc(true) else {
         return true;
     };
-    let asked = ways.at(arc.to).steps.saturating_add(arc.steps);
-    let Ok(unit) = u32::try_from(asked.saturating_sub(here.steps)) else {
+    if 4 <= counter {
+        return true;
+    }
+    let asked = ways.way(arc.to).steps.saturating_add(arc.steps);
+    let Ok(unit) = u32::try_from(asked.saturating_sub(ways.way(pc).steps)) else {
         return false;
     };
     here.pay[usize::from(counter)] = unit.max(here.pay[usize::from(counter)]);
-    ways.set(pc, here);
+    ways.set_place(pc, here);
     true
 }
 
-/// The same for each instruction of a routine.
+/// The same for each LOOP of a routine whose counter costs nothing.
 pub(crate) fn pay_free(body: &Body, ways: &mut Ways) -> bool {
+    let mut some = false;
     for pc in body.start..body.end {
-        if !pay_free_at(body, ways, pc) {
-            return false;
+        if ways.place(pc).free {
+            some = true;
+            if !pay_free_at(body, ways, pc) {
+                return false;
+            }
         }
     }
-    carry(&span_of(ways, body.start, body.end), ways);
+    if some {
+        carry(&span_of(ways, body.start, body.end), ways);
+    }
     true
 }

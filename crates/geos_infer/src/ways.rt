@@ -1,13 +1,16 @@
 //! What is found of the places of a routine and the ways from them: the steps that are left at most, and what the units of counters
 //! pay for.
 
+ghost use Rattle.std.specs.Prelude.{◌<◌};
+
 use crate::arcs::{Arc, Counting, arc_of};
 use crate::asked::return_steps;
 use crate::body::Body;
-use crate::table::{Known, Table};
+use crate::table::{Known, Table, two_tables};
 use geos_verify::Touched;
+use std::alloc::{AllocError, Global};
 
-/// What is found of a place, and of the ways from it.
+/// What is found of a place.
 #[derive(Clone, Copy)]
 pub(crate) struct Place {
     /// The edge to the next instruction, and the one to the target.
@@ -24,16 +27,84 @@ pub(crate) struct Place {
     pub(crate) pay: [u32; 4],
     /// How many times a LOOP's unit was raised.
     pub(crate) raised: u16,
-    /// How many steps the longest way takes that is known.
+}
+
+/// The longest way from a place that is known.
+#[derive(Clone, Copy)]
+pub(crate) struct Way {
+    /// How many steps it takes.
     pub(crate) steps: u64,
-    /// Which edge that way takes first, to the target where `true`; none where it has none.
+    /// Which edge it takes first, to the target where `true`; none where it has none.
     pub(crate) first: Option<bool>,
     /// From where a way was followed that came by.
     pub(crate) passed: u16,
 }
 
-/// What is found of each place.
-pub(crate) type Ways = Table<Place>;
+impl Way {
+    /// One that ends where it begins, and takes no step.
+    const NOTHING: Way = Way {
+        steps: 0,
+        first: None,
+        passed: 0,
+    };
+
+    /// One that ends where it begins, and takes so many steps.
+    pub(crate) fn ending(steps: u64) -> Way {
+        Way {
+            steps,
+            ..Way::NOTHING
+        }
+    }
+}
+
+/// What is found of each place, and of the longest way from it.
+#[derive(Drop)]
+pub(crate) struct Ways {
+    places: Table<Place>,
+    longest: Table<Way>,
+}
+
+impl Ways {
+    /// Nothing is found.
+    pub(crate) fn new(alloc: Global) -> Result<Ways, AllocError> {
+        let (places, longest) = two_tables(alloc, Place::NOTHING, Way::NOTHING)?;
+        Ok(Ways { places, longest })
+    }
+
+    /// What is found of a place.
+    pub(crate) fn place(&self, pc: u16) -> &Place
+        requires { pc < 4096 }
+    {
+        self.places.get(pc)
+    }
+
+    pub(crate) fn set_place(&mut self, pc: u16, place: Place)
+        requires { pc < 4096 }
+    {
+        self.places.set(pc, place);
+    }
+
+    /// The longest way from a place.
+    pub(crate) fn way(&self, pc: u16) -> Way
+        requires { pc < 4096 }
+    {
+        self.longest.at(pc)
+    }
+
+    pub(crate) fn set_way(&mut self, pc: u16, way: Way)
+        requires { pc < 4096 }
+    {
+        self.longest.set(pc, way);
+    }
+
+    /// The edge that the longest way from a place takes first.
+    pub(crate) fn next(&self, pc: u16) -> Option<Arc>
+        requires { pc < 4096 }
+    {
+        let branch = self.way(pc).first?;
+        self.place(pc).arc(branch)
+    }
+}
 
 impl Place {
     /// No edges: no unit costs anything or pays for anything, and no way takes a step.
@@ -45,21 +116,12 @@ impl Place {
         loops: 0,
         pay: [0; 4],
         raised: 0,
-        steps: 0,
-        first: None,
-        passed: 0,
     };
 
     /// An edge, to the target where `branch` says so.
     pub(crate) fn arc(&self, branch: bool) -> Option<Arc> {
         let [along, branching] = self.arcs;
         if branch { branching } else { along }
-    }
-
-    /// The edge that the longest way takes first.
-    pub(crate) fn next(&self) -> Option<Arc> {
-        let branch = self.first?;
-        self.arc(branch)
     }
 }
 
@@ -73,7 +135,7 @@ pub(crate) fn note_arcs(body: &Body, known: &Known, touched: &Touched, ways: &mu
         place.arcs = [along, branching];
         place.costly = [pc == body.start; 4];
         place.returns = return_steps(body.image.instr(pc)) != 0;
-        ways.set(pc, place);
+        ways.set_place(pc, place);
     }
 }
 
