@@ -1,11 +1,13 @@
 -- The first line of a text.
-use Rattle.std.proofs.Common.{◌≡◌, ◌<◌, ◌≤◌, ℕ, ◌==◌, Bool, true, false, not, List, [], ◌∷◌, length, take, drop, length-drop, ◌-◌, Some, None, refl, ap, ◌∙◌, arith, position}
+use Rattle.std.proofs.Common.{◌≡◌, ◌<◌, ◌≤◌, ℕ, ◌==◌, Bool, true, false, not, List, [], ◌∷◌, length, take, drop, length-drop, ◌-◌, Option, Some, None, refl, sym, ap, ◌∙◌, arith, position}
 use Rattle.std.specs.Prelude.{unwrap_or, nat_lt, cond}
 use Rattle.std.specs.List.{All, slice_split, before_first, after_first, position_or_len}
 use Rattle.std.specs.Str.Lines.{lines, lines_of_parts, strip_carriage_return}
 use Rattle.std.proofs.lemmas.List.Splits.{slice_split_none, slice_split_first, length-slice_split}
-use Rattle.std.proofs.lemmas.List.Sums.{fails_before_first, prefix_len-le-length}
+use Rattle.std.proofs.lemmas.List.Sums.{fails_before_first, position_or_len_is, prefix_len-le-length}
+use Rattle.std.proofs.lemmas.Bool.{false_from_ne_true}
 use Rattle.std.proofs.lemmas.List.{take_all}
+use Rattle.memchr.specs.Find.{IsFirstByte}
 
 chosen : (n k : ℕ) (below : Bool) → nat_lt k n ≡ below → k ≤ n → unwrap_or (cond below (Some k) None) n ≡ k
 chosen n k true e le = refl
@@ -14,6 +16,14 @@ chosen n k false e le = grind arith
 -- the first place at which a test passes, or the length, in the words of `position`
 pub position_or_else : {X : Type 0} (p : X → Bool) (xs : List X) → unwrap_or (position p xs) (length xs) ≡ position_or_len p xs
 position_or_else p xs = chosen (length xs) (position_or_len p xs) (nat_lt (position_or_len p xs) (length xs)) refl (prefix_len-le-length (λ x. not (p x)) xs)
+
+-- the same, in the words of `memchr`
+pub first_byte_or_else : (p : ℕ → Bool) (xs : List ℕ) (r : Option ℕ) → IsFirstByte p xs r → unwrap_or r (length xs) ≡ position_or_len p xs
+first_byte_or_else p xs None none =
+    sym (position_or_len_is p xs (length xs) 0 (omega arith) (λ k lt. false_from_ne_true _ (none k (omega arith) lt)) (λ lt. absurd (omega arith)))
+first_byte_or_else p xs (Some k) found =
+    let first = found.0 in
+    sym (position_or_len_is p xs k 0 (omega (arith, first.high)) (λ j lt. false_from_ne_true _ (first.before j (omega arith) lt)) (λ lt. found.1))
 
 -- a part with others behind it loses its carriage return
 parts-first : (line : List ℕ) (parts : List (List ℕ)) → 0 < length parts → lines_of_parts (line ∷ parts) ≡ strip_carriage_return line ∷ lines_of_parts parts

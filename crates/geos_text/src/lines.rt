@@ -4,6 +4,8 @@ ghost use Rattle.std.specs.Prelude.{◌≡◌, ◌<◌, ◌≤◌, length, ◌�
 ghost use Rattle.std.specs.List.{position_or_len};
 ghost use Rattle.std.specs.Str.Lines.{lines, strip_carriage_return};
 
+use memchr::memchr;
+
 /// The most bytes of a text, a script or a session.
 pub const MOST_BYTES: usize = 1_048_576;
 
@@ -12,9 +14,7 @@ pub(crate) fn place_of(byte: u8, text: &[u8]) -> usize
     ensures place { result ≡ position_or_len (λ b. b == byte) text.now }
     ensures within { result ≤ length text.now }
 {
-    text.iter()
-        .position(|other| *other == byte)
-        .unwrap_or(text.len())
+    memchr(byte, text).unwrap_or(text.len())
 }
 
 fn without_carriage_return(line: &[u8]) -> &[u8]
