@@ -1,7 +1,8 @@
 //! Names, labels, and what they stand for.
 
-ghost use Rattle.std.specs.Prelude.{◌≡◌, IfOk};
+ghost use Rattle.std.specs.Prelude.{◌≡◌, true, IfOk};
 ghost use Rattle.geos_source.specs.Names.{is_name, name_of, label_of, resolved, with_name, none_defined};
+ghost use Rattle.geos_source.specs.Tables.{key_of, is_keyed};
 
 use crate::fault::Why;
 use geos_image::are_name_bytes;
@@ -45,11 +46,20 @@ pub(crate) fn label_of(word: &[u8]) -> Option<Name>
     }
 }
 
-/// What names stand for, in the order of the names: a look-up takes no longer for some names than
-/// for others.
+/// The key of a name, which each name has: the number whose bytes are the name, the highest first.
+/// Numbers are compared at once, names byte by byte, and the keys are in the order of the names.
+fn key_of(name: Name) -> u128
+    ensures key { result ≡ key_of name }
+    ensures name { is_keyed name ≡ true }
+{
+    u128::from_be_bytes(name)
+}
+
+/// What names stand for, by their keys, in the order of the names: a look-up takes no longer for
+/// some names than for others.
 #[derive(Drop)]
 pub(crate) struct Table {
-    values: BTreeMap<Name, u16>,
+    values: BTreeMap<u128, u16>,
 }
 
 impl Table {
@@ -67,7 +77,7 @@ impl Table {
     pub(crate) fn get(&self, name: &Name) -> Option<u16>
         ensures { result ≡ table_of self.now name.now }
     {
-        self.values.get(name).copied()
+        self.values.get(&key_of(*name)).copied()
     }
 
     /// Defines one more name; where it was defined before, answers what it stood for.
@@ -75,7 +85,7 @@ impl Table {
         ensures old { IfOk result (λ old. old ≡ table_of self.old name) }
         ensures new { IfOk result (λ _. table_of self.new ≡ with_name (table_of self.old) name value) }
     {
-        match self.values.insert(name, value) {
+        match self.values.insert(key_of(name), value) {
             Ok(old) => Ok(old),
             Err(_) => Err(AllocError),
         }

@@ -1,0 +1,121 @@
+-- The keys of a table tell its names apart.
+use Rattle.std.proofs.Common.{◌≡◌, ◌<◌, ◌≤◌, ◌+◌, ◌-◌, ◌*◌, ◌^◌, ℕ, zero, suc, true, false, List, length, slice_index, sym, ap, subst, ◌∙◌, arith, ⊎_elim}
+use Rattle.std.specs.Prelude.{bytes_eq, nat_lt, cond, Some, None}
+use Rattle.std.specs.Int.{byte_worth, sum_through}
+use Rattle.std.specs.Ordering.{is_eq, nat_cmp}
+use Rattle.std.specs.Cmp.{unsigned_tied}
+use Rattle.std.specs.Cmp.Lexicographic.{bytes_decides}
+use Rattle.std.specs.BTreeMap as tree
+use Rattle.std.proofs.Math.Path.{fun_ext}
+use Rattle.std.proofs.Math.Nat.{mul_assoc, pow-suc}
+use Rattle.std.proofs.lemmas.Nat.{same_from_place}
+use Rattle.std.proofs.lemmas.Bool.{and_from, and_parts, cases_Bool, cases_lt, eq-eqb, eqb-true, false_from_ne_true, lt-ltb, ltb-true, ne_eqb, true≢false}
+use Rattle.std.proofs.lemmas.List.{get_or_default}
+use Rattle.std.proofs.lemmas.Grind.{same_number_lists}
+use Rattle.std.proofs.lemmas.List.Sums.{AllPass-from_list_all, list_all-from_AllPass}
+use Rattle.geos_source.specs.declared.names.Table as code
+use Rattle.geos_source.specs.Names.{none_defined, with_name}
+use Rattle.geos_source.specs.Tables.{key_of, is_keyed, table_of}
+
+-- a byte one place up is worth 256 times as much
+worth-suc : (i b : ℕ) → byte_worth (suc i) b ≡ byte_worth i b * 256
+worth-suc zero b = omega arith
+worth-suc (suc i) b = ap (λ n. b * n) (pow-suc 256 (suc i)) ∙ sym (mul_assoc b (256 ^ suc i) 256)
+
+-- and so is a sum of such bytes
+sum-times : (f g : ℕ → ℕ) (k : ℕ) → ((i : ℕ) → i ≤ k → f i ≡ g i * 256) → sum_through f k ≡ sum_through g k * 256
+sum-times f g zero h = h 0 (omega arith)
+sum-times f g (suc k) h = let front = sum-times f g k (λ i le. h i (omega arith)) in omega (arith, h (suc k) (omega arith))
+
+-- what the bytes 0 to k are worth, the last of them as the lowest
+abbrev worth : (ℕ → ℕ) → ℕ → ℕ
+worth byte k = sum_through (λ i. byte_worth (k - i) (byte i)) k
+
+-- one more byte takes those before it one place up
+worth-last : (byte : ℕ → ℕ) (k : ℕ) → worth byte (suc k) ≡ worth byte k * 256 + byte (suc k)
+worth-last byte k =
+    let up : (i : ℕ) → i ≤ k → byte_worth (suc k - i) (byte i) ≡ byte_worth (k - i) (byte i) * 256 =
+    λ i le. let next : suc k - i ≡ suc (k - i) = omega arith in ap (λ n. byte_worth n (byte i)) next ∙ worth-suc (k - i) (byte i) in
+    let front = sum-times (λ i. byte_worth (suc k - i) (byte i)) (λ i. byte_worth (k - i) (byte i)) k up in
+    let none : suc k - suc k ≡ 0 = omega arith in
+    ap (λ n. n + byte_worth (suc k - suc k) (byte (suc k))) front ∙ ap (λ n. worth byte k * 256 + byte_worth n (byte (suc k))) none
+
+-- bytes that are worth the same are the same
+worth-apart : (f g : ℕ → ℕ) (k : ℕ) → ((i : ℕ) → i ≤ k → f i < 256) → ((i : ℕ) → i ≤ k → g i < 256) → worth f k ≡ worth g k → (i : ℕ) → i ≤ k → f i ≡ g i
+worth-apart f g zero small small' same zero le = same
+worth-apart f g zero small small' same (suc i) le = absurd (omega arith)
+worth-apart f g (suc k) small small' same i le =
+    let parts = same_from_place (worth f k) (f (suc k)) (worth g k) (g (suc k)) 256 (small (suc k) (omega arith)) (small' (suc k) (omega arith))
+    (sym (worth-last f k) ∙ same ∙ worth-last g k) in
+    ⊎_elim
+    (λ lt. worth-apart f g k (λ j l. small j (omega arith)) (λ j l. small' j (omega arith)) parts.0 i (omega arith))
+    (λ ge. let last : i ≡ suc k = omega arith in ap f last ∙ parts.1 ∙ sym (ap g last))
+    (cases_lt i (suc k))
+
+-- 16 bytes have a key
+pub is_keyed-from : (name : List ℕ) → length name ≡ 16 → ((k : ℕ) → slice_index name k < 256) → is_keyed name ≡ true
+unfolding is_keyed
+is_keyed-from name long small =
+    and_from _ _ (eq-eqb _ _ long)
+    (list_all-from_AllPass (λ b. nat_lt b 256) name (λ k d lt. lt-ltb _ 256 (subst (λ b. b < 256) (get_or_default name k 0 d lt) (small k))))
+
+-- what has a key is 16 bytes
+is_keyed-parts : (name : List ℕ) → is_keyed name ≡ true → (length name ≡ 16) × ((k : ℕ) → k < length name → slice_index name k < 256)
+unfolding is_keyed
+is_keyed-parts name keyed =
+    let parts = and_parts _ _ keyed in
+    (eqb-true _ _ parts.0, λ k lt. ltb-true _ 256 (AllPass-from_list_all (λ b. nat_lt b 256) name parts.1 k 0 lt))
+
+-- names with the same key are the same
+key_of-apart : (a b : List ℕ) → is_keyed a ≡ true → is_keyed b ≡ true → key_of a ≡ key_of b → a ≡ b
+unfolding key_of
+key_of-apart a b p q same =
+    let first = is_keyed-parts a p in
+    let second = is_keyed-parts b q in
+    same_number_lists a b (omega arith)
+    (λ k lt. worth-apart (slice_index a) (slice_index b) 15 (λ i le. first.1 i (omega arith)) (λ i le. second.1 i (omega arith)) same k (omega arith))
+
+-- so names are told apart by their keys
+key_of-tells : (a b : List ℕ) → is_keyed a ≡ true → is_keyed b ≡ true → is_eq (nat_cmp (key_of a) (key_of b)) ≡ bytes_eq a b
+key_of-tells a b p q =
+    unsigned_tied (key_of a) (key_of b)
+    ∙ ⊎_elim
+    (λ yes. eq-eqb _ _ (ap key_of ((bytes_decides a b).0 yes)) ∙ sym yes)
+    (λ no. ne_eqb _ _ (λ same. true≢false (sym ((bytes_decides a b).1 (key_of-apart a b p q same)) ∙ no)) ∙ sym no)
+    (cases_Bool (bytes_eq a b))
+
+-- what has no key is none of the names
+other-keyed : (a b : List ℕ) → is_keyed a ≡ true → is_keyed b ≡ false → bytes_eq a b ≡ false
+other-keyed a b p q = false_from_ne_true _ (λ yes. true≢false (sym p ∙ ap is_keyed ((bytes_decides a b).0 yes) ∙ q))
+
+-- a table looks a name up by its key
+pub table_of-keyed : (table : code.Table) (name : List ℕ) → is_keyed name ≡ true → table_of table name ≡ tree.get nat_cmp table.values (key_of name)
+unfolding table_of
+table_of-keyed table name keyed = ap (λ b. cond b (tree.get nat_cmp table.values (key_of name)) None) keyed
+
+-- what has no key stands for nothing
+table_of-other : (table : code.Table) (name : List ℕ) → is_keyed name ≡ false → table_of table name ≡ None
+unfolding table_of
+table_of-other table name other = ap (λ b. cond b (tree.get nat_cmp table.values (key_of name)) None) other
+
+-- a table with no keys has no names
+pub table_of-none : (table : code.Table) → ((key : ℕ) → tree.get nat_cmp table.values key ≡ None) → table_of table ≡ none_defined
+table_of-none table none = fun_ext (λ name.
+    ⊎_elim (λ yes. table_of-keyed table name yes ∙ none (key_of name)) (λ no. table_of-other table name no) (cases_Bool (is_keyed name)))
+
+-- a table with one more key has one more name
+pub table_of-with : (old new : code.Table) (name : List ℕ) (value : ℕ) → is_keyed name ≡ true
+    → ((key : ℕ) → tree.get nat_cmp new.values key ≡ cond (is_eq (nat_cmp (key_of name) key)) (Some value) (tree.get nat_cmp old.values key))
+    → table_of new ≡ with_name (table_of old) name value
+table_of-with old new name value keyed one_more = fun_ext (λ other.
+    ⊎_elim
+    (λ yes.
+    table_of-keyed new other yes
+    ∙ one_more (key_of other)
+    ∙ ap (λ same. cond same (Some value) (tree.get nat_cmp old.values (key_of other))) (key_of-tells name other keyed yes)
+    ∙ ap (cond (bytes_eq name other) (Some value)) (sym (table_of-keyed old other yes)))
+    (λ no.
+    table_of-other new other no
+    ∙ sym (table_of-other old other no)
+    ∙ ap (λ same. cond same (Some value) (table_of old other)) (sym (other-keyed name other keyed no)))
+    (cases_Bool (is_keyed other)))
