@@ -1,5 +1,5 @@
 -- The keys of a table tell its names apart.
-use Rattle.std.proofs.Common.{◌≡◌, ◌<◌, ◌≤◌, ◌+◌, ◌-◌, ◌*◌, ◌^◌, ℕ, zero, suc, true, false, List, length, slice_index, sym, ap, subst, ◌∙◌, arith, ⊎_elim}
+use Rattle.std.proofs.Common.{◌≡◌, ◌<◌, ◌≤◌, ◌+◌, ◌*◌, ◌^◌, ℕ, zero, suc, true, false, List, length, slice_index, refl, sym, ap, subst, ◌∙◌, arith, ⊎_elim}
 use Rattle.std.specs.Prelude.{bytes_eq, nat_lt, cond, Some, None}
 use Rattle.std.specs.Int.{byte_worth, sum_through}
 use Rattle.std.specs.Ordering.{is_eq, nat_cmp}
@@ -9,7 +9,7 @@ use Rattle.std.specs.BTreeMap as tree
 use Rattle.std.proofs.Math.Path.{fun_ext}
 use Rattle.std.proofs.Math.Nat.{mul_assoc, pow-suc}
 use Rattle.std.proofs.lemmas.Nat.{same_from_place}
-use Rattle.std.proofs.lemmas.Bool.{and_from, and_parts, cases_Bool, cases_lt, eq-eqb, eqb-true, false_from_ne_true, lt-ltb, ltb-true, ne_eqb, true≢false}
+use Rattle.std.proofs.lemmas.Bool.{and_from, and_parts, cases_Bool, eq-eqb, eqb-true, false_from_ne_true, lt-ltb, ltb-true, ne_eqb, true≢false}
 use Rattle.std.proofs.lemmas.List.{get_or_default}
 use Rattle.std.proofs.lemmas.Grind.{same_number_lists}
 use Rattle.std.proofs.lemmas.List.Sums.{AllPass-from_list_all, list_all-from_AllPass}
@@ -23,34 +23,40 @@ worth-suc zero b = omega arith
 worth-suc (suc i) b = ap (λ n. b * n) (pow-suc 256 (suc i)) ∙ sym (mul_assoc b (256 ^ suc i) 256)
 
 -- and so is a sum of such bytes
-sum-times : (f g : ℕ → ℕ) (k : ℕ) → ((i : ℕ) → i ≤ k → f i ≡ g i * 256) → sum_through f k ≡ sum_through g k * 256
-sum-times f g zero h = h 0 (omega arith)
-sum-times f g (suc k) h = let front = sum-times f g k (λ i le. h i (omega arith)) in omega (arith, h (suc k) (omega arith))
+sum-times : (f g : ℕ → ℕ) (k : ℕ) → ((i : ℕ) → f i ≡ g i * 256) → sum_through f k ≡ sum_through g k * 256
+sum-times f g zero h = h 0
+sum-times f g (suc k) h = let front = sum-times f g k h in omega (arith, h (suc k))
 
--- what the bytes 0 to k are worth, the last of them as the lowest
+-- a sum is its first term and the sum of the others
+sum-first : (f : ℕ → ℕ) (k : ℕ) → sum_through f (suc k) ≡ f 0 + sum_through (λ i. f (suc i)) k
+sum-first f zero = refl
+sum-first f (suc k) = let front = sum-first f k in omega arith
+
+-- what the bytes 0 to k are worth, the first of them as the lowest
 abbrev worth : (ℕ → ℕ) → ℕ → ℕ
-worth byte k = sum_through (λ i. byte_worth (k - i) (byte i)) k
+worth byte k = sum_through (λ i. byte_worth i (byte i)) k
 
--- one more byte takes those before it one place up
-worth-last : (byte : ℕ → ℕ) (k : ℕ) → worth byte (suc k) ≡ worth byte k * 256 + byte (suc k)
-worth-last byte k =
-    let up : (i : ℕ) → i ≤ k → byte_worth (suc k - i) (byte i) ≡ byte_worth (k - i) (byte i) * 256 =
-    λ i le. let next : suc k - i ≡ suc (k - i) = omega arith in ap (λ n. byte_worth n (byte i)) next ∙ worth-suc (k - i) (byte i) in
-    let front = sum-times (λ i. byte_worth (suc k - i) (byte i)) (λ i. byte_worth (k - i) (byte i)) k up in
-    let none : suc k - suc k ≡ 0 = omega arith in
-    ap (λ n. n + byte_worth (suc k - suc k) (byte (suc k))) front ∙ ap (λ n. worth byte k * 256 + byte_worth n (byte (suc k))) none
+-- the bytes behind the first are one place up
+worth-first : (byte : ℕ → ℕ) (k : ℕ) → worth byte (suc k) ≡ worth (λ i. byte (suc i)) k * 256 + byte 0
+worth-first byte k =
+    let first = sum-first (λ i. byte_worth i (byte i)) k in
+    let others = sum-times (λ i. byte_worth (suc i) (byte (suc i))) (λ i. byte_worth i (byte (suc i))) k (λ i. worth-suc i (byte (suc i))) in
+    omega arith
+
+-- bytes that are worth the same have the same first byte, and the others are worth the same
+places-apart : (f g : ℕ → ℕ) (k : ℕ) → ((i : ℕ) → i ≤ suc k → f i < 256) → ((i : ℕ) → i ≤ suc k → g i < 256) → worth f (suc k) ≡ worth g (suc k)
+    → (worth (λ i. f (suc i)) k ≡ worth (λ i. g (suc i)) k) × (f 0 ≡ g 0)
+places-apart f g k small small' same =
+    same_from_place _ _ _ _ 256 (small 0 (omega arith)) (small' 0 (omega arith)) (sym (worth-first f k) ∙ same ∙ worth-first g k)
 
 -- bytes that are worth the same are the same
 worth-apart : (f g : ℕ → ℕ) (k : ℕ) → ((i : ℕ) → i ≤ k → f i < 256) → ((i : ℕ) → i ≤ k → g i < 256) → worth f k ≡ worth g k → (i : ℕ) → i ≤ k → f i ≡ g i
 worth-apart f g zero small small' same zero le = same
 worth-apart f g zero small small' same (suc i) le = absurd (omega arith)
-worth-apart f g (suc k) small small' same i le =
-    let parts = same_from_place (worth f k) (f (suc k)) (worth g k) (g (suc k)) 256 (small (suc k) (omega arith)) (small' (suc k) (omega arith))
-    (sym (worth-last f k) ∙ same ∙ worth-last g k) in
-    ⊎_elim
-    (λ lt. worth-apart f g k (λ j l. small j (omega arith)) (λ j l. small' j (omega arith)) parts.0 i (omega arith))
-    (λ ge. let last : i ≡ suc k = omega arith in ap f last ∙ parts.1 ∙ sym (ap g last))
-    (cases_lt i (suc k))
+worth-apart f g (suc k) small small' same zero le = (places-apart f g k small small' same).1
+worth-apart f g (suc k) small small' same (suc i) le =
+    worth-apart (λ j. f (suc j)) (λ j. g (suc j)) k (λ j l. small (suc j) (omega arith)) (λ j l. small' (suc j) (omega arith))
+    (places-apart f g k small small' same).0 i (omega arith)
 
 -- 16 bytes have a key
 pub is_keyed-from : (name : List ℕ) → length name ≡ 16 → ((k : ℕ) → slice_index name k < 256) → is_keyed name ≡ true

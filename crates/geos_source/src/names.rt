@@ -46,17 +46,19 @@ pub(crate) fn label_of(word: &[u8]) -> Option<Name>
     }
 }
 
-/// The key of a name, which each name has: the number whose bytes are the name, the highest first.
-/// Numbers are compared at once, names byte by byte, and the keys are in the order of the names.
+/// The key of a name, which each name has: the number whose bytes are the name, the lowest first.
+/// Numbers are compared at once, names byte by byte. The first byte is the lowest, so that names
+/// that come in rising order are spread over a tree of keys, and do not all go to its end.
 fn key_of(name: Name) -> u128
     ensures key { result ≡ key_of name }
     ensures name { is_keyed name ≡ true }
 {
-    u128::from_be_bytes(name)
+    u128::from_le_bytes(name)
 }
 
-/// What names stand for, by their keys, in the order of the names: a look-up takes no longer for
-/// some names than for others.
+/// What names stand for, by their keys, which are numbers and compared at once. The tree is
+/// balanced whatever the names are: a look-up takes no longer for some names than for others. Names
+/// that come in rising order, as labels mostly do, are spread over it (`key_of`).
 #[derive(Drop)]
 pub(crate) struct Table {
     values: BTreeMap<u128, u16>,
