@@ -84,7 +84,7 @@ edge-some limit pc i branch false edge e is =
     let none : edge_ahead limit pc i branch ≡ None = rw e refl in
     absurd (none-some edge (sym none ∙ sym is))
 
-pub none-ahead : (limit pc : ℕ) (i : Instr) (branch b : Bool) → leads_ahead limit pc i branch ≡ b → None ≡ edge_ahead limit pc i branch → leads_ahead limit pc i branch ≡ false
+none-ahead : (limit pc : ℕ) (i : Instr) (branch b : Bool) → leads_ahead limit pc i branch ≡ b → None ≡ edge_ahead limit pc i branch → leads_ahead limit pc i branch ≡ false
 none-ahead limit pc i branch false e is = e
 none-ahead limit pc i branch true e is =
     let there : edge_ahead limit pc i branch ≡ Some (edge_of pc i branch) = rw e refl in

@@ -37,9 +37,6 @@ ahead-alone body forward pc branch edge low high h =
     let P : Option Point → Type 0 = λ o. IfSome o (λ point. edge ≡ edge_ahead body.end pc point.instr branch) in
     subst P (sym found.1) (here ∙ ap (λ (b : Bool). if b then Some (edge_of pc i branch) else None) same)
 
-pub not-both : (pc to : ℕ) → pc < to → to ≤ pc → ⊥
-not-both pc to less back = absurd (omega arith)
-
 -- the edge of an instruction that is read at a pc
 module _ (body : Body) (pc : ℕ) (branch : Bool) (i : Instr) (high : pc < body.end) (there : IfSome (slice_get body.image.now.points pc) (λ point. i ≡ point.instr)) where
   pub within-is : (edge : Option Edge) → edge ≡ edge_within body.start body.end pc i branch → IfSome (slice_get body.image.now.points pc) (λ point. edge ≡ edge_within body.start body.end pc point.instr branch)

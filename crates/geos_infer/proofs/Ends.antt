@@ -10,11 +10,16 @@ use Rattle.geos_image.specs.declared.row.Row.{Row}
 use Rattle.geos_image.specs.declared.routine.Routine.{Routine}
 use Rattle.geos_image.specs.declared.point.Point.{Point}
 use Rattle.geos_image.specs.Parts.{Parts}
-use Rattle.geos_verify.specs.Rows.{exit_row, row_along, fits}
+use Rattle.geos_verify.specs.Rows.{exit_row, row_along, fits, after}
 use Rattle.geos_verify.specs.Touched.{calls}
 use Rattle.geos_verify.proofs.Along.{row_along-used}
 use Rattle.geos_infer.specs.Code.{instr_of, instrs_of, edge_row}
 use Rattle.geos_infer.proofs.After.{along-mono, branching-mono, is-call}
+
+-- the row at the end of an edge
+pub after-edge : (image : Parts) (pc : ℕ) (branch : Bool) (point : Point) (row : Row) → slice_get image.points pc ≡ Some point → after image pc row branch ≡ edge_row image point.instr branch row
+after-edge image pc true point row e = rw (e, after) refl
+after-edge image pc false point row e = rw (e, after) refl
 
 pub edge-mono : (image : Parts) (i : Instr) (branch : Bool) (r s : Row) → fits r s ≡ true → fits (edge_row image i branch r) (edge_row image i branch s) ≡ true
 edge-mono image i true r s h = branching-mono i i.opcode r s h

@@ -131,7 +131,10 @@ module _ (image : Parts) (legal : is_image image ≡ true) (o : Parts) (same : S
       let there = item_at image.points to (omega arith) in
       let is : found_point known steps to there.0.instr ≡ next = same_Some (found_point known steps to there.0.instr) next (sym (found-at to there.0 there.1) ∙ at) in
       let row = row-is pc within in
-      let K = F.edges pc to branch old.instr row.0 within (number-last pc (start_of image.routines (r + 1)) branch within.below) edge row.1 in
+      let inside = rows.closed pc to branch old.instr within edge in
+      let ahead = forward.ahead pc to branch old.instr within edge in
+      let low = within.above in
+      let K = F.fit.edges pc to branch old.instr row.0 within (record { above = omega (arith, low, ahead); below = inside }) ahead (number-last pc (start_of image.routines (r + 1)) branch within.below) edge row.1 in
       let fit : fits (edge_row image old.instr branch (row_of (known_at known pc))) (row_of (known_at known to)) ≡ true =
       subst (λ (x : Row). fits (edge_row image old.instr branch x) (row_of (known_at known to)) ≡ true) (sym row.2) (known-fits to (edge_row image old.instr branch (clean row.0)) K) in
       let paid = C.edges pc to branch old.instr within.above within.below edge in
@@ -142,7 +145,7 @@ module _ (image : Parts) (legal : is_image image ≡ true) (o : Parts) (same : S
   beside pc old point within read at = record {
     below = row-below pc point within at;
     clean = row-clean pc within;
-    entry = λ start. known-fits pc routine.entry (subst (λ (n : ℕ). KnownAt known n routine.entry) (sym start) (F.entry routine there));
+    entry = λ start. known-fits pc routine.entry (subst (λ (n : ℕ). KnownAt known n routine.entry) (sym start) (F.fit.entry routine there));
     along = λ next falls e. (let f = edge-found pc (pc + 1) false old next within read falls refl e in (subst (λ (x : Row). fits x next.row ≡ true) (sym (same-edge image (with_points image points) refl old.instr false (row_of (known_at known pc)))) f.0, f.1));
     branch = λ next goes e. edge-found pc old.instr.target true old next within read goes refl e;
     return = λ is. C.returns pc old.instr within.above within.below (code-at image pc old read) is;

@@ -9,10 +9,10 @@ use Rattle.geos_image.specs.Parts.{Parts, start_of}
 use Rattle.geos_verify.specs.Rows.{falls_through, branches, at_point, HasEdge, after, has_edge}
 use Rattle.geos_verify.proofs.Places.{item_at, if_some}
 use Rattle.geos_infer.specs.Joins.{clean}
-use Rattle.geos_infer.specs.Code.{Edge, IsPcOf, instrs_of, edge_end, edge_row}
-use Rattle.geos_infer.specs.Flow.{known_at, KnownAt, fits_known, edge_number, Flowing}
-use Rattle.geos_infer.specs.Reached.{EdgeFits}
-use Rattle.geos_infer.proofs.Ends.{code-at}
+use Rattle.geos_infer.specs.Code.{Edge, IsPcOf, NoneLeadsBack, instrs_of, edge_end, edge_row}
+use Rattle.geos_infer.specs.Flow.{known_at, KnownAt, fits_known, edge_number, FitAhead}
+use Rattle.geos_infer.specs.Reached.{EdgeFits, AllFit}
+use Rattle.geos_infer.proofs.Ends.{code-at, after-edge}
 
 -- What is known where a row comes
 
@@ -33,11 +33,6 @@ some-instr x y e = cc
 
 some-row : (x y : Row) → Some x ≡ Some y → x ≡ y
 some-row x y e = cc
-
--- the row at the end of an edge
-after-edge : (image : Parts) (pc : ℕ) (branch : Bool) (point : Point) (row : Row) → slice_get image.points pc ≡ Some point → after image pc row branch ≡ edge_row image point.instr branch row
-after-edge image pc true point row e = rw (e, after) refl
-after-edge image pc false point row e = rw (e, after) refl
 
 module _ (image : Parts) (r : ℕ) (known : List (Option Row)) (pc : ℕ) (branch : Bool) where
   module _ (i : Instr) (lt : pc < length image.points) (there : IfSome (slice_get image.points pc) (λ point. i ≡ point.instr)) where
@@ -106,6 +101,9 @@ number-last : (k n : ℕ) (b : Bool) → k < n → edge_number k b < 2 * n
 number-last k n true h = omega arith
 number-last k n false h = omega arith
 
--- where rows have flowed along all edges, they fit
-pub flowed-fits : (image : Parts) (r : ℕ) (want : List Row) (known : List (Option Row)) → Flowing image r want known (2 * start_of image.routines (r + 1)) → (pc : ℕ) (branch : Bool) → IsPcOf image r pc → EdgeFits image r known pc branch
-flowed-fits image r want known F pc branch within to i row edge inside e = F.edges pc to branch i row within (number-last pc (start_of image.routines (r + 1)) branch within.below) edge e
+-- where no edge leads back, all fit once rows have flowed along those that lead ahead
+pub ahead-fits : (image : Parts) (r : ℕ) (known : List (Option Row)) → NoneLeadsBack image r → FitAhead image r known (2 * start_of image.routines (r + 1)) → AllFit image r known
+ahead-fits image r known ahead F = record {
+  entry = F.entry;
+  edges = λ pc branch within to i row edge inside e. F.edges pc to branch i row within inside (ahead pc to branch i within inside edge) (number-last pc (start_of image.routines (r + 1)) branch within.below) edge e;
+}

@@ -1,33 +1,29 @@
--- What is known stays below rows that hold, and comes to hold, while rows flow.
+-- What is known stays below rows that hold, and comes to fit, while rows flow.
 use Rattle.std.proofs.Common.{◌≡◌, ◌≢◌, ℕ, zero, suc, ◌+◌, ◌*◌, ◌<◌, ◌≤◌, Bool, true, false, List, length, Option, Some, None, slice_get, get_or, set, refl, sym, ap, ◌∙◌, subst, arith, add-one, inl, inr, ◌⊎◌}
-use Rattle.std.specs.Prelude.{◌&&◌, nat_lt, MatchBool, IfSome, if◌then◌else◌}
-use Rattle.std.proofs.lemmas.Bool.{and_parts, ltb-true, lt-ltb, cases_eq, cases_lt, false≢true}
+use Rattle.std.specs.Prelude.{MatchBool}
+use Rattle.std.proofs.lemmas.Bool.{cases_eq, cases_lt, false≢true}
 use Rattle.std.proofs.lemmas.List.{get_or-set_same, get_or-set_other, length-set}
-use Rattle.std.proofs.lemmas.Option.{slice_get_within, none-some}
+use Rattle.std.proofs.lemmas.Option.{none-some}
 use Rattle.geos_image.specs.declared.instr.Instr.{Instr}
 use Rattle.geos_image.specs.declared.row.Row.{Row}
-use Rattle.geos_image.specs.declared.point.Point.{Point}
 use Rattle.geos_image.specs.declared.routine.Routine.{Routine}
 use Rattle.geos_image.specs.Parts.{Parts, start_of}
-use Rattle.geos_verify.specs.Rows.{fits, after, row_along, row_branching, has_edge}
+use Rattle.geos_verify.specs.Rows.{fits, after}
 use Rattle.geos_image.specs.Legal.{is_image}
 use Rattle.geos_image.proofs.Starts.{start_of-next, start_of-le}
-use Rattle.geos_verify.proofs.Places.{item_at, if_some}
-use Rattle.geos_infer.specs.Joins.{joined, clean}
+use Rattle.geos_verify.proofs.Places.{item_at}
+use Rattle.geos_infer.specs.Joins.{clean}
 use Rattle.geos_infer.specs.Code.{Edge, IsPcOf, ForwardIn, instrs_of, edge_end, edge_row}
 use Rattle.geos_infer.specs.Solutions.{RowsHoldIn}
 use Rattle.geos_infer.specs.declared.flow.Arrival.{Arrival}
 use Rattle.geos_infer.specs.declared.flow.Arrival.TheVariants.{Same, Weaker, Apart}
 use Rattle.geos_infer.specs.declared.edges.Edge.{Edge as Edge_}
-use Rattle.geos_infer.specs.Edges.{leads_ahead, edge_ahead}
-use Rattle.geos_infer.specs.Flow.{known_at, join_known, put, spread, KnownAt, edge_number, Flowing, AllKnown, Arrives, has_joined, Spreads, StaysBefore, FlowsAnew, HaveFlowed}
-use Rattle.geos_infer.proofs.Asks.{none-ahead as no-edge-ahead, read-ahead}
+use Rattle.geos_infer.specs.Flow.{known_at, KnownAt, edge_number, FitAhead, AllBelow, Flowing, AllKnown, IsJoin, HaveNoJoin, Joins, Arrives, has_joined, GoesAhead, Spreads, StaysBefore, FlowsAnew, HaveFlowed}
+use Rattle.geos_infer.specs.Why.{LeadsTo}
 use Rattle.geos_infer.proofs.Bodies.{lies}
-use Rattle.geos_infer.proofs.Pairwise.{both}
 use Rattle.geos_infer.proofs.Fits.{fits-refl, fits-trans}
-use Rattle.geos_infer.proofs.Joining.{agreeing, joined-least}
 use Rattle.geos_infer.proofs.Cleaning.{clean-least}
-use Rattle.geos_infer.proofs.Ends.{edge-mono, code-at, code-length}
+use Rattle.geos_infer.proofs.Ends.{edge-mono, after-edge, code-at}
 
 -- The order of edges
 
@@ -40,6 +36,12 @@ number-split k pc false false h = elim (cases_lt k pc) [ inl lt ↦ inl (omega a
 number-last : (k pc : ℕ) (b : Bool) → k < pc → edge_number k b < 2 * pc
 number-last k pc true h = omega arith
 number-last k pc false h = omega arith
+
+number-not-behind : (k pc to : ℕ) (b branch : Bool) → pc < to → edge_number k b < edge_number pc branch → k ≢ to
+number-not-behind k pc to true true ahead less = λ same. absurd (omega arith)
+number-not-behind k pc to true false ahead less = λ same. absurd (omega arith)
+number-not-behind k pc to false true ahead less = λ same. absurd (omega arith)
+number-not-behind k pc to false false ahead less = λ same. absurd (omega arith)
 
 some-is : {X : Type 0} (x y : X) → Some x ≡ Some y → x ≡ y
 some-is x y e = cc
@@ -60,199 +62,158 @@ stays known to joined lt above pc row K = elim (cases_eq pc to) [
   }
 ]
 
--- a row that comes to a place, joined with what is known there
-record Joined (known : List (Option Row)) (to : ℕ) (next w : Row) : Type 0 where
-  joined : Row
-  is : join_known (known_at known to) next ≡ Some joined
-  above : (old : Row) → known_at known to ≡ Some old → fits old joined ≡ true
-  upper : fits next joined ≡ true
-  least : fits joined w ≡ true
+-- Joins
 
-module _ (image : Parts) (r : ℕ) (forward : ForwardIn image r) (want : List Row) (holds : RowsHoldIn image r want) (known : List (Option Row)) (pc : ℕ) (branch : Bool) (i : Instr) (within : IsPcOf image r pc)
-    (F : Flowing image r want known (edge_number pc branch)) (read : slice_get (instrs_of image) pc ≡ Some i)
-    (limit : ℕ) (small : limit ≤ length (instrs_of image)) (ends : limit ≡ start_of image.routines (r + 1)) where
-  module _ (row : Row) (here : known_at known pc ≡ Some row) (ahead : leads_ahead limit pc i branch ≡ true) where
-    parts : (has_edge i branch ≡ true) × (pc < edge_end pc i branch) × (edge_end pc i branch < length (instrs_of image))
-    parts =
-        let a = and_parts (has_edge i branch && nat_lt pc (edge_end pc i branch)) (nat_lt (edge_end pc i branch) limit) ahead in
-        let b = and_parts (has_edge i branch) (nat_lt pc (edge_end pc i branch)) a.0 in
-        (let before = ltb-true (edge_end pc i branch) limit a.1 in (b.0, ltb-true pc (edge_end pc i branch) b.1, omega (arith, before, small)))
+join-above : (o : Option Row) (row joined : Row) → IsJoin o row joined → (old : Row) → o ≡ Some old → fits old joined ≡ true
+join-above None row joined is old e = absurd (none-some old e)
+join-above (Some x) row joined is old e = subst (λ (y : Row). fits y joined ≡ true) (some-is x old e) is.left
 
-    edge : Edge (instrs_of image) pc branch (edge_end pc i branch) i
-    edge = record { read = read; has = parts.0; leads = refl }
+join-upper : (o : Option Row) (row joined : Row) → IsJoin o row joined → fits row joined ≡ true
+join-upper None row joined is = subst (λ (y : Row). fits row y ≡ true) (sym is) (fits-refl row)
+join-upper (Some x) row joined is = is.right
 
-    -- it leads to an instruction of the routine
-    within-too : IsPcOf image r (edge_end pc i branch)
-    within-too = record { above = (let low = within.above in let lt = parts.1 in omega arith); below = holds.closed pc (edge_end pc i branch) branch i within edge }
+join-least : (o : Option Row) (row joined u : Row) → IsJoin o row joined → ((old : Row) → o ≡ Some old → fits old u ≡ true) → fits row u ≡ true → fits joined u ≡ true
+join-least None row joined u is below h = subst (λ (y : Row). fits y u ≡ true) (sym is) h
+join-least (Some x) row joined u is below h = is.least u (below x refl) h
 
-    -- the row that comes fits the one that is wanted
-    comes : (w : Row) → slice_get want (edge_end pc i branch) ≡ Some w → fits (edge_row image i branch (clean row)) w ≡ true
-    comes w at =
-        let before = item_at want pc (let len = holds.len in let lt = slice_get_within (instrs_of image) pc i read in omega arith) in
-        let below = F.below pc row (before.0) within here (before.1) in
-        let least = (clean-least row).least before.0 below (holds.clean pc before.0 within before.1) in
-        fits-trans (edge_row image i branch (clean row)) (edge_row image i branch before.0) w (edge-mono image i branch (clean row) before.0 least) (holds.edges pc (edge_end pc i branch) branch i before.0 w within edge before.1 at)
+no-join : (o : Option Row) (row u : Row) → HaveNoJoin o row → ((old : Row) → o ≡ Some old → fits old u ≡ true) → fits row u ≡ true → ⊥
+no-join None row u none below h = none
+no-join (Some x) row u none below h = none u (below x refl) h
 
-    joined-with : (o : Option Row) (w : Row) → known_at known (edge_end pc i branch) ≡ o → slice_get want (edge_end pc i branch) ≡ Some w → Joined known (edge_end pc i branch) (edge_row image i branch (clean row)) w
-    joined-with None w e at = record {
-      joined = edge_row image i branch (clean row);
-      is = ap (λ o. join_known o (edge_row image i branch (clean row))) e;
-      above = λ old f. absurd (cc);
-      upper = fits-refl (edge_row image i branch (clean row));
-      least = comes w at;
-    }
-    joined-with (Some old) w e at =
-        let next = edge_row image i branch (clean row) in
-        let before = F.below (edge_end pc i branch) old w within-too e at in
-        let agreed = agreeing old next w before (comes w at) in
-        let both_fit = joined-least old next agreed in
-        let agrees : join_known (Some old) next ≡ Some (joined old next) = rw agreed.slots refl in
-        record {
-          joined = joined old next;
-          is = ap (λ o. join_known o next) e ∙ agrees;
-          above = λ other f. (let same : old ≡ other = some-is old other (sym e ∙ f) in subst (λ (x : Row). fits x (joined old next) ≡ true) same both_fit.left);
-          upper = both_fit.right;
-          least = both_fit.least w before (comes w at);
-        }
+-- One edge
 
-    goes : (w : Row) → slice_get want (edge_end pc i branch) ≡ Some w → Joined known (edge_end pc i branch) (edge_row image i branch (clean row)) w
-    goes w at = joined-with (known_at known (edge_end pc i branch)) w refl at
+module _ (image : Parts) (r : ℕ) (small : start_of image.routines (r + 1) ≤ length (instrs_of image)) (known next : List (Option Row)) (pc : ℕ) (branch : Bool) (within : IsPcOf image r pc) where
+  -- where the row comes there is room
+  there : length (instrs_of image) ≤ length known → (goes : GoesAhead image r pc branch known) → goes.to < length known
+  there room goes = (let below = goes.stays.below in omega (arith, room, small, below))
 
-    after-joined : (w : Row) → slice_get want (edge_end pc i branch) ≡ Some w → (J : Joined known (edge_end pc i branch) (edge_row image i branch (clean row)) w)
-        → Flowing image r want (set known (edge_end pc i branch) (Some J.joined)) (suc (edge_number pc branch))
-    after-joined w at J =
-        let lt : edge_end pc i branch < length known = (let len = F.len in let p = parts.2 in omega arith) in
-        record {
-          len = (let same = length-set known (edge_end pc i branch) (Some J.joined) in let len = F.len in omega arith);
-          below = λ t row v t_in e f. elim (cases_eq t (edge_end pc i branch)) [
-            | inl same ↦
-                let at_to : known_at (set known (edge_end pc i branch) (Some J.joined)) (edge_end pc i branch) ≡ Some row = ap (known_at (set known (edge_end pc i branch) (Some J.joined))) (sym same) ∙ e in
-                let is_joined : J.joined ≡ row = some-is J.joined row (sym (get_or-set_same known (edge_end pc i branch) (Some J.joined) None lt) ∙ at_to) in
-                let is_w : w ≡ v = some-is w v (sym at ∙ ap (slice_get want) (sym same) ∙ f) in
-                subst (λ (x : Row). fits row x ≡ true) is_w (subst (λ (x : Row). fits x w ≡ true) is_joined J.least)
-            | inr ne ↦ F.below t row v t_in (sym (get_or-set_other known (edge_end pc i branch) t (Some J.joined) None ne) ∙ e) f
-          ];
-          entry = λ routine there. stays known (edge_end pc i branch) J.joined lt J.above (start_of image.routines r) routine.entry (F.entry routine there);
-          edges = λ k t b j from k_in less other there. elim (number-split k pc b branch less) [
-            | inl before ↦
-                let ne : k ≢ edge_end pc i branch = (λ same. not-behind k b branch before same) in
-                let same_row : known_at (set known (edge_end pc i branch) (Some J.joined)) k ≡ known_at known k = get_or-set_other known (edge_end pc i branch) k (Some J.joined) None ne in
-                stays known (edge_end pc i branch) J.joined lt J.above t (edge_row image j b (clean from)) (F.edges k t b j from k_in before other (sym same_row ∙ there))
-            | inr this ↦ this-edge w J lt k t b j from this.0 this.1 other there
-          ];
-        }
-      where
-        not-behind : (k : ℕ) (b c : Bool) → edge_number k b < edge_number pc c → k ≡ edge_end pc i branch → ⊥
-        not-behind k true true less same = let p = parts.1 in omega arith
-        not-behind k true false less same = let p = parts.1 in omega arith
-        not-behind k false true less same = let p = parts.1 in omega arith
-        not-behind k false false less same = let p = parts.1 in omega arith
-
-        this-edge : (v : Row) (J : Joined known (edge_end pc i branch) (edge_row image i branch (clean row)) v) → edge_end pc i branch < length known
-            → (k t : ℕ) (b : Bool) (j : Instr) (from : Row) → k ≡ pc → b ≡ branch → Edge (instrs_of image) k b t j → known_at (set known (edge_end pc i branch) (Some J.joined)) k ≡ Some from
-            → KnownAt (set known (edge_end pc i branch) (Some J.joined)) t (edge_row image j b (clean from))
-        this-edge v J lt k t b j from same same_branch other there =
-            let table = set known (edge_end pc i branch) (Some J.joined) in
-            let is_i : i ≡ j = some-is i j (sym read ∙ ap (slice_get (instrs_of image)) (sym same) ∙ other.read) in
-            let is_to : edge_end pc i branch ≡ t = ap (λ x. edge_end pc x branch) is_i ∙ ap (λ x. edge_end pc j x) (sym same_branch) ∙ ap (λ x. edge_end x j b) (sym same) ∙ other.leads in
-            let ne : pc ≢ edge_end pc i branch = (λ e. (let p = parts.1 in absurd (omega arith))) in
-            let same_row : known_at table k ≡ known_at known pc = ap (known_at table) same ∙ get_or-set_other known (edge_end pc i branch) pc (Some J.joined) None ne in
-            let is_row : row ≡ from = some-is row from (sym here ∙ sym same_row ∙ there) in
-            let rows : edge_row image i branch (clean row) ≡ edge_row image j b (clean from) =
-            ap (λ x. edge_row image x branch (clean row)) is_i ∙ ap (λ x. edge_row image j x (clean row)) (sym same_branch) ∙ ap (λ (x : Row). edge_row image j b (clean x)) is_row in
-            record {
-              known_row = J.joined;
-              read = ap (known_at table) (sym is_to) ∙ get_or-set_same known (edge_end pc i branch) (Some J.joined) None lt;
-              fits = subst (λ (x : Row). fits x J.joined ≡ true) rows J.upper;
-            }
-
-    spreads-to : (w : Row) → slice_get want (edge_end pc i branch) ≡ Some w → (J : Joined known (edge_end pc i branch) (edge_row image i branch (clean row)) w)
-        → spread image limit pc i branch (known_at known pc) known ≡ Some (set known (edge_end pc i branch) (Some J.joined))
-    spreads-to w at J = rw (here, ahead, J.is) refl
-
-  module _ (behind : leads_ahead limit pc i branch ≡ false) where
-    none-ahead : (to : ℕ) (j : Instr) → Edge (instrs_of image) pc branch to j → ⊥
-    none-ahead t j other =
-        let same : j ≡ i = some-is j i (sym other.read ∙ read) in
-        let has : has_edge i branch ≡ true = ap (λ x. has_edge x branch) (sym same) ∙ other.has in
-        let leads : edge_end pc i branch ≡ t = ap (λ x. edge_end pc x branch) (sym same) ∙ other.leads in
-        let lt = forward.ahead pc t branch j within other in
-        let inside = holds.closed pc t branch j within other in
-        let yes : leads_ahead limit pc i branch ≡ true = both (has_edge i branch && nat_lt pc (edge_end pc i branch)) (nat_lt (edge_end pc i branch) limit)
-        (both (has_edge i branch) (nat_lt pc (edge_end pc i branch)) has (lt-ltb pc (edge_end pc i branch) (omega arith))) (lt-ltb (edge_end pc i branch) limit (omega arith)) in
-        false≢true (sym behind ∙ yes)
-
-    stays-flowing : Flowing image r want known (suc (edge_number pc branch))
-    stays-flowing = record {
+  module _ (F : FitAhead image r known (edge_number pc branch)) where
+    -- nothing goes along the edge
+    fit-same : (GoesAhead image r pc branch known → ⊥) → FitAhead image r known (suc (edge_number pc branch))
+    fit-same none = record {
       len = F.len;
-      below = F.below;
       entry = F.entry;
-      edges = λ k t b j from k_in less other there. elim (number-split k pc b branch less) [
-        | inl before ↦ F.edges k t b j from k_in before other there
-        | inr this ↦ absurd (none-ahead t j (here k t b j this.0 this.1 other))
+      edges = λ k t b j from k_in t_in ahead less other e. elim (number-split k pc b branch less) [
+        | inl before ↦ F.edges k t b j from k_in t_in ahead before other e
+        | inr this ↦ absurd (none (record {
+          row = from;
+          here = ap (known_at known) (sym this.0) ∙ e;
+          to = t;
+          i = j;
+          edge = subst (λ x. Edge (instrs_of image) pc x t j) this.1 (subst (λ x. Edge (instrs_of image) x b t j) this.0 other);
+          stays = t_in;
+          ahead = (let same = this.0 in omega (arith, same, ahead));
+        }))
       ];
     }
+
+    -- what goes along it is joined with what is known where it leads
+    fit-joined : (goes : GoesAhead image r pc branch known) (J : Joins known goes.to (edge_row image goes.i branch (clean goes.row)) next) → FitAhead image r (set known goes.to (Some J.joined)) (suc (edge_number pc branch))
+    fit-joined goes J =
+        let table = set known goes.to (Some J.joined) in
+        let lt = there F.len goes in
+        let keeps = stays known goes.to J.joined lt (join-above (known_at known goes.to) (edge_row image goes.i branch (clean goes.row)) J.joined J.join) in
+        record {
+          len = (let same = length-set known goes.to (Some J.joined) in let len = F.len in omega (arith, same, len));
+          entry = λ routine at. keeps (start_of image.routines r) routine.entry (F.entry routine at);
+          edges = λ k t b j from k_in t_in ahead less other e. elim (number-split k pc b branch less) [
+            | inl before ↦
+                let same_row : known_at table k ≡ known_at known k = get_or-set_other known goes.to k (Some J.joined) None (number-not-behind k pc goes.to b branch goes.ahead before) in
+                keeps t (edge_row image j b (clean from)) (F.edges k t b j from k_in t_in ahead before other (sym same_row ∙ e))
+            | inr this ↦ this-edge lt k t b j from this.0 this.1 other e
+          ];
+        }
       where
-        here : (k t : ℕ) (b : Bool) (j : Instr) → k ≡ pc → b ≡ branch → Edge (instrs_of image) k b t j → Edge (instrs_of image) pc branch t j
-        here k t b j same same_branch other = subst (λ x. Edge (instrs_of image) x branch t j) same (subst (λ x. Edge (instrs_of image) k x t j) same_branch other)
+        this-edge : goes.to < length known → (k t : ℕ) (b : Bool) (j : Instr) (from : Row) → k ≡ pc → b ≡ branch → Edge (instrs_of image) k b t j → known_at (set known goes.to (Some J.joined)) k ≡ Some from
+            → KnownAt (set known goes.to (Some J.joined)) t (edge_row image j b (clean from))
+        this-edge lt k t b j from same same_branch other e =
+            let table = set known goes.to (Some J.joined) in
+            let is_i : goes.i ≡ j = some-is goes.i j (sym goes.edge.read ∙ ap (slice_get (instrs_of image)) (sym same) ∙ other.read) in
+            let is_to : goes.to ≡ t = sym goes.edge.leads ∙ ap (λ x. edge_end pc x branch) is_i ∙ ap (λ x. edge_end pc j x) (sym same_branch) ∙ ap (λ x. edge_end x j b) (sym same) ∙ other.leads in
+            let ahead = goes.ahead in
+            let ne : pc ≢ goes.to = (λ at. absurd (omega (arith, at, ahead))) in
+            let same_row : known_at table k ≡ known_at known pc = ap (known_at table) same ∙ get_or-set_other known goes.to pc (Some J.joined) None ne in
+            let is_row : goes.row ≡ from = some-is goes.row from (sym goes.here ∙ sym same_row ∙ e) in
+            let rows : edge_row image goes.i branch (clean goes.row) ≡ edge_row image j b (clean from) =
+            ap (λ x. edge_row image x branch (clean goes.row)) is_i ∙ ap (λ x. edge_row image j x (clean goes.row)) (sym same_branch) ∙ ap (λ (x : Row). edge_row image j b (clean x)) is_row in
+            record {
+              known_row = J.joined;
+              read = ap (known_at table) (sym is_to) ∙ get_or-set_same known goes.to (Some J.joined) None lt;
+              fits = subst (λ (x : Row). fits x J.joined ≡ true) rows (join-upper (known_at known goes.to) (edge_row image goes.i branch (clean goes.row)) J.joined J.join);
+            }
 
-  -- nothing flows from where nothing is known
-  nothing-flows : known_at known pc ≡ None → Flowing image r want known (suc (edge_number pc branch))
-  nothing-flows nothing = record {
-    len = F.len;
-    below = F.below;
-    entry = F.entry;
-    edges = λ k t b j from k_in less other there. elim (number-split k pc b branch less) [
-      | inl before ↦ F.edges k t b j from k_in before other there
-      | inr this ↦ absurd (none-some from (sym nothing ∙ ap (known_at known) (sym this.0) ∙ there))
-    ];
-  }
+    -- where rows have a join, all fits along one more edge
+    pub spreads-fit : (ok : Bool) → ok ≡ true → Spreads image r pc branch known next ok → FitAhead image r next (suc (edge_number pc branch))
+    spreads-fit false e S = absurd (false≢true e)
+    spreads-fit true e (inl same) = subst (λ (x : List (Option Row)). FitAhead image r x (suc (edge_number pc branch))) (sym same.2) (fit-same same.0)
+    spreads-fit true e (inr came) = subst (λ (x : List (Option Row)). FitAhead image r x (suc (edge_number pc branch))) (sym came.1.is) (fit-joined came.0 came.1)
 
-  -- one edge: the rows that are known agree, and flow on
-  pub spread-flows : (ok : Bool) (new : List (Option Row))
-      → (let next = spread image limit pc i branch (known_at known pc) known in MatchBool ok (next ≡ Some new) (next ≡ None))
-      → (ok ≡ true) × Flowing image r want new (suc (edge_number pc branch))
-  spread-flows ok new h = by_known (known_at known pc) refl ok h
-    where
-      conclude : (table : List (Option Row)) → spread image limit pc i branch (known_at known pc) known ≡ Some table → Flowing image r want table (suc (edge_number pc branch))
-          → (b : Bool) → (let next = spread image limit pc i branch (known_at known pc) known in MatchBool b (next ≡ Some new) (next ≡ None))
-          → (b ≡ true) × Flowing image r want new (suc (edge_number pc branch))
-      conclude table is G true e = (refl, subst (λ x. Flowing image r want x (suc (edge_number pc branch))) (some-is table new (sym is ∙ e)) G)
-      conclude table is G false e = absurd (none-some table (sym e ∙ is))
+  module _ (room : length (instrs_of image) ≤ length known) (want : List Row) (holds : RowsHoldIn image r want) (B : AllBelow image r want known) where
+    want-at : (k : ℕ) → IsPcOf image r k → (w : Row) × (slice_get want k ≡ Some w)
+    want-at k k_in = item_at want k (let len = holds.len in let below = k_in.below in omega (arith, len, below, small))
 
-      by_case : (row : Row) → known_at known pc ≡ Some row → (b : Bool) → leads_ahead limit pc i branch ≡ b → (c : Bool)
-          → (let next = spread image limit pc i branch (known_at known pc) known in MatchBool c (next ≡ Some new) (next ≡ None))
-          → (c ≡ true) × Flowing image r want new (suc (edge_number pc branch))
-      by_case row here true e c h =
-          let p = parts row here e in
-          let there = item_at want (edge_end pc i branch) (let len = holds.len in let lt = p.2 in omega arith) in
-          let J = goes row here e there.0 there.1 in
-          conclude (set known (edge_end pc i branch) (Some J.joined)) (spreads-to row here e there.0 there.1 J) (after-joined row here e there.0 there.1 J) c h
-      by_case row here false e c h =
-          let unchanged : spread image limit pc i branch (known_at known pc) known ≡ Some known = rw (here, e) refl in
-          conclude known unchanged (stays-flowing e) c h
+    -- the row that comes fits the one that is wanted
+    comes : (goes : GoesAhead image r pc branch known) (w : Row) → slice_get want goes.to ≡ Some w → fits (edge_row image goes.i branch (clean goes.row)) w ≡ true
+    comes goes w at =
+        let before = want-at pc within in
+        let least = (clean-least goes.row).least before.0 (B pc goes.row before.0 within goes.here before.1) (holds.clean pc before.0 within before.1) in
+        fits-trans (edge_row image goes.i branch (clean goes.row)) (edge_row image goes.i branch before.0) w (edge-mono image goes.i branch (clean goes.row) before.0 least)
+        (holds.edges pc goes.to branch goes.i before.0 w within goes.edge before.1 at)
 
-      by_known : (o : Option Row) → known_at known pc ≡ o → (c : Bool) → (let next = spread image limit pc i branch (known_at known pc) known in MatchBool c (next ≡ Some new) (next ≡ None))
-          → (c ≡ true) × Flowing image r want new (suc (edge_number pc branch))
-      by_known None e c h =
-          let unchanged : spread image limit pc i branch (known_at known pc) known ≡ Some known = rw e refl in
-          conclude known unchanged (nothing-flows e) c h
-      by_known (Some row) e c h = by_case row e (leads_ahead limit pc i branch) refl c h
+    below-joined : (goes : GoesAhead image r pc branch known) (J : Joins known goes.to (edge_row image goes.i branch (clean goes.row)) next) → AllBelow image r want (set known goes.to (Some J.joined))
+    below-joined goes J t row v t_in e f = elim (cases_eq t goes.to) [
+      | inl same ↦
+          let at_to : known_at (set known goes.to (Some J.joined)) goes.to ≡ Some row = ap (known_at (set known goes.to (Some J.joined))) (sym same) ∙ e in
+          let is_joined : J.joined ≡ row = some-is J.joined row (sym (get_or-set_same known goes.to (Some J.joined) None (there room goes)) ∙ at_to) in
+          let at : slice_get want goes.to ≡ Some v = ap (slice_get want) (sym same) ∙ f in
+          subst (λ (x : Row). fits x v ≡ true) is_joined
+          (join-least (known_at known goes.to) (edge_row image goes.i branch (clean goes.row)) J.joined v J.join (λ old is. B goes.to old v goes.stays is at) (comes goes v at))
+      | inr ne ↦ B t row v t_in (sym (get_or-set_other known goes.to t (Some J.joined) None ne) ∙ e) f
+    ]
 
--- the same, where the instruction is given by its point
-pub flows-on : (image : Parts) (r : ℕ) → ForwardIn image r → (want : List Row) → RowsHoldIn image r want → (known new : List (Option Row)) (limit pc : ℕ) (branch ok : Bool) (done more : ℕ)
-    → limit ≡ start_of image.routines (r + 1) → limit ≤ length image.points → IsPcOf image r pc → done ≡ edge_number pc branch → more ≡ done + 1 → Flowing image r want known done
-    → IfSome (slice_get image.points pc) (λ point. let next = spread image limit pc point.instr branch (known_at known pc) known in MatchBool ok (next ≡ Some new) (next ≡ None))
-    → (ok ≡ true) × Flowing image r want new more
-flows-on image r forward want holds known new limit pc branch ok done more ends small within done_is more_is F h =
-    let len = code-length image in
-    let found = item_at image.points pc (let below = within.below in omega arith) in
-    let read = code-at image pc found.0 found.1 in
-    let D : ℕ → Type 0 = λ n. Flowing image r want known n in
-    let here = if_some (λ point. let next = spread image limit pc point.instr branch (known_at known pc) known in MatchBool ok (next ≡ Some new) (next ≡ None)) (slice_get image.points pc) found.0 found.1 h in
-    let step = spread-flows image r forward want holds known pc branch found.0.instr within (subst D done_is F) read limit (omega arith) ends ok new here in
-    let count : suc (edge_number pc branch) ≡ more = (let a = done_is in let b = more_is in omega arith) in
-    (step.0, subst (λ n. Flowing image r want new n) count step.1)
+    -- rows below those that hold have a join, and all stays below them
+    pub spreads-below : (ok : Bool) → Spreads image r pc branch known next ok → (ok ≡ true) × AllBelow image r want next
+    spreads-below ok (inl same) = (same.1, subst (AllBelow image r want) (sym same.2) B)
+    spreads-below true (inr came) = (refl, subst (AllBelow image r want) (sym came.1.is) (below-joined came.0 came.1))
+    spreads-below false (inr came) =
+        let goes = came.0 in
+        let w = want-at goes.to goes.stays in
+        absurd (no-join (known_at known goes.to) (edge_row image goes.i branch (clean goes.row)) w.0 came.1 (λ old is. B goes.to old w.0 goes.stays is w.1) (comes goes w.0 w.1))
+
+-- what a row brings to a place goes on from there
+pub spreads-on : (image : Parts) (r pc : ℕ) (branch : Bool) (edge : Edge_) (row : Row) (known next : List (Option Row)) (arrival : Arrival) → known_at known pc ≡ Some row → edge.pc ≡ pc → edge.branch ≡ branch
+    → LeadsTo image pc branch edge.to → IsPcOf image r edge.to → pc < edge.to → Arrives arrival known edge.to (after image edge.pc (clean row) edge.branch) next
+    → Spreads image r pc branch known next (has_joined arrival)
+spreads-on image r pc branch edge row known next arrival here pc_is branch_is leads inside ahead came =
+    let is : Edge (instrs_of image) pc branch edge.to leads.point.instr = record { read = code-at image pc leads.point leads.there; has = leads.has; leads = leads.leads } in
+    let over : after image edge.pc (clean row) edge.branch ≡ edge_row image leads.point.instr branch (clean row) =
+    ap (λ k. after image k (clean row) edge.branch) pc_is ∙ ap (λ b. after image pc (clean row) b) branch_is ∙ after-edge image pc branch leads.point (clean row) leads.there in
+    let goes : GoesAhead image r pc branch known = record { row = row; here = here; to = edge.to; i = leads.point.instr; edge = is; stays = inside; ahead = ahead } in
+    inr (goes, by_arrival arrival (edge_row image leads.point.instr branch (clean row)) (subst (λ (x : Row). Arrives arrival known edge.to x next) over came))
+  where
+    by_arrival : (a : Arrival) (row : Row) → Arrives a known edge.to row next → MatchBool (has_joined a) (Joins known edge.to row next) (HaveNoJoin (known_at known edge.to) row)
+    by_arrival Same row came = came
+    by_arrival Weaker row came = came
+    by_arrival Apart row came = came
+
+-- The edges of an instruction
+
+module _ (image : Parts) (r : ℕ) (small : start_of image.routines (r + 1) ≤ length (instrs_of image)) (known middle next : List (Option Row)) (pc more : ℕ) (within : IsPcOf image r pc) (one : more ≡ pc + 1) (along aside : Bool)
+    (S : Spreads image r pc false known middle along) (A : Spreads image r pc true middle next aside) (F : FitAhead image r known (2 * pc)) where
+  pub fit-more : along ≡ true → aside ≡ true → FitAhead image r next (2 * more)
+  fit-more e f =
+      let first = spreads-fit image r small known middle pc false within F along e S in
+      let odd : suc (2 * pc) ≡ 2 * pc + 1 = omega arith in
+      let second = spreads-fit image r small middle next pc true within (subst (λ (n : ℕ). FitAhead image r middle n) odd first) aside f A in
+      let even : suc (2 * pc + 1) ≡ 2 * more = omega (arith, one) in
+      subst (λ (n : ℕ). FitAhead image r next n) even second
+
+  pub below-more : (want : List Row) → RowsHoldIn image r want → AllBelow image r want known → (along ≡ true) × (aside ≡ true) × AllBelow image r want next
+  below-more want holds B =
+      let first = spreads-below image r small known middle pc false within F.len want holds B along S in
+      let fit = spreads-fit image r small known middle pc false within F along first.0 S in
+      let second = spreads-below image r small middle next pc true within fit.len want holds first.1 aside A in
+      (first.0, second.0, second.1)
 
 -- where rows have flowed along all edges of a routine, something is known at each instruction
 pub all-reached : (image : Parts) (r : ℕ) → ForwardIn image r → (routine : Routine) → slice_get image.routines r ≡ Some routine → (want : List Row) (known : List (Option Row)) → Flowing image r want known (2 * start_of image.routines (r + 1))
@@ -264,71 +225,33 @@ all-reached image r forward routine there want known F small pc within = reached
     reached-before (suc n) pc less within =
         let i = item_at (instrs_of image) pc (let below = within.below in omega arith) in
         elim (forward.entered pc i.0 within i.1) [
-          | inl is ↦ let K = F.entry routine there in (K.known_row, ap (known_at known) is ∙ K.read)
+          | inl is ↦ let K = F.fit.entry routine there in (K.known_row, ap (known_at known) is ∙ K.read)
           | inr e ↦
               let earlier = forward.ahead e.pc pc e.branch e.i e.within e.edge in
               let from = reached-before n e.pc (omega arith) e.within in
               let number = number-last e.pc pc e.branch earlier in
               let below = within.below in
-              let K = F.edges e.pc pc e.branch e.i from.0 e.within (omega arith) e.edge from.1 in
+              let K = F.fit.edges e.pc pc e.branch e.i from.0 e.within within earlier (omega arith) e.edge from.1 in
               (K.known_row, K.read)
         ]
-
--- where no edge leads ahead, nothing goes on
-pub spreads-nowhere : (image : Parts) (limit pc : ℕ) (branch : Bool) (known : List (Option Row)) (edge : Option Edge_) → pc < length image.points → ((x : Edge_) → edge ≡ Some x → ⊥)
-    → IfSome (slice_get image.points pc) (λ point. edge ≡ edge_ahead limit pc point.instr branch) → Spreads image limit pc branch known known true
-spreads-nowhere image limit pc branch known (Some x) lt no_edge h = absurd (no_edge x refl)
-spreads-nowhere image limit pc branch known None lt no_edge h =
-    let found = item_at image.points pc lt in
-    let here = if_some (λ point. None ≡ edge_ahead limit pc point.instr branch) (slice_get image.points pc) found.0 found.1 h in
-    let none = no-edge-ahead limit pc found.0.instr branch (leads_ahead limit pc found.0.instr branch) refl here in
-    let P : Option Point → Type 0 = λ o. IfSome o (λ point. spread image limit pc point.instr branch (known_at known pc) known ≡ Some known) in
-    subst P (sym found.1) (by_known found.0.instr (known_at known pc) none)
-  where
-    by_known : (i : Instr) (at : Option Row) → leads_ahead limit pc i branch ≡ false → spread image limit pc i branch at known ≡ Some known
-    by_known i None none = refl
-    by_known i (Some row) none = rw none refl
-
--- what a row brings to a place goes on from there
-pub spreads-on : (image : Parts) (limit pc : ℕ) (branch : Bool) (edge : Edge_) (row : Row) (known next : List (Option Row)) (arrival : Arrival) → pc < length image.points → known_at known pc ≡ Some row
-    → IfSome (slice_get image.points pc) (λ point. Some edge ≡ edge_ahead limit pc point.instr branch)
-    → edge.pc ≡ pc → edge.branch ≡ branch → Arrives arrival known edge.to (after image edge.pc (clean row) edge.branch) next
-    → Spreads image limit pc branch known next (has_joined arrival)
-spreads-on image limit pc branch edge row known next arrival lt here h pc_is branch_is came =
-    let found = read-ahead image limit pc branch lt edge h in
-    let at_point : after image pc (clean row) branch ≡ (if branch then row_branching found.0.instr found.0.instr.opcode (clean row) else row_along image found.0.instr found.0.instr.opcode (clean row)) =
-    ap (λ (o : Option Point). elim o [ None ↦ clean row | Some point ↦ if branch then row_branching point.instr point.instr.opcode (clean row) else row_along image point.instr point.instr.opcode (clean row) ]) found.1 in
-    let over : after image edge.pc (clean row) edge.branch ≡ edge_row image found.0.instr branch (clean row) = ap (λ k. after image k (clean row) edge.branch) pc_is ∙ ap (λ b. after image pc (clean row) b) branch_is ∙ at_point ∙ by_branch found.0.instr branch in
-    let goes : spread image limit pc found.0.instr branch (known_at known pc) known ≡ put known edge.to (join_known (known_at known edge.to) (after image edge.pc (clean row) edge.branch)) =
-    rw (here, found.2) (ap (λ t. put known t (join_known (known_at known t) (edge_row image found.0.instr branch (clean row)))) found.3 ∙ ap (λ (r : Row). put known edge.to (join_known (known_at known edge.to) r)) (sym over)) in
-    let P : Option Point → Type 0 = λ o. IfSome o (λ point. let after = spread image limit pc point.instr branch (known_at known pc) known in MatchBool (has_joined arrival) (after ≡ Some next) (after ≡ None)) in
-    subst P (sym found.1) (by_arrival arrival goes came)
-  where
-    by_branch : (i : Instr) (b : Bool) → (if b then row_branching i i.opcode (clean row) else row_along image i i.opcode (clean row)) ≡ edge_row image i b (clean row)
-    by_branch i true = refl
-    by_branch i false = refl
-
-    by_arrival : (a : Arrival) {at : Option (List (Option Row))} → at ≡ put known edge.to (join_known (known_at known edge.to) (after image edge.pc (clean row) edge.branch)) → Arrives a known edge.to (after image edge.pc (clean row) edge.branch) next
-        → MatchBool (has_joined a) (at ≡ Some next) (at ≡ None)
-    by_arrival Same goes came = goes ∙ came
-    by_arrival Weaker goes came = goes ∙ came
-    by_arrival Apart goes came = goes ∙ ap (put known edge.to) came
 
 -- Routine after routine
 
 known-stays : (known next : List (Option Row)) (start pc : ℕ) (row : Row) → StaysBefore start known next → pc < start → KnownAt known pc row → KnownAt next pc row
 known-stays known next start pc row stay lt K = record { known_row = K.known_row; read = stay pc lt ∙ K.read; fits = K.fits }
 
-flowing-stays : (image : Parts) (q : ℕ) (want : List Row) (known next : List (Option Row)) (start done : ℕ) → RowsHoldIn image q want → StaysBefore start known next → start_of image.routines q < start → start_of image.routines (q + 1) ≤ start
+flowing-stays : (image : Parts) (q : ℕ) (want : List Row) (known next : List (Option Row)) (start done : ℕ) → StaysBefore start known next → start_of image.routines q < start → start_of image.routines (q + 1) ≤ start
     → length (instrs_of image) ≤ length next → Flowing image q want known done → Flowing image q want next done
-flowing-stays image q want known next start done holds stay begins ends len F = record {
-  len = len;
+flowing-stays image q want known next start done stay begins ends len F = record {
   below = λ pc row w within e f. (let below = within.below in F.below pc row w within (sym (stay pc (omega arith)) ∙ e) f);
-  entry = λ routine there. known-stays known next start (start_of image.routines q) routine.entry stay begins (F.entry routine there);
-  edges = λ pc to branch i row within less edge e.
-      let below = within.below in
-      let inside = holds.closed pc to branch i within edge in
-      known-stays known next start to (edge_row image i branch (clean row)) stay (omega arith) (F.edges pc to branch i row within less edge (sym (stay pc (omega arith)) ∙ e));
+  fit = record {
+    len = len;
+    entry = λ routine there. known-stays known next start (start_of image.routines q) routine.entry stay begins (F.fit.entry routine there);
+    edges = λ pc to branch i row within inside ahead less edge e.
+        let below = within.below in
+        let limit = inside.below in
+        known-stays known next start to (edge_row image i branch (clean row)) stay (omega arith) (F.fit.edges pc to branch i row within inside ahead less edge (sym (stay pc (omega arith)) ∙ e));
+  };
 }
 
 -- one more routine
@@ -344,7 +267,7 @@ have_flowed-more image legal known next r lt before stay anew = λ want all q q_
           let end = start_of-next image.routines q routine.0 routine.1 in
           let later = start_of-le image.routines (q + 1) r (omega arith) in
           let one : start_of image.routines (q + 1) ≡ start_of image.routines (suc q) = ap (start_of image.routines) (add-one q) in
-          flowing-stays image q want known next (start_of image.routines r) (2 * start_of image.routines (q + 1)) (all q q_lt).1 stay (let count = some.1 in omega arith) (omega arith) here.len
+          flowing-stays image q want known next (start_of image.routines r) (2 * start_of image.routines (q + 1)) stay (let count = some.1 in omega arith) (omega arith) here.fit.len
           (before want (λ k k_lt. all k (omega arith)) q less)
       | inr le ↦
           let same : r ≡ q = omega arith in

@@ -15,12 +15,11 @@ use Rattle.geos_verify.specs.Rows.{falls_through, branches, at_point, row_along,
 use Rattle.geos_verify.specs.Rules.{has_place, names_empty_slot, leaves_routine, misfits_at, edge_misfits, HasPoint}
 use Rattle.geos_verify.proofs.Places.{item_at, place_bounds}
 use Rattle.geos_infer.specs.declared.body.Body.{Body}
-use Rattle.geos_infer.specs.Code.{Edge, IsPcOf, ForwardIn, instr_of, instrs_of, edge_end, edge_row}
+use Rattle.geos_infer.specs.Code.{Edge, IsPcOf, instr_of, instrs_of, edge_end, edge_row}
 use Rattle.geos_infer.specs.Joins.{clean}
 use Rattle.geos_infer.specs.Flow.{row_of, known_at, KnownAt, Flowing, AllKnown, StaysBefore}
 use Rattle.geos_infer.specs.Numbers.{Numbers}
 use Rattle.geos_infer.specs.Points.{PointsOf}
-use Rattle.geos_infer.specs.Solutions.{RowsHoldIn}
 use Rattle.geos_infer.specs.Theorem.{with_points}
 use Rattle.geos_infer.specs.Reached.{LeadWithin, IsReached, HoldWhereReached, row_in, rows_of, RowRulesPass, AllFit, FitWhereReached, Keeps}
 use Rattle.geos_infer.proofs.Accepting.{at-point-true}
@@ -93,16 +92,14 @@ kept-in body found known next K = subst (λ (n : ℕ). Keeps n (start_of body.im
 
 -- what is kept of what flowed along all edges has
 pub kept-flows : (image : Parts) (r : ℕ) (want : List Row) (found known next : List (Option Row)) → Keeps (start_of image.routines r) (start_of image.routines (r + 1)) found known next
-    → start_of image.routines r < start_of image.routines (r + 1) → length (instrs_of image) ≤ length known → ForwardIn image r → RowsHoldIn image r want → AllKnown image r found → (done : ℕ) → Flowing image r want found done → Flowing image r want next done
-kept-flows image r want found known next K some len forward holds all done F = record {
-  len = (let same = K.len in omega arith);
+    → start_of image.routines r < start_of image.routines (r + 1) → length (instrs_of image) ≤ length known → AllKnown image r found → (done : ℕ) → Flowing image r want found done → Flowing image r want next done
+kept-flows image r want found known next K some len all done F = record {
   below = λ pc row w within e f. F.below pc row w within (same_row pc row within e) f;
-  entry = λ routine there. kept (start_of image.routines r) routine.entry (record { above = omega arith; below = omega arith }) (F.entry routine there);
-  edges = λ pc to branch i row within less edge e.
-      let inside = holds.closed pc to branch i within edge in
-      let ahead = forward.ahead pc to branch i within edge in
-      let low = within.above in
-      kept to (edge_row image i branch (clean row)) (record { above = omega arith; below = inside }) (F.edges pc to branch i row within less edge (same_row pc row within e));
+  fit = record {
+    len = (let same = K.len in omega arith);
+    entry = λ routine there. kept (start_of image.routines r) routine.entry (record { above = omega arith; below = omega arith }) (F.fit.entry routine there);
+    edges = λ pc to branch i row within inside ahead less edge e. kept to (edge_row image i branch (clean row)) inside (F.fit.edges pc to branch i row within inside ahead less edge (same_row pc row within e));
+  };
 }
   where
     same_row : (pc : ℕ) (row : Row) → IsPcOf image r pc → known_at next pc ≡ Some row → known_at found pc ≡ Some row

@@ -7,7 +7,7 @@ use Rattle.geos_image.specs.declared.row.Row.{Row}
 use Rattle.geos_image.specs.declared.routine.Routine.{Routine}
 use Rattle.geos_image.specs.Parts.{Parts, start_of}
 use Rattle.geos_infer.specs.Code.{IsPcOf, instrs_of}
-use Rattle.geos_infer.specs.Flow.{known_at, edge_number, Seeded, Flowing}
+use Rattle.geos_infer.specs.Flow.{known_at, edge_number, Seeded, FitAhead, AllBelow}
 use Rattle.geos_infer.specs.Solutions.{RowsHoldIn}
 use Rattle.geos_verify.specs.Rows.{fits}
 use Rattle.geos_infer.proofs.Fits.{fits-refl}
@@ -32,19 +32,22 @@ seeded image r start end routine empty known there begins ends none is within ro
 some-row : (x y : Row) → Some x ≡ Some y → x ≡ y
 some-row x y e = cc
 
+-- what is known then fits rows that hold
+pub seeds-below : (image : Parts) (r : ℕ) (routine : Routine) (want : List Row) (known : List (Option Row)) → slice_get image.routines r ≡ Some routine → RowsHoldIn image r want → Seeded image r known → AllBelow image r want known
+seeds-below image r routine want known there holds S pc row w within e f = elim (cases_lt (start_of image.routines r) pc) [
+  | inl later ↦ absurd (none-some row (sym (S.only pc later within.below) ∙ e))
+  | inr le ↦
+      let same : pc ≡ start_of image.routines r = (let low = within.above in omega arith) in
+      let is : routine.entry ≡ row = some-row routine.entry row (sym (S.entry routine there) ∙ ap (known_at known) (sym same) ∙ e) in
+      subst (λ (x : Row). fits x w ≡ true) is (holds.entry routine w there (ap (slice_get want) (sym same) ∙ f))
+]
+
 -- rows flow from there
-pub seeds-flow : (image : Parts) (r : ℕ) (routine : Routine) (want : List Row) (known : List (Option Row)) → slice_get image.routines r ≡ Some routine → RowsHoldIn image r want → Seeded image r known → Flowing image r want known (2 * start_of image.routines r)
-seeds-flow image r routine want known there holds S = record {
+pub seeds-fit : (image : Parts) (r : ℕ) (known : List (Option Row)) → Seeded image r known → FitAhead image r known (2 * start_of image.routines r)
+seeds-fit image r known S = record {
   len = S.len;
-  below = λ pc row w within e f. elim (cases_lt (start_of image.routines r) pc) [
-    | inl later ↦ absurd (none-some row (sym (S.only pc later within.below) ∙ e))
-    | inr le ↦
-        let same : pc ≡ start_of image.routines r = (let low = within.above in omega arith) in
-        let is : routine.entry ≡ row = some-row routine.entry row (sym (S.entry routine there) ∙ ap (known_at known) (sym same) ∙ e) in
-        subst (λ (x : Row). fits x w ≡ true) is (holds.entry routine w there (ap (slice_get want) (sym same) ∙ f))
-  ];
   entry = λ other at. record { known_row = other.entry; read = S.entry other at; fits = fits-refl other.entry };
-  edges = λ pc t b i row within less edge e. absurd (before pc b within less);
+  edges = λ pc t b i row within inside ahead less edge e. absurd (before pc b within less);
 }
   where
     before : (pc : ℕ) (b : Bool) → IsPcOf image r pc → edge_number pc b < 2 * start_of image.routines r → ⊥

@@ -51,6 +51,14 @@ pub record IsPcOf (image : Parts) (r pc : ℕ) : Type 0 where
 abbrev pub ClosedIn : Parts → ℕ → Type 0
 ClosedIn image r = (pc to : ℕ) (branch : Bool) (i : Instr) → IsPcOf image r pc → Edge (instrs_of image) pc branch to i → to < start_of image.routines (r + 1)
 
+-- the edge to the target at a pc, if it stays in routine r, leads ahead
+abbrev pub TargetAhead : Parts → ℕ → ℕ → Type 0
+TargetAhead image r pc = (to : ℕ) (i : Instr) → IsPcOf image r to → Edge (instrs_of image) pc true to i → pc < to
+
+-- each edge of routine r that stays in it leads ahead
+abbrev pub NoneLeadsBack : Parts → ℕ → Type 0
+NoneLeadsBack image r = (pc to : ℕ) (branch : Bool) (i : Instr) → IsPcOf image r pc → IsPcOf image r to → Edge (instrs_of image) pc branch to i → pc < to
+
 -- Code without loops
 
 -- an edge of routine r leads to the pc

@@ -1,16 +1,15 @@
 -- How rows flow along the edges that lead ahead.
-use Rattle.std.specs.Prelude.{◌≡◌, ◌<◌, ◌≤◌, ℕ, ◌+◌, ◌*◌, Bool, true, false, if◌then◌else◌, List, [], ◌∷◌, length, Option, Some, None, slice_get, slice_index_or, slice_set, IfSome, MatchBool}
+use Rattle.std.specs.Prelude.{◌≡◌, ◌<◌, ◌≤◌, ◌⊎◌, ℕ, ◌+◌, ◌*◌, Bool, true, false, List, [], ◌∷◌, length, Option, Some, None, slice_get, slice_index_or, slice_set, MatchBool}
 use Rattle.geos_image.specs.declared.instr.Instr.{Instr}
 use Rattle.geos_image.specs.declared.row.Row.{Row}
 use Rattle.geos_image.specs.declared.row.SlotState.TheVariants.{Empty}
 use Rattle.geos_image.specs.declared.routine.Routine.{Routine}
 use Rattle.geos_image.specs.Parts.{Parts, start_of}
 use Rattle.geos_verify.specs.Rows.{fits}
-use Rattle.geos_infer.specs.Joins.{join, clean}
-use Rattle.geos_infer.specs.Code.{Edge, IsPcOf, ForwardIn, instrs_of, edge_end, edge_row}
+use Rattle.geos_infer.specs.Joins.{clean, IsLeastAbove, FitNothing}
+use Rattle.geos_infer.specs.Code.{Edge, IsPcOf, ForwardIn, instrs_of, edge_row}
 use Rattle.geos_infer.specs.declared.flow.Arrival.{Arrival}
 use Rattle.geos_infer.specs.declared.flow.Arrival.TheVariants.{Same, Weaker, Apart}
-use Rattle.geos_infer.specs.Edges.{leads_ahead}
 use Rattle.geos_infer.specs.Solutions.{RowsHoldIn}
 
 -- of a place that nothing reaches: words are 0, no slot is held, and all pairs are known
@@ -31,25 +30,6 @@ row_of (Some row) = clean row
 abbrev pub known_at : List (Option Row) → ℕ → Option Row
 known_at known pc = slice_index_or known pc None
 
--- what is known where another row comes to a place; nothing where they have no join
-abbrev pub join_known : Option Row → Row → Option Row
-join_known None row = Some row
-join_known (Some old) row = join old row
-
--- what is known once it is this at a place
-abbrev pub put : List (Option Row) → ℕ → Option Row → Option (List (Option Row))
-put known to None = None
-put known to (Some row) = Some (slice_set known to (Some row))
-
--- what is known after what is known at a place has gone along an edge; nothing where it has no
--- join with what is known
-abbrev pub spread : Parts → ℕ → ℕ → Instr → Bool → Option Row → List (Option Row) → Option (List (Option Row))
-spread image limit pc i branch None known = Some known
-spread image limit pc i branch (Some row) known =
-    if leads_ahead limit pc i branch
-    then put known (edge_end pc i branch) (join_known (known_at known (edge_end pc i branch)) (edge_row image i branch (clean row)))
-    else Some known
-
 -- something is known that the row fits
 abbrev pub fits_known : Option Row → Row → Bool
 fits_known None row = false
@@ -66,13 +46,23 @@ abbrev pub edge_number : ℕ → Bool → ℕ
 edge_number pc true = 2 * pc + 1
 edge_number pc false = 2 * pc
 
--- rows have flowed along the edges of routine r that are among the first so many, and all that is known in it fits rows that hold
-pub record Flowing (image : Parts) (r : ℕ) (want : List Row) (known : List (Option Row)) (done : ℕ) : Type 0 where
+-- the entry row of routine r fits what is known where it begins, and what is known behind each edge that leads ahead in it and is
+-- among the first so many fits what is known where that leads
+pub record FitAhead (image : Parts) (r : ℕ) (known : List (Option Row)) (done : ℕ) : Type 0 where
   pub len : length (instrs_of image) ≤ length known
-  pub below : (pc : ℕ) (row w : Row) → IsPcOf image r pc → known_at known pc ≡ Some row → slice_get want pc ≡ Some w → fits row w ≡ true
   pub entry : (routine : Routine) → slice_get image.routines r ≡ Some routine → KnownAt known (start_of image.routines r) routine.entry
-  pub edges : (pc to : ℕ) (branch : Bool) (i : Instr) (row : Row) → IsPcOf image r pc → edge_number pc branch < done → Edge (instrs_of image) pc branch to i
+  pub edges : (pc to : ℕ) (branch : Bool) (i : Instr) (row : Row) → IsPcOf image r pc → IsPcOf image r to → pc < to → edge_number pc branch < done → Edge (instrs_of image) pc branch to i
       → known_at known pc ≡ Some row → KnownAt known to (edge_row image i branch (clean row))
+
+-- all that is known in routine r fits rows that hold
+abbrev pub AllBelow : Parts → ℕ → List Row → List (Option Row) → Type 0
+AllBelow image r want known = (pc : ℕ) (row w : Row) → IsPcOf image r pc → known_at known pc ≡ Some row → slice_get want pc ≡ Some w → fits row w ≡ true
+
+-- rows have flowed along the edges of routine r that lead ahead and are among the first so many, and all that is known in it fits
+-- rows that hold
+pub record Flowing (image : Parts) (r : ℕ) (want : List Row) (known : List (Option Row)) (done : ℕ) : Type 0 where
+  pub below : AllBelow image r want known
+  pub fit : FitAhead image r known done
 
 -- something is known at each instruction of routine r
 abbrev pub AllKnown : Parts → ℕ → List (Option Row) → Type 0
@@ -90,6 +80,22 @@ StaysBefore pc known next = (k : ℕ) → k < pc → known_at next k ≡ known_a
 
 -- What the flow of rows promises
 
+-- the row is the least that both what is known and another row fit, or is that other row where nothing is known
+abbrev pub IsJoin : Option Row → Row → Row → Type 0
+IsJoin None row joined = joined ≡ row
+IsJoin (Some old) row joined = IsLeastAbove old row joined
+
+-- there is no row that both what is known and the row fit
+abbrev pub HaveNoJoin : Option Row → Row → Type 0
+HaveNoJoin None row = ⊥
+HaveNoJoin (Some old) row = FitNothing old row
+
+-- what is known next is what is known once the row has come to the place and is joined with what is known there
+pub record Joins (known : List (Option Row)) (to : ℕ) (row : Row) (next : List (Option Row)) : Type 0 where
+  pub joined : Row
+  pub is : next ≡ slice_set known to (Some joined)
+  pub join : IsJoin (known_at known to) row joined
+
 -- a row that comes to a place has a join with what is known there
 abbrev pub has_joined : Arrival → Bool
 has_joined Same = true
@@ -98,19 +104,30 @@ has_joined Apart = false
 
 -- what is known next is what is known once the row has come to the place, or they have no join
 abbrev pub Arrives : Arrival → List (Option Row) → ℕ → Row → List (Option Row) → Type 0
-Arrives Same known to row next = put known to (join_known (known_at known to) row) ≡ Some next
-Arrives Weaker known to row next = put known to (join_known (known_at known to) row) ≡ Some next
-Arrives Apart known to row next = join_known (known_at known to) row ≡ None
+Arrives Same known to row next = Joins known to row next
+Arrives Weaker known to row next = Joins known to row next
+Arrives Apart known to row next = HaveNoJoin (known_at known to) row
 
--- what is known next is what is known after the row at the pc has gone along the edge, or there is no join
+-- what is known at a pc goes along an edge of the instruction there, which leads ahead and stays in routine r
+pub record GoesAhead (image : Parts) (r pc : ℕ) (branch : Bool) (known : List (Option Row)) : Type 0 where
+  pub row : Row
+  pub here : known_at known pc ≡ Some row
+  pub to : ℕ
+  pub i : Instr
+  pub edge : Edge (instrs_of image) pc branch to i
+  pub stays : IsPcOf image r to
+  pub ahead : pc < to
+
+-- what is known next is what is known after the row at the pc has gone along the edge, or there is no join; where none goes along it,
+-- it is the same
 abbrev pub Spreads : Parts → ℕ → ℕ → Bool → List (Option Row) → List (Option Row) → Bool → Type 0
-Spreads image limit pc branch known next done =
-    IfSome (slice_get image.points pc) (λ point. let after = spread image limit pc point.instr branch (known_at known pc) known in MatchBool done (after ≡ Some next) (after ≡ None))
+Spreads image r pc branch known next done =
+    ((GoesAhead image r pc branch known → ⊥) × (done ≡ true) × (next ≡ known)) ⊎ ((goes : GoesAhead image r pc branch known)
+    × MatchBool done (Joins known goes.to (edge_row image goes.i branch (clean goes.row)) next) (HaveNoJoin (known_at known goes.to) (edge_row image goes.i branch (clean goes.row))))
 
--- where rows have flowed along no edge of routine r, they have along all of them next; of code without loops
-abbrev pub FlowsOn : Parts → ℕ → List (Option Row) → List (Option Row) → Bool → Type 0
-FlowsOn image r known next done = (want : List Row) → ForwardIn image r → RowsHoldIn image r want → Flowing image r want known (2 * start_of image.routines r)
-    → (done ≡ true) × Flowing image r want next (2 * start_of image.routines (r + 1))
+-- what is known in routine r fits any rows that hold, and there are none where rows have no join
+abbrev pub FlowsBelow : Parts → ℕ → List (Option Row) → Bool → Type 0
+FlowsBelow image r known done = (want : List Row) → RowsHoldIn image r want → (done ≡ true) × AllBelow image r want known
 
 -- rows have flowed along all edges of routine r; of code without loops
 abbrev pub FlowsAnew : Parts → ℕ → List (Option Row) → Bool → Type 0

@@ -2,7 +2,7 @@
 
 ghost use Rattle.std.specs.Prelude.{◌≡◌, ◌<◌, ◌≤◌, false, slice_get, IfSome};
 ghost use Rattle.geos_infer.specs.Causes.{is_loop};
-ghost use Rattle.geos_infer.specs.Code.{ForwardIn, IsPcOf, edge_end};
+ghost use Rattle.geos_infer.specs.Code.{ForwardIn, IsPcOf, TargetAhead, edge_end};
 ghost use Rattle.geos_infer.specs.Edges.{edge_within, IsInside};
 ghost use Rattle.geos_infer.specs.Why.{LeadsTo};
 
@@ -59,7 +59,8 @@ pub(crate) fn edge_in(body: &Body, pc: u16, branch: bool) -> Option<Edge>
 pub(crate) fn leads_back(body: &Body, pc: u16) -> bool
     requires above { body.now.start ≤ pc }
     requires below { pc < body.now.end }
-    ensures { ForwardIn body.now.image.now body.now.r → result ≡ false }
+    ensures none { ForwardIn body.now.image.now body.now.r → result ≡ false }
+    ensures ahead { result ≡ false → TargetAhead body.now.image.now body.now.r pc }
 {
     match edge_in(body, pc, true) {
         Some(edge) => edge.to <= pc,

@@ -1,9 +1,7 @@
 //! Whether what was found in a routine holds.
 
-ghost use Rattle.std.specs.Prelude.{◌≡◌, ◌<◌, ◌+◌, ◌*◌, ◌↔◌, List, true};
-ghost use Rattle.geos_image.specs.declared.row.Row.{Row};
-ghost use Rattle.geos_image.specs.Parts.{start_of};
-ghost use Rattle.geos_infer.specs.Flow.{Flowing, fits_known};
+ghost use Rattle.std.specs.Prelude.{◌≡◌, ◌<◌, ◌↔◌, true};
+ghost use Rattle.geos_infer.specs.Flow.{fits_known};
 ghost use Rattle.geos_infer.specs.Reached.{EdgeFits, AllFit};
 
 use crate::body::Body;
@@ -45,9 +43,7 @@ fn edge_fits(body: &Body, pc: u16, branch: bool, known: &Known) -> bool
 /// Whether the entry row of a routine fits what is known where it begins, and what is known behind each
 /// edge fits what is known where that leads.
 pub(crate) fn all_fit(body: &Body, known: &Known) -> bool
-    ensures fit { result ≡ true → AllFit body.now.image.now body.now.r known.now }
-    ensures flowing { (want : List Row) → Flowing body.now.image.now body.now.r want known.now (2 * start_of body.now.image.now.routines (body.now.r + 1))
-        → result ≡ true }
+    ensures { result ≡ true → AllFit body.now.image.now body.now.r known.now }
 {
     let entry = body.image.routine(body.r).entry;
     if !fits_known(&known.at(body.start), &entry) {

@@ -1,11 +1,11 @@
 //! Rows flow along the edges that lead ahead.
 
-ghost use Rattle.std.specs.Prelude.{◌≡◌, ◌<◌, ◌≤◌, true};
+ghost use Rattle.std.specs.Prelude.{◌≡◌, ◌<◌, ◌≤◌, ◌+◌, ◌*◌, true, IfSome, IfNone};
 ghost use Rattle.geos_image.specs.Legal.{is_row};
+ghost use Rattle.geos_image.specs.Parts.{start_of};
 ghost use Rattle.geos_verify.specs.Rows.{after};
-ghost use Rattle.geos_infer.specs.Code.{ForwardIn};
 ghost use Rattle.geos_infer.specs.Edges.{IsInside};
-ghost use Rattle.geos_infer.specs.Flow.{row_of, join_known, has_joined, Arrives, Spreads, FlowsOn};
+ghost use Rattle.geos_infer.specs.Flow.{row_of, has_joined, IsJoin, HaveNoJoin, Arrives, Spreads, Seeded, FlowsBelow, FitAhead};
 ghost use Rattle.geos_infer.specs.Joins.{clean};
 
 use crate::body::Body;
@@ -36,7 +36,8 @@ pub(crate) fn row_of(known: &Option<Row>) -> Row
 
 /// What is known where another row comes to a place; nothing where they have no join.
 fn join_known(old: &Option<Row>, row: &Row) -> Option<Row>
-    ensures { result ≡ join_known old.now row.now }
+    ensures some { IfSome result (IsJoin old.now row.now) }
+    ensures none { IfNone result (HaveNoJoin old.now row.now) }
 {
     match old {
         None => Some(*row),
@@ -98,7 +99,7 @@ pub(crate) fn spread(body: &Body, edge: Edge, row: &Row, known: &mut Known) -> A
 fn spread_ahead(body: &Body, pc: u16, branch: bool, known: &mut Known) -> bool
     requires above { body.now.start ≤ pc }
     requires below { pc < body.now.end }
-    ensures { ForwardIn body.now.image.now body.now.r → Spreads body.now.image.now body.now.end pc branch known.old known.new result }
+    ensures { Spreads body.now.image.now body.now.r pc branch known.old known.new result }
 {
     let Some(row) = known.at(pc) else {
         return true;
@@ -115,7 +116,9 @@ fn spread_ahead(body: &Body, pc: u16, branch: bool, known: &mut Known) -> bool
 /// From what is known at first, rows flow along the edges of a routine that lead ahead; `false`
 /// where two have no join.
 pub(crate) fn flow(body: &Body, known: &mut Known) -> bool
-    ensures { FlowsOn body.now.image.now body.now.r known.old known.new result }
+    ensures below { Seeded body.now.image.now body.now.r known.old → FlowsBelow body.now.image.now body.now.r known.new result }
+    ensures fit { Seeded body.now.image.now body.now.r known.old → result ≡ true
+        → FitAhead body.now.image.now body.now.r known.new (2 * start_of body.now.image.now.routines (body.now.r + 1)) }
 {
     for pc in body.start..body.end {
         if !spread_ahead(body, pc, false, known) {

@@ -1,7 +1,7 @@
 //! Whether edges are paid for, and how many of them lead back.
 
 ghost use Rattle.std.specs.Prelude.{◌≡◌, ◌<◌, ◌≤◌};
-ghost use Rattle.geos_infer.specs.Code.{ForwardIn};
+ghost use Rattle.geos_infer.specs.Code.{ForwardIn, NoneLeadsBack};
 
 use crate::asked::asked_over;
 use crate::body::Body;
@@ -36,6 +36,7 @@ pub(crate) fn are_paid(body: &Body, known: &Known, potentials: &Potentials) -> b
 pub(crate) fn back_edges(body: &Body) -> u32
     ensures few { result ≤ 4096 }
     ensures none { ForwardIn body.now.image.now body.now.r → result ≡ 0 }
+    ensures ahead { result ≡ 0 → NoneLeadsBack body.now.image.now body.now.r }
 {
     let mut edges = 0;
     for pc in body.start..body.end {

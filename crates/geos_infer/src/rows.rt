@@ -1,7 +1,6 @@
 //! What is known at each instruction.
 
 ghost use Rattle.std.specs.Prelude.{◌≡◌, ◌<◌, ◌≤◌, ℕ, true, length, IfOk};
-ghost use Rattle.geos_infer.specs.Code.{ForwardIn};
 ghost use Rattle.geos_infer.specs.Flow.{FlowsAnew, HaveFlowed, StaysBefore};
 ghost use Rattle.geos_infer.specs.Reached.{AllFit, FitWhereReached, Keeps};
 ghost use Rattle.geos_infer.specs.Solutions.{NoRowsHoldIn};
@@ -72,14 +71,9 @@ fn wait_to_go_back(body: &Body, waiting: &mut Waiting) {
     }
 }
 
-/// Rows of a routine flow on along the edges that lead back, and come down again; `false` where two have no join. Where none leads
-/// back they have flowed along all edges already. There are tables if one does.
-fn settle(body: &Body, tables: &mut Option<Tables>, known: &mut Known) -> bool
-    ensures { ForwardIn body.now.image.now body.now.r → (result ≡ true) × (known.new ≡ known.old) }
-{
-    if back_edges(body) == 0 {
-        return true;
-    }
+/// Rows of a routine flow on along the edges that lead back, and come down again; `false` where two have no join. There are tables
+/// where an edge leads back.
+fn settle(body: &Body, tables: &mut Option<Tables>, known: &mut Known) -> bool {
     match tables {
         Some(Tables { from, waiting, .. }) => {
             wait_to_go_back(body, waiting);
@@ -99,12 +93,13 @@ fn search(body: &Body, tables: &mut Option<Tables>, found: &mut Known) -> bool
     if !flow(body, found) {
         return false;
     }
-    if !settle(body, tables, found) {
-        return false;
+    if back_edges(body) == 0 {
+        // Rows have flowed along each edge, and fit along it.
+        return true;
     }
     // Rows that flowed till nothing new came fit along all edges, and still do when they have come
     // down. Where edges lead back that is not proved of the search: so each edge is looked at.
-    all_fit(body, found)
+    settle(body, tables, found) && all_fit(body, found)
 }
 
 /// Makes known what was found at the instructions of a routine, and the rows of the other places.

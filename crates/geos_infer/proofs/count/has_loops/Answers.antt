@@ -12,5 +12,5 @@ returns-then-is_loop c = λ forward.
     elim c.then-is_loop.branch [
       | then-is_loop-via-then-is_loop w ↦
           absurd (no-loop body.image.now body.r forward pc c.instr.result.now (in-body body pc c.loop-pc.auto.pc c.loop-pc-test.true) (omega (arith, body.room)) c.instr.ensures.there (loop-only c.instr.result.now.opcode (sym c.is_loop.ensures ∙ w.if-is_loop.true)))
-      | then-is_loop-via-else-is_loop+then-leads_back w ↦ absurd (false≢true (sym (w.leads_back.ensures forward) ∙ w.if-leads_back.true))
+      | then-is_loop-via-else-is_loop+then-leads_back w ↦ absurd (false≢true (sym (w.leads_back.ensures.none forward) ∙ w.if-leads_back.true))
     ]

@@ -4,8 +4,8 @@ use Rattle.geos_infer.proofs.Asks.{read-ahead}
 use Rattle.geos_infer.proofs.Back.{ahead-alone}
 use Rattle.geos_infer.proofs.edges.leads_back.Goals as goal
 
-pub returns-in-Some : goal.returns-in-Some
-returns-in-Some c = λ forward.
+pub returns-in-Some-clause-none : goal.returns-in-Some-clause-none
+returns-in-Some-clause-none c = λ forward.
     let body = c.args.body.now in
     let edge = c.in-Some.edge in
     let found = read-ahead body.image.now body.end c.args.pc true (omega (arith, body.room)) edge (ahead-alone body forward c.args.pc true (Some edge) c.requires.above c.requires.below c.in-Some.ensures.value) in

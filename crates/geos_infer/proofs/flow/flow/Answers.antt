@@ -1,40 +1,54 @@
-use Rattle.std.proofs.Common.{◌+◌, ◌*◌, ℕ, true, false, sym, subst, ◌∙◌, arith, refl}
+use Rattle.std.proofs.Common.{◌+◌, ◌*◌, ◌≤◌, ℕ, false, length, sym, subst, ◌∙◌, arith, refl}
 use Rattle.std.proofs.lemmas.Bool.{false≢true}
-use Rattle.geos_infer.specs.Flow.{Flowing}
+use Rattle.geos_verify.proofs.Places.{item_at}
+use Rattle.geos_image.specs.Parts.{start_of}
+use Rattle.geos_infer.specs.Code.{instrs_of}
+use Rattle.geos_infer.specs.Flow.{FitAhead}
 use Rattle.geos_infer.proofs.Bodies.{in-body}
-use Rattle.geos_infer.proofs.Flows.{flows-on}
+use Rattle.geos_infer.proofs.Ends.{code-length}
+use Rattle.geos_infer.proofs.Flows.{spreads-below, fit-more, below-more}
+use Rattle.geos_infer.proofs.Seeding.{seeds-fit, seeds-below}
 use Rattle.geos_infer.proofs.flow.flow.Goals as goal
 
 pub loop-pc-init : goal.loop-pc-init
-loop-pc-init c = λ want forward holds start. subst (λ (n : ℕ). Flowing c.args.body.now.image.now c.args.body.now.r want c.args.known.now (2 * n)) (sym c.args.body.now.begins) start
-
-pub returns-then-not-spread_ahead : goal.returns-then-not-spread_ahead
-returns-then-not-spread_ahead c =
+loop-pc-init c = λ seeded.
     let body = c.args.body.now in
-    λ want forward holds start.
-    let step = flows-on body.image.now body.r forward want holds c.loop-pc.known c.spread_ahead.new.known body.end c.loop-pc.pc false c.spread_ahead.result (2 * c.loop-pc.pc) (2 * c.loop-pc.pc + 1)
-    body.ends body.room (in-body body c.loop-pc.pc c.loop-pc.auto.pc c.loop-pc-test.true) refl refl (c.loop-pc.invariant want forward holds start) (c.spread_ahead.ensures forward) in
+    let image = body.image.now in
+    let routine = item_at image.routines body.r body.there in (
+      subst (λ (n : ℕ). FitAhead image body.r c.args.known.now (2 * n)) (sym body.begins) (seeds-fit image body.r c.args.known.now seeded),
+      λ want holds. seeds-below image body.r routine.0 want c.args.known.now routine.1 holds seeded,
+    )
+
+pub returns-then-not-spread_ahead-clause-below : goal.returns-then-not-spread_ahead-clause-below
+returns-then-not-spread_ahead-clause-below c = λ seeded want holds.
+    let body = c.args.body.now in
+    let image = body.image.now in
+    let pc = c.loop-pc.pc in
+    let so_far = c.loop-pc.invariant seeded in
+    let step = spreads-below image body.r (omega (arith, code-length image, body.ends, body.room)) c.loop-pc.known c.spread_ahead.new.known pc false (in-body body pc c.loop-pc.auto.pc c.loop-pc-test.true) so_far.0.len
+    want holds (so_far.1 want holds) c.spread_ahead.result c.spread_ahead.ensures in
     absurd (false≢true (sym c.if-not-spread_ahead.true ∙ step.0))
 
-pub returns-then-not-spread_ahead-2 : goal.returns-then-not-spread_ahead-2
-returns-then-not-spread_ahead-2 c =
+pub returns-then-not-spread_ahead-2-clause-below : goal.returns-then-not-spread_ahead-2-clause-below
+returns-then-not-spread_ahead-2-clause-below c = λ seeded want holds.
     let body = c.args.body.now in
-    let within = in-body body c.loop-pc.pc c.loop-pc.auto.pc c.loop-pc-test.true in
-    λ want forward holds start.
-    let step = flows-on body.image.now body.r forward want holds c.loop-pc.known c.spread_ahead.new.known body.end c.loop-pc.pc false c.spread_ahead.result (2 * c.loop-pc.pc) (2 * c.loop-pc.pc + 1)
-    body.ends body.room within refl refl (c.loop-pc.invariant want forward holds start) (c.spread_ahead.ensures forward) in
-    let next = flows-on body.image.now body.r forward want holds c.spread_ahead.new.known c.spread_ahead-in-loop-pc.new.known body.end c.loop-pc.pc true c.spread_ahead-in-loop-pc.result (2 * c.loop-pc.pc + 1) (2 * (c.loop-pc.pc + 1))
-    body.ends body.room within refl (omega arith) step.1 (c.spread_ahead-in-loop-pc.ensures forward) in
-    absurd (false≢true (sym c.if-not-spread_ahead-2.true ∙ next.0))
+    let image = body.image.now in
+    let pc = c.loop-pc.pc in
+    let so_far = c.loop-pc.invariant seeded in
+    let step = below-more image body.r (omega (arith, code-length image, body.ends, body.room)) c.loop-pc.known c.spread_ahead.new.known c.spread_ahead-in-loop-pc.new.known pc (pc + 1) (in-body body pc c.loop-pc.auto.pc c.loop-pc-test.true) refl
+    c.spread_ahead.result c.spread_ahead-in-loop-pc.result c.spread_ahead.ensures c.spread_ahead-in-loop-pc.ensures so_far.0 want holds (so_far.1 want holds) in
+    absurd (false≢true (sym c.if-not-spread_ahead-2.true ∙ step.1))
 
 pub loop-pc-preserved : goal.loop-pc-preserved
-loop-pc-preserved c =
+loop-pc-preserved c = λ seeded.
     let body = c.args.body.now in
     let image = body.image.now in
     let pc = c.loop-pc.pc in
     let within = in-body body pc c.loop-pc.auto.pc c.loop-pc-test.true in
-    λ want forward holds start.
-    let step = flows-on image body.r forward want holds c.loop-pc.known c.spread_ahead.new.known body.end pc false c.spread_ahead.result (2 * pc) (2 * pc + 1)
-    body.ends body.room within refl refl (c.loop-pc.invariant want forward holds start) (c.spread_ahead.ensures forward) in
-    (flows-on image body.r forward want holds c.spread_ahead.new.known c.spread_ahead-in-loop-pc.new.known body.end pc true c.spread_ahead-in-loop-pc.result (2 * pc + 1) (2 * (pc + 1))
-    body.ends body.room within refl (omega arith) step.1 (c.spread_ahead-in-loop-pc.ensures forward)).1
+    let small : start_of image.routines (body.r + 1) ≤ length (instrs_of image) = omega (arith, code-length image, body.ends, body.room) in
+    let so_far = c.loop-pc.invariant seeded in (
+      fit-more image body.r small c.loop-pc.known c.spread_ahead.new.known c.spread_ahead-in-loop-pc.new.known pc (pc + 1) within refl
+          c.spread_ahead.result c.spread_ahead-in-loop-pc.result c.spread_ahead.ensures c.spread_ahead-in-loop-pc.ensures so_far.0 c.if-not-spread_ahead.false c.if-not-spread_ahead-2.false,
+      λ want holds. (below-more image body.r small c.loop-pc.known c.spread_ahead.new.known c.spread_ahead-in-loop-pc.new.known pc (pc + 1) within refl
+          c.spread_ahead.result c.spread_ahead-in-loop-pc.result c.spread_ahead.ensures c.spread_ahead-in-loop-pc.ensures so_far.0 want holds (so_far.1 want holds)).2,
+    )

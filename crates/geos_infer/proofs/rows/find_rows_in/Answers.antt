@@ -18,7 +18,7 @@ returns-in_default-clause-flows c = λ want forward holds.
     let F = (c.search.ensures.flows want forward holds).1 in
     let all = all-reached image body.r forward routine.0 routine.1 want c.search.new.found F (omega (arith, code-length image, body.ends, body.room)) in
     let K = kept-in body c.search.new.found c.args.known.now c.keep.new.known c.keep.ensures in
-    (refl, kept-flows image body.r want c.search.new.found c.args.known.now c.keep.new.known K (omega (arith, body.begins, body.ends, body.some)) (omega (arith, code-length image, body.short, c.lengths.ensures)) forward holds all (2 * start_of image.routines (body.r + 1)) F)
+    (refl, kept-flows image body.r want c.search.new.found c.args.known.now c.keep.new.known K (omega (arith, body.begins, body.ends, body.some)) (omega (arith, code-length image, body.short, c.lengths.ensures)) all (2 * start_of image.routines (body.r + 1)) F)
 
 pub returns-in_default-clause-fit : goal.returns-in_default-clause-fit
 returns-in_default-clause-fit c = λ e.
@@ -36,7 +36,7 @@ returns-clause-flows c = λ want forward holds.
     let F = (c.search.ensures.flows want forward holds).1 in
     let all = all-reached image body.r forward routine.0 routine.1 want c.search.new.found F (omega (arith, code-length image, body.ends, body.room)) in
     let K = kept-in body c.search.new.found c.args.known.now c.keep-2.new.known c.keep-2.ensures in
-    (refl, kept-flows image body.r want c.search.new.found c.args.known.now c.keep-2.new.known K (omega (arith, body.begins, body.ends, body.some)) (omega (arith, code-length image, body.short, c.lengths.ensures)) forward holds all (2 * start_of image.routines (body.r + 1)) F)
+    (refl, kept-flows image body.r want c.search.new.found c.args.known.now c.keep-2.new.known K (omega (arith, body.begins, body.ends, body.some)) (omega (arith, code-length image, body.short, c.lengths.ensures)) all (2 * start_of image.routines (body.r + 1)) F)
 
 pub returns-clause-fit : goal.returns-clause-fit
 returns-clause-fit c = λ e.
