@@ -70,18 +70,6 @@ impl Tables {
             ways,
         })
     }
-
-    /// What counting in so many routines takes, if one of them has loops.
-    fn wanted(alloc: Global, image: &Image, routines: u16) -> Result<Option<Tables>, AllocError>
-        requires { routines ≤ length image.now.routines }
-    {
-        for r in 0..routines {
-            if has_loops(&body_of(image, r)) {
-                return Ok(Some(Tables::new(alloc, image)?));
-            }
-        }
-        Ok(None)
-    }
 }
 
 /// The potentials of a routine are the steps of the longest ways, and what units pay for; `false` where a number is past
@@ -121,22 +109,14 @@ fn count_loops(
         && calls_are_spent(body, touched, potentials)
 }
 
-/// Counts the steps of a routine; `false` where no number of them is found to be enough. There are tables if it has loops.
-fn count_in(
-    body: &Body,
-    known: &Known,
-    tables: &mut Option<Tables>,
-    potentials: &mut Potentials,
-) -> bool
+/// Counts the steps of a routine; `false` where no number of them is found to be enough.
+fn count_in(body: &Body, known: &Known, tables: &mut Tables, potentials: &mut Potentials) -> bool
     ensures { CountsOn body.now.image.now body.now.r (numbers_of potentials.old) (numbers_of potentials.new) result }
 {
     if !has_loops(body) {
         return sweep(body, known, potentials).is_some();
     }
-    match tables {
-        Some(tables) => count_loops(body, known, tables, potentials),
-        None => false,
-    }
+    count_loops(body, known, tables, potentials)
 }
 
 /// Counts the steps of so many routines, from the last to the first; the first one for which no
@@ -153,7 +133,7 @@ fn count_all(
     ensures within { IfOk result (λ left. IfSome left (λ r. r < routines)) }
     ensures none { IfOk result (λ left. IfSome left (NoStepsHoldIn image.now)) }
 {
-    let mut tables = Tables::wanted(alloc, image, routines)?;
+    let mut tables = Tables::new(alloc, image)?;
     let mut left = None;
     for r in (0..routines).rev() {
         if !count_in(&body_of(image, r), known, &mut tables, potentials) {

@@ -7,7 +7,7 @@ ghost use Rattle.geos_infer.specs.Solutions.{NoRowsHoldIn};
 
 use crate::body::{Body, body_of};
 use crate::descent::descend;
-use crate::edges::{edge_in, leads_back};
+use crate::edges::leads_back;
 use crate::fitted::all_fit;
 use crate::flow::flow;
 use crate::paid::back_edges;
@@ -19,7 +19,7 @@ use crate::weakened::weaken;
 use geos_image::Image;
 use std::alloc::{AllocError, Global};
 
-/// What is written anew for each routine in which edges lead back, or that may have places that nothing reaches.
+/// What is written anew for each routine in which edges lead back, or that has places that nothing reaches.
 #[derive(Drop)]
 struct Tables {
     /// The rows of the places that nothing reaches.
@@ -38,27 +38,6 @@ impl Tables {
             waiting,
         })
     }
-
-    /// The tables that an image takes, if some routine of it does: one in which an edge leads back, or control does not go on
-    /// from each instruction to the next.
-    fn wanted(alloc: Global, image: &Image) -> Result<Option<Tables>, AllocError> {
-        for r in 0..image.count() {
-            if !leads_ahead(&body_of(image, r)) {
-                return Ok(Some(Tables::new(alloc)?));
-            }
-        }
-        Ok(None)
-    }
-}
-
-/// Whether control goes on from each instruction of a routine to the next, and no edge leads back.
-fn leads_ahead(body: &Body) -> bool {
-    for pc in body.start..body.end - 1 {
-        if edge_in(body, pc, false).is_none() || leads_back(body, pc) {
-            return false;
-        }
-    }
-    !leads_back(body, body.end - 1)
 }
 
 /// What is known where an edge leads back has yet to go along it; along the others it has gone.
@@ -71,21 +50,16 @@ fn wait_to_go_back(body: &Body, waiting: &mut Waiting) {
     }
 }
 
-/// Rows of a routine flow on along the edges that lead back, and come down again; `false` where two have no join. There are tables
-/// where an edge leads back.
-fn settle(body: &Body, tables: &mut Option<Tables>, known: &mut Known) -> bool {
-    match tables {
-        Some(Tables { from, waiting, .. }) => {
-            wait_to_go_back(body, waiting);
-            // Rows that were not widened are the strongest that hold: none comes down again.
-            flow_on(body, waiting, known) && (!waiting.has_widened() || descend(body, from, known))
-        }
-        None => false,
-    }
+/// Rows of a routine flow on along the edges that lead back, and come down again; `false` where two have no join.
+fn settle(body: &Body, tables: &mut Tables, known: &mut Known) -> bool {
+    let Tables { from, waiting, .. } = tables;
+    wait_to_go_back(body, waiting);
+    // Rows that were not widened are the strongest that hold: none comes down again.
+    flow_on(body, waiting, known) && (!waiting.has_widened() || descend(body, from, known))
 }
 
 /// Finds what is known in a routine wherever control reaches; `false` where two rows have no join.
-fn search(body: &Body, tables: &mut Option<Tables>, found: &mut Known) -> bool
+fn search(body: &Body, tables: &mut Tables, found: &mut Known) -> bool
     ensures flows { FlowsAnew body.now.image.now body.now.r found.new result }
     ensures fit { result ≡ true → AllFit body.now.image.now body.now.r found.new }
 {
@@ -114,12 +88,7 @@ fn keep(body: &Body, found: &Known, others: &Known, known: &mut Known)
 }
 
 /// Finds what is known at each instruction of a routine; `false` where two rows have no join.
-fn find_rows_in(
-    body: &Body,
-    tables: &mut Option<Tables>,
-    found: &mut Known,
-    known: &mut Known,
-) -> bool
+fn find_rows_in(body: &Body, tables: &mut Tables, found: &mut Known, known: &mut Known) -> bool
     ensures flows { FlowsAnew body.now.image.now body.now.r known.new result }
     ensures fit { result ≡ true → FitWhereReached body.now.image.now body.now.r known.new }
     ensures stays { StaysBefore body.now.start known.old known.new }
@@ -129,10 +98,6 @@ fn find_rows_in(
     }
     // For what its law says.
     known.lengths();
-    let Some(tables) = tables else {
-        keep(body, found, found, known);
-        return true;
-    };
     if weaken(
         body,
         found,
@@ -155,7 +120,7 @@ fn find_all_rows(alloc: Global, image: &Image, known: &mut Known) -> Result<u16,
     ensures none { IfOk result (λ count. count < length image.now.routines → NoRowsHoldIn image.now count) }
     ensures fit { IfOk result (λ count. (r : ℕ) → r < count → FitWhereReached image.now r known.new) }
 {
-    let mut tables = Tables::wanted(alloc, image)?;
+    let mut tables = Tables::new(alloc)?;
     let mut found = Known::new(alloc, None)?;
     for r in 0..image.count() {
         if !find_rows_in(&body_of(image, r), &mut tables, &mut found, known) {

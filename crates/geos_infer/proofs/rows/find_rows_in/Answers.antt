@@ -10,24 +10,6 @@ use Rattle.geos_infer.proofs.rows.find_rows_in.Goals as goal
 pub returns-then-not-search-clause-flows : goal.returns-then-not-search-clause-flows
 returns-then-not-search-clause-flows c = λ want forward holds. absurd (false≢true (sym c.if-not-search.true ∙ (c.search.ensures.flows want forward holds).0))
 
-pub returns-in_default-clause-flows : goal.returns-in_default-clause-flows
-returns-in_default-clause-flows c = λ want forward holds.
-    let body = c.args.body.now in
-    let image = body.image.now in
-    let routine = item_at image.routines body.r body.there in
-    let F = (c.search.ensures.flows want forward holds).1 in
-    let all = all-reached image body.r forward routine.0 routine.1 want c.search.new.found F (omega (arith, code-length image, body.ends, body.room)) in
-    let K = kept-in body c.search.new.found c.args.known.now c.keep.new.known c.keep.ensures in
-    (refl, kept-flows image body.r want c.search.new.found c.args.known.now c.keep.new.known K (omega (arith, body.begins, body.ends, body.some)) (omega (arith, code-length image, body.short, c.lengths.ensures)) all (2 * start_of image.routines (body.r + 1)) F)
-
-pub returns-in_default-clause-fit : goal.returns-in_default-clause-fit
-returns-in_default-clause-fit c = λ e.
-    let body = c.args.body.now in
-    let image = body.image.now in
-    let routine = item_at image.routines body.r body.there in
-    let K = kept-in body c.search.new.found c.args.known.now c.keep.new.known c.keep.ensures in
-    kept-fits image body.r (omega (arith, body.begins, body.ends, body.some)) routine.0 routine.1 c.search.new.found (c.search.ensures.fit c.if-not-search.false) c.args.known.now c.keep.new.known K
-
 pub returns-clause-flows : goal.returns-clause-flows
 returns-clause-flows c = λ want forward holds.
     let body = c.args.body.now in
@@ -61,5 +43,5 @@ returns-then-weaken-clause-fit c = λ e.
     let body = c.args.body.now in
     let image = body.image.now in
     let routine = item_at image.routines body.r body.there in
-    let K = kept-in body c.weaken.new.weaker c.args.known.now c.keep-then-weaken.new.known c.keep-then-weaken.ensures in
-    kept-fits image body.r (omega (arith, body.begins, body.ends, body.some)) routine.0 routine.1 c.weaken.new.weaker (c.weaken.ensures.fit c.if-weaken.true) c.args.known.now c.keep-then-weaken.new.known K
+    let K = kept-in body c.weaken.new.weaker c.args.known.now c.keep.new.known c.keep.ensures in
+    kept-fits image body.r (omega (arith, body.begins, body.ends, body.some)) routine.0 routine.1 c.weaken.new.weaker (c.weaken.ensures.fit c.if-weaken.true) c.args.known.now c.keep.new.known K
