@@ -27,6 +27,7 @@ fn begin(span: &Span, ways: &mut Ways) {
 
 /// The longest way from a pc over an edge, if that is not left out and leads ahead, or back, as is asked, and the way is longer than
 /// what was known; whether it is.
+#[inline(always)]
 fn lengthen(span: &Span, ways: &mut Ways, pc: u16, branch: bool, ahead: bool) -> bool
     requires { pc < 4096 }
 {
