@@ -1,6 +1,6 @@
 -- What fits along each edge of a routine, as it is looked at.
 use Rattle.std.proofs.Common.{◌≡◌, ℕ, ◌+◌, ◌*◌, ◌<◌, Bool, true, false, List, length, Option, Some, None, slice_get, refl, sym, ap, ◌∙◌, subst, arith, inl, inr}
-use Rattle.std.specs.Prelude.{◌↔◌, if◌then◌else◌, IfSome}
+use Rattle.std.specs.Prelude.{◌↔◌, ◌⊎◌, if◌then◌else◌, IfSome}
 use Rattle.std.proofs.lemmas.Bool.{cases_lt}
 use Rattle.geos_image.specs.declared.instr.Instr.{Instr}
 use Rattle.geos_image.specs.declared.row.Row.{Row}
@@ -9,9 +9,9 @@ use Rattle.geos_image.specs.Parts.{Parts, start_of}
 use Rattle.geos_verify.specs.Rows.{falls_through, branches, at_point, HasEdge, after, has_edge}
 use Rattle.geos_verify.proofs.Places.{item_at, if_some}
 use Rattle.geos_infer.specs.Joins.{clean}
-use Rattle.geos_infer.specs.Code.{Edge, IsPcOf, NoneLeadsBack, instrs_of, edge_end, edge_row}
+use Rattle.geos_infer.specs.Code.{Edge, IsPcOf, TargetAhead, instrs_of, edge_end, edge_row}
 use Rattle.geos_infer.specs.Flow.{known_at, KnownAt, fits_known, edge_number, FitAhead}
-use Rattle.geos_infer.specs.Reached.{EdgeFits, AllFit}
+use Rattle.geos_infer.specs.Reached.{EdgeFits, BackFit, AllFit}
 use Rattle.geos_infer.proofs.Ends.{code-at, after-edge}
 
 -- What is known where a row comes
@@ -101,9 +101,29 @@ number-last : (k n : ℕ) (b : Bool) → k < n → edge_number k b < 2 * n
 number-last k n true h = omega arith
 number-last k n false h = omega arith
 
--- where no edge leads back, all fit once rows have flowed along those that lead ahead
-pub ahead-fits : (image : Parts) (r : ℕ) (known : List (Option Row)) → NoneLeadsBack image r → FitAhead image r known (2 * start_of image.routines (r + 1)) → AllFit image r known
-ahead-fits image r known ahead F = record {
-  entry = F.entry;
-  edges = λ pc branch within to i row edge inside e. F.edges pc to branch i row within inside (ahead pc to branch i within inside edge) (number-last pc (start_of image.routines (r + 1)) branch within.below) edge e;
-}
+-- where rows have flowed along the edges that lead ahead, and fit along the others, they fit along all
+pub ahead-fits : (image : Parts) (r : ℕ) (known : List (Option Row)) → FitAhead image r known (2 * start_of image.routines (r + 1)) → BackFit image r known → AllFit image r known
+ahead-fits image r known F back = record { entry = F.entry; edges = fit }
+  where
+    flowed : (pc to : ℕ) (branch : Bool) (i : Instr) (row : Row) → IsPcOf image r pc → IsPcOf image r to → pc < to → Edge (instrs_of image) pc branch to i
+        → known_at known pc ≡ Some row → KnownAt known to (edge_row image i branch (clean row))
+    flowed pc to branch i row within inside lt edge e = F.edges pc to branch i row within inside lt (number-last pc (start_of image.routines (r + 1)) branch within.below) edge e
+
+    fit : (pc : ℕ) (branch : Bool) → IsPcOf image r pc → EdgeFits image r known pc branch
+    fit pc false within to i row edge inside e = flowed pc to false i row within inside (let next = edge.leads in omega (arith, next)) edge e
+    fit pc true within to i row edge inside e = elim (back pc within) [
+      | inl ahead ↦ flowed pc to true i row within inside (ahead to i inside edge) edge e
+      | inr fits ↦ fits to i row edge inside e
+    ]
+
+-- the edges to targets of the instructions of routine r before a pc lead ahead or fit
+abbrev pub BackFitBefore : Parts → ℕ → List (Option Row) → ℕ → Type 0
+BackFitBefore image r known limit = (pc : ℕ) → IsPcOf image r pc → pc < limit → TargetAhead image r pc ⊎ EdgeFits image r known pc true
+
+pub back-fits-more : (image : Parts) (r : ℕ) (known : List (Option Row)) (pc more : ℕ) → more ≡ pc + 1 → BackFitBefore image r known pc → TargetAhead image r pc ⊎ EdgeFits image r known pc true → BackFitBefore image r known more
+back-fits-more image r known pc more one before here k within lt = elim (cases_lt k pc) [
+  | inl earlier ↦ before k within earlier
+  | inr late ↦
+      let same : pc ≡ k = omega arith in
+      subst (λ (n : ℕ). TargetAhead image r n ⊎ EdgeFits image r known n true) same here
+]

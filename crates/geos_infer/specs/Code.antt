@@ -55,10 +55,6 @@ ClosedIn image r = (pc to : ℕ) (branch : Bool) (i : Instr) → IsPcOf image r 
 abbrev pub TargetAhead : Parts → ℕ → ℕ → Type 0
 TargetAhead image r pc = (to : ℕ) (i : Instr) → IsPcOf image r to → Edge (instrs_of image) pc true to i → pc < to
 
--- each edge of routine r that stays in it leads ahead
-abbrev pub NoneLeadsBack : Parts → ℕ → Type 0
-NoneLeadsBack image r = (pc to : ℕ) (branch : Bool) (i : Instr) → IsPcOf image r pc → IsPcOf image r to → Edge (instrs_of image) pc branch to i → pc < to
-
 -- Code without loops
 
 -- an edge of routine r leads to the pc

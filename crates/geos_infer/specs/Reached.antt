@@ -1,5 +1,5 @@
 -- Where control reaches in a routine, and rows that hold there.
-use Rattle.std.specs.Prelude.{◌≡◌, ◌<◌, ◌≤◌, ℕ, Bool, true, false, List, [], ◌∷◌, length, map, Option, Some, slice_get}
+use Rattle.std.specs.Prelude.{◌≡◌, ◌<◌, ◌≤◌, ◌⊎◌, ℕ, Bool, true, false, List, [], ◌∷◌, length, map, Option, Some, slice_get}
 use Rattle.geos_image.specs.declared.instr.Instr.{Instr}
 use Rattle.geos_image.specs.declared.row.Row.{Row}
 use Rattle.geos_image.specs.declared.point.Point.{Point}
@@ -7,7 +7,7 @@ use Rattle.geos_image.specs.declared.routine.Routine.{Routine}
 use Rattle.geos_image.specs.Parts.{Parts, start_of}
 use Rattle.geos_verify.specs.Rows.{fits}
 use Rattle.geos_verify.specs.Rules.{names_empty_slot, leaves_routine, edge_misfits, HasPoint}
-use Rattle.geos_infer.specs.Code.{Edge, IsPcOf, instrs_of, edge_row}
+use Rattle.geos_infer.specs.Code.{Edge, IsPcOf, TargetAhead, instrs_of, edge_row}
 use Rattle.geos_infer.specs.Joins.{clean}
 use Rattle.geos_infer.specs.Flow.{known_at, KnownAt, StaysBefore}
 
@@ -61,6 +61,10 @@ RowsThatHoldPass = (image : Parts) (r pc : ℕ) (routine : Routine) (point : Poi
 -- what is known behind an edge of the instruction at a pc of routine r fits what is known where it leads, if that is in the routine
 abbrev pub EdgeFits : Parts → ℕ → List (Option Row) → ℕ → Bool → Type 0
 EdgeFits image r known pc branch = (to : ℕ) (i : Instr) (row : Row) → Edge (instrs_of image) pc branch to i → IsPcOf image r to → known_at known pc ≡ Some row → KnownAt known to (edge_row image i branch (clean row))
+
+-- what is known behind each edge of routine r to a target fits what is known there, unless the target lies ahead
+abbrev pub BackFit : Parts → ℕ → List (Option Row) → Type 0
+BackFit image r known = (pc : ℕ) → IsPcOf image r pc → TargetAhead image r pc ⊎ EdgeFits image r known pc true
 
 -- the entry row of routine r fits what is known where it begins, and what is known behind each edge fits what is known where that leads
 pub record AllFit (image : Parts) (r : ℕ) (known : List (Option Row)) : Type 0 where

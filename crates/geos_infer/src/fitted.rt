@@ -1,12 +1,13 @@
 //! Whether what was found in a routine holds.
 
 ghost use Rattle.std.specs.Prelude.{◌≡◌, ◌<◌, ◌↔◌, true};
+ghost use Rattle.geos_infer.specs.Code.{ForwardIn};
 ghost use Rattle.geos_infer.specs.Flow.{fits_known};
-ghost use Rattle.geos_infer.specs.Reached.{EdgeFits, AllFit};
+ghost use Rattle.geos_infer.specs.Reached.{EdgeFits, BackFit, AllFit};
 
 use crate::body::Body;
 use crate::common::clean;
-use crate::edges::edge_end;
+use crate::edges::{edge_end, leads_back};
 use crate::table::Known;
 use geos_image::Row;
 use geos_verify::{after, fits, has_edge};
@@ -38,6 +39,19 @@ fn edge_fits(body: &Body, pc: u16, branch: bool, known: &Known) -> bool
     } else {
         true
     }
+}
+
+/// Whether what is known behind each edge of a routine that leads back fits what is known where that leads.
+pub(crate) fn back_edges_fit(body: &Body, known: &Known) -> bool
+    ensures none { ForwardIn body.now.image.now body.now.r → result ≡ true }
+    ensures fit { result ≡ true → BackFit body.now.image.now body.now.r known.now }
+{
+    for pc in body.start..body.end {
+        if leads_back(body, pc) && !edge_fits(body, pc, true, known) {
+            return false;
+        }
+    }
+    true
 }
 
 /// Whether the entry row of a routine fits what is known where it begins, and what is known behind each

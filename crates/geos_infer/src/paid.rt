@@ -1,11 +1,9 @@
-//! Whether edges are paid for, and how many of them lead back.
+//! Whether edges are paid for.
 
-ghost use Rattle.std.specs.Prelude.{◌≡◌, ◌<◌, ◌≤◌};
-ghost use Rattle.geos_infer.specs.Code.{ForwardIn, NoneLeadsBack};
+ghost use Rattle.std.specs.Prelude.{◌<◌, ◌≤◌};
 
 use crate::asked::asked_over;
 use crate::body::Body;
-use crate::edges::leads_back;
 use crate::table::{Known, Potentials};
 
 /// Whether an edge is paid for, if the instruction at the pc has it and it stays in the routine.
@@ -30,19 +28,4 @@ pub(crate) fn are_paid(body: &Body, known: &Known, potentials: &Potentials) -> b
         }
     }
     true
-}
-
-/// How many edges of a routine lead back.
-pub(crate) fn back_edges(body: &Body) -> u32
-    ensures few { result ≤ 4096 }
-    ensures none { ForwardIn body.now.image.now body.now.r → result ≡ 0 }
-    ensures ahead { result ≡ 0 → NoneLeadsBack body.now.image.now body.now.r }
-{
-    let mut edges = 0;
-    for pc in body.start..body.end {
-        if leads_back(body, pc) {
-            edges += 1;
-        }
-    }
-    edges
 }

@@ -8,9 +8,8 @@ ghost use Rattle.geos_infer.specs.Solutions.{NoRowsHoldIn};
 use crate::body::{Body, body_of};
 use crate::descent::descend;
 use crate::edges::leads_back;
-use crate::fitted::all_fit;
+use crate::fitted::{all_fit, back_edges_fit};
 use crate::flow::flow;
-use crate::paid::back_edges;
 use crate::rounds::flow_on;
 use crate::seeds::seed_entry;
 use crate::table::{Known, two_tables};
@@ -67,12 +66,12 @@ fn search(body: &Body, tables: &mut Tables, found: &mut Known) -> bool
     if !flow(body, found) {
         return false;
     }
-    if back_edges(body) == 0 {
-        // Rows have flowed along each edge, and fit along it.
+    if back_edges_fit(body, found) {
+        // Rows have flowed along each edge that leads ahead, and fit along it.
         return true;
     }
     // Rows that flowed till nothing new came fit along all edges, and still do when they have come
-    // down. Where edges lead back that is not proved of the search: so each edge is looked at.
+    // down. That is not proved of the search: so each edge is looked at.
     settle(body, tables, found) && all_fit(body, found)
 }
 
