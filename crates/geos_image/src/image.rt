@@ -80,6 +80,14 @@ impl Image {
         }
     }
 
+    /// The image of routines and points that are known to be such as the format allows: nothing is looked at.
+    pub fn of_legal(routines: Vec<Routine>, points: Vec<Point>) -> Image
+        requires { is_image (record { routines = routines.items; points = points.items }) ≡ true }
+        ensures { result ≡ record { routines = routines.items; points = points.items } }
+    {
+        Image { routines, points }
+    }
+
     /// How many routines there are, 1 to 32.
     pub fn count(&self) -> u16
         ensures count { result ≡ length self.now.routines }

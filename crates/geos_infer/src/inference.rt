@@ -79,10 +79,7 @@ pub fn infer(alloc: Global, skeleton: &Image) -> Result<Image, InferError>
         points_of(alloc, skeleton, &known, &potentials)?
     };
     let routines = routines_of(alloc, skeleton)?;
-    match Image::new(routines, points) {
-        Some(image) => Ok(image),
-        None => unreachable!(),
-    }
+    Ok(Image::of_legal(routines, points))
 }
 
 /// A law: where the rows of an image hold, the verifier's rules on rows pass wherever control reaches. No

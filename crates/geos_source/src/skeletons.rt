@@ -48,8 +48,5 @@ pub fn skeleton(alloc: Global, parsed: &Parsed) -> Result<Image, AllocError>
 {
     let routines = routines_of(alloc, &parsed.routines)?;
     let points = points_of(alloc, &parsed.instrs)?;
-    match Image::new(routines, points) {
-        Some(image) => Ok(image),
-        None => unreachable!(),
-    }
+    Ok(Image::of_legal(routines, points))
 }

@@ -1,5 +1,4 @@
 use Rattle.std.proofs.Common.{ℕ, sym, subst, arith}
-use Rattle.std.proofs.lemmas.Bool.{false≢true}
 use Rattle.geos_image.specs.Parts.{Parts}
 use Rattle.geos_infer.specs.Flow.{HaveFlowed}
 use Rattle.geos_infer.specs.Count.{AreCounted}
@@ -19,25 +18,25 @@ returns-in-Err-clause-none c = λ r e.
 pub returns-in-Err-clause-stuck : goal.returns-in-Err-clause-stuck
 returns-in-Err-clause-stuck c = λ r e. (stuck-in c.args.skeleton.now r c.in_ok-known.routines c.in-Err.error c.in-Err.ensures.within e c.in_ok-known.ensures.none (c.in-Err.ensures.none r e)).1
 
-pub unreachable-requires : goal.unreachable-requires
-unreachable-requires c =
+pub of_legal-requires : goal.of_legal-requires
+of_legal-requires c =
     let image = c.args.skeleton.now in
     let points = c.in_ok-points.points.items in
     let legal = found-legal image c.in_ok-known.known (numbers_of c.in-Ok.potentials) points c.len-legal.ensures.legal c.in_ok-points.ensures in
-    absurd (false≢true (c.in-None.ensures.some.1 (made-legal image c.in_ok-routines.routines.items points c.in_ok-routines.ensures legal)))
+    made-legal image c.in_ok-routines.routines.items points c.in_ok-routines.ensures legal
 
 pub returns-clause-code : goal.returns-clause-code
 returns-clause-code c =
     let image = c.args.skeleton.now in
     let points = c.in_ok-points.points.items in
-    let is = made-is image c.in-Some.image c.in_ok-routines.routines.items points c.in_ok-routines.ensures c.in-Some.ensures.value in
-    made-code image c.in-Some.image points is (found-code image c.in_ok-known.known (numbers_of c.in-Ok.potentials) points c.in_ok-points.ensures)
+    let is = made-is image c.of_legal.result c.in_ok-routines.routines.items points c.in_ok-routines.ensures c.of_legal.ensures in
+    made-code image c.of_legal.result points is (found-code image c.in_ok-known.known (numbers_of c.in-Ok.potentials) points c.in_ok-points.ensures)
 
 pub returns-clause-found : goal.returns-clause-found
 returns-clause-found c =
     let image = c.args.skeleton.now in
     let points = c.in_ok-points.points.items in
-    let is = made-is image c.in-Some.image c.in_ok-routines.routines.items points c.in_ok-routines.ensures c.in-Some.ensures.value in
+    let is = made-is image c.of_legal.result c.in_ok-routines.routines.items points c.in_ok-routines.ensures c.of_legal.ensures in
     let all = c.in-Ok.ensures.all in
     let flowed = subst (λ (n : ℕ). HaveFlowed image c.in_ok-known.known n) all (c.in_ok-known.ensures.found all) in
     let counted = subst (λ (n : ℕ). AreCounted image 0 n (numbers_of c.in-Ok.potentials)) all c.in-Ok.ensures.counted in
@@ -49,7 +48,7 @@ returns-clause-rows c =
     let image = c.args.skeleton.now in
     let known = c.in_ok-known.known in
     let points = c.in_ok-points.points.items in
-    let is = made-is image c.in-Some.image c.in_ok-routines.routines.items points c.in_ok-routines.ensures c.in-Some.ensures.value in
+    let is = made-is image c.of_legal.result c.in_ok-routines.routines.items points c.in_ok-routines.ensures c.of_legal.ensures in
     let codes = found-code image known (numbers_of c.in-Ok.potentials) points c.in_ok-points.ensures in
     let hold : AllHoldWhereReached (with_points image points) = (λ r lt. fit-holds image known (numbers_of c.in-Ok.potentials) points c.in_ok-points.ensures codes r (c.in_ok-known.ensures.fit r (let all = c.in-Ok.ensures.all in omega arith))) in
     subst AllHoldWhereReached (sym is) hold
