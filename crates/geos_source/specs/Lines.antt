@@ -1,5 +1,6 @@
 -- What a line says: its labels, and the words behind them.
-use Rattle.std.specs.Prelude.{ℕ, List, [], ◌∷◌, Option, Some, None}
+use Rattle.std.specs.Prelude.{◌≡◌, ℕ, List, [], ◌∷◌, Option, Some, None, MatchOption}
+use Rattle.std.specs.Borrow.{Bor}
 use Rattle.geos_text.specs.Words.{words, without_comment}
 use Rattle.geos_source.specs.Names.{label_of}
 
@@ -21,3 +22,7 @@ behind_label (Some name) word words rest = record { labels = name ∷ rest.label
 abbrev pub parted : List (List ℕ) → Line
 parted [] = record { labels = []; statement = [] }
 parted (word ∷ words) = behind_label (label_of word) word words (parted words)
+
+-- a statement as it is read: its first word and the line behind it, or nothing where it has no word
+abbrev pub IsStatement : List (List ℕ) → Option (Bor (List ℕ) × Bor (List ℕ)) → Type 0
+IsStatement statement read = MatchOption read (statement ≡ []) (λ r. statement ≡ r.0.now ∷ words r.1.now)

@@ -1,9 +1,9 @@
 //! What the names of a text stand for, and the first name that is used twice.
 
-ghost use Rattle.std.specs.Prelude.{◌≡◌, ◌+◌, min, IfOk};
+ghost use Rattle.std.specs.Prelude.{◌≡◌, ◌+◌, ◌∷◌, min, IfOk};
 ghost use Rattle.std.specs.Str.Lines.{lines};
 ghost use Rattle.geos_text.specs.Words.{words};
-ghost use Rattle.geos_source.specs.Lines.{parted};
+ghost use Rattle.geos_source.specs.Lines.{parted, IsStatement};
 ghost use Rattle.geos_source.specs.Declarations.{nothing, twice, with_label, with_labels, name_in_front, with_routine_name, is_row_word, with_statement, with_line, declared};
 ghost use Rattle.geos_source.specs.Views.{declared_of};
 
@@ -83,20 +83,24 @@ impl Declarations {
         Ok(())
     }
 
-    /// Declares the labels in front of a line; what stands behind them.
-    fn add_labels<'a>(&mut self, line: usize, said: &'a [u8]) -> Result<&'a [u8], AllocError>
-        ensures statement { IfOk result (λ rest. words rest.now ≡ (parted (words said.now)).statement) }
+    /// Declares the labels in front of a line; the first word behind them with what stands behind it.
+    fn add_labels<'a>(
+        &mut self,
+        line: usize,
+        said: &'a [u8],
+    ) -> Result<Option<(&'a [u8], &'a [u8])>, AllocError>
+        ensures statement { IfOk result (IsStatement (parted (words said.now)).statement) }
         ensures labels { IfOk result (λ _. declared_of self.new ≡ with_labels line (parted (words said.now)).labels (declared_of self.old)) }
     {
         let mut rest = said;
         while let Some((word, behind)) = first_word(rest) {
             let Some(name) = label_of(word) else {
-                return Ok(rest);
+                return Ok(Some((word, behind)));
             };
             self.add_label(line, name)?;
             rest = behind;
         }
-        Ok(rest)
+        Ok(None)
     }
 
     /// A routine's name stands for its place among the routines.
@@ -111,12 +115,9 @@ impl Declarations {
         Ok(())
     }
 
-    fn add_statement(&mut self, line: usize, statement: &[u8]) -> Result<(), AllocError>
-        ensures { IfOk result (λ _. declared_of self.new ≡ with_statement line (words statement.now) (declared_of self.old)) }
+    fn add_statement(&mut self, line: usize, word: &[u8], rest: &[u8]) -> Result<(), AllocError>
+        ensures { IfOk result (λ _. declared_of self.new ≡ with_statement line (word.now ∷ words rest.now) (declared_of self.old)) }
     {
-        let Some((word, rest)) = first_word(statement) else {
-            return Ok(());
-        };
         if word == b"routine".as_slice() {
             self.add_routine_name(line, name_in_front(rest))?;
             self.routines = one_more(self.routines, MOST_ROUTINES);
@@ -130,8 +131,10 @@ impl Declarations {
     fn add_line(&mut self, number: usize, line: &[u8]) -> Result<(), AllocError>
         ensures { IfOk result (λ _. declared_of self.new ≡ with_line number line.now (declared_of self.old)) }
     {
-        let statement = self.add_labels(number, without_comment(line))?;
-        self.add_statement(number, statement)
+        match self.add_labels(number, without_comment(line))? {
+            None => Ok(()),
+            Some((word, rest)) => self.add_statement(number, word, rest),
+        }
     }
 }
 

@@ -1,6 +1,6 @@
 //! What the lines of a text say, one after another.
 
-ghost use Rattle.std.specs.Prelude.{◌≡◌, IfOk, not};
+ghost use Rattle.std.specs.Prelude.{◌≡◌, ◌∷◌, IfOk, not};
 ghost use Rattle.std.specs.Str.Lines.{lines};
 ghost use Rattle.geos_text.specs.Words.{words};
 ghost use Rattle.geos_source.specs.Readings.{names_of};
@@ -14,7 +14,7 @@ use crate::lines::behind_labels;
 use crate::operands::{Names, instruction};
 use crate::progress::{Progress, TextRoutine};
 use geos_image::{Instr, MOST_INSTRS, MOST_ROUTINES, Routine};
-use geos_text::{first_line, first_word, without_comment};
+use geos_text::{first_line, without_comment};
 use std::alloc::{AllocError, Global};
 
 /// What the lines so far say.
@@ -94,13 +94,11 @@ impl Draft {
         &mut self,
         names: &Names,
         line: usize,
-        statement: &[u8],
+        word: &[u8],
+        rest: &[u8],
     ) -> Result<(), AllocError>
-        ensures { IfOk result (λ _. draft_in self.new ≡ take_statement (names_of names.now) line (words statement.now) (draft_in self.old)) }
+        ensures { IfOk result (λ _. draft_in self.new ≡ take_statement (names_of names.now) line (word.now ∷ words rest.now) (draft_in self.old)) }
     {
-        let Some((word, rest)) = first_word(statement) else {
-            return Ok(());
-        };
         if word == b"routine".as_slice() {
             self.close()?;
             self.begin(line, header(rest));
@@ -122,7 +120,10 @@ impl Draft {
     {
         let (has_labels, statement) = behind_labels(without_comment(line));
         self.progress = self.progress.take_labels(number, has_labels);
-        self.take_statement(names, number, statement)
+        match statement {
+            None => Ok(()),
+            Some((word, rest)) => self.take_statement(names, number, word, rest),
+        }
     }
 }
 

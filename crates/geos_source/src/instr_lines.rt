@@ -1,25 +1,17 @@
 //! Which lines of a text have an instruction.
 
-ghost use Rattle.std.specs.Prelude.{◌≡◌, IfOk};
-ghost use Rattle.geos_text.specs.Words.{words};
+ghost use Rattle.std.specs.Prelude.{◌≡◌, [], ◌∷◌, IfOk};
 ghost use Rattle.geos_source.specs.InstrLines.{is_instr, has_instr, instr_lines};
 
 use crate::lines::behind_labels;
-use geos_text::{first_line, first_word, without_comment};
+use geos_text::{first_line, without_comment};
 use std::alloc::{AllocError, Global};
 
-/// Whether the statement begins with a word that is none of `routine`, `in` and `out`.
-fn is_instr(statement: &[u8]) -> bool
-    ensures { result ≡ is_instr (words statement.now) }
+/// Whether a statement that begins with this word is an instruction: the word is none of `routine`, `in` and `out`.
+fn is_instr(word: &[u8]) -> bool
+    ensures { result ≡ is_instr (word.now ∷ []) }
 {
-    match first_word(statement) {
-        Some((word, _)) => {
-            !(word == b"routine".as_slice()
-                || word == b"in".as_slice()
-                || word == b"out".as_slice())
-        }
-        None => false,
-    }
+    !(word == b"routine".as_slice() || word == b"in".as_slice() || word == b"out".as_slice())
 }
 
 /// Whether the line has an instruction.
@@ -28,7 +20,10 @@ fn has_instr(line: &[u8]) -> bool
     ensures { result ≡ has_instr line.now }
 {
     let (_, statement) = behind_labels(without_comment(line));
-    is_instr(statement)
+    match statement {
+        None => false,
+        Some((word, _)) => is_instr(word),
+    }
 }
 
 /// The numbers of the text's lines that have an instruction, from 1. In a text without fault these are the lines of
