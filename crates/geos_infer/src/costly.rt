@@ -51,12 +51,21 @@ fn go_along(ways: &mut Ways, pc: u16, branch: bool) -> bool
     true
 }
 
-/// The same over each edge of a routine.
-fn go_along_all(body: &Body, ways: &mut Ways) -> bool {
-    let mut changed = false;
+/// The same over each edge of a routine, from the first place to the last: so nothing is left to be new behind those that lead ahead.
+fn go_ahead(body: &Body, ways: &mut Ways) {
     for pc in body.start..body.end {
-        changed |= go_along(ways, pc, false);
-        changed |= go_along(ways, pc, true);
+        go_along(ways, pc, false);
+        go_along(ways, pc, true);
+    }
+}
+
+/// The same over each edge that leads back, from the last place to the first; whether something is new.
+fn go_back(body: &Body, ways: &mut Ways) -> bool {
+    let mut changed = false;
+    for pc in (body.start..body.end).rev() {
+        if ways.place(pc).leads_back(pc) {
+            changed |= go_along(ways, pc, true);
+        }
     }
     changed
 }
@@ -75,11 +84,13 @@ fn is_free(i: &Instr, costly: &[bool; 4]) -> bool {
 /// Notes which counters cost something at each place of a routine, at which LOOPs theirs does not, and how many other LOOPs there
 /// are before each place.
 pub(crate) fn note_costly(body: &Body, ways: &mut Ways) {
-    // A way that passes no place twice goes along each edge back once at most, and the last time nothing is new.
-    for _ in 0..MOST_INSTRS + 2 {
-        if !go_along_all(body, ways) {
+    go_ahead(body, ways);
+    // A way that passes no place twice goes along each edge back once at most.
+    for _ in 0..MOST_INSTRS {
+        if !go_back(body, ways) {
             break;
         }
+        go_ahead(body, ways);
     }
     let mut loops: u16 = 0;
     for pc in body.start..body.end {

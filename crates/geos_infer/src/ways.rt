@@ -123,6 +123,14 @@ impl Place {
         let [along, branching] = self.arcs;
         if branch { branching } else { along }
     }
+
+    /// Whether the edge to the target of the place, which is that at a pc, leads back, or to the place itself.
+    pub(crate) fn leads_back(&self, pc: u16) -> bool {
+        match self.arc(true) {
+            Some(arc) => arc.to <= pc,
+            None => false,
+        }
+    }
 }
 
 /// Notes the edges of a routine, where nothing else is found yet. Nothing is known of counters where it begins, so that all
