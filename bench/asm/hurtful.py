@@ -44,6 +44,8 @@ def texts():
     yield "2,040 loops round a way back that nothing pays", [*HEAD, *heads(n), "c: BEQ w0 w1 c", *loops(reversed(range(n))), "RET"]
     yield "2,000 blocks back, one after another", chain(2000, [*words, "SETK k0 65535", "JMP b1999"])
     yield "the same, reached by nothing", chain(2000, ["RET"])
+    back = [f"b{i}: JMP " + (f"b{i - 1}" if 0 < i else "x") for i in range(4090)]
+    yield "4,090 jumps back, one after another", [*HEAD, "JMP b4089", *back, "x: RET"]
     yield "1 MiB of labels", [*HEAD, *(f"L{i}:" for i in range(115_000)), "RET"]
     yield "1 MiB of one digit", [*HEAD, "LDI w0 " + "0" * 1_048_000 + "1", "RET"]
     yield "1 MiB of items of an entry row", [*HEAD, "in " + "w0<=9 " * 170_000, "RET"]
