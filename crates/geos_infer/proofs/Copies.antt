@@ -1,8 +1,7 @@
 -- Lists that are made item after item from the routines and points of an image.
-use Rattle.std.proofs.Common.{◌≡◌, ◌∙◌, ◌<◌, ◌≤◌, ℕ, zero, suc, ◌+◌, ◌-◌, List, [], ◌∷◌, ◌++◌, length, take, replicate, Option, Some, true, slice_get, get_or, map, set, refl, sym, ap, subst, add-one, arith, inl, inr}
+use Rattle.std.proofs.Common.{◌≡◌, ◌∙◌, ◌<◌, ◌≤◌, ℕ, zero, suc, ◌+◌, ◌-◌, List, [], ◌∷◌, ◌++◌, length, take, replicate, Option, Some, true, slice_get, get_or, map, set, refl, sym, ap, subst, add-one, arith}
 use Rattle.std.specs.Prelude.{IfSome, slice_index, slice_index_or}
-use Rattle.std.proofs.lemmas.Bool.{cases_eq}
-use Rattle.std.proofs.lemmas.List.{get_or-set_same, get_or-set_other, length-append, length-set, append_assoc, replicate-append-replicate, set-append_left, map-set, length-replicate, take_all}
+use Rattle.std.proofs.lemmas.List.{length-append, length-set, append_assoc, replicate-append-replicate, set-append_left, map-set, length-replicate, take_all}
 use Rattle.std.proofs.lemmas.Option.{slice_get_within}
 use Rattle.geos_image.specs.declared.instr.Instr.{Instr}
 use Rattle.geos_image.specs.declared.point.Point.{Point}
@@ -48,13 +47,17 @@ module _ {A : Type 0} (x : A) where
   filled-set n pc y items lt =
       ap (λ (m : ℕ). set items pc y ++ replicate (n - m) x) (length-set items pc y) ∙ sym (set-append_left items (replicate (n - length items) x) pc y lt)
 
-  -- it is at one more place
-  pub filled-more : (items : List A) (low pc : ℕ) → pc < length items → ((k : ℕ) (other : A) → low ≤ k → k < pc → get_or items k other ≡ x)
-      → (k : ℕ) (other : A) → low ≤ k → k < pc + 1 → get_or (set items pc x) k other ≡ x
-  filled-more items low pc within filled k other above below = elim (cases_eq k pc) [
-    | inl same ↦ ap (λ (n : ℕ). get_or (set items pc x) n other) same ∙ get_or-set_same items pc x other within
-    | inr ne ↦ get_or-set_other items pc k x other ne ∙ filled k other above (omega arith)
-  ]
+  -- one more may be written behind them
+  pub filled-push : (n : ℕ) (y : A) (items : List A) → length items < n → filled n (items ++ y ∷ []) ≡ set (filled n items) (length items) y
+  filled-push n y items lt =
+      let more : filled n (items ++ x ∷ []) ≡ filled n items = filled-reach n 1 items (items ++ x ∷ []) (omega arith) refl in
+      let last : set (items ++ x ∷ []) (length items) y ≡ items ++ y ∷ [] = set-last items in
+      let within : length items < length (items ++ x ∷ []) = omega (arith, length-append items (x ∷ [])) in
+      ap (filled n) (sym last) ∙ filled-set n (length items) y (items ++ x ∷ []) within ∙ ap (λ (xs : List A). set xs (length items) y) more
+    where
+      set-last : (xs : List A) → set (xs ++ x ∷ []) (length xs) y ≡ xs ++ y ∷ []
+      set-last [] = refl
+      set-last (z ∷ xs) = ap (λ (ys : List A). z ∷ ys) (set-last xs)
 
 -- Potentials
 

@@ -11,7 +11,8 @@ use Rattle.geos_verify.proofs.Places.{item_at, if_some}
 use Rattle.geos_infer.specs.Joins.{clean}
 use Rattle.geos_infer.specs.Code.{Edge, IsPcOf, TargetAhead, instrs_of, edge_end, edge_row}
 use Rattle.geos_infer.specs.Flow.{known_at, KnownAt, fits_known, edge_number, FitAhead}
-use Rattle.geos_infer.specs.Reached.{EdgeFits, BackFit, AllFit}
+use Rattle.geos_infer.specs.Reached.{EdgeFits, BackFit, AllFit, Copies}
+use Rattle.geos_infer.specs.declared.body.Body.{Body}
 use Rattle.geos_infer.proofs.Ends.{code-at, after-edge}
 
 -- What is known where a row comes
@@ -127,3 +128,18 @@ back-fits-more image r known pc more one before here k within lt = elim (cases_l
       let same : pc ≡ k = omega arith in
       subst (λ (n : ℕ). TargetAhead image r n ⊎ EdgeFits image r known n true) same here
 ]
+
+-- where the rows are those of another table that fit, they fit
+pub copies-fit : (image : Parts) (r : ℕ) (from known next : List (Option Row)) → start_of image.routines r < start_of image.routines (r + 1) → Copies (start_of image.routines r) (start_of image.routines (r + 1)) from known next
+    → AllFit image r from → AllFit image r next
+copies-fit image r from known next some C A = record {
+  entry = λ routine there. there-too (start_of image.routines r) routine.entry (record { above = omega arith; below = omega (arith, some) }) (A.entry routine there);
+  edges = λ pc branch within to i row edge inside e. there-too to (edge_row image i branch (clean row)) inside (A.edges pc branch within to i row edge inside (sym (C.same pc within.above within.below) ∙ e));
+}
+  where
+    there-too : (pc : ℕ) (row : Row) → IsPcOf image r pc → KnownAt from pc row → KnownAt next pc row
+    there-too pc row within K = record { known_row = K.known_row; read = C.same pc within.above within.below ∙ K.read; fits = K.fits }
+
+-- the same of a body as of its routine
+pub copies-in : (body : Body) (from known next : List (Option Row)) → Copies body.start body.end from known next → Copies (start_of body.image.now.routines body.r) (start_of body.image.now.routines (body.r + 1)) from known next
+copies-in body from known next C = subst (λ (n : ℕ). Copies n (start_of body.image.now.routines (body.r + 1)) from known next) body.begins (subst (λ (n : ℕ). Copies body.start n from known next) body.ends C)

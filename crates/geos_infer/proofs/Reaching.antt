@@ -21,7 +21,7 @@ use Rattle.geos_infer.specs.Flow.{row_of, known_at, KnownAt, Flowing, AllKnown, 
 use Rattle.geos_infer.specs.Numbers.{Numbers}
 use Rattle.geos_infer.specs.Points.{PointsOf}
 use Rattle.geos_infer.specs.Theorem.{with_points}
-use Rattle.geos_infer.specs.Reached.{LeadWithin, IsReached, HoldWhereReached, row_in, rows_of, RowRulesPass, AllFit, FitWhereReached, Keeps}
+use Rattle.geos_infer.specs.Reached.{LeadWithin, IsReached, HoldWhereReached, row_in, rows_of, RowRulesPass, AllFit, FitWhereReached, Copies, Keeps}
 use Rattle.geos_infer.proofs.Accepting.{at-point-true}
 use Rattle.geos_infer.proofs.Bodies.{lies}
 use Rattle.geos_infer.proofs.Cleaning.{clean-least}
@@ -81,6 +81,21 @@ keeps-more start pc more found known next o one low within here K = record {
   ];
   stays = λ k lt. (let ne : k ≢ pc = (λ same. absurd (omega arith)) in get_or-set_other next pc k o None ne ∙ K.stays k lt);
 }
+
+-- one more place is where it stands there already
+pub keeps-same : (start pc more : ℕ) (found known next : List (Option Row)) → more ≡ pc + 1 → known_at next pc ≡ known_at found pc → Keeps start pc found known next → Keeps start more found known next
+keeps-same start pc more found known next one here K = record {
+  len = K.len;
+  kept = λ k row above below e. elim (cases_eq k pc) [
+    | inl same ↦ ap (known_at next) same ∙ here ∙ ap (known_at found) (sym same) ∙ e
+    | inr ne ↦ K.kept k row above (omega arith) e
+  ];
+  stays = K.stays;
+}
+
+-- what is copied is kept
+pub copies-keep : (start end : ℕ) (found known next : List (Option Row)) → Copies start end found known next → Keeps start end found known next
+copies-keep start end found known next C = record { len = C.len; kept = λ pc row above below e. C.same pc above below ∙ e; stays = C.stays }
 
 -- what is kept up to a later pc is up to an earlier one
 pub keeps-to : (start pc end : ℕ) (found known next : List (Option Row)) → end ≤ pc → Keeps start pc found known next → Keeps start end found known next

@@ -1,6 +1,6 @@
 -- The entry row of a routine is known where it begins.
-use Rattle.std.proofs.Common.{◌≡◌, ◌≢◌, ℕ, ◌+◌, ◌-◌, ◌*◌, ◌<◌, ◌≤◌, Bool, true, false, List, length, Option, Some, None, slice_get, set, sym, ap, ◌∙◌, subst, arith, inl, inr}
-use Rattle.std.proofs.lemmas.Bool.{cases_lt}
+use Rattle.std.proofs.Common.{◌≡◌, ◌≢◌, ℕ, ◌+◌, ◌-◌, ◌*◌, ◌<◌, ◌≤◌, Bool, true, false, List, length, Option, Some, None, slice_get, set, sym, ap, ◌∙◌, subst, arith, refl, inl, inr}
+use Rattle.std.proofs.lemmas.Bool.{cases_eq, cases_lt}
 use Rattle.std.proofs.lemmas.List.{get_or-set_same, get_or-set_other, length-set}
 use Rattle.std.proofs.lemmas.Option.{none-some}
 use Rattle.geos_image.specs.declared.row.Row.{Row}
@@ -8,6 +8,7 @@ use Rattle.geos_image.specs.declared.routine.Routine.{Routine}
 use Rattle.geos_image.specs.Parts.{Parts, start_of}
 use Rattle.geos_infer.specs.Code.{IsPcOf, instrs_of}
 use Rattle.geos_infer.specs.Flow.{known_at, edge_number, Seeded, FitAhead, AllBelow}
+use Rattle.geos_infer.specs.Reached.{Copies}
 use Rattle.geos_infer.specs.Solutions.{RowsHoldIn}
 use Rattle.geos_verify.specs.Rows.{fits}
 use Rattle.geos_infer.proofs.Fits.{fits-refl}
@@ -53,3 +54,22 @@ seeds-fit image r known S = record {
     before : (pc : ℕ) (b : Bool) → IsPcOf image r pc → edge_number pc b < 2 * start_of image.routines r → ⊥
     before pc true within less = let low = within.above in omega arith
     before pc false within less = let low = within.above in omega arith
+
+-- Rows of another table
+
+pub copies-none : (start : ℕ) (from known : List (Option Row)) → Copies start start from known known
+copies-none start from known = record { len = refl; same = λ pc low high. absurd (omega arith); stays = λ k lt. refl }
+
+-- one more of them is copied
+pub copies-more : (start pc more : ℕ) (from known next : List (Option Row)) (o : Option Row) → more ≡ pc + 1 → start ≤ pc → pc < length next → o ≡ known_at from pc → Copies start pc from known next → Copies start more from known (set next pc o)
+copies-more start pc more from known next o one low within here C = record {
+  len = length-set next pc o ∙ C.len;
+  same = λ k above below. elim (cases_eq k pc) [
+    | inl same ↦ ap (known_at (set next pc o)) same ∙ get_or-set_same next pc o None within ∙ here ∙ ap (known_at from) (sym same)
+    | inr ne ↦ get_or-set_other next pc k o None ne ∙ C.same k above (omega arith)
+  ];
+  stays = λ k lt. let ne : k ≢ pc = (λ same. absurd (omega arith)) in get_or-set_other next pc k o None ne ∙ C.stays k lt;
+}
+
+pub copies-to : (start pc end : ℕ) (from known next : List (Option Row)) → end ≤ pc → Copies start pc from known next → Copies start end from known next
+copies-to start pc end from known next le C = record { len = C.len; same = λ k above below. C.same k above (omega arith); stays = C.stays }

@@ -77,6 +77,12 @@ pub record FitWhereReached (image : Parts) (r : ℕ) (known : List (Option Row))
   pub edges : (pc : ℕ) (branch : Bool) → IsReached image r pc → EdgeFits image r known pc branch
   pub there : (pc : ℕ) → IsReached image r pc → (row : Row) × (known_at known pc ≡ Some row)
 
+-- what is known next from a pc up to another is what another table has there, and what was known before the former stays
+pub record Copies (start end : ℕ) (from known next : List (Option Row)) : Type 0 where
+  pub len : length next ≡ length known
+  pub same : (pc : ℕ) → start ≤ pc → pc < end → known_at next pc ≡ known_at from pc
+  pub stays : StaysBefore start known next
+
 -- what was found from a pc up to another is known next, and what was known before the former stays
 pub record Keeps (start end : ℕ) (found known next : List (Option Row)) : Type 0 where
   pub len : length next ≡ length known

@@ -23,7 +23,7 @@ fn leads_back_unpaid(body: &Body) -> bool
 
 /// Counts the edges into each place of a routine.
 fn count_edges(body: &Body, into: &mut Table<WaysIn>) {
-    into.fill(body.start, body.end - 1, WaysIn::with_left(0));
+    into.fill_from(body.start, WaysIn::with_left(0));
     for pc in body.start..body.end {
         for branch in [false, true] {
             if let Some(to) = lead_unpaid(body, pc, branch) {

@@ -3,7 +3,7 @@
 use crate::body::Body;
 use crate::edges::edge_in;
 use crate::flow::{flow, spread};
-use crate::seeds::seed_entry;
+use crate::seeds::{copy_rows, seed_entry};
 use crate::table::Known;
 
 /// What was given up may come back one loop further in at each descent.
@@ -34,9 +34,7 @@ pub(crate) fn descend(body: &Body, from: &mut Known, known: &mut Known) -> bool 
         if !seed(body, known, from) {
             return false;
         }
-        for pc in body.start..body.end {
-            known.set(pc, from.at(pc));
-        }
+        copy_rows(body, from, known);
         if !flow(body, known) {
             return false;
         }

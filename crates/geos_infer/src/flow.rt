@@ -5,7 +5,7 @@ ghost use Rattle.geos_image.specs.Legal.{is_row};
 ghost use Rattle.geos_image.specs.Parts.{start_of};
 ghost use Rattle.geos_verify.specs.Rows.{after};
 ghost use Rattle.geos_infer.specs.Edges.{IsInside};
-ghost use Rattle.geos_infer.specs.Flow.{row_of, has_joined, IsJoin, HaveNoJoin, Arrives, Spreads, Seeded, FlowsBelow, FitAhead};
+ghost use Rattle.geos_infer.specs.Flow.{row_of, has_joined, IsJoin, HaveNoJoin, Arrives, Spreads, Seeded, FlowsBelow, FitAhead, StaysBefore};
 ghost use Rattle.geos_infer.specs.Joins.{clean};
 
 use crate::body::Body;
@@ -71,7 +71,8 @@ impl Arrival {
 /// A row comes to a place, and is joined with what is known there.
 fn arrive(known: &mut Known, to: u16, row: &Row) -> Arrival
     requires { to < 4096 }
-    ensures { Arrives result known.old to row.now known.new }
+    ensures arrives { Arrives result known.old to row.now known.new }
+    ensures stays { StaysBefore to known.old known.new }
 {
     let old = known.at(to);
     let Some(joined) = join_known(&old, row) else {
@@ -88,7 +89,8 @@ fn arrive(known: &mut Known, to: u16, row: &Row) -> Arrival
 /// leads.
 pub(crate) fn spread(body: &Body, edge: Edge, row: &Row, known: &mut Known) -> Arrival
     requires { IsInside body.now.image.now body.now.end edge.pc edge.branch edge }
-    ensures { Arrives result known.old edge.to (after body.now.image.now edge.pc (clean row.now) edge.branch) known.new }
+    ensures arrives { Arrives result known.old edge.to (after body.now.image.now edge.pc (clean row.now) edge.branch) known.new }
+    ensures stays { StaysBefore edge.to known.old known.new }
 {
     let next = after(body.image, edge.pc, &clean(row), edge.branch);
     arrive(known, edge.to, &next)
@@ -99,7 +101,8 @@ pub(crate) fn spread(body: &Body, edge: Edge, row: &Row, known: &mut Known) -> A
 fn spread_ahead(body: &Body, pc: u16, branch: bool, known: &mut Known) -> bool
     requires above { body.now.start ≤ pc }
     requires below { pc < body.now.end }
-    ensures { Spreads body.now.image.now body.now.r pc branch known.old known.new result }
+    ensures spreads { Spreads body.now.image.now body.now.r pc branch known.old known.new result }
+    ensures stays { StaysBefore pc known.old known.new }
 {
     let Some(row) = known.at(pc) else {
         return true;
@@ -119,6 +122,7 @@ pub(crate) fn flow(body: &Body, known: &mut Known) -> bool
     ensures below { Seeded body.now.image.now body.now.r known.old → FlowsBelow body.now.image.now body.now.r known.new result }
     ensures fit { Seeded body.now.image.now body.now.r known.old → result ≡ true
         → FitAhead body.now.image.now body.now.r known.new (2 * start_of body.now.image.now.routines (body.now.r + 1)) }
+    ensures stays { StaysBefore body.now.start known.old known.new }
 {
     for pc in body.start..body.end {
         if !spread_ahead(body, pc, false, known) {

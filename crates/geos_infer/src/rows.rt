@@ -11,16 +11,18 @@ use crate::edges::leads_back;
 use crate::fitted::{all_fit, back_edges_fit};
 use crate::flow::flow;
 use crate::rounds::flow_on;
-use crate::seeds::seed_entry;
+use crate::seeds::{copy_rows, seed_entry};
 use crate::table::{Known, two_tables};
 use crate::waiting::Waiting;
 use crate::weakened::weaken;
 use geos_image::Image;
 use std::alloc::{AllocError, Global};
 
-/// What is written anew for each routine in which edges lead back, or that has places that nothing reaches.
+/// What is written anew for each routine in which rows flow back, or that has places that nothing reaches.
 #[derive(Drop)]
 struct Tables {
+    /// Rows that flow on along the edges that lead back.
+    flowing: Known,
     /// The rows of the places that nothing reaches.
     others: Known,
     from: Known,
@@ -30,8 +32,10 @@ struct Tables {
 impl Tables {
     fn new(alloc: Global) -> Result<Tables, AllocError> {
         let waiting = Waiting::new(alloc)?;
+        let flowing = Known::new(alloc, None)?;
         let (others, from) = two_tables(alloc, None, None)?;
         Ok(Tables {
+            flowing,
             others,
             from,
             waiting,
@@ -50,64 +54,84 @@ fn wait_to_go_back(body: &Body, waiting: &mut Waiting) {
 }
 
 /// Rows of a routine flow on along the edges that lead back, and come down again; `false` where two have no join.
-fn settle(body: &Body, tables: &mut Tables, known: &mut Known) -> bool {
-    let Tables { from, waiting, .. } = tables;
-    wait_to_go_back(body, waiting);
-    // Rows that were not widened are the strongest that hold: none comes down again.
-    flow_on(body, waiting, known) && (!waiting.has_widened() || descend(body, from, known))
-}
-
-/// Finds what is known in a routine wherever control reaches; `false` where two rows have no join.
-fn search(body: &Body, tables: &mut Tables, found: &mut Known) -> bool
-    ensures flows { FlowsAnew body.now.image.now body.now.r found.new result }
-    ensures fit { result ≡ true → AllFit body.now.image.now body.now.r found.new }
+fn settle(body: &Body, tables: &mut Tables, known: &mut Known) -> bool
+    ensures fit { result ≡ true → AllFit body.now.image.now body.now.r known.new }
+    ensures stays { StaysBefore body.now.start known.old known.new }
 {
-    seed_entry(body, found);
-    if !flow(body, found) {
+    let Tables {
+        flowing,
+        from,
+        waiting,
+        ..
+    } = tables;
+    copy_rows(body, known, flowing);
+    wait_to_go_back(body, waiting);
+    if !flow_on(body, waiting, flowing) {
         return false;
     }
-    if back_edges_fit(body, found) {
-        // Rows have flowed along each edge that leads ahead, and fit along it.
-        return true;
+    // Rows that were not widened are the strongest that hold: none comes down again.
+    if waiting.has_widened() && !descend(body, from, flowing) {
+        return false;
     }
     // Rows that flowed till nothing new came fit along all edges, and still do when they have come
     // down. That is not proved of the search: so each edge is looked at.
-    settle(body, tables, found) && all_fit(body, found)
+    if !all_fit(body, flowing) {
+        return false;
+    }
+    copy_rows(body, flowing, known);
+    true
 }
 
-/// Makes known what was found at the instructions of a routine, and the rows of the other places.
-fn keep(body: &Body, found: &Known, others: &Known, known: &mut Known)
-    ensures { Keeps body.now.start body.now.end found.now known.old known.new }
+/// Finds what is known in a routine wherever control reaches; `false` where two rows have no join.
+fn search(body: &Body, tables: &mut Tables, known: &mut Known) -> bool
+    ensures flows { FlowsAnew body.now.image.now body.now.r known.new result }
+    ensures fit { result ≡ true → AllFit body.now.image.now body.now.r known.new }
+    ensures stays { StaysBefore body.now.start known.old known.new }
+{
+    seed_entry(body, known);
+    if !flow(body, known) {
+        return false;
+    }
+    if back_edges_fit(body, known) {
+        // Rows have flowed along each edge that leads ahead, and fit along it.
+        return true;
+    }
+    settle(body, tables, known)
+}
+
+/// Makes known the rows of the places where nothing is.
+fn complete(body: &Body, others: &Known, known: &mut Known)
+    ensures { Keeps body.now.start body.now.end known.old known.old known.new }
 {
     // For what its law says.
     known.lengths();
     for pc in body.start..body.end {
-        known.set(pc, found.at(pc).or(others.at(pc)));
+        if known.get(pc).is_none() {
+            known.set(pc, others.at(pc));
+        }
     }
 }
 
 /// Finds what is known at each instruction of a routine; `false` where two rows have no join.
-fn find_rows_in(body: &Body, tables: &mut Tables, found: &mut Known, known: &mut Known) -> bool
+fn find_rows_in(body: &Body, tables: &mut Tables, known: &mut Known) -> bool
     ensures flows { FlowsAnew body.now.image.now body.now.r known.new result }
     ensures fit { result ≡ true → FitWhereReached body.now.image.now body.now.r known.new }
     ensures stays { StaysBefore body.now.start known.old known.new }
 {
-    if !search(body, tables, found) {
+    if !search(body, tables, known) {
         return false;
     }
-    // For what its law says.
-    known.lengths();
     if weaken(
         body,
-        found,
+        known,
         &mut tables.from,
         &mut tables.waiting,
         &mut tables.others,
     ) {
-        keep(body, &tables.from, &tables.others, known);
+        copy_rows(body, &tables.from, known);
         return true;
     }
-    keep(body, found, &tables.others, known);
+    complete(body, &tables.others, known);
     true
 }
 
@@ -120,9 +144,8 @@ fn find_all_rows(alloc: Global, image: &Image, known: &mut Known) -> Result<u16,
     ensures fit { IfOk result (λ count. (r : ℕ) → r < count → FitWhereReached image.now r known.new) }
 {
     let mut tables = Tables::new(alloc)?;
-    let mut found = Known::new(alloc, None)?;
     for r in 0..image.count() {
-        if !find_rows_in(&body_of(image, r), &mut tables, &mut found, known) {
+        if !find_rows_in(&body_of(image, r), &mut tables, known) {
             return Ok(r);
         }
     }

@@ -33,15 +33,15 @@ impl<T: Copy> Model for Table<T> {
     ghost invariant = { λ t. record { few : length t.items.items ≤ 4096; room : 4096 ≤ vec_capacity t.items } };
 }
 
-/// Puts an item behind others until one lies at a pc. There is room for it.
+/// Puts an item behind others until there are as many as there are pcs before one. There is room for them.
 #[inline(never)]
 fn reach<T: Copy>(items: &mut Vec<T>, pc: u16, rest: T)
     requires few { vec_len items.old ≤ pc }
-    requires room { pc < vec_capacity items.old }
-    ensures items { items.new.items ≡ items.old.items ++ replicate (pc + 1 - vec_len items.old) rest }
+    requires room { pc ≤ vec_capacity items.old }
+    ensures items { items.new.items ≡ items.old.items ++ replicate (pc - vec_len items.old) rest }
     ensures room { vec_capacity items.new ≡ vec_capacity items.old }
 {
-    for _ in items.len()..pc as usize + 1 {
+    for _ in items.len()..pc as usize {
         items.push_reserved(rest);
     }
 }
@@ -87,22 +87,28 @@ impl<T: Copy> Table<T> {
         requires { pc < 4096 }
         ensures { self.new ≡ slice_set self.old pc item }
     {
-        if self.items.len() <= pc as usize {
+        let at = pc as usize;
+        if self.items.len() < at {
             reach(&mut self.items, pc, self.rest);
         }
-        self.items[pc as usize] = item;
+        if at < self.items.len() {
+            self.items[at] = item;
+        } else {
+            self.items.push_reserved(item);
+        }
     }
 
-    /// The same item at each pc from one up to another.
-    pub(crate) fn fill(&mut self, low: u16, high: u16, item: T)
-        requires { high < 4096 }
-        ensures { (pc : ℕ) (other : T) → low ≤ pc → pc ≤ high → slice_index_or self.new pc other ≡ item }
+    /// The same item at each pc from one on: none of them is written.
+    pub(crate) fn fill_from(&mut self, low: u16, item: T)
+        requires { low < 4096 }
+        ensures same { (pc : ℕ) (other : T) → low ≤ pc → pc < 4096 → slice_index_or self.new pc other ≡ item }
+        ensures stays { (pc : ℕ) (other : T) → pc < low → slice_index_or self.new pc other ≡ slice_index_or self.old pc other }
     {
-        // For what its law says.
-        self.lengths();
-        for pc in low..high + 1 {
-            self.set(pc, item);
+        if self.items.len() < low as usize {
+            reach(&mut self.items, low, self.rest);
         }
+        self.items.truncate(low as usize);
+        self.rest = item;
     }
 }
 

@@ -132,7 +132,7 @@ fn find_turn(loops: &Loops, reached: &mut Reached, pc: u16) -> Option<Reach>
     if !is_loop(i.opcode) || i.target < body.start || pc < i.target {
         return None;
     }
-    reached.fill(i.target, pc, None);
+    reached.fill_from(i.target, None);
     let begin = Reach {
         steps: 0,
         counters: [Counter::Kept; 4],
@@ -209,7 +209,7 @@ fn pass_by(body: &Body, touched: &Touched, turns: &mut Reached, reached: &mut Re
         steps: 0,
         counters: [Counter::Is(0); 4],
     };
-    reached.fill(body.start, last, Some(nothing));
+    reached.fill_from(body.start, Some(nothing));
     let loops = Loops {
         body: *body,
         touched,

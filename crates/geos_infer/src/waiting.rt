@@ -59,7 +59,7 @@ impl Waiting {
 
     /// Nothing waits in a routine, and no place was weakened.
     pub(crate) fn clear(&mut self, body: &Body) {
-        self.places.fill(body.start, body.end - 1, Wait::NONE);
+        self.places.fill_from(body.start, Wait::NONE);
         self.bounds = Bounds::NONE;
         self.most = 0;
     }

@@ -39,6 +39,6 @@ returns-in-Kept c =
     let turn = c.in_ok-turn.turn in
     let loops = loop-only i.opcode (sym c.is_loop.ensures ∙ c.if-not-is_loop.false) in
     let begun = subst (AreReached body.image.now body.r (begin_at i.target) i.target pc) (sym c.set.ensures)
-    (begins-at body.image.now body.r i.target pc c.fill.new.self (record { steps = 0; counters = all_are Kept }) refl refl (λ k low high. c.fill.ensures k None low high)) in
+    (begins-at body.image.now body.r i.target pc c.fill_from.new.self (record { steps = 0; counters = all_are Kept }) refl refl (λ k low high. c.fill_from.ensures.same k None low (omega (arith, high, c.requires.below, body.room, body.short)))) in
     let reached = c.go_all.ensures (begin_at i.target) begun pc turn c.if-pc-i.false (omega arith) (sym (c.in_ok-turn.ensures None)) in
     turn-at body.image.now body.r pc i turn (in-body body pc c.requires.above c.requires.below) (omega (arith, c.requires.below, body.room)) c.instr-i.ensures.there c.instr-i.ensures.fields loops reached (sym c.in-Kept.ensures)
