@@ -1,10 +1,12 @@
 -- The keys of a table tell its names apart.
 use Rattle.std.proofs.Common.{◌≡◌, ◌<◌, ◌≤◌, ◌+◌, ◌*◌, ◌^◌, ℕ, zero, suc, true, false, List, length, slice_index, refl, sym, ap, subst, ◌∙◌, arith, ⊎_elim}
-use Rattle.std.specs.Prelude.{bytes_eq, nat_lt, cond, Some, None}
+use Rattle.std.specs.Prelude.{◌%◌, [], bytes_eq, nat_lt, cond, Some, None, slice_get, slice_index_or, slice_set}
 use Rattle.std.specs.Int.{byte_worth, sum_through}
 use Rattle.std.specs.Ordering.{is_eq, nat_cmp}
 use Rattle.std.specs.Cmp.{unsigned_tied}
 use Rattle.std.specs.Cmp.Lexicographic.{bytes_decides}
+use Rattle.std.specs.List.{All}
+use Rattle.std.specs.BTreeMap.{BTreeMap}
 use Rattle.std.specs.BTreeMap as tree
 use Rattle.std.proofs.Math.Path.{fun_ext}
 use Rattle.std.proofs.Math.Nat.{mul_assoc, pow-suc}
@@ -13,9 +15,13 @@ use Rattle.std.proofs.lemmas.Bool.{and_from, and_parts, cases_Bool, eq-eqb, eqb-
 use Rattle.std.proofs.lemmas.List.{get_or_default}
 use Rattle.std.proofs.lemmas.Grind.{same_number_lists}
 use Rattle.std.proofs.lemmas.List.Sums.{AllPass-from_list_all, list_all-from_AllPass}
+use Rattle.std.proofs.lemmas.Option.{slice_get_read}
 use Rattle.geos_source.specs.declared.names.Table as code
+use Rattle.geos_source.specs.declared.names.TheConstants.{TREES}
 use Rattle.geos_source.specs.Names.{none_defined, with_name}
-use Rattle.geos_source.specs.Tables.{key_of, is_keyed, table_of}
+use Rattle.geos_source.specs.Keys.{key_of, is_keyed}
+use Rattle.geos_source.specs.Tables.{value_at, table_of}
+use Rattle.geos_source.proofs.Trees.{value_at-by, value_at-none, value_at-with}
 
 -- a byte one place up is worth 256 times as much
 worth-suc : (i b : ℕ) → byte_worth (suc i) b ≡ byte_worth i b * 256
@@ -95,33 +101,55 @@ other-keyed : (a b : List ℕ) → is_keyed a ≡ true → is_keyed b ≡ false 
 other-keyed a b p q = false_from_ne_true _ (λ yes. true≢false (sym p ∙ ap is_keyed ((bytes_decides a b).0 yes) ∙ q))
 
 -- a table looks a name up by its key
-pub table_of-keyed : (table : code.Table) (name : List ℕ) → is_keyed name ≡ true → table_of table name ≡ tree.get nat_cmp table.values (key_of name)
+table_of-keyed : (table : code.Table) (name : List ℕ) → is_keyed name ≡ true → table_of table name ≡ value_at table.trees.items (key_of name)
 unfolding table_of
-table_of-keyed table name keyed = ap (λ b. cond b (tree.get nat_cmp table.values (key_of name)) None) keyed
+table_of-keyed table name keyed = ap (λ b. cond b (value_at table.trees.items (key_of name)) None) keyed
 
 -- what has no key stands for nothing
 table_of-other : (table : code.Table) (name : List ℕ) → is_keyed name ≡ false → table_of table name ≡ None
 unfolding table_of
-table_of-other table name other = ap (λ b. cond b (tree.get nat_cmp table.values (key_of name)) None) other
+table_of-other table name other = ap (λ b. cond b (value_at table.trees.items (key_of name)) None) other
 
--- a table with no keys has no names
-pub table_of-none : (table : code.Table) → ((key : ℕ) → tree.get nat_cmp table.values key ≡ None) → table_of table ≡ none_defined
-table_of-none table none = fun_ext (λ name.
-    ⊎_elim (λ yes. table_of-keyed table name yes ∙ none (key_of name)) (λ no. table_of-other table name no) (cases_Bool (is_keyed name)))
+-- each key has a tree in a table
+tree_there : (table : code.Table) (key : ℕ) (here : BTreeMap ℕ ℕ) → here ≡ slice_index_or table.trees.items (key % TREES) here → slice_get table.trees.items (key % TREES) ≡ Some here
+tree_there table key here is =
+    slice_get_read table.trees.items table.trees.len (key % TREES) here table.trees.ok.0 (omega (arith, table.all_trees)) is
+
+-- a name stands for what its key stands for in its tree
+pub table_of-there : (table : code.Table) (name : List ℕ) (key : ℕ) (here : BTreeMap ℕ ℕ) → is_keyed name ≡ true → key ≡ key_of name
+    → here ≡ slice_index_or table.trees.items (key % TREES) here → tree.get nat_cmp here key ≡ table_of table name
+table_of-there table name key here keyed its_key is =
+    sym (value_at-by table.trees.items key (Some here) (tree_there table key here is)) ∙ ap (value_at table.trees.items) its_key ∙ sym (table_of-keyed table name keyed)
+
+-- a table of trees with no keys has no names
+pub table_of-none : (table : code.Table) → All (λ t. t.entries ≡ []) table.trees.items → table_of table ≡ none_defined
+table_of-none table empty = fun_ext (λ name.
+    ⊎_elim (λ yes. table_of-keyed table name yes ∙ value_at-none table.trees.items empty (key_of name)) (λ no. table_of-other table name no) (cases_Bool (is_keyed name)))
 
 -- a table with one more key has one more name
-pub table_of-with : (old new : code.Table) (name : List ℕ) (value : ℕ) → is_keyed name ≡ true
-    → ((key : ℕ) → tree.get nat_cmp new.values key ≡ cond (is_eq (nat_cmp (key_of name) key)) (Some value) (tree.get nat_cmp old.values key))
+table_of-with : (old new : code.Table) (name : List ℕ) (value : ℕ) → is_keyed name ≡ true
+    → ((key : ℕ) → value_at new.trees.items key ≡ cond (is_eq (nat_cmp (key_of name) key)) (Some value) (value_at old.trees.items key))
     → table_of new ≡ with_name (table_of old) name value
 table_of-with old new name value keyed one_more = fun_ext (λ other.
     ⊎_elim
     (λ yes.
     table_of-keyed new other yes
     ∙ one_more (key_of other)
-    ∙ ap (λ same. cond same (Some value) (tree.get nat_cmp old.values (key_of other))) (key_of-tells name other keyed yes)
+    ∙ ap (λ same. cond same (Some value) (value_at old.trees.items (key_of other))) (key_of-tells name other keyed yes)
     ∙ ap (cond (bytes_eq name other) (Some value)) (sym (table_of-keyed old other yes)))
     (λ no.
     table_of-other new other no
     ∙ sym (table_of-other old other no)
     ∙ ap (λ same. cond same (Some value) (table_of old other)) (sym (other-keyed name other keyed no)))
     (cases_Bool (is_keyed other)))
+
+-- and so has a table in which the tree of that key has it
+pub table_of-set : (old new : code.Table) (name : List ℕ) (key value : ℕ) (here next : BTreeMap ℕ ℕ) → is_keyed name ≡ true → key ≡ key_of name
+    → here ≡ slice_index_or old.trees.items (key % TREES) here → new.trees.items ≡ slice_set old.trees.items (key % TREES) next
+    → ((other : ℕ) → tree.get nat_cmp next other ≡ cond (is_eq (nat_cmp key other)) (Some value) (tree.get nat_cmp here other))
+    → table_of new ≡ with_name (table_of old) name value
+table_of-set old new name key value here next keyed its_key is set one_more =
+    table_of-with old new name value keyed (λ other.
+    ap (λ trees. value_at trees other) set
+    ∙ value_at-with old.trees.items here next key value (tree_there old key here is) one_more other
+    ∙ ap (λ k. cond (is_eq (nat_cmp k other)) (Some value) (value_at old.trees.items other)) its_key)

@@ -1,5 +1,6 @@
 pub mod Examples
 pub mod TextLaws
+pub mod Trees
 pub mod Keys
 pub mod ReadLaws
 pub mod NamesRead

@@ -1,5 +1,6 @@
 pub mod Faults
 pub mod Names
+pub mod Keys
 pub mod Tables
 pub mod InstrLines
 pub mod Lines

@@ -60,18 +60,17 @@ fn name_in_front(operands: &[u8]) -> Option<Name>
 }
 
 impl Declarations {
-    fn new(alloc: Global) -> Declarations
-        ensures { declared_of result ≡ nothing }
+    fn new(alloc: Global) -> Result<Declarations, AllocError>
+        ensures { IfOk result (λ declarations. declared_of declarations ≡ nothing) }
     {
-        Declarations {
+        let labels = Table::new(alloc)?;
+        let routines = Table::new(alloc)?;
+        Ok(Declarations {
             routines: 0,
             instrs: 0,
-            names: Names {
-                labels: Table::new(alloc),
-                routines: Table::new(alloc),
-            },
+            names: Names { labels, routines },
             fault: None,
-        }
+        })
     }
 
     /// A label stands for the next instruction.
@@ -142,7 +141,7 @@ impl Declarations {
 pub(crate) fn declare(alloc: Global, text: &[u8]) -> Result<Declarations, AllocError>
     ensures { IfOk result (λ declarations. declared_of declarations ≡ declared (lines text.now)) }
 {
-    let mut declarations = Declarations::new(alloc);
+    let mut declarations = Declarations::new(alloc)?;
     let mut rest = text;
     let mut number: usize = 0;
     while !rest.is_empty() {

@@ -1,8 +1,9 @@
 //! Names, labels, and what they stand for.
 
-ghost use Rattle.std.specs.Prelude.{◌≡◌, true, IfOk};
+ghost use Rattle.std.specs.Prelude.{◌≡◌, true, IfOk, vec_len};
+ghost use Rattle.geos_source.specs.declared.names.TheConstants.{TREES};
 ghost use Rattle.geos_source.specs.Names.{is_name, name_of, label_of, resolved, with_name, none_defined};
-ghost use Rattle.geos_source.specs.Tables.{key_of, is_keyed};
+ghost use Rattle.geos_source.specs.Keys.{key_of, is_keyed};
 
 use crate::fault::Why;
 use geos_image::are_name_bytes;
@@ -56,30 +57,39 @@ fn key_of(name: Name) -> u128
     u128::from_le_bytes(name)
 }
 
-/// What names stand for, by their keys, which are numbers and compared at once. The tree is
-/// balanced whatever the names are: a look-up takes no longer for some names than for others. Names
-/// that come in rising order, as labels mostly do, are spread over it (`key_of`).
+/// How many trees a table has. This divides 2^64 - 1, so that a compiler finds the remainder of a key
+/// by adding up its halves, with no long division.
+const TREES: u128 = 641;
+
+/// What names stand for, by their keys, which are numbers and compared at once. A name is in the tree
+/// whose number is the remainder of its key by `TREES`: each tree has a handful of names. Where a
+/// text's author chooses names that all go to one tree, that tree is balanced, and a look-up takes no
+/// longer than it would in one tree for all names.
 #[derive(Drop)]
 pub(crate) struct Table {
-    values: BTreeMap<u128, u16>,
+    trees: Vec<BTreeMap<u128, u16>>,
+    ghost all_trees: { vec_len trees ≡ TREES },
 }
 
 impl Table {
     ghost use Rattle.geos_source.specs.Tables.{table_of};
 
     /// No name is defined.
-    pub(crate) fn new(alloc: Global) -> Table
-        ensures { table_of result ≡ none_defined }
+    pub(crate) fn new(alloc: Global) -> Result<Table, AllocError>
+        ensures { IfOk result (λ table. table_of table ≡ none_defined) }
     {
-        Table {
-            values: BTreeMap::new(alloc),
+        let mut trees = Vec::with_capacity(alloc, TREES as usize)?;
+        for _ in 0..TREES as usize {
+            trees.push_reserved(BTreeMap::new(alloc));
         }
+        Ok(Table { trees })
     }
 
     pub(crate) fn get(&self, name: &Name) -> Option<u16>
         ensures { result ≡ table_of self.now name.now }
     {
-        self.values.get(&key_of(*name)).copied()
+        let key = key_of(*name);
+        self.trees[(key % TREES) as usize].get(&key).copied()
     }
 
     /// Defines one more name; where it was defined before, answers what it stood for.
@@ -87,7 +97,8 @@ impl Table {
         ensures old { IfOk result (λ old. old ≡ table_of self.old name) }
         ensures new { IfOk result (λ _. table_of self.new ≡ with_name (table_of self.old) name value) }
     {
-        match self.values.insert(key_of(name), value) {
+        let key = key_of(name);
+        match self.trees[(key % TREES) as usize].insert(key, value) {
             Ok(old) => Ok(old),
             Err(_) => Err(AllocError),
         }

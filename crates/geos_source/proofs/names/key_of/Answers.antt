@@ -1,5 +1,5 @@
 use Rattle.std.proofs.Common.{rules}
-use Rattle.geos_source.specs.Tables.{key_of}
+use Rattle.geos_source.specs.Keys.{key_of}
 use Rattle.geos_source.proofs.Keys.{is_keyed-from}
 use Rattle.geos_source.proofs.names.key_of.Goals as goal
 

@@ -1,17 +1,13 @@
-use Rattle.std.proofs.Common.{sym, ap, ◌∙◌}
-use Rattle.std.specs.Prelude.{Some, cond}
-use Rattle.std.specs.Ordering.{is_eq, nat_cmp}
-use Rattle.std.specs.BTreeMap as tree
-use Rattle.geos_source.proofs.Keys.{table_of-keyed, table_of-with}
+use Rattle.std.proofs.Common.{refl, ◌∙◌}
+use Rattle.geos_source.proofs.Keys.{table_of-there, table_of-set}
 use Rattle.geos_source.proofs.names.Table.insert.Goals as goal
 
 pub returns-in-Ok-clause-old : goal.returns-in-Ok-clause-old
 returns-in-Ok-clause-old c =
-    let table = c.args.self.now in
-    c.in-Ok.ensures.old ∙ ap (tree.get nat_cmp table.values) c.key_of.ensures.key ∙ sym (table_of-keyed table c.args.name c.key_of.ensures.name)
+    c.in-Ok.ensures.old
+    ∙ table_of-there c.args.self.now c.args.name c.key_of-key.result c.index_mut.result.now c.key_of-key.ensures.name c.key_of-key.ensures.key c.index_mut.ensures.value
 
 pub returns-in-Ok-clause-new : goal.returns-in-Ok-clause-new
 returns-in-Ok-clause-new c =
-    let old = c.args.self.now in
-    table_of-with old _ c.args.name c.args.value c.key_of.ensures.name
-    (λ key. c.in-Ok.ensures.updates.0 key ∙ ap (λ k. cond (is_eq (nat_cmp k key)) (Some c.args.value) (tree.get nat_cmp old.values key)) c.key_of.ensures.key)
+    table_of-set c.args.self.now _ c.args.name c.key_of-key.result c.args.value c.index_mut.result.now c.insert.new.self c.key_of-key.ensures.name c.key_of-key.ensures.key
+    c.index_mut.ensures.value refl c.in-Ok.ensures.updates.0
