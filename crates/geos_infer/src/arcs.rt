@@ -1,6 +1,6 @@
 //! The edges of a routine with what they cost, and what they do to counters.
 
-ghost use Rattle.std.specs.Prelude.{◌≡◌, ◌<◌, ◌≤◌};
+ghost use Rattle.std.specs.Prelude.{◌≡◌, ◌<◌, ◌≤◌, ◌+◌};
 ghost use Rattle.geos_image.specs.Fields.{FieldsFit, CalleeFits};
 ghost use Rattle.geos_infer.specs.Taken.{taken_at};
 
@@ -29,10 +29,17 @@ pub(crate) enum Counting {
 pub(crate) struct Arc {
     /// Where it leads.
     pub(crate) to: u16,
-    /// Its step, and the budget of a routine that is called.
-    pub(crate) steps: u64,
+    /// The budget of the routine that is called; 0 where none is.
+    called: u32,
     pub(crate) counting: Counting,
     ghost inside: { to < 4096 },
+}
+
+impl Arc {
+    /// Its step, and the budget of the routine that is called.
+    pub(crate) fn steps(&self) -> u64 {
+        1 + u64::from(self.called)
+    }
 }
 
 /// The bound of a word; a row has no other word.
@@ -71,17 +78,25 @@ fn counting_over(body: &Body, known: &Known, touched: &Touched, edge: Edge) -> C
     }
 }
 
+/// The budget of the routine that the instruction at a pc calls; 0 where it calls none.
+fn called_at(body: &Body, pc: u16) -> u32
+    requires { pc < body.now.end }
+    ensures { 1 + result ≡ taken_at body.now.image.now pc }
+{
+    let i = body.image.instr(pc);
+    match i.opcode {
+        Opcode::Call => body.image.routine(i.imm).budget,
+        _ => 0,
+    }
+}
+
 /// What the instruction at a pc takes: a step, and the budget of the routine that it calls.
 pub(crate) fn taken_at(body: &Body, pc: u16) -> u64
     requires { pc < body.now.end }
     ensures value { result ≡ taken_at body.now.image.now pc }
     ensures small { result ≤ 4294967296 }
 {
-    let i = body.image.instr(pc);
-    match i.opcode {
-        Opcode::Call => 1 + u64::from(body.image.routine(i.imm).budget),
-        _ => 1,
-    }
+    1 + u64::from(called_at(body, pc))
 }
 
 /// The edge of the instruction at a pc, if it stays in the routine.
@@ -97,7 +112,7 @@ pub(crate) fn arc_of(
     let edge = edge_in(body, pc, branch)?;
     Some(Arc {
         to: edge.to,
-        steps: taken_at(body, pc),
+        called: called_at(body, pc),
         counting: counting_over(body, known, touched, edge),
     })
 }

@@ -319,7 +319,7 @@ fn pay_free_at(body: &Body, ways: &mut Ways, pc: u16) -> bool
     if 4 <= counter {
         return true;
     }
-    let asked = ways.way(arc.to).steps.saturating_add(arc.steps);
+    let asked = ways.way(arc.to).steps.saturating_add(arc.steps());
     let Ok(unit) = u32::try_from(asked.saturating_sub(ways.way(pc).steps)) else {
         return false;
     };

@@ -160,9 +160,9 @@ pub(crate) fn cost(arc: &Arc, here: &[u32; 4], there: &[u32; 4]) -> (u64, u64) {
     match arc.counting {
         Counting::Sets(counter, most) => {
             let price = u64::from(unit_of(there, counter)).saturating_mul(u64::from(most));
-            (arc.steps.saturating_add(price), 0)
+            (arc.steps().saturating_add(price), 0)
         }
-        Counting::Takes(counter) => (arc.steps, u64::from(unit_of(here, counter))),
-        _ => (arc.steps, 0),
+        Counting::Takes(counter) => (arc.steps(), u64::from(unit_of(here, counter))),
+        _ => (arc.steps(), 0),
     }
 }
