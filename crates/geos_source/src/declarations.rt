@@ -20,7 +20,7 @@ pub(crate) struct Declarations {
     /// How many routines have begun, up to the most that an image has.
     routines: u16,
     /// How many instructions have begun, up to the most that an image has.
-    instrs: u16,
+    pub instrs: u16,
     pub names: Names,
     /// The first name that was used before.
     pub fault: Option<BadLine>,

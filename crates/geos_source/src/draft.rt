@@ -7,6 +7,7 @@ ghost use Rattle.geos_source.specs.Readings.{names_of};
 ghost use Rattle.geos_source.specs.Texts.{blank, close, begin, no_room, is_full, take_instr, take_statement, take_line, draft_of};
 ghost use Rattle.geos_source.specs.Views.{draft_in};
 
+use crate::declarations::Declarations;
 use crate::fault::Why;
 use crate::headers::header;
 use crate::items::row_of;
@@ -48,14 +49,15 @@ fn is_full(code: &[Instr]) -> Option<Why>
 }
 
 impl Draft {
-    fn new(alloc: Global) -> Draft
-        ensures { draft_in result ≡ blank }
+    /// Nothing is said yet; there is room for so many instructions.
+    fn new(alloc: Global, instrs: u16) -> Result<Draft, AllocError>
+        ensures { IfOk result (λ draft. draft_in draft ≡ blank) }
     {
-        Draft {
+        Ok(Draft {
             routines: Vec::new(alloc),
-            code: Vec::new(alloc),
+            code: Vec::with_capacity(alloc, usize::from(instrs))?,
             progress: Progress::new(),
-        }
+        })
     }
 
     /// The routine that has begun is complete.
@@ -127,18 +129,22 @@ impl Draft {
     }
 }
 
-/// What all lines of a text say, where names stand for these.
-pub(crate) fn draft_of(alloc: Global, names: &Names, text: &[u8]) -> Result<Draft, AllocError>
-    ensures { IfOk result (λ draft. draft_in draft ≡ draft_of (names_of names.now) (lines text.now)) }
+/// What all lines of a text say, which declare these names.
+pub(crate) fn draft_of(
+    alloc: Global,
+    declared: &Declarations,
+    text: &[u8],
+) -> Result<Draft, AllocError>
+    ensures { IfOk result (λ draft. draft_in draft ≡ draft_of (names_of declared.now.names) (lines text.now)) }
 {
-    let mut draft = Draft::new(alloc);
+    let mut draft = Draft::new(alloc, declared.instrs)?;
     let mut rest = text;
     let mut number: usize = 0;
     while !rest.is_empty() {
         let (line, behind) = first_line(rest);
         rest = behind;
         number += 1;
-        draft.take_line(names, number, line)?;
+        draft.take_line(&declared.names, number, line)?;
     }
     draft.close()?;
     Ok(draft)

@@ -77,7 +77,7 @@ pub fn parse(alloc: Global, text: &[u8]) -> Result<Parsed, ParseError>
     ensures bad { IfErr result (IsWhyNot text.now) }
 {
     let declarations = declare(alloc, text)?;
-    let draft = draft_of(alloc, &declarations.names, text)?;
+    let draft = draft_of(alloc, &declarations, text)?;
     match first_fault(text, declarations.fault, draft.progress) {
         Some(fault) => Err(ParseError::BadLine(fault)),
         None => Ok(Parsed {
