@@ -4,6 +4,7 @@ of a text of 4,095 additions, assembled in the same run.
     python3 hurtful.py PROGRAM
 """
 
+import random
 import subprocess
 import sys
 import tempfile
@@ -33,6 +34,19 @@ def chain(n, begin):
     return [*HEAD, *begin, *first, *others, "x: RET"]
 
 
+def tangle(n, most, seed):
+    """So many LOOPs, branches and counters that are set, as they fall, each way over so many places at most."""
+    fall = random.Random(seed)
+    kinds = [
+        lambda i: f"LOOP k{fall.randrange(4)} l{fall.randint(max(0, i - most), i)}",
+        lambda i: f"BEQ w0 w1 l{fall.randint(i + 1, min(n, i + most))}",
+        lambda i: f"SETK k{fall.randrange(4)} {fall.randrange(3)}",
+        lambda i: "ADD w2 w2 w0",
+    ]
+    lines = [fall.choices(kinds, [3, 3, 3, 1])[0](i) for i in range(n)]
+    return [*HEAD, *(f"SETK k{k} 3" for k in range(4)), *(f"l{i}: {line}" for i, line in enumerate(lines)), f"l{n}: RET"]
+
+
 def texts():
     """Each text with what it is."""
     n = 2040
@@ -46,6 +60,7 @@ def texts():
     yield "the same, reached by nothing", chain(2000, ["RET"])
     back = [f"b{i}: JMP " + (f"b{i - 1}" if 0 < i else "x") for i in range(4090)]
     yield "4,090 jumps back, one after another", [*HEAD, "JMP b4089", *back, "x: RET"]
+    yield "4,000 LOOPs, branches and counters that are set, as they fall", tangle(4000, 50, 39)
     yield "1 MiB of labels", [*HEAD, *(f"L{i}:" for i in range(115_000)), "RET"]
     yield "1 MiB of one digit", [*HEAD, "LDI w0 " + "0" * 1_048_000 + "1", "RET"]
     yield "1 MiB of items of an entry row", [*HEAD, "in " + "w0<=9 " * 170_000, "RET"]

@@ -3,8 +3,8 @@
 ghost use Rattle.std.specs.Prelude.{◌<◌};
 
 use crate::arcs::{Arc, Counting};
-use crate::asked::coefficients_join;
 use crate::body::Body;
+use crate::carry::{carry, carry_on};
 use crate::longest::find_longest;
 use crate::spans::{Span, span_of, takes};
 use crate::ways::{Ways, cost};
@@ -135,6 +135,7 @@ fn raise_at(ways: &mut Ways, pc: u16, arc: &Arc, raise: &Raise) -> bool
         place.raised = place.raised.saturating_add(1);
     }
     ways.set_place(pc, place);
+    ways.grown.put(pc);
     true
 }
 
@@ -158,49 +159,6 @@ fn raise_round(ways: &mut Ways, from: u16, raise: &Raise) -> bool
     false
 }
 
-/// What the edge from a pc asks for is there; whether that is new.
-fn carry_over(ways: &mut Ways, pc: u16, branch: bool) -> bool
-    requires { pc < 4096 }
-{
-    let here = ways.place(pc);
-    let Some(arc) = here.arc(branch) else {
-        return false;
-    };
-    let mut asked = ways.place(arc.to).pay;
-    match arc.counting {
-        Counting::Sets(counter, _) if counter < 4 => asked[usize::from(counter)] = 0,
-        _ => {}
-    }
-    let pay = coefficients_join(&here.pay, &asked);
-    if pay == here.pay {
-        return false;
-    }
-    let mut paying = *here;
-    paying.pay = pay;
-    ways.set_place(pc, paying);
-    true
-}
-
-/// The same over each edge from one of the places, from the last to the first.
-fn carry_once(span: &Span, ways: &mut Ways) -> bool {
-    let mut changed = false;
-    for pc in (span.start..span.end).rev() {
-        changed |= carry_over(ways, pc, false);
-        changed |= carry_over(ways, pc, true);
-    }
-    changed
-}
-
-/// Units are carried back to each of the places from which they are asked for.
-fn carry(span: &Span, ways: &mut Ways) {
-    // A way that passes no place twice goes along each edge back once at most.
-    for _ in 0..u64::from(span.back) + 2 {
-        if !carry_once(span, ways) {
-            return;
-        }
-    }
-}
-
 /// Raises what a unit pays for, so that the way round from a pc is paid for; `false` where no counter can pay for it.
 fn pay(span: &Span, ways: &mut Ways, at: u16, loops: Option<u16>) -> bool {
     if 4096 <= at {
@@ -218,7 +176,7 @@ fn pay(span: &Span, ways: &mut Ways, at: u16, loops: Option<u16>) -> bool {
     if !raise_round(ways, at, &raise) {
         return false;
     }
-    carry(span, ways);
+    carry_on(span, ways);
     true
 }
 

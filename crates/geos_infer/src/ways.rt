@@ -6,6 +6,8 @@ ghost use Rattle.std.specs.Prelude.{◌<◌};
 use crate::arcs::{Arc, Counting, arc_of};
 use crate::asked::return_steps;
 use crate::body::Body;
+use crate::leads::Leads;
+use crate::pile::Pile;
 use crate::table::{Known, Table, two_tables};
 use geos_verify::Touched;
 use std::alloc::{AllocError, Global};
@@ -62,13 +64,24 @@ impl Way {
 pub(crate) struct Ways {
     places: Table<Place>,
     longest: Table<Way>,
+    /// The edges into each place.
+    pub(crate) leads: Leads,
+    /// The places where units have grown that edges into them have yet to ask for.
+    pub(crate) grown: Pile,
 }
 
 impl Ways {
     /// Nothing is found.
     pub(crate) fn new(alloc: Global) -> Result<Ways, AllocError> {
         let (places, longest) = two_tables(alloc, Place::NOTHING, Way::NOTHING)?;
-        Ok(Ways { places, longest })
+        let leads = Leads::new(alloc)?;
+        let grown = Pile::new(alloc)?;
+        Ok(Ways {
+            places,
+            longest,
+            leads,
+            grown,
+        })
     }
 
     /// What is found of a place.
@@ -133,12 +146,24 @@ impl Place {
     }
 }
 
+/// Notes an edge among those into the place where it leads.
+fn note_lead(ways: &mut Ways, from: u16, branch: bool, arc: &Option<Arc>)
+    requires { from < 4096 }
+{
+    if let Some(arc) = arc {
+        ways.leads.add(from, branch, arc.to);
+    }
+}
+
 /// Notes the edges of a routine, where nothing else is found yet. Nothing is known of counters where it begins, so that all
 /// cost something there.
 pub(crate) fn note_arcs(body: &Body, known: &Known, touched: &Touched, ways: &mut Ways) {
+    ways.leads.clear_from(body.start);
     for pc in body.start..body.end {
         let along = arc_of(body, known, touched, pc, false);
         let branching = arc_of(body, known, touched, pc, true);
+        note_lead(ways, pc, false, &along);
+        note_lead(ways, pc, true, &branching);
         let mut place = Place::NOTHING;
         place.arcs = [along, branching];
         place.costly = [pc == body.start; 4];

@@ -1,0 +1,61 @@
+//! Places that wait, each once.
+
+ghost use Rattle.std.specs.Prelude.{◌<◌, IfSome};
+
+use crate::table::{Table, two_tables};
+use geos_image::MOST_INSTRS;
+use std::alloc::{AllocError, Global};
+
+/// A place that waits.
+#[derive(Clone, Copy)]
+struct Waits {
+    pc: u16,
+    ghost inside: { pc < 4096 },
+}
+
+/// Places that wait, the last one on top.
+#[derive(Drop)]
+pub(crate) struct Pile {
+    places: Table<Waits>,
+    /// Whether each place is among them.
+    has: Table<bool>,
+    /// How many there are.
+    count: u16,
+}
+
+impl Pile {
+    /// No place waits.
+    pub(crate) fn new(alloc: Global) -> Result<Pile, AllocError> {
+        let (places, has) = two_tables(alloc, Waits { pc: 0 }, false)?;
+        Ok(Pile {
+            places,
+            has,
+            count: 0,
+        })
+    }
+
+    /// A place waits, if it does not already.
+    pub(crate) fn put(&mut self, pc: u16)
+        requires { pc < 4096 }
+    {
+        if self.has.at(pc) || MOST_INSTRS <= self.count {
+            return;
+        }
+        self.has.set(pc, true);
+        self.places.set(self.count, Waits { pc });
+        self.count += 1;
+    }
+
+    /// The place on top, if there is one; it no longer waits.
+    pub(crate) fn take(&mut self) -> Option<u16>
+        ensures { IfSome result (λ pc. pc < 4096) }
+    {
+        if self.count == 0 || MOST_INSTRS < self.count {
+            return None;
+        }
+        self.count -= 1;
+        let Waits { pc } = self.places.at(self.count);
+        self.has.set(pc, false);
+        Some(pc)
+    }
+}
