@@ -45,8 +45,9 @@ text to begin with:
           OUT w0 end
   end:    RET
 
-Status: 0 where all was done; 1 after a fault, which one line on standard error names; 2 where the
-words on the command line are none of these. docs/FORMATS.md has the faults, and the digits of an image.";
+Status: 0 where all was done, also where lines `refused N` say that something was not; 1 after a fault,
+which one line on standard error names; 2 where the words on the command line are none of these.
+docs/FORMATS.md has the faults, and the digits of an image.";
 
 /// Why a text is not assembled.
 const FAULTS: &str = "\
@@ -67,6 +68,7 @@ LOOP, its counter is set or touched within it, or the steps pass 4,294,967,295. 
 const EXPLAINED: &str = "\
 IMAGE may be a text too: what does not begin as an image does is read as one. Its own lines are printed,
 each behind its number; behind an instruction stands what is known there, and how many steps are owed.
+Where a line of it has a fault, there is `line N: why K` alone: `geos help asm` says what K is.
 Of an image each instruction is printed, with the routine and the pc in front of that.
 Where a rule refuses, a line says why, and what to do; of a stale pointer from where it is known, from
 where not, and what has moved there. `no rows: line N` has a line that says where slots differ, or which
@@ -74,6 +76,7 @@ loop is not paid for.";
 
 /// Why an image may not run.
 const RULES: &str = "\
+`bad image at N` names the first byte that no image has there; `geos asm` makes the image of a text.
 `rejected at N by VK` names the first instruction, counted from 0, that may not stand as it does, and the
 lowest rule there; `geos explain` says more. The rules:
   V1   control stays within the routine
