@@ -11,6 +11,8 @@ pub(crate) enum Misuse {
     NoMultiple { name: &'static str, unit: u32 },
     /// Two words name the standard input.
     TwoOfOneStream,
+    /// The image of a text is to take the place of the text.
+    ImageOntoText,
 }
 
 impl Misuse {
@@ -22,6 +24,9 @@ impl Misuse {
             }
             Misuse::TwoOfOneStream => {
                 String::from_str(alloc, "only one of IMAGE and SCRIPT is the standard input")
+            }
+            Misuse::ImageOntoText => {
+                String::from_str(alloc, "IN and OUT are one file, and the text would be lost")
             }
         }
     }

@@ -57,6 +57,17 @@ fn word<'a>(words: &ArgMatches<'a>, name: &str) -> &'a str {
     words.get_str(name).unwrap_or("")
 }
 
+/// What an `asm` asks for. The image of a text does not take its place: the text would be lost.
+fn asm_of<'a>(words: &ArgMatches<'a>) -> Result<Request<'a>, Misuse>
+    ensures { IfOk result KeepsLimits }
+{
+    let (text, image) = (word(words, "IN"), word(words, "OUT"));
+    if text == image && !is_stream(text) {
+        return Err(Misuse::ImageOntoText);
+    }
+    Ok(Request::Assemble { text, image })
+}
+
 /// What a `new` asks for.
 fn new_of<'a>(words: &ArgMatches<'a>) -> Result<Request<'a>, Misuse>
     ensures { IfOk result KeepsLimits }
@@ -118,10 +129,6 @@ fn unnumbered_of<'a>(name: &str, words: &ArgMatches<'a>) -> Request<'a>
     ensures { KeepsLimits result }
 {
     match name {
-        "asm" => Request::Assemble {
-            text: word(words, "IN"),
-            image: word(words, "OUT"),
-        },
         "dump" => Request::Dump {
             file: word(words, "FILE"),
             chunks: words.get_flag("chunks"),
@@ -138,6 +145,7 @@ fn request_of<'a>(matches: &ArgMatches<'a>) -> Result<Request<'a>, Misuse>
         return Ok(Request::Session);
     };
     match name {
+        "asm" => asm_of(words),
         "new" => new_of(words),
         "run" => run_of(words),
         "map" => map_of(words),
