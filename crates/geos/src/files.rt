@@ -5,7 +5,7 @@ ghost use Rattle.geos_shell.specs.Limits.{IsArea, IsWidth};
 
 use crate::request_fault::RequestFault;
 use geos_dump::{Detail, DumpError, dump, map, read_areas};
-use geos_shell::{FileLock, Sharing, StreamFault};
+use geos_shell::{FileLock, Lockable, Sharing, StreamFault, print};
 use std::fs;
 use vm_file::{Disk, FileDevice, VmFile, device_length};
 
@@ -30,31 +30,47 @@ pub(crate) fn make_file<'a>(
     }
 }
 
-/// A device on the file with a path, and the lock on it.
+/// A device on the file with a path, and the file whose lock is still to be had.
 #[derive(Drop)]
-pub(crate) struct Locked {
+pub(crate) struct Unlocked {
     /// The device.
     pub(crate) device: FileDevice,
-    /// The lock.
-    pub(crate) lock: FileLock,
+    /// What the lock is on.
+    pub(crate) file: Lockable,
 }
 
-/// Waits for the file's lock and opens it: to work on it alone, or to read it as others may
-/// meanwhile.
-pub(crate) fn lock_and_open<'a>(
+/// Opens the file with the path, without its lock: to work on it alone, or to read it as others may
+/// meanwhile. Nothing is to be read of it until the lock is had.
+pub(crate) fn open_unlocked<'a>(
     rt: &HostRuntime,
     path: &'a str,
     sharing: Sharing,
-) -> Result<Locked, RequestFault<'a>> {
-    let lock = FileLock::wait(rt, path, sharing)?;
+) -> Result<Unlocked, RequestFault<'a>> {
+    let file = Lockable::open(rt, path)?;
     let device = match sharing {
         Sharing::Alone => FileDevice::open(rt, rt.alloc(), path),
         Sharing::Shared => FileDevice::open_read_only(rt, rt.alloc(), path),
     };
     match device {
-        Ok(device) => Ok(Locked { device, lock }),
+        Ok(device) => Ok(Unlocked { device, file }),
         Err(Disk) => Err(RequestFault::Stream(StreamFault::Read(path))),
     }
+}
+
+/// A device on the file with a path, and the lock on it.
+#[derive(Drop)]
+struct Locked {
+    /// The device.
+    device: FileDevice,
+    /// The lock.
+    lock: FileLock,
+}
+
+/// Opens the file to read it, and waits for its lock, which others that read it share.
+fn lock_to_read<'a>(rt: &HostRuntime, path: &'a str) -> Result<Locked, RequestFault<'a>> {
+    let Unlocked { device, file } = open_unlocked(rt, path, Sharing::Shared)?;
+    let lock = file.wait(path, Sharing::Shared)?;
+    Ok(Locked { device, lock })
 }
 
 /// Opens the VM file that a device holds.
@@ -70,19 +86,44 @@ pub(crate) fn opened<'a>(
     }
 }
 
+/// What a VM file keeps, as text. Its lock is let go before that is printed: whoever reads it may
+/// want the file next.
+fn text_of_file<'a>(
+    rt: &HostRuntime,
+    path: &'a str,
+    detail: Detail,
+) -> Result<Vec<u8>, RequestFault<'a>> {
+    let Locked {
+        device,
+        lock: _lock,
+    } = lock_to_read(rt, path)?;
+    let mut file = opened(rt, device)?;
+    Ok(dump(rt.alloc(), &mut file, detail)?)
+}
+
 /// Prints what a VM file keeps.
 pub(crate) fn print_file<'a>(
     rt: &HostRuntime,
     path: &'a str,
     detail: Detail,
 ) -> Result<(), RequestFault<'a>> {
+    let text = text_of_file(rt, path, detail)?;
+    Ok(print(rt, &text)?)
+}
+
+/// A VM file in so many columns. Its lock is let go before that is printed, as for `text_of_file`.
+fn map_of_file<'a>(rt: &HostRuntime, path: &'a str, width: u32) -> Result<Vec<u8>, RequestFault<'a>>
+    requires { IsWidth width }
+{
     let Locked {
-        device,
+        mut device,
         lock: _lock,
-    } = lock_and_open(rt, path, Sharing::Shared)?;
+    } = lock_to_read(rt, path)?;
+    let areas = read_areas(&mut device);
+    // Where the areas were not read, it may be no VM file: that is said first.
     let mut file = opened(rt, device)?;
-    let text = dump(rt.alloc(), &mut file, detail)?;
-    Ok(geos_shell::print(rt, &text)?)
+    let areas = areas.map_err(DumpError::from)?;
+    Ok(map(rt.alloc(), &mut file, areas, width as u16)?)
 }
 
 /// Draws a VM file in so many columns.
@@ -93,14 +134,6 @@ pub(crate) fn draw_file<'a>(
 ) -> Result<(), RequestFault<'a>>
     requires { IsWidth width }
 {
-    let Locked {
-        mut device,
-        lock: _lock,
-    } = lock_and_open(rt, path, Sharing::Shared)?;
-    let areas = read_areas(&mut device);
-    // Where the areas were not read, it may be no VM file: that is said first.
-    let mut file = opened(rt, device)?;
-    let areas = areas.map_err(DumpError::from)?;
-    let text = map(rt.alloc(), &mut file, areas, width as u16)?;
-    Ok(geos_shell::print(rt, &text)?)
+    let text = map_of_file(rt, path, width)?;
+    Ok(print(rt, &text)?)
 }

@@ -3,7 +3,7 @@
 ghost use Rattle.vm_blocks.specs.Listed.{NoneLocked};
 ghost use Rattle.geos_shell.specs.Limits.{IsRegion};
 
-use crate::files::{Locked, lock_and_open, opened};
+use crate::files::{Unlocked, open_unlocked, opened};
 use crate::images::MOST_READ;
 use crate::request_fault::RequestFault;
 use geos_cli::{Counted, ScriptFault, run_script, run_session};
@@ -66,6 +66,10 @@ fn run_in(
 
 /// Runs a script on a VM file, with so many bytes for blocks in memory. The words are gone through
 /// from left to right: the image is read, the file opened, the script read; then it runs.
+///
+/// The file's lock is waited for when the script has been read, so that the file is not kept from
+/// others while a script is to come: who writes it may want the file first. What the file holds is
+/// looked at under the lock, and its faults are said before one of the script all the same.
 pub(crate) fn run<'a>(
     rt: &HostRuntime,
     image: &'a str,
@@ -76,11 +80,13 @@ pub(crate) fn run<'a>(
     requires { IsRegion region }
 {
     let image = read(rt, image, MOST_READ)?;
-    let Locked {
+    let Unlocked {
         device,
-        lock: _lock,
-    } = lock_and_open(rt, file, Sharing::Alone)?;
+        file: lockable,
+    } = open_unlocked(rt, file, Sharing::Alone)?;
+    let script = read(rt, script, MOST_READ);
+    let _lock = lockable.wait(file, Sharing::Alone)?;
     let file = opened(rt, device)?;
-    let script = read(rt, script, MOST_READ)?;
+    let script = script?;
     Ok(run_in(rt, &image, &script, region, file)?)
 }

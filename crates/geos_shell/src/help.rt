@@ -113,7 +113,8 @@ These three print nothing, or `refused N`: 6 where the blocks are too long, 11 w
 is lost: end a script with `update`, or have a routine do VUPDATE.
 
 A stop at any moment, as of the machine, leaves the file as one of these commands left it or would
-have: whole, or not at all. Others that run on the file meanwhile wait, and so does `dump`.
+have: whole, or not at all. Others that run on the file meanwhile wait, and so does `dump`; nobody
+waits while SCRIPT is still to come, so it may be `-` behind a pipe from a `dump` of the file.
 
 Example:
   geos new notes.vm

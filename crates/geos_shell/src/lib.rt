@@ -16,6 +16,6 @@ mod streams;
 
 pub use answer::Answer;
 pub use command_line::words;
-pub use locks::{FileLock, Sharing};
+pub use locks::{FileLock, Lockable, Sharing};
 pub use request::{Request, requested};
 pub use streams::{StreamFault, print, read, write};

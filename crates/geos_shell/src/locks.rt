@@ -13,18 +13,29 @@ pub enum Sharing {
     Shared,
 }
 
+/// A file that is open, whose lock may be waited for.
+#[derive(Drop)]
+pub struct Lockable {
+    file: File,
+}
+
 /// A lock on a file, which goes when it is dropped. Only programs that ask for one are kept off.
 #[derive(Drop)]
 pub struct FileLock {
     _file: File,
 }
 
-/// Opens the file, and waits until its lock is had.
-fn locked(rt: &HostRuntime, path: &str, sharing: Sharing) -> io::Result<FileLock> {
+/// Opens the file, which may be no folder.
+fn opened(rt: &HostRuntime, path: &str) -> io::Result<Lockable> {
     let file = File::open(rt, path)?;
     if file.metadata()?.is_dir() {
         return Err(io::Error::from(ErrorKind::IsADirectory));
     }
+    Ok(Lockable { file })
+}
+
+/// Waits until the file's lock is had.
+fn locked(file: File, sharing: Sharing) -> io::Result<FileLock> {
     match sharing {
         Sharing::Alone => file.lock(),
         Sharing::Shared => file.lock_shared(),
@@ -32,18 +43,24 @@ fn locked(rt: &HostRuntime, path: &str, sharing: Sharing) -> io::Result<FileLock
     Ok(FileLock { _file: file })
 }
 
-impl FileLock {
-    /// Waits until the lock on the file with the path is had. `StreamFault::Read` where there is no
-    /// such file, where it is a folder or may not be read, or where the system has no locks for it.
-    pub fn wait<'a>(
-        rt: &HostRuntime,
-        path: &'a str,
-        sharing: Sharing,
-    ) -> Result<FileLock, StreamFault<'a>> {
-        match locked(rt, path, sharing) {
-            Ok(lock) => Ok(lock),
-            Err(error) if error.kind() == ErrorKind::OutOfMemory => Err(StreamFault::Memory),
-            Err(_) => Err(StreamFault::Read(path)),
-        }
+/// Why the file with the path was not opened, or not locked.
+fn fault<'a>(path: &'a str, error: &io::Error) -> StreamFault<'a> {
+    match error.kind() {
+        ErrorKind::OutOfMemory => StreamFault::Memory,
+        _ => StreamFault::Read(path),
+    }
+}
+
+impl Lockable {
+    /// Opens the file with the path, without its lock. `StreamFault::Read` where there is no such
+    /// file, or where it is a folder or may not be read.
+    pub fn open<'a>(rt: &HostRuntime, path: &'a str) -> Result<Lockable, StreamFault<'a>> {
+        opened(rt, path).map_err(|error| fault(path, &error))
+    }
+
+    /// Waits until the lock on the file, which was opened by the path, is had. `StreamFault::Read`
+    /// where the system has no locks for it.
+    pub fn wait<'a>(self, path: &'a str, sharing: Sharing) -> Result<FileLock, StreamFault<'a>> {
+        locked(self.file, sharing).map_err(|error| fault(path, &error))
     }
 }
