@@ -1,29 +1,30 @@
 -- What the search for why a pointer is not known finds is so.
 use Rattle.std.proofs.Common.{◌≡◌, ◌+◌, ℕ, zero, suc, Bool, true, false, not, cond, List, [], ◌∷◌, length, replicate, Option, Some, None, slice_get, get_or, set, refl, sym, ap, ◌∙◌, subst, ◌⊎◌, inl, inr}
-use Rattle.std.specs.Prelude.{◌&&◌, ◌==◌, nat_lt, is_some, is_none}
+use Rattle.std.specs.Prelude.{◌&&◌, ◌==◌, nat_lt, is_some, is_none, if◌then◌else◌}
 use Rattle.std.specs.Option.{option_or}
 use Rattle.std.proofs.lemmas.Bool.{and_parts, cases_eq, cases_lt, eqb-true}
 use Rattle.std.proofs.lemmas.List.{get_or-set_same, get_or-set_other, set_past}
 use Rattle.geos_image.specs.declared.point.Point.{Point}
 use Rattle.geos_image.specs.declared.row.Pointer.{Pointer}
+use Rattle.geos_image.specs.declared.row.SlotState.{SlotState}
 use Rattle.geos_image.specs.Parts.{start_of}
-use Rattle.geos_verify.specs.Rows.{pointer_at, is_stale, after, has_edge}
+use Rattle.geos_verify.specs.Rows.{pointer_at, is_stale, after, has_edge, leads_nowhere}
 use Rattle.geos_explain.specs.declared.edges.Edge.{Edge}
 use Rattle.geos_explain.specs.declared.ways.Way.{Way}
 use Rattle.geos_explain.specs.declared.ways.Way.TheVariants.{Entry, Along}
 use Rattle.geos_explain.specs.declared.ways.Sought.{Sought}
 use Rattle.geos_explain.specs.declared.arrivals.Arrivals.{Arrivals}
 use Rattle.geos_explain.specs.declared.trace.End.{End}
-use Rattle.geos_explain.specs.declared.trace.End.TheVariants.{Unset, Unreached}
+use Rattle.geos_explain.specs.declared.trace.End.TheVariants.{Unset, Unreached, Merged, Nowhere}
 use Rattle.geos_explain.specs.declared.trace.Meeting.{Meeting}
 use Rattle.geos_explain.specs.declared.trace.Trace.{Trace}
 use Rattle.geos_explain.specs.Edges.{end_of}
 use Rattle.geos_explain.specs.Led.{no_marks, marked, is_marked, is_reached}
 use Rattle.geos_explain.specs.Places.{Place, agrees, comes_alike}
-use Rattle.geos_explain.specs.Ways.{is_as, is_sought, way_of, way_at, first_way, entry_way, way_to, bringing, losing, with_hint, loses}
+use Rattle.geos_explain.specs.Ways.{is_as, is_sought, way_of, way_at, first_way, entry_way, entry_pointer, empty_behind, empty_slot, empty_along, empty_from, empty_on, way_to, bringing, losing, with_hint, loses}
 use Rattle.geos_explain.specs.Arrivals.{no_arrivals, arrival, arrived, behind, arrived_along, arrived_from, arrived_over, next_arrivals, arrivals_at_entry, all_arrivals}
-use Rattle.geos_explain.specs.Trace.{without_way, meeting_at, end_at, passed, lacks, hint_at, back_by, back_along, back_from, back_over, next_round, rounds, begun, aside, aside_by, along_lost, traced_by, traced}
-use Rattle.geos_explain.specs.Lost.{ComesTo, LacksBehind, LacksAlong, Brings, IsHint, IsLost, LeadsBy, IsWay, IsAlike, IsMeeting, IsUnset, WhatIsSaidHolds}
+use Rattle.geos_explain.specs.Trace.{nowhere_or, without_way, meeting_at, end_at, passed, lacks, hint_at, back_by, back_along, back_from, back_over, next_round, rounds, begun, aside, aside_by, along_lost, traced_by, traced}
+use Rattle.geos_explain.specs.Lost.{ComesTo, LacksBehind, LacksAlong, Brings, IsHint, IsLost, LeadsBy, IsWay, IsAlike, IsMeeting, IsUnset, BringsNowhere, IsNowhere, WhatIsSaidHolds}
 use Rattle.geos_explain.proofs.Reached.{Has, mark-was, none-marked}
 
 -- what stands in a list behind a change was there, or is the change
@@ -135,7 +136,7 @@ module _ (place : Place) (p : ℕ) where
             let nothing : get_or no_arrivals pc None ≡ None = replicate-there None 4096 pc in
             absurd cc);
       } in
-      arrived-found (record { at = no_arrivals; goes_on = true }) none (start_of place.image.routines place.r) (pointer_at place.routine.entry p) (λ q e. ([], (refl, e)))
+      arrived-found (record { at = no_arrivals; goes_on = true }) none (start_of place.image.routines place.r) (entry_pointer place.routine p) (λ q e. ([], (refl, e)))
 
   all-found : (n : ℕ) → Found (all_arrivals place p n)
   unfolding all_arrivals
@@ -205,8 +206,8 @@ module _ (place : Place) (p : ℕ) where
   entry-way : (known : Bool) (to : ℕ) (reached : Bool) → AllFound known reached (entry_way place (asked known to reached)) to
   entry-way known to reached way is =
       let start = start_of place.image.routines place.r in
-      let entry = cond-some (to == start && is_as known (pointer_at place.routine.entry p)) (Some Entry) way is in
-      let tests = and_parts (to == start) (is_as known (pointer_at place.routine.entry p)) entry.0 in
+      let entry = cond-some (to == start && is_as known (entry_pointer place.routine p)) (Some Entry) way is in
+      let tests = and_parts (to == start) (is_as known (entry_pointer place.routine p)) entry.0 in
       subst (λ w. IsFound known reached w to) (some-same _ _ entry.1) (eqb-true _ _ tests.0, tests.1)
 
   to-found : (known : Bool) (to : ℕ) (reached : Bool) → AllFound known reached (way_to place (asked known to reached)) to
@@ -240,12 +241,19 @@ module _ (place : Place) (p : ℕ) where
     is : IsMeeting place p m
     alike : end ≡ None → IsAlike place m.lost
 
+  -- why a pointer is not known, where that is said
+  abbrev IsEnd : End → Type 0
+  IsEnd Unset = IsUnset place p
+  IsEnd (Nowhere way slot) = IsNowhere place p way slot
+  IsEnd (Unreached to) = Unit {0}
+  IsEnd (Merged to) = Unit {0}
+
   record Sound (trace : Trace) : Type 0 where
     found : Found trace.arrivals
     passed : (k : ℕ) → Has trace.passed k → LacksFrom k
     lost : (edge : Edge) → trace.lost ≡ Some edge → IsLost place p edge
     meeting : (m : Meeting) → trace.meeting ≡ Some m → Meets trace.end m
-    unset : trace.end ≡ Some Unset → IsUnset place p
+    end : (end : End) → trace.end ≡ Some end → IsEnd end
 
   -- what is known of a meeting at a pc
   record IsAt (brings : Option Way) (at : ℕ) (losing : Option Way) (m : Meeting) : Type 0 where
@@ -269,10 +277,10 @@ module _ (place : Place) (p : ℕ) where
   met_at at = meeting_at (bringing place p at) at (losing place p at)
 
   abbrev ends_at : ℕ → Option End
-  ends_at at = end_at place (bringing place p at) at (losing place p at)
+  ends_at at = end_at place p (bringing place p at) at (losing place p at)
 
   -- where an end is none, control comes along the way
-  end-alike : (brings : Option Way) (at : ℕ) (way : Way) → end_at place brings at (Some way) ≡ None → IsAlike place way
+  end-alike : (brings : Option Way) (at : ℕ) (way : Way) → end_at place p brings at (Some way) ≡ None → IsAlike place way
   end-alike brings at Entry e = tt
   end-alike brings at (Along edge) e = by_alike (comes_alike place edge.from) refl e
     where
@@ -280,29 +288,59 @@ module _ (place : Place) (p : ℕ) where
       by_alike true is none = is
       by_alike false is none = absurd cc
 
-  -- that it is not set is said only at the routine's beginning
-  end-unset : (brings : Option Way) (at : ℕ) (lost : Option Way) → end_at place brings at lost ≡ Some Unset → lost ≡ Some Entry
-  end-unset brings at None e = by_known brings e
+  -- what the caller does not bring is not known to the entry row, unless it leads into an empty slot
+  entry-stale : (slots : List SlotState) (o : Option Pointer) → is_stale (if leads_nowhere slots o then None else o) ≡ true → empty_behind slots o ≡ None → is_stale o ≡ true
+  entry-stale slots None stale none = refl
+  entry-stale slots (Some pointer) stale none = by_test (leads_nowhere slots (Some pointer)) stale none
     where
-      by_known : (o : Option Way) → Some (without_way at o) ≡ Some Unset → None ≡ Some Entry
-      by_known None is = absurd cc
-      by_known (Some way) is = absurd cc
-  end-unset brings at (Some Entry) e = refl
-  end-unset brings at (Some (Along edge)) e = by_alike (comes_alike place edge.from) e
+      by_test : (b : Bool) → is_stale (cond b None (Some pointer)) ≡ true → cond b (Some pointer.slot) None ≡ None → is_stale (Some pointer) ≡ true
+      by_test true is_stale none = absurd cc
+      by_test false is_stale none = is_stale
+
+  along-nowhere : (slot : ℕ) (edge : Edge) (point : Point) → slice_get place.image.points edge.from ≡ Some point → empty_from place.image p edge ≡ Some slot
+      → empty_slot (after place.image edge.from point.row edge.branch) p ≡ Some slot
+  unfolding empty_from
+  along-nowhere slot edge point there e =
+      let here : empty_along place.image p edge point ≡ Some slot = rw (there, empty_from) at e in
+      (cond-some (has_edge point.instr edge.branch) (empty_slot (after place.image edge.from point.row edge.branch) p) slot here).1
+
+  way-nowhere : (known : Bool) (to slot : ℕ) (way : Way) → IsWay place p known way to → empty_on place p way ≡ Some slot → BringsNowhere place p way slot to
+  way-nowhere known to slot Entry is e = (is.0, e)
+  way-nowhere known to slot (Along edge) is e =
+      record { point = is.point; there = is.there; has = is.has; ends = is.ends; empty = along-nowhere slot edge is.point is.there e }
+
+  or-end : (known : Bool) (at : ℕ) (way : Way) (end : End) → LacksFrom at → IsWay place p known way at → (empty_on place p way ≡ None → IsEnd end) → IsEnd (nowhere_or place p way end)
+  or-end known at way end from is other = by_slot (empty_on place p way) refl
     where
-      by_alike : (b : Bool) → cond b None (Some (Unreached edge.from)) ≡ Some Unset → Some (Along edge) ≡ Some Entry
-      by_alike true is = absurd cc
-      by_alike false is = absurd cc
+      by_slot : (o : Option ℕ) → empty_on place p way ≡ o → IsEnd (elim o [ None ↦ end | Some slot ↦ Nowhere way slot ])
+      by_slot None e = other e
+      by_slot (Some slot) e = record { to = at; comes = way-nowhere known at slot way is e; edges = from.0; lacks = from.1 }
 
-  at-unset : (at : ℕ) → LacksFrom at → ends_at at ≡ Some Unset → IsUnset place p
-  at-unset at from e =
-      let way = losing-way at Entry (end-unset (bringing place p at) at (losing place p at) e) in
-      let start = subst LacksFrom way.0 from in
-      record { entry = way.1; edges = start.0; way = start.1 }
+  at-end : (at : ℕ) → LacksFrom at → (end : End) → ends_at at ≡ Some end → IsEnd end
+  at-end at from end = by_lost (losing place p at) refl
+    where
+      by_known : (known : Option Way) → bringing place p at ≡ known → IsEnd (without_way place p at known)
+      by_known None is = tt
+      by_known (Some way) is = or-end true at way (Merged at) from (bringing-way at way is).0 (λ none. tt)
 
-  or-unset : (o other : Option End) → option_or o other ≡ Some Unset → (o ≡ Some Unset) ⊎ (other ≡ Some Unset)
-  or-unset None other e = inr e
-  or-unset (Some end) other e = inl e
+      entry-end : IsWay place p false Entry at → IsEnd (nowhere_or place p Entry Unset)
+      entry-end is =
+          let start = subst LacksFrom is.0 from in
+          or-end false at Entry Unset from is
+          (λ none. record { entry = entry-stale place.routine.entry.slots (pointer_at place.routine.entry p) is.1 none; edges = start.0; way = start.1 })
+
+      by_lost : (lost : Option Way) → losing place p at ≡ lost → end_at place p (bringing place p at) at lost ≡ Some end → IsEnd end
+      by_lost None is e = subst IsEnd (some-same _ _ e) (by_known (bringing place p at) refl)
+      by_lost (Some Entry) is e = subst IsEnd (some-same _ _ e) (entry-end (losing-way at Entry is))
+      by_lost (Some (Along edge)) is e = by_alike (comes_alike place edge.from) e
+        where
+          by_alike : (b : Bool) → cond b None (Some (Unreached edge.from)) ≡ Some end → IsEnd end
+          by_alike true none = absurd cc
+          by_alike false same = subst IsEnd (some-same _ _ same) tt
+
+  or-some : (o other : Option End) (end : End) → option_or o other ≡ Some end → (o ≡ Some end) ⊎ (other ≡ Some end)
+  or-some None other end e = inr e
+  or-some (Some was) other end e = inl e
 
   or-none : (o other : Option End) → option_or o other ≡ None → o ≡ None
   or-none None other e = refl
@@ -315,8 +353,8 @@ module _ (place : Place) (p : ℕ) where
       marks : (k : ℕ) → Has (marked trace.passed at) k → LacksFrom k
       marks k h = elim (mark-was trace.passed at k h) [ inl same ↦ subst LacksFrom (sym same) from | inr was ↦ sound.passed k was ]
 
-      later : option_or trace.end (ends_at at) ≡ Some Unset → IsUnset place p
-      later e = elim (or-unset trace.end (ends_at at) e) [ inl was ↦ sound.unset was | inr here ↦ at-unset at from here ]
+      later : (end : End) → option_or trace.end (ends_at at) ≡ Some end → IsEnd end
+      later end e = elim (or-some trace.end (ends_at at) end e) [ inl was ↦ sound.end end was | inr here ↦ at-end at from end here ]
 
       met-here : (m : Meeting) → IsAt (bringing place p at) at (losing place p at) m → Meets (ends_at at) m
       met-here m is =
@@ -330,20 +368,20 @@ module _ (place : Place) (p : ℕ) where
               taken = known.1;
               lost = subst (λ to. IsWay place p false m.lost to) (sym is.to) (losing-way at m.lost is.lost);
             };
-            alike = λ none. end-alike (bringing place p at) at m.lost (ap (end_at place (bringing place p at) at) (sym is.lost) ∙ none);
+            alike = λ none. end-alike (bringing place p at) at m.lost (ap (end_at place p (bringing place p at) at) (sym is.lost) ∙ none);
           }
 
       by_meeting : (before new : Option Meeting) → trace.meeting ≡ before → met_at at ≡ new
           → Sound (cond (is_none before && is_some (option_or before new))
           (record trace { passed = marked trace.passed at; goes_on = true; found = true; meeting = option_or before new; end = ends_at at })
           (record trace { passed = marked trace.passed at; goes_on = true; meeting = option_or before new; end = option_or trace.end (ends_at at) }))
-      by_meeting None None is_before is_new = record { found = sound.found; passed = marks; lost = sound.lost; meeting = λ m e. absurd cc; unset = later }
+      by_meeting None None is_before is_new = record { found = sound.found; passed = marks; lost = sound.lost; meeting = λ m e. absurd cc; end = later }
       by_meeting None (Some new) is_before is_new = record {
         found = sound.found;
         passed = marks;
         lost = sound.lost;
         meeting = λ m e. met-here m (meeting-is (bringing place p at) at (losing place p at) m (is_new ∙ e));
-        unset = at-unset at from;
+        end = at-end at from;
       }
       by_meeting (Some m0) new is_before is_new = record {
         found = sound.found;
@@ -352,7 +390,7 @@ module _ (place : Place) (p : ℕ) where
         meeting = λ m e.
             (let met = sound.meeting m (is_before ∙ e) in
             record { is = met.is; alike = λ none. met.alike (or-none trace.end (ends_at at) none) });
-        unset = later;
+        end = later;
       }
 
   by-sound : (trace : Trace) → Sound trace → (edge : Edge) (to : ℕ) (behind : LacksBehind place p edge to) → LacksFrom to → Sound (back_by place p trace edge behind.comes.point)
@@ -375,7 +413,7 @@ module _ (place : Place) (p : ℕ) where
             } in
             subst (λ x. IsLost place p x) (some-same edge e same) lost);
         meeting = λ m e. (let met = sound.meeting m e in record { is = met.is; alike = met.alike });
-        unset = sound.unset;
+        end = sound.end;
       }
       by_loss false is = by_mark (is_marked trace.passed edge.from)
         where
@@ -428,7 +466,7 @@ module _ (place : Place) (p : ℕ) where
     passed = λ k h. sound.passed k (passed k h);
     lost = λ edge e. sound.lost edge (sym lost ∙ e);
     meeting = λ m e. (let met = sound.meeting m (sym meeting ∙ e) in record { is = met.is; alike = λ none. met.alike (sym end ∙ none) });
-    unset = λ e. sound.unset (sym end ∙ e);
+    end = λ why e. sound.end why (sym end ∙ e);
   }
 
   next-sound : (trace : Trace) → Sound trace → Sound (next_round place p trace)
@@ -451,7 +489,7 @@ module _ (place : Place) (p : ℕ) where
         passed = λ k h. absurd (none-marked k h);
         lost = λ edge e. absurd cc;
         meeting = λ m e. absurd cc;
-        unset = λ e. absurd cc;
+        end = λ end e. absurd cc;
       } in
       pass-sound start sound place.pc ([], refl)
 
@@ -486,4 +524,9 @@ module _ (place : Place) (p : ℕ) where
 pub said-holds : WhatIsSaidHolds
 said-holds place p =
     let sound = traced-sound place p in
-    record { lost = sound.lost; meeting = λ m e. (let met = sound.meeting m e in met.is); unset = sound.unset }
+    record {
+      lost = sound.lost;
+      meeting = λ m e. (let met = sound.meeting m e in met.is);
+      unset = λ e. sound.end Unset e;
+      nowhere = λ way slot e. sound.end (Nowhere way slot) e;
+    }

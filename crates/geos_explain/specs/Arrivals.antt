@@ -9,7 +9,7 @@ use Rattle.geos_explain.specs.declared.ways.Followed.{Followed}
 use Rattle.geos_explain.specs.declared.arrivals.Arrivals.{Arrivals}
 use Rattle.geos_explain.specs.Edges.{end_of}
 use Rattle.geos_explain.specs.Places.{Place, comes_alike}
-use Rattle.geos_explain.specs.Ways.{with_hint}
+use Rattle.geos_explain.specs.Ways.{with_hint, entry_pointer}
 
 -- nothing comes to any pc
 unfoldable pub no_arrivals : List (Option Pointer)
@@ -55,10 +55,10 @@ abbrev pub next_arrivals : Place → ℕ → Arrivals → Arrivals
 next_arrivals place p arrivals =
     if arrivals.goes_on then arrived_over place p (record arrivals { goes_on = false }) place.routine.count else arrivals
 
--- what the entry row knows comes to the routine's first instruction, and nothing yet to the others
+-- what the caller brings comes to the routine's first instruction, and nothing yet to the others
 abbrev pub arrivals_at_entry : Place → ℕ → Arrivals
 arrivals_at_entry place p =
-    arrived (record { at = no_arrivals; goes_on = true }) (start_of place.image.routines place.r) (pointer_at place.routine.entry p)
+    arrived (record { at = no_arrivals; goes_on = true }) (start_of place.image.routines place.r) (entry_pointer place.routine p)
 
 -- so many rounds: each but the last finds one way more, so as many as the routine has instructions find all
 unfoldable pub all_arrivals : Place → ℕ → ℕ → Arrivals

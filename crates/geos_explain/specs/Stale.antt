@@ -22,7 +22,7 @@ use Rattle.geos_explain.specs.declared.ways.Followed.{Followed}
 use Rattle.geos_explain.specs.declared.ways.Way.{Way}
 use Rattle.geos_explain.specs.declared.ways.Way.TheVariants.{Entry, Along}
 use Rattle.geos_explain.specs.declared.trace.End.{End}
-use Rattle.geos_explain.specs.declared.trace.End.TheVariants.{Unset, Unreached, Merged}
+use Rattle.geos_explain.specs.declared.trace.End.TheVariants.{Unset, Unreached, Merged, Nowhere}
 use Rattle.geos_explain.specs.declared.trace.Meeting.{Meeting}
 use Rattle.geos_explain.specs.declared.trace.Trace.{Trace}
 use Rattle.geos_explain.specs.Ways.{with_hint, forgets, sets}
@@ -158,12 +158,26 @@ merged_words place p to =
     concat (codes "; each way to" ∷ pc_text place.lines to ∷ codes " knows p" ∷ decimal p
     ∷ codes ", and it is not known there, as where it leads into two slots: fetch it again" ∷ [])
 
+-- what is to be done where a way brings a pointer into an empty slot
+abbrev pub into_empty_wish : ℕ → Way → ℕ → List ℕ
+into_empty_wish p Entry slot =
+    concat (codes ": say in the in line what s" ∷ decimal slot ∷ codes " holds, or fetch p" ∷ decimal p ∷ codes " first" ∷ [])
+into_empty_wish p (Along edge) slot = codes ": fetch it again"
+
+-- a way brings a pointer into an empty slot
+unfoldable pub into_empty_words : Place → ℕ → Way → ℕ → List ℕ
+into_empty_words place p way slot =
+    (codes "; from" ++ way_text place way)
+    ++ concat (codes " p" ∷ decimal p ∷ codes " leads into s" ∷ decimal slot ∷ codes ", which is empty there" ∷ [])
+    ++ into_empty_wish p way slot
+
 -- why a pointer is not known, where no instruction lost it
 abbrev pub end_words : Place → ℕ → Option Meeting → Option End → List ℕ
 end_words place p meeting None = codes ": fetch it again"
 end_words place p meeting (Some Unset) = unset_words place p meeting
 end_words place p meeting (Some (Unreached to)) = unreached_words place to
 end_words place p meeting (Some (Merged to)) = merged_words place p to
+end_words place p meeting (Some (Nowhere way slot)) = into_empty_words place p way slot
 
 -- by what a pointer was lost, or else why it is not known
 abbrev pub loss_words : Place → ℕ → Trace → List ℕ

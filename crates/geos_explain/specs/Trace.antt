@@ -9,13 +9,13 @@ use Rattle.geos_explain.specs.declared.ways.Followed.{Followed}
 use Rattle.geos_explain.specs.declared.ways.Way.{Way}
 use Rattle.geos_explain.specs.declared.ways.Way.TheVariants.{Entry, Along}
 use Rattle.geos_explain.specs.declared.trace.End.{End}
-use Rattle.geos_explain.specs.declared.trace.End.TheVariants.{Unset, Unreached, Merged}
+use Rattle.geos_explain.specs.declared.trace.End.TheVariants.{Unset, Unreached, Merged, Nowhere}
 use Rattle.geos_explain.specs.declared.trace.Meeting.{Meeting}
 use Rattle.geos_explain.specs.declared.trace.Trace.{Trace}
 use Rattle.geos_explain.specs.Led.{no_marks, marked, is_marked}
 use Rattle.geos_explain.specs.Edges.{end_of}
 use Rattle.geos_explain.specs.Places.{Place, comes_alike}
-use Rattle.geos_explain.specs.Ways.{bringing, losing, loses}
+use Rattle.geos_explain.specs.Ways.{empty_on, bringing, losing, loses}
 use Rattle.geos_explain.specs.Arrivals.{arrival, all_arrivals}
 
 -- ways to a pc meet, if one brings the pointer and another does not
@@ -24,17 +24,21 @@ meeting_at None to lost = None
 meeting_at (Some known) to None = None
 meeting_at (Some known) to (Some lost) = Some (record { to = to; known = known; lost = lost })
 
+-- a way brings the pointer into an empty slot, or else the end is as is said
+abbrev pub nowhere_or : Place → ℕ → Way → End → End
+nowhere_or place p way end = elim (empty_on place p way) [ None ↦ end | Some slot ↦ Nowhere way slot ]
+
 -- no way to a pc lacks the pointer: each brings it, or there is none
-abbrev pub without_way : ℕ → Option Way → End
-without_way to None = Unreached to
-without_way to (Some way) = Merged to
+abbrev pub without_way : Place → ℕ → ℕ → Option Way → End
+without_way place p to None = Unreached to
+without_way place p to (Some way) = nowhere_or place p way (Merged to)
 
 -- no instruction that goes on to a pc can have lost the pointer: no way to it lacks it, or the caller does not bring it, or
 -- control does not come from where it is lacking
-abbrev pub end_at : Place → Option Way → ℕ → Option Way → Option End
-end_at place known to None = Some (without_way to known)
-end_at place known to (Some Entry) = Some Unset
-end_at place known to (Some (Along edge)) = if comes_alike place edge.from then None else Some (Unreached edge.from)
+abbrev pub end_at : Place → ℕ → Option Way → ℕ → Option Way → Option End
+end_at place p known to None = Some (without_way place p to known)
+end_at place p known to (Some Entry) = Some (nowhere_or place p Entry Unset)
+end_at place p known to (Some (Along edge)) = if comes_alike place edge.from then None else Some (Unreached edge.from)
 
 -- one more place is passed, where ways meet or not, and no instruction lost the pointer in front of it or one can have lost it;
 -- where the first ways meet, nothing counts of what else was passed
@@ -50,7 +54,7 @@ unfoldable pub passed : Place → ℕ → Trace → ℕ → Trace
 passed place p trace at =
     let known = bringing place p at in
     let lost = losing place p at in
-    passed_by trace at (meeting_at known at lost) (end_at place known at lost)
+    passed_by trace at (meeting_at known at lost) (end_at place p known at lost)
 
 -- an edge of an instruction leads to a place that was passed, from where control comes, and does not bring the pointer
 abbrev pub lacks : Place → ℕ → Trace → Edge → Point → Bool

@@ -1,5 +1,5 @@
 -- Which ways lead to a pc, which of them bring a pointer, and which instructions lose one.
-use Rattle.std.specs.Prelude.{ℕ, zero, suc, ◌+◌, Bool, true, false, ◌&&◌, ◌||◌, not, nat_lt, ◌==◌, if◌then◌else◌, Option, Some, None, slice_get, slice_set}
+use Rattle.std.specs.Prelude.{ℕ, zero, suc, ◌+◌, Bool, true, false, ◌&&◌, ◌||◌, not, nat_lt, ◌==◌, if◌then◌else◌, List, Option, Some, None, slice_get, slice_set}
 use Rattle.std.specs.Option.{option_or}
 use Rattle.geos_opcodes.specs.declared.opcode.Opcode.{Opcode}
 use Rattle.geos_opcodes.specs.declared.opcode.Opcode.TheVariants.{Call}
@@ -10,8 +10,10 @@ use Rattle.geos_image.specs.declared.instr.Instr.{Instr}
 use Rattle.geos_image.specs.declared.point.Point.{Point}
 use Rattle.geos_image.specs.declared.row.Row.{Row}
 use Rattle.geos_image.specs.declared.row.Pointer.{Pointer}
+use Rattle.geos_image.specs.declared.routine.Routine.{Routine}
+use Rattle.geos_image.specs.declared.row.SlotState.{SlotState}
 use Rattle.geos_image.specs.Parts.{Parts, start_of}
-use Rattle.geos_verify.specs.Rows.{pointer_at, is_stale, after, has_edge}
+use Rattle.geos_verify.specs.Rows.{pointer_at, is_stale, after, has_edge, leads_nowhere}
 use Rattle.geos_explain.specs.declared.edges.Edge.{Edge}
 use Rattle.geos_explain.specs.declared.ways.Way.{Way}
 use Rattle.geos_explain.specs.declared.ways.Way.TheVariants.{Entry, Along}
@@ -25,6 +27,34 @@ use Rattle.geos_explain.specs.Places.{Place, agrees}
 abbrev pub is_as : Bool → Option Pointer → Bool
 is_as true pointer = not (is_stale pointer)
 is_as false pointer = is_stale pointer
+
+-- what a routine's caller brings of a pointer: what the entry row knows of it, unless it leads into an empty slot
+abbrev pub entry_pointer : Routine → ℕ → Option Pointer
+entry_pointer routine p =
+    if leads_nowhere routine.entry.slots (pointer_at routine.entry p) then None else pointer_at routine.entry p
+
+-- the slot that a pointer leads into, if that is empty
+abbrev pub empty_behind : List SlotState → Option Pointer → Option ℕ
+empty_behind slots None = None
+empty_behind slots (Some pointer) = if leads_nowhere slots (Some pointer) then Some pointer.slot else None
+
+-- the same of a row's pointer
+abbrev pub empty_slot : Row → ℕ → Option ℕ
+empty_slot row p = empty_behind row.slots (pointer_at row p)
+
+-- the same of a pointer behind an instruction, on an edge that it has
+abbrev pub empty_along : Parts → ℕ → Edge → Point → Option ℕ
+empty_along image p edge point =
+    if has_edge point.instr edge.branch then empty_slot (after image edge.from point.row edge.branch) p else None
+
+-- the same, if there is an instruction
+unfoldable pub empty_from : Parts → ℕ → Edge → Option ℕ
+empty_from image p edge = elim (slice_get image.points edge.from) [ None ↦ None | Some point ↦ empty_along image p edge point ]
+
+-- the slot that a pointer leads into as a way brings it, if that is empty there
+abbrev pub empty_on : Place → ℕ → Way → Option ℕ
+empty_on place p Entry = empty_slot place.routine.entry p
+empty_on place p (Along edge) = empty_from place.image p edge
 
 -- control comes along the edge of the instruction as is asked, and behind it the pointer is known as is asked
 abbrev pub is_as_sought : Place → Sought → Edge → Point → Bool
@@ -52,10 +82,12 @@ unfoldable pub first_way : Place → Sought → ℕ → Option Way
 first_way place sought zero = None
 first_way place sought (suc n) = option_or (first_way place sought n) (way_at place sought (start_of place.image.routines place.r + n))
 
--- the way from the caller, where the pc is the routine's first, and the entry row knows the pointer, or does not
+-- the way from the caller, where the pc is the routine's first, and the caller brings the pointer, or does not
 abbrev pub entry_way : Place → Sought → Option Way
 entry_way place sought =
-    if sought.to == start_of place.image.routines place.r && is_as sought.known (pointer_at place.routine.entry sought.p) then Some Entry else None
+    if sought.to == start_of place.image.routines place.r && is_as sought.known (entry_pointer place.routine sought.p)
+    then Some Entry
+    else None
 
 -- the first way that is sought
 unfoldable pub way_to : Place → Sought → Option Way

@@ -8,7 +8,7 @@ use crate::edges::{Edge, end_of};
 use crate::place::Place;
 use crate::points::point_at;
 use crate::routines::comes_alike;
-use crate::ways::{Followed, is_stale, with_hint};
+use crate::ways::{Followed, entry_pointer, is_stale, with_hint};
 use geos_image::{Image, Point, Pointer};
 use geos_verify::{after, has_edge, pointer_at};
 
@@ -106,7 +106,7 @@ fn next_arrivals(arrivals: &mut Arrivals, place: &Place, p: u8)
     }
 }
 
-/// What the entry row knows comes to the routine's first instruction, and nothing yet to the others.
+/// What the caller brings comes to the routine's first instruction, and nothing yet to the others.
 fn arrivals_at_entry(place: &Place, p: u8) -> Arrivals
     requires { IsPlace (place_of place.now) }
     ensures { result ≡ arrivals_at_entry (place_of place.now) p }
@@ -116,7 +116,7 @@ fn arrivals_at_entry(place: &Place, p: u8) -> Arrivals
         goes_on: true,
     };
     let start = usize::from(place.image.start(place.r));
-    arrive(&mut arrivals, start, pointer_at(&place.routine.entry, p));
+    arrive(&mut arrivals, start, entry_pointer(place.routine, p));
     arrivals
 }
 

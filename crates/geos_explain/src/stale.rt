@@ -3,7 +3,7 @@
 ghost use Rattle.std.specs.Prelude.{◌≡◌, ◌++◌, OnOk};
 ghost use Rattle.geos_explain.specs.Places.{IsPlace, place_of};
 ghost use Rattle.geos_explain.specs.declared.ways.Way.TheVariants.{Along};
-ghost use Rattle.geos_explain.specs.Stale.{if_stale, stale_used, pointer_item, refused_on, way_text, meeting_head, meeting_item, named, name_at, call_loss, moved_words, use_loss, how_lost, lost_by, label_wish, refused_at, unset_words, unreached_words, merged_words, loss_words, trace_item, stale_words};
+ghost use Rattle.geos_explain.specs.Stale.{if_stale, stale_used, pointer_item, refused_on, way_text, meeting_head, meeting_item, named, name_at, call_loss, moved_words, use_loss, how_lost, lost_by, label_wish, refused_at, unset_words, unreached_words, merged_words, into_empty_wish, into_empty_words, loss_words, trace_item, stale_words};
 
 use crate::edges::Edge;
 use crate::numbers::pc_part;
@@ -352,6 +352,46 @@ fn put_merged(out: &mut Vec<u8>, place: &Place, p: u8, to: u16) -> Result<(), Al
     )
 }
 
+/// What is to be done where a way brings the pointer into an empty slot.
+fn put_into_empty_wish(out: &mut Vec<u8>, p: u8, way: Way, slot: u8) -> Result<(), AllocError>
+    ensures { OnOk result (out.new.items ≡ out.old.items ++ into_empty_wish p way slot) }
+{
+    match way {
+        Way::Entry => put_parts(
+            out,
+            &[
+                Part::Numbered(": say in the in line what s", slot as u64),
+                Part::Numbered(" holds, or fetch p", p as u64),
+                Part::Text(" first"),
+            ],
+        ),
+        Way::Along(_) => out.extend_from_slice(b": fetch it again"),
+    }
+}
+
+/// A way brings the pointer into an empty slot.
+#[tactic(auto, unfolding(crate::specs::Stale::into_empty_words))]
+fn put_into_empty(
+    out: &mut Vec<u8>,
+    place: &Place,
+    p: u8,
+    way: Way,
+    slot: u8,
+) -> Result<(), AllocError>
+    ensures { OnOk result (out.new.items ≡ out.old.items ++ into_empty_words (place_of place.now) p way slot) }
+{
+    put_way(out, "; from", place, way)?;
+    put_parts(
+        out,
+        &[
+            Part::Numbered(" p", p as u64),
+            Part::Numbered(" leads into s", slot as u64),
+            Part::Text(", which is empty there"),
+        ],
+    )?;
+    put_into_empty_wish(out, p, way, slot)
+}
+
 /// By what the pointer was lost, or else why it is not known.
 fn put_loss(out: &mut Vec<u8>, place: &Place, p: u8, t: &Trace) -> Result<(), AllocError>
     ensures { OnOk result (out.new.items ≡ out.old.items ++ loss_words (place_of place.now) p t.now) }
@@ -363,6 +403,7 @@ fn put_loss(out: &mut Vec<u8>, place: &Place, p: u8, t: &Trace) -> Result<(), Al
             Some(End::Unset) => put_unset(out, place, p, t.meeting),
             Some(End::Unreached(to)) => put_unreached(out, place, to),
             Some(End::Merged(to)) => put_merged(out, place, p, to),
+            Some(End::Nowhere(way, slot)) => put_into_empty(out, place, p, way, slot),
         },
     }
 }

@@ -3,7 +3,7 @@
 ghost use Rattle.std.specs.Prelude.{◌≡◌, Some, slice_get};
 ghost use Rattle.geos_explain.specs.Places.{IsPlace, place_of};
 ghost use Rattle.geos_explain.specs.Lost.{WhatIsSaidHolds};
-ghost use Rattle.geos_explain.specs.Trace.{meeting_at, end_at, passed, hint_at, back_by, back_along, back_from, next_round, rounds, along_lost, traced};
+ghost use Rattle.geos_explain.specs.Trace.{meeting_at, nowhere_or, end_at, passed, hint_at, back_by, back_along, back_from, next_round, rounds, along_lost, traced};
 
 use crate::arrivals::{Arrivals, all_arrivals, arrival};
 use crate::edges::{Edge, end_of};
@@ -11,7 +11,7 @@ use crate::led::{Marks, is_marked, mark, no_marks};
 use crate::place::Place;
 use crate::points::point_at;
 use crate::routines::comes_alike;
-use crate::ways::{Followed, Way, bringing, is_stale, loses, losing};
+use crate::ways::{Followed, Way, bringing, empty_on, is_stale, loses, losing};
 use geos_image::Point;
 use geos_verify::{after, has_edge, pointer_at};
 
@@ -35,6 +35,8 @@ pub(crate) enum End {
     Unreached(u16),
     /// Each way to this pc brings it, and the row still does not know it.
     Merged(u16),
+    /// This way brings it into this slot, which is empty there.
+    Nowhere(Way, u8),
 }
 
 /// How far a pointer that is not known was followed back.
@@ -69,17 +71,27 @@ fn meeting_at(known: Option<Way>, to: u16, lost: Option<Way>) -> Option<Meeting>
     }
 }
 
+/// The way brings the pointer into an empty slot, or else the end is as is said.
+fn nowhere_or(place: &Place, p: u8, way: Way, end: End) -> End
+    ensures { result ≡ nowhere_or (place_of place.now) p way end }
+{
+    match empty_on(place, p, way) {
+        Some(slot) => End::Nowhere(way, slot),
+        None => end,
+    }
+}
+
 /// No instruction that goes on to a pc can have lost the pointer: no way to it lacks it, where each brings it or there is none, or
 /// the caller does not bring it, or control does not come from where it is lacking.
-fn end_at(place: &Place, known: Option<Way>, to: u16, lost: Option<Way>) -> Option<End>
-    ensures { result ≡ end_at (place_of place.now) known to lost }
+fn end_at(place: &Place, p: u8, known: Option<Way>, to: u16, lost: Option<Way>) -> Option<End>
+    ensures { result ≡ end_at (place_of place.now) p known to lost }
 {
     match lost {
         Some(Way::Along(edge)) if comes_alike(place, edge.from) => None,
         Some(Way::Along(edge)) => Some(End::Unreached(edge.from)),
-        Some(Way::Entry) => Some(End::Unset),
+        Some(Way::Entry) => Some(nowhere_or(place, p, Way::Entry, End::Unset)),
         None => match known {
-            Some(_) => Some(End::Merged(to)),
+            Some(way) => Some(nowhere_or(place, p, way, End::Merged(to))),
             None => Some(End::Unreached(to)),
         },
     }
@@ -93,7 +105,7 @@ fn pass(trace: &mut Trace, place: &Place, p: u8, at: u16)
 {
     let known = bringing(place, p, at);
     let lost = losing(place, p, at);
-    let end = end_at(place, known, at, lost);
+    let end = end_at(place, p, known, at, lost);
     let met = trace.meeting.or(meeting_at(known, at, lost));
     mark(&mut trace.passed, usize::from(at));
     trace.goes_on = true;
@@ -248,7 +260,8 @@ pub(crate) fn traced(place: &Place, p: u8) -> Trace
 
 /// A law: the instruction that is named as the one that lost a pointer loses it, where on some way it is known, and from there
 /// a way leads to the place along which no row knows it; of ways that are named where they meet, one brings it and another does
-/// not; and where it is said that it is not set, such a way leads there from the routine's beginning.
+/// not; where it is said that it is not set, such a way leads there from the routine's beginning; and where a way is named that
+/// brings it into an empty slot, it does, and from its end such a way leads there.
 pub fn what_is_said_of_a_pointer_holds()
     ensures { WhatIsSaidHolds }
 {}

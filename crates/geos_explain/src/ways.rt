@@ -3,16 +3,16 @@
 ghost use Rattle.std.specs.Prelude.{◌≡◌, ◌<◌, Some, length, slice_get, IfSome};
 ghost use Rattle.geos_verify.specs.Rows.{is_stale};
 ghost use Rattle.geos_explain.specs.Places.{IsPlace, place_of};
-ghost use Rattle.geos_explain.specs.Ways.{is_as, is_as_sought, is_sought, way_at, way_to, bringing, losing, with_hint, sets, forgets, loses};
+ghost use Rattle.geos_explain.specs.Ways.{is_as, entry_pointer, empty_slot, empty_along, empty_on, is_as_sought, is_sought, way_at, way_to, bringing, losing, with_hint, sets, forgets, loses};
 
 use crate::edges::{Edge, end_of};
 use crate::led::is_reached;
 use crate::place::Place;
 use crate::points::point_at;
 use crate::routines::agrees;
-use geos_image::{Image, Instr, Opcode, Point, Pointer, Row};
+use geos_image::{Image, Instr, Opcode, Point, Pointer, Routine, Row};
 use geos_opcodes::PointerUse;
-use geos_verify::{after, has_edge, pointer_at};
+use geos_verify::{after, has_edge, leads_nowhere, pointer_at};
 
 /// A way to an instruction.
 #[derive(Clone, Copy)]
@@ -62,6 +62,55 @@ fn is_as(known: bool, pointer: Option<Pointer>) -> bool
     }
 }
 
+/// What the routine's caller brings of the pointer: what the entry row knows of it, unless it leads into an empty slot, since no
+/// row inside the routine may know such a pointer.
+pub(crate) fn entry_pointer(routine: &Routine, p: u8) -> Option<Pointer>
+    ensures { result ≡ entry_pointer routine.now p }
+{
+    let pointer = pointer_at(&routine.entry, p);
+    if leads_nowhere(&routine.entry.slots, pointer) {
+        None
+    } else {
+        pointer
+    }
+}
+
+/// The slot that the row's pointer leads into, if that is empty.
+fn empty_slot(row: &Row, p: u8) -> Option<u8>
+    ensures { result ≡ empty_slot row.now p }
+{
+    match pointer_at(row, p) {
+        Some(pointer) if leads_nowhere(&row.slots, Some(pointer)) => Some(pointer.slot),
+        _ => None,
+    }
+}
+
+/// The same of the pointer behind the instruction, on an edge that it has.
+fn empty_along(image: &Image, p: u8, edge: Edge, point: &Point) -> Option<u8>
+    requires { slice_get image.now.points edge.from ≡ Some point.now }
+    ensures { result ≡ empty_along image.now p edge point.now }
+{
+    if has_edge(&point.instr, edge.branch) {
+        empty_slot(&after(image, edge.from, &point.row, edge.branch), p)
+    } else {
+        None
+    }
+}
+
+/// The slot that the pointer leads into as the way brings it, if that is empty there.
+#[tactic(auto, unfolding(crate::specs::Ways::empty_from))]
+pub(crate) fn empty_on(place: &Place, p: u8, way: Way) -> Option<u8>
+    ensures { result ≡ empty_on (place_of place.now) p way }
+{
+    match way {
+        Way::Entry => empty_slot(&place.routine.entry, p),
+        Way::Along(edge) => match point_at(place.image, edge.from) {
+            Some(point) => empty_along(place.image, p, edge, point),
+            None => None,
+        },
+    }
+}
+
 /// Whether control comes along the edge of the instruction as is asked, and behind it the pointer is known as is asked.
 fn is_as_sought(place: &Place, sought: Sought, edge: Edge, point: &Point) -> bool
     requires { slice_get place.now.image.now.points edge.from ≡ Some point.now }
@@ -106,15 +155,15 @@ fn way_at(place: &Place, sought: Sought, from: u16) -> Option<Way>
     }
 }
 
-/// The first way that is sought: from the caller, where the pc is the routine's first, and the entry row knows the pointer as
-/// is asked, or else from an instruction of the routine.
+/// The first way that is sought: from the caller, where the pc is the routine's first, and the caller brings the pointer as is
+/// asked, or else from an instruction of the routine.
 #[tactic(auto, unfolding(crate::specs::Ways::first_way, crate::specs::Ways::way_to))]
 fn way_to(place: &Place, sought: Sought) -> Option<Way>
     requires { IsPlace (place_of place.now) }
     ensures { result ≡ way_to (place_of place.now) sought }
 {
     let start = place.image.start(place.r);
-    if sought.to == start && is_as(sought.known, pointer_at(&place.routine.entry, sought.p)) {
+    if sought.to == start && is_as(sought.known, entry_pointer(place.routine, sought.p)) {
         return Some(Way::Entry);
     }
     let mut first = None;
