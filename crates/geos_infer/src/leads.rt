@@ -1,7 +1,8 @@
 //! The edges that lead into each place of a routine.
 
-ghost use Rattle.std.specs.Prelude.{◌<◌, IfSome};
+ghost use Rattle.std.specs.Prelude.{◌<◌};
 
+use crate::arcs::Arc;
 use crate::table::{Table, two_tables};
 use std::alloc::{AllocError, Global};
 
@@ -35,20 +36,28 @@ impl Leads {
         self.first.fill_from(pc, None);
     }
 
-    /// One more edge.
-    pub(crate) fn add(&mut self, from: u16, branch: bool, to: u16)
-        requires from { from < 4096 }
-        requires to { to < 4096 }
+    /// An edge comes first among those into where it leads, if there is one; the edge that came first there before.
+    fn put(&mut self, from: u16, branch: bool, arc: &Option<Arc>) -> Option<Lead>
+        requires { from < 4096 }
     {
-        let [along, branching] = self.behind.at(from);
-        let next = self.first.at(to);
-        let behind = if branch {
-            [along, next]
-        } else {
-            [next, branching]
+        let Some(arc) = arc else {
+            return None;
         };
+        let behind = self.first.at(arc.to);
+        self.first.set(arc.to, Some(Lead { from, branch }));
+        behind
+    }
+
+    /// The edges of a place lead to others: that to the next instruction, and that to its target.
+    pub(crate) fn add(&mut self, from: u16, arcs: &[Option<Arc>; 2])
+        requires { from < 4096 }
+    {
+        let [along, branching] = arcs;
+        let behind = [
+            self.put(from, false, along),
+            self.put(from, true, branching),
+        ];
         self.behind.set(from, behind);
-        self.first.set(to, Some(Lead { from, branch }));
     }
 
     /// The first edge into a place.

@@ -146,15 +146,6 @@ impl Place {
     }
 }
 
-/// Notes an edge among those into the place where it leads.
-fn note_lead(ways: &mut Ways, from: u16, branch: bool, arc: &Option<Arc>)
-    requires { from < 4096 }
-{
-    if let Some(arc) = arc {
-        ways.leads.add(from, branch, arc.to);
-    }
-}
-
 /// Notes the edges of a routine, where nothing else is found yet. Nothing is known of counters where it begins, so that all
 /// cost something there.
 pub(crate) fn note_arcs(body: &Body, known: &Known, touched: &Touched, ways: &mut Ways) {
@@ -162,10 +153,9 @@ pub(crate) fn note_arcs(body: &Body, known: &Known, touched: &Touched, ways: &mu
     for pc in body.start..body.end {
         let along = arc_of(body, known, touched, pc, false);
         let branching = arc_of(body, known, touched, pc, true);
-        note_lead(ways, pc, false, &along);
-        note_lead(ways, pc, true, &branching);
         let mut place = Place::NOTHING;
         place.arcs = [along, branching];
+        ways.leads.add(pc, &place.arcs);
         place.costly = [pc == body.start; 4];
         place.returns = return_steps(body.image.instr(pc)) != 0;
         ways.set_place(pc, place);
