@@ -1,13 +1,14 @@
 -- What a stop may leave of a device with a cache, call by call.
-use Rattle.std.proofs.Common.{◌≡◌, ◌∙◌, ◌⊎◌, ℕ, zero, suc, ◌-◌, List, [], ◌∷◌, ◌++◌, Global, Vec, length, reverse, refl, ap, sym, subst, inl, inr, arith}
+use Rattle.std.proofs.Common.{◌≡◌, ◌∙◌, ◌⊎◌, ℕ, zero, suc, ◌-◌, List, [], ◌∷◌, ◌++◌, Global, Vec, length, reverse, take, refl, ap, sym, subst, inl, inr, arith}
 use Rattle.std.proofs.lemmas.List.{reverse-append}
+use Rattle.std.proofs.lemmas.Grind.{common_steps}
 use Rattle.vm_file.specs.Device.{AfterWrite, Only, Touched}
 use Rattle.vm_file.specs.Outcomes.{ReadsOnly, WritesOnly}
 use Rattle.vm_file.proofs.Touches.{touched_not}
 use Rattle.cached_device.specs.declared.device.CachedDevice.{CachedDevice}
 use Rattle.cached_device.specs.declared.event.Event.{Event}
 use Rattle.cached_device.specs.declared.event.Event.TheVariants.{Written, Synced}
-use Rattle.cached_device.specs.History.{Leaves, LeavesSince, MayHaveLeft, MayLeave, bytes_of, events_of, medium}
+use Rattle.cached_device.specs.History.{IsStill, Leaves, LeavesSince, MayHaveLeft, MayLeave, bytes_of, events_of, medium}
 
 -- where one event more was, it was before it or after it
 left_more : (start : List ℕ) (had : ℕ) (e : Event) (before : List Event) (c : List ℕ) → LeavesSince start (suc (length before) - had) (e ∷ before) c → LeavesSince start (length before - had) before c ⊎ Leaves start (e ∷ before) c
@@ -22,11 +23,9 @@ left_more start had e before c since = by (suc (length before) - had) refl since
 pub events_more : (events more : List Event) (e : Event) → more ≡ events ++ (e ∷ []) → reverse more ≡ e ∷ reverse events
 events_more events more e is = ap reverse is ∙ reverse-append events (e ∷ [])
 
--- a device on which nothing happened
-pub record IsStill (old new : CachedDevice) : Type 0 where
-  pub bytes : bytes_of new ≡ bytes_of old
-  pub start : new.start.items ≡ old.start.items
-  pub events : events_of new ≡ events_of old
+-- without the last event they are as they were before it
+pub popped : (events more fewer : List Event) (e : Event) (n : ℕ) → more ≡ events ++ (e ∷ []) → n ≡ length more → fewer ≡ take (n - 1) more → fewer ≡ events
+popped events more fewer e n is count rest = grind (arith, common_steps)
 
 module _ (old new : CachedDevice) (still : IsStill old new) where
   may_leave_still : (c : List ℕ) → MayLeave new c → MayLeave old c

@@ -1,5 +1,6 @@
 -- What a device with a cache holds, and what a stop leaves of it.
-use Rattle.std.specs.Prelude.{◌≡◌, ◌⊎◌, ℕ, zero, suc, ◌-◌, List, [], ◌∷◌, length, reverse, refl}
+use Rattle.std.specs.Prelude.{◌≡◌, ◌⊎◌, ℕ, zero, suc, ◌-◌, List, [], ◌∷◌, Vec, length, reverse, refl}
+use Rattle.std.specs.Global.{Global}
 use Rattle.std.proofs.Common.{inl, inr, subst}
 use Rattle.std.proofs.Math.Nat.{sub_self}
 use Rattle.vm_file.specs.Device.{AfterWrite, Medium}
@@ -30,6 +31,23 @@ failures_of device = device.failures
 -- what happened, the last event first
 abbrev pub events_of : CachedDevice → List Event
 events_of device = reverse device.events.items
+
+-- a device on which nothing happened
+pub record IsStill (old new : CachedDevice) : Type 0 where
+  pub bytes : bytes_of new ≡ bytes_of old
+  pub start : new.start.items ≡ old.start.items
+  pub events : events_of new ≡ events_of old
+
+-- a device to which this happened as well, and no more
+pub record Happens (event : Event) (old new : CachedDevice) : Type 0 where
+  pub start : new.start.items ≡ old.start.items
+  pub events : events_of new ≡ event ∷ events_of old
+
+-- a device of which what reads give was made to last
+pub record Syncs (old new : CachedDevice) : Type 0 where
+  pub bytes : Vec ℕ Global
+  pub all : bytes.items ≡ bytes_of old
+  pub happens : Happens (Synced bytes) old new
 
 -- it returns what was last written, always
 abbrev pub IsHonest : CachedDevice → Type 0

@@ -1,6 +1,8 @@
 //! A device with a cache.
-ghost use Rattle.std.specs.Prelude.{◌≡◌, replicate, IfOk, OnOk};
-ghost use Rattle.vm_file.specs.Device.{one_more};
+ghost use Rattle.std.specs.Prelude.{◌≡◌, ◌+◌, ◌<◌, ◌≤◌, length, replicate, IfOk, OnErr, OnOk};
+ghost use Rattle.lmem_raw.specs.Bytes.{part, with_part};
+ghost use Rattle.vm_file.specs.Device.{Counts, Only, one_more};
+ghost use Rattle.vm_file.specs.Outcomes.{ReadsOnly, WritesOnly};
 
 use crate::event::Event;
 use crate::part::{Part, leave};
@@ -22,11 +24,14 @@ pub struct CachedDevice {
 }
 
 impl CachedDevice {
-    ghost use Rattle.cached_device.specs.History.{MayLeave, bytes_of};
+    ghost use Rattle.cached_device.specs.History.{MayLeave, bytes_of, failures_of};
+    ghost use Rattle.cached_device.specs.Stopped.{LeavesBy};
 
-    /// A device of so many zero bytes, which last. `AllocError` where the allocator has no memory.
+    /// A device of so many zero bytes, which last: a stop leaves nothing else. `AllocError` where the allocator has no memory.
     pub fn new(alloc: Global, len: u64) -> Result<CachedDevice, AllocError>
-        ensures { IfOk result (λ device. bytes_of device ≡ replicate len 0) }
+        ensures bytes { IfOk result (λ device. bytes_of device ≡ replicate len 0) }
+        ensures lasts { IfOk result (λ device. Only (replicate len 0) (MayLeave device)) }
+        ensures failures { IfOk result (λ device. failures_of device ≡ 0) }
     {
         Ok(CachedDevice {
             alloc,
@@ -40,7 +45,8 @@ impl CachedDevice {
     /// What a stop now leaves, where it makes this of the parts of 512 bytes that were written since the last `sync`, in the order
     /// of the device. `AllocError` where the allocator has no memory.
     pub fn after_stop(&self, parts: &[Part]) -> Result<Vec<u8>, AllocError>
-        ensures { IfOk result (λ bytes. MayLeave self.now bytes.items) }
+        ensures possible { IfOk result (λ bytes. MayLeave self.now bytes.items) }
+        ensures chosen { IfOk result (λ bytes. LeavesBy self.now parts.now bytes.items) }
     {
         let mut bytes = self.start.to_vec(self.alloc)?;
         for event in &self.events {
@@ -63,7 +69,8 @@ fn fail(failures: &mut u64) -> Result<(), Disk>
 }
 
 impl Device for CachedDevice {
-    ghost use Rattle.cached_device.specs.History.{at_once, by_now, medium, reads_now};
+    ghost use Rattle.cached_device.specs.History.{Happens, IsStill, MayLeave, Syncs, at_once, bytes_of, by_now, failures_of, medium, reads_now};
+    ghost use Rattle.cached_device.specs.declared.event.Event.TheVariants.{Written};
 
     ghost medium = { medium };
 
@@ -75,25 +82,52 @@ impl Device for CachedDevice {
         self.failures
     }
 
-    fn read_at(&mut self, at: u64, into: &mut [u8]) -> Result<(), Disk> {
+    /// Reads the bytes from an offset on. `Disk` past the length, and there alone.
+    fn read_at(&mut self, at: u64, into: &mut [u8]) -> Result<(), Disk>
+        ensures within { OnOk result (at + length into.old ≤ length (bytes_of self.old)) }
+        ensures past { OnErr result (length (bytes_of self.old) < at + length into.old) }
+        ensures bytes { OnOk result (into.new ≡ part (bytes_of self.old) at (length into.old)) }
+        ensures reads { ReadsOnly medium self.old self.new }
+        ensures still { IsStill self.old self.new }
+        ensures cause { Counts (failures_of self.old) (failures_of self.new) result }
+    {
         match self.cache.read_at(at, into) {
             Ok(()) => Ok(()),
             Err(Disk) => fail(&mut self.failures),
         }
     }
 
-    fn write_at(&mut self, at: u64, bytes: &[u8]) -> Result<(), Disk> {
+    /// Writes bytes from an offset on. `Disk` past the length, and where there is no memory: then nothing happened.
+    fn write_at(&mut self, at: u64, bytes: &[u8]) -> Result<(), Disk>
+        ensures within { OnOk result (at + length bytes.now ≤ length (bytes_of self.old)) }
+        ensures written { OnOk result (bytes_of self.new ≡ with_part (bytes_of self.old) at bytes.now) }
+        ensures writes { WritesOnly medium at (length bytes.now) self.old self.new }
+        ensures happened { OnOk result (Happens (Written at (length bytes.now)) self.old self.new) }
+        ensures still { OnErr result (IsStill self.old self.new) }
+        ensures cause { Counts (failures_of self.old) (failures_of self.new) result }
+    {
         match self.events.push(Event::Written(at, bytes.len() as u64)) {
             Ok(()) => {}
             Err(_) => return fail(&mut self.failures),
         }
         match self.cache.write_at(at, bytes) {
             Ok(()) => Ok(()),
-            Err(Disk) => fail(&mut self.failures),
+            Err(Disk) => {
+                self.events.pop();
+                fail(&mut self.failures)
+            }
         }
     }
 
-    fn sync(&mut self) -> Result<(), Disk> {
+    /// Makes last what was written. `Disk` where there is no memory: then nothing happened.
+    fn sync(&mut self) -> Result<(), Disk>
+        ensures durable { OnOk result (Only (bytes_of self.new) (MayLeave self.new)) }
+        ensures reads { ReadsOnly medium self.old self.new }
+        ensures bytes { bytes_of self.new ≡ bytes_of self.old }
+        ensures happened { OnOk result (Syncs self.old self.new) }
+        ensures still { OnErr result (IsStill self.old self.new) }
+        ensures cause { Counts (failures_of self.old) (failures_of self.new) result }
+    {
         let bytes = match self.cache.as_slice().to_vec(self.alloc) {
             Ok(bytes) => bytes,
             Err(_) => return fail(&mut self.failures),

@@ -1,5 +1,7 @@
 //! What a stop makes of a part of a device.
+ghost use Rattle.std.specs.Prelude.{◌≡◌, ℕ, ◌+◌, ◌<◌, ◌≤◌, length, slice_index};
 ghost use Rattle.vm_file.specs.Device.{Touched};
+ghost use Rattle.cached_device.specs.Stopped.{byte_left, chosen};
 
 /// The bytes of a part.
 pub(crate) const PART: usize = 512;
@@ -18,8 +20,10 @@ pub enum Part {
 /// The byte that stands where neither the old one nor the new one does.
 const GARBAGE: u8 = 0xa5;
 
-/// What becomes of a byte.
-fn left(part: Option<&Part>, old: u8, new: u8) -> u8 {
+/// What becomes of a byte that was written.
+fn left(part: Option<Part>, old: u8, new: u8) -> u8
+    ensures { result ≡ byte_left part old new }
+{
     match part {
         Some(Part::New) => new,
         Some(Part::Garbage) => GARBAGE,
@@ -29,11 +33,12 @@ fn left(part: Option<&Part>, old: u8, new: u8) -> u8 {
 
 /// Leaves of the `n` bytes from `at` on what the choices say, one for each part of the device; where there is none, the old bytes stay.
 pub(crate) fn leave(bytes: &mut [u8], at: u64, n: u64, new: &[u8], parts: &[Part])
-    ensures { Touched at n bytes.old bytes.new }
+    ensures touched { Touched at n bytes.old bytes.new }
+    ensures left { (i : ℕ) → at ≤ i → i < at + n → i < length bytes.old → slice_index bytes.new i ≡ chosen parts.now new.now bytes.old i }
 {
     let end = at.saturating_add(n).min(bytes.len() as u64) as usize;
     for i in at as usize..end {
         let byte = new.get(i).copied().unwrap_or(bytes[i]);
-        bytes[i] = left(parts.get(i / PART), bytes[i], byte);
+        bytes[i] = left(parts.get(i / PART).copied(), bytes[i], byte);
     }
 }
