@@ -1,4 +1,5 @@
 mod Fits
+mod Holding
 mod Losing
 mod Noted
 mod Places

@@ -5,11 +5,12 @@ pub mod Places
 pub mod Notes
 pub mod Lacks
 pub mod Uses
-pub mod Held
 pub mod Ways
 pub mod Arrivals
 pub mod Trace
 pub mod Lost
+pub mod Since
+pub mod Held
 pub mod Stale
 pub mod Steps
 pub mod Unset

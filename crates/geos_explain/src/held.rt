@@ -1,32 +1,19 @@
 //! Which slots are held that must not be, and since where.
 
-ghost use Rattle.std.specs.Prelude.{◌≡◌, ◌<◌, ◌≤◌, ◌++◌, OnOk, drop, length};
+ghost use Rattle.std.specs.Prelude.{◌≡◌, ◌≤◌, ◌++◌, OnOk, drop, length};
 ghost use Rattle.geos_text.specs.Parts.{part_text};
 ghost use Rattle.geos_explain.specs.Places.{IsPlace, place_of};
-ghost use Rattle.geos_explain.specs.Held.{is_held_at, slot_at, slots_at, fills_at, fills_here, also, since_below, since_place, or_another, since_at, sinces_at, else_wanted, kept_behind, unmet_words, exit_words};
+ghost use Rattle.geos_explain.specs.Held.{is_held_at, slot_at, slots_at, since_place, or_another, since_text, since_at, sinces_at, else_wanted, kept_behind, unmet_words, exit_words};
 
 use crate::lacks::{lacking, put_lacking};
 use crate::numbers::{pc_part, put_are};
 use crate::place::Place;
-use crate::points::point_at;
-use crate::routines::comes_alike;
+use crate::since::{Since, held_since};
 use crate::uses::put_state;
-use geos_image::Image;
 use geos_listing::put_items;
 use geos_text::{Part, put_parts};
-use geos_verify::{after, falls_through, has_place, is_empty, is_of_file, slot_state};
+use geos_verify::{is_empty, is_of_file, slot_state};
 use std::alloc::AllocError;
-
-/// Where in a routine a slot becomes held.
-#[derive(Clone, Copy)]
-pub(crate) enum Since {
-    /// In no place: it was held when the routine began.
-    Nowhere,
-    /// Behind the instruction at one pc.
-    Once(u16),
-    /// In several places; this is the last in front of the place that is explained, else the first.
-    Often(u16),
-}
 
 /// Where slots are held that must not be.
 #[derive(Clone, Copy)]
@@ -75,66 +62,13 @@ pub(crate) fn put_slots_at(
     Ok(())
 }
 
-/// Whether the slot is empty before the instruction at the pc, and held behind it, if there is an instruction.
-#[tactic(auto, unfolding(crate::specs::Held::fills_at))]
-fn fills_at(image: &Image, a: u8, from: u16) -> bool
-    ensures { result ≡ fills_at image.now a from }
-{
-    match point_at(image, from) {
-        Some(point) => {
-            falls_through(point.instr.opcode)
-                && is_empty(slot_state(&point.row, a))
-                && !is_empty(slot_state(&after(image, from, &point.row, false), a))
-        }
-        None => false,
-    }
-}
-
-/// Whether the instruction at the pc is one of the routine's from which control comes, and the slot is held behind it and not
-/// before.
-fn fills_here(place: &Place, a: u8, from: u16) -> bool
-    requires { IsPlace (place_of place.now) }
-    ensures { result ≡ fills_here (place_of place.now) a from }
-{
-    let start = u32::from(place.image.start(place.r));
-    has_place(start, place.routine, u32::from(from))
-        && comes_alike(place, from)
-        && fills_at(place.image, a, from)
-}
-
-/// One more such place, if the pc is one; of several, the last in front of the place that is explained is kept, else the first.
-fn also(pc: u16, since: Since, from: u16, here: bool) -> Since
-    ensures { result ≡ also pc since from here }
-{
-    if !here {
-        return since;
-    }
-    match since {
-        Since::Nowhere => Since::Once(from),
-        Since::Once(_) | Since::Often(_) if from < pc => Since::Often(from),
-        Since::Once(last) | Since::Often(last) => Since::Often(last),
-    }
-}
-
-/// Where in the routine the slot becomes held.
-#[tactic(auto, unfolding(crate::specs::Held::since_below))]
-fn held_since(place: &Place, a: u8) -> Since
-    requires { IsPlace (place_of place.now) }
-    ensures { result ≡ since_below (place_of place.now) a (length place.now.image.now.points) }
-{
-    let mut since = Since::Nowhere;
-    for from in 0..place.image.len() {
-        since = also(place.pc, since, from, fills_here(place, a, from));
-    }
-    since
-}
-
-/// Where a slot becomes held; of several places, one.
+/// Since where a slot is held; of several places, one.
 fn since_part(lines: &[usize], since: Since) -> Part<'static>
     ensures { part_text result ≡ since_place lines.now since }
 {
     match since {
-        Since::Nowhere => Part::Text(" the in line"),
+        Since::Unknown => Part::Text(""),
+        Since::Entry | Since::EntryOrOther => Part::Text(" the in line"),
         Since::Once(from) | Since::Often(from) => pc_part(lines, from),
     }
 }
@@ -144,30 +78,40 @@ fn or_another(since: Since) -> &'static str
     ensures { result.now ≡ or_another since }
 {
     match since {
-        Since::Often(_) => " or another place",
+        Since::EntryOrOther | Since::Often(_) => " or another place",
         _ => "",
     }
 }
 
-/// Since where a slot is held that must not be; of several places, one.
-#[tactic(auto, unfolding(crate::specs::Held::since_at))]
-fn put_since_at(out: &mut Vec<u8>, which: HeldAt, place: &Place, a: u8) -> Result<(), AllocError>
-    requires { IsPlace (place_of place.now) }
-    ensures { OnOk result (out.new.items ≡ out.old.items ++ since_at which (place_of place.now) a) }
+/// Since where a slot is held, if that is known; of several places, one.
+fn put_since(out: &mut Vec<u8>, lines: &[usize], a: u8, since: Since) -> Result<(), AllocError>
+    ensures { OnOk result (out.new.items ≡ out.old.items ++ since_text lines.now a since) }
 {
-    if !is_held_at(which, place, a) {
+    if let Since::Unknown = since {
         return Ok(());
     }
-    let since = held_since(place, a);
     put_parts(
         out,
         &[
             Part::Numbered("; s", a as u64),
             Part::Text(" is held since"),
-            since_part(place.lines, since),
+            since_part(lines, since),
             Part::Text(or_another(since)),
         ],
     )
+}
+
+/// The same of a slot that is held and must not be.
+#[tactic(auto, unfolding(crate::specs::Held::since_at))]
+fn put_since_at(out: &mut Vec<u8>, which: HeldAt, place: &Place, a: u8) -> Result<(), AllocError>
+    requires { IsPlace (place_of place.now) }
+    ensures { OnOk result (out.new.items ≡ out.old.items ++ since_at which (place_of place.now) a) }
+{
+    if is_held_at(which, place, a) {
+        put_since(out, place.lines, a, held_since(place, a))
+    } else {
+        Ok(())
+    }
 }
 
 /// The same of each slot.

@@ -1,0 +1,139 @@
+-- Since where a slot is held at a place: from which instructions of its routine, or from the caller, a way leads there on which it
+-- is held all along.
+use Rattle.std.specs.Prelude.{◌≡◌, ℕ, zero, suc, ◌+◌, Bool, true, false, ◌&&◌, ◌||◌, not, nat_lt, if◌then◌else◌, List, [], ◌∷◌, Some, None, slice_get}
+use Rattle.geos_image.specs.declared.point.Point.{Point}
+use Rattle.geos_image.specs.declared.row.Row.{Row}
+use Rattle.geos_image.specs.Parts.{start_of}
+use Rattle.geos_verify.specs.Rows.{after, has_edge, is_empty, slot_state}
+use Rattle.geos_explain.specs.declared.edges.Edge.{Edge}
+use Rattle.geos_explain.specs.declared.since.Since.{Since}
+use Rattle.geos_explain.specs.declared.since.Since.TheVariants.{Unknown, Entry, EntryOrOther, Once, Often}
+use Rattle.geos_explain.specs.Edges.{end_of}
+use Rattle.geos_explain.specs.Led.{no_marks, marked, is_marked}
+use Rattle.geos_explain.specs.Lost.{ComesTo}
+use Rattle.geos_explain.specs.Places.{Place, comes_alike}
+
+-- the slot is held in a row
+abbrev pub holds : Row → ℕ → Bool
+holds row a = not (is_empty (slot_state row a))
+
+-- control comes along an edge of an instruction as it comes to the place, and the slot is held behind it
+abbrev pub keeps_along : Place → ℕ → Edge → Point → Bool
+keeps_along place a edge point =
+    comes_alike place edge.from && has_edge point.instr edge.branch && holds (after place.image edge.from point.row edge.branch) a
+
+-- the same of an edge to a pc that is marked
+abbrev pub leads_to_marked : Place → ℕ → List Bool → Edge → Point → Bool
+leads_to_marked place a marks edge point = is_marked marks (end_of edge point.instr) && keeps_along place a edge point
+
+-- the same of one of an instruction's two edges
+abbrev pub leads_on : Place → ℕ → List Bool → ℕ → Point → Bool
+leads_on place a marks from point =
+    leads_to_marked place a marks (record { from = from; branch = false }) point
+    || leads_to_marked place a marks (record { from = from; branch = true }) point
+
+-- an instruction's pc is marked as well, if it is not yet, the slot is held before it, and it leads on so
+abbrev pub marked_back : Place → ℕ → List Bool → ℕ → Point → List Bool
+marked_back place a marks from point =
+    if not (is_marked marks from) && holds point.row a && leads_on place a marks from point then marked marks from else marks
+
+-- the same, if there is an instruction
+unfoldable pub marked_back_at : Place → ℕ → List Bool → ℕ → List Bool
+marked_back_at place a marks from =
+    elim (slice_get place.image.points from) [ None ↦ marks | Some point ↦ marked_back place a marks from point ]
+
+-- the same of the first n instructions of the routine, the last of them first
+unfoldable pub back_round : Place → ℕ → List Bool → ℕ → List Bool
+back_round place a marks zero = marks
+back_round place a marks (suc n) = back_round place a (marked_back_at place a marks (start_of place.image.routines place.r + n)) n
+
+-- the place's mark, and what n rounds back over the routine mark as well
+unfoldable pub back_within : Place → ℕ → ℕ → List Bool
+back_within place a zero = marked no_marks place.pc
+back_within place a (suc n) = back_round place a (back_within place a n) place.routine.count
+
+-- from where a way leads to the place on which the slot is held: each round marks one more at least, while there is one, so as
+-- many rounds as the routine has instructions mark all
+unfoldable pub held_from : Place → ℕ → List Bool
+held_from place a = back_within place a place.routine.count
+
+-- the slot is empty before an instruction, which leads on so
+unfoldable pub fills_at : Place → ℕ → List Bool → ℕ → Bool
+fills_at place a marks from = elim (slice_get place.image.points from) [
+  | None ↦ false
+  | Some point ↦ not (holds point.row a) && leads_on place a marks from point
+]
+
+-- the later of two pcs, if it stands in front of a third
+abbrev pub later : ℕ → ℕ → ℕ → ℕ
+later pc last from = if nat_lt from pc then from else last
+
+-- one more such instruction; of several, the last in front of a pc is kept, else the first
+abbrev pub one_more : ℕ → Since → ℕ → Since
+one_more pc Unknown from = Once from
+one_more pc Entry from = EntryOrOther
+one_more pc EntryOrOther from = EntryOrOther
+one_more pc (Once first) from = Often (later pc first from)
+one_more pc (Often last) from = Often (later pc last from)
+
+-- the same where there is one
+abbrev pub also : ℕ → Since → ℕ → Bool → Since
+also pc since from here = if here then one_more pc since from else since
+
+-- the caller has the slot held, and from the routine's beginning a way leads to the place so
+abbrev pub since_entry : Place → ℕ → List Bool → Since
+since_entry place a marks =
+    if holds place.routine.entry a && is_marked marks (start_of place.image.routines place.r) then Entry else Unknown
+
+-- since where the slot is held, of the caller and the first n instructions of the routine
+unfoldable pub since_below : Place → ℕ → List Bool → ℕ → Since
+since_below place a marks zero = since_entry place a marks
+since_below place a marks (suc n) =
+    let from = start_of place.image.routines place.r + n in
+    also place.pc (since_below place a marks n) from (fills_at place a marks from)
+
+-- since where the slot is held at the place
+unfoldable pub held_since : Place → ℕ → Since
+held_since place a = since_below place a (held_from place a) place.routine.count
+
+-- What is said, as a relation on ways
+
+-- control comes along an edge to a pc, as it comes to the place, and the slot is held before it and behind it
+pub record IsHeldOver (place : Place) (a : ℕ) (edge : Edge) (to : ℕ) : Type 0 where
+  pub comes : ComesTo place edge to
+  pub before : holds comes.point.row a ≡ true
+  pub behind : holds (after place.image edge.from comes.point.row edge.branch) a ≡ true
+
+-- edges lead from a pc to the place, and the slot is held on them all along
+abbrev pub HeldAlong : Place → ℕ → ℕ → List Edge → Type 0
+HeldAlong place a pc [] = pc ≡ place.pc
+HeldAlong place a pc (edge ∷ edges) = (edge.from ≡ pc) × ((to : ℕ) × IsHeldOver place a edge to × HeldAlong place a to edges)
+
+-- the slot is empty before an instruction and held behind one of its edges, from where a way leads to the place on which it is
+-- held all along
+pub record IsSince (place : Place) (a from : ℕ) : Type 0 where
+  pub branch : Bool
+  pub to : ℕ
+  pub comes : ComesTo place (record { from = from; branch = branch }) to
+  pub empty : holds comes.point.row a ≡ false
+  pub held : holds (after place.image from comes.point.row branch) a ≡ true
+  pub edges : List Edge
+  pub way : HeldAlong place a to edges
+
+-- the entry row has the slot held, and from the routine's beginning a way leads to the place on which it is held all along
+pub record IsSinceEntry (place : Place) (a : ℕ) : Type 0 where
+  pub held : holds place.routine.entry a ≡ true
+  pub edges : List Edge
+  pub way : HeldAlong place a (start_of place.image.routines place.r) edges
+
+-- what is said of a slot is so
+abbrev pub IsSaidOf : Place → ℕ → Since → Type 0
+IsSaidOf place a Unknown = Unit {0}
+IsSaidOf place a Entry = IsSinceEntry place a
+IsSaidOf place a EntryOrOther = IsSinceEntry place a × ((from : ℕ) × IsSince place a from)
+IsSaidOf place a (Once from) = IsSince place a from
+IsSaidOf place a (Often from) = IsSince place a from × ((other : ℕ) × ((other ≡ from) → ⊥) × IsSince place a other)
+
+-- of each slot at each place
+abbrev pub WhatIsSaidOfSlotsHolds : Type 0
+WhatIsSaidOfSlotsHolds = (place : Place) (a : ℕ) → IsSaidOf place a (held_since place a)

@@ -1,0 +1,179 @@
+//! Since where a slot is held at a place.
+
+ghost use Rattle.std.specs.Prelude.{◌≡◌, Some, slice_get};
+ghost use Rattle.geos_explain.specs.Places.{IsPlace, place_of};
+ghost use Rattle.geos_explain.specs.Since.{holds, keeps_along, leads_to_marked, leads_on, marked_back_at, back_round, held_from, fills_at, also, since_entry, held_since, WhatIsSaidOfSlotsHolds};
+
+use crate::edges::{Edge, end_of};
+use crate::led::{Marks, is_marked, mark, no_marks};
+use crate::place::Place;
+use crate::points::point_at;
+use crate::routines::comes_alike;
+use geos_image::{Point, Row};
+use geos_verify::{after, has_edge, is_empty, slot_state};
+
+/// Since where a slot is held at a place, by the ways there on which it is held all along.
+#[derive(Clone, Copy)]
+pub(crate) enum Since {
+    /// No such way is known.
+    Unknown,
+    /// One leads from the routine's beginning, whose entry row has it held.
+    Entry,
+    /// The same, and one from behind an instruction.
+    EntryOrOther,
+    /// From behind the instruction at one pc.
+    Once(u16),
+    /// From behind several instructions; this is the last in front of the place, else the first.
+    Often(u16),
+}
+
+/// Whether the slot is held in the row.
+fn holds(row: &Row, a: u8) -> bool
+    ensures { result ≡ holds row.now a }
+{
+    !is_empty(slot_state(row, a))
+}
+
+/// Whether control comes along the edge of the instruction as it comes to the place, and the slot is held behind it.
+fn keeps_along(place: &Place, a: u8, edge: Edge, point: &Point) -> bool
+    requires { slice_get place.now.image.now.points edge.from ≡ Some point.now }
+    ensures { result ≡ keeps_along (place_of place.now) a edge point.now }
+{
+    comes_alike(place, edge.from)
+        && has_edge(&point.instr, edge.branch)
+        && holds(&after(place.image, edge.from, &point.row, edge.branch), a)
+}
+
+/// Whether the edge leads so to a pc that is marked. Few do, so the mark is tested first.
+fn leads_to_marked(place: &Place, a: u8, marks: &Marks, edge: Edge, point: &Point) -> bool
+    requires { slice_get place.now.image.now.points edge.from ≡ Some point.now }
+    ensures { result ≡ leads_to_marked (place_of place.now) a marks.now edge point.now }
+{
+    is_marked(marks, end_of(edge, &point.instr)) && keeps_along(place, a, edge, point)
+}
+
+/// Whether one of the edges of the instruction at a pc does.
+fn leads_on(place: &Place, a: u8, marks: &Marks, from: u16, point: &Point) -> bool
+    requires { slice_get place.now.image.now.points from ≡ Some point.now }
+    ensures { result ≡ leads_on (place_of place.now) a marks.now from point.now }
+{
+    let along = Edge {
+        from,
+        branch: false,
+    };
+    let aside = Edge { from, branch: true };
+    leads_to_marked(place, a, marks, along, point) || leads_to_marked(place, a, marks, aside, point)
+}
+
+/// The pc is marked as well, if it is not yet, and the slot is held before its instruction, which leads on so.
+#[tactic(auto, unfolding(crate::specs::Since::marked_back_at))]
+fn mark_back(marks: &mut Marks, place: &Place, a: u8, from: u16)
+    ensures { marks.new ≡ marked_back_at (place_of place.now) a marks.old from }
+{
+    match point_at(place.image, from) {
+        Some(point) => {
+            if !is_marked(marks, usize::from(from))
+                && holds(&point.row, a)
+                && leads_on(place, a, marks, from, point)
+            {
+                mark(marks, usize::from(from));
+            }
+        }
+        None => {}
+    }
+}
+
+/// The same of all of the routine's instructions, the last of them first.
+fn mark_round_back(marks: &mut Marks, place: &Place, a: u8)
+    requires { IsPlace (place_of place.now) }
+    ensures { marks.new ≡ back_round (place_of place.now) a marks.old place.now.routine.now.count }
+{
+    let start = place.image.start(place.r);
+    let mut rest = place.routine.count;
+    while rest > 0 {
+        rest -= 1;
+        mark_back(marks, place, a, start + rest);
+    }
+}
+
+/// The pcs from which a way leads to the place on which the slot is held all along: as many rounds as the routine has
+/// instructions mark them all, and where one marks none, the others would mark none either.
+#[tactic(auto, unfolding(crate::specs::Since::back_within, crate::specs::Since::held_from))]
+fn held_from(place: &Place, a: u8) -> Marks
+    requires { IsPlace (place_of place.now) }
+    ensures { result ≡ held_from (place_of place.now) a }
+{
+    let mut marks = no_marks();
+    mark(&mut marks, usize::from(place.pc));
+    let mut settled = false;
+    for round in 0..place.routine.count {
+        if !settled {
+            let before = marks;
+            mark_round_back(&mut marks, place, a);
+            settled = before == marks;
+        }
+    }
+    marks
+}
+
+/// Whether the slot is empty before the instruction at a pc, and it leads on so, if there is one.
+#[tactic(auto, unfolding(crate::specs::Since::fills_at))]
+fn fills_at(place: &Place, a: u8, marks: &Marks, from: u16) -> bool
+    ensures { result ≡ fills_at (place_of place.now) a marks.now from }
+{
+    match point_at(place.image, from) {
+        Some(point) => !holds(&point.row, a) && leads_on(place, a, marks, from, point),
+        None => false,
+    }
+}
+
+/// One more such instruction, if the one at the pc is one; of several, the last in front of the place is kept, else the first.
+fn also(pc: u16, since: Since, from: u16, here: bool) -> Since
+    ensures { result ≡ also pc since from here }
+{
+    if !here {
+        return since;
+    }
+    match since {
+        Since::Unknown => Since::Once(from),
+        Since::Entry | Since::EntryOrOther => Since::EntryOrOther,
+        Since::Once(_) | Since::Often(_) if from < pc => Since::Often(from),
+        Since::Once(last) | Since::Often(last) => Since::Often(last),
+    }
+}
+
+/// Whether the caller has the slot held, and a way leads so from the routine's beginning.
+fn since_entry(place: &Place, a: u8, marks: &Marks) -> Since
+    requires { IsPlace (place_of place.now) }
+    ensures { result ≡ since_entry (place_of place.now) a marks.now }
+{
+    let start = usize::from(place.image.start(place.r));
+    if holds(&place.routine.entry, a) && is_marked(marks, start) {
+        Since::Entry
+    } else {
+        Since::Unknown
+    }
+}
+
+/// Since where the slot is held at the place.
+#[tactic(auto, unfolding(crate::specs::Since::since_below, crate::specs::Since::held_since))]
+pub(crate) fn held_since(place: &Place, a: u8) -> Since
+    requires { IsPlace (place_of place.now) }
+    ensures { result ≡ held_since (place_of place.now) a }
+{
+    let marks = held_from(place, a);
+    let start = place.image.start(place.r);
+    let mut since = since_entry(place, a, &marks);
+    for k in 0..place.routine.count {
+        let from = start + k;
+        since = also(place.pc, since, from, fills_at(place, a, &marks, from));
+    }
+    since
+}
+
+/// A law: where an instruction is named since which a slot is held, it is empty before it and held behind it, and from there a
+/// way leads to the place on which it is held all along; where another one is said to be, there is another such; and where the
+/// `in` line is named, the entry row has the slot held, and such a way leads there from the routine's beginning.
+pub fn what_is_said_of_a_held_slot_holds()
+    ensures { WhatIsSaidOfSlotsHolds }
+{}
