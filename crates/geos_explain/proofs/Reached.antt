@@ -26,14 +26,14 @@ abbrev pub Has : List Bool → ℕ → Type 0
 Has marks pc = get_or marks pc false ≡ true
 
 -- what is marked stays so
-record Grows (marks next : List Bool) : Type 0 where
-  len : length next ≡ length marks
-  keeps : (k : ℕ) → Has marks k → Has next k
+pub record Grows (marks next : List Bool) : Type 0 where
+  pub len : length next ≡ length marks
+  pub keeps : (k : ℕ) → Has marks k → Has next k
 
-grows-same : (marks : List Bool) → Grows marks marks
+pub grows-same : (marks : List Bool) → Grows marks marks
 grows-same marks = record { len = refl; keeps = λ k h. h }
 
-grows-on : (a b c : List Bool) → Grows a b → Grows b c → Grows a c
+pub grows-on : (a b c : List Bool) → Grows a b → Grows b c → Grows a c
 grows-on a b c g h = record { len = h.len ∙ g.len; keeps = λ k e. h.keeps k (g.keeps k e) }
 
 set-grows : (marks : List Bool) (pc : ℕ) → Grows marks (set marks pc true)
@@ -48,7 +48,7 @@ set-grows marks pc = record {
   ];
 }
 
-mark-grows : (marks : List Bool) (pc : ℕ) → Grows marks (marked marks pc)
+pub mark-grows : (marks : List Bool) (pc : ℕ) → Grows marks (marked marks pc)
 mark-grows marks pc = by_test (nat_lt pc 4096)
   where
     by_test : (b : Bool) → Grows marks (cond b (set marks pc true) marks)
@@ -62,7 +62,7 @@ mark-was marks pc k h = by_test (nat_lt pc 4096) h
     by_test true e = elim (cases_eq k pc) [ inl same ↦ inl same | inr ne ↦ inr (sym (get_or-set_other marks pc k true false ne) ∙ e) ]
     by_test false e = inr e
 
-mark-there : (marks : List Bool) (pc : ℕ) → length marks ≡ 4096 → pc < 4096 → Has (marked marks pc) pc
+pub mark-there : (marks : List Bool) (pc : ℕ) → length marks ≡ 4096 → pc < 4096 → Has (marked marks pc) pc
 mark-there marks pc full lt = rw (lt-ltb pc 4096 lt) (get_or-set_same marks pc true false (omega arith))
 
 -- what one goes on to is marked, if it is not yet
@@ -90,7 +90,7 @@ step-there marks to goes full lt is = by_mark (is_marked marks to) refl
     by_mark true e = (and_parts (nat_lt to 4096) (get_or marks to false) e).1
     by_mark false e = rw is (mark-there marks to full lt)
 
-is-marked : (marks : List Bool) (pc : ℕ) → pc < 4096 → Has marks pc → is_marked marks pc ≡ true
+pub is-marked : (marks : List Bool) (pc : ℕ) → pc < 4096 → Has marks pc → is_marked marks pc ≡ true
 is-marked marks pc lt h = rw (lt-ltb pc 4096 lt) h
 
 -- ---- One instruction
@@ -263,12 +263,12 @@ within-reached image (suc n) = round-reached image (reached_within image n) (len
 -- ---- Rounds mark all
 
 -- how many are marked
-count : List Bool → ℕ
+pub count : List Bool → ℕ
 count [] = 0
 count (true ∷ marks) = suc (count marks)
 count (false ∷ marks) = count marks
 
-count-bound : (marks : List Bool) (m : ℕ) → ((k : ℕ) → Has marks k → k < m) → count marks ≤ m
+pub count-bound : (marks : List Bool) (m : ℕ) → ((k : ℕ) → Has marks k → k < m) → count marks ≤ m
 unfolding count
 count-bound [] m below = omega arith
 count-bound (true ∷ marks) zero below = let past = below 0 refl in absurd (omega arith)
@@ -277,7 +277,7 @@ count-bound (false ∷ marks) zero below = count-bound marks zero (λ k h. (let 
 count-bound (false ∷ marks) (suc m) below = let rest = count-bound marks m (λ k h. (let lt = below (suc k) h in omega arith)) in omega arith
 
 -- what grows is the same, or marks more
-count-grows : (marks next : List Bool) → length next ≡ length marks → ((k : ℕ) → Has marks k → Has next k) → (next ≡ marks) ⊎ (count marks < count next)
+pub count-grows : (marks next : List Bool) → length next ≡ length marks → ((k : ℕ) → Has marks k → Has next k) → (next ≡ marks) ⊎ (count marks < count next)
 unfolding count
 count-grows [] [] len keeps = inl refl
 count-grows [] (b ∷ next) len keeps = absurd (omega arith)
@@ -287,7 +287,7 @@ count-grows (true ∷ marks) (false ∷ next) len keeps = absurd (false≢true (
 count-grows (false ∷ marks) (true ∷ next) len keeps = elim (count-grows marks next (omega arith) (λ k h. keeps (suc k) h)) [ inl same ↦ inr (let n = ap count same in omega arith) | inr more ↦ inr (omega arith) ]
 count-grows (false ∷ marks) (false ∷ next) len keeps = elim (count-grows marks next (omega arith) (λ k h. keeps (suc k) h)) [ inl same ↦ inl (ap (λ (l : List Bool). false ∷ l) same) | inr more ↦ inr more ]
 
-count-some : (marks : List Bool) (k : ℕ) → Has marks k → 1 ≤ count marks
+pub count-some : (marks : List Bool) (k : ℕ) → Has marks k → 1 ≤ count marks
 unfolding count
 count-some [] k h = absurd cc
 count-some (true ∷ marks) k h = omega arith

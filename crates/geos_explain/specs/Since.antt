@@ -1,17 +1,18 @@
 -- Since where a slot is held at a place: from which instructions of its routine, or from the caller, a way leads there on which it
 -- is held all along.
-use Rattle.std.specs.Prelude.{◌≡◌, ℕ, zero, suc, ◌+◌, Bool, true, false, ◌&&◌, ◌||◌, not, nat_lt, if◌then◌else◌, List, [], ◌∷◌, Some, None, slice_get}
+use Rattle.std.specs.Prelude.{◌≡◌, ℕ, zero, suc, ◌+◌, Bool, true, false, ◌&&◌, ◌||◌, not, nat_lt, if◌then◌else◌, List, [], ◌∷◌, Some, None, length, slice_get}
 use Rattle.geos_image.specs.declared.point.Point.{Point}
 use Rattle.geos_image.specs.declared.row.Row.{Row}
 use Rattle.geos_image.specs.Parts.{start_of}
 use Rattle.geos_verify.specs.Rows.{after, has_edge, is_empty, slot_state}
+use Rattle.geos_verify.specs.Rules.{has_place}
 use Rattle.geos_explain.specs.declared.edges.Edge.{Edge}
 use Rattle.geos_explain.specs.declared.since.Since.{Since}
 use Rattle.geos_explain.specs.declared.since.Since.TheVariants.{Unknown, Entry, EntryOrOther, Once, Often}
 use Rattle.geos_explain.specs.Edges.{end_of}
 use Rattle.geos_explain.specs.Led.{no_marks, marked, is_marked}
 use Rattle.geos_explain.specs.Lost.{ComesTo}
-use Rattle.geos_explain.specs.Places.{Place, comes_alike}
+use Rattle.geos_explain.specs.Places.{Place, IsPlace, comes_alike}
 
 -- the slot is held in a row
 abbrev pub holds : Row → ℕ → Bool
@@ -53,9 +54,9 @@ back_within place a zero = marked no_marks place.pc
 back_within place a (suc n) = back_round place a (back_within place a n) place.routine.count
 
 -- from where a way leads to the place on which the slot is held: each round marks one more at least, while there is one, so as
--- many rounds as the routine has instructions mark all
+-- many rounds as there are instructions mark all
 unfoldable pub held_from : Place → ℕ → List Bool
-held_from place a = back_within place a place.routine.count
+held_from place a = back_within place a (length place.image.points)
 
 -- the slot is empty before an instruction, which leads on so
 unfoldable pub fills_at : Place → ℕ → List Bool → ℕ → Bool
@@ -98,8 +99,13 @@ held_since place a = since_below place a (held_from place a) place.routine.count
 
 -- What is said, as a relation on ways
 
--- control comes along an edge to a pc, as it comes to the place, and the slot is held before it and behind it
+-- an instruction is one of the place's routine
+abbrev pub IsInside : Place → ℕ → Type 0
+IsInside place from = has_place (start_of place.image.routines place.r) place.routine.count from ≡ true
+
+-- control comes along an edge of the routine to a pc, as it comes to the place, and the slot is held before it and behind it
 pub record IsHeldOver (place : Place) (a : ℕ) (edge : Edge) (to : ℕ) : Type 0 where
+  pub inside : IsInside place edge.from
   pub comes : ComesTo place edge to
   pub before : holds comes.point.row a ≡ true
   pub behind : holds (after place.image edge.from comes.point.row edge.branch) a ≡ true
@@ -109,9 +115,10 @@ abbrev pub HeldAlong : Place → ℕ → ℕ → List Edge → Type 0
 HeldAlong place a pc [] = pc ≡ place.pc
 HeldAlong place a pc (edge ∷ edges) = (edge.from ≡ pc) × ((to : ℕ) × IsHeldOver place a edge to × HeldAlong place a to edges)
 
--- the slot is empty before an instruction and held behind one of its edges, from where a way leads to the place on which it is
--- held all along
+-- the slot is empty before an instruction of the routine and held behind one of its edges, from where a way leads to the place on
+-- which it is held all along
 pub record IsSince (place : Place) (a from : ℕ) : Type 0 where
+  pub inside : IsInside place from
   pub branch : Bool
   pub to : ℕ
   pub comes : ComesTo place (record { from = from; branch = branch }) to
@@ -134,6 +141,14 @@ IsSaidOf place a EntryOrOther = IsSinceEntry place a × ((from : ℕ) × IsSince
 IsSaidOf place a (Once from) = IsSince place a from
 IsSaidOf place a (Often from) = IsSince place a from × ((other : ℕ) × ((other ≡ from) → ⊥) × IsSince place a other)
 
--- of each slot at each place
+-- where it is not said, it is not so
+abbrev pub IsAllOf : Place → ℕ → Since → Type 0
+IsAllOf place a Unknown = (IsSinceEntry place a → ⊥) × ((from : ℕ) → IsSince place a from → ⊥)
+IsAllOf place a Entry = (from : ℕ) → IsSince place a from → ⊥
+IsAllOf place a EntryOrOther = Unit {0}
+IsAllOf place a (Once from) = (IsSinceEntry place a → ⊥) × ((other : ℕ) → IsSince place a other → other ≡ from)
+IsAllOf place a (Often from) = IsSinceEntry place a → ⊥
+
+-- what is said of each slot at each place of an image is so, and all that is so is said
 abbrev pub WhatIsSaidOfSlotsHolds : Type 0
-WhatIsSaidOfSlotsHolds = (place : Place) (a : ℕ) → IsSaidOf place a (held_since place a)
+WhatIsSaidOfSlotsHolds = (place : Place) (a : ℕ) → IsPlace place → IsSaidOf place a (held_since place a) × IsAllOf place a (held_since place a)

@@ -96,8 +96,8 @@ fn mark_round_back(marks: &mut Marks, place: &Place, a: u8)
     }
 }
 
-/// The pcs from which a way leads to the place on which the slot is held all along: as many rounds as the routine has
-/// instructions mark them all, and where one marks none, the others would mark none either.
+/// The pcs from which a way leads to the place on which the slot is held all along: as many rounds as there are instructions mark
+/// them all, and where one marks none, the others would mark none either.
 #[tactic(auto, unfolding(crate::specs::Since::back_within, crate::specs::Since::held_from))]
 fn held_from(place: &Place, a: u8) -> Marks
     requires { IsPlace (place_of place.now) }
@@ -106,7 +106,7 @@ fn held_from(place: &Place, a: u8) -> Marks
     let mut marks = no_marks();
     mark(&mut marks, usize::from(place.pc));
     let mut settled = false;
-    for round in 0..place.routine.count {
+    for round in 0..place.image.len() {
         if !settled {
             let before = marks;
             mark_round_back(&mut marks, place, a);
@@ -173,7 +173,8 @@ pub(crate) fn held_since(place: &Place, a: u8) -> Since
 
 /// A law: where an instruction is named since which a slot is held, it is empty before it and held behind it, and from there a
 /// way leads to the place on which it is held all along; where another one is said to be, there is another such; and where the
-/// `in` line is named, the entry row has the slot held, and such a way leads there from the routine's beginning.
+/// `in` line is named, the entry row has the slot held, and such a way leads there from the routine's beginning. Where the `in`
+/// line is not named, or no other place is said to be, it is not so.
 pub fn what_is_said_of_a_held_slot_holds()
     ensures { WhatIsSaidOfSlotsHolds }
 {}
