@@ -16,6 +16,7 @@ mod error;
 mod faulty;
 mod fields;
 mod file;
+mod file_limit;
 mod law;
 mod memory;
 mod opened;
