@@ -8,7 +8,7 @@ mod request_fault;
 mod requests;
 mod running;
 
-use geos_shell::{Answer, requested, words};
+use geos_shell::{Answer, keep_stream_numbers, requested, words};
 use requests::carry_out;
 use std::fmt::Display;
 use std::process::ExitCode;
@@ -39,9 +39,17 @@ fn run(rt: &HostRuntime, words: &[String]) -> ExitCode {
     }
 }
 
+/// Does what the words on the command line ask for.
+fn start(rt: &HostRuntime) -> ExitCode {
+    match words(rt) {
+        Ok(words) => run(rt, words.as_slice()),
+        Err(answer) => answered(rt, &answer),
+    }
+}
+
 fn main(rt: HostRuntime) -> ExitCode {
-    match words(&rt) {
-        Ok(words) => run(&rt, words.as_slice()),
-        Err(answer) => answered(&rt, &answer),
+    match keep_stream_numbers(&rt) {
+        Ok(()) => start(&rt),
+        Err(fault) => fail(&rt, fault),
     }
 }

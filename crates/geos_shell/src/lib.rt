@@ -6,6 +6,7 @@
 
 mod answer;
 mod command_line;
+mod descriptors;
 mod help;
 mod locks;
 mod misuse;
@@ -16,6 +17,7 @@ mod streams;
 
 pub use answer::Answer;
 pub use command_line::words;
+pub use descriptors::keep_stream_numbers;
 pub use locks::{FileLock, Lockable, Sharing};
 pub use request::{Request, requested};
 pub use streams::{StreamFault, print, read, write};
