@@ -3,7 +3,6 @@
 use crate::answer::Answer;
 use crate::help::{ABOUT, More, SESSION, USAGES};
 use crate::numbers::{AREA, Number, REGION, WIDTH};
-use clap::builder::ValueParser;
 use clap::{Arg, ArgAction, ArgMatches, Command, Error};
 use std::alloc::{AllocError, Global};
 use std::{env, io};
@@ -142,17 +141,11 @@ fn wanted<'a>(alloc: Global, name: &'a str, about: &'a str) -> Arg<'a> {
 
 /// A number that a command may be given.
 fn number_of<'a>(alloc: Global, text: &NumberText) -> Arg<'a> {
-    let Number {
-        name,
-        least,
-        most,
-        ..
-    } = text.number;
+    let name = text.number.name;
     Arg::new(alloc, name)
         .long(name)
         .value_name("N")
         .help(text.about)
-        .value_parser(ValueParser::unsigned(u64::from(least), u64::from(most)))
         .default_value(text.default)
 }
 

@@ -17,6 +17,26 @@ geos < SESSION
        geos map FILE [--width N]
        geos help [COMMAND]";
 
+/// A command of which the usage is said alone. It names its text, as `More` does.
+#[derive(Clone, Copy)]
+pub(crate) enum Usage {
+    Asm,
+    New,
+    Run,
+    Map,
+}
+
+impl Usage {
+    pub(crate) fn text(self) -> &'static str {
+        match self {
+            Usage::Asm => "geos asm IN OUT",
+            Usage::New => "geos new FILE [--area N]",
+            Usage::Run => "geos run IMAGE FILE SCRIPT [--region N]",
+            Usage::Map => "geos map FILE [--width N]",
+        }
+    }
+}
+
 pub(crate) const SESSION: &str = "\
 A session is read from standard input, at most 1,048,576 bytes of it. It is
   1. an image, a set of routines in hexadecimal digits;
@@ -99,7 +119,8 @@ const MADE: &str = "\
 The file is twice the size of an area, and 1,024 bytes; where the disk can, what is not written takes
 no room on it. An area holds all blocks of the file twice: as they are, and as they were saved last.
 Where they are longer than an area, `update` and `save` are refused 6 and change nothing.
-A file that is there is not touched: `cannot write FILE`.";
+`cannot write FILE` says that there is something of that name already, which is not touched, or that
+the file can't be made.";
 
 /// How a script runs on a VM file.
 const RUNS: &str = "\

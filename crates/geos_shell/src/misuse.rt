@@ -1,27 +1,41 @@
 //! Why words that `clap` takes ask for nothing.
 
 use crate::answer::Answer;
-use crate::help::USAGES;
+use crate::help::Usage;
+use crate::numbers::Number;
 use std::alloc::{AllocError, Global};
 
 /// Why words that `clap` takes ask for nothing.
 #[derive(Clone, Copy)]
 pub(crate) enum Misuse {
-    /// The number behind `--name` is no multiple of its unit.
-    NoMultiple { name: &'static str, unit: u32 },
+    /// What stands behind `--name` is no number, or not one within the limits.
+    WrongNumber(Number),
     /// Two words name the standard input.
     TwoOfOneStream,
     /// The image of a text is to take the place of the text.
     ImageOntoText,
 }
 
+/// Which numbers there are.
+fn limits(alloc: Global, number: &Number) -> Result<String, AllocError> {
+    let Number {
+        name,
+        least,
+        most,
+        unit,
+        ..
+    } = *number;
+    if unit == 1 {
+        return format!(in alloc; "the number of '--{name}' is from {least} to {most}");
+    }
+    format!(in alloc; "the number of '--{name}' is a multiple of {unit} from {least} to {most}")
+}
+
 impl Misuse {
     /// What is wrong.
     fn message(&self, alloc: Global) -> Result<String, AllocError> {
         match self {
-            Misuse::NoMultiple { name, unit } => {
-                format!(in alloc; "the number of '--{name}' is no multiple of {unit}")
-            }
+            Misuse::WrongNumber(number) => limits(alloc, number),
             Misuse::TwoOfOneStream => {
                 String::from_str(alloc, "only one of IMAGE and SCRIPT is the standard input")
             }
@@ -31,11 +45,21 @@ impl Misuse {
         }
     }
 
+    /// The command that the words are for, and what stands behind it.
+    fn usage(&self) -> &'static str {
+        match self {
+            Misuse::WrongNumber(number) => number.usage.text(),
+            Misuse::TwoOfOneStream => Usage::Run.text(),
+            Misuse::ImageOntoText => Usage::Asm.text(),
+        }
+    }
+
     /// What is wrong, in the form of what `clap` says.
     fn text(&self, alloc: Global) -> Result<String, AllocError> {
         let message = self.message(alloc)?;
+        let usage = self.usage();
         format!(in alloc;
-            "error: {message}\n\nUsage: {USAGES}\n\nFor more information, try '--help'.\n"
+            "error: {message}\n\nUsage: {usage}\n\nFor more information, try '--help'.\n"
         )
     }
 

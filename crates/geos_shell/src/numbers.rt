@@ -3,6 +3,7 @@
 ghost use Rattle.std.specs.Prelude.{◌≢◌, IfOk};
 ghost use Rattle.geos_shell.specs.Limits.{IsWithin};
 
+use crate::help::Usage;
 use crate::misuse::Misuse;
 use clap::ArgMatches;
 
@@ -15,6 +16,8 @@ pub(crate) struct Number {
     pub(crate) most: u32,
     /// It is a multiple of this.
     pub(crate) unit: u32,
+    /// The command that it is given to.
+    pub(crate) usage: Usage,
 }
 
 /// The bytes of an area of a VM file.
@@ -23,6 +26,7 @@ pub(crate) const AREA: Number = Number {
     least: 512,
     most: 16_777_216,
     unit: 512,
+    usage: Usage::New,
 };
 
 /// The bytes of the region that blocks in memory lie in.
@@ -31,6 +35,7 @@ pub(crate) const REGION: Number = Number {
     least: 65_536,
     most: 16_777_216,
     unit: 1,
+    usage: Usage::Run,
 };
 
 /// The columns of a drawing.
@@ -39,7 +44,16 @@ pub(crate) const WIDTH: Number = Number {
     least: 60,
     most: 1_000,
     unit: 1,
+    usage: Usage::Map,
 };
+
+/// The number that a text has in digits alone, if it is one of 32 bits.
+fn number_in(text: &str) -> Option<u32> {
+    if !text.bytes().all(|byte| byte.is_ascii_digit()) {
+        return None;
+    }
+    text.parse().ok()
+}
 
 impl Number {
     /// What the words give for it, if that is within its limits.
@@ -47,12 +61,9 @@ impl Number {
         requires { self.now.unit ≢ 0 }
         ensures { IfOk result (IsWithin self.now) }
     {
-        match words.get_one::<u32>(self.name) {
+        match number_in(words.get_str(self.name).unwrap_or("")) {
             Some(n) if self.least <= n && n <= self.most && n % self.unit == 0 => Ok(n),
-            _ => Err(Misuse::NoMultiple {
-                name: self.name,
-                unit: self.unit,
-            }),
+            _ => Err(Misuse::WrongNumber(*self)),
         }
     }
 }

@@ -81,15 +81,13 @@ fn new_of<'a>(words: &ArgMatches<'a>) -> Result<Request<'a>, Misuse>
     }
 }
 
-/// What a `run` asks for.
+/// What a `run` asks for. A wrong number is said first.
 fn run_of<'a>(words: &ArgMatches<'a>) -> Result<Request<'a>, Misuse>
     ensures { IfOk result KeepsLimits }
 {
     let (image, script) = (word(words, "IMAGE"), word(words, "SCRIPT"));
-    if is_stream(image) && is_stream(script) {
-        return Err(Misuse::TwoOfOneStream);
-    }
     match REGION.of(words) {
+        Ok(_) if is_stream(image) && is_stream(script) => Err(Misuse::TwoOfOneStream),
         Ok(region) => Ok(Request::Run {
             image,
             file: word(words, "FILE"),
