@@ -20,7 +20,7 @@ pub(crate) fn assemble<'a>(
 ) -> Result<(), RequestFault<'a>> {
     let bytes = read(rt, text, MOST_READ)?;
     let bytes = assemble_bytes(rt.alloc(), &bytes)?;
-    Ok(write(rt, image, &bytes)?)
+    Ok(write(rt, image, &bytes, text)?)
 }
 
 /// Prints the listing of an image.

@@ -11,6 +11,7 @@ mod help;
 mod locks;
 mod misuse;
 mod numbers;
+mod parts;
 mod replace;
 mod request;
 mod streams;

@@ -63,13 +63,23 @@ pub fn print<'a>(rt: &HostRuntime, bytes: &[u8]) -> Result<(), StreamFault<'a>> 
     }
 }
 
-/// Puts the bytes into the file with the path, in the place of what it has; prints them where the path
-/// is `-`.
-pub fn write<'a>(rt: &HostRuntime, path: &'a str, bytes: &[u8]) -> Result<(), StreamFault<'a>> {
+/// What the system calls the file that a path names, also that of the standard input.
+fn name_of(path: &str) -> &str {
+    if is_stream(path) { "/dev/stdin" } else { path }
+}
+
+/// Puts the bytes, which are made of what `source` names, into the file with the path, in the place of what it has; prints them where
+/// the path is `-`. `StreamFault::Write` also where the file is the source itself, or a VM file; it is as it was then.
+pub fn write<'a>(
+    rt: &HostRuntime,
+    path: &'a str,
+    bytes: &[u8],
+    source: &str,
+) -> Result<(), StreamFault<'a>> {
     if is_stream(path) {
         return print(rt, bytes);
     }
-    match replace(rt, path, bytes) {
+    match replace(rt, path, bytes, name_of(source)) {
         Ok(()) => Ok(()),
         Err(error) if error.kind() == ErrorKind::OutOfMemory => Err(StreamFault::Memory),
         Err(_) => Err(StreamFault::Write(path)),
