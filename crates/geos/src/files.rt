@@ -5,12 +5,30 @@ ghost use Rattle.geos_shell.specs.Limits.{IsArea, IsWidth};
 
 use crate::request_fault::RequestFault;
 use geos_dump::{Detail, DumpError, dump, map, read_areas};
-use geos_shell::{FileLock, Lockable, Sharing, StreamFault, print};
-use std::fs;
+use geos_shell::{FileLock, Lockable, NewFile, Sharing, StreamFault, print};
+use std::fs::File;
 use vm_file::{Disk, FileDevice, VmFile, device_length};
 
+/// Writes a VM file with areas of so many bytes into a file that is empty so far.
+fn fill_new<'a>(
+    rt: &HostRuntime,
+    path: &'a str,
+    file: File,
+    area: u32,
+) -> Result<(), RequestFault<'a>>
+    requires { IsArea area }
+{
+    let Ok(device) = FileDevice::of_length(file, device_length(area)) else {
+        return Err(RequestFault::Stream(StreamFault::Write(path)));
+    };
+    match VmFile::create(rt.alloc(), device, area) {
+        Ok(_file) => Ok(()),
+        Err((_device, error)) => Err(RequestFault::Create(error)),
+    }
+}
+
 /// Makes a VM file with areas of so many bytes. What is at the path already stays as it is, and
-/// nothing is left there where no file is made.
+/// nothing is left there where no file is made. Nobody finds a part of a file there meanwhile.
 pub(crate) fn make_file<'a>(
     rt: &HostRuntime,
     path: &'a str,
@@ -18,25 +36,27 @@ pub(crate) fn make_file<'a>(
 ) -> Result<(), RequestFault<'a>>
     requires { IsArea area }
 {
-    let Ok(device) = FileDevice::create(rt, rt.alloc(), path, device_length(area)) else {
-        return Err(RequestFault::Stream(StreamFault::Write(path)));
+    let new = NewFile::begin(rt, path)?;
+    let filled = match new.file() {
+        Ok(file) => fill_new(rt, path, file, area),
+        Err(fault) => Err(RequestFault::Stream(fault)),
     };
-    match VmFile::create(rt.alloc(), device, area) {
-        Ok(_file) => Ok(()),
-        Err((_device, error)) => {
-            let _ = fs::remove_file(rt, path);
-            Err(RequestFault::Create(error))
+    match filled {
+        Ok(()) => Ok(new.finish(rt)?),
+        Err(fault) => {
+            new.discard(rt);
+            Err(fault)
         }
     }
 }
 
 /// A device on the file with a path, and the file whose lock is still to be had.
 #[derive(Drop)]
-pub(crate) struct Unlocked {
+pub(crate) struct Unlocked<'a> {
     /// The device.
     pub(crate) device: FileDevice,
     /// What the lock is on.
-    pub(crate) file: Lockable,
+    pub(crate) file: Lockable<'a>,
 }
 
 /// Opens the file with the path, without its lock: to work on it alone, or to read it as others may
@@ -45,13 +65,9 @@ pub(crate) fn open_unlocked<'a>(
     rt: &HostRuntime,
     path: &'a str,
     sharing: Sharing,
-) -> Result<Unlocked, RequestFault<'a>> {
-    let file = Lockable::open(rt, path)?;
-    let device = match sharing {
-        Sharing::Alone => FileDevice::open(rt, rt.alloc(), path),
-        Sharing::Shared => FileDevice::open_read_only(rt, rt.alloc(), path),
-    };
-    match device {
+) -> Result<Unlocked<'a>, RequestFault<'a>> {
+    let file = Lockable::open(rt, path, sharing)?;
+    match FileDevice::of(file.file()?) {
         Ok(device) => Ok(Unlocked { device, file }),
         Err(Disk) => Err(RequestFault::Stream(StreamFault::Read(path))),
     }
@@ -69,7 +85,7 @@ struct Locked {
 /// Opens the file to read it, and waits for its lock, which others that read it share.
 fn lock_to_read<'a>(rt: &HostRuntime, path: &'a str) -> Result<Locked, RequestFault<'a>> {
     let Unlocked { device, file } = open_unlocked(rt, path, Sharing::Shared)?;
-    let lock = file.wait(path, Sharing::Shared)?;
+    let lock = file.wait(rt)?;
     Ok(Locked { device, lock })
 }
 

@@ -85,7 +85,7 @@ pub(crate) fn run<'a>(
         file: lockable,
     } = open_unlocked(rt, file, Sharing::Alone)?;
     let script = read(rt, script, MOST_READ);
-    let _lock = lockable.wait(file, Sharing::Alone)?;
+    let _lock = lockable.wait(rt)?;
     let file = opened(rt, device)?;
     let script = script?;
     Ok(run_in(rt, &image, &script, region, file)?)

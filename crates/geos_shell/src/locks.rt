@@ -1,8 +1,11 @@
 //! Locks on VM files, so that no two programs work on one at a time.
 
+use crate::printable::Printable;
 use crate::streams::StreamFault;
-use std::fs::File;
-use std::io::{self, ErrorKind};
+use std::fs::{self, File, OpenOptions, TryLockError};
+use std::io::{self, ErrorKind, IsTerminal};
+use std::thread;
+use std::time::Duration;
 
 /// Who else may hold a lock on the file meanwhile.
 #[derive(Clone, Copy)]
@@ -15,32 +18,73 @@ pub enum Sharing {
 
 /// A file that is open, whose lock may be waited for.
 #[derive(Drop)]
-pub struct Lockable {
+pub struct Lockable<'a> {
+    path: &'a str,
+    sharing: Sharing,
     file: File,
 }
 
-/// A lock on a file, which goes when it is dropped. Only programs that ask for one are kept off.
+/// A lock on a file, which goes when it and the other handles of the same open file are dropped. Only programs that ask for one are kept
+/// off.
 #[derive(Drop)]
 pub struct FileLock {
     _file: File,
 }
 
-/// Opens the file, which may be no folder.
-fn opened(rt: &HostRuntime, path: &str) -> io::Result<Lockable> {
-    let file = File::open(rt, path)?;
-    if file.metadata()?.is_dir() {
-        return Err(io::Error::from(ErrorKind::IsADirectory));
-    }
-    Ok(Lockable { file })
+/// Whether the path leads to a file, and to nothing else: to open a pipe may wait for who writes into it.
+fn is_file(rt: &HostRuntime, path: &str) -> io::Result<bool> {
+    Ok(fs::metadata(rt, path)?.is_file())
 }
 
-/// Waits until the file's lock is had.
-fn locked(file: File, sharing: Sharing) -> io::Result<FileLock> {
+/// Opens the file: to change it where nobody else may have it, else to read it.
+fn opened(rt: &HostRuntime, path: &str, sharing: Sharing) -> io::Result<File> {
+    if !is_file(rt, path)? {
+        return Err(io::Error::from(ErrorKind::InvalidInput));
+    }
+    let mut how = OpenOptions::new();
+    how.read(true).write(matches!(sharing, Sharing::Alone));
+    how.open(rt, path)
+}
+
+/// How often the lock is asked for before the user is told that it is waited for.
+const TIMES: u32 = 100;
+
+/// How long after one another, in milliseconds: for a second together.
+const PAUSE: u64 = 10;
+
+/// Takes the lock if no other program has it.
+fn tried(file: &File, sharing: Sharing) -> Result<(), TryLockError> {
+    match sharing {
+        Sharing::Alone => file.try_lock(),
+        Sharing::Shared => file.try_lock_shared(),
+    }
+}
+
+/// Takes the lock if no other program has it all that time.
+fn had_soon(rt: &HostRuntime, file: &File, sharing: Sharing) -> io::Result<bool> {
+    for _ in 0..TIMES {
+        match tried(file, sharing) {
+            Ok(()) => return Ok(true),
+            Err(TryLockError::WouldBlock) => thread::sleep(rt, Duration::from_millis(PAUSE)),
+            Err(TryLockError::Error(error)) => return Err(error),
+        }
+    }
+    Ok(false)
+}
+
+/// Waits until the file's lock is had. A user at a terminal is told so, if it takes long.
+fn locked(rt: &HostRuntime, file: &File, path: &str, sharing: Sharing) -> io::Result<()> {
+    if rt.stderr().is_terminal() {
+        if had_soon(rt, file, sharing)? {
+            return Ok(());
+        }
+        let path = Printable(path);
+        let _ = eprintln!(rt; "waiting for {path}: another program works on it");
+    }
     match sharing {
         Sharing::Alone => file.lock(),
         Sharing::Shared => file.lock_shared(),
-    }?;
-    Ok(FileLock { _file: file })
+    }
 }
 
 /// Why the file with the path was not opened, or not locked.
@@ -51,16 +95,44 @@ fn fault<'a>(path: &'a str, error: &io::Error) -> StreamFault<'a> {
     }
 }
 
-impl Lockable {
-    /// Opens the file with the path, without its lock. `StreamFault::Read` where there is no such
-    /// file, or where it is a folder or may not be read.
-    pub fn open<'a>(rt: &HostRuntime, path: &'a str) -> Result<Lockable, StreamFault<'a>> {
-        opened(rt, path).map_err(|error| fault(path, &error))
+impl<'a> Lockable<'a> {
+    /// Opens the file with the path, without its lock: to work on it alone, or to read it as others may meanwhile. `StreamFault::Read`
+    /// where there is no such file, or where it is a folder, a pipe, a device or a socket, or may not be read, or changed where it is
+    /// to work on it alone.
+    pub fn open(
+        rt: &HostRuntime,
+        path: &'a str,
+        sharing: Sharing,
+    ) -> Result<Lockable<'a>, StreamFault<'a>> {
+        match opened(rt, path, sharing) {
+            Ok(file) => Ok(Lockable {
+                path,
+                sharing,
+                file,
+            }),
+            Err(error) => Err(fault(path, &error)),
+        }
     }
 
-    /// Waits until the lock on the file, which was opened by the path, is had. `StreamFault::Read`
+    /// The open file, once more. Nothing is to be read of it until the lock is had.
+    pub fn file(&self) -> Result<File, StreamFault<'a>> {
+        match self.file.try_clone() {
+            Ok(file) => Ok(file),
+            Err(error) => Err(fault(self.path, &error)),
+        }
+    }
+
+    /// Waits until the lock on the file is had, and says so where that takes long and standard error is a terminal. `StreamFault::Read`
     /// where the system has no locks for it.
-    pub fn wait<'a>(self, path: &'a str, sharing: Sharing) -> Result<FileLock, StreamFault<'a>> {
-        locked(self.file, sharing).map_err(|error| fault(path, &error))
+    pub fn wait(self, rt: &HostRuntime) -> Result<FileLock, StreamFault<'a>> {
+        let Lockable {
+            path,
+            sharing,
+            file,
+        } = self;
+        match locked(rt, &file, path, sharing) {
+            Ok(()) => Ok(FileLock { _file: file }),
+            Err(error) => Err(fault(path, &error)),
+        }
     }
 }

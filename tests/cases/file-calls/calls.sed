@@ -7,9 +7,11 @@ s/^[0-9]+ +//
 /^mmap\(.*(MAP_PRIVATE|MAP_ANONYMOUS)/d
 # files that are opened to read
 /^open(at)?\(.*O_RDONLY/d
-s/^openat\(.*"([^"]*)", O_RDWR\|O_CREAT\|O_EXCL\|.*/\1: made/
+s/^openat\(.*"(\.\/)?([^"]*)", O_RDWR\|O_CREAT\|O_EXCL\|.*/\2: made/
 s/^openat\(.*"([^"]*)", O_RDWR\|O_[A-Z]*\|?O_CLOEXEC.*/\1: opened to write/
 s/^pwrite64\([0-9]+<[^>]*\/([^>/]*)>, .*, ([0-9]+), ([0-9]+)\) += .*/\1: write at \3 of \2/
 s/^ftruncate\([0-9]+<[^>]*\/([^>/]*)>, ([0-9]+).*/\1: length \2/
-s/^(fsync|fdatasync)\([0-9]+<[^>]*\/([^>/]*\.vm)>.*/\2: \1/
+s/^(fsync|fdatasync)\([0-9]+<[^>]*\/([^>/]*(\.vm|-part-0))>.*/\2: \1/
+s/^link(at)?\(.*\/([^"/]*)", .*"([^"]*)".*/\3: named, as \2/
+s/^unlink(at)?\(.*\/([^"/]*)".*/\2: removed/
 s/^(fsync|fdatasync)\([0-9]+<[^>]*\/folder>.*/folder: \1/

@@ -1,0 +1,102 @@
+//! A file that is made whole, or not at all.
+
+use crate::parts::{Part, folder_of};
+use crate::streams::StreamFault;
+use std::fs::{self, File};
+use std::io::{self, ErrorKind};
+
+/// The permissions of a new file, but for those that the user's mask takes away.
+const ANY: u32 = 0o666;
+
+/// A file that is being made. Nothing has its path until it is whole; until then it is a part, and locked, also when it has got the path.
+#[derive(Drop)]
+pub struct NewFile<'a> {
+    path: &'a str,
+    part: Part,
+}
+
+/// Makes a part where the path names nothing.
+fn begun(rt: &HostRuntime, path: &str) -> io::Result<Part> {
+    match fs::symlink_metadata(rt, path) {
+        Ok(_) => Err(io::Error::from(ErrorKind::AlreadyExists)),
+        Err(error) if error.kind() == ErrorKind::NotFound => Part::beside(rt, path, ANY),
+        Err(error) => Err(error),
+    }
+}
+
+/// Gives the file the path by a rename. An empty file takes the path first, since a rename would replace one that has come meanwhile.
+fn rename_to_free(rt: &HostRuntime, part: &str, path: &str) -> io::Result<()> {
+    let _free = File::create_new(rt, path)?;
+    let renamed = fs::rename(rt, part, path);
+    if renamed.is_err() {
+        let _ = fs::remove_file(rt, path);
+    }
+    renamed
+}
+
+/// Gives the file the path, if nothing has that: by a link, which replaces nothing, or on a file system without links by a rename.
+fn give_path(rt: &HostRuntime, part: &str, path: &str) -> io::Result<()> {
+    match fs::hard_link(rt, part, path) {
+        Ok(()) => {
+            // A second name that can't be removed is removed by the next run.
+            let _ = fs::remove_file(rt, part);
+            Ok(())
+        }
+        Err(error) if error.kind() == ErrorKind::AlreadyExists => Err(error),
+        Err(_) => rename_to_free(rt, part, path),
+    }
+}
+
+/// Makes last which files a folder has.
+fn sync_folder(rt: &HostRuntime, folder: &str) -> io::Result<()> {
+    File::open(rt, folder)?.sync_all()
+}
+
+/// Why the file with the path was not made.
+fn fault<'a>(path: &'a str, error: &io::Error) -> StreamFault<'a> {
+    match error.kind() {
+        ErrorKind::OutOfMemory => StreamFault::Memory,
+        _ => StreamFault::Write(path),
+    }
+}
+
+impl<'a> NewFile<'a> {
+    /// Begins to make the file with the path, which is empty so far. `StreamFault::Write` where something has that path, also a link that
+    /// leads nowhere, or where no file can be made.
+    pub fn begin(rt: &HostRuntime, path: &'a str) -> Result<NewFile<'a>, StreamFault<'a>> {
+        match begun(rt, path) {
+            Ok(part) => Ok(NewFile { path, part }),
+            Err(error) => Err(fault(path, &error)),
+        }
+    }
+
+    /// The open file, once more.
+    pub fn file(&self) -> Result<File, StreamFault<'a>> {
+        match self.part.file.try_clone() {
+            Ok(file) => Ok(file),
+            Err(error) => Err(fault(self.path, &error)),
+        }
+    }
+
+    /// Gives the file its path, which lasts then. `StreamFault::Write` where something has got that path meanwhile, or where the system
+    /// refuses: then nothing is left.
+    pub fn finish(self, rt: &HostRuntime) -> Result<(), StreamFault<'a>> {
+        let NewFile { path, part } = self;
+        if let Err(error) = give_path(rt, part.name.as_str(), path) {
+            part.discard(rt);
+            return Err(fault(path, &error));
+        }
+        match sync_folder(rt, folder_of(path)) {
+            Ok(()) => Ok(()),
+            Err(error) => {
+                let _ = fs::remove_file(rt, path);
+                Err(fault(path, &error))
+            }
+        }
+    }
+
+    /// Makes no file after all.
+    pub fn discard(self, rt: &HostRuntime) {
+        self.part.discard(rt);
+    }
+}

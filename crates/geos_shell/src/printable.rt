@@ -1,0 +1,80 @@
+//! Texts that may have control characters, as they are shown.
+
+use std::alloc::{AllocError, Global};
+use std::fmt::{self, Display, Formatter};
+
+/// A text of the user's in a line of the program's: each of its control characters is written by its bytes, as `\x0a`, so that it
+/// ends no line, and does nothing to a terminal.
+#[derive(Clone, Copy)]
+pub(crate) struct Printable<'a>(pub(crate) &'a str);
+
+/// Whether a text has control characters.
+pub(crate) fn has_control(text: &str) -> bool {
+    text.chars().any(char::is_control)
+}
+
+/// Writes the bytes of a character.
+fn write_bytes<W: fmt::Write>(f: &mut Formatter<W>, character: char) -> fmt::Result {
+    let mut bytes = [0; 4];
+    for byte in character.encode_utf8(&mut bytes).bytes() {
+        write!(f, "\\x{byte:02x}")?;
+    }
+    Ok(())
+}
+
+impl Display for Printable<'_> {
+    fn fmt<W: fmt::Write>(&self, f: &mut Formatter<W>) -> fmt::Result {
+        for character in self.0.chars() {
+            if character.is_control() {
+                write_bytes(f, character)?;
+            } else {
+                f.write_char(character)?;
+            }
+        }
+        Ok(())
+    }
+}
+
+/// What a terminal is given for lines of text: control characters but the end of a line and a tab by their bytes, and where the text
+/// is not UTF-8 each byte past ASCII too.
+pub(crate) fn for_terminal(alloc: Global, text: &[u8]) -> Result<String, AllocError> {
+    let mut shown = String::new(alloc);
+    match str::from_utf8(text) {
+        Ok(text) => {
+            for character in text.chars() {
+                push_shown(&mut shown, character)?;
+            }
+        }
+        Err(_) => {
+            for &byte in text {
+                push_shown_byte(&mut shown, byte)?;
+            }
+        }
+    }
+    Ok(shown)
+}
+
+/// Whether a terminal is given a character as it is.
+fn is_shown(character: char) -> bool {
+    matches!(character, '\n' | '\t') || !character.is_control()
+}
+
+fn push_shown(shown: &mut String, character: char) -> Result<(), AllocError> {
+    if is_shown(character) {
+        return shown.push(character);
+    }
+    let mut bytes = [0; 4];
+    for byte in character.encode_utf8(&mut bytes).bytes() {
+        write!(shown, "\\x{byte:02x}")?;
+    }
+    Ok(())
+}
+
+/// As `push_shown`, of a text that is not UTF-8.
+fn push_shown_byte(shown: &mut String, byte: u8) -> Result<(), AllocError> {
+    if byte.is_ascii() && is_shown(char::from(byte)) {
+        shown.push(char::from(byte))
+    } else {
+        write!(shown, "\\x{byte:02x}")
+    }
+}
