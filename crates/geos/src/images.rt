@@ -7,7 +7,7 @@ use crate::commands::{
 use crate::request_fault::RequestFault;
 use geos_asm::AssembleError;
 use geos_cli::MOST_BYTES;
-use geos_shell::{print, read, write};
+use geos_shell::{print, print_lines, read, write};
 
 /// The most bytes that are read of a file: one more than a text may have, and more than any image has.
 pub(crate) const MOST_READ: u64 = MOST_BYTES as u64 + 1;
@@ -46,7 +46,7 @@ fn explained_text<'a>(rt: &HostRuntime, text: &[u8]) -> Result<Explained, Reques
         Err(fault) => {
             if let AssembleError::NoRows(line) = &fault {
                 let line = *line;
-                print(rt, &cause_bytes(rt.alloc(), text, line)?)?;
+                print_lines(rt, &cause_bytes(rt.alloc(), text, line)?)?;
             }
             Err(RequestFault::Assemble(fault))
         }
@@ -67,7 +67,7 @@ fn explained<'a>(rt: &HostRuntime, bytes: &[u8]) -> Result<Explained, RequestFau
 pub(crate) fn explain<'a>(rt: &HostRuntime, path: &'a str) -> Result<(), RequestFault<'a>> {
     let bytes = read(rt, path, MOST_READ)?;
     let explained = explained(rt, &bytes)?;
-    print(rt, &explained.text)?;
+    print_lines(rt, &explained.text)?;
     match explained.reject {
         Some(reject) => Err(RequestFault::Reject(reject)),
         None => Ok(()),

@@ -24,4 +24,4 @@ pub use descriptors::keep_stream_numbers;
 pub use locks::{FileLock, Lockable, Sharing};
 pub use new_file::NewFile;
 pub use request::{Request, requested};
-pub use streams::{StreamFault, print, read, write};
+pub use streams::{StreamFault, print, print_lines, read, write};

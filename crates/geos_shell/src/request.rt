@@ -7,9 +7,10 @@ use crate::answer::Answer;
 use crate::command_line::matches_of;
 use crate::misuse::Misuse;
 use crate::numbers::{AREA, REGION, WIDTH};
+use crate::printable::{Printable, has_control};
 use crate::streams::is_stream;
-use clap::ArgMatches;
-use std::alloc::Global;
+use clap::{ArgMatches, Error};
+use std::alloc::{AllocError, Global};
 
 /// What the words on the command line ask for. A path of `-` is a standard stream, but that of a VM
 /// file.
@@ -151,6 +152,37 @@ fn request_of<'a>(matches: &ArgMatches<'a>) -> Result<Request<'a>, Misuse>
     }
 }
 
+/// The words with their control characters by their bytes.
+fn printable(alloc: Global, words: &[String]) -> Result<Vec<String>, AllocError> {
+    let mut shown = Vec::new(alloc);
+    for word in words {
+        let word = Printable(word.as_str());
+        shown.push(format!(in alloc; "{word}")?)?;
+    }
+    Ok(shown)
+}
+
+/// What words are answered that have control characters, and of which `clap` finds something wrong: what it finds in them when these are
+/// written by their bytes, so that none of them gets into a line of what it says.
+fn answer_to_control(alloc: Global, words: &[String], error: &Error) -> Answer {
+    match printable(alloc, words) {
+        Ok(shown) => match matches_of(alloc, &shown) {
+            Ok(_) => Answer::of(alloc, error),
+            Err(error) => Answer::of(alloc, &error),
+        },
+        Err(_) => Answer::Memory,
+    }
+}
+
+/// What words are answered in which `clap` finds no request.
+fn answer_to(alloc: Global, words: &[String], error: &Error) -> Answer {
+    if words.iter().any(|word| has_control(word.as_str())) {
+        answer_to_control(alloc, words, error)
+    } else {
+        Answer::of(alloc, error)
+    }
+}
+
 /// What the words behind the program's name ask for. An error is what they are answered where they
 /// ask for nothing to be done.
 pub fn requested<'a>(alloc: Global, words: &'a [String]) -> Result<Request<'a>, Answer>
@@ -158,6 +190,6 @@ pub fn requested<'a>(alloc: Global, words: &'a [String]) -> Result<Request<'a>, 
 {
     match matches_of(alloc, words) {
         Ok(matches) => request_of(&matches).map_err(|misuse| misuse.answer(alloc)),
-        Err(error) => Err(Answer::of(alloc, &error)),
+        Err(error) => Err(answer_to(alloc, words, &error)),
     }
 }

@@ -1,8 +1,9 @@
 //! What is read of files and of the standard input, and written to them or to the standard output.
 
+use crate::printable::{Printable, for_terminal};
 use crate::replace::replace;
 use std::alloc::Global;
-use std::io::{ErrorKind, Read, Write};
+use std::io::{ErrorKind, IsTerminal, Read, Write};
 use std::{fs, io};
 use thiserror::Error;
 
@@ -17,9 +18,9 @@ pub(crate) fn is_stream(path: &str) -> bool {
 /// Why bytes were not read, or not written.
 #[derive(Debug, Drop, Error)]
 pub enum StreamFault<'a> {
-    #[error("cannot read {0}")]
+    #[error("cannot read {}", Printable(.0))]
     Read(&'a str),
-    #[error("cannot write {0}")]
+    #[error("cannot write {}", Printable(.0))]
     Write(&'a str),
     #[error("memory")]
     Memory,
@@ -60,6 +61,18 @@ pub fn print<'a>(rt: &HostRuntime, bytes: &[u8]) -> Result<(), StreamFault<'a>> 
     match put(rt, bytes) {
         Ok(()) => Ok(()),
         Err(_) => Err(StreamFault::Write(STANDARD)),
+    }
+}
+
+/// Prints lines that have words of the user's. A terminal gets their control characters by their bytes, as `\x1b`, all else the bytes
+/// as they are.
+pub fn print_lines<'a>(rt: &HostRuntime, text: &[u8]) -> Result<(), StreamFault<'a>> {
+    if !rt.stdout().is_terminal() {
+        return print(rt, text);
+    }
+    match for_terminal(rt.alloc(), text) {
+        Ok(shown) => print(rt, shown.as_bytes()),
+        Err(_) => Err(StreamFault::Memory),
     }
 }
 
