@@ -4,4 +4,5 @@ mod Losing
 mod Noted
 mod Places
 mod Reached
+mod Tables
 mod Told

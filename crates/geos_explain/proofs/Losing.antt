@@ -14,6 +14,7 @@ use Rattle.geos_explain.specs.declared.ways.Way.{Way}
 use Rattle.geos_explain.specs.declared.ways.Way.TheVariants.{Entry, Along}
 use Rattle.geos_explain.specs.declared.ways.Sought.{Sought}
 use Rattle.geos_explain.specs.declared.arrivals.Arrivals.{Arrivals}
+use Rattle.geos_explain.specs.declared.backs.Back.TheVariants.{Loses, Lacks, Not}
 use Rattle.geos_explain.specs.declared.trace.End.{End}
 use Rattle.geos_explain.specs.declared.trace.End.TheVariants.{Unset, Unreached, Merged, Nowhere}
 use Rattle.geos_explain.specs.declared.trace.Meeting.{Meeting}
@@ -21,11 +22,12 @@ use Rattle.geos_explain.specs.declared.trace.Trace.{Trace}
 use Rattle.geos_explain.specs.Edges.{end_of}
 use Rattle.geos_explain.specs.Led.{no_marks, marked, is_marked, is_reached}
 use Rattle.geos_explain.specs.Places.{Place, agrees, comes_alike}
-use Rattle.geos_explain.specs.Ways.{is_as, is_sought, way_of, way_at, first_way, entry_way, entry_pointer, empty_behind, empty_slot, empty_along, empty_from, empty_on, way_to, bringing, losing, with_hint, loses}
+use Rattle.geos_explain.specs.Ways.{is_as, is_sought, way_along, way_of, way_at, first_way, entry_way, entry_pointer, empty_behind, empty_slot, empty_along, empty_from, empty_on, way_to, bringing, losing, with_hint, loses}
 use Rattle.geos_explain.specs.Arrivals.{no_arrivals, arrival, arrived, behind, arrived_along, arrived_from, arrived_over, next_arrivals, arrivals_at_entry, all_arrivals}
-use Rattle.geos_explain.specs.Trace.{nowhere_or, without_way, meeting_at, end_at, passed, lacks, hint_at, back_by, back_along, back_from, back_over, next_round, rounds, begun, aside, aside_by, along_lost, traced_by, traced}
+use Rattle.geos_explain.specs.Trace.{nowhere_or, without_way, meeting_at, end_at, passed, lacks_on, hint_at, back_as, back_by, back_along, back_from, back_over, next_round, rounds, begun, aside, aside_by, along_lost, traced_by, traced}
 use Rattle.geos_explain.specs.Lost.{ComesTo, LacksBehind, LacksAlong, Brings, IsHint, IsLost, LeadsBy, IsWay, IsAlike, IsMeeting, IsUnset, BringsNowhere, IsNowhere, WhatIsSaidHolds}
 use Rattle.geos_explain.proofs.Reached.{Has, mark-was, none-marked}
+use Rattle.geos_explain.proofs.Tables.{replicate-there}
 
 -- what stands in a list behind a change was there, or is the change
 set-was : {X : Type 0} (xs : List X) (i k : ℕ) (x d : X) → (get_or (set xs i x) k d ≡ get_or xs k d) ⊎ ((k ≡ i) × (get_or (set xs i x) k d ≡ x))
@@ -36,11 +38,6 @@ set-was xs i k x d = elim (cases_lt i (length xs)) [
   ]
   | inr past ↦ inl (ap (λ ys. get_or ys k d) (set_past xs i x past))
 ]
-
-replicate-there : {X : Type 0} (x : X) (n k : ℕ) → get_or (replicate n x) k x ≡ x
-replicate-there x zero k = refl
-replicate-there x (suc n) zero = refl
-replicate-there x (suc n) (suc k) = replicate-there x n k
 
 -- what a choice gives that is nothing otherwise
 cond-some : {X : Type 0} (b : Bool) (o : Option X) (x : X) → cond b o None ≡ Some x → (b ≡ true) × (o ≡ Some x)
@@ -146,8 +143,8 @@ module _ (place : Place) (p : ℕ) where
   -- ---- Ways
 
   -- what is sought
-  abbrev asked : Bool → ℕ → Bool → Sought
-  asked known to reached = record { p = p; to = to; known = known; reached = reached }
+  abbrev asked : Bool → Bool → Sought
+  asked known reached = record { p = p; known = known; reached = reached }
 
   -- a way that was sought, from where control comes or does not
   abbrev IsFound : Bool → Bool → Way → ℕ → Type 0
@@ -158,7 +155,7 @@ module _ (place : Place) (p : ℕ) where
   found-way known reached Entry to found = found
   found-way known reached (Along edge) to found = found.0
 
-  sought-found : (known : Bool) (to : ℕ) (reached : Bool) (edge : Edge) (point : Point) → slice_get place.image.points edge.from ≡ Some point → is_sought place (asked known to reached) edge point ≡ true → IsFound known reached (Along edge) to
+  sought-found : (known : Bool) (to : ℕ) (reached : Bool) (edge : Edge) (point : Point) → slice_get place.image.points edge.from ≡ Some point → is_sought place (asked known reached) to edge point ≡ true → IsFound known reached (Along edge) to
   sought-found known to reached edge point there is =
       let ends = end_of edge point.instr == to in
       let comes = agrees reached (is_reached place.image edge.from) in
@@ -173,47 +170,48 @@ module _ (place : Place) (p : ℕ) where
   abbrev AllFound : Bool → Bool → Option Way → ℕ → Type 0
   AllFound known reached o to = (way : Way) → o ≡ Some way → IsFound known reached way to
 
-  of-found : (known : Bool) (to : ℕ) (reached : Bool) (from : ℕ) (point : Point) → slice_get place.image.points from ≡ Some point → AllFound known reached (way_of place (asked known to reached) from point) to
-  of-found known to reached from point there =
-      by_test (is_sought place (asked known to reached) (record { from = from; branch = false }) point) (is_sought place (asked known to reached) (record { from = from; branch = true }) point) refl refl
-    where
-      by_test : (a b : Bool) → is_sought place (asked known to reached) (record { from = from; branch = false }) point ≡ a → is_sought place (asked known to reached) (record { from = from; branch = true }) point ≡ b
-          → AllFound known reached (cond a (Some (Along (record { from = from; branch = false }))) (cond b (Some (Along (record { from = from; branch = true }))) None)) to
-      by_test true b is_a is_b way e = subst (λ w. IsFound known reached w to) (some-same _ _ e) (sought-found known to reached (record { from = from; branch = false }) point there is_a)
-      by_test false true is_a is_b way e = subst (λ w. IsFound known reached w to) (some-same _ _ e) (sought-found known to reached (record { from = from; branch = true }) point there is_b)
-      by_test false false is_a is_b way e = absurd cc
-
-  at-found : (known : Bool) (to : ℕ) (reached : Bool) (from : ℕ) → AllFound known reached (way_at place (asked known to reached) from) to
-  unfolding way_at
-  at-found known to reached from = by_point (slice_get place.image.points from) refl
-    where
-      by_point : (o : Option Point) → slice_get place.image.points from ≡ o → AllFound known reached (elim o [ None ↦ None | Some point ↦ way_of place (asked known to reached) from point ]) to
-      by_point None e way is = absurd cc
-      by_point (Some point) e way is = of-found known to reached from point e way is
-
   -- of two ways the first, if there is one
   or-all : (P : Way → Type 0) (a b : Option Way) → ((way : Way) → a ≡ Some way → P way) → ((way : Way) → b ≡ Some way → P way) → (way : Way) → option_or a b ≡ Some way → P way
   or-all P None b left right = right
   or-all P (Some way) b left right = left
 
-  first-found : (known : Bool) (to : ℕ) (reached : Bool) (n : ℕ) → AllFound known reached (first_way place (asked known to reached) n) to
+  along-way : (known : Bool) (to : ℕ) (reached : Bool) (edge : Edge) (point : Point) → slice_get place.image.points edge.from ≡ Some point → AllFound known reached (way_along place (asked known reached) to edge point) to
+  along-way known to reached edge point there way e =
+      let is = cond-some (is_sought place (asked known reached) to edge point) (Some (Along edge)) way e in
+      subst (λ w. IsFound known reached w to) (some-same _ _ is.1) (sought-found known to reached edge point there is.0)
+
+  of-found : (known : Bool) (to : ℕ) (reached : Bool) (from : ℕ) (point : Point) → slice_get place.image.points from ≡ Some point → AllFound known reached (way_of place (asked known reached) to from point) to
+  of-found known to reached from point there =
+      let along : Edge = record { from = from; branch = false } in
+      let aside : Edge = record { from = from; branch = true } in
+      or-all (λ way. IsFound known reached way to) (way_along place (asked known reached) to along point) (way_along place (asked known reached) to aside point) (along-way known to reached along point there) (along-way known to reached aside point there)
+
+  at-found : (known : Bool) (to : ℕ) (reached : Bool) (from : ℕ) → AllFound known reached (way_at place (asked known reached) to from) to
+  unfolding way_at
+  at-found known to reached from = by_point (slice_get place.image.points from) refl
+    where
+      by_point : (o : Option Point) → slice_get place.image.points from ≡ o → AllFound known reached (elim o [ None ↦ None | Some point ↦ way_of place (asked known reached) to from point ]) to
+      by_point None e way is = absurd cc
+      by_point (Some point) e way is = of-found known to reached from point e way is
+
+  first-found : (known : Bool) (to : ℕ) (reached : Bool) (n : ℕ) → AllFound known reached (first_way place (asked known reached) to n) to
   unfolding first_way
   first-found known to reached zero = λ way is. absurd cc
   first-found known to reached (suc n) =
       let from = start_of place.image.routines place.r + n in
-      or-all (λ way. IsFound known reached way to) (first_way place (asked known to reached) n) (way_at place (asked known to reached) from) (first-found known to reached n) (at-found known to reached from)
+      or-all (λ way. IsFound known reached way to) (first_way place (asked known reached) to n) (way_at place (asked known reached) to from) (first-found known to reached n) (at-found known to reached from)
 
-  entry-way : (known : Bool) (to : ℕ) (reached : Bool) → AllFound known reached (entry_way place (asked known to reached)) to
+  entry-way : (known : Bool) (to : ℕ) (reached : Bool) → AllFound known reached (entry_way place (asked known reached) to) to
   entry-way known to reached way is =
       let start = start_of place.image.routines place.r in
       let entry = cond-some (to == start && is_as known (entry_pointer place.routine p)) (Some Entry) way is in
       let tests = and_parts (to == start) (is_as known (entry_pointer place.routine p)) entry.0 in
       subst (λ w. IsFound known reached w to) (some-same _ _ entry.1) (eqb-true _ _ tests.0, tests.1)
 
-  to-found : (known : Bool) (to : ℕ) (reached : Bool) → AllFound known reached (way_to place (asked known to reached)) to
+  to-found : (known : Bool) (to : ℕ) (reached : Bool) → AllFound known reached (way_to place (asked known reached) to) to
   unfolding way_to
   to-found known to reached =
-      or-all (λ way. IsFound known reached way to) (entry_way place (asked known to reached)) (first_way place (asked known to reached) place.routine.count) (entry-way known to reached) (first-found known to reached place.routine.count)
+      or-all (λ way. IsFound known reached way to) (entry_way place (asked known reached) to) (first_way place (asked known reached) to place.routine.count) (entry-way known to reached) (first-found known to reached place.routine.count)
 
   bringing-way : (to : ℕ) (way : Way) → bringing place p to ≡ Some way → IsWay place p true way to × IsAlike place way
   unfolding bringing
@@ -227,7 +225,7 @@ module _ (place : Place) (p : ℕ) where
   unfolding losing
   losing-way to =
       let reached = is_reached place.image place.pc in
-      or-all (λ way. IsWay place p false way to) (way_to place (asked false to reached)) (way_to place (asked false to (not reached)))
+      or-all (λ way. IsWay place p false way to) (way_to place (asked false reached) to) (way_to place (asked false (not reached)) to)
       (λ way is. found-way false reached way to (to-found false to reached way is))
       (λ way is. found-way false (not reached) way to (to-found false to (not reached) way is))
 
@@ -235,11 +233,6 @@ module _ (place : Place) (p : ℕ) where
 
   abbrev LacksFrom : ℕ → Type 0
   LacksFrom pc = (edges : List Edge) × LacksAlong place p pc edges
-
-  -- where ways meet
-  record Meets (end : Option End) (m : Meeting) : Type 0 where
-    is : IsMeeting place p m
-    alike : end ≡ None → IsAlike place m.lost
 
   -- why a pointer is not known, where that is said
   abbrev IsEnd : End → Type 0
@@ -252,7 +245,7 @@ module _ (place : Place) (p : ℕ) where
     found : Found trace.arrivals
     passed : (k : ℕ) → Has trace.passed k → LacksFrom k
     lost : (edge : Edge) → trace.lost ≡ Some edge → IsLost place p edge
-    meeting : (m : Meeting) → trace.meeting ≡ Some m → Meets trace.end m
+    meeting : (m : Meeting) → trace.meeting ≡ Some m → IsMeeting place p m
     end : (end : End) → trace.end ≡ Some end → IsEnd end
 
   -- what is known of a meeting at a pc
@@ -278,15 +271,6 @@ module _ (place : Place) (p : ℕ) where
 
   abbrev ends_at : ℕ → Option End
   ends_at at = end_at place p (bringing place p at) at (losing place p at)
-
-  -- where an end is none, control comes along the way
-  end-alike : (brings : Option Way) (at : ℕ) (way : Way) → end_at place p brings at (Some way) ≡ None → IsAlike place way
-  end-alike brings at Entry e = tt
-  end-alike brings at (Along edge) e = by_alike (comes_alike place edge.from) refl e
-    where
-      by_alike : (b : Bool) → comes_alike place edge.from ≡ b → cond b None (Some (Unreached edge.from)) ≡ None → comes_alike place edge.from ≡ true
-      by_alike true is none = is
-      by_alike false is none = absurd cc
 
   -- what the caller does not bring is not known to the entry row, unless it leads into an empty slot
   entry-stale : (slots : List SlotState) (o : Option Pointer) → is_stale (if leads_nowhere slots o then None else o) ≡ true → empty_behind slots o ≡ None → is_stale o ≡ true
@@ -342,10 +326,6 @@ module _ (place : Place) (p : ℕ) where
   or-some None other end e = inr e
   or-some (Some was) other end e = inl e
 
-  or-none : (o other : Option End) → option_or o other ≡ None → o ≡ None
-  or-none None other e = refl
-  or-none (Some end) other e = absurd cc
-
   pass-sound : (trace : Trace) → Sound trace → (at : ℕ) → LacksFrom at → Sound (passed place p trace at)
   unfolding passed
   pass-sound trace sound at from = by_meeting trace.meeting (met_at at) refl refl
@@ -356,19 +336,16 @@ module _ (place : Place) (p : ℕ) where
       later : (end : End) → option_or trace.end (ends_at at) ≡ Some end → IsEnd end
       later end e = elim (or-some trace.end (ends_at at) end e) [ inl was ↦ sound.end end was | inr here ↦ at-end at from end here ]
 
-      met-here : (m : Meeting) → IsAt (bringing place p at) at (losing place p at) m → Meets (ends_at at) m
+      met-here : (m : Meeting) → IsAt (bringing place p at) at (losing place p at) m → IsMeeting place p m
       met-here m is =
           let here = subst LacksFrom (sym is.to) from in
           let known = bringing-way at m.known is.known in
           record {
-            is = record {
-              edges = here.0;
-              way = here.1;
-              known = subst (λ to. IsWay place p true m.known to) (sym is.to) known.0;
-              taken = known.1;
-              lost = subst (λ to. IsWay place p false m.lost to) (sym is.to) (losing-way at m.lost is.lost);
-            };
-            alike = λ none. end-alike (bringing place p at) at m.lost (ap (end_at place p (bringing place p at) at) (sym is.lost) ∙ none);
+            edges = here.0;
+            way = here.1;
+            known = subst (λ to. IsWay place p true m.known to) (sym is.to) known.0;
+            taken = known.1;
+            lost = subst (λ to. IsWay place p false m.lost to) (sym is.to) (losing-way at m.lost is.lost);
           }
 
       by_meeting : (before new : Option Meeting) → trace.meeting ≡ before → met_at at ≡ new
@@ -387,24 +364,22 @@ module _ (place : Place) (p : ℕ) where
         found = sound.found;
         passed = marks;
         lost = sound.lost;
-        meeting = λ m e.
-            (let met = sound.meeting m (is_before ∙ e) in
-            record { is = met.is; alike = λ none. met.alike (or-none trace.end (ends_at at) none) });
+        meeting = λ m e. sound.meeting m (is_before ∙ e);
         end = later;
       }
 
-  by-sound : (trace : Trace) → Sound trace → (edge : Edge) (to : ℕ) (behind : LacksBehind place p edge to) → LacksFrom to → Sound (back_by place p trace edge behind.comes.point)
-  by-sound trace sound edge to behind from = by_loss (loses place.image (hint_at trace p edge.from) edge behind.comes.point) refl
+  by-sound : (trace : Trace) → Sound trace → (edge : Edge) (point : Point) → slice_get place.image.points edge.from ≡ Some point → LacksFrom (end_of edge point.instr) → Sound (back_by place p trace edge point)
+  by-sound trace sound edge point there from = by_lack (lacks_on place p edge point) refl
     where
-      by_loss : (b : Bool) → loses place.image (hint_at trace p edge.from) edge behind.comes.point ≡ b
-          → Sound (cond b (record trace { found = true; lost = Some edge }) (cond (is_marked trace.passed edge.from) trace (passed place p trace edge.from)))
-      by_loss true is = record {
+      by_loss : (comes_alike place edge.from ≡ true) → (has_edge point.instr edge.branch ≡ true) → (is_stale (pointer_at (after place.image edge.from point.row edge.branch) p) ≡ true)
+          → (b : Bool) → loses place.image (hint_at trace p edge.from) edge point ≡ b → Sound (back_as place p trace edge (cond b Loses Lacks))
+      by_loss alike has stale true is = record {
         found = sound.found;
         passed = sound.passed;
         lost = λ e same.
             (let lost : IsLost place p edge = record {
-              to = to;
-              comes = behind.comes;
+              to = end_of edge point.instr;
+              comes = record { point = point; there = there; alike = alike; has = has; ends = refl };
               hint = arrival trace.arrivals edge.from;
               known = hint-known trace.arrivals sound.found edge.from;
               loses = is;
@@ -412,31 +387,38 @@ module _ (place : Place) (p : ℕ) where
               way = from.1;
             } in
             subst (λ x. IsLost place p x) (some-same edge e same) lost);
-        meeting = λ m e. (let met = sound.meeting m e in record { is = met.is; alike = met.alike });
+        meeting = sound.meeting;
         end = sound.end;
       }
-      by_loss false is = by_mark (is_marked trace.passed edge.from)
+      by_loss alike has stale false is = by_mark (is_marked trace.passed edge.from)
         where
+          lacks : LacksBehind place p edge (end_of edge point.instr)
+          lacks = record { comes = record { point = point; there = there; alike = alike; has = has; ends = refl }; stale = stale }
+
           by_mark : (b : Bool) → Sound (cond b trace (passed place p trace edge.from))
           by_mark true = sound
-          by_mark false = pass-sound trace sound edge.from (edge ∷ from.0, (refl, (to, behind, from.1)))
+          by_mark false = pass-sound trace sound edge.from (edge ∷ from.0, (refl, (end_of edge point.instr, lacks, from.1)))
+
+      by_lack : (b : Bool) → lacks_on place p edge point ≡ b
+          → Sound (back_as place p trace edge (cond b (cond (loses place.image (hint_at trace p edge.from) edge point) Loses Lacks) Not))
+      by_lack true is =
+          let has = has_edge point.instr edge.branch in
+          let alike = comes_alike place edge.from in
+          let last = and_parts (alike && has) (is_stale (pointer_at (after place.image edge.from point.row edge.branch) p)) is in
+          let first = and_parts alike has last.0 in
+          by_loss first.0 first.1 last.1 (loses place.image (hint_at trace p edge.from) edge point) refl
+      by_lack false is = sound
 
   along-sound : (trace : Trace) → Sound trace → (edge : Edge) (point : Point) → slice_get place.image.points edge.from ≡ Some point → Sound (back_along place p trace edge point)
   unfolding back_along
-  along-sound trace sound edge point there = by_test (not trace.found && lacks place p trace edge point) refl
+  along-sound trace sound edge point there = by_test (not trace.found && is_marked trace.passed (end_of edge point.instr)) refl
     where
-      by_test : (b : Bool) → (not trace.found && lacks place p trace edge point) ≡ b → Sound (cond b (back_by place p trace edge point) trace)
+      by_test : (b : Bool) → (not trace.found && is_marked trace.passed (end_of edge point.instr)) ≡ b → Sound (cond b (back_by place p trace edge point) trace)
       by_test true is =
           let to = end_of edge point.instr in
-          let has = has_edge point.instr edge.branch in
-          let alike = comes_alike place edge.from in
-          let tests = and_parts (not trace.found) (lacks place p trace edge point) is in
-          let last = and_parts (is_marked trace.passed to && alike && has) (is_stale (pointer_at (after place.image edge.from point.row edge.branch) p)) tests.1 in
-          let third = and_parts (is_marked trace.passed to && alike) has last.0 in
-          let first = and_parts (is_marked trace.passed to) alike third.0 in
-          let mark = and_parts (nat_lt to 4096) (get_or trace.passed to false) first.0 in
-          let behind : LacksBehind place p edge to = record { comes = record { point = point; there = there; alike = first.1; has = third.1; ends = refl }; stale = last.1 } in
-          by-sound trace sound edge to behind (sound.passed to mark.1)
+          let tests = and_parts (not trace.found) (is_marked trace.passed to) is in
+          let mark = and_parts (nat_lt to 4096) (get_or trace.passed to false) tests.1 in
+          by-sound trace sound edge point there (sound.passed to mark.1)
       by_test false is = sound
 
   from-sound : (trace : Trace) → Sound trace → (from : ℕ) → Sound (back_from place p trace from)
@@ -465,7 +447,7 @@ module _ (place : Place) (p : ℕ) where
     found = subst Found (sym arrivals) sound.found;
     passed = λ k h. sound.passed k (passed k h);
     lost = λ edge e. sound.lost edge (sym lost ∙ e);
-    meeting = λ m e. (let met = sound.meeting m (sym meeting ∙ e) in record { is = met.is; alike = λ none. met.alike (sym end ∙ none) });
+    meeting = λ m e. sound.meeting m (sym meeting ∙ e);
     end = λ why e. sound.end why (sym end ∙ e);
   }
 
@@ -493,24 +475,22 @@ module _ (place : Place) (p : ℕ) where
       } in
       pass-sound start sound place.pc ([], refl)
 
-  aside-sound : (trace : Trace) → Sound trace → (edge : Edge) (to : ℕ) → LacksBehind place p edge to → LacksFrom to → Sound (aside place p trace edge)
+  aside-sound : (trace : Trace) → Sound trace → (edge : Edge) (to : ℕ) → LeadsBy place p false edge to → LacksFrom to → Sound (aside place p trace edge)
   unfolding aside
-  aside-sound trace sound edge to behind from = rw (behind.comes.there, aside) (by-sound trace sound edge to behind from)
+  aside-sound trace sound edge to leads from = rw (leads.there, aside) (by-sound trace sound edge leads.point leads.there (subst LacksFrom (sym leads.ends) from))
 
   -- on from a meeting, where nothing else was passed
-  anew-sound : (trace : Trace) → Sound trace → (o : Option End) (way : Way) (to : ℕ) → (o ≡ None → IsAlike place way) → IsWay place p false way to → LacksFrom to → Sound (cond (is_some o) trace (aside_by place p trace way))
-  anew-sound trace sound (Some end) way to alike losing from = sound
-  anew-sound trace sound None Entry to alike losing from = sound
-  anew-sound trace sound None (Along edge) to alike losing from =
-      let behind : LacksBehind place p edge to = record { comes = record { point = losing.point; there = losing.there; alike = alike refl; has = losing.has; ends = losing.ends }; stale = losing.is } in
-      aside-sound trace sound edge to behind from
+  anew-sound : (trace : Trace) → Sound trace → (o : Option End) (way : Way) (to : ℕ) → IsWay place p false way to → LacksFrom to → Sound (cond (is_some o) trace (aside_by place p trace way))
+  anew-sound trace sound (Some end) way to losing from = sound
+  anew-sound trace sound None Entry to losing from = sound
+  anew-sound trace sound None (Along edge) to losing from = aside-sound trace sound edge to losing from
 
   lost-sound : (trace : Trace) → Sound trace → (m : Meeting) → trace.meeting ≡ Some m → Sound (along_lost place p trace m.lost)
   lost-sound trace sound m is =
       let next : Trace = record trace { passed = no_marks; goes_on = false; found = is_some trace.end } in
       let same : Sound next = same-sound trace next sound refl (λ k h. absurd (none-marked k h)) refl refl refl in
       let met = sound.meeting m is in
-      anew-sound next same trace.end m.lost m.to met.alike met.is.lost (met.is.edges, met.is.way)
+      anew-sound next same trace.end m.lost m.to met.lost (met.edges, met.way)
 
   traced-sound : Sound (traced place p)
   traced-sound =
@@ -526,7 +506,7 @@ said-holds place p =
     let sound = traced-sound place p in
     record {
       lost = sound.lost;
-      meeting = λ m e. (let met = sound.meeting m e in met.is);
+      meeting = sound.meeting;
       unset = λ e. sound.end Unset e;
       nowhere = λ way slot e. sound.end (Nowhere way slot) e;
     }

@@ -1,5 +1,5 @@
 -- What is known of a pointer on some way to each instruction of a routine; the rows say only what holds on all ways.
-use Rattle.std.specs.Prelude.{ℕ, zero, suc, ◌+◌, replicate, true, false, ◌&&◌, not, nat_lt, if◌then◌else◌, List, Option, Some, None, slice_get, slice_set, slice_index_or}
+use Rattle.std.specs.Prelude.{◌≡◌, ℕ, zero, suc, ◌+◌, replicate, true, false, ◌&&◌, not, nat_lt, if◌then◌else◌, List, Option, Some, None, slice_get, slice_set, slice_index_or}
 use Rattle.geos_image.specs.declared.point.Point.{Point}
 use Rattle.geos_image.specs.declared.row.Pointer.{Pointer}
 use Rattle.geos_image.specs.Parts.{Parts, start_of}
@@ -7,8 +7,9 @@ use Rattle.geos_verify.specs.Rows.{pointer_at, is_stale, after, has_edge}
 use Rattle.geos_explain.specs.declared.edges.Edge.{Edge}
 use Rattle.geos_explain.specs.declared.ways.Followed.{Followed}
 use Rattle.geos_explain.specs.declared.arrivals.Arrivals.{Arrivals}
+use Rattle.geos_explain.specs.declared.arrivals.BothBehind.{BothBehind}
 use Rattle.geos_explain.specs.Edges.{end_of}
-use Rattle.geos_explain.specs.Places.{Place, comes_alike}
+use Rattle.geos_explain.specs.Places.{Place, IsPcOf, comes_alike}
 use Rattle.geos_explain.specs.Ways.{with_hint, entry_pointer}
 
 -- nothing comes to any pc
@@ -30,6 +31,20 @@ behind image followed edge point =
     if has_edge point.instr edge.branch
     then pointer_at (after image edge.from (with_hint point.row followed) edge.branch) followed.p
     else None
+
+-- nothing is known behind the edges of an instruction
+abbrev pub no_behind : BothBehind
+no_behind = record { along = None; aside = None }
+
+-- this is known of a pointer behind the edges of the instruction at a pc, if there is one
+abbrev pub IsBehind : Parts → Followed → ℕ → BothBehind → Type 0
+IsBehind image followed from known = (point : Point) → slice_get image.points from ≡ Some point
+    → (known.along ≡ behind image followed (record { from = from; branch = false }) point)
+    × (known.aside ≡ behind image followed (record { from = from; branch = true }) point)
+
+-- the same of each instruction of the routine, with what is known there on some way
+pub record AreBehind (place : Place) (p : ℕ) (arrivals : Arrivals) (known : List BothBehind) : Type 0 where
+  pub at : (from : ℕ) → IsPcOf place from → IsBehind place.image (record { p = p; hint = arrival arrivals from }) from (slice_index_or known from no_behind)
 
 -- what is known behind an instruction comes to the end of its edge, if nothing did yet
 abbrev pub arrived_along : Place → ℕ → Arrivals → Edge → Point → Arrivals

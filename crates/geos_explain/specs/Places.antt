@@ -70,6 +70,11 @@ agrees wanted is = if wanted then is else not is
 abbrev pub comes_alike : Place → ℕ → Bool
 comes_alike place pc = agrees (is_reached place.image place.pc) (is_reached place.image pc)
 
+-- a pc is that of one of the instructions of the place's routine
+pub record IsPcOf (place : Place) (pc : ℕ) : Type 0 where
+  pub begins : start_of place.image.routines place.r ≤ pc
+  pub ends : pc < start_of place.image.routines place.r + place.routine.count
+
 -- there is a routine r in the image, whose instructions are some of the image's, which is no longer than images may be
 pub record HasRoutine (image : Parts) (r : ℕ) (routine : Routine) : Type 0 where
   pub within : r < length image.routines

@@ -1,5 +1,5 @@
 -- How far a pointer that is not known was followed back: which places were passed, where ways met, and where it was lost.
-use Rattle.std.specs.Prelude.{ℕ, zero, suc, ◌+◌, true, false, ◌&&◌, not, if◌then◌else◌, Bool, Option, Some, None, is_some, is_none, slice_get}
+use Rattle.std.specs.Prelude.{◌≡◌, ℕ, zero, suc, ◌+◌, true, false, ◌&&◌, not, if◌then◌else◌, Bool, Option, Some, None, is_some, is_none, List, slice_get, slice_index_or}
 use Rattle.std.specs.Option.{option_or}
 use Rattle.geos_image.specs.declared.point.Point.{Point}
 use Rattle.geos_image.specs.Parts.{start_of}
@@ -8,13 +8,17 @@ use Rattle.geos_explain.specs.declared.edges.Edge.{Edge}
 use Rattle.geos_explain.specs.declared.ways.Followed.{Followed}
 use Rattle.geos_explain.specs.declared.ways.Way.{Way}
 use Rattle.geos_explain.specs.declared.ways.Way.TheVariants.{Entry, Along}
+use Rattle.geos_explain.specs.declared.arrivals.Arrivals.{Arrivals}
+use Rattle.geos_explain.specs.declared.backs.Back.{Back}
+use Rattle.geos_explain.specs.declared.backs.Back.TheVariants.{Not, Loses, Lacks}
+use Rattle.geos_explain.specs.declared.backs.Backs.{Backs}
 use Rattle.geos_explain.specs.declared.trace.End.{End}
 use Rattle.geos_explain.specs.declared.trace.End.TheVariants.{Unset, Unreached, Merged, Nowhere}
 use Rattle.geos_explain.specs.declared.trace.Meeting.{Meeting}
 use Rattle.geos_explain.specs.declared.trace.Trace.{Trace}
 use Rattle.geos_explain.specs.Led.{no_marks, marked, is_marked}
 use Rattle.geos_explain.specs.Edges.{end_of}
-use Rattle.geos_explain.specs.Places.{Place, comes_alike}
+use Rattle.geos_explain.specs.Places.{Place, IsPcOf, comes_alike}
 use Rattle.geos_explain.specs.Ways.{empty_on, bringing, losing, loses}
 use Rattle.geos_explain.specs.Arrivals.{arrival, all_arrivals}
 
@@ -56,27 +60,49 @@ passed place p trace at =
     let lost = losing place p at in
     passed_by trace at (meeting_at known at lost) (end_at place p known at lost)
 
--- an edge of an instruction leads to a place that was passed, from where control comes, and does not bring the pointer
-abbrev pub lacks : Place → ℕ → Trace → Edge → Point → Bool
-lacks place p trace edge point =
-    is_marked trace.passed (end_of edge point.instr) && comes_alike place edge.from && has_edge point.instr edge.branch
+-- an edge of an instruction, from where control comes as it comes to the place, does not bring the pointer
+abbrev pub lacks_on : Place → ℕ → Edge → Point → Bool
+lacks_on place p edge point =
+    comes_alike place edge.from && has_edge point.instr edge.branch
     && is_stale (pointer_at (after place.image edge.from point.row edge.branch) p)
 
 -- a pointer, and what is known of it on some way to a pc
 abbrev pub hint_at : Trace → ℕ → ℕ → Followed
 hint_at trace p from = record { p = p; hint = arrival trace.arrivals from }
 
--- a step back along an edge that does not bring the pointer: it was lost there, or the instruction is passed, if it was not yet
-abbrev pub back_by : Place → ℕ → Trace → Edge → Point → Trace
-back_by place p trace edge point =
-    if loses place.image (hint_at trace p edge.from) edge point then record trace { found = true; lost = Some edge }
-    else if is_marked trace.passed edge.from then trace
-    else passed place p trace edge.from
+-- what a step back along an edge comes to
+abbrev pub back_of : Place → Followed → Edge → Point → Back
+back_of place followed edge point =
+    if lacks_on place followed.p edge point then if loses place.image followed edge point then Loses else Lacks else Not
 
--- the same of any edge of an instruction, unless what is looked for was found already
+-- no step is taken along the edges of an instruction
+abbrev pub no_backs : Backs
+no_backs = record { along = Not; aside = Not }
+
+-- this is what steps back along the edges of the instruction at a pc come to, if there is one
+abbrev pub IsBack : Place → Followed → ℕ → Backs → Type 0
+IsBack place followed from backs = (point : Point) → slice_get place.image.points from ≡ Some point
+    → (backs.along ≡ back_of place followed (record { from = from; branch = false }) point)
+    × (backs.aside ≡ back_of place followed (record { from = from; branch = true }) point)
+
+-- the same of each instruction of the routine, with what is known there on some way
+pub record AreBacks (place : Place) (p : ℕ) (arrivals : Arrivals) (backs : List Backs) : Type 0 where
+  pub at : (from : ℕ) → IsPcOf place from → IsBack place (record { p = p; hint = arrival arrivals from }) from (slice_index_or backs from no_backs)
+
+-- a step back along an edge, by what it comes to: the pointer was lost there, or the instruction is passed, if it was not yet
+abbrev pub back_as : Place → ℕ → Trace → Edge → Back → Trace
+back_as place p trace edge Not = trace
+back_as place p trace edge Loses = record trace { found = true; lost = Some edge }
+back_as place p trace edge Lacks = if is_marked trace.passed edge.from then trace else passed place p trace edge.from
+
+-- a step back along an edge
+abbrev pub back_by : Place → ℕ → Trace → Edge → Point → Trace
+back_by place p trace edge point = back_as place p trace edge (back_of place (hint_at trace p edge.from) edge point)
+
+-- the same of any edge of an instruction, if it leads to a place that was passed, unless what is looked for was found already
 unfoldable pub back_along : Place → ℕ → Trace → Edge → Point → Trace
 back_along place p trace edge point =
-    if not trace.found && lacks place p trace edge point then back_by place p trace edge point else trace
+    if not trace.found && is_marked trace.passed (end_of edge point.instr) then back_by place p trace edge point else trace
 
 -- the same of both edges of the instruction at a pc, if there is one
 unfoldable pub back_from : Place → ℕ → Trace → ℕ → Trace
@@ -101,11 +127,15 @@ unfoldable pub rounds : Place → ℕ → Trace → ℕ → Trace
 rounds place p trace zero = trace
 rounds place p trace (suc n) = next_round place p (rounds place p trace n)
 
+-- what is known of a pointer on some way to each pc
+abbrev pub arrivals_of : Place → ℕ → Arrivals
+arrivals_of place p = all_arrivals place p place.routine.count
+
 -- the place itself is passed
 abbrev pub begun : Place → ℕ → Trace
 begun place p =
     passed place p (record {
-      arrivals = all_arrivals place p place.routine.count;
+      arrivals = arrivals_of place p;
       passed = no_marks;
       goes_on = false;
       found = false;

@@ -5,9 +5,11 @@
 #![tactic(auto)]
 
 mod arrivals;
+mod backs;
 mod edges;
 mod explained;
 mod explanation;
+mod firsts;
 mod held;
 mod lacks;
 mod led;

@@ -1,19 +1,21 @@
 //! How far a pointer that is not known was followed back: which places were passed, where ways met, and where it was lost.
 
-ghost use Rattle.std.specs.Prelude.{◌≡◌, Some, slice_get};
-ghost use Rattle.geos_explain.specs.Places.{IsPlace, place_of};
+ghost use Rattle.std.specs.Prelude.{◌≡◌, ◌<◌, Some, slice_get};
+ghost use Rattle.geos_explain.specs.Places.{IsPlace, IsPcOf, place_of};
+ghost use Rattle.geos_explain.specs.Ways.{AreFirsts};
 ghost use Rattle.geos_explain.specs.Lost.{WhatIsSaidHolds};
-ghost use Rattle.geos_explain.specs.Trace.{meeting_at, nowhere_or, end_at, passed, hint_at, back_by, back_along, back_from, next_round, rounds, along_lost, traced};
+ghost use Rattle.geos_explain.specs.Trace.{meeting_at, nowhere_or, end_at, passed, hint_at, arrivals_of, AreBacks, back_as, back_along, back_from, next_round, rounds, along_lost, traced};
 
 use crate::arrivals::{Arrivals, all_arrivals, arrival};
+use crate::backs::{AllBacks, Back, all_backs, back_at, back_of};
 use crate::edges::{Edge, end_of};
+use crate::firsts::{Firsts, bringing, firsts_of, losing};
 use crate::led::{Marks, is_marked, mark, no_marks};
 use crate::place::Place;
 use crate::points::point_at;
 use crate::routines::comes_alike;
-use crate::ways::{Followed, Way, bringing, empty_on, is_stale, loses, losing};
+use crate::ways::{Followed, Way, empty_on};
 use geos_image::Point;
-use geos_verify::{after, has_edge, pointer_at};
 
 /// Ways meet, of which one brings a pointer and another does not.
 #[derive(Clone, Copy)]
@@ -97,14 +99,29 @@ fn end_at(place: &Place, p: u8, known: Option<Way>, to: u16, lost: Option<Way>) 
     }
 }
 
+/// A pointer that is followed back from a place, with what is found once of each edge: whether it is a first way to where it leads,
+/// and what a step back along it comes to.
+#[derive(Drop)]
+struct Tracing<'a> {
+    place: &'a Place<'a>,
+    p: u8,
+    firsts: Firsts,
+    backs: AllBacks,
+    ghost first: { AreFirsts (place_of place.now) p firsts },
+    ghost back: { AreBacks (place_of place.now) p (arrivals_of (place_of place.now) p) backs },
+}
+
 /// One more place is passed. Where the first ways meet, nothing counts of what else was passed.
 #[tactic(auto, unfolding(crate::specs::Trace::passed))]
-fn pass(trace: &mut Trace, place: &Place, p: u8, at: u16)
-    requires { IsPlace (place_of place.now) }
-    ensures { trace.new ≡ passed (place_of place.now) p trace.old at }
+fn pass(trace: &mut Trace, tracing: &Tracing, at: u16)
+    requires place { IsPlace (place_of tracing.now.place.now) }
+    requires there { at < 4096 }
+    ensures passes { trace.new ≡ passed (place_of tracing.now.place.now) tracing.now.p trace.old at }
+    ensures arrivals { trace.new.arrivals ≡ trace.old.arrivals }
 {
-    let known = bringing(place, p, at);
-    let lost = losing(place, p, at);
+    let (place, p) = (tracing.place, tracing.p);
+    let known = bringing(place, p, &tracing.firsts, at);
+    let lost = losing(place, p, &tracing.firsts, at);
     let end = end_at(place, p, known, at, lost);
     let met = trace.meeting.or(meeting_at(known, at, lost));
     mark(&mut trace.passed, usize::from(at));
@@ -128,93 +145,103 @@ pub(crate) fn hint_at(trace: &Trace, p: u8, from: u16) -> Followed
     }
 }
 
-/// A step back along an edge that does not bring the pointer: it was lost there, or the instruction is passed, if it was not yet.
-fn step_by(trace: &mut Trace, place: &Place, p: u8, edge: Edge, point: &Point)
-    requires place { IsPlace (place_of place.now) }
-    requires there { slice_get place.now.image.now.points edge.from ≡ Some point.now }
-    ensures { trace.new ≡ back_by (place_of place.now) p trace.old edge point.now }
+/// A step back along an edge, by what it comes to: the pointer was lost there, or the instruction is passed, if it was not yet.
+fn step_as(trace: &mut Trace, tracing: &Tracing, edge: Edge, back: Back)
+    requires place { IsPlace (place_of tracing.now.place.now) }
+    requires there { edge.from < 4096 }
+    ensures steps { trace.new ≡ back_as (place_of tracing.now.place.now) tracing.now.p trace.old edge back }
+    ensures arrivals { trace.new.arrivals ≡ trace.old.arrivals }
 {
-    let followed = hint_at(trace, p, edge.from);
-    if loses(place.image, followed, edge, point) {
-        trace.found = true;
-        trace.lost = Some(edge);
-    } else if !is_marked(&trace.passed, usize::from(edge.from)) {
-        pass(trace, place, p, edge.from);
+    match back {
+        Back::Not => {}
+        Back::Loses => {
+            trace.found = true;
+            trace.lost = Some(edge);
+        }
+        Back::Lacks => {
+            if !is_marked(&trace.passed, usize::from(edge.from)) {
+                pass(trace, tracing, edge.from);
+            }
+        }
     }
 }
 
-/// The same of any edge of the instruction, if it leads to a place that was passed, from where control comes, and does not bring
-/// the pointer, unless what is looked for was found already.
+/// A step back along any edge of the instruction, if it leads to a place that was passed, unless what is looked for was found already.
 #[tactic(auto, unfolding(crate::specs::Trace::back_along))]
-fn step_along(trace: &mut Trace, place: &Place, p: u8, edge: Edge, point: &Point)
-    requires place { IsPlace (place_of place.now) }
-    requires there { slice_get place.now.image.now.points edge.from ≡ Some point.now }
-    ensures { trace.new ≡ back_along (place_of place.now) p trace.old edge point.now }
+fn step_along(trace: &mut Trace, tracing: &Tracing, edge: Edge, point: &Point)
+    requires place { IsPlace (place_of tracing.now.place.now) }
+    requires there { slice_get tracing.now.place.now.image.now.points edge.from ≡ Some point.now }
+    requires inside { IsPcOf (place_of tracing.now.place.now) edge.from }
+    requires arrivals { trace.old.arrivals ≡ arrivals_of (place_of tracing.now.place.now) tracing.now.p }
+    ensures steps { trace.new ≡ back_along (place_of tracing.now.place.now) tracing.now.p trace.old edge point.now }
+    ensures arrivals { trace.new.arrivals ≡ trace.old.arrivals }
 {
-    if trace.found {
-        return;
-    }
-    if is_marked(&trace.passed, end_of(edge, &point.instr))
-        && comes_alike(place, edge.from)
-        && has_edge(&point.instr, edge.branch)
-        && is_stale(pointer_at(&after(place.image, edge.from, &point.row, edge.branch), p))
-    {
-        step_by(trace, place, p, edge, point);
+    if !trace.found && is_marked(&trace.passed, end_of(edge, &point.instr)) {
+        step_as(trace, tracing, edge, back_at(&tracing.backs, edge));
     }
 }
 
 /// The same of both edges of the instruction at a pc, if there is one.
 #[tactic(auto, unfolding(crate::specs::Trace::back_from))]
-fn step_from(trace: &mut Trace, place: &Place, p: u8, from: u16)
-    requires { IsPlace (place_of place.now) }
-    ensures { trace.new ≡ back_from (place_of place.now) p trace.old from }
+fn step_from(trace: &mut Trace, tracing: &Tracing, from: u16)
+    requires place { IsPlace (place_of tracing.now.place.now) }
+    requires inside { IsPcOf (place_of tracing.now.place.now) from }
+    requires arrivals { trace.old.arrivals ≡ arrivals_of (place_of tracing.now.place.now) tracing.now.p }
+    ensures steps { trace.new ≡ back_from (place_of tracing.now.place.now) tracing.now.p trace.old from }
+    ensures arrivals { trace.new.arrivals ≡ trace.old.arrivals }
 {
-    match point_at(place.image, from) {
+    match point_at(tracing.place.image, from) {
         Some(point) => {
             let along = Edge {
                 from,
                 branch: false,
             };
-            step_along(trace, place, p, along, point);
-            step_along(trace, place, p, Edge { from, branch: true }, point);
+            step_along(trace, tracing, along, point);
+            step_along(trace, tracing, Edge { from, branch: true }, point);
         }
         None => {}
     }
 }
 
 /// The same of all of the routine's instructions, the last of them first, unless the last such round passed no place.
-fn next_round(trace: &mut Trace, place: &Place, p: u8)
-    requires { IsPlace (place_of place.now) }
-    ensures { trace.new ≡ next_round (place_of place.now) p trace.old }
+fn next_round(trace: &mut Trace, tracing: &Tracing)
+    requires place { IsPlace (place_of tracing.now.place.now) }
+    requires arrivals { trace.old.arrivals ≡ arrivals_of (place_of tracing.now.place.now) tracing.now.p }
+    ensures steps { trace.new ≡ next_round (place_of tracing.now.place.now) tracing.now.p trace.old }
+    ensures arrivals { trace.new.arrivals ≡ trace.old.arrivals }
 {
     if !trace.goes_on {
         return;
     }
     trace.goes_on = false;
+    let place = tracing.place;
     let start = place.image.start(place.r);
     let mut rest = place.routine.count;
     while rest > 0 {
         rest -= 1;
-        step_from(trace, place, p, start + rest);
+        step_from(trace, tracing, start + rest);
     }
 }
 
-/// As many rounds back as the routine has instructions.
+/// As many rounds back as the routine has instructions. A round looks at no more than a mark and what is noted of each edge.
 #[tactic(auto, unfolding(crate::specs::Trace::rounds))]
-fn step_rounds(trace: &mut Trace, place: &Place, p: u8)
-    requires { IsPlace (place_of place.now) }
-    ensures { trace.new ≡ rounds (place_of place.now) p trace.old place.now.routine.now.count }
+fn step_rounds(trace: &mut Trace, tracing: &Tracing)
+    requires place { IsPlace (place_of tracing.now.place.now) }
+    requires arrivals { trace.old.arrivals ≡ arrivals_of (place_of tracing.now.place.now) tracing.now.p }
+    ensures steps { trace.new ≡ rounds (place_of tracing.now.place.now) tracing.now.p trace.old tracing.now.place.now.routine.now.count }
+    ensures arrivals { trace.new.arrivals ≡ trace.old.arrivals }
 {
-    for n in 0..place.routine.count {
-        next_round(trace, place, p);
+    for n in 0..tracing.place.routine.count {
+        next_round(trace, tracing);
     }
 }
 
 /// A step back along a way that does not bring the pointer, unless it is known why not; nothing else was passed before.
 #[tactic(auto, unfolding(crate::specs::Trace::aside))]
-fn step_along_lost(trace: &mut Trace, place: &Place, p: u8, lost: Way)
-    requires { IsPlace (place_of place.now) }
-    ensures { trace.new ≡ along_lost (place_of place.now) p trace.old lost }
+fn step_along_lost(trace: &mut Trace, tracing: &Tracing, lost: Way)
+    requires { IsPlace (place_of tracing.now.place.now) }
+    ensures steps { trace.new ≡ along_lost (place_of tracing.now.place.now) tracing.now.p trace.old lost }
+    ensures arrivals { trace.new.arrivals ≡ trace.old.arrivals }
 {
     trace.passed = no_marks();
     trace.goes_on = false;
@@ -223,8 +250,12 @@ fn step_along_lost(trace: &mut Trace, place: &Place, p: u8, lost: Way)
         return;
     }
     match lost {
-        Way::Along(edge) => match point_at(place.image, edge.from) {
-            Some(point) => step_by(trace, place, p, edge, point),
+        Way::Along(edge) => match point_at(tracing.place.image, edge.from) {
+            Some(point) => {
+                let followed = hint_at(trace, tracing.p, edge.from);
+                let back = back_of(tracing.place, followed, edge, point);
+                step_as(trace, tracing, edge, back);
+            }
             None => {}
         },
         Way::Entry => {}
@@ -246,12 +277,18 @@ pub(crate) fn traced(place: &Place, p: u8) -> Trace
         end: None,
         lost: None,
     };
-    pass(&mut trace, place, p, place.pc);
-    step_rounds(&mut trace, place, p);
+    let tracing = Tracing {
+        place,
+        p,
+        firsts: firsts_of(place, p),
+        backs: all_backs(place, p, &trace.arrivals),
+    };
+    pass(&mut trace, &tracing, place.pc);
+    step_rounds(&mut trace, &tracing);
     match trace.meeting {
         Some(meeting) => {
-            step_along_lost(&mut trace, place, p, meeting.lost);
-            step_rounds(&mut trace, place, p);
+            step_along_lost(&mut trace, &tracing, meeting.lost);
+            step_rounds(&mut trace, &tracing);
         }
         None => {}
     }

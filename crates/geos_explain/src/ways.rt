@@ -2,8 +2,8 @@
 
 ghost use Rattle.std.specs.Prelude.{◌≡◌, ◌<◌, Some, length, slice_get, IfSome};
 ghost use Rattle.geos_verify.specs.Rows.{is_stale};
-ghost use Rattle.geos_explain.specs.Places.{IsPlace, place_of};
-ghost use Rattle.geos_explain.specs.Ways.{is_as, entry_pointer, empty_slot, empty_along, empty_on, is_as_sought, is_sought, way_at, way_to, bringing, losing, with_hint, sets, forgets, loses};
+ghost use Rattle.geos_explain.specs.Places.{place_of};
+ghost use Rattle.geos_explain.specs.Ways.{is_as, entry_pointer, empty_slot, empty_along, empty_on, is_as_sought, with_hint, sets, forgets, loses};
 
 use crate::edges::{Edge, end_of};
 use crate::led::is_reached;
@@ -28,8 +28,6 @@ pub(crate) enum Way {
 pub(crate) struct Sought {
     /// The pointer.
     pub p: u8,
-    /// Where they lead.
-    pub to: u16,
     /// Whether they bring it.
     pub known: bool,
     /// Whether control reaches where they come from.
@@ -52,7 +50,7 @@ pub(crate) fn is_stale(pointer: Option<Pointer>) -> bool
 }
 
 /// Whether the pointer is known, or is not, as is asked.
-fn is_as(known: bool, pointer: Option<Pointer>) -> bool
+pub(crate) fn is_as(known: bool, pointer: Option<Pointer>) -> bool
     ensures { result ≡ is_as known pointer }
 {
     if known {
@@ -112,7 +110,7 @@ pub(crate) fn empty_on(place: &Place, p: u8, way: Way) -> Option<u8>
 }
 
 /// Whether control comes along the edge of the instruction as is asked, and behind it the pointer is known as is asked.
-fn is_as_sought(place: &Place, sought: Sought, edge: Edge, point: &Point) -> bool
+pub(crate) fn is_as_sought(place: &Place, sought: Sought, edge: Edge, point: &Point) -> bool
     requires { slice_get place.now.image.now.points edge.from ≡ Some point.now }
     ensures { result ≡ is_as_sought (place_of place.now) sought edge point.now }
 {
@@ -127,93 +125,6 @@ fn is_as_sought(place: &Place, sought: Sought, edge: Edge, point: &Point) -> boo
                 sought.p,
             ),
         )
-}
-
-/// Whether the edge of the instruction is a way that is sought. Few edges pass the test of the numbers, so it comes first, and
-/// apart from the rest, which would be in the way of the loop over all edges.
-fn is_sought(place: &Place, sought: Sought, edge: Edge, point: &Point) -> bool
-    requires { slice_get place.now.image.now.points edge.from ≡ Some point.now }
-    ensures { result ≡ is_sought (place_of place.now) sought edge point.now }
-{
-    end_of(edge, &point.instr) == usize::from(sought.to) && is_as_sought(place, sought, edge, point)
-}
-
-/// The first way of the instruction at a pc that is sought, if there is an instruction.
-#[tactic(auto, unfolding(crate::specs::Ways::way_at))]
-fn way_at(place: &Place, sought: Sought, from: u16) -> Option<Way>
-    ensures { result ≡ way_at (place_of place.now) sought from }
-{
-    let along = Edge {
-        from,
-        branch: false,
-    };
-    let aside = Edge { from, branch: true };
-    match point_at(place.image, from) {
-        Some(point) if is_sought(place, sought, along, point) => Some(Way::Along(along)),
-        Some(point) if is_sought(place, sought, aside, point) => Some(Way::Along(aside)),
-        _ => None,
-    }
-}
-
-/// The first way that is sought: from the caller, where the pc is the routine's first, and the caller brings the pointer as is
-/// asked, or else from an instruction of the routine.
-#[tactic(auto, unfolding(crate::specs::Ways::first_way, crate::specs::Ways::way_to))]
-fn way_to(place: &Place, sought: Sought) -> Option<Way>
-    requires { IsPlace (place_of place.now) }
-    ensures { result ≡ way_to (place_of place.now) sought }
-{
-    let start = place.image.start(place.r);
-    if sought.to == start && is_as(sought.known, entry_pointer(place.routine, sought.p)) {
-        return Some(Way::Entry);
-    }
-    let mut first = None;
-    for k in 0..place.routine.count {
-        first = first.or(way_at(place, sought, start + k));
-    }
-    first
-}
-
-/// The first way to a pc that brings the pointer.
-#[tactic(auto, unfolding(crate::specs::Ways::bringing))]
-pub(crate) fn bringing(place: &Place, p: u8, to: u16) -> Option<Way>
-    requires { IsPlace (place_of place.now) }
-    ensures { result ≡ bringing (place_of place.now) p to }
-{
-    let reached = is_reached(place.image, place.marks, place.pc);
-    way_to(
-        place,
-        Sought {
-            p,
-            to,
-            known: true,
-            reached,
-        },
-    )
-}
-
-/// The first way to a pc that does not; where there is none, the first from where control never is.
-#[tactic(auto, unfolding(crate::specs::Ways::losing))]
-pub(crate) fn losing(place: &Place, p: u8, to: u16) -> Option<Way>
-    requires { IsPlace (place_of place.now) }
-    ensures { result ≡ losing (place_of place.now) p to }
-{
-    let reached = is_reached(place.image, place.marks, place.pc);
-    let sought = Sought {
-        p,
-        to,
-        known: false,
-        reached,
-    };
-    match way_to(place, sought) {
-        Some(way) => Some(way),
-        None => way_to(
-            place,
-            Sought {
-                reached: !reached,
-                ..sought
-            },
-        ),
-    }
 }
 
 /// The row; where it knows nothing of the pointer, with what is known of it on some way.

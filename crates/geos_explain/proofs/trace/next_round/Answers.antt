@@ -18,14 +18,15 @@ loop-rest-preserved c =
     let next : suc (rest - 1) ≡ rest = omega arith in
     record {
       within = omega arith;
-      same = back_over-next (place_of c.args.place.now) c.args.p c.loop-rest.trace c.step_from.new.trace c.start-start.result (rest - 1) rest next c.start-start.ensures.start c.step_from.ensures
+      arrivals = c.step_from.ensures.arrivals ∙ c.loop-rest.invariant.arrivals;
+      same = back_over-next (place_of c.args.tracing.now.place.now) c.args.tracing.now.p c.loop-rest.trace c.step_from.new.trace c.start-start.result (rest - 1) rest next c.start-start.ensures.start c.step_from.ensures.steps
           ∙ c.loop-rest.invariant.same;
     }
 
-pub returns : goal.returns
+pub returns-clause-steps : goal.returns-clause-steps
 unfolding back_over
-returns c =
+returns-clause-steps c =
     let none = c.loop-rest-test.false in
     let zero_left : c.loop-rest.rest ≡ 0 = omega arith in
     let goes_on : c.args.trace.now.goes_on ≡ true = cc in
-    rw goes_on (sym (ap (back_over (place_of c.args.place.now) c.args.p c.loop-rest.trace) zero_left) ∙ c.loop-rest.invariant.same)
+    rw goes_on (sym (ap (back_over (place_of c.args.tracing.now.place.now) c.args.tracing.now.p c.loop-rest.trace) zero_left) ∙ c.loop-rest.invariant.same)
