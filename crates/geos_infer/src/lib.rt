@@ -22,6 +22,7 @@ mod flow;
 mod inference;
 mod leads;
 mod longest;
+mod order;
 mod paid;
 mod pile;
 mod reach;

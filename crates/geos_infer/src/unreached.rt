@@ -7,10 +7,9 @@ ghost use Rattle.geos_infer.specs.Flow.{AllKnown};
 use crate::body::Body;
 use crate::common::clean;
 use crate::edges::edge_in;
-use crate::flow::Arrival;
-use crate::rounds::pass;
+use crate::rounds::{PASSES, pass};
 use crate::table::Known;
-use crate::waiting::{Bounds, Waiting};
+use crate::waiting::Waiting;
 use geos_image::{Instr, Opcode, Pointer, Row, SlotState};
 use geos_opcodes::{Kind, SlotUse};
 use geos_verify::uses_at;
@@ -126,49 +125,36 @@ fn guess(body: &Body, known: &Known, from: &mut Known) {
     }
 }
 
-/// What is known at a place goes along the edges to places that nothing reaches; whether something came of that.
-fn pass_lone(body: &Body, pc: u16, known: &Known, waiting: &mut Waiting, others: &mut Known) -> bool
+/// What is known at a place goes along the edges to places that nothing reaches.
+fn pass_lone(body: &Body, pc: u16, known: &Known, waiting: &mut Waiting, others: &mut Known)
     requires { pc < body.now.end }
 {
     let Some(row) = others.at(pc) else {
-        return false;
+        return;
     };
-    let mut changed = false;
     for branch in [false, true] {
         if let Some(edge) = edge_in(body, pc, branch) {
             if known.at(edge.to).is_none() {
-                if let Arrival::Weaker = pass(body, edge, &row, waiting, others) {
-                    changed = true;
-                }
+                pass(body, edge, &row, waiting, others);
             }
         }
     }
-    changed
 }
 
-/// What waits of the places that nothing reaches goes along its edges, in the order of the pcs; whether
-/// something came of that.
-fn round(
-    body: &Body,
-    known: &Known,
-    from: &Known,
-    waiting: &mut Waiting,
-    others: &mut Known,
-) -> bool {
-    let mut changed = false;
-    let Bounds { first, last } = waiting.begin_round();
-    for pc in first..body.end {
-        if last.max(waiting.last()) < pc {
-            break;
+/// What waits of the places that nothing reaches goes along its edges, until nothing new comes to any of them.
+fn flow_lone(body: &Body, known: &Known, from: &Known, waiting: &mut Waiting, others: &mut Known) {
+    for _ in 0..PASSES {
+        let Some(pc) = waiting.take() else {
+            return;
+        };
+        if body.end <= pc {
+            return;
         }
-        if waiting.take(pc) {
-            if let Some(row) = others.at(pc).or(from.at(pc)) {
-                others.set(pc, Some(clean(&row)));
-                changed |= pass_lone(body, pc, known, waiting, others);
-            }
+        if let Some(row) = others.at(pc).or(from.at(pc)) {
+            others.set(pc, Some(clean(&row)));
+            pass_lone(body, pc, known, waiting, others);
         }
     }
-    changed
 }
 
 /// Finds rows at the instructions of a routine where nothing is known; whether there are such. Where two
@@ -193,11 +179,6 @@ pub(crate) fn fill(
         others.set(pc, None);
     }
     guess(body, known, from);
-    // Each round but the last weakens a row, as in `rounds`.
-    for _ in 0..u32::MAX {
-        if !round(body, known, from, waiting, others) {
-            break;
-        }
-    }
+    flow_lone(body, known, from, waiting, others);
     true
 }

@@ -1,121 +1,150 @@
 //! Which places of a routine have yet to go along their edges.
 
-ghost use Rattle.std.specs.Prelude.{◌<◌};
+ghost use Rattle.std.specs.Prelude.{◌<◌, IfSome};
 
 use crate::body::Body;
-use crate::table::Table;
-use crate::widening::JOINED;
+use crate::edges::Edge;
+use crate::order::Order;
+use crate::table::{Table, two_tables};
+use crate::widening::Kept;
+use geos_image::MOST_INSTRS;
 use std::alloc::{AllocError, Global};
 
-/// Whether what is known at a place has yet to go along its edges, and how many times an edge that
-/// leads back has weakened it.
+/// How often a place went along its edges, and how often an edge that leads back in the order of the places weakened it.
 #[derive(Clone, Copy)]
-struct Wait {
-    waits: bool,
-    times: u8,
+struct Times {
+    gone: u8,
+    back: u8,
 }
 
-impl Wait {
-    /// Nothing waits.
-    const NONE: Wait = Wait {
-        waits: false,
-        times: 0,
-    };
+impl Times {
+    const NONE: Times = Times { gone: 0, back: 0 };
 }
 
-/// From which place on others may wait, and up to which one.
-#[derive(Clone, Copy)]
-pub(crate) struct Bounds {
-    pub(crate) first: u16,
-    pub(crate) last: u16,
-}
+/// So many turns are looked at together are looked at together.
+const GROUP: u16 = 64;
 
-impl Bounds {
-    /// No place waits.
-    const NONE: Bounds = Bounds {
-        first: u16::MAX,
-        last: 0,
-    };
-}
-
-/// The places that have yet to go along their edges.
+/// The places that have yet to go along their edges, each once, in the order in which rows flow.
 #[derive(Drop)]
 pub(crate) struct Waiting {
-    places: Table<Wait>,
-    /// Those that came to wait since the last round began lie between these.
-    bounds: Bounds,
-    /// How many times an edge that leads back has weakened the same place, at most.
-    most: u8,
+    order: Order,
+    /// The routine whose order it is.
+    routine: Option<u16>,
+    /// Whether the place of each turn waits.
+    waits: Table<bool>,
+    /// Whether some place of each group of turns may wait.
+    some: [bool; 64],
+    /// Whose turn comes next.
+    turn: u16,
+    times: Table<Times>,
+    /// Whether less than a join was kept of some place.
+    widened: bool,
 }
 
 impl Waiting {
     pub(crate) fn new(alloc: Global) -> Result<Waiting, AllocError> {
+        let order = Order::new(alloc)?;
+        let (waits, times) = two_tables(alloc, false, Times::NONE)?;
         Ok(Waiting {
-            places: Table::new(alloc, Wait::NONE)?,
-            bounds: Bounds::NONE,
-            most: 0,
+            order,
+            routine: None,
+            waits,
+            some: [false; 64],
+            turn: 0,
+            times,
+            widened: false,
         })
     }
 
     /// Nothing waits in a routine, and no place was weakened.
     pub(crate) fn clear(&mut self, body: &Body) {
-        self.places.fill_from(body.start, Wait::NONE);
-        self.bounds = Bounds::NONE;
-        self.most = 0;
+        if self.routine != Some(body.r) {
+            self.order.arrange(body);
+            self.routine = Some(body.r);
+        }
+        self.waits.fill_from(0, false);
+        self.some = [false; 64];
+        self.turn = 0;
+        self.times.fill_from(body.start, Times::NONE);
+        self.widened = false;
     }
 
     /// A place is to go along its edges.
     pub(crate) fn wait(&mut self, pc: u16)
         requires { pc < 4096 }
     {
-        let Wait { times, .. } = self.places.at(pc);
-        self.places.set(pc, Wait { waits: true, times });
-        self.bounds = Bounds {
-            first: self.bounds.first.min(pc),
-            last: self.bounds.last.max(pc),
-        };
+        let turn = self.order.turn(pc);
+        self.waits.set(turn, true);
+        self.some[usize::from(turn / GROUP)] = true;
     }
 
-    /// Whether a place waits; it no longer does.
-    pub(crate) fn take(&mut self, pc: u16) -> bool
-        requires { pc < 4096 }
+    /// The first turn of a group from one on whose place waits, if there is one.
+    fn first_in(&self, from: u16) -> Option<u16>
+        requires { from < 4096 }
+        ensures { IfSome result (λ turn. turn < 4096) }
     {
-        let Wait { waits, times } = self.places.at(pc);
-        if waits {
-            let gone = Wait {
-                waits: false,
-                times,
-            };
-            self.places.set(pc, gone);
+        for turn in from..MOST_INSTRS {
+            if self.waits.at(turn) {
+                return Some(turn);
+            }
+            if turn % GROUP == GROUP - 1 {
+                return None;
+            }
         }
-        waits
+        None
     }
 
-    /// An edge that leads back has weakened a place; how many times such edges have.
-    pub(crate) fn weaken(&mut self, pc: u16) -> u8
-        requires { pc < 4096 }
+    /// The first turn from one on whose place waits, if there is one.
+    fn first_from(&mut self, from: u16) -> Option<u16>
+        requires { from < 4096 }
+        ensures { IfSome result (λ turn. turn < 4096) }
     {
-        let Wait { waits, times } = self.places.at(pc);
-        let times = times.saturating_add(1);
-        self.places.set(pc, Wait { waits, times });
-        self.most = self.most.max(times);
-        times
+        for group in from / GROUP..GROUP {
+            if self.some[usize::from(group)] {
+                let begin = group * GROUP;
+                if let Some(turn) = self.first_in(begin.max(from)) {
+                    return Some(turn);
+                }
+                self.some[usize::from(group)] = begin < from;
+            }
+        }
+        None
     }
 
-    /// Whether less than a join was kept of some place, since edges that lead back had weakened it too often.
+    /// The place that goes along its edges next: the next one in the order that waits, and from the last one on again the first. It no
+    /// longer waits.
+    pub(crate) fn take(&mut self) -> Option<u16>
+        ensures { IfSome result (λ pc. pc < 4096) }
+    {
+        let turn = match self.first_from(self.turn) {
+            Some(turn) => turn,
+            None => self.first_from(0)?,
+        };
+        self.waits.set(turn, false);
+        self.turn = turn;
+        let pc = self.order.place(turn);
+        let Times { gone, back } = self.times.at(pc);
+        let gone = gone.saturating_add(1);
+        self.times.set(pc, Times { gone, back });
+        Some(pc)
+    }
+
+    /// The edge has weakened the place where it leads; how much is to be kept of the row there.
+    pub(crate) fn weaken(&mut self, edge: Edge) -> Kept
+        requires from { edge.pc < 4096 }
+        requires to { edge.to < 4096 }
+    {
+        let leads_back = self.order.leads_back(edge);
+        let Times { gone, back } = self.times.at(edge.to);
+        let back = back.saturating_add(u8::from(leads_back));
+        self.times.set(edge.to, Times { gone, back });
+        let kept = Kept::after(gone, leads_back, back);
+        self.widened = self.widened || !kept.is_join();
+        kept
+    }
+
+    /// Whether less than a join was kept of some place, since it had been weakened too often.
     pub(crate) fn has_widened(&self) -> bool {
-        JOINED < self.most
-    }
-
-    /// A round begins: between which places others wait that came to do so in the last one.
-    pub(crate) fn begin_round(&mut self) -> Bounds {
-        let bounds = self.bounds;
-        self.bounds = Bounds::NONE;
-        bounds
-    }
-
-    /// Up to which place others wait that came to do so in this round.
-    pub(crate) fn last(&self) -> u16 {
-        self.bounds.last
+        self.widened
     }
 }

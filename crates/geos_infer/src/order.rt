@@ -1,0 +1,167 @@
+//! The order in which rows flow through the places of a routine.
+
+ghost use Rattle.std.specs.Prelude.{◌<◌, ◌≤◌, IfSome};
+
+use crate::body::Body;
+use crate::edges::{Edge, edge_in};
+use crate::table::{Table, two_tables};
+use geos_image::MOST_INSTRS;
+use std::alloc::{AllocError, Global};
+
+/// A place on the way that is followed, and how many of its edges were.
+#[derive(Clone, Copy)]
+struct Step {
+    pc: u16,
+    followed: u8,
+    ghost inside: { pc < 4096 },
+}
+
+/// A place.
+#[derive(Clone, Copy)]
+struct Place {
+    pc: u16,
+    ghost inside: { pc < 4096 },
+}
+
+/// When a place has its turn.
+#[derive(Clone, Copy)]
+struct Turn {
+    turn: u16,
+    ghost inside: { turn < 4096 },
+}
+
+/// Each place of a routine has its turn behind those from which control comes to it, but along the edges that lead back: each way
+/// round has such an edge, and none that is not on one leads back so.
+#[derive(Drop)]
+pub(crate) struct Order {
+    /// The place of each turn.
+    places: Table<Place>,
+    /// The turn of each place.
+    turns: Table<Turn>,
+    /// The way that is followed, from the place where it begins, and how long it is.
+    way: Table<Step>,
+    length: u16,
+    /// Whether a way came to each place.
+    seen: Table<bool>,
+    /// How many turns are left, the first ones.
+    left: u16,
+}
+
+/// The two places to which control goes from a pc, if it does: the later one first, so that of two places which do not hang together
+/// the one that comes first in the text has its turn first.
+fn ends_at(body: &Body, pc: u16) -> [Option<Edge>; 2]
+    requires { pc < body.now.end }
+{
+    let along = edge_in(body, pc, false);
+    let aside = edge_in(body, pc, true);
+    match (along, aside) {
+        (Some(next), Some(target)) if next.to < target.to => [aside, along],
+        _ => [along, aside],
+    }
+}
+
+impl Order {
+    /// An order of no places.
+    pub(crate) fn new(alloc: Global) -> Result<Order, AllocError> {
+        let (places, turns) = two_tables(alloc, Place { pc: 0 }, Turn { turn: 0 })?;
+        let none = Step { pc: 0, followed: 0 };
+        let (way, seen) = two_tables(alloc, none, false)?;
+        Ok(Order {
+            places,
+            turns,
+            way,
+            length: 0,
+            seen,
+            left: 0,
+        })
+    }
+
+    /// The place that has its turn.
+    pub(crate) fn place(&self, turn: u16) -> u16
+        requires { turn < 4096 }
+        ensures { result < 4096 }
+    {
+        self.places.at(turn).pc
+    }
+
+    /// When the place has its turn.
+    pub(crate) fn turn(&self, pc: u16) -> u16
+        requires { pc < 4096 }
+        ensures { result < 4096 }
+    {
+        self.turns.at(pc).turn
+    }
+
+    /// Whether the edge leads back in the order.
+    pub(crate) fn leads_back(&self, edge: Edge) -> bool
+        requires from { edge.pc < 4096 }
+        requires to { edge.to < 4096 }
+    {
+        self.turn(edge.to) <= self.turn(edge.pc)
+    }
+
+    /// A way comes to a place, unless one did before.
+    fn come(&mut self, pc: u16)
+        requires { pc < 4096 }
+    {
+        if self.seen.at(pc) || MOST_INSTRS <= self.length {
+            return;
+        }
+        self.seen.set(pc, true);
+        self.way.set(self.length, Step { pc, followed: 0 });
+        self.length += 1;
+    }
+
+    /// All ways from the last place of the way were followed: of the turns that are left it has the last.
+    fn go_back(&mut self, pc: u16)
+        requires { pc < 4096 }
+    {
+        self.length = self.length.saturating_sub(1);
+        self.left = self.left.saturating_sub(1);
+        if self.left < MOST_INSTRS {
+            self.places.set(self.left, Place { pc });
+            self.turns.set(pc, Turn { turn: self.left });
+        }
+    }
+
+    /// The way is followed on along one more edge of its last place, or back where there is none; `false` where it has no place.
+    fn follow(&mut self, body: &Body) -> bool {
+        let Some(last) = self.length.checked_sub(1) else {
+            return false;
+        };
+        if MOST_INSTRS <= last {
+            return false;
+        }
+        let Step { pc, followed } = self.way.at(last);
+        if followed < 2 && pc < body.end {
+            let followed_now = followed + 1;
+            let next = Step {
+                pc,
+                followed: followed_now,
+            };
+            self.way.set(last, next);
+            if let Some(edge) = ends_at(body, pc)[usize::from(followed)] {
+                self.come(edge.to);
+            }
+        } else {
+            self.go_back(pc);
+        }
+        true
+    }
+
+    /// The order of a routine's places: ways are followed from its beginning, and from each place to which none came.
+    pub(crate) fn arrange(&mut self, body: &Body) {
+        self.seen.fill_from(body.start, false);
+        self.length = 0;
+        self.left = body.end - body.start;
+        for pc in body.start..body.end {
+            self.come(pc);
+            // Each place comes to the way once, and goes from it behind its two edges.
+            for _ in 0..3 * MOST_INSTRS {
+                if !self.follow(body) {
+                    break;
+                }
+            }
+        }
+    }
+}
