@@ -1,6 +1,7 @@
 """Times `geos check`, `list` and `explain` on images of 4,096 instructions that are made to hurt, and `explain` on their texts; and
 `geos run` on scripts that are, and the trial of the kernel's calls on a region that they are to hurt. Beside each time stands its ratio to
-that of an image of 4,095 additions, or of the script before, in the same run.
+that of an image of 4,095 additions, or of the script before, in the same run. It fails where a command on an image takes more than MOST_RATIO
+times as long as on that of additions, which stands for one or two seconds.
 
     python3 worst.py PROGRAM KERNEL_TRIALS
 """
@@ -15,6 +16,7 @@ MOST_BUDGET = 4_294_967_295
 HEAD = f"routine a public budget {MOST_BUDGET}"
 ADD = "ADD w0 w0 w1"
 RUNS = 5
+MOST_RATIO = 200
 
 # Two pointers that LFREE makes stale, and further down COPY, which uses both: where they were lost is looked for from behind.
 LOSES = ["MNEW s0 w0 e", "DEREF s0 p0 w1 8 u", "DEREF s0 p1 w1 8 u", "LFREE s0 w2 u"]
@@ -133,8 +135,25 @@ def back(n):
     yield from (f"l{k}: JMP l{k + 1}" for k in range(n, 0, -1))
 
 
+def one_back(image, first, count):
+    """The image, of one routine, where so many instructions from one on have the instruction before them as their target."""
+    changed = bytearray(image)
+    for pc in range(first, first + count):
+        at = 108 + 10 * pc + 8
+        changed[at : at + 2] = (pc - 1).to_bytes(2, "little")
+    return bytes(changed)
+
+
+def refusable(n):
+    """The use of a pointer that is set nowhere, so many calls that can be refused, and one that sets it."""
+    yield "LDB w0 p0 0"
+    yield from (f"l{i}: LSIZE s0 w2 w3 l{i + 1}" for i in range(1, n + 1))
+    yield f"l{n + 1}: DEREF s0 p0 w1 8 e"
+    yield "e: RET"
+
+
 def texts():
-    """Each text with what it is."""
+    """Each text with what it is; and how many of its instructions have the one before them as their target in the image, from pc 1 on."""
     yield "4,095 additions", [HEAD, *[ADD] * 4095, "RET"]
     yield "31 routines of 127 CALLs", calls(32, 128)
     yield "4,090 LOOPs to one head", [HEAD, "SETK k0 1", "h: LDI w0 1", *["LOOP k0 h"] * 4090, "RET"]
@@ -142,6 +161,7 @@ def texts():
     yield "each instruction a label", [HEAD, *(f"l{i}: BEQ w0 w1 l{i + 1}" for i in range(4095)), "l4095: RET"]
     yield "pointers lost 4,089 additions before", [HEAD, *LOSES, *[ADD] * 4089, *COPIES]
     yield "pointers lost 2,044 forks before", [HEAD, *LOSES, *forks(2044), *COPIES[1:]]
+    yield "a pointer lost 4,093 refusals before, each of which leads one back", [HEAD, *refusable(4093)], 4094
 
 
 def least(command):
@@ -161,12 +181,15 @@ def shown(taken, base):
 
 
 def look_at_images(program, folder):
-    """A line for each image."""
+    """A line for each image; what is past its bound."""
     text, image = folder / "text.asm", folder / "image"
     bases = None
-    for name, lines in texts():
+    past = []
+    for name, lines, *one_less in texts():
         text.write_text("\n".join(lines) + "\n")
         subprocess.run([program, "asm", text, image], check=True)
+        if one_less:
+            image.write_bytes(one_back(image.read_bytes(), 1, *one_less))
         commands = {
             "check": [program, "check", image],
             "list": [program, "list", image],
@@ -176,6 +199,8 @@ def look_at_images(program, folder):
         times = {what: least(command) for what, command in commands.items()}
         bases = bases or times
         print(f"{name}: " + "; ".join(f"{what} {shown(taken, bases[what])}" for what, taken in times.items()))
+        past += [f"{what} of {name}" for what, taken in times.items() if MOST_RATIO < taken / bases[what]]
+    return past
 
 
 def run_scripts(program, folder):
@@ -238,9 +263,11 @@ def main():
     """Prints a line for each image and each script."""
     program, trials = sys.argv[1:]
     with tempfile.TemporaryDirectory() as folder:
-        look_at_images(program, Path(folder))
+        past = look_at_images(program, Path(folder))
         run_scripts(program, Path(folder))
         run_on_kernel(program, trials, Path(folder))
+    if past:
+        sys.exit("past their bound: " + "; ".join(past))
 
 
 main()
