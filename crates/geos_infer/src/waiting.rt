@@ -21,7 +21,7 @@ impl Times {
     const NONE: Times = Times { gone: 0, back: 0 };
 }
 
-/// So many turns are looked at together are looked at together.
+/// So many turns are looked at together.
 const GROUP: u16 = 64;
 
 /// The places that have yet to go along their edges, each once, in the order in which rows flow.
