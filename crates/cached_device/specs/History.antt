@@ -1,9 +1,11 @@
 -- What a device with a cache holds, and what a stop leaves of it.
-use Rattle.std.specs.Prelude.{◌≡◌, ◌⊎◌, ℕ, zero, suc, ◌-◌, List, [], ◌∷◌, Vec, length, reverse, refl}
+use Rattle.std.specs.Prelude.{◌≡◌, ◌⊎◌, ℕ, zero, suc, ◌-◌, List, [], ◌∷◌, Vec, length, reverse, refl, Result, OnOk}
 use Rattle.std.specs.Global.{Global}
 use Rattle.std.proofs.Common.{inl, inr, subst}
 use Rattle.std.proofs.Math.Nat.{sub_self}
+use Rattle.lmem_raw.specs.Bytes.{part, with_part}
 use Rattle.vm_file.specs.Device.{AfterWrite, Medium}
+use Rattle.vm_file.specs.declared.device.Disk.{Disk}
 use Rattle.vm_file.specs.Memory as memory
 use Rattle.cached_device.specs.declared.device.CachedDevice.{CachedDevice}
 use Rattle.cached_device.specs.declared.event.Event.{Event}
@@ -62,9 +64,30 @@ abbrev pub MayHaveLeft : CachedDevice → CachedDevice → List ℕ → Type 0
 MayHaveLeft start device c =
     (c ≡ bytes_of device) ⊎ LeavesSince device.start.items (length (events_of device) - length (events_of start)) (events_of device) c
 
+-- a read gives the bytes that stand there
+abbrev pub MayRead : CachedDevice → ℕ → List ℕ → Result (Unit {0}) Disk → CachedDevice → Type 0
+MayRead old at bytes result new = OnOk result (bytes ≡ part (bytes_of old) at (length bytes)) × (bytes_of new ≡ bytes_of old)
+
+-- a write puts the bytes there
+abbrev pub MayWrite : CachedDevice → ℕ → List ℕ → Result (Unit {0}) Disk → CachedDevice → Type 0
+MayWrite old at bytes result new = OnOk result (bytes_of new ≡ with_part (bytes_of old) at bytes)
+
+-- a sync changes nothing of what reads give
+abbrev pub MaySync : CachedDevice → Result (Unit {0}) Disk → CachedDevice → Type 0
+MaySync old result new = bytes_of new ≡ bytes_of old
+
 -- such a device
 abbrev pub medium : Medium CachedDevice
-medium = record { image = bytes_of; honest = IsHonest; failed = failures_of; may_leave = MayLeave; may_have_left = MayHaveLeft }
+medium = record {
+  image = bytes_of;
+  honest = IsHonest;
+  failed = failures_of;
+  may_leave = MayLeave;
+  may_have_left = MayHaveLeft;
+  reads = MayRead;
+  writes = MayWrite;
+  syncs = MaySync;
+}
 
 -- what reads give is what a stop may leave
 pub reads_now : (device : CachedDevice) → MayLeave device (bytes_of device)

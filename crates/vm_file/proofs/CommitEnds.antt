@@ -1,18 +1,18 @@
 -- How a commit ends: refused before it begins, when what it needs is read, and by its two writes.
-use Rattle.std.proofs.Common.{◌≡◌, ◌∙◌, ℕ, ◌≤◌, ◌<◌, true, false, not, List, Option, Result, Ok, Err, refl, ap, sym, subst, inl, arith}
+use Rattle.std.proofs.Common.{◌≡◌, ◌⊎◌, ◌∙◌, ℕ, ◌≤◌, ◌<◌, true, false, not, List, Option, Result, Ok, Err, refl, ap, sym, subst, inl, inr, ⊎_elim, arith}
 use Rattle.std.specs.Prelude.{◌↔◌}
 use Rattle.vm_file.specs.declared.commit.How.{How}
 use Rattle.vm_file.specs.declared.directory.Directory.{Directory}
 use Rattle.vm_file.specs.declared.error.CommitError.{CommitError}
 use Rattle.vm_file.specs.declared.error.CommitError.TheVariants.{Unsure, TooBig, Memory, Disk}
-use Rattle.vm_file.specs.Committing.{CommitsFile, FindsOneOf, FindsOr, IsAfter, KeepsAfter, MayHaveWritten, NeedsNoRead, Spells, current_after, image_after, kept_after, length_after, saved_after}
+use Rattle.vm_file.specs.Committing.{CommitsFile, FindsEither, IsAfter, IsKept, KeepsAfter, MayHaveWritten, NeedsNoRead, Spells, current_after, image_after, kept_after, length_after, saved_after}
 use Rattle.vm_file.specs.Contents.{Pair, pair_in, pair_spelling}
 use Rattle.vm_file.specs.Device.{FailedOnce, Medium, Passes, Rose}
 use Rattle.vm_file.specs.Kept.{Kept}
-use Rattle.vm_file.specs.Outcomes.{ReadsOnly}
+use Rattle.vm_file.specs.Outcomes.{FindsNoBlock, ReadsOnly}
 use Rattle.vm_file.specs.State.{FileState, Finds, IsOther, ReadsFile, pair_of}
-use Rattle.vm_file.proofs.Kept.{cut_is, finds_either, finds_same, kept_alike, kept_sure, kept_torn, same_saved, written_alike, written_nothing, written_on}
-use Rattle.vm_file.proofs.Moments.{weaker, goes_on, at_any_moment}
+use Rattle.vm_file.proofs.Kept.{cut_is, finds_same, found_before, kept_alike, kept_sure, kept_torn, same_saved, written_alike, written_nothing, written_on}
+use Rattle.vm_file.proofs.Moments.{weaker, goes_on}
 
 -- where nothing happened, the file is as it was, and keeps what it kept
 after_nothing : {D : Type 0} (e : CommitError) (f : FileState D) → IsAfter e f f
@@ -28,8 +28,7 @@ keeps_nothing Memory p k = refl
 keeps_nothing Disk p k = inl refl
 
 module _ {D : Type 0} (medium : Medium D) (how : How) (resident : ℕ → Option (List ℕ)) (cur : Directory) (old : FileState D)
-    (finds : medium.honest old.device → (c : List ℕ) → medium.may_leave old.device c → Finds medium.image old c)
-    (at_once : (c : List ℕ) → medium.may_have_left old.device old.device c → medium.may_leave old.device c) where
+    (finds : medium.honest old.device → (c : List ℕ) → medium.may_leave old.device c → Finds medium.image old c) where
   not_begun : (e : CommitError) → (e ≡ Disk → ⊥) → ((let r : Result (Unit {0}) CommitError = Err e in r ≡ Err Unsure) ↔ (old.sure ≡ false))
       → ((let r : Result (Unit {0}) CommitError = Err e in r ≡ Err TooBig) ↔ (old.sure ≡ true) × (old.area < length_after how cur old.saved)) → CommitsFile medium how resident cur old old (Err e)
   not_begun e other unsure too_big = record {
@@ -42,14 +41,14 @@ module _ {D : Type 0} (medium : Medium D) (how : How) (resident : ℕ → Option
     bytes = λ h. tt;
     torn = λ h is. absurd (other (err e is));
     other = λ h sure unsure. absurd cc;
-    any_moment = λ h s c l. inl l;
-    stopped = λ h c l. inl (finds h c (at_once c l));
+    either = λ h s c l. inl l;
     stop = finds;
     stays = λ h. h;
     was = λ h. h;
     ok = tt;
     once = inl refl;
     cause = λ h is. absurd (other (err e is));
+    no_block = λ is. absurd (other (err e is));
     no_read = λ h is. absurd (other (err e is));
   }
     where
@@ -75,15 +74,14 @@ module _ {D : Type 0} (medium : Medium D) (how : How) (resident : ℕ → Option
         abbrev pub after : Pair
         after = kept_after medium.image resident how cur old
 
-        before_reads : medium.honest old.device → Passes medium.may_have_left old.device mid.device (FindsOr medium.image old after)
-        before_reads h = weaker medium.may_have_left old.device mid.device _ _ (λ x l. inl (finds h x l)) (reads.time h)
-
-        stopped_at : (new : D) → Passes medium.may_have_left old.device new (FindsOr medium.image old after) → medium.honest old.device → (c : List ℕ) → medium.may_have_left old.device new c → FindsOr medium.image old after c
-        stopped_at new passes h = at_any_moment medium.may_have_left old.device new _ passes (λ x l. inl (finds h x (at_once x l)))
+        -- what is found then is what the file kept
+        reads_find : (new : FileState D) → medium.honest old.device → Passes medium.may_have_left old.device mid.device (FindsEither medium.image old new)
+        reads_find new h = weaker medium.may_have_left old.device mid.device _ _ (λ x l. inl (finds h x l)) (reads.time h)
 
         pub read_failed : (medium.honest old.device → Rose (medium.failed old.device) (medium.failed mid.device))
+            → Rose (medium.failed old.device) (medium.failed mid.device) ⊎ FindsNoBlock medium (IsKept how cur old.saved) old.device mid.device
             → (NeedsNoRead resident how cur old.saved → ⊥) → CommitsFile medium how resident cur old mid (Err Disk)
-        read_failed cause no_read = record {
+        read_failed cause no_block no_read = record {
           unsure = ((λ is. absurd cc), (λ is. absurd cc));
           too_big = ((λ is. absurd cc), (λ both. let big = both.1 in absurd (omega arith)));
           done = tt;
@@ -93,30 +91,30 @@ module _ {D : Type 0} (medium : Medium D) (how : How) (resident : ℕ → Option
           bytes = λ h. tt;
           torn = λ h is. written_nothing medium.image old mid.sure _ reads.same;
           other = λ h was unsure. (let is = ap (λ (f : FileState D). f.sure) r.same in absurd cc);
-          any_moment = before_reads;
-          stopped = λ h. stopped_at mid.device (before_reads h) h;
+          either = reads_find mid;
           stop = λ h c l. finds_same medium.image old mid c r.same reads.same (finds h c (reads.stop h c l));
           stays = reads.stays;
           was = reads.was;
           ok = tt;
           once = r.read.once;
           cause = λ h is. cause h;
+          no_block = λ is. no_block;
           no_read = λ needs is. absurd (no_read needs);
         }
 
         -- the two writes: of the area that is not selected, and of the selector
         module _ (new : FileState D) (bytes : List ℕ) (count : medium.failed mid.device ≡ medium.failed old.device)
             (spelled : medium.honest old.device → Spells (current_after how cur old.saved) (saved_after how cur old.saved) after bytes)
-            (any_moment : medium.honest mid.device → Passes medium.may_have_left mid.device new.device (FindsOneOf (pair_of medium.image mid) (pair_in (current_after how cur mid.saved) (saved_after how cur mid.saved) bytes)))
+            (either : medium.honest mid.device → Passes medium.may_have_left mid.device new.device (FindsEither medium.image mid new))
             (stop : medium.honest mid.device → (c : List ℕ) → medium.may_leave new.device c → Finds medium.image new c)
             (stays : medium.honest mid.device → medium.honest new.device) (was : medium.honest new.device → medium.honest mid.device)
             (once : FailedOnce (medium.failed mid.device) (medium.failed new.device)) where
           cut : medium.honest old.device → pair_in (current_after how cur mid.saved) (saved_after how cur mid.saved) bytes ≡ after
           cut h = cut_is how cur old.saved mid.saved after bytes (same_saved medium.image old mid r.same) (spelled h)
 
-          passes : medium.honest old.device → Passes medium.may_have_left old.device new.device (FindsOr medium.image old after)
-          passes h = goes_on medium.may_have_left old.device mid.device new.device _ (before_reads h)
-              (weaker medium.may_have_left mid.device new.device _ _ (λ x l. finds_either medium.image old (pair_of medium.image mid) _ after x sure r.pair (cut h) l) (any_moment (reads.stays h)))
+          either_then : medium.honest old.device → Passes medium.may_have_left old.device new.device (FindsEither medium.image old new)
+          either_then h = goes_on medium.may_have_left old.device mid.device new.device _ (reads_find new h)
+              (weaker medium.may_have_left mid.device new.device _ _ (λ x l. ⊎_elim (λ was. inl (found_before medium.image old mid x r.same reads.same was)) (λ now. inr now) l) (either (reads.stays h)))
 
           counted : FailedOnce (medium.failed old.device) (medium.failed new.device)
           counted = subst (λ n. FailedOnce n (medium.failed new.device)) count once
@@ -134,14 +132,14 @@ module _ {D : Type 0} (medium : Medium D) (how : How) (resident : ℕ → Option
             bytes = λ h. subst (λ ws. medium.image new.device ≡ image_after medium.image ws mid) (spelled h).spelled (written (reads.stays h)) ∙ written_alike medium.image (pair_spelling after) old mid r.same reads.same;
             torn = λ h is. absurd cc;
             other = λ h was unsure. (let is = ap (λ (f : FileState D). f.sure) done in absurd cc);
-            any_moment = passes;
-            stopped = λ h. stopped_at new.device (passes h) h;
+            either = either_then;
             stop = λ h. stop (reads.stays h);
             stays = λ h. stays (reads.stays h);
             was = λ h. reads.was (was h);
             ok = ok ∙ count;
             once = counted;
             cause = λ h is. absurd cc;
+            no_block = λ is. absurd cc;
             no_read = λ needs is. absurd cc;
           }
 
@@ -159,14 +157,14 @@ module _ {D : Type 0} (medium : Medium D) (how : How) (resident : ℕ → Option
             bytes = λ h. tt;
             torn = λ h is. written_on medium.image old mid new.sure _ r.same reads.same (torn (reads.stays h));
             other = λ h was. holds h;
-            any_moment = passes;
-            stopped = λ h. stopped_at new.device (passes h) h;
+            either = either_then;
             stop = λ h. stop (reads.stays h);
             stays = λ h. stays (reads.stays h);
             was = λ h. reads.was (was h);
             ok = tt;
             once = counted;
             cause = λ h is. risen;
+            no_block = λ is. inl risen;
             no_read = λ needs is. risen;
           }
             where

@@ -1,5 +1,5 @@
 -- What the two writes of a commit leave, in turn.
-use Rattle.std.proofs.Common.{◌≡◌, ◌⊎◌, ℕ, zero, suc, ◌+◌, ◌-◌, ◌<◌, ◌≤◌, Bool, true, false, not, List, [], ◌∷◌, ◌++◌, length, take, drop, get_or, Result, Ok, refl, ap, sym, ◌∙◌, subst, inl, inr, arith, length-take, append-nil}
+use Rattle.std.proofs.Common.{◌≡◌, ◌⊎◌, ℕ, zero, suc, ◌+◌, ◌-◌, ◌<◌, ◌≤◌, Bool, true, false, not, List, [], ◌∷◌, ◌++◌, length, take, drop, get_or, Result, Ok, refl, ap, sym, ◌∙◌, subst, inl, inr, ⊎_elim, arith, length-take, append-nil}
 use Rattle.std.specs.Prelude.{MatchBool}
 use Rattle.std.proofs.lemmas.List.{drop_at}
 use Rattle.lmem_raw.specs.Bytes.{part, with_part}
@@ -7,7 +7,7 @@ use Rattle.lmem_raw.proofs.Parts.{with_part-split}
 use Rattle.vm_file.specs.declared.directory.Directory.{Directory}
 use Rattle.vm_file.specs.declared.commit.How.{How}
 use Rattle.vm_file.specs.declared.commit.How.TheVariants.{Update, Save, Revert}
-use Rattle.vm_file.specs.Committing.{FindsOneOf, IsContentsOf, Spells, current_after, saved_after}
+use Rattle.vm_file.specs.Committing.{FindsEither, IsContentsOf, Spells, current_after, saved_after}
 use Rattle.vm_file.specs.Contents.{Contents, Pair, contents_spelling, listed, pair_in}
 use Rattle.vm_file.specs.Device.{AfterWrite, Medium, Only, Passes, Touched}
 use Rattle.vm_file.specs.Directories.{is_directory, directory_length}
@@ -77,6 +77,16 @@ saved_legal Update cur saved c s = s
 saved_legal Save cur saved c s = c
 saved_legal Revert cur saved c s = s
 
+-- a sure file keeps its pair
+pub sure_finds : {D : Type 0} (image : D → List ℕ) (f : FileState D) (c : List ℕ) → f.sure ≡ true → found c ≡ Ok (pair_of image f) → Finds image f c
+sure_finds image f c sure is =
+    let P : Bool → Type 0 = λ t. MatchBool t (found c ≡ Ok (pair_of image f)) ((found c ≡ Ok (pair_of image f)) ⊎ ((q : Pair) × IsOther image f q × (found c ≡ Ok q))) in
+    subst P (sym sure) is
+
+-- `open` finds the one pair or the other
+abbrev FindsOneOf : Pair → Pair → List ℕ → Type 0
+FindsOneOf before after c = (found c ≡ Ok before) ⊎ (found c ≡ Ok after)
+
 module _ {D : Type 0} (medium : Medium D) (f : FileState D) (sound : IsSound medium f) (sure : f.sure ≡ true) where
   -- where the other area begins
   abbrev other : ℕ
@@ -103,10 +113,10 @@ module _ {D : Type 0} (medium : Medium D) (f : FileState D) (sound : IsSound med
       subst P (sym sure) (named, stop)
 
   -- the file after a write of the other area that failed
-  pub record TornFile (s : D) (q : Pair) : Type 0 where
+  pub record TornFile (s : D) : Type 0 where
     pub legal : IsSound medium (on s f.sure)
     pub pair : medium.honest f.device → pair_of medium.image (on s f.sure) ≡ pair_of medium.image f
-    pub passes : medium.honest f.device → Passes medium.may_have_left f.device s (FindsOneOf (pair_of medium.image f) q)
+    pub either : medium.honest f.device → Passes medium.may_have_left f.device s (FindsEither medium.image f (on s f.sure))
     pub finds : medium.honest f.device → (c : List ℕ) → medium.may_leave s c → Finds medium.image (on s f.sure) c
 
   -- the file after a write of the selector that failed
@@ -114,7 +124,7 @@ module _ {D : Type 0} (medium : Medium D) (f : FileState D) (sound : IsSound med
     pub legal : IsSound medium (on w false)
     pub pair : medium.honest f.device → pair_of medium.image (on w false) ≡ pair_of medium.image f
     pub other : medium.honest f.device → IsOther medium.image (on w false) q
-    pub passes : medium.honest f.device → Passes medium.may_have_left f.device w (FindsOneOf (pair_of medium.image f) q)
+    pub either : medium.honest f.device → Passes medium.may_have_left f.device w (FindsEither medium.image f (on w false))
     pub finds : medium.honest f.device → (c : List ℕ) → medium.may_leave w c → Finds medium.image (on w false) c
 
   -- the other area is selected
@@ -125,7 +135,7 @@ module _ {D : Type 0} (medium : Medium D) (f : FileState D) (sound : IsSound med
   pub record SelectedFile (w : D) (x y : Directory) (q : Pair) : Type 0 where
     pub legal : IsSound medium (turned_to w x y)
     pub pair : medium.honest f.device → pair_of medium.image (turned_to w x y) ≡ q
-    pub passes : medium.honest f.device → Passes medium.may_have_left f.device w (FindsOneOf (pair_of medium.image f) q)
+    pub either : medium.honest f.device → Passes medium.may_have_left f.device w (FindsEither medium.image f (turned_to w x y))
     pub finds : medium.honest f.device → (c : List ℕ) → medium.may_leave w c → Finds medium.image (turned_to w x y) c
 
   -- the other area is written, in part or whole
@@ -168,14 +178,18 @@ module _ {D : Type 0} (medium : Medium D) (f : FileState D) (sound : IsSound med
         let was = sound.holds h in
         found_sure medium f c was.long was.header (settled h).0 was.pair (after h c a)
 
-    pub torn_passes : (q : Pair) → medium.honest f.device → Passes medium.may_have_left f.device s (FindsOneOf (pair_of medium.image f) q)
+    torn_passes : (q : Pair) → medium.honest f.device → Passes medium.may_have_left f.device s (FindsOneOf (pair_of medium.image f) q)
     torn_passes q h = weaker medium.may_have_left f.device s _ _ (λ c a. inl (torn_finds h c a)) (writes.time h)
 
-    pub torn_file : (q : Pair) → TornFile s q
-    torn_file q = record {
+    -- the pair of the file as it was
+    was_found : (c : List ℕ) → found c ≡ Ok (pair_of medium.image f) → Finds medium.image f c
+    was_found c is = sure_finds medium.image f c sure is
+
+    pub torn_file : TornFile s
+    torn_file = record {
       legal = torn_sound;
       pair = torn_pair f.sure;
-      passes = torn_passes q;
+      either = (λ h. weaker medium.may_have_left f.device s _ _ (λ c a. inl (was_found c (torn_finds h c a))) (writes.time h));
       finds = (λ h c l. finds medium (on s f.sure) (torn_holds h) c l);
     }
 
@@ -201,7 +215,7 @@ module _ {D : Type 0} (medium : Medium D) (f : FileState D) (sound : IsSound med
           let P : Pair → Type 0 = λ p. (found c ≡ Ok p) ⊎ (found c ≡ Ok q) in
           subst P (torn_pair false h) (found_unsure medium (on s false) c q now.long now.header now.pair (other_there h) (turned h c a))
 
-      pub select_passes : medium.honest f.device → Passes medium.may_have_left f.device w (FindsOneOf (pair_of medium.image f) q)
+      select_passes : medium.honest f.device → Passes medium.may_have_left f.device w (FindsOneOf (pair_of medium.image f) q)
       select_passes h = goes_on medium.may_have_left f.device s w _ (torn_passes q h) (weaker medium.may_have_left s w _ _ (select_finds h) (selects.time (writes.stays h)))
 
       turned_now : medium.honest f.device → Touched 512 1 (medium.image s) (medium.image w)
@@ -242,7 +256,7 @@ module _ {D : Type 0} (medium : Medium D) (f : FileState D) (sound : IsSound med
         legal = unsure_sound;
         pair = unsure_pair;
         other = unsure_other;
-        passes = select_passes;
+        either = (λ h. weaker medium.may_have_left f.device w _ _ (λ c found_one. ⊎_elim (λ is. inl (was_found c is)) (λ is. inr (inr (q, unsure_other h, is))) found_one) (select_passes h));
         finds = (λ h c l. finds medium (on w false) (unsure_holds h) c l);
       }
 
@@ -285,6 +299,7 @@ module _ {D : Type 0} (medium : Medium D) (f : FileState D) (sound : IsSound med
         selected_file = record {
           legal = selected_sound;
           pair = selected_pair;
-          passes = select_passes;
+          either = (λ h. weaker medium.may_have_left f.device w _ _
+              (λ c found_one. ⊎_elim (λ is. inl (was_found c is)) (λ is. inr (sure_finds medium.image selected c sure (is ∙ ap (λ p. let r : Result Pair ℕ = Ok p in r) (sym (selected_pair h))))) found_one) (select_passes h));
           finds = (λ h c l. finds medium selected (selected_holds h) c l);
         }

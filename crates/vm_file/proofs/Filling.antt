@@ -6,7 +6,7 @@ use borrow.Rule.Slice.PartMut.{put_mid}
 use Rattle.lmem_raw.specs.Bytes.{part}
 
 -- the bytes from an offset to the end of a slice are lent
-lent : (at k : ℕ) (bs : List ℕ) → k ≡ length bs - at → length (take k (drop at bs)) ≡ k
+pub lent : (at k : ℕ) (bs : List ℕ) → k ≡ length bs - at → length (take k (drop at bs)) ≡ k
 lent at k bs is = length-take k (drop at bs) ∙ omega (arith, is, length-drop at bs)
 
 -- a slice of which the bytes from an offset on were read from an image

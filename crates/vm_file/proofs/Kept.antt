@@ -1,11 +1,11 @@
 -- The pair that a commit keeps.
-use Rattle.std.proofs.Common.{◌≡◌, ◌⊎◌, ◌≤◌, ℕ, Bool, true, false, cond, not, List, [], ◌∷◌, Result, Ok, refl, ap, sym, ◌∙◌, subst, inl, inr, arith}
+use Rattle.std.proofs.Common.{◌≡◌, ◌⊎◌, ◌≤◌, ℕ, Bool, true, false, cond, not, List, [], ◌∷◌, Ok, refl, ap, sym, ◌∙◌, subst, inl, inr, arith}
 use Rattle.std.specs.Prelude.{MatchBool}
 use Rattle.lmem_raw.specs.Bytes.{with_part}
 use Rattle.vm_file.specs.declared.commit.How.{How}
 use Rattle.vm_file.specs.declared.directory.Directory.{Directory}
 use Rattle.vm_file.specs.declared.error.CommitError.TheVariants.{Disk}
-use Rattle.vm_file.specs.Committing.{FindsOneOf, FindsOr, KeepsAfter, MayHaveWritten, Spells, current_after, image_after, saved_after}
+use Rattle.vm_file.specs.Committing.{KeepsAfter, MayHaveWritten, Spells, current_after, image_after, saved_after}
 use Rattle.vm_file.specs.Contents.{Pair, pair_in}
 use Rattle.vm_file.specs.Device.{AfterWrite, Medium, Passes, Touched}
 use Rattle.vm_file.specs.Kept.{SureOf, UnsureBetween, kept_of, or_empty, other_pair}
@@ -48,16 +48,6 @@ cut_spells how cur saved mid q bytes same spells =
     subst Q (sym (cut_is how cur saved mid q bytes same spells)) (subst P (sym same) spells)
 
 module _ {D : Type 0} (image : D → List ℕ) where
-  -- a sure file keeps its pair
-  sure_finds : (f : FileState D) (c : List ℕ) → f.sure ≡ true → found c ≡ Ok (pair_of image f) → Finds image f c
-  sure_finds f c sure is =
-      let P : Bool → Type 0 = λ t. MatchBool t (found c ≡ Ok (pair_of image f)) ((found c ≡ Ok (pair_of image f)) ⊎ ((q : Pair) × IsOther image f q × (found c ≡ Ok q))) in
-      subst P (sym sure) is
-
-  pub finds_either : (f : FileState D) (before after q : Pair) (c : List ℕ) → f.sure ≡ true → before ≡ pair_of image f → after ≡ q → FindsOneOf before after c → FindsOr image f q c
-  finds_either f before after q c sure one two (inl is) = inl (sure_finds f c sure (is ∙ ap (λ p. let r : Result Pair ℕ = Ok p in r) one))
-  finds_either f before after q c sure one two (inr is) = inr (is ∙ ap (λ p. let r : Result Pair ℕ = Ok p in r) two)
-
   -- the same is found of a file whose device gives the same
   pub finds_same : (f m : FileState D) (c : List ℕ) → m ≡ (let g : FileState D = record { device = m.device; area = f.area; second = f.second; sure = f.sure; current = f.current; saved = f.saved } in g) →
       image m.device ≡ image f.device → Finds image f c → Finds image m c
@@ -68,6 +58,17 @@ module _ {D : Type 0} (image : D → List ℕ) where
       ((found c ≡ Ok (pair_in f.current f.saved (area_of xs f.area f.second)))
       ⊎ ((q : Pair) × (pair_at (base_of f.area (not f.second)) (area_of xs f.area (not f.second)) ≡ Ok q) × (found c ≡ Ok q))) in
       subst P (sym same) (subst Q (sym alike) found_it)
+
+  -- and the other way round
+  pub found_before : (f m : FileState D) (c : List ℕ) → m ≡ (let g : FileState D = record { device = m.device; area = f.area; second = f.second; sure = f.sure; current = f.current; saved = f.saved } in g) →
+      image m.device ≡ image f.device → Finds image m c → Finds image f c
+  found_before f m c same alike found_it =
+      let P : FileState D → Type 0 = λ g. Finds image g c in
+      let Q : List ℕ → Type 0 = λ xs. MatchBool f.sure
+      (found c ≡ Ok (pair_in f.current f.saved (area_of xs f.area f.second)))
+      ((found c ≡ Ok (pair_in f.current f.saved (area_of xs f.area f.second)))
+      ⊎ ((q : Pair) × (pair_at (base_of f.area (not f.second)) (area_of xs f.area (not f.second)) ≡ Ok q) × (found c ≡ Ok q))) in
+      subst Q alike (subst P same found_it)
 
   -- it has the same saved directory
   pub same_saved : (f m : FileState D) → m ≡ (let g : FileState D = record { device = m.device; area = f.area; second = f.second; sure = f.sure; current = f.current; saved = f.saved } in g) → m.saved ≡ f.saved

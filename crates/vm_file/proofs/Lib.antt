@@ -17,6 +17,7 @@ pub mod PlaceLaws
 pub mod OneSpelling
 pub mod NewFiles
 pub mod Filling
+mod Given
 pub mod Blocks
 pub mod Sources
 pub mod CommitLaws

@@ -1,6 +1,7 @@
 -- What a commit keeps, and what a stop during it leaves.
-use Rattle.std.specs.Prelude.{◌≡◌, ◌⊎◌, ℕ, ◌+◌, ◌<◌, ◌↔◌, Bool, true, false, not, List, [], ◌∷◌, length, map, Option, Some, None, Result, Ok, Err, unwrap_or, All, MatchBool, MatchOption, MatchResult, IfErr, IfSome, IsSome, OnOk}
+use Rattle.std.specs.Prelude.{◌≡◌, ◌⊎◌, ℕ, ◌+◌, ◌<◌, ◌↔◌, Bool, true, false, not, List, [], ◌∷◌, length, map, Option, Some, None, Result, Err, unwrap_or, All, MatchBool, MatchOption, MatchResult, IfErr, IfSome, IsSome, OnOk}
 use Rattle.std.specs.Borrow.{Bor}
+use Rattle.std.specs.List.{Contains}
 use Rattle.lmem_raw.specs.Bytes.{part, with_part}
 use Rattle.geos_model.specs.Block.{handle_word}
 use Rattle.geos_model.specs.Heap.{IsHeap}
@@ -13,7 +14,8 @@ use Rattle.vm_file.specs.Contents.{Block, Contents, Pair, listed, is_contents, p
 use Rattle.vm_file.specs.Device.{AfterWrite, FailedOnce, Medium, Passes, Rose, Touched}
 use Rattle.vm_file.specs.Directories.{is_directory, directory_length}
 use Rattle.vm_file.specs.Kept.{Kept, SureOf, UnsureBetween, kept_of}
-use Rattle.vm_file.specs.Reading.{base_of, found}
+use Rattle.vm_file.specs.Outcomes.{FindsNoBlock}
+use Rattle.vm_file.specs.Reading.{base_of}
 use Rattle.vm_file.specs.Spelling.{selector_of}
 use Rattle.vm_file.specs.declared.error.CommitError.{CommitError}
 use Rattle.vm_file.specs.declared.error.CommitError.TheVariants.{Unsure, TooBig, Memory, Disk}
@@ -102,13 +104,13 @@ KeepsAfter TooBig after old new = new ≡ old
 KeepsAfter Memory after old new = new ≡ old
 KeepsAfter Disk after old new = (new ≡ old) ⊎ ((pair : Pair) × (old ≡ SureOf pair) × (new ≡ UnsureBetween pair after))
 
--- `open` finds what the file keeps, or this pair
-abbrev pub FindsOr : {D : Type 0} → (D → List ℕ) → FileState D → Pair → List ℕ → Type 0
-FindsOr image f after c = Finds image f c ⊎ (found c ≡ Ok after)
+-- an entry of the directories that a commit keeps
+abbrev pub IsKept : How → Directory → Directory → Entry → Type 0
+IsKept how cur saved e = Contains (current_after how cur saved).entries.items e ⊎ Contains (saved_after how cur saved).entries.items e
 
--- `open` finds the one pair or the other
-abbrev pub FindsOneOf : Pair → Pair → List ℕ → Type 0
-FindsOneOf before after c = (found c ≡ Ok before) ⊎ (found c ≡ Ok after)
+-- `open` finds what the file kept, or what it keeps now
+abbrev pub FindsEither : {D : Type 0} → (D → List ℕ) → FileState D → FileState D → List ℕ → Type 0
+FindsEither image old new c = Finds image old c ⊎ Finds image new c
 
 -- a file after a commit of this directory, where these blocks are resident
 pub record CommitsFile {D : Type 0} (medium : Medium D)
@@ -135,9 +137,9 @@ pub record CommitsFile {D : Type 0} (medium : Medium D)
   pub torn : medium.honest old.device → result ≡ Err Disk → MayHaveWritten medium.image old new.sure (medium.image new.device)
   -- where it turned unsure, the other area holds the new pair
   pub other : medium.honest old.device → old.sure ≡ true → new.sure ≡ false → IsOther medium.image new (kept_after medium.image resident how cur old)
-  -- what `open` finds after a stop at any moment of the call, and after one behind it
-  pub any_moment : medium.honest old.device → Passes medium.may_have_left old.device new.device (FindsOr medium.image old (kept_after medium.image resident how cur old))
-  pub stopped : medium.honest old.device → (c : List ℕ) → medium.may_have_left old.device new.device c → FindsOr medium.image old (kept_after medium.image resident how cur old) c
+  -- what `open` finds after a stop at any moment of the call: the new pair of a commit that was refused only where the file is unsure
+  pub either : medium.honest old.device → Passes medium.may_have_left old.device new.device (FindsEither medium.image old new)
+  -- and after one behind it
   pub stop : medium.honest old.device → (c : List ℕ) → medium.may_leave new.device c → Finds medium.image new c
   pub stays : medium.honest old.device → medium.honest new.device
   pub was : medium.honest new.device → medium.honest old.device
@@ -145,6 +147,8 @@ pub record CommitsFile {D : Type 0} (medium : Medium D)
   -- the first call that fails is the last one: nothing is written or read behind it
   pub once : FailedOnce (medium.failed old.device) (medium.failed new.device)
   pub cause : medium.honest old.device → result ≡ Err Disk → Rose (medium.failed old.device) (medium.failed new.device)
+  -- on any device: a call of it failed, or the last one gave bytes that are no block of those that are kept
+  pub no_block : result ≡ Err Disk → Rose (medium.failed old.device) (medium.failed new.device) ⊎ FindsNoBlock medium (IsKept how cur old.saved) old.device new.device
   pub no_read : NeedsNoRead resident how cur old.saved → result ≡ Err Disk → Rose (medium.failed old.device) (medium.failed new.device)
 
 -- the same block: where it is not resident, the bytes that stand in an image where these entries, which begin at an offset, have it

@@ -1,5 +1,6 @@
 -- What the calls of a device may leave.
 use Rattle.std.specs.Prelude.{◌≡◌, ◌⊎◌, ℕ, ◌+◌, ◌-◌, ◌^◌, ◌<◌, min, List, length, take, drop, Result, OnOk, OnErr}
+use Rattle.vm_file.specs.declared.device.Disk.{Disk}
 
 -- what reads of a device give at a state of it, and what a stop leaves of it: an image, a list of bytes
 pub record Medium (D : Type 0) : Type 1 where
@@ -13,6 +14,12 @@ pub record Medium (D : Type 0) : Type 1 where
   pub may_leave : D → List ℕ → Type 0
   -- a stop at some moment from the first state to the second may have left this image
   pub may_have_left : D → D → List ℕ → Type 0
+  -- one call takes the first state to the second: a read from an offset on, with what it gives and answers
+  pub reads : D → ℕ → List ℕ → Result (Unit {0}) Disk → D → Type 0
+  -- a write of these bytes from an offset on
+  pub writes : D → ℕ → List ℕ → Result (Unit {0}) Disk → D → Type 0
+  -- a sync
+  pub syncs : D → Result (Unit {0}) Disk → D → Type 0
 
 -- the new image is the old one outside the n bytes from an offset on
 pub record Touched (at n : ℕ) (old new : List ℕ) : Type 0 where

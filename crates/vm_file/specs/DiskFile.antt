@@ -1,6 +1,7 @@
 -- What a device on a file of the system is known to hold. No contract can say what such a file gives, so it claims nothing of its bytes.
-use Rattle.std.specs.Prelude.{ℕ, Bool, List, replicate}
-use Rattle.vm_file.specs.Device.{Medium}
+use Rattle.std.specs.Prelude.{◌≡◌, ℕ, Bool, true, false, List, replicate, Result, OnErr, OnOk}
+use Rattle.vm_file.specs.Device.{Counts, Medium}
+use Rattle.vm_file.specs.declared.device.Disk.{Disk}
 use Rattle.vm_file.specs.declared.disk_file.FileDevice.{FileDevice}
 
 -- its length in bytes
@@ -31,6 +32,23 @@ MayLeave device image = Unit {0}
 abbrev pub MayHaveLeft : FileDevice → FileDevice → List ℕ → Type 0
 MayHaveLeft start device image = Unit {0}
 
+-- a read may give anything
+pub record Reads (old : FileDevice) (at : ℕ) (bytes : List ℕ) (result : Result (Unit {0}) Disk) (new : FileDevice) : Type 0 where
+  pub counts : Counts (failures_of old) (failures_of new) result
+  pub lacks : may_lack new ≡ may_lack old
+
+-- a write that succeeds lets syncs succeed again
+pub record Writes (old : FileDevice) (at : ℕ) (bytes : List ℕ) (result : Result (Unit {0}) Disk) (new : FileDevice) : Type 0 where
+  pub counts : Counts (failures_of old) (failures_of new) result
+  pub written : OnOk result (may_lack new ≡ false)
+  pub refused : OnErr result (may_lack new ≡ may_lack old)
+
+-- a sync fails where one has failed, and nothing was written since
+pub record Syncs (old : FileDevice) (result : Result (Unit {0}) Disk) (new : FileDevice) : Type 0 where
+  pub counts : Counts (failures_of old) (failures_of new) result
+  pub synced : OnOk result ((may_lack old ≡ false) × (may_lack new ≡ false))
+  pub refused : OnErr result (may_lack new ≡ true)
+
 -- such a device
 abbrev pub medium : Medium FileDevice
-medium = record { image = bytes_of; honest = IsHonest; failed = failures_of; may_leave = MayLeave; may_have_left = MayHaveLeft }
+medium = record { image = bytes_of; honest = IsHonest; failed = failures_of; may_leave = MayLeave; may_have_left = MayHaveLeft; reads = Reads; writes = Writes; syncs = Syncs }

@@ -1,6 +1,8 @@
 -- What a device in memory holds, and what a stop leaves of it.
-use Rattle.std.specs.Prelude.{◌≡◌, ◌⊎◌, ℕ, List}
-use Rattle.vm_file.specs.Device.{Medium}
+use Rattle.std.specs.Prelude.{◌≡◌, ◌⊎◌, ℕ, ◌+◌, ◌<◌, List, length, Result, OnErr, OnOk}
+use Rattle.lmem_raw.specs.Bytes.{part, with_part}
+use Rattle.vm_file.specs.Device.{Counts, Medium}
+use Rattle.vm_file.specs.declared.device.Disk.{Disk}
 use Rattle.vm_file.specs.declared.memory.MemoryDevice.{MemoryDevice}
 
 -- its bytes
@@ -23,6 +25,24 @@ MayLeave device image = image ≡ bytes_of device
 abbrev pub MayHaveLeft : MemoryDevice → MemoryDevice → List ℕ → Type 0
 MayHaveLeft start device image = (image ≡ bytes_of start) ⊎ (image ≡ bytes_of device)
 
+-- a read gives the bytes that stand there; it fails past the length alone
+pub record Reads (old : MemoryDevice) (at : ℕ) (bytes : List ℕ) (result : Result (Unit {0}) Disk) (new : MemoryDevice) : Type 0 where
+  pub gives : OnOk result (bytes ≡ part (bytes_of old) at (length bytes))
+  pub past : OnErr result (length (bytes_of old) < at + length bytes)
+  pub same : bytes_of new ≡ bytes_of old
+  pub counts : Counts (failures_of old) (failures_of new) result
+
+-- a write puts the bytes there; it fails past the length alone
+pub record Writes (old : MemoryDevice) (at : ℕ) (bytes : List ℕ) (result : Result (Unit {0}) Disk) (new : MemoryDevice) : Type 0 where
+  pub written : OnOk result (bytes_of new ≡ with_part (bytes_of old) at bytes)
+  pub past : OnErr result ((length (bytes_of old) < at + length bytes) × (bytes_of new ≡ bytes_of old))
+  pub counts : Counts (failures_of old) (failures_of new) result
+
+-- a sync does nothing, and never fails
+pub record Syncs (old : MemoryDevice) (result : Result (Unit {0}) Disk) (new : MemoryDevice) : Type 0 where
+  pub never : OnErr result ⊥
+  pub same : new ≡ old
+
 -- such a device
 abbrev pub medium : Medium MemoryDevice
-medium = record { image = bytes_of; honest = IsHonest; failed = failures_of; may_leave = MayLeave; may_have_left = MayHaveLeft }
+medium = record { image = bytes_of; honest = IsHonest; failed = failures_of; may_leave = MayLeave; may_have_left = MayHaveLeft; reads = Reads; writes = Writes; syncs = Syncs }

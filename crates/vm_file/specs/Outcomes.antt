@@ -3,9 +3,11 @@ use Rattle.std.specs.Prelude.{◌≡◌, ◌⊎◌, ℕ, List, length, Result, O
 use Rattle.arrayvec.specs.ArrayVec.{ArrayVec}
 use Rattle.geos_model.specs.Block.{handle_word}
 use Rattle.geos_model.specs.Heap.{IsHeap}
+use Rattle.vm_file.specs.declared.device.Disk.{Disk}
+use Rattle.vm_file.specs.declared.directory.Entry.{Entry}
 use Rattle.vm_file.specs.declared.error.OpenError.{OpenError}
-use Rattle.vm_file.specs.declared.error.OpenError.TheVariants.{BadFile, Disk, Memory}
-use Rattle.vm_file.specs.Device.{AfterWrite, FailedOnce, Medium, Passes, Rose, Touched}
+use Rattle.vm_file.specs.declared.error.OpenError.TheVariants as open_error
+use Rattle.vm_file.specs.Device.{AfterWrite, FailedOnce, Medium, Only, Passes, Rose, Touched}
 
 -- a device on which nothing was written: reads give the same, and a stop leaves nothing else
 pub record ReadsOnly {D : Type 0} (medium : Medium D) (old new : D) : Type 0 where
@@ -23,15 +25,15 @@ pub record ReadsToFailure {D T E : Type 0} (medium : Medium D) (old new : D) (re
 
 -- why a file was not opened: the fault of what was read; want of memory and of the device tell nothing
 abbrev pub IsRefused : {Y : Type 0} → OpenError → Result Y ℕ → Type 0
-IsRefused (BadFile at) read = read ≡ Err at
-IsRefused Disk read = Unit {0}
-IsRefused Memory read = Unit {0}
+IsRefused (open_error.BadFile at) read = read ≡ Err at
+IsRefused open_error.Disk read = Unit {0}
+IsRefused open_error.Memory read = Unit {0}
 
 -- the error is `Disk` only where a failure was counted, and else none was
 abbrev pub IsCaused : ℕ → ℕ → OpenError → Type 0
-IsCaused before now (BadFile at) = now ≡ before
-IsCaused before now Disk = Rose before now
-IsCaused before now Memory = now ≡ before
+IsCaused before now (open_error.BadFile at) = now ≡ before
+IsCaused before now open_error.Disk = Rose before now
+IsCaused before now open_error.Memory = now ≡ before
 
 -- what was read, seen so, is what the call gave; an error is refused so
 abbrev pub Tells : {X Y : Type 0} → (Y → X) → Result X OpenError → Result Y ℕ → Type 0
@@ -64,6 +66,39 @@ pub record WritesOnly {D : Type 0} (medium : Medium D) (at n : ℕ) (old new : D
 abbrev pub IsHeapUnder : ℕ → List ℕ → Type 0
 IsHeapUnder h bytes = IsHeap bytes × (handle_word bytes ≡ h)
 
--- a block was not read only where a failure was counted, or these bytes came, which are no heap under its handle
-abbrev pub CausesNoBlock : {X E : Type 0} → ℕ → ℕ → ℕ → List ℕ → Result X E → Type 0
-CausesNoBlock h before now bytes result = OnErr result (Rose before now ⊎ (IsHeapUnder h bytes → ⊥))
+-- one read from an offset on gave these bytes, which are no heap under this handle
+abbrev pub GivesNoBlock : {D : Type 0} → Medium D → ℕ → ℕ → D → D → List ℕ → Type 0
+GivesNoBlock medium h at old new bytes = medium.reads old at bytes (Ok tt) new × (IsHeapUnder h bytes → ⊥)
+
+-- a block was not read only where a failure was counted, or where its bytes came, and are no heap under its handle
+abbrev pub CausesNoBlock : {D X E : Type 0} → Medium D → ℕ → ℕ → D → D → List ℕ → Result X E → Type 0
+CausesNoBlock medium h at old new bytes result = OnErr result (Rose (medium.failed old) (medium.failed new) ⊎ GivesNoBlock medium h at old new bytes)
+
+-- an entry of a block with this handle and length
+abbrev pub IsOfBlock : ℕ → ℕ → Entry → Type 0
+IsOfBlock h n e = (e.h ≡ h) × (e.len ≡ n)
+
+-- the last read of a call, which only read until then, gave bytes of the length of one of these entries that are no heap under its handle
+pub record FindsNoBlock {D : Type 0} (medium : Medium D) (of : Entry → Type 0) (old new : D) : Type 0 where
+  pub entry : Entry
+  pub listed : of entry
+  pub before : D
+  pub only : ReadsOnly medium old before
+  pub ok : medium.failed before ≡ medium.failed old
+  pub at : ℕ
+  pub bytes : List ℕ
+  pub long : length bytes ≡ entry.len
+  pub gave : GivesNoBlock medium entry.h at before new bytes
+
+-- blocks of these entries were not read only where a failure was counted, or where such bytes came
+abbrev pub CausesNoBlocks : {D X E : Type 0} → Medium D → (Entry → Type 0) → D → D → Result X E → Type 0
+CausesNoBlocks medium of old new result = OnErr result (Rose (medium.failed old) (medium.failed new) ⊎ FindsNoBlock medium of old new)
+
+-- a call begins with a sync: where that fails, it makes no other, and ends so; behind it it only reads, and a stop leaves what reads give
+pub record BeginsWithSync {D : Type 0} (medium : Medium D) (fails : Type 0) (old new : D) : Type 0 where
+  pub answer : Result (Unit {0}) Disk
+  pub synced : D
+  pub sync : medium.syncs old answer synced
+  pub refused : OnErr answer ((new ≡ synced) × fails)
+  pub reads : OnOk answer (ReadsOnly medium synced new)
+  pub lasts : OnOk answer (medium.honest old → Only (medium.image new) (medium.may_leave new))

@@ -82,3 +82,11 @@ bytes_of_block (b ∷ blocks) h = if b.h == h then b.bytes else bytes_of_block b
 abbrev pub place_in : List Entry → ℕ → ℕ
 place_in [] h = 0
 place_in (e ∷ entries) h = if e.h == h then 6 else (6 + e.len) + place_in entries h
+
+-- the offset of the bytes of a block of the current directory
+abbrev pub block_at : {D : Type 0} → FileState D → ℕ → ℕ
+block_at f h = base_of f.area f.second + 2 + place_in f.current.entries.items h
+
+-- the offset of those of a block of the saved directory, which stands behind the current one
+abbrev pub saved_block_at : {D : Type 0} → FileState D → ℕ → ℕ
+saved_block_at f h = base_of f.area f.second + directory_length f.current + 2 + place_in f.saved.entries.items h

@@ -19,8 +19,9 @@ pub struct Disk;
 /// written to it. The others hold of every device. No device keeps a record of its calls: its
 /// clauses only say which images a stop can't leave.
 pub trait Device {
-    /// The bytes that reads give, whether it is honest, how often it has failed, and what a stop
-    /// leaves of it.
+    /// The bytes that reads give, whether it is honest, how often it has failed, what a stop
+    /// leaves of it, and what one call of it may do: on a device of which nothing else is known,
+    /// only a call of it shows that.
     ghost medium: { Medium Self };
 
     /// The length in bytes. So many numbers below 256 are what reads give.
@@ -38,7 +39,8 @@ pub trait Device {
         ensures within { OnOk result (at + length into.old ≤ length (medium.image self.old)) }
         ensures bytes { medium.honest self.old → OnOk result (into.new ≡ part (medium.image self.old) at (length into.old)) }
         ensures reads { ReadsOnly medium self.old self.new }
-        ensures cause { Counts (medium.failed self.old) (medium.failed self.new) result };
+        ensures cause { Counts (medium.failed self.old) (medium.failed self.new) result }
+        ensures call { medium.reads self.old at into.new result self.new };
 
     /// Writes bytes from an offset on. `Disk` where the device fails, as it does past its
     /// length: then any bytes may stand in that range, and the others stay. They last once a
@@ -47,14 +49,16 @@ pub trait Device {
         ensures within { OnOk result (at + length bytes.now ≤ length (medium.image self.old)) }
         ensures written { medium.honest self.old → OnOk result (medium.image self.new ≡ with_part (medium.image self.old) at bytes.now) }
         ensures writes { WritesOnly medium at (length bytes.now) self.old self.new }
-        ensures cause { Counts (medium.failed self.old) (medium.failed self.new) result };
+        ensures cause { Counts (medium.failed self.old) (medium.failed self.new) result }
+        ensures call { medium.writes self.old at bytes.now result self.new };
 
     /// Makes last what was written: after it a stop leaves what reads give. `Disk` where the
     /// device fails.
     fn sync(&mut self) -> Result<(), Disk>
         ensures durable { medium.honest self.old → OnOk result (Only (medium.image self.new) (medium.may_leave self.new)) }
         ensures reads { ReadsOnly medium self.old self.new }
-        ensures cause { Counts (medium.failed self.old) (medium.failed self.new) result };
+        ensures cause { Counts (medium.failed self.old) (medium.failed self.new) result }
+        ensures call { medium.syncs self.old result self.new };
 
     /// What reads give is one of the images that a stop may leave.
     ghost reads_now: { (d : Self) → medium.may_leave d (medium.image d) };

@@ -177,7 +177,7 @@ fn counted(failures: &mut u64, outcome: io::Result<()>) -> Result<(), Disk>
 }
 
 impl Device for FileDevice {
-    ghost use Rattle.vm_file.specs.DiskFile.{bytes_of, failures_of, len_of, may_lack, medium};
+    ghost use Rattle.vm_file.specs.DiskFile.{Reads, Syncs, Writes, bytes_of, failures_of, len_of, may_lack, medium};
 
     ghost medium = { medium };
 
@@ -195,6 +195,7 @@ impl Device for FileDevice {
         ensures reads { ReadsOnly medium self.old self.new }
         ensures cause { Counts (failures_of self.old) (failures_of self.new) result }
         ensures may_lack { may_lack self.new ≡ may_lack self.old }
+        ensures call { Reads self.old at into.new result self.new }
     {
         if !self.has(at, into.len()) {
             count_failure(&mut self.failures);
@@ -211,6 +212,7 @@ impl Device for FileDevice {
         ensures cause { Counts (failures_of self.old) (failures_of self.new) result }
         ensures written { OnOk result (may_lack self.new ≡ false) }
         ensures refused { OnErr result (may_lack self.new ≡ may_lack self.old) }
+        ensures call { Writes self.old at bytes.now result self.new }
     {
         if !self.may_write(at, bytes.len()) {
             count_failure(&mut self.failures);
@@ -229,6 +231,7 @@ impl Device for FileDevice {
         ensures lacking { may_lack self.old ≡ true → OnOk result ⊥ }
         ensures synced { OnOk result (may_lack self.new ≡ false) }
         ensures refused { OnErr result (may_lack self.new ≡ true) }
+        ensures call { Syncs self.old result self.new }
     {
         if self.may_lack {
             count_failure(&mut self.failures);

@@ -92,7 +92,8 @@ impl<D: Device + Drop> Device for FaultDevice<D> {
         ensures cause { CountsOver D.medium.failed self.old self.new result }
         ensures counted { CountsCall self.old self.new }
         ensures due { is_next_due self.old ≡ true → FailsAlone self.old self.new result × (into.new ≡ into.old) }
-        ensures passed { is_next_due self.old ≡ false → PassesOn D.medium.failed self.old self.new result }
+        ensures passed { is_next_due self.old ≡ false → PassesOn D.medium.failed (λ d r e. D.medium.reads d at into.new r e) self.old self.new result }
+        ensures call { (over D.medium).reads self.old at into.new result self.new }
     {
         if is_due(&mut self.calls, self.call, self.rest) {
             count_failure(&mut self.own);
@@ -110,7 +111,8 @@ impl<D: Device + Drop> Device for FaultDevice<D> {
         ensures cause { CountsOver D.medium.failed self.old self.new result }
         ensures counted { CountsCall self.old self.new }
         ensures due { is_next_due self.old ≡ true → FailsHalf D.medium at bytes.now self.old self.new result }
-        ensures passed { is_next_due self.old ≡ false → PassesOn D.medium.failed self.old self.new result }
+        ensures passed { is_next_due self.old ≡ false → PassesOn D.medium.failed (λ d r e. D.medium.writes d at bytes.now r e) self.old self.new result }
+        ensures call { (over D.medium).writes self.old at bytes.now result self.new }
     {
         if is_due(&mut self.calls, self.call, self.rest) {
             let half = bytes.len() / 2;
@@ -131,7 +133,8 @@ impl<D: Device + Drop> Device for FaultDevice<D> {
         ensures cause { CountsOver D.medium.failed self.old self.new result }
         ensures counted { CountsCall self.old self.new }
         ensures due { is_next_due self.old ≡ true → FailsAlone self.old self.new result }
-        ensures passed { is_next_due self.old ≡ false → PassesOn D.medium.failed self.old self.new result }
+        ensures passed { is_next_due self.old ≡ false → PassesOn D.medium.failed D.medium.syncs self.old self.new result }
+        ensures call { (over D.medium).syncs self.old result self.new }
     {
         if is_due(&mut self.calls, self.call, self.rest) {
             count_failure(&mut self.own);

@@ -1,8 +1,9 @@
 //! Files that are open.
 ghost use Rattle.std.specs.Prelude.{◌≡◌, ◌+◌, ◌*◌, ◌≤◌, ◌<◌, ◌↔◌, ◌++◌, ℕ, List, [], Ok, Err, true, false, not, MatchResult, IfOk, IfErr, OnOk, OnErr, IsTrue, length};
+ghost use Rattle.std.specs.List.{Contains};
 ghost use Rattle.std.specs.Vec.{vec_len, vec_capacity};
 ghost use Rattle.vm_file.specs.Device.{FailedOnce, Only, Passes, Rose};
-ghost use Rattle.vm_file.specs.Outcomes.{CausesDisk, CausesNoBlock, IsCaused, IsHeapUnder, IsRefused, ReadsOnly, WritesOnly};
+ghost use Rattle.vm_file.specs.Outcomes.{BeginsWithSync, CausesDisk, CausesNoBlock, CausesNoBlocks, IsCaused, IsHeapUnder, IsRefused, ReadsOnly, WritesOnly};
 ghost use Rattle.vm_file.specs.Reading.{file_at};
 
 use crate::commit::{How, Nothing, Source, are_there, keep, length_after, selector_of};
@@ -44,14 +45,14 @@ impl<D: Device + Drop> Model for VmFile<D> {
 impl<D: Device + Drop> VmFile<D> {
     ghost use Rattle.geos_model.specs.Bytes.{AreBytes};
     ghost use Rattle.lmem_raw.specs.Bytes.{with_part};
-    ghost use Rattle.vm_file.specs.Committing.{AreResident, CommitsFile, FindsOneOf, IsContentsOf, MayCommit, MayHaveWritten, NeedsNoRead, Spells};
+    ghost use Rattle.vm_file.specs.Committing.{AreResident, CommitsFile, FindsEither, IsContentsOf, IsKept, MayCommit, MayHaveWritten, NeedsNoRead, Spells};
     ghost use Rattle.vm_file.specs.Committing.{contents_from, current_after, image_after, kept_after, length_after, saved_after};
     ghost use Rattle.vm_file.specs.Contents.{contents_spelling, listed, pair_in, pair_spelling};
     ghost use Rattle.vm_file.specs.Directories.{directory_length, is_directory};
     ghost use Rattle.vm_file.specs.Kept.{SureOf, kept_of};
     ghost use Rattle.vm_file.specs.Spelling.{empty_contents, empty_pair, new_file};
     ghost use Rattle.vm_file.specs.Reading.{is_area};
-    ghost use Rattle.vm_file.specs.State.{FileState, Finds, HasBlock, IsOther, ListsPair, ReadsFile, bytes_of_block, file_of, pair_of};
+    ghost use Rattle.vm_file.specs.State.{FileState, Finds, HasBlock, IsOther, ListsPair, ReadsFile, block_at, bytes_of_block, file_of, pair_of, saved_block_at};
 
     /// Makes a file on a device: writes the header, the selector and two empty directories,
     /// and ends with a `sync`. `area` is a legal area size, and the device has room for the file
@@ -105,6 +106,10 @@ impl<D: Device + Drop> VmFile<D> {
             (λ e. IsRefused e.1 (file_at (D.medium.image device))) }
         ensures sure { IfOk result (λ file. file.sure ≡ true) }
         ensures durable { D.medium.honest device → IfOk result (λ file. Only (D.medium.image file.device) (D.medium.may_leave file.device)) }
+        // `BadFile` and `Memory` come behind the sync, so a stop then leaves what was read.
+        ensures begins { MatchResult result
+            (λ file. BeginsWithSync D.medium ⊥ device file.device)
+            (λ e. BeginsWithSync D.medium (e.1 ≡ OpenError.Disk) device e.0) }
         // Nothing is written, so a stop meanwhile leaves what it might have left before.
         ensures reads { MatchResult result
             (λ file. ReadsOnly D.medium device file.device)
@@ -178,7 +183,7 @@ impl<D: Device + Drop> VmFile<D> {
         requires { HasBlock self.old.current h (length into.old) }
         ensures bytes { D.medium.honest self.old.device → OnOk result (into.new ≡ bytes_of_block (pair_of D.medium.image self.old).cur.blocks h) }
         ensures heap { OnOk result (IsHeapUnder h into.new) }
-        ensures no_block { CausesNoBlock h (D.medium.failed self.old.device) (D.medium.failed self.new.device) into.new result }
+        ensures no_block { CausesNoBlock D.medium h (block_at self.old h) self.old.device self.new.device into.new result }
         ensures same { self.new ≡ record self.old { device = self.new.device } }
         ensures pair { pair_of D.medium.image self.new ≡ pair_of D.medium.image self.old }
         ensures ok { OnOk result (D.medium.failed self.new.device ≡ D.medium.failed self.old.device) }
@@ -201,7 +206,7 @@ impl<D: Device + Drop> VmFile<D> {
         requires { HasBlock self.old.saved h (length into.old) }
         ensures bytes { D.medium.honest self.old.device → OnOk result (into.new ≡ bytes_of_block (pair_of D.medium.image self.old).saved.blocks h) }
         ensures heap { OnOk result (IsHeapUnder h into.new) }
-        ensures no_block { CausesNoBlock h (D.medium.failed self.old.device) (D.medium.failed self.new.device) into.new result }
+        ensures no_block { CausesNoBlock D.medium h (saved_block_at self.old h) self.old.device self.new.device into.new result }
         ensures same { self.new ≡ record self.old { device = self.new.device } }
         ensures pair { pair_of D.medium.image self.new ≡ pair_of D.medium.image self.old }
         ensures ok { OnOk result (D.medium.failed self.new.device ≡ D.medium.failed self.old.device) }
@@ -291,6 +296,7 @@ impl<D: Device + Drop> VmFile<D> {
         ensures room { vec_capacity into.old ≤ vec_capacity into.new }
         ensures read { ReadsFile D.medium self.old self.new result }
         ensures cause { D.medium.honest self.old.device → OnErr result (Rose (D.medium.failed self.old.device) (D.medium.failed self.new.device)) }
+        ensures no_block { CausesNoBlocks D.medium (Contains cur.now.entries.items) self.old.device self.new.device result }
         ensures resident { AreResident (S.resident_bytes source.now) cur.now.entries.items → OnErr result ⊥ }
     {
         let from = base_of(self.area, self.second) + 2;
@@ -311,7 +317,8 @@ impl<D: Device + Drop> VmFile<D> {
         ensures room { vec_capacity into.old ≤ vec_capacity into.new }
         ensures read { ReadsFile D.medium self.old self.new result }
         ensures cause { D.medium.honest self.old.device → OnErr result (Rose (D.medium.failed self.old.device) (D.medium.failed self.new.device)) }
-        ensures no_block { self.old.saved.entries.items ≡ [] → OnErr result ⊥ }
+        ensures no_block { CausesNoBlocks D.medium (Contains self.old.saved.entries.items) self.old.device self.new.device result }
+        ensures no_read { self.old.saved.entries.items ≡ [] → OnErr result ⊥ }
     {
         let first = u64::from(directory_length(self.current.directory()));
         let from = base_of(self.area, self.second) + first + 2;
@@ -338,6 +345,7 @@ impl<D: Device + Drop> VmFile<D> {
             (kept_after D.medium.image (S.resident_bytes source.now) how cur.now self.old) into.new.items) }
         ensures read { ReadsFile D.medium self.old self.new result }
         ensures cause { D.medium.honest self.old.device → OnErr result (Rose (D.medium.failed self.old.device) (D.medium.failed self.new.device)) }
+        ensures no_block { CausesNoBlocks D.medium (IsKept how cur.now self.old.saved) self.old.device self.new.device result }
         ensures no_read { NeedsNoRead (S.resident_bytes source.now) how cur.now self.old.saved → OnErr result ⊥ }
     {
         match how {
@@ -385,8 +393,7 @@ impl<D: Device + Drop> VmFile<D> {
         ensures torn { D.medium.honest self.old.device → OnErr result (MayHaveWritten D.medium.image self.old self.new.sure (D.medium.image self.new.device)) }
         ensures other { D.medium.honest self.old.device → self.new.sure ≡ false
             → IsOther D.medium.image self.new (pair_in (current_after how cur.now self.old.saved) (saved_after how cur.now self.old.saved) bytes.now) }
-        ensures any_moment { D.medium.honest self.old.device → Passes D.medium.may_have_left self.old.device self.new.device
-            (FindsOneOf (pair_of D.medium.image self.old) (pair_in (current_after how cur.now self.old.saved) (saved_after how cur.now self.old.saved) bytes.now)) }
+        ensures either { D.medium.honest self.old.device → Passes D.medium.may_have_left self.old.device self.new.device (FindsEither D.medium.image self.old self.new) }
         ensures stop { D.medium.honest self.old.device → (c : List ℕ) → D.medium.may_leave self.new.device c → Finds D.medium.image self.new c }
         ensures honest { D.medium.honest self.old.device → D.medium.honest self.new.device }
         ensures was_honest { D.medium.honest self.new.device → D.medium.honest self.old.device }

@@ -54,7 +54,7 @@ pub(crate) fn write_part(bytes: &mut [u8], at: usize, from: &[u8])
 }
 
 impl Device for MemoryDevice {
-    ghost use Rattle.vm_file.specs.Memory.{MayLeave, bytes_of, failures_of, medium};
+    ghost use Rattle.vm_file.specs.Memory.{MayLeave, Reads, Syncs, Writes, bytes_of, failures_of, medium};
 
     ghost medium = { medium };
 
@@ -74,6 +74,7 @@ impl Device for MemoryDevice {
         ensures bytes { OnOk result (into.new ≡ part (bytes_of self.old) at (length into.old)) }
         ensures reads { ReadsOnly medium self.old self.new }
         ensures cause { Counts (failures_of self.old) (failures_of self.new) result }
+        ensures call { Reads self.old at into.new result self.new }
     {
         if !self.has(at, into.len()) {
             count_failure(&mut self.failures);
@@ -91,6 +92,7 @@ impl Device for MemoryDevice {
         ensures written { OnOk result (bytes_of self.new ≡ with_part (bytes_of self.old) at bytes.now) }
         ensures writes { WritesOnly medium at (length bytes.now) self.old self.new }
         ensures cause { Counts (failures_of self.old) (failures_of self.new) result }
+        ensures call { Writes self.old at bytes.now result self.new }
     {
         if !self.has(at, bytes.len()) {
             count_failure(&mut self.failures);
@@ -106,6 +108,7 @@ impl Device for MemoryDevice {
         ensures durable { OnOk result (Only (bytes_of self.new) (MayLeave self.new)) }
         ensures reads { ReadsOnly medium self.old self.new }
         ensures cause { Counts (failures_of self.old) (failures_of self.new) result }
+        ensures call { Syncs self.old result self.new }
     {
         Ok(())
     }

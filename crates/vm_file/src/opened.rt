@@ -1,10 +1,10 @@
 //! What a device holds when a file is opened.
-ghost use Rattle.std.specs.Prelude.{◌≡◌, ◌+◌, ◌-◌, ◌*◌, ◌<◌, ◌≤◌, ◌^◌, ℕ, true, min, length, take, IfOk, OnOk};
+ghost use Rattle.std.specs.Prelude.{◌≡◌, ◌+◌, ◌-◌, ◌*◌, ◌<◌, ◌≤◌, ◌^◌, ℕ, true, min, length, take, Err, IfOk, OnOk};
 ghost use Rattle.lmem_raw.specs.Bytes.{part};
 ghost use Rattle.vm_file.specs.Device.{Only};
 ghost use Rattle.vm_file.specs.Directories.{directory_length, is_directory};
 ghost use Rattle.vm_file.specs.Opening.{IsOpened, listed_file, listed_pair};
-ghost use Rattle.vm_file.specs.Outcomes.{Causes, ReadsOnly, Tells};
+ghost use Rattle.vm_file.specs.Outcomes.{BeginsWithSync, Causes, ReadsOnly, Tells};
 ghost use Rattle.vm_file.specs.Reading.{base_of, file_at, header_at, is_area, pair_at, selector_at};
 
 use crate::device::{Device, Disk};
@@ -138,6 +138,7 @@ pub(crate) fn read_file<D: Device>(alloc: Global, device: &mut D) -> Result<Open
     ensures exact { D.medium.honest device.old → Tells listed_file result (file_at (D.medium.image device.old)) }
     ensures legal { IfOk result (λ f. IsOpened f (length (D.medium.image device.old))) }
     ensures durable { D.medium.honest device.old → OnOk result (Only (D.medium.image device.new) (D.medium.may_leave device.new)) }
+    ensures begins { BeginsWithSync D.medium (result ≡ Err OpenError.Disk) device.old device.new }
     ensures reads { ReadsOnly D.medium device.old device.new }
     ensures cause { Causes (D.medium.failed device.old) (D.medium.failed device.new) result }
 {

@@ -64,7 +64,7 @@ pub(crate) fn read_block<D: Device>(
     into: &mut [u8],
 ) -> Result<(), Disk>
     ensures heap { OnOk result (IsHeapUnder h into.new) }
-    ensures no_block { CausesNoBlock h (D.medium.failed device.old) (D.medium.failed device.new) into.new result }
+    ensures no_block { CausesNoBlock D.medium h at device.old device.new into.new result }
     ensures bytes { D.medium.honest device.old → OnOk result (into.new ≡ part (D.medium.image device.old) at (length into.old)) }
     ensures read { ReadsToFailure D.medium device.old device.new result }
     ensures cause { D.medium.honest device.old

@@ -1,7 +1,7 @@
 //! The bytes of an area, built in memory before they are written: each function appends, within the
 //! room that the buffer has.
 ghost use Rattle.std.specs.Prelude.{◌≡◌, ◌+◌, ◌-◌, ◌<◌, ◌≤◌, ◌^◌, ◌++◌, ℕ, true, length, map, take, All, IsSome, OnOk, OnErr, IfOk};
-ghost use Rattle.std.specs.List.{list_all, flat_map};
+ghost use Rattle.std.specs.List.{Contains, list_all, flat_map};
 ghost use Rattle.std.specs.Vec.{vec_len, vec_capacity};
 ghost use Rattle.geos_model.specs.Block.{handle_word};
 ghost use Rattle.geos_model.specs.Bytes.{word_bytes};
@@ -11,7 +11,7 @@ ghost use Rattle.vm_file.specs.Committing.{AreResident, HasLength, placed_block,
 ghost use Rattle.vm_file.specs.Contents.{block_spelling, contents_spelling, is_filled};
 ghost use Rattle.vm_file.specs.Device.{Rose};
 ghost use Rattle.vm_file.specs.Directories.{directory_length, entries_length};
-ghost use Rattle.vm_file.specs.Outcomes.{ReadsToFailure};
+ghost use Rattle.vm_file.specs.Outcomes.{CausesNoBlocks, IsOfBlock, ReadsToFailure};
 
 use crate::commit::Source;
 use crate::device::{Device, Disk};
@@ -55,6 +55,7 @@ fn read_from<D: Device>(
     ensures long { length into.new ≡ length into.old }
     ensures bytes { D.medium.honest device.old → OnOk result (into.new ≡ take at into.old ++ part (D.medium.image device.old) from (length into.old - at)) }
     ensures read { ReadsToFailure D.medium device.old device.new result }
+    ensures no_block { CausesNoBlocks D.medium (IsOfBlock h (length into.old - at)) device.old device.new result }
     ensures cause { D.medium.honest device.old
         → IsHeap (part (D.medium.image device.old) from (length into.old - at))
         → handle_word (part (D.medium.image device.old) from (length into.old - at)) ≡ h
@@ -76,6 +77,7 @@ fn append_block<D: Device>(
     ensures len { vec_len into.new ≡ vec_len into.old + n }
     ensures room { vec_capacity into.old ≤ vec_capacity into.new }
     ensures read { ReadsToFailure D.medium device.old device.new result }
+    ensures no_block { CausesNoBlocks D.medium (IsOfBlock h n) device.old device.new result }
     ensures cause { D.medium.honest device.old
         → IsHeap (part (D.medium.image device.old) from n)
         → handle_word (part (D.medium.image device.old) from n) ≡ h
@@ -111,6 +113,7 @@ fn spell_block<D: Device, S: Source>(
     ensures len { vec_len into.new ≡ vec_len into.old + (6 + e.len) }
     ensures room { vec_capacity into.old ≤ vec_capacity into.new }
     ensures read { ReadsToFailure D.medium device.old device.new result }
+    ensures no_block { CausesNoBlocks D.medium (IsOfBlock e.h e.len) device.old device.new result }
     ensures resident { IsSome (S.resident_bytes source.now e.h) → OnErr result ⊥ }
     ensures cause { D.medium.honest device.old
         → is_filled (placed_block (S.resident_bytes source.now) (D.medium.image device.old) kept.now e) ≡ true
@@ -146,6 +149,7 @@ fn spell_blocks<D: Device, S: Source>(
     ensures len { OnOk result (vec_len into.new ≡ vec_len into.old + entries_length entries.now) }
     ensures room { vec_capacity into.old ≤ vec_capacity into.new }
     ensures read { ReadsToFailure D.medium device.old device.new result }
+    ensures no_block { CausesNoBlocks D.medium (Contains entries.now) device.old device.new result }
     ensures resident { AreResident (S.resident_bytes source.now) entries.now → OnErr result ⊥ }
     ensures cause { D.medium.honest device.old
         → list_all is_filled (map (placed_block (S.resident_bytes source.now) (D.medium.image device.old) kept.now) entries.now) ≡ true
@@ -176,6 +180,7 @@ pub(crate) fn spell_directory<D: Device, S: Source>(
     ensures len { OnOk result (vec_len into.new ≡ vec_len into.old + directory_length directory.now) }
     ensures room { vec_capacity into.old ≤ vec_capacity into.new }
     ensures read { ReadsToFailure D.medium device.old device.new result }
+    ensures no_block { CausesNoBlocks D.medium (Contains directory.now.entries.items) device.old device.new result }
     ensures resident { AreResident (S.resident_bytes source.now) directory.now.entries.items → OnErr result ⊥ }
     ensures cause { D.medium.honest device.old
         → list_all is_filled (placed_contents (S.resident_bytes source.now) (D.medium.image device.old) kept.now directory.now).blocks ≡ true

@@ -1,4 +1,5 @@
-use Rattle.std.proofs.Common.{inl, inr}
+use Rattle.std.proofs.Common.{◌∙◌, inl, inr, sym}
+use Rattle.std.proofs.lemmas.Bool.{false≢true}
 use Rattle.vm_file.proofs.Moments.{reads_well, rose}
 use Rattle.vm_file.proofs.reader.read_block.Goals as goal
 
@@ -16,3 +17,6 @@ returns-then-is_heap_of-clause-read g c = reads_well g.D.Device.medium _ _ _ c.i
 
 pub returns-else-is_heap_of-clause-read : goal.returns-else-is_heap_of-clause-read
 returns-else-is_heap_of-clause-read g c = record { only = c.in-Ok.ensures.reads; ok = tt; once = inl c.in-Ok.ensures.cause.ok }
+
+pub returns-else-is_heap_of-clause-no_block : goal.returns-else-is_heap_of-clause-no_block
+returns-else-is_heap_of-clause-no_block g c = inr (c.in-Ok.ensures.call, λ heap. false≢true (sym c.if-is_heap_of.false ∙ c.is_heap_of.ensures.1 heap))

@@ -9,6 +9,10 @@ use Rattle.vm_file.specs.Device.{Rose}
 use Rattle.vm_file.proofs.Blocks.{entry_fits, blocks_appended, filled_at}
 use Rattle.vm_file.proofs.Moments.{reads_none, reads_on, reads_then, reads_well}
 use Rattle.vm_file.proofs.Lengths.{entries_length-more}
+use Rattle.std.specs.List.{Contains}
+use Rattle.std.proofs.lemmas.List.Elements.{Contains-get_or}
+use Rattle.vm_file.specs.Outcomes.{IsOfBlock}
+use Rattle.vm_file.proofs.Given.{why_of, why_on}
 use Rattle.vm_file.proofs.spell.spell_blocks.Goals as goal
 
 abbrev blank : Entry
@@ -59,3 +63,9 @@ pub returns-clause-items : goal.returns-clause-items
 returns-clause-items g c = λ h.
     let block = block_read (g.S.Source.resident_bytes c.args.source.now) (g.D.Device.medium.image c.args.device.now) c.args.kept.now.from c.args.kept.now.directory.now.entries.items in
     c.loop-e.invariant.items h ∙ ap (λ es. vec_items c.args.into.now ++ flat_map block_spelling (map block es)) (take_all c.loop-e.e-index c.args.entries.now c.loop-e-test.false)
+
+pub returns-in-Err-clause-no_block : goal.returns-in-Err-clause-no_block
+returns-in-Err-clause-no_block g c =
+    let i = c.loop-e.invariant in let es = c.args.entries.now in let d = g.D.Device in let e = get_or es c.loop-e.e-index blank in
+    why_of d.medium (Contains es) c.args.device.now c.spell_block.new.device e (Contains-get_or es c.loop-e.e-index blank c.loop-e-test.true)
+    (why_on d.medium (IsOfBlock e.h e.len) (IsOfBlock e.h e.len) c.args.device.now c.loop-e.device c.spell_block.new.device (λ x is. is) i.reads i.count c.in-Err.ensures.no_block)

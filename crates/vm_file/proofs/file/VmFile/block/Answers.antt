@@ -4,11 +4,13 @@ use Rattle.std.proofs.lemmas.Result.{on_ok_weaker}
 use Rattle.geos_model.specs.Block.{handle_word}
 use Rattle.geos_model.specs.Heap.{IsHeap}
 use Rattle.vm_file.specs.Device.{Rose}
-use Rattle.vm_file.specs.State.{FileState, HasBlock, bytes_of_block, pair_of}
+use Rattle.vm_file.specs.State.{FileState, HasBlock, block_at, bytes_of_block, pair_of}
 use Rattle.vm_file.proofs.BlockLaws.{current_there, current_heap}
 use Rattle.vm_file.proofs.Kept.{finds_during, finds_after, finds_at_stop}
 use Rattle.vm_file.proofs.PlaceLaws.{has_handle}
 use Rattle.vm_file.proofs.StateLaws.{read_sound}
+use Rattle.vm_file.specs.Outcomes.{CausesNoBlock}
+use Rattle.vm_file.proofs.Given.{why_at}
 use Rattle.vm_file.proofs.file.VmFile.block.Goals as goal
 
 pub invariant_of-self : goal.invariant_of-self
@@ -48,3 +50,11 @@ pub returns-clause-stopped : goal.returns-clause-stopped
 returns-clause-stopped g c =
     let d = g.D.Device in
     finds_at_stop d.medium _ _ c.self.view_is c.self.invariant _ c.read_block.ensures.read.only (g.met.D.Device.at_once c.args.self.now.device)
+
+pub returns-clause-no_block : goal.returns-clause-no_block
+returns-clause-no_block g c =
+    let d = g.D.Device in let i = c.self.inside in
+    let f : FileState g.row.D.Denot = record { device = i.device; area = i.area; second = i.second; sure = i.sure; current = i.current; saved = i.saved } in
+    let G : FileState g.row.D.Denot → Type 0 = λ f. CausesNoBlock d.medium c.args.h (block_at f c.args.h) f.device c.read_block.new.device c.read_block.new.into c.read_block.result in
+    subst G c.self.view_is
+    (why_at d.medium c.args.h _ (block_at f c.args.h) _ _ _ c.read_block.result (omega (arith, c.base_of-base.ensures.exact, c.from.ensures, c.place.ensures)) c.read_block.ensures.no_block)

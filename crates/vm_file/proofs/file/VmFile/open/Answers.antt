@@ -4,6 +4,7 @@ use Rattle.vm_file.specs.declared.directory.Directory.{Directory}
 use Rattle.vm_file.specs.Reading.{File, file_at}
 use Rattle.vm_file.specs.State.{FileState, IsSound, file_of}
 use Rattle.vm_file.proofs.StateLaws.{opens, opens_sound}
+use Rattle.vm_file.proofs.Given.{begins_so}
 use Rattle.vm_file.proofs.file.VmFile.open.Goals as goal
 
 pub invariant_of-result : goal.invariant_of-result
@@ -20,3 +21,9 @@ returns-in-Ok-clause-exact g c = λ h.
     let answer : FileState g.row.D.Denot → Result File ℕ = λ f. Ok (file_of d.medium.image f) in
     subst (λ (current : Directory). file_at (d.medium.image c.args.device) ≡ answer (file current)) (sym c.of.ensures)
     (opens d.medium c.args.device c.read_file.new.device opened r.reads.same (r.exact h))
+
+pub returns-in-Ok-clause-begins : goal.returns-in-Ok-clause-begins
+returns-in-Ok-clause-begins g c = begins_so g.D.Device.medium _ _ c.args.device c.read_file.new.device (λ is. absurd cc) c.in-Ok.ensures.begins
+
+pub returns-in-Err-clause-begins : goal.returns-in-Err-clause-begins
+returns-in-Err-clause-begins g c = begins_so g.D.Device.medium _ _ c.args.device c.read_file.new.device (λ is. cc) c.in-Err.ensures.begins

@@ -1,8 +1,8 @@
 use Rattle.std.proofs.Common.{◌≡◌, ◌∙◌, ◌≤◌, ℕ, List, [], ◌∷◌, length, not, true, false, refl, ap, sym, subst, arith}
 use Rattle.lmem_raw.specs.Bytes.{with_part}
 use Rattle.vm_file.specs.declared.directory.Directory.{Directory}
-use Rattle.vm_file.specs.Committing.{FindsOneOf, MayHaveWritten, Spells, current_after, image_after, saved_after, length_after}
-use Rattle.vm_file.specs.Contents.{Pair, pair_in}
+use Rattle.vm_file.specs.Committing.{FindsEither, MayHaveWritten, Spells, current_after, image_after, saved_after, length_after}
+use Rattle.vm_file.specs.Contents.{pair_in}
 use Rattle.vm_file.specs.Device.{FailedOnce, Passes, Rose}
 use Rattle.vm_file.specs.Outcomes.{WritesOnly}
 use Rattle.vm_file.specs.Spelling.{selector_of}
@@ -12,20 +12,16 @@ use Rattle.vm_file.proofs.Kept.{written_area, written_both}
 use Rattle.vm_file.proofs.file.VmFile.select.Given.{Over}
 use Rattle.vm_file.proofs.file.VmFile.select.Goals as goal
 
--- the pair that is written, behind these saved contents
-abbrev written : (g : Over) → goal.In-Err g → Directory → Pair
-written g c saved = pair_in (current_after c.args.how c.args.cur.now saved) (saved_after c.args.how c.args.cur.now saved) c.args.bytes.now
-
 -- the area was not written whole
 torn : (g : Over) (c : goal.In-Err g) → let d = g.D.Device in let i = c.self.inside in
     TornFile d.medium (let f : FileState g.row.D.Denot = record { device = i.device; area = i.area; second = i.second; sure = i.sure; current = i.current; saved = i.saved } in f) c.self.invariant
-    (let S : FileState g.row.D.Denot → Type 0 = λ f. f.sure ≡ true in subst S (sym c.self.view_is) c.requires.sure) c.write_durably.new.device (written g c i.saved)
+    (let S : FileState g.row.D.Denot → Type 0 = λ f. f.sure ≡ true in subst S (sym c.self.view_is) c.requires.sure) c.write_durably.new.device
 torn g c =
     let d = g.D.Device in
     let A : FileState g.row.D.Denot → Type 0 = λ f. length c.args.bytes.now ≤ f.area in
     let W : ℕ → Type 0 = λ k. WritesOnly d.medium k (length c.args.bytes.now) c.self.inside.device c.write_durably.new.device in
     torn_file d.medium _ c.self.invariant _ c.write_durably.new.device (length c.args.bytes.now) (subst A (sym c.self.view_is) c.requires.fits.1)
-    (subst W c.base_of-base.ensures.exact c.in-Err.ensures.writes) (written g c c.self.inside.saved)
+    (subst W c.base_of-base.ensures.exact c.in-Err.ensures.writes)
 
 pub invariant_of-self : goal.invariant_of-self
 invariant_of-self g c = (torn g c).legal
@@ -37,11 +33,12 @@ returns-in-Err-clause-pair g c =
     let G : FileState g.row.D.Denot → Type 0 = λ f. d.medium.honest f.device → pair_of d.medium.image now ≡ pair_of d.medium.image f in
     subst G c.self.view_is (torn g c).pair
 
-pub returns-in-Err-clause-any_moment : goal.returns-in-Err-clause-any_moment
-returns-in-Err-clause-any_moment g c =
-    let d = g.D.Device in
-    let G : FileState g.row.D.Denot → Type 0 = λ f. d.medium.honest f.device → Passes d.medium.may_have_left f.device c.write_durably.new.device (FindsOneOf (pair_of d.medium.image f) (written g c f.saved)) in
-    subst G c.self.view_is (torn g c).passes
+pub returns-in-Err-clause-either : goal.returns-in-Err-clause-either
+returns-in-Err-clause-either g c =
+    let d = g.D.Device in let i = c.self.inside in
+    let now : FileState g.row.D.Denot = record { device = c.write_durably.new.device; area = i.area; second = i.second; sure = i.sure; current = i.current; saved = i.saved } in
+    let G : FileState g.row.D.Denot → Type 0 = λ f. d.medium.honest f.device → Passes d.medium.may_have_left f.device c.write_durably.new.device (FindsEither d.medium.image f now) in
+    subst G c.self.view_is (torn g c).either
 
 pub returns-in-Err-clause-stop : goal.returns-in-Err-clause-stop
 returns-in-Err-clause-stop g c =
@@ -82,12 +79,12 @@ returns-in-Err-write_durably-clause-other g c =
     let G : FileState g.row.D.Denot → Type 0 = λ f. d.medium.honest f.device → IsOther d.medium.image now (pair_in (current_after c.args.how c.args.cur.now f.saved) (saved_after c.args.how c.args.cur.now f.saved) c.args.bytes.now) in
     λ h _. subst G c.self.view_is (unsure g c).other h
 
-pub returns-in-Err-write_durably-clause-any_moment : goal.returns-in-Err-write_durably-clause-any_moment
-returns-in-Err-write_durably-clause-any_moment g c =
-    let d = g.D.Device in
-    let G : FileState g.row.D.Denot → Type 0 = λ f. d.medium.honest f.device → Passes d.medium.may_have_left f.device c.write_durably-2.new.device
-    (FindsOneOf (pair_of d.medium.image f) (pair_in (current_after c.args.how c.args.cur.now f.saved) (saved_after c.args.how c.args.cur.now f.saved) c.args.bytes.now)) in
-    subst G c.self.view_is (unsure g c).passes
+pub returns-in-Err-write_durably-clause-either : goal.returns-in-Err-write_durably-clause-either
+returns-in-Err-write_durably-clause-either g c =
+    let d = g.D.Device in let i = c.self.inside in
+    let now : FileState g.row.D.Denot = record { device = c.write_durably-2.new.device; area = i.area; second = i.second; sure = false; current = i.current; saved = i.saved } in
+    let G : FileState g.row.D.Denot → Type 0 = λ f. d.medium.honest f.device → Passes d.medium.may_have_left f.device c.write_durably-2.new.device (FindsEither d.medium.image f now) in
+    subst G c.self.view_is (unsure g c).either
 
 pub returns-in-Err-write_durably-clause-stop : goal.returns-in-Err-write_durably-clause-stop
 returns-in-Err-write_durably-clause-stop g c =
@@ -134,12 +131,14 @@ returns-in-Ok-write_durably-clause-pair g c =
     let q = pair_in (current_after c.args.how c.args.cur.now i.saved) (saved_after c.args.how c.args.cur.now i.saved) c.args.bytes.now in
     subst G c.self.view_is (λ h. kept _ _ (λ a b. pair_of d.medium.image (now a b) ≡ q) c.keep.new.current c.keep.new.saved c.keep.ensures.current c.keep.ensures.saved ((selected g c).pair h))
 
-pub returns-in-Ok-write_durably-clause-any_moment : goal.returns-in-Ok-write_durably-clause-any_moment
-returns-in-Ok-write_durably-clause-any_moment g c =
-    let d = g.D.Device in
-    let G : FileState g.row.D.Denot → Type 0 = λ f. d.medium.honest f.device → Passes d.medium.may_have_left f.device c.write_durably-2.new.device
-    (FindsOneOf (pair_of d.medium.image f) (pair_in (current_after c.args.how c.args.cur.now f.saved) (saved_after c.args.how c.args.cur.now f.saved) c.args.bytes.now)) in
-    subst G c.self.view_is (selected g c).passes
+pub returns-in-Ok-write_durably-clause-either : goal.returns-in-Ok-write_durably-clause-either
+returns-in-Ok-write_durably-clause-either g c =
+    let d = g.D.Device in let i = c.self.inside in
+    let now : Directory → Directory → FileState g.row.D.Denot = λ a b. record { device = c.write_durably-2.new.device; area = i.area; second = not i.second; sure = i.sure; current = a; saved = b } in
+    let G : FileState g.row.D.Denot → Type 0 = λ f. d.medium.honest f.device → Passes d.medium.may_have_left f.device c.write_durably-2.new.device (FindsEither d.medium.image f (now c.keep.new.current c.keep.new.saved)) in
+    subst G c.self.view_is
+    (λ h. kept _ _ (λ a b. Passes d.medium.may_have_left i.device c.write_durably-2.new.device
+    (FindsEither d.medium.image (let f : FileState g.row.D.Denot = record { device = i.device; area = i.area; second = i.second; sure = i.sure; current = i.current; saved = i.saved } in f) (now a b))) c.keep.new.current c.keep.new.saved c.keep.ensures.current c.keep.ensures.saved ((selected g c).either h))
 
 pub returns-in-Ok-write_durably-clause-stop : goal.returns-in-Ok-write_durably-clause-stop
 returns-in-Ok-write_durably-clause-stop g c =

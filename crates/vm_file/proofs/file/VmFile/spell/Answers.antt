@@ -1,16 +1,20 @@
-use Rattle.std.proofs.Common.{◌≡◌, ◌∙◌, ℕ, ◌≤◌, ◌++◌, arith, ap, sym, subst}
+use Rattle.std.proofs.Common.{◌≡◌, ◌∙◌, ℕ, ◌≤◌, ◌++◌, arith, ap, sym, subst, inl, inr}
 use Rattle.std.specs.Prelude.{OnErr, OnOk}
 use Rattle.std.specs.Vec.{vec_items, vec_len}
-use Rattle.std.proofs.lemmas.Result.{on_ok_weaker}
 use Rattle.vm_file.specs.declared.commit.How.{How}
 use Rattle.vm_file.specs.declared.directory.Directory.{Directory}
-use Rattle.vm_file.specs.Committing.{IsContentsOf, NeedsNoRead, Spells, contents_from, current_after, kept_after, length_after, saved_after}
+use Rattle.vm_file.specs.Committing.{IsContentsOf, IsKept, NeedsNoRead, Spells, contents_from, current_after, kept_after, length_after, saved_after}
 use Rattle.vm_file.specs.Contents.{contents_spelling}
 use Rattle.vm_file.specs.Device.{Rose}
 use Rattle.vm_file.specs.Directories.{directory_length}
 use Rattle.vm_file.specs.State.{FileState, pair_of}
 use Rattle.vm_file.proofs.CommitLaws.{spells_pair}
 use Rattle.vm_file.proofs.StateLaws.{file_on}
+use Rattle.std.specs.List.{Contains}
+use Rattle.std.proofs.lemmas.Result.{on_ok_weaker, on_err_weaker}
+use Rattle.vm_file.specs.declared.commit.How.TheVariants.{Update, Save, Revert}
+use Rattle.vm_file.specs.declared.directory.Entry.{Entry}
+use Rattle.vm_file.proofs.Given.{why_more, why_on}
 use Rattle.vm_file.proofs.file.VmFile.spell.Goals as goal
 
 pub returns-in-Ok-clause-read : goal.returns-in-Ok-clause-read
@@ -75,7 +79,7 @@ pub returns-in-Ok-clause-no_read : goal.returns-in-Ok-clause-no_read
 returns-in-Ok-clause-no_read g c =
     let resident = g.S.Source.resident_bytes c.args.source.now in
     let N : How → Type 0 = λ k. NeedsNoRead resident k c.args.cur.now c.args.self.now.saved → OnErr c.spell_saved.result ⊥ in
-    subst N (sym c.in-Update.is) (λ needs. c.spell_saved.ensures.no_block (ap (λ (f : FileState g.row.D.Denot). f.saved.entries.items) c.in-Ok.ensures.read.same ∙ needs.1))
+    subst N (sym c.in-Update.is) (λ needs. c.spell_saved.ensures.no_read (ap (λ (f : FileState g.row.D.Denot). f.saved.entries.items) c.in-Ok.ensures.read.same ∙ needs.1))
 
 pub returns-in-Err-clause-no_read : goal.returns-in-Err-clause-no_read
 returns-in-Err-clause-no_read g c =
@@ -90,4 +94,35 @@ returns-in-Err-spell_current-clause-no_read g c =
 pub returns-in-Err-spell_saved-clause-no_read : goal.returns-in-Err-spell_saved-clause-no_read
 returns-in-Err-spell_saved-clause-no_read g c =
     let N : How → Type 0 = λ k. NeedsNoRead (g.S.Source.resident_bytes c.args.source.now) k c.args.cur.now c.args.self.now.saved → ⊥ in
-    subst N (sym c.in-Revert.is) c.in-Err-spell_saved.ensures.no_block
+    subst N (sym c.in-Revert.is) c.in-Err-spell_saved.ensures.no_read
+
+-- an entry is one of those that are kept, where it is known which pair is
+kept_here : (how way : How) (cur saved : Directory) (e : Entry) → how ≡ way → IsKept way cur saved e → IsKept how cur saved e
+kept_here how way cur saved e is = subst (λ (k : How). IsKept k cur saved e) (sym is)
+
+pub returns-in-Ok-clause-no_block : goal.returns-in-Ok-clause-no_block
+returns-in-Ok-clause-no_block g c =
+    let d = g.D.Device in let cur = c.args.cur.now in let old = c.args.self.now in let mid = c.spell_current.new.self in let one = c.in-Ok.ensures in
+    let same = ap (λ (f : FileState g.row.D.Denot). f.saved) one.read.same in
+    on_err_weaker c.spell_saved.result
+    (why_on d.medium (Contains mid.saved.entries.items) (IsKept c.args.how cur old.saved) old.device mid.device c.spell_saved.new.self.device
+    (λ e has. kept_here c.args.how Update cur old.saved e c.in-Update.is (inr (subst (λ (s : Directory). Contains s.entries.items e) same has))) one.read.read.only one.read.read.ok)
+    c.spell_saved.ensures.no_block
+
+pub returns-in-Err-clause-no_block : goal.returns-in-Err-clause-no_block
+returns-in-Err-clause-no_block g c =
+    let cur = c.args.cur.now in let old = c.args.self.now in
+    why_more g.D.Device.medium (Contains cur.entries.items) (IsKept c.args.how cur old.saved) old.device c.spell_current.new.self.device
+    (λ e has. kept_here c.args.how Update cur old.saved e c.in-Update.is (inl has)) c.in-Err.ensures.no_block
+
+pub returns-in-Err-spell_current-clause-no_block : goal.returns-in-Err-spell_current-clause-no_block
+returns-in-Err-spell_current-clause-no_block g c =
+    let cur = c.args.cur.now in let old = c.args.self.now in
+    why_more g.D.Device.medium (Contains cur.entries.items) (IsKept c.args.how cur old.saved) old.device c.spell_current-in-Save.new.self.device
+    (λ e has. kept_here c.args.how Save cur old.saved e c.in-Save.is (inl has)) c.in-Err-spell_current.ensures.no_block
+
+pub returns-in-Err-spell_saved-clause-no_block : goal.returns-in-Err-spell_saved-clause-no_block
+returns-in-Err-spell_saved-clause-no_block g c =
+    let cur = c.args.cur.now in let old = c.args.self.now in
+    why_more g.D.Device.medium (Contains old.saved.entries.items) (IsKept c.args.how cur old.saved) old.device c.spell_saved-in-Revert.new.self.device
+    (λ e has. kept_here c.args.how Revert cur old.saved e c.in-Revert.is (inl has)) c.in-Err-spell_saved.ensures.no_block

@@ -9,6 +9,8 @@ use Rattle.vm_file.specs.Device.{Rose}
 use Rattle.vm_file.specs.State.{FileState, pair_of}
 use Rattle.vm_file.proofs.Sources.{current_contents, from_filled, from_legal, from_listed}
 use Rattle.vm_file.proofs.StateLaws.{read_file, read_sound}
+use Rattle.std.specs.List.{Contains}
+use Rattle.vm_file.specs.Outcomes.{CausesNoBlocks}
 use Rattle.vm_file.proofs.file.VmFile.spell_current.Goals as goal
 
 pub invariant_of-self : goal.invariant_of-self
@@ -50,3 +52,9 @@ returns-clause-legal g c =
       legal = from_legal d.medium _ c.self.invariant resident cur may h;
       lists = from_listed d.medium _ c.self.invariant resident cur may h;
     })
+
+pub returns-clause-no_block : goal.returns-clause-no_block
+returns-clause-no_block g c =
+    let d = g.D.Device in
+    let G : FileState g.row.D.Denot → Type 0 = λ f. CausesNoBlocks d.medium (Contains c.args.cur.now.entries.items) f.device c.spell_directory.new.device c.spell_directory.result in
+    subst G c.self.view_is c.spell_directory.ensures.no_block

@@ -13,6 +13,8 @@ use Rattle.vm_file.proofs.Listing.{pair_listed}
 use Rattle.vm_file.proofs.ReadLaws.{pair_ok}
 use Rattle.vm_file.proofs.Sources.{saved_contents}
 use Rattle.vm_file.proofs.StateLaws.{read_file, read_sound}
+use Rattle.std.specs.List.{Contains}
+use Rattle.vm_file.specs.Outcomes.{CausesNoBlocks}
 use Rattle.vm_file.proofs.file.VmFile.spell_saved.Goals as goal
 
 pub invariant_of-self : goal.invariant_of-self
@@ -52,3 +54,9 @@ returns-clause-legal g c =
       legal = (pair_ok (base_of f.area f.second) (area_of (d.medium.image f.device) f.area f.second) (pair_of d.medium.image f) (c.self.invariant.holds h).pair).saved;
       lists = (pair_listed d.medium f c.self.invariant).1;
     })
+
+pub returns-clause-no_block : goal.returns-clause-no_block
+returns-clause-no_block g c =
+    let d = g.D.Device in
+    let G : FileState g.row.D.Denot → Type 0 = λ f. CausesNoBlocks d.medium (Contains f.saved.entries.items) f.device c.spell_directory.new.device c.spell_directory.result in
+    subst G c.self.view_is c.spell_directory.ensures.no_block
