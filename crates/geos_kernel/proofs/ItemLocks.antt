@@ -17,11 +17,12 @@ use Rattle.vm_blocks.specs.Bringing.{ReadsDevice}
 use Rattle.vm_blocks.specs.View.{VmState, vm_slot, with_device}
 use Rattle.db_items.specs.Items.{ChangesItem, LacksItemRoom, LocksItem, listed_after, refers_to}
 use Rattle.geos_kernel.specs.declared.span.Span.{Span}
-use Rattle.geos_kernel.specs.Files.{CallsItem, InMemory, ReadsFile}
+use Rattle.geos_kernel.specs.Files.{CallsItem, InMemory, LeavesKept, ReadsFile}
 use Rattle.geos_kernel.specs.Kernel.{IsKernel, ItemHasNoRoom, LeadsToSpan}
 use Rattle.geos_kernel.specs.Spans.{IsStanding, IsWritable}
 use Rattle.geos_kernel.specs.View.{IsMarked, KernelOn, kernel_of, memory_of}
 use Rattle.geos_kernel.proofs.ItemCalls.{ilock-calls, ilock-stands, item-calls}
+use Rattle.geos_kernel.proofs.Stops.{stops-reading}
 use Rattle.geos_kernel.proofs.There.{in-memory, no_group-same}
 
 -- what the kernel promises of it
@@ -38,7 +39,7 @@ same-why : {A B : Type 0} (why : Refusal) → ◌≡◌ {A = Result A Refusal} (
 same-why why e = let same : why ≡ Disk = cc in ap Err same
 
 module _ {D : Type 0} (medium : Medium D) (v w : VmState D) (s t : Store) (k : KernelOn D) (is : kernel_of medium v s ≡ k)
-    (kernel : IsKernel medium v s) (g : ℕ) where
+    (kernel : IsKernel medium v s) (known : LeavesKept medium (kernel_of medium v s)) (g : ℕ) where
   abbrev old : KernelOn D
   old = kernel_of medium v s
 
@@ -51,6 +52,7 @@ module _ {D : Type 0} (medium : Medium D) (v w : VmState D) (s t : Store) (k : K
     file = same;
     cause = λ good failed. device.cause good (one failed);
     counted = λ never. device.counted (λ failed. never (other failed));
+    stops = stops-reading medium old new device.reads known;
   }
 
   listed-file : {A : Type 0} (r : Result A Refusal) → w.file ≡ (with_device (listed_after r v g) w.file.device).file → w.file ≡ (with_device v w.file.device).file

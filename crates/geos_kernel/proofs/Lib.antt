@@ -1,4 +1,5 @@
 pub mod Seen
+pub mod Stops
 pub mod Rowed
 pub mod Named
 pub mod Changed

@@ -16,9 +16,10 @@ use Rattle.vm_blocks.specs.Refused.{of_lock}
 use Rattle.vm_blocks.specs.Room.{LacksRoom, NoneIdle}
 use Rattle.vm_blocks.specs.View.{VmState, held_at, vm_slot, with_device}
 use Rattle.db_items.specs.Groups.{IsGroup, RefusesNoGroup}
-use Rattle.geos_kernel.specs.Files.{AsksNothing, InMemory, ReadsFile}
+use Rattle.geos_kernel.specs.Files.{AsksNothing, InMemory, LeavesKept, ReadsFile}
 use Rattle.geos_kernel.specs.Kernel.{HasNoRoomIn, ListedHasNoRoom}
 use Rattle.geos_kernel.specs.View.{KernelOn, core_of, file_over, kernel_of, seen}
+use Rattle.geos_kernel.proofs.Stops.{stops-reading}
 
 on-there : {A : Type 0} (r : Result A Refusal) (P Q : Type 0) → OnErr r (P → Q) → P → OnErr r Q
 on-there (Ok answer) P Q stays there = tt
@@ -72,12 +73,13 @@ module _ {D : Type 0} (medium : Medium D) (v w : VmState D) (s t : Store) (k : K
     room-so (Err _) e = absurd cc
 
     -- what it reads of the device
-    pub lock-device : (r : Result (Unit {0}) LockError) → w ≡ with_device v w.file.device → ReadsDevice medium (r ≡ Err lock.Disk) v.file w.file → ReadsFile medium (of_lock r ≡ Err refusal.Disk) k (kernel_of medium w t)
-    lock-device r same device = subst (λ x. ReadsFile medium (of_lock r ≡ Err refusal.Disk) x (kernel_of medium w t)) is (record {
+    pub lock-device : (r : Result (Unit {0}) LockError) → LeavesKept medium (kernel_of medium v s) → w ≡ with_device v w.file.device → ReadsDevice medium (r ≡ Err lock.Disk) v.file w.file → ReadsFile medium (of_lock r ≡ Err refusal.Disk) k (kernel_of medium w t)
+    lock-device r known same device = subst (λ x. ReadsFile medium (of_lock r ≡ Err refusal.Disk) x (kernel_of medium w t)) is (record {
       reads = device.reads;
       file = ap (λ (x : VmState D). x.file) same;
       cause = λ good failed. device.cause good (disk-so r failed);
       counted = λ never. device.counted (λ failed. never (ap of_lock failed));
+      stops = stops-reading medium (kernel_of medium v s) (kernel_of medium w t) device.reads known;
     })
 
     -- where it has no room

@@ -1,26 +1,37 @@
 -- What the kernel's calls make of the VM file on its device.
-use Rattle.std.specs.Prelude.{◌≡◌, ℕ, List, Option, OnErr, OnOk, Result, Err}
+use Rattle.std.specs.Prelude.{◌≡◌, ◌⊎◌, ℕ, List, Option, OnErr, OnOk, Result, Err}
 use Rattle.geos_model.specs.Edits.{Edit}
 use Rattle.geos_model.specs.declared.refusal.Refusal.{Refusal}
 use Rattle.geos_model.specs.declared.refusal.Refusal.TheVariants.{Disk, NoRoom}
 use Rattle.geos_table.specs.Effects.{Call}
+use Rattle.geos_table.specs.VmFile.{VmFile}
 use Rattle.block_handles.specs.Store.{IsThere}
 use Rattle.vm_file.specs.declared.commit.How.{How}
 use Rattle.vm_file.specs.declared.error.CommitError.{CommitError}
 use Rattle.vm_file.specs.Committing.{CommitsFile}
-use Rattle.vm_file.specs.Device.{Medium, Rose}
+use Rattle.vm_file.specs.Device.{Medium, Passes, Rose}
 use Rattle.vm_file.specs.Outcomes.{ReadsOnly}
 use Rattle.vm_file.specs.State.{FileState}
+use Rattle.vm_blocks.specs.Found.{OpensAsKept}
 use Rattle.vm_blocks.specs.Listed.{StoreAfter, directory_of, resident_of}
 use Rattle.vm_blocks.specs.Refused.{of_commit}
 use Rattle.vm_blocks.specs.View.{vm_slot}
 use Rattle.db_items.specs.Groups.{IsGroup}
 use Rattle.geos_kernel.specs.Kernel.{Calls, ItemHasNoRoom, StaysIfRefused}
-use Rattle.geos_kernel.specs.View.{KernelOn, file_over}
+use Rattle.geos_kernel.specs.View.{IsFileOf, KernelOn, file_over}
 
 -- the VM file of a kernel on its device
 abbrev pub vm_file_of : {D : Type 0} → KernelOn D → FileState D
 vm_file_of k = file_over k.device k.core.vm.file
+
+-- a stop now leaves a file in which `open` finds what the model has as kept
+abbrev pub LeavesKept : {D : Type 0} → Medium D → KernelOn D → Type 0
+LeavesKept medium k = (f : VmFile) → IsFileOf (medium.honest k.device) k.core f → medium.honest k.device → (c : List ℕ) → medium.may_leave k.device c → OpensAsKept f.kept c
+
+-- from the one kernel to the other a stop leaves a file in which `open` finds what the model has as kept beside the one, or beside the other
+abbrev pub Stops : {D : Type 0} → Medium D → KernelOn D → KernelOn D → Type 0
+Stops medium old new = medium.honest old.device → (f g : VmFile) → IsFileOf (medium.honest old.device) old.core f → IsFileOf (medium.honest old.device) new.core g
+    → Passes medium.may_have_left old.device new.device (λ c. OpensAsKept f.kept c ⊎ OpensAsKept g.kept c)
 
 -- a call that asks the device nothing, and leaves what the file keeps
 pub record AsksNothing {D : Type 0} (old new : KernelOn D) : Type 0 where
@@ -34,6 +45,7 @@ pub record ReadsFile {D : Type 0} (medium : Medium D) (fails : Type 0) (old new 
   pub file : vm_file_of new ≡ file_over new.device old.core.vm.file
   pub cause : medium.honest old.device → fails → Rose (medium.failed old.device) (medium.failed new.device)
   pub counted : (fails → ⊥) → medium.failed new.device ≡ medium.failed old.device
+  pub stops : Stops medium old new
 
 -- a call on a block of the file, where that is in memory: it asks the device nothing, and a refusal for
 -- another reason than room leaves all blocks as they were. A block that the device refuses is not there
@@ -58,4 +70,5 @@ pub record Commits {D : Type 0} (medium : Medium D) (how : How) (old new : Kerne
   pub same : result ≡ of_commit answer
   pub file : CommitsFile medium how (resident_of old.core.blocks) (directory_of old.core.vm old.core.blocks) (vm_file_of old) (vm_file_of new) answer
   pub store : OnOk answer (StoreAfter how old.core.blocks new.core.blocks)
+  pub stops : Stops medium old new
   pub refused : OnErr answer ((new.core.vm ≡ record old.core.vm { file = new.core.vm.file }) × (new.core.blocks ≡ old.core.blocks))

@@ -65,6 +65,10 @@ image_seen d = d.image
 abbrev pub failed_in : KernelState → ℕ
 failed_in s = s.vm.file.device.failed
 
+-- what a kernel sees of how often its device has failed is what the device says
+abbrev pub SeesDevice : {D : Type 0} → Medium D → KernelOn D → Type 0
+SeesDevice medium k = failed_in k.core ≡ medium.failed k.device
+
 -- what all blocks of global memory spell, beside the VM file that the model knows
 abbrev pub memory_of : KernelState → VmFile → model.Memory
 memory_of s f = record { blocks = map block_in (take 1024 s.blocks.blocks); file = f; region = s.blocks.len }

@@ -8,17 +8,10 @@ ghost use Rattle.geos_kernel.specs.View.{failed_in, IsFileOf, memory_of};
 
 use crate::kernel::Kernel;
 use std::alloc::{AllocError, Global};
-use vm_file::{Device, MemoryDevice, device_length};
+use vm_file::{MemoryDevice, device_length};
 
 /// How long a pair of directories may be in the file, in bytes.
 const AREA: u32 = 65_536;
-
-/// What calls see of how often the device has failed is what the device says.
-fn see_device<D: Device + Drop>(kernel: &Kernel<D>)
-    ensures { failed_in kernel.now.core ≡ D.medium.failed kernel.now.device }
-{
-    let _ = &kernel.blocks;
-}
 
 /// A kernel without a block, in a region of `region` bytes, 65,536 to 16,777,216, on a new VM
 /// file in memory with an area of 65,536 bytes. The device is honest, and has not failed.
@@ -39,7 +32,8 @@ pub fn kernel_in_memory(alloc: Global, region: u32) -> Result<Kernel<MemoryDevic
     };
     match Kernel::new(alloc, region, file) {
         Ok(kernel) => {
-            see_device(&kernel);
+            // what is seen of its device is that it has not failed
+            kernel.memory_is_legal();
             Ok(kernel)
         }
         Err((_file, error)) => Err(error),

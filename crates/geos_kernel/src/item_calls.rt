@@ -54,6 +54,8 @@ impl<D: Device + Drop> Kernel<D> {
     pub fn item_change(&mut self, g: u16, change: Change) -> Result<(), Refusal>
         ensures { CallsItem D.medium (table.on_group g (change_row (vm g) change)) (change_edit change) g result self.old self.new }
     {
+        // as in `vlock`
+        self.vm.is_sure();
         item_change(&mut self.vm, &mut self.blocks, g, change)
     }
 
@@ -62,6 +64,8 @@ impl<D: Device + Drop> Kernel<D> {
     pub fn item_make(&mut self, g: u16, make: Make) -> Result<u16, Refusal>
         ensures { CallsItem D.medium (table.on_group g (make_row (vm g) make)) (make_edit make) g result self.old self.new }
     {
+        // as in `vlock`
+        self.vm.is_sure();
         item_make(&mut self.vm, &mut self.blocks, g, make)
     }
 
@@ -122,6 +126,8 @@ impl<D: Device + Drop> Kernel<D> {
         ensures no_group { (IsGroup self.old.core.vm g → ⊥) → self.new ≡ self.old }
         ensures device { ReadsFile D.medium (result ≡ Err Refusal.Disk) self.old self.new }
     {
+        // as in `vlock`
+        self.vm.is_sure();
         match item_lock_part(&mut self.vm, &mut self.blocks, g, i, n) {
             Ok((at, len)) => Ok(Span {
                 at: self.blocks.place(Name::vm(g)) + at as u32,

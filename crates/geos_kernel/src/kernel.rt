@@ -63,9 +63,10 @@ impl<D: Device + Drop> Kernel<D> {
     ghost use Rattle.vm_blocks.specs.Opened.{opened_file};
     ghost use Rattle.vm_blocks.specs.View.{held_at};
     ghost use Rattle.vm_file.specs.Outcomes.{IsHeapUnder};
+    ghost use Rattle.geos_kernel.specs.Files.{LeavesKept};
     ghost use Rattle.geos_kernel.specs.Kernel.{Calls, GivesSpan, HasNoRoomFor, LeavesVm, NewHasNoRoom, Remain, StaysIfRefused};
     ghost use Rattle.geos_kernel.specs.Spans.{IsStanding, IsWritable};
-    ghost use Rattle.geos_kernel.specs.View.{chunks_at, file_over, IsFileOf, IsLocked, MayChange, memory_of};
+    ghost use Rattle.geos_kernel.specs.View.{chunks_at, file_over, IsFileOf, IsLocked, MayChange, memory_of, SeesDevice};
 
     /// No block in memory, in a region of `region` bytes, 65,536 to 16,777,216, and a VM file, which
     /// may be unsure: then it takes no commit. This is the only call but commits that takes memory;
@@ -133,17 +134,22 @@ impl<D: Device + Drop> Kernel<D> {
     /// What holds of the kernel's memory at all times: there is a VM file that the model may know
     /// beside it; each block in memory, of either owner, is a heap under its handle; sizes of
     /// blocks are legal and have room for their chunks, chunks are lists of bytes, and no block is
-    /// locked more often than it can be; and no block of the VM file is locked exactly where the
-    /// model has none locked.
+    /// locked more often than it can be; no block of the VM file is locked exactly where the model has
+    /// none locked; what is seen of how often the device has failed is what it says; and in what a stop
+    /// leaves now `open` finds what the model has as kept.
     pub fn memory_is_legal(&self)
         ensures file { (f : model_file.VmFile) × IsFileOf (D.medium.honest self.now.device) self.now.core f }
         ensures legal { (f : model_file.VmFile) → IsFileOf (D.medium.honest self.now.device) self.now.core f → IsMemory (memory_of self.now.core f) }
         ensures heaps { (name : Name) → IsThere self.now.core.blocks (slot_of name) → IsHeapUnder name.h (bytes_of self.now.core.blocks (slot_of name)) }
+        ensures sees { SeesDevice D.medium self.now }
+        ensures kept { LeavesKept D.medium self.now }
         ensures unlocked { (f : model_file.VmFile) → IsFileOf (D.medium.honest self.now.device) self.now.core f
             → NoneLocked self.now.core.blocks ↔ ((h : ℕ) → model.locks_of (memory_of self.now.core f) (vm h) ≡ 0) }
     {
         // what lies in the region are bytes
         let _region = self.blocks.region();
+        // what a stop leaves
+        self.vm.is_sure();
     }
 
     /// Makes a block of 64 bytes with no chunk, under the lowest handle that is free, and

@@ -12,17 +12,15 @@ impl<D: Device + Drop> Kernel<D> {
     ghost use Rattle.geos_model.specs.declared.name.Owner.TheVariants as owner;
     ghost use Rattle.geos_model.specs.Names.{vm};
     ghost use Rattle.geos_table.specs.VmCalls as table;
-    ghost use Rattle.geos_table.specs.VmFile.{VmFile};
     ghost use Rattle.block_handles.specs.Change.{with_lock_more};
     ghost use Rattle.block_handles.specs.Store.{IsThere};
     ghost use Rattle.vm_blocks.specs.View.{vm_slot};
-    ghost use Rattle.vm_blocks.specs.Found.{OpensAsKept};
     ghost use Rattle.vm_blocks.specs.Listed.{NoneLocked};
     ghost use Rattle.vm_blocks.specs.ListedCalls.{keeper_of};
     ghost use Rattle.vm_file.specs.State.{Finds};
-    ghost use Rattle.geos_kernel.specs.Files.{AsksNothing, Commits, InMemory, ReadsFile, vm_file_of};
+    ghost use Rattle.geos_kernel.specs.Files.{AsksNothing, Commits, InMemory, LeavesKept, ReadsFile, vm_file_of};
     ghost use Rattle.geos_kernel.specs.Kernel.{Calls, LeavesVm, ListedHasNoRoom, NewListedHasNoRoom, Remain};
-    ghost use Rattle.geos_kernel.specs.View.{IsFileOf, IsLocked, IsMarked};
+    ghost use Rattle.geos_kernel.specs.View.{IsLocked, IsMarked};
 
     /// Whether the VM file is sure of the pair that it keeps: where it is not, it takes no commit.
     pub fn is_sure(&self) -> bool
@@ -30,8 +28,7 @@ impl<D: Device + Drop> Kernel<D> {
         // What `open` would find after a stop now.
         ensures stop { D.medium.honest self.now.device → (c : List ℕ) → D.medium.may_leave self.now.device c → Finds D.medium.image (vm_file_of self.now) c }
         // That is what the model has as kept.
-        ensures kept { (f : VmFile) → IsFileOf (D.medium.honest self.now.device) self.now.core f → D.medium.honest self.now.device
-            → (c : List ℕ) → D.medium.may_leave self.now.device c → OpensAsKept f.kept c }
+        ensures kept { LeavesKept D.medium self.now }
     {
         self.vm.is_sure()
     }
@@ -68,6 +65,8 @@ impl<D: Device + Drop> Kernel<D> {
         ensures refused { (result ≡ Err Refusal.NoRoom → ⊥) → (result ≡ Err Refusal.Disk → ⊥) → OnErr result (self.new ≡ self.old) }
         ensures device { ReadsFile D.medium (result ≡ Err Refusal.Disk) self.old self.new }
     {
+        // what a stop leaves before it
+        self.vm.is_sure();
         if is_group(&self.vm, h) {
             return Err(Refusal::Reserved);
         }
@@ -195,7 +194,10 @@ impl<D: Device + Drop> Kernel<D> {
         ensures calls { Calls (D.medium.honest self.old.device) (table.commit (keeper_of how)) result self.old.core self.new.core }
         ensures commits { Commits D.medium how self.old self.new result }
     {
+        // what `open` finds is what the model has as kept, before it and after it
+        self.vm.is_sure();
         let done = self.vm.commit(&mut self.blocks, how);
+        self.vm.is_sure();
         of_commit(done)
     }
 }

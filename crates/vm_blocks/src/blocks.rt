@@ -95,6 +95,8 @@ impl<D: Device + Drop> VmBlocks<D> {
         // That is what the model has as kept.
         ensures kept { (s : Store) (m : Memory) → IsMemoryOf D.medium self.now s m → D.medium.honest self.now.file.device
             → (c : List ℕ) → D.medium.may_leave self.now.file.device c → OpensAsKept m.file.kept c }
+        ensures found { (s : Store) (m : Memory) → IsMemoryOf D.medium self.now s m → D.medium.honest self.now.file.device
+            → (c : List ℕ) → Finds D.medium.image self.now.file c → OpensAsKept m.file.kept c }
     {
         self.file.is_sure()
     }

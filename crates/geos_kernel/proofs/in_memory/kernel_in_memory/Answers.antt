@@ -22,4 +22,4 @@ returns-in-Ok-new-clause-tied c =
 pub returns-in-Ok-new-clause-failures : goal.returns-in-Ok-new-clause-failures
 returns-in-Ok-new-clause-failures c =
     let device = ap (λ (f : FileState MemoryDevice). f.device) c.in-Ok-new.ensures.file in
-    c.see_device.ensures ∙ ap failures_of device ∙ c.in-Ok.ensures.cause ∙ c.in_ok-device.ensures.failures
+    c.memory_is_legal.ensures.sees ∙ ap failures_of device ∙ c.in-Ok.ensures.cause ∙ c.in_ok-device.ensures.failures

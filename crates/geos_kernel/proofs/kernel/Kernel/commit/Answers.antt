@@ -7,6 +7,7 @@ use Rattle.geos_kernel.specs.Files.{Commits}
 use Rattle.geos_kernel.specs.View.{kernel_of}
 use Rattle.geos_kernel.proofs.Listed.{calls-beside}
 use Rattle.geos_kernel.proofs.Seen.{calls-seen}
+use Rattle.geos_kernel.proofs.Stops.{finds-kept, stops-keeping}
 use Rattle.geos_kernel.proofs.VmCalls.{committed-lasts, committed-refused, committed-spares, spared-kernel}
 use Rattle.geos_kernel.proofs.kernel.Kernel.commit.Goals as goal
 
@@ -31,5 +32,13 @@ pub returns-clause-commits : goal.returns-clause-commits
 returns-clause-commits g c =
     let d = g.D.Device in let v = c.self.inside.vm in let s = c.self.inside.blocks in
     let w = c.commit-done.new.self in let t = c.commit-done.new.blocks in let r = c.commit-done.result in
+    let file = c.commit-done.ensures.commits.file in
     subst (λ k. Commits d.medium c.args.how k (kernel_of d.medium w t) c.of_commit.result) c.self.view_is
-    (record { answer = r; same = c.of_commit.ensures; file = c.commit-done.ensures.commits.file; store = c.commit-done.ensures.commits.store; refused = committed-refused v w d.medium s t r c.commit-done.ensures.commits.refused })
+    (record {
+      answer = r;
+      same = c.of_commit.ensures;
+      file = file;
+      store = c.commit-done.ensures.commits.store;
+      stops = stops-keeping d.medium (kernel_of d.medium v s) (kernel_of d.medium w t) file.either file.stays file.was (finds-kept d.medium v s c.is_sure.ensures.found) (finds-kept d.medium w t c.is_sure-2.ensures.found);
+      refused = committed-refused v w d.medium s t r c.commit-done.ensures.commits.refused;
+    })

@@ -6,6 +6,7 @@ use Rattle.db_items.specs.Items.{refers_to}
 use Rattle.geos_kernel.specs.View.{kernel_of}
 use Rattle.geos_kernel.proofs.ItemLocks.{LocksPart, part-locked, part-refused}
 use Rattle.geos_kernel.proofs.Listed.{keeps-mem}
+use Rattle.geos_kernel.proofs.Stops.{leaves-kept}
 use Rattle.geos_kernel.proofs.There.{no_group-same}
 use Rattle.geos_kernel.proofs.VmCalls.{spared-kernel}
 use Rattle.geos_kernel.proofs.kernel.Kernel.ilock.Given as given
@@ -21,12 +22,13 @@ locked : (g : given.Over) (c : Joined-item_lock_part g) → LocksPart g.D.Device
     (kernel_of g.D.Device.medium c.item_lock_part.new.vm c.item_lock_part.new.blocks)
 locked g c =
     let d = g.D.Device in let v = c.self.inside.vm in let s = c.self.inside.blocks in let x = c.item_lock_part.new.vm in let t = c.item_lock_part.new.blocks in
+    let known = leaves-kept d.medium v s c.is_sure.ensures.kept in
     elim c.match-item_lock_part.branch [
       | in-Ok w ↦ (
           let place = w.place.ensures.place ∙ ap (λ name. place_of t (slot_of name)) w.vm.ensures in
-          rw (w.result-is, place) (part-locked d.medium v x s t c.args.self.now c.self.view_is c.self.invariant c.args.g c.args.i c.args.n w.in-Ok.at w.in-Ok.len w.in-Ok.ensures)
+          rw (w.result-is, place) (part-locked d.medium v x s t c.args.self.now c.self.view_is c.self.invariant known c.args.g c.args.i c.args.n w.in-Ok.at w.in-Ok.len w.in-Ok.ensures)
           )
-      | in-Err w ↦ rw w.result-is (part-refused d.medium v x s t c.args.self.now c.self.view_is c.self.invariant c.args.g c.args.i c.args.n w.in-Err.refusal w.in-Err.ensures)
+      | in-Err w ↦ rw w.result-is (part-refused d.medium v x s t c.args.self.now c.self.view_is c.self.invariant known c.args.g c.args.i c.args.n w.in-Err.refusal w.in-Err.ensures)
     ]
 
 pub returns-clause-gives : goal.returns-clause-gives

@@ -4,6 +4,7 @@ use Rattle.geos_table.specs.ChunkCalls.{change_edit, change_row}
 use Rattle.geos_table.specs.ItemCalls.{on_group}
 use Rattle.geos_kernel.proofs.ItemLocks.{item-called}
 use Rattle.geos_kernel.proofs.Listed.{keeps-mem}
+use Rattle.geos_kernel.proofs.Stops.{leaves-kept}
 use Rattle.geos_kernel.proofs.VmCalls.{spared-kernel}
 use Rattle.geos_kernel.proofs.kernel.Kernel.item_change.Goals as goal
 
@@ -16,5 +17,6 @@ invariant_of-self g c =
 pub returns : goal.returns
 returns g c =
     let d = g.D.Device in let done = c.item_change in
-    item-called d.medium c.self.inside.vm done.new.vm c.self.inside.blocks done.new.blocks c.args.self.now c.self.view_is c.self.invariant c.args.g
+    item-called d.medium c.self.inside.vm done.new.vm c.self.inside.blocks done.new.blocks c.args.self.now c.self.view_is c.self.invariant
+    (leaves-kept d.medium c.self.inside.vm c.self.inside.blocks c.is_sure.ensures.kept) c.args.g
     (on_group c.args.g (change_row (vm c.args.g) c.args.change)) (change_edit c.args.change) done.result done.ensures (λ choice f. refl)

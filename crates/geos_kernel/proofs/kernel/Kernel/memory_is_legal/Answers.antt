@@ -9,9 +9,11 @@ use Rattle.geos_table.specs.Memory.{locks_of}
 use Rattle.geos_table.specs.Legal.{IsMemory}
 use Rattle.geos_table.specs.VmFile.{VmFile}
 use Rattle.vm_blocks.specs.Listed.{NoneLocked}
+use Rattle.geos_kernel.specs.Files.{LeavesKept}
 use Rattle.geos_kernel.specs.View.{IsFileOf, core_of, memory_of}
 use Rattle.geos_kernel.proofs.Lawful.{memory-legal}
 use Rattle.geos_kernel.proofs.Seen.{file-seen, memory-known}
+use Rattle.geos_kernel.proofs.Stops.{leaves-kept}
 use Rattle.geos_kernel.proofs.Told.{none-known}
 use Rattle.geos_kernel.proofs.kernel.Kernel.memory_is_legal.Goals as goal
 
@@ -42,3 +44,6 @@ returns-clause-heaps g c =
     let K = c.self.invariant in
     subst (λ k. (name : Name) → IsThere k.core.blocks (slot_of name) → IsHeapUnder name.h (bytes_of k.core.blocks (slot_of name))) c.self.view_is
     (λ name there. (K.heaps name there, K.handles name there))
+
+pub returns-clause-kept : goal.returns-clause-kept
+returns-clause-kept g c = subst (λ k. LeavesKept g.D.Device.medium k) c.self.view_is (leaves-kept g.D.Device.medium c.self.inside.vm c.self.inside.blocks c.is_sure.ensures.kept)

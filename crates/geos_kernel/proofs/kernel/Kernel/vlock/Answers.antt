@@ -9,6 +9,7 @@ use Rattle.db_items.specs.Groups.{IsGroup}
 use Rattle.geos_kernel.proofs.Listed.{calls-beside}
 use Rattle.geos_kernel.proofs.ListedRows.{lock-group-row, lock-row}
 use Rattle.geos_kernel.proofs.Seen.{calls-seen}
+use Rattle.geos_kernel.proofs.Stops.{leaves-kept, reads-nothing}
 use Rattle.geos_kernel.proofs.There.{lock-device, lock-in_memory, lock-more, lock-no_room, lock-refused}
 use Rattle.geos_kernel.proofs.VmCalls.{lock-lasts, lock-spares, spared-kernel, told-calls}
 use Rattle.geos_kernel.proofs.kernel.Kernel.vlock.Goals as goal
@@ -17,6 +18,9 @@ pub returns-then-is_group-clause-calls : goal.returns-then-is_group-clause-calls
 returns-then-is_group-clause-calls g c =
     let d = g.D.Device in let v = c.self.inside.vm in let s = c.self.inside.blocks in
     told-calls d.medium v s c.args.self.now c.self.view_is (lock-group-row d.medium v s c.self.invariant.tied c.args.h (c.if-is_group.ensures.0 refl))
+
+pub returns-then-is_group-clause-device : goal.returns-then-is_group-clause-device
+returns-then-is_group-clause-device g c = reads-nothing g.D.Device.medium _ _ (λ e. absurd cc)
 
 pub invariant_of-self : goal.invariant_of-self
 invariant_of-self g c =
@@ -64,4 +68,4 @@ pub returns-clause-device : goal.returns-clause-device
 returns-clause-device g c =
     let d = g.D.Device in let v = c.self.inside.vm in let s = c.self.inside.blocks in
     let done = c.vlock-locked in let w = done.new.self in let t = done.new.blocks in let h = c.args.h in let b = done.ensures.brings in
-    rw c.of_lock.ensures (lock-device d.medium v w s t c.args.self.now c.self.view_is h (t ≡ with_lock_more s (vm_slot h)) done.result b.same b.device)
+    rw c.of_lock.ensures (lock-device d.medium v w s t c.args.self.now c.self.view_is h (t ≡ with_lock_more s (vm_slot h)) done.result (leaves-kept d.medium v s c.is_sure.ensures.kept) b.same b.device)

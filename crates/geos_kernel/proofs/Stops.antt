@@ -1,0 +1,58 @@
+-- What a stop leaves at any moment of a call.
+use Rattle.std.proofs.Common.{◌≡◌, ℕ, List, refl, subst, inl, inr, ⊎_elim}
+use Rattle.std.specs.Prelude.{◌⊎◌}
+use Rattle.geos_table.specs.Memory.{Memory}
+use Rattle.geos_table.specs.VmFile.{VmFile}
+use Rattle.block_handles.specs.Store.{Store}
+use Rattle.vm_file.specs.Committing.{FindsEither}
+use Rattle.vm_file.specs.Device.{Medium, Passes}
+use Rattle.vm_file.specs.Outcomes.{ReadsOnly}
+use Rattle.vm_file.specs.State.{Finds}
+use Rattle.vm_file.proofs.Moments.{reads_none, weaker}
+use Rattle.vm_blocks.specs.FileOf.{IsMemoryOf}
+use Rattle.vm_blocks.specs.Found.{OpensAsKept}
+use Rattle.vm_blocks.specs.View.{VmState}
+use Rattle.geos_kernel.specs.Files.{LeavesKept, ReadsFile, Stops, vm_file_of}
+use Rattle.geos_kernel.specs.View.{IsFileOf, KernelOn, core_of, kernel_of, memory_of}
+use Rattle.geos_kernel.proofs.Seen.{file-on, memory-known}
+
+-- what `open` finds of what the file keeps is what the model has as kept
+abbrev pub FindsKept : {D : Type 0} → Medium D → KernelOn D → Type 0
+FindsKept medium k = (f : VmFile) → IsFileOf (medium.honest k.device) k.core f → medium.honest k.device → (c : List ℕ) → Finds medium.image (vm_file_of k) c → OpensAsKept f.kept c
+
+module _ {D : Type 0} (medium : Medium D) (v : VmState D) (s : Store) where
+  -- so it is where it is so of blocks of a file
+  pub leaves-kept : ((s : Store) (m : Memory) → IsMemoryOf medium v s m → medium.honest v.file.device → (c : List ℕ) → medium.may_leave v.file.device c → OpensAsKept m.file.kept c)
+      → LeavesKept medium (kernel_of medium v s)
+  leaves-kept kept f is good c left = kept s (memory_of (core_of medium v s) f) (memory-known medium v s f is) good c left
+
+  pub finds-kept : ((s : Store) (m : Memory) → IsMemoryOf medium v s m → medium.honest v.file.device → (c : List ℕ) → Finds medium.image v.file c → OpensAsKept m.file.kept c)
+      → FindsKept medium (kernel_of medium v s)
+  finds-kept found f is good c finds = found s (memory_of (core_of medium v s) f) (memory-known medium v s f is) good c finds
+
+module _ {D : Type 0} (medium : Medium D) (old new : KernelOn D) where
+  -- a call that asks the device nothing
+  pub stops-still : new.device ≡ old.device → Stops medium old new
+  stops-still same good f g is now s c left = inl (subst (λ d. medium.may_have_left s d c) same left)
+
+  -- one that reads it at most
+  pub stops-reading : ReadsOnly medium old.device new.device → LeavesKept medium old → Stops medium old new
+  stops-reading reads known good f g is now = weaker medium.may_have_left old.device new.device _ _ (λ c left. inl (known f is good c left)) (reads.time good)
+
+  -- one that commits
+  pub stops-keeping : (medium.honest old.device → Passes medium.may_have_left old.device new.device (FindsEither medium.image (vm_file_of old) (vm_file_of new)))
+      → (medium.honest old.device → medium.honest new.device) → (medium.honest new.device → medium.honest old.device) → FindsKept medium old → FindsKept medium new → Stops medium old new
+  stops-keeping either stays was before after good f g is now =
+      weaker medium.may_have_left old.device new.device _ _
+      (λ c found. ⊎_elim (λ old_one. inl (before f is good c old_one)) (λ new_one. inr (after g (file-on (medium.honest old.device) (medium.honest new.device) was new.core g now) (stays good) c new_one)) found)
+      (either good)
+
+-- nothing was read
+pub reads-nothing : {D : Type 0} (medium : Medium D) (fails : Type 0) (k : KernelOn D) → (fails → ⊥) → ReadsFile medium fails k k
+reads-nothing medium fails k never = record {
+  reads = reads_none medium k.device;
+  file = refl;
+  cause = λ good failed. absurd (never failed);
+  counted = λ other. refl;
+  stops = stops-still medium k k refl;
+}
