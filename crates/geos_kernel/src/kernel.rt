@@ -205,7 +205,8 @@ impl<D: Device + Drop> Kernel<D> {
     /// `BadChunk`, `BadArray`, `BadElement` and `Range` as the named calls say; `TooBig` where the
     /// block would need more than 65,520 bytes, `NoRoom` where it must grow and no stretch of the
     /// region has room for it, though no other block is left that could be discarded. Spans into the
-    /// block are stale after it, also where it is refused.
+    /// block are stale after it, also where it is refused. After `Lcontract` its free bytes are in one
+    /// piece, at its end.
     #[inline(always)]
     pub fn change(&mut self, name: Name, change: Change) -> Result<(), Refusal>
         requires locked { IsLocked self.old.core name }
@@ -215,6 +216,7 @@ impl<D: Device + Drop> Kernel<D> {
         ensures refused { StaysIfRefused result self.old.core.blocks self.new.core.blocks }
         ensures vm { LeavesVm self.old self.new }
         ensures remain { may_grow change ≡ false → Remain self.old.core.blocks self.new.core.blocks 0 }
+        ensures compact { change ≡ Change.Lcontract → IsCompact (bytes_of self.new.core.blocks (slot_of name)) }
     {
         heap_calls::change(&self.vm, &mut self.blocks, name, change)
     }

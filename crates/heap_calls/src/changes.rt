@@ -30,7 +30,8 @@ use vm_file::Device;
 /// none is left that could be discarded. A refusal leaves every block that is not discarded as it
 /// was.
 ///
-/// A block of the file is not marked by it: that is to be done before, or at once behind it.
+/// A block of the file is not marked by it: that is to be done before, or at once behind it. After
+/// `Lcontract` the free bytes of the block are in one piece, at its end.
 // Made in place, as the calls of it in the kernel and the machine are, so that the caller's choice of the change is known here.
 #[inline(always)]
 pub fn change<D: Device + Drop>(
@@ -43,6 +44,7 @@ pub fn change<D: Device + Drop>(
     ensures carries { Carries (may_grow change) vm.now (change_edit change) blocks.old blocks.new name result }
     // Its row of the table of calls, in each memory that the model may have before it; and what it leaves of all else.
     ensures calls { CallsChunks D.medium (change_row name change) name result vm.now blocks.old blocks.new }
+    ensures compact { change ≡ Change.Lcontract → IsCompact (bytes_of blocks.new (slot_of name)) }
 {
     let done = match try_change(blocks, name, change) {
         Ok(()) => Ok(()),
@@ -98,6 +100,7 @@ fn try_change(blocks: &mut Blocks, name: Name, change: Change) -> Result<(), Obs
     requires { HoldsHeap blocks.old name }
     ensures tries { Tries (change_edit change) blocks.old blocks.new name result }
     ensures own { IsOwn (may_grow change) result }
+    ensures compact { change ≡ Change.Lcontract → IsCompact (bytes_of blocks.new (slot_of name)) }
 {
     match change {
         Change::Lfree { c } => lmem_heap::free(blocks.bytes_mut(name), c)

@@ -1,4 +1,4 @@
-use Rattle.std.proofs.Common.{subst}
+use Rattle.std.proofs.Common.{◌≡◌, ◌∙◌, true, false, ap, sym, subst}
 use Rattle.std.specs.Prelude.{Err}
 use Rattle.block_handles.specs.Names.{slot_of}
 use Rattle.geos_table.specs.ChunkCalls.{change_edit, may_grow}
@@ -40,3 +40,13 @@ returns-clause-calls g c =
       tied = λ marked. named-tied d.medium v old new name q.tied q.heap.there keeps marked;
       row = carries-row d.medium v edit old new name q.tied q.heap (may_grow c.args.change) done carries (where_ok done (values-of new (slot_of name) c.region.result.now c.region.ensures.region c.region.ensures.bytes));
     }
+
+pub returns-clause-compact : goal.returns-clause-compact
+returns-clause-compact g c =
+    elim c.match-try_change.branch [
+      | in-Ok w ↦ rw w.blocks-is w.in-Ok.ensures.compact
+      | in-Err-Refused w ↦ rw w.blocks-is w.in-Err-Refused.ensures.compact
+      | in-Err-Room w ↦ (let i = w.in-Err-Room in
+          let may = own-grows (may_grow c.args.change) i.room (subst (λ o. IsOwn (may_grow c.args.change) (Err o)) i.field-0-is i.ensures.own) in
+          λ is. absurd (let no : false ≡ true = ap may_grow (sym is) ∙ may in cc))
+    ]
