@@ -4,6 +4,7 @@ ghost use Rattle.std.specs.Prelude.{◌≡◌, ◌↔◌, true};
 ghost use Rattle.geos_image.specs.Fields.{FieldsFit};
 ghost use Rattle.geos_semantics.specs.State.{with_word};
 ghost use Rattle.geos_semantics.specs.Model.{nowhere};
+ghost use Rattle.geos_kernel.specs.Files.{Stops};
 ghost use Rattle.geos_kernel.specs.Kernel.{LeavesVm};
 ghost use Rattle.geos_machine.specs.Machine.{AnswersTo, changes_file, changes_item, IsInstr, marks_block, Ready, tells_of_file, unlocks_block, Works};
 
@@ -27,6 +28,7 @@ pub(crate) fn vnew<D: Device + Drop>(
     requires ready { Ready (D.medium.honest kernel.old.device) i.now kernel.old.core m.old }
     ensures works { Works (D.medium.honest kernel.old.device) i.now kernel.old.core m.old kernel.new.core m.new result }
     ensures honest { D.medium.honest kernel.new.device ↔ D.medium.honest kernel.old.device }
+    ensures stops { Stops D.medium kernel.old kernel.new }
 {
     match kernel.vnew(m.words[i.c as usize]) {
         Ok(h) => {
@@ -50,6 +52,7 @@ pub(crate) fn vlock<D: Device + Drop>(
     requires ready { Ready (D.medium.honest kernel.old.device) i.now kernel.old.core m.old }
     ensures works { Works (D.medium.honest kernel.old.device) i.now kernel.old.core m.old kernel.new.core m.new result }
     ensures honest { D.medium.honest kernel.new.device ↔ D.medium.honest kernel.old.device }
+    ensures stops { Stops D.medium kernel.old kernel.new }
 {
     let h = m.words[i.b as usize];
     match kernel.vlock(h) {
@@ -73,6 +76,7 @@ pub(crate) fn ilock<D: Device + Drop>(
     requires ready { Ready (D.medium.honest kernel.old.device) i.now kernel.old.core m.old }
     ensures works { Works (D.medium.honest kernel.old.device) i.now kernel.old.core m.old kernel.new.core m.new result }
     ensures honest { D.medium.honest kernel.new.device ↔ D.medium.honest kernel.old.device }
+    ensures stops { Stops D.medium kernel.old kernel.new }
 {
     let g = m.words[i.c as usize];
     match kernel.ilock(g, m.words[i.d as usize], i.imm) {
@@ -118,6 +122,7 @@ pub(crate) fn mark<D: Device + Drop>(
     requires ready { Ready (D.medium.honest kernel.old.device) i.now kernel.old.core m.now }
     ensures works { Works (D.medium.honest kernel.old.device) i.now kernel.old.core m.now kernel.new.core m.now result }
     ensures honest { D.medium.honest kernel.new.device ↔ D.medium.honest kernel.old.device }
+    ensures stops { Stops D.medium kernel.old kernel.new }
 {
     kernel.vdirty(m.slots[a]);
     Goes::Along
@@ -136,6 +141,7 @@ fn carry_out<D: Device + Drop>(
     requires ready { Ready (D.medium.honest kernel.old.device) i.now kernel.old.core m.now }
     ensures answers { AnswersTo (D.medium.honest kernel.old.device) i.now kernel.old.core m.now kernel.new.core nowhere result }
     ensures honest { D.medium.honest kernel.new.device ↔ D.medium.honest kernel.old.device }
+    ensures stops { Stops D.medium kernel.old kernel.new }
 {
     // that no block of the file is locked where the model has none locked
     kernel.memory_is_legal();
@@ -163,6 +169,7 @@ fn change_item<D: Device + Drop>(
     requires changes { changes_item i.now.opcode ≡ true }
     ensures answers { AnswersTo (D.medium.honest kernel.old.device) i.now kernel.old.core m.now kernel.new.core nowhere result }
     ensures honest { D.medium.honest kernel.new.device ↔ D.medium.honest kernel.old.device }
+    ensures stops { Stops D.medium kernel.old kernel.new }
 {
     let change = change_at(m, i);
     kernel.item_change(m.words[a], change)
@@ -182,6 +189,7 @@ pub(crate) fn settle<D: Device + Drop>(
     requires ready { Ready (D.medium.honest kernel.old.device) i.now kernel.old.core m.old }
     ensures works { Works (D.medium.honest kernel.old.device) i.now kernel.old.core m.old kernel.new.core m.new result }
     ensures honest { D.medium.honest kernel.new.device ↔ D.medium.honest kernel.old.device }
+    ensures stops { Stops D.medium kernel.old kernel.new }
 {
     match carry_out(m, kernel, i, a) {
         Ok(()) => Goes::Along,
@@ -195,6 +203,7 @@ fn told<D: Device + Drop>(m: &Machine, kernel: &mut Kernel<D>, i: &Instr) -> Res
     requires tells { tells_of_file i.now.opcode ≡ true }
     ensures answers { AnswersTo (D.medium.honest kernel.old.device) i.now kernel.old.core m.now kernel.new.core (with_word i.now.a) result }
     ensures honest { D.medium.honest kernel.new.device ↔ D.medium.honest kernel.old.device }
+    ensures stops { Stops D.medium kernel.old kernel.new }
 {
     match i.opcode {
         Opcode::Vfind => kernel.vfind(m.words[i.b as usize], m.words[i.c as usize]),
@@ -224,6 +233,7 @@ pub(crate) fn tell<D: Device + Drop>(
     requires tells { tells_of_file i.now.opcode ≡ true }
     ensures works { Works (D.medium.honest kernel.old.device) i.now kernel.old.core m.old kernel.new.core m.new result }
     ensures honest { D.medium.honest kernel.new.device ↔ D.medium.honest kernel.old.device }
+    ensures stops { Stops D.medium kernel.old kernel.new }
 {
     match told(m, kernel, i) {
         Ok(n) => {

@@ -16,3 +16,6 @@ returns-clause-answers g c =
       does = c.change_at-change.ensures.items c.requires.changes;
       answers = rw c.requires.a at c.item_change.ensures.calls;
     }
+
+pub returns-clause-stops : goal.returns-clause-stops
+returns-clause-stops g c = c.item_change.ensures.device.stops

@@ -6,6 +6,7 @@ use Rattle.geos_table.specs.Memory.{is_group}
 use Rattle.geos_table.specs.VmCalls as table
 use Rattle.geos_table.specs.ItemCalls as items
 use Rattle.geos_machine.proofs.OfFile.{group-plain}
+use Rattle.geos_kernel.proofs.Stops.{stops-still}
 use Rattle.geos_machine.proofs.files.told.Goals as goal
 
 pub returns-in-Vfind-clause-answers : goal.returns-in-Vfind-clause-answers
@@ -27,3 +28,18 @@ returns-in-Inew-clause-answers g c = record {
   does = λ image choice kernel beside pc. rw c.in-Inew.is refl;
   answers = c.item_make.ensures.calls;
 }
+
+pub returns-in-Vfind-clause-stops : goal.returns-in-Vfind-clause-stops
+returns-in-Vfind-clause-stops g c = stops-still g.D.Device.medium c.args.kernel.now c.args.kernel.now refl
+
+pub returns-in-Vuid-clause-stops : goal.returns-in-Vuid-clause-stops
+returns-in-Vuid-clause-stops g c = stops-still g.D.Device.medium c.args.kernel.now c.args.kernel.now refl
+
+pub returns-in-Vgetmap-clause-stops : goal.returns-in-Vgetmap-clause-stops
+returns-in-Vgetmap-clause-stops g c = stops-still g.D.Device.medium c.args.kernel.now c.args.kernel.now refl
+
+pub returns-in-Gnew-clause-stops : goal.returns-in-Gnew-clause-stops
+returns-in-Gnew-clause-stops g c = stops-still g.D.Device.medium c.args.kernel.now c.gnew.new.self c.gnew.ensures.device.device
+
+pub returns-in-Inew-clause-stops : goal.returns-in-Inew-clause-stops
+returns-in-Inew-clause-stops g c = c.item_make.ensures.device.stops

@@ -18,3 +18,9 @@ returns-in-Err-clause-works g c =
     let honest : Type 0 = g.D.Device.medium.honest c.args.kernel.now.device in
     rw c.refuse.ensures.goes (call-refused honest i c.args.kernel.now.core c.vlock.new.self.core c.args.m.now _ (vlock (get_or c.args.m.now.words i.b 0)) (λ done t. holding VmBlock i.a (get_or c.args.m.now.words i.b 0) t) (λ choice memory. tt) (λ image choice beside pc. rw c.requires.instr.is refl)
     c.in-Err.refusal c.in-Err.ensures.calls c.refuse.ensures.registers)
+
+pub returns-in-Ok-clause-stops : goal.returns-in-Ok-clause-stops
+returns-in-Ok-clause-stops g c = c.vlock.ensures.device.stops
+
+pub returns-in-Err-clause-stops : goal.returns-in-Err-clause-stops
+returns-in-Err-clause-stops g c = c.vlock.ensures.device.stops
