@@ -1,120 +1,243 @@
 -- Commands that were carried out one after another, or stopped, from kernel to kernel.
-use Rattle.std.proofs.Common.{◌≡◌, ◌<◌, ◌≤◌, ◌+◌, ℕ, suc, List, [], ◌∷◌, ◌++◌, length, take, drop, get_or, refl, sym, ap, ◌∙◌, subst, take-append-drop, drop-cons, inl}
+use Rattle.std.proofs.Common.{◌≡◌, ◌<◌, ◌≤◌, ◌+◌, ℕ, suc, List, [], ◌∷◌, ◌++◌, length, take, drop, get_or, refl, sym, ap, ◌∙◌, subst, take-append-drop, drop-cons, inl, inr, ⊎_elim}
 use Rattle.std.specs.Prelude.{◌↔◌, Option, Result, Ok, Err, IfOk, IfErr}
 use Rattle.std.specs.Str.Lines.{lines}
 use Rattle.std.specs.Io.KnownBytes.{Appends}
 use Rattle.std.proofs.KnownBytes.{Appends-nil, Appends-trans}
 use Rattle.std.proofs.lemmas.List.{take_more, take_all}
 use Rattle.geos_model.specs.declared.refusal.Refusal.{Refusal}
-use Rattle.geos_table.specs.VmFile.{VmFile}
+use Rattle.geos_table.specs.VmFile.{Kept, VmFile}
 use Rattle.geos_table.specs.VmCalls.{commit}
 use Rattle.geos_table.specs.Effects.{Choice}
 use Rattle.vm_file.specs.declared.commit.How.{How}
+use Rattle.vm_file.specs.Device.{Medium}
+use Rattle.vm_file.proofs.Moments.{goes_on, weaker}
 use Rattle.vm_blocks.specs.ListedCalls.{keeper_of}
-use Rattle.geos_kernel.specs.View.{KernelState, memory_of, IsFileOf}
+use Rattle.geos_kernel.specs.View.{KernelState, failed_in, memory_of, IsFileOf}
 use Rattle.geos_kernel.specs.Kernel.{Calls, IsChosen}
 use Rattle.geos_image.specs.Parts.{Parts}
 use Rattle.geos_machine.specs.declared.outcome.Outcome.{Outcome}
-use Rattle.geos_machine.specs.Runs.{RanWith}
-use Rattle.geos_kernel.proofs.Chosen.{chosen-before, chosen-after, lasts-on}
+use Rattle.geos_machine.specs.Runs.{begin, kept_along, OpensAsOneOf, RanWith, Throughout, Within}
+use Rattle.geos_kernel.proofs.Chosen.{lasts-on}
 use Rattle.geos_kernel.proofs.Seen.{file-on}
 use Rattle.geos_cli.specs.declared.script.Call.{Call}
 use Rattle.geos_cli.specs.declared.script.Command.{Command}
 use Rattle.geos_cli.specs.declared.script.Command.TheVariants as command
 use Rattle.geos_input.specs.Counted.{AppendsPart}
-use Rattle.geos_cli.specs.Script.{printed, committed, commands_of, Does, Prints, PrintsPart, Leads, RanCommand, StoppedCommand, RanCommands, StoppedCommands, Loads, RanScript, StoppedScript}
+use Rattle.geos_cli.specs.Script.{printed, committed, commands_of, Does, Prints, PrintsPart, From, IsAllowed, Leads, Loads, RanCommand, RanCommands, RanScript, RunsScript, StoppedCommand, StoppedCommands, StoppedScript, StopsScript, stage_of}
 use Rattle.geos_text.specs.Words.{most_bytes}
-use Rattle.geos_cli.proofs.Prints.{prints-more, does-wider, prints-wider}
+use Rattle.geos_cli.proofs.Prints.{does-wider, prints-more, ran-wider}
+
+-- what holds over two stretches of time holds over both
+abbrev pub Joins : Type 0 → Within → Within → Within → Type 1
+Joins honest within next whole = honest → (P Q R : List ℕ → Type 0) → ((c : List ℕ) → P c → R c) → ((c : List ℕ) → Q c → R c) → within P → next Q → whole R
+
+-- so it is of what stops leave
+pub throughout-then : {D : Type 0} {honest : Type 0} (medium : Medium D) (old mid new : D)
+    → Joins honest (Throughout medium old mid) (Throughout medium mid new) (Throughout medium old new)
+throughout-then medium old mid new h P Q R first second (passes, whole) (more, rest) = (
+  goes_on medium.may_have_left old mid new R (weaker medium.may_have_left old mid P R first passes) (weaker medium.may_have_left mid new Q R second more),
+  λ c l. ⊎_elim (λ past. first c (whole c past)) (λ now. second c now) (more old c l),
+)
 
 -- One command
 
-module _ (honest : Type 0) (image : Parts) (kernel later : KernelState) (a b : Option (List ℕ)) where
-  -- a call was run, and printed
-  pub call-ran : (call : Call) (outcome : Outcome) → ((f : VmFile) → IsFileOf honest kernel f → RanWith honest image call.routine call.words kernel later outcome f) → Appends a b (printed outcome.output.items)
-      → RanCommand honest image (command.Call call) kernel later a b
-  call-ran call outcome ran shown = (printed outcome.output.items, λ f tied. (let r = ran f tied in (r.file, r.tied, r.lasts, (outcome, r.ran, refl))), shown)
+-- the machine ran a call from the one kernel to the other
+abbrev RunsCall : Type 0 → Within → Parts → Call → Outcome → KernelState → KernelState → Type 0
+RunsCall honest within image call outcome kernel later =
+    (f : VmFile) → IsFileOf honest kernel f → RanWith honest within image call.routine call.words kernel later outcome f
 
-  -- the writer failed while it was printed
-  pub call-stopped : (call : Call) (outcome : Outcome) → ((f : VmFile) → IsFileOf honest kernel f → RanWith honest image call.routine call.words kernel later outcome f) → AppendsPart a b (printed outcome.output.items)
-      → StoppedCommand honest image (command.Call call) kernel later a b
-  call-stopped call outcome ran (part, rest, e, some, q) = (part, rest, some, λ f tied. (let r = ran f tied in (r.file, r.tied, r.lasts, (outcome, r.ran, sym e))), q)
+-- a stop in between leaves what the model has as kept beside the one, or beside the other
+abbrev StopsBetween : Type 0 → Within → KernelState → KernelState → Type 0
+StopsBetween honest within kernel later =
+    (f g : VmFile) → IsFileOf honest kernel f → IsFileOf honest later g → honest → within (OpensAsOneOf (f.kept ∷ g.kept ∷ []))
 
-  -- a commit was done or refused, and that was printed
-  pub commit-ran : (how : How) (result : Result (Unit {0}) Refusal) → Calls honest (commit (keeper_of how)) result kernel later → Appends a b (committed result) → RanCommand honest image (command.Commit how) kernel later a b
-  commit-ran how result calls shown = (committed result, λ f tied. (let c = calls.answers f tied in (c.file, c.tied, c.lasts, (c.choice, c.chosen, result, c.comes, refl))), shown)
+-- what came from outside between two kernels is allowed while the count of failures goes from the one to the other
+allowed-between : (honest : Type 0) (kernel later : KernelState) (choice : Choice) → IsChosen honest kernel later choice
+    → IsAllowed honest (failed_in kernel) (failed_in later) choice
+allowed-between honest kernel later choice chosen = record { given = chosen.given; device = chosen.device }
 
-  -- the writer failed then
-  pub commit-stopped : (how : How) (result : Result (Unit {0}) Refusal) → Calls honest (commit (keeper_of how)) result kernel later → AppendsPart a b (committed result) → StoppedCommand honest image (command.Commit how) kernel later a b
-  commit-stopped how result calls (part, rest, e, some, q) = (part, rest, some, λ f tied. (let c = calls.answers f tied in (c.file, c.tied, c.lasts, (c.choice, c.chosen, result, c.comes, sym e))), q)
+module _ (honest : Type 0) (within : Within) (image : Parts) (kernel later : KernelState) where
+  -- a call was run
+  call-leads : (call : Call) (outcome : Outcome) (text : List ℕ) → text ≡ printed outcome.output.items
+      → RunsCall honest within image call outcome kernel later
+      → Leads honest within kernel later (λ before after keeps. Does (IsAllowed honest) image (command.Call call) before after text keeps)
+  unfolding ran-wider
+  call-leads call outcome text is ran f tied =
+      let r = ran f tied in
+      let wide =
+      ran-wider (IsChosen honest kernel later) (IsAllowed honest (failed_in kernel) (failed_in later)) (allowed-between honest kernel later)
+      image call.routine call.words (memory_of kernel f) (memory_of later r.file) outcome r.ran in
+      record {
+        file = r.file;
+        tied = r.tied;
+        lasts = r.lasts;
+        keeps = kept_along image r.ran.choices (begin image call.routine call.words (memory_of kernel f));
+        does = (outcome, wide, is, refl);
+        stops = r.stops;
+      }
+
+  -- a commit was done or refused
+  commit-leads : StopsBetween honest within kernel later → (how : How) (result : Result (Unit {0}) Refusal) (text : List ℕ) → text ≡ committed result
+      → Calls honest (commit (keeper_of how)) result kernel later
+      → Leads honest within kernel later (λ before after keeps. Does (IsAllowed honest) image (command.Commit how) before after text keeps)
+  commit-leads stops how result text is calls f tied =
+      let c = calls.answers f tied in
+      record {
+        file = c.file;
+        tied = c.tied;
+        lasts = c.lasts;
+        keeps = f.kept ∷ c.file.kept ∷ [];
+        does = (c.choice, allowed-between honest kernel later c.choice c.chosen, result, c.comes, is, refl);
+        stops = stops f c.file tied c.tied;
+      }
+
+  module _ (a b : Option (List ℕ)) where
+    -- a call was run, and printed
+    pub call-ran : (call : Call) (outcome : Outcome) → RunsCall honest within image call outcome kernel later → Appends a b (printed outcome.output.items)
+        → RanCommand honest within image (command.Call call) kernel later a b
+    call-ran call outcome ran shown = (printed outcome.output.items, call-leads call outcome (printed outcome.output.items) refl ran, shown)
+
+    -- the writer failed while it was printed
+    pub call-stopped : (call : Call) (outcome : Outcome) → RunsCall honest within image call outcome kernel later → AppendsPart a b (printed outcome.output.items)
+        → StoppedCommand honest within image (command.Call call) kernel later a b
+    call-stopped call outcome ran (part, rest, e, some, q) = (part, rest, some, call-leads call outcome (part ++ rest) (sym e) ran, q)
+
+    -- a commit was done or refused, and that was printed
+    pub commit-ran : StopsBetween honest within kernel later → (how : How) (result : Result (Unit {0}) Refusal)
+        → Calls honest (commit (keeper_of how)) result kernel later → Appends a b (committed result)
+        → RanCommand honest within image (command.Commit how) kernel later a b
+    commit-ran stops how result calls shown = (committed result, commit-leads stops how result (committed result) refl calls, shown)
+
+    -- the writer failed then
+    pub commit-stopped : StopsBetween honest within kernel later → (how : How) (result : Result (Unit {0}) Refusal)
+        → Calls honest (commit (keeper_of how)) result kernel later → AppendsPart a b (committed result)
+        → StoppedCommand honest within image (command.Commit how) kernel later a b
+    commit-stopped stops how result calls (part, rest, e, some, q) = (part, rest, some, commit-leads stops how result (part ++ rest) (sym e) calls, q)
 
 -- the same where other words say that the device is honest
-module _ (other good : Type 0) (alike : other ↔ good) (image : Parts) (c : Command) (kernel later : KernelState) where
-  wider : (choice : Choice) → IsChosen other kernel later choice → IsChosen good kernel later choice
-  wider choice chosen = record { given = λ g. chosen.given (alike.1 g); device = λ g t. chosen.device (alike.1 g) t }
+module _ (other good : Type 0) (alike : other ↔ good) (within : Within) (image : Parts) (c : Command) (kernel later : KernelState) where
+  wider : (before now : ℕ) (choice : Choice) → IsAllowed other before now choice → IsAllowed good before now choice
+  wider before now choice allowed = record { given = λ g. allowed.given (alike.1 g); device = λ g t. allowed.device (alike.1 g) t }
 
-  leads-alike : (text : List ℕ) → Leads other kernel later (λ allowed before after. Does allowed image c before after text) → Leads good kernel later (λ allowed before after. Does allowed image c before after text)
+  leads-alike : (text : List ℕ) → Leads other within kernel later (λ before after keeps. Does (IsAllowed other) image c before after text keeps)
+      → Leads good within kernel later (λ before after keeps. Does (IsAllowed good) image c before after text keeps)
   leads-alike text leads f tied =
       let l = leads f (file-on good other alike.0 kernel f tied) in
-      (l.0, file-on other good alike.1 later l.0 l.1, (λ g. l.2 (alike.1 g)), does-wider (IsChosen other kernel later) (IsChosen good kernel later) wider image c (memory_of kernel f) (memory_of later l.0) text l.3)
+      record {
+        file = l.file;
+        tied = file-on other good alike.1 later l.file l.tied;
+        lasts = λ g. l.lasts (alike.1 g);
+        keeps = l.keeps;
+        does = does-wider (IsAllowed other) (IsAllowed good) wider image c (stage_of kernel f) (stage_of later l.file) text l.keeps l.does;
+        stops = λ g. l.stops (alike.1 g);
+      }
 
-  pub ran-alike : (a b : Option (List ℕ)) → RanCommand other image c kernel later a b → RanCommand good image c kernel later a b
+  pub ran-alike : (a b : Option (List ℕ)) → RanCommand other within image c kernel later a b → RanCommand good within image c kernel later a b
   ran-alike a b (text, leads, appends) = (text, leads-alike text leads, appends)
 
-  pub stopped-alike : (a b : Option (List ℕ)) → StoppedCommand other image c kernel later a b → StoppedCommand good image c kernel later a b
+  pub stopped-alike : (a b : Option (List ℕ)) → StoppedCommand other within image c kernel later a b → StoppedCommand good within image c kernel later a b
   stopped-alike a b (part, rest, some, leads, appends) = (part, rest, some, leads-alike (part ++ rest) leads, appends)
 
 -- All of them
 
 -- before the first command
-pub ran-none : (honest : Type 0) (image : Parts) (kernel : KernelState) (a : Option (List ℕ)) → RanCommands honest image [] kernel kernel a a
-ran-none honest image kernel a = ([], λ f tied. (f, tied, (λ g. inl refl), (refl, refl)), Appends-nil a)
+pub ran-none : (honest : Type 0) (within : Within) (image : Parts) (kernel : KernelState) (a : Option (List ℕ))
+    → ((f : VmFile) → IsFileOf honest kernel f → honest → within (OpensAsOneOf (f.kept ∷ []))) → RanCommands honest within image [] kernel kernel a a
+ran-none honest within image kernel a started = ([], leads, Appends-nil a)
+  where
+    leads : Leads honest within kernel kernel (λ before after keeps. From (Prints (IsAllowed honest) image [] before after []) before keeps)
+    leads f tied = record { file = f; tied = tied; lasts = λ g. inl refl; keeps = f.kept ∷ []; does = ([], (refl, refl, refl), refl); stops = started f tied }
 
 -- behind the last one
-pub ran-all : (honest : Type 0) (image : Parts) (commands : List Command) (k : ℕ) (kernel later : KernelState) (a b : Option (List ℕ)) → length commands ≤ k → RanCommands honest image (take k commands) kernel later a b → RanCommands honest image commands kernel later a b
-ran-all honest image commands k kernel later a b past ran = subst (λ cs. RanCommands honest image cs kernel later a b) (take_all k commands past) ran
+pub ran-all : (honest : Type 0) (within : Within) (image : Parts) (commands : List Command) (k : ℕ) (kernel later : KernelState)
+    (a b : Option (List ℕ)) → length commands ≤ k → RanCommands honest within image (take k commands) kernel later a b
+    → RanCommands honest within image commands kernel later a b
+ran-all honest within image commands k kernel later a b past ran = subst (λ cs. RanCommands honest within image cs kernel later a b) (take_all k commands past) ran
 
-module _ (honest : Type 0) (image : Parts) (commands : List Command) (k : ℕ) (default : Command) (kernel mid later : KernelState) (a b c : Option (List ℕ)) (within : k < length commands) where
+-- what is kept in one of some states is kept in one of more
+one-left : (xs ys : List Kept) (c : List ℕ) → OpensAsOneOf xs c → OpensAsOneOf (xs ++ ys) c
+one-left [] ys c h = absurd h
+one-left (x ∷ xs) ys c (inl opens) = inl opens
+one-left (x ∷ xs) ys c (inr others) = inr (one-left xs ys c others)
+
+one-right : (xs ys : List Kept) (c : List ℕ) → OpensAsOneOf ys c → OpensAsOneOf (xs ++ ys) c
+one-right [] ys c h = h
+one-right (x ∷ xs) ys c h = inr (one-right xs ys c h)
+
+module _ (honest : Type 0) (within next whole : Within) (join : Joins honest within next whole) (image : Parts) (commands : List Command) (k : ℕ)
+    (default : Command) (kernel mid later : KernelState) (a b c : Option (List ℕ)) (in_range : k < length commands) where
+  -- what a stop leaves over both stretches
+  joined : (first : Kept) (earlier all own : List Kept) → all ≡ first ∷ earlier → within (OpensAsOneOf all) → next (OpensAsOneOf own) → honest
+      → whole (OpensAsOneOf (first ∷ (earlier ++ own)))
+  joined first earlier all own same before after h =
+      join h (OpensAsOneOf all) (OpensAsOneOf own) (OpensAsOneOf (first ∷ (earlier ++ own)))
+      (λ x o. one-left (first ∷ earlier) own x (subst (λ ks. OpensAsOneOf ks x) same o)) (λ x o. one-right (first ∷ earlier) own x o) before after
+
   abbrev here : Command
   here = get_or commands k default
 
   -- one more command was carried out, and printed
-  pub ran-more : RanCommands honest image (take k commands) kernel mid a b → RanCommand honest image here mid later b c → RanCommands honest image (take (k + 1) commands) kernel later a c
+  pub ran-more : RanCommands honest within image (take k commands) kernel mid a b → RanCommand honest next image here mid later b c
+      → RanCommands honest whole image (take (k + 1) commands) kernel later a c
   ran-more (text, prints, appends) (shown, does, behind) = (text ++ shown, leads, Appends-trans a b c text shown appends behind)
     where
-      leads : Leads honest kernel later (λ allowed before after. Prints allowed image (take (k + 1) commands) before after (text ++ shown))
+      leads : Leads honest whole kernel later (λ before after keeps. From
+          (Prints (IsAllowed honest) image (take (k + 1) commands) before after (text ++ shown)) before keeps)
       leads f tied =
           let earlier = prints f tied in
-          let r = does earlier.0 earlier.1 in
-          let wide = prints-wider (IsChosen honest kernel mid) (IsChosen honest kernel later) (λ choice. chosen-before honest kernel mid later choice r.2) image (take k commands) (memory_of kernel f) (memory_of mid earlier.0) text earlier.3 in
-          let next = does-wider (IsChosen honest mid later) (IsChosen honest kernel later) (λ choice. chosen-after honest kernel mid later choice earlier.2) image here (memory_of mid earlier.0) (memory_of later r.0) shown r.3 in
-          (r.0, r.1, lasts-on honest kernel mid later earlier.2 r.2, rw (take_more commands k default within) (prints-more (IsChosen honest kernel later) image (take k commands) (memory_of kernel f) (memory_of mid earlier.0) (memory_of later r.0) text here shown wide next))
+          let r = does earlier.file earlier.tied in
+          let kept = earlier.does.0 in
+          let all =
+          prints-more (IsAllowed honest) image (take k commands) (stage_of kernel f) (stage_of mid earlier.file) (stage_of later r.file)
+          text kept here shown r.keeps earlier.does.1 r.does in
+          record {
+            file = r.file;
+            tied = r.tied;
+            lasts = lasts-on honest kernel mid later earlier.lasts r.lasts;
+            keeps = f.kept ∷ (kept ++ r.keeps);
+            does = (kept ++ r.keeps, rw (take_more commands k default in_range) all, refl);
+            stops = λ h. joined f.kept kept earlier.keeps r.keeps earlier.does.2 (earlier.stops h) (r.stops h) h;
+          }
 
   -- the writer failed while it was printed
-  pub stopped-at : RanCommands honest image (take k commands) kernel mid a b → StoppedCommand honest image here mid later b c → StoppedCommands honest image commands kernel later a c
+  pub stopped-at : RanCommands honest within image (take k commands) kernel mid a b → StoppedCommand honest next image here mid later b c
+      → StoppedCommands honest whole image commands kernel later a c
   stopped-at (text, prints, appends) (part, rest, some, does, behind) = (text ++ part, leads, Appends-trans a b c text part appends behind)
     where
       split : commands ≡ take k commands ++ (here ∷ drop (suc k) commands)
-      split = sym (take-append-drop k commands) ∙ ap (λ cs. take k commands ++ cs) (drop-cons commands k default within)
+      split = sym (take-append-drop k commands) ∙ ap (λ cs. take k commands ++ cs) (drop-cons commands k default in_range)
 
-      leads : Leads honest kernel later (λ allowed before after. PrintsPart allowed image commands before after (text ++ part))
+      leads : Leads honest whole kernel later (λ before after keeps. From (PrintsPart (IsAllowed honest) image commands before after (text ++ part)) before keeps)
       leads f tied =
           let earlier = prints f tied in
-          let r = does earlier.0 earlier.1 in
-          let stops : PrintsPart (IsChosen honest kernel later) image commands (memory_of kernel f) (memory_of later r.0) (text ++ part) = record {
+          let r = does earlier.file earlier.tied in
+          let kept = earlier.does.0 in
+          let stops : PrintsPart (IsAllowed honest) image commands (stage_of kernel f) (stage_of later r.file) (text ++ part) (kept ++ r.keeps) = record {
             done = take k commands;
             last = here;
             others = drop (suc k) commands;
             in_order = split;
-            between = memory_of mid earlier.0;
+            between = stage_of mid earlier.file;
             earlier = text;
-            printed_earlier = prints-wider (IsChosen honest kernel mid) (IsChosen honest kernel later) (λ choice. chosen-before honest kernel mid later choice r.2) image (take k commands) (memory_of kernel f) (memory_of mid earlier.0) text earlier.3;
+            kept_earlier = kept;
+            kept_last = r.keeps;
+            printed_earlier = earlier.does.1;
             part = part;
             rest = rest;
-            does = does-wider (IsChosen honest mid later) (IsChosen honest kernel later) (λ choice. chosen-after honest kernel mid later choice earlier.2) image here (memory_of mid earlier.0) (memory_of later r.0) (part ++ rest) r.3;
+            does = r.does;
             not_all = some;
             written = refl;
+            kept = refl;
           } in
-          (r.0, r.1, lasts-on honest kernel mid later earlier.2 r.2, stops)
+          record {
+            file = r.file;
+            tied = r.tied;
+            lasts = lasts-on honest kernel mid later earlier.lasts r.lasts;
+            keeps = f.kept ∷ (kept ++ r.keeps);
+            does = (kept ++ r.keeps, stops, refl);
+            stops = λ h. joined f.kept kept earlier.keeps r.keeps earlier.does.2 (earlier.stops h) (r.stops h) h;
+          }
 
 -- what holds where all went well, or at a fault, carried over
 pub if_ok-map : {A E P Q : Type 0} (r : Result A E) → (P → Q) → IfOk r (λ _. P) → IfOk r (λ _. Q)
@@ -126,11 +249,22 @@ if_err-map (Ok x) fault m p = tt
 if_err-map (Err e) fault m p = λ is. m p
 
 -- the commands of a script on an image that was loaded
-module _ (honest : Type 0) (bytes script : List ℕ) (image : Parts) (kernel later : KernelState) (a b : Option (List ℕ)) (short : length script ≤ most_bytes) (loads : Loads bytes (lines script) image) (items : List Command) (all : items ≡ commands_of image (lines script)) where
-  pub script-ran : RanCommands honest image items kernel later a b → RanScript honest bytes script kernel later a b
-  script-ran (text, leads, appends) =
-      (text, λ f tied. (let l = subst (λ cs. Leads honest kernel later (λ allowed before after. Prints allowed image cs before after text)) all leads f tied in (l.0, l.1, l.2, (short, (image, loads, l.3)))), appends)
+module _ (honest : Type 0) (within : Within) (bytes script : List ℕ) (image : Parts) (kernel later : KernelState) (a b : Option (List ℕ))
+    (short : length script ≤ most_bytes) (loads : Loads bytes (lines script) image) (items : List Command) (all : items ≡ commands_of image (lines script)) where
+  pub script-ran : RanCommands honest within image items kernel later a b → RanScript honest within bytes script kernel later a b
+  script-ran (text, leads, appends) = (text, of_script, appends)
+    where
+      of_script : Leads honest within kernel later (λ before after keeps. From (RunsScript (IsAllowed honest) bytes script before after text) before keeps)
+      of_script f tied =
+          let l = subst (λ cs. Leads honest within kernel later
+          (λ before after keeps. From (Prints (IsAllowed honest) image cs before after text) before keeps)) all leads f tied in
+          record { file = l.file; tied = l.tied; lasts = l.lasts; keeps = l.keeps; does = (l.does.0, (short, (image, loads, l.does.1)), l.does.2); stops = l.stops }
 
-  pub script-stopped : StoppedCommands honest image items kernel later a b → StoppedScript honest bytes script kernel later a b
-  script-stopped (text, leads, appends) =
-      (text, λ f tied. (let l = subst (λ cs. Leads honest kernel later (λ allowed before after. PrintsPart allowed image cs before after text)) all leads f tied in (l.0, l.1, l.2, (short, (image, loads, l.3)))), appends)
+  pub script-stopped : StoppedCommands honest within image items kernel later a b → StoppedScript honest within bytes script kernel later a b
+  script-stopped (text, leads, appends) = (text, of_script, appends)
+    where
+      of_script : Leads honest within kernel later (λ before after keeps. From (StopsScript (IsAllowed honest) bytes script before after text) before keeps)
+      of_script f tied =
+          let l = subst (λ cs. Leads honest within kernel later
+          (λ before after keeps. From (PrintsPart (IsAllowed honest) image cs before after text) before keeps)) all leads f tied in
+          record { file = l.file; tied = l.tied; lasts = l.lasts; keeps = l.keeps; does = (l.does.0, (short, (image, loads, l.does.1)), l.does.2); stops = l.stops }

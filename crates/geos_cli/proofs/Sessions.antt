@@ -1,23 +1,23 @@
 -- A script that ran or was stopped, as the script of a session.
-use Rattle.std.proofs.Common.{◌≡◌, ◌≤◌, ◌∙◌, ℕ, List, length, Option, None, arith, subst, sym, inl, inr}
+use Rattle.std.proofs.Common.{◌≡◌, ◌≤◌, ◌∙◌, ℕ, List, length, Option, None, arith, ap, subst, sym, inl, inr}
 use Rattle.std.specs.Prelude.{Result, Ok, Err, IfOk, IfErr, IsErrAnd}
 use Rattle.std.specs.Str.Lines.{lines}
 use Rattle.std.specs.Io.KnownBytes.{Keeps}
 use Rattle.std.proofs.KnownBytes.{Appends-kept}
 use Rattle.geos_table.specs.Memory as model
-use Rattle.geos_table.specs.VmFile.{VmFile, empty_file}
+use Rattle.geos_table.specs.VmFile.{Kept, VmFile, empty_file}
+use Rattle.geos_machine.specs.Runs.{Within}
 use Rattle.geos_table.specs.Effects.{Choice}
-use Rattle.geos_kernel.specs.View.{KernelState, memory_of, IsFileOf}
-use Rattle.geos_kernel.specs.Kernel.{IsChosen}
+use Rattle.geos_kernel.specs.View.{KernelState, failed_in, memory_of, IsFileOf}
 use Rattle.geos_image.specs.Parts.{Parts}
 use Rattle.geos_input.specs.Hex.{hex_fault, image_bytes, script_lines, IsBadHex}
-use Rattle.geos_cli.specs.Script.{commands_of, Runs, Stops, Loads, EndsBy, RunsScript, RanScript, StoppedScript, ScriptEndsBy}
+use Rattle.geos_cli.specs.Script.{commands_of, EndsBy, IsAllowed, Loads, RanScript, Runs, RunsScript, ScriptEndsBy, Stage, StoppedScript, Stops, stage_of}
 use Rattle.geos_text.specs.Words.{most_bytes}
 use Rattle.geos_input.specs.Reading.{Reads}
 use Rattle.geos_cli.proofs.Prints.{prints-wider, part-wider}
 use Rattle.geos_input.specs.declared.fault.ScriptFault.{ScriptFault}
 use Rattle.geos_input.specs.declared.fault.ScriptFault.TheVariants.{TooLong, BadHex, BadImage, Rejected, BadScript, Read, Write, Memory}
-use Rattle.geos_cli.specs.Session.{IsGivenNothing, no_blocks, RanBytes, StoppedBytes, EndsBytes, RanSession, StoppedSession, EndsSession}
+use Rattle.geos_cli.specs.Session.{IsInMemory, begun, no_blocks, RanBytes, StoppedBytes, EndsBytes, RanSession, StoppedSession, EndsSession}
 
 -- what holds of a fault holds of it where it is passed on
 pub passed-on : {A E : Type 0} (P : E → Type 0) (result : Result A E) (e : E) → IsErrAnd result (λ x. x ≡ e) → P e → IfErr result P
@@ -45,68 +45,85 @@ hex-ends bytes short (BadScript line) h = absurd h
 hex-ends bytes short Read h = absurd h
 hex-ends bytes short Write h = absurd h
 
--- what comes from outside between two kernels gives nothing, where the device is honest
-module _ (honest : Type 0) (kernel later : KernelState) (good : honest) where
-  given-nothing : (choice : Choice) → IsChosen honest kernel later choice → IsGivenNothing choice
-  given-nothing choice chosen = chosen.given good
+-- what is allowed where the device is honest is allowed in a session
+module _ (honest : Type 0) (good : honest) where
+  in-memory : (before now : ℕ) (choice : Choice) → IsAllowed honest before now choice → IsInMemory before now choice
+  in-memory before now choice allowed = record { given = λ u. allowed.given good; device = λ u t. allowed.device good t }
 
-  runs-honest : (bytes : List ℕ) (ls : List (List ℕ)) (before after : model.Memory) (text : List ℕ) → Runs (IsChosen honest kernel later) bytes ls before after text → Runs IsGivenNothing bytes ls before after text
-  runs-honest bytes ls before after text (image, loads, prints) =
-      (image, loads, prints-wider (IsChosen honest kernel later) IsGivenNothing given-nothing image (commands_of image ls) before after text prints)
+  runs-honest : (bytes : List ℕ) (ls : List (List ℕ)) (before after : Stage) (text : List ℕ) (keeps : List Kept)
+      → Runs (IsAllowed honest) bytes ls before after text keeps → Runs IsInMemory bytes ls before after text keeps
+  runs-honest bytes ls before after text keeps (image, loads, prints) =
+      (image, loads, prints-wider (IsAllowed honest) IsInMemory in-memory image (commands_of image ls) before after text keeps prints)
 
-  stops-honest : (bytes : List ℕ) (ls : List (List ℕ)) (before after : model.Memory) (text : List ℕ) → Stops (IsChosen honest kernel later) bytes ls before after text → Stops IsGivenNothing bytes ls before after text
-  stops-honest bytes ls before after text (image, loads, part) =
-      (image, loads, part-wider (IsChosen honest kernel later) IsGivenNothing given-nothing image (commands_of image ls) before after text part)
+  stops-honest : (bytes : List ℕ) (ls : List (List ℕ)) (before after : Stage) (text : List ℕ) (keeps : List Kept)
+      → Stops (IsAllowed honest) bytes ls before after text keeps → Stops IsInMemory bytes ls before after text keeps
+  stops-honest bytes ls before after text keeps (image, loads, part) =
+      (image, loads, part-wider (IsAllowed honest) IsInMemory in-memory image (commands_of image ls) before after text keeps part)
 
 -- bytes have an image and a script, which runs on a kernel without a block
 module _ (honest : Type 0) (bytes items image script : List ℕ) (kernel later : KernelState) (good : honest) (short : length bytes ≤ most_bytes) (digits : hex_fault (lines bytes) ≡ None)
     (items_is : items ≡ image_bytes (lines bytes)) (script_is : lines script ≡ script_lines (lines bytes)) (lent : image ≡ items) (tied : IsFileOf honest kernel (empty_file 65536))
-    (empty : (f : VmFile) → memory_of kernel f ≡ record no_blocks { file = f }) where
+    (empty : (f : VmFile) → memory_of kernel f ≡ record no_blocks { file = f }) (none : failed_in kernel ≡ 0) where
+  -- where the first command begins
+  abbrev first : Stage
+  first = stage_of kernel (empty_file 65536)
+
+  first-begun : first ≡ begun
+  first-begun =
+      ap (λ (m : model.Memory). let s : Stage = record { memory = m; failed = failed_in kernel } in s) (empty (empty_file 65536))
+      ∙ ap (λ n. let s : Stage = record { memory = no_blocks; failed = n } in s) none
+
   -- what holds of the script holds of the lines behind `end`
-  in-session : (P : List ℕ → List (List ℕ) → model.Memory → Type 0) → P image (lines script) (memory_of kernel (empty_file 65536)) → P (image_bytes (lines bytes)) (script_lines (lines bytes)) no_blocks
+  in-session : (P : List ℕ → List (List ℕ) → Stage → Type 0) → P image (lines script) first → P (image_bytes (lines bytes)) (script_lines (lines bytes)) begun
   in-session P h =
-      let with_image = subst (λ i. P i (lines script) (memory_of kernel (empty_file 65536))) (lent ∙ items_is) h in
-      let with_script = subst (λ ls. P (image_bytes (lines bytes)) ls (memory_of kernel (empty_file 65536))) script_is with_image in
-      subst (λ m. P (image_bytes (lines bytes)) (script_lines (lines bytes)) m) (empty (empty_file 65536)) with_script
+      let with_image = subst (λ i. P i (lines script) first) (lent ∙ items_is) h in
+      let with_script = subst (λ ls. P (image_bytes (lines bytes)) ls first) script_is with_image in
+      subst (λ s. P (image_bytes (lines bytes)) (script_lines (lines bytes)) s) first-begun with_script
 
   -- the script ran
-  runs : (text : List ℕ) (g : VmFile) → RunsScript (IsChosen honest kernel later) image script (memory_of kernel (empty_file 65536)) (memory_of later g) text
-      → (after : model.Memory) × Runs IsGivenNothing (image_bytes (lines bytes)) (script_lines (lines bytes)) no_blocks after text
-  runs text g h =
-      (memory_of later g, in-session (λ i ls m. Runs IsGivenNothing i ls m (memory_of later g) text) (runs-honest honest kernel later good image (lines script) (memory_of kernel (empty_file 65536)) (memory_of later g) text h.1))
+  runs : (text : List ℕ) (after : Stage) (keeps : List Kept) → RunsScript (IsAllowed honest) image script first after text keeps
+      → (after : Stage) × (keeps : List Kept) × Runs IsInMemory (image_bytes (lines bytes)) (script_lines (lines bytes)) begun after text keeps
+  runs text after keeps h =
+      (after, keeps, in-session (λ i ls s. Runs IsInMemory i ls s after text keeps) (runs-honest honest good image (lines script) first after text keeps h.1))
 
   -- and the flush kept what the writer got
-  pub session-ran : (a b c : Option (List ℕ)) → RanScript honest image script kernel later a b → Keeps b c → RanBytes bytes a c
-  session-ran a b c (text, leads, appends) kept = (text, (short, digits, runs text (leads (empty_file 65536) tied).0 (leads (empty_file 65536) tied).3), Appends-kept a b c text appends kept)
+  pub session-ran : {within : Within} (a b c : Option (List ℕ)) → RanScript honest within image script kernel later a b → Keeps b c → RanBytes bytes a c
+  session-ran {within} a b c (text, leads, appends) kept =
+      let l = leads (empty_file 65536) tied in
+      (text, (short, digits, runs text (stage_of later l.file) l.does.0 l.does.1), Appends-kept a b c text appends kept)
 
   -- or the flush failed
-  pub session-unflushed : (a b c : Option (List ℕ)) → RanScript honest image script kernel later a b → Keeps b c → StoppedBytes bytes a c
-  session-unflushed a b c (text, leads, appends) kept = (text, (short, digits, inr (runs text (leads (empty_file 65536) tied).0 (leads (empty_file 65536) tied).3)), Appends-kept a b c text appends kept)
+  pub session-unflushed : {within : Within} (a b c : Option (List ℕ)) → RanScript honest within image script kernel later a b → Keeps b c → StoppedBytes bytes a c
+  session-unflushed {within} a b c (text, leads, appends) kept =
+      let l = leads (empty_file 65536) tied in
+      (text, (short, digits, inr (runs text (stage_of later l.file) l.does.0 l.does.1)), Appends-kept a b c text appends kept)
 
   -- where it ran, the writer may have failed
-  pub session-due : (a b : Option (List ℕ)) → RanScript honest image script kernel later a b → EndsBytes bytes Write
-  session-due a b (text, leads, appends) =
-      let h = (leads (empty_file 65536) tied).3 in
-      (short, digits, in-session (λ i ls m. (parts : Parts) × Loads i ls parts) (h.1.0, h.1.1))
+  pub session-due : {within : Within} (a b : Option (List ℕ)) → RanScript honest within image script kernel later a b → EndsBytes bytes Write
+  session-due {within} a b (text, leads, appends) =
+      let h = (leads (empty_file 65536) tied).does.1 in
+      (short, digits, in-session (λ i ls s. (parts : Parts) × Loads i ls parts) (h.1.0, h.1.1))
 
   -- the script ended with a fault
   pub session-ends : length script ≤ length bytes → (fault : ScriptFault) → ScriptEndsBy image script fault → EndsBytes bytes fault
   session-ends shorter TooLong h = omega (arith, shorter, h)
   session-ends shorter (BadHex line) h = absurd h.1
-  session-ends shorter (BadImage at) h = (short, digits, in-session (λ i ls m. EndsBy i ls (BadImage at)) h.1)
-  session-ends shorter (Rejected pc rule) h = (short, digits, in-session (λ i ls m. EndsBy i ls (Rejected pc rule)) h.1)
-  session-ends shorter (BadScript line) h = (short, digits, in-session (λ i ls m. EndsBy i ls (BadScript line)) h.1)
+  session-ends shorter (BadImage at) h = (short, digits, in-session (λ i ls s. EndsBy i ls (BadImage at)) h.1)
+  session-ends shorter (Rejected pc rule) h = (short, digits, in-session (λ i ls s. EndsBy i ls (Rejected pc rule)) h.1)
+  session-ends shorter (BadScript line) h = (short, digits, in-session (λ i ls s. EndsBy i ls (BadScript line)) h.1)
   session-ends shorter Read h = absurd h.1
-  session-ends shorter Write h = (short, digits, in-session (λ i ls m. EndsBy i ls Write) h.1)
+  session-ends shorter Write h = (short, digits, in-session (λ i ls s. EndsBy i ls Write) h.1)
   session-ends shorter Memory h = tt
 
   -- the script was stopped
-  pub session-stopped : (a b : Option (List ℕ)) → StoppedScript honest image script kernel later a b → StoppedBytes bytes a b
-  session-stopped a b (text, leads, appends) =
-      let g = (leads (empty_file 65536) tied).0 in
-      let h = (leads (empty_file 65536) tied).3 in
-      let stops = in-session (λ i ls m. Stops IsGivenNothing i ls m (memory_of later g) text) (stops-honest honest kernel later good image (lines script) (memory_of kernel (empty_file 65536)) (memory_of later g) text h.1) in
-      (text, (short, digits, inl (memory_of later g, stops)), appends)
+  pub session-stopped : {within : Within} (a b : Option (List ℕ)) → StoppedScript honest within image script kernel later a b → StoppedBytes bytes a b
+  session-stopped {within} a b (text, leads, appends) =
+      let l = leads (empty_file 65536) tied in
+      let after = stage_of later l.file in
+      let keeps = l.does.0 in
+      let stops = in-session (λ i ls s. Stops IsInMemory i ls s after text keeps)
+      (stops-honest honest good image (lines script) first after text keeps l.does.1.1) in
+      (text, (short, digits, inl (after, keeps, stops)), appends)
 
 -- a fault that is the writer's
 pub if-write : {A : Type 0} (P : Type 0) (Q : ScriptFault → Type 0) (result : Result A ScriptFault) → IfErr result (λ fault. (fault ≡ Write) × P) → Q Write → IfErr result Q

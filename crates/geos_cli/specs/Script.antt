@@ -6,7 +6,7 @@ use Rattle.std.specs.List.{position_from}
 use Rattle.std.specs.Str.Lines.{lines}
 use Rattle.std.specs.Io.KnownBytes.{Appends}
 use Rattle.geos_table.specs.Memory as model
-use Rattle.geos_table.specs.VmFile.{VmFile}
+use Rattle.geos_table.specs.VmFile.{Kept, VmFile}
 use Rattle.geos_model.specs.declared.refusal.Refusal.{Refusal}
 use Rattle.geos_model.specs.Refusals.{refusal_number}
 use Rattle.geos_table.specs.Effects.{Choice, outcome, effect_of}
@@ -14,15 +14,15 @@ use Rattle.geos_table.specs.VmCalls.{commit}
 use Rattle.vm_file.specs.declared.commit.How.{How}
 use Rattle.vm_file.specs.declared.commit.How.TheVariants.{Update, Save, Revert}
 use Rattle.vm_blocks.specs.ListedCalls.{keeper_of}
-use Rattle.geos_kernel.specs.View.{KernelState, memory_of, IsFileOf}
-use Rattle.geos_kernel.specs.Kernel.{IsChosen, NeverFell}
+use Rattle.geos_kernel.specs.View.{KernelState, failed_in, memory_of, IsFileOf}
+use Rattle.geos_kernel.specs.Kernel.{HasRisen, NeverFell}
 use Rattle.geos_image.specs.declared.routine.Routine.{Routine}
 use Rattle.geos_image.specs.Parts.{Parts}
 use Rattle.geos_image.specs.Legal.{text_end}
 use Rattle.geos_image.specs.Reading.{image_at}
 use Rattle.geos_verify.specs.Rules.{Accepted, FirstRefusal}
 use Rattle.geos_machine.specs.declared.outcome.Outcome.{Outcome}
-use Rattle.geos_machine.specs.Runs.{admits, Ran}
+use Rattle.geos_machine.specs.Runs.{admits, begin, kept_along, OpensAsOneOf, Ran, Within}
 use Rattle.geos_text.specs.Words.{most_bytes}
 use Rattle.geos_cli.specs.declared.script.Call.{Call}
 use Rattle.geos_cli.specs.declared.script.Command.{Command}
@@ -102,63 +102,119 @@ abbrev pub committed : Result (Unit {0}) Refusal → List ℕ
 committed (Ok done) = []
 committed (Err refusal) = codes "refused " ++ (decimal (refusal_number refusal) ++ 10 ∷ [])
 
--- a command takes one memory to another under allowed choices, and prints this: a call, by a model's
--- run, what that puts out; a commit, by its row in the table of calls, its refusal
-abbrev pub Does : (Choice → Type 0) → Parts → Command → model.Memory → model.Memory → List ℕ → Type 0
-Does allowed image (command.Call call) before after text = (outcome : Outcome) × Ran allowed image call.routine call.words before after outcome × (text ≡ printed outcome.output.items)
-Does allowed image (command.Commit how) before after text =
-    (choice : Choice) × allowed choice × (result : Result (Unit {0}) Refusal) × (outcome (effect_of (commit (keeper_of how)) choice before) ≡ (result, after)) × (text ≡ committed result)
+-- where a script stands: the memory, and how often the device has failed
+pub record Stage : Type 0 where
+  pub memory : model.Memory
+  pub failed : ℕ
 
--- what the commands print, from the memory before to the memory after: what each does, one after
--- another, each in the memory that the one before left
-abbrev pub Prints : (Choice → Type 0) → Parts → List Command → model.Memory → model.Memory → List ℕ → Type 0
-Prints allowed image [] before after text = (text ≡ []) × (after ≡ before)
-Prints allowed image (command ∷ commands) before after text =
-    (between : model.Memory) × (shown : List ℕ) × (others : List ℕ) × Does allowed image command before between shown × Prints allowed image commands between after others × (text ≡ shown ++ others)
+-- where it stands at a kernel, beside a VM file that the model may know
+abbrev pub stage_of : KernelState → VmFile → Stage
+stage_of kernel f = record { memory = memory_of kernel f; failed = failed_in kernel }
+
+-- which choices are allowed at a command, by how often the device has failed before it and behind it
+abbrev pub Allows : Type 1
+Allows = ℕ → ℕ → Choice → Type 0
+
+-- those of an honest device: it gives nothing, and refuses only where it failed at this command
+pub record IsAllowed (honest : Type 0) (before now : ℕ) (choice : Choice) : Type 0 where
+  pub given : honest → choice.given ≡ []
+  pub device : honest → choice.device ≡ true → HasRisen before now
+
+-- a command takes one memory to another under allowed choices, and prints this: a call, by a model's
+-- run, what that puts out; a commit, by its row in the table of calls, its refusal. And that is what
+-- the file keeps meanwhile, one state after another
+abbrev pub Does : Allows → Parts → Command → Stage → Stage → List ℕ → List Kept → Type 0
+Does allows image (command.Call call) before after text keeps =
+    (outcome : Outcome)
+    × (ran : Ran (allows before.failed after.failed) image call.routine call.words before.memory after.memory outcome)
+    × (text ≡ printed outcome.output.items)
+    × (keeps ≡ kept_along image ran.choices (begin image call.routine call.words before.memory))
+Does allows image (command.Commit how) before after text keeps =
+    (choice : Choice)
+    × allows before.failed after.failed choice
+    × (result : Result (Unit {0}) Refusal)
+    × (outcome (effect_of (commit (keeper_of how)) choice before.memory) ≡ (result, after.memory))
+    × (text ≡ committed result)
+    × (keeps ≡ before.memory.file.kept ∷ after.memory.file.kept ∷ [])
+
+-- what the commands print and what the file keeps meanwhile, from the one stage to the other: what each
+-- does, one after another, each where the one before left it
+abbrev pub Prints : Allows → Parts → List Command → Stage → Stage → List ℕ → List Kept → Type 0
+Prints allows image [] before after text keeps = (text ≡ []) × (after ≡ before) × (keeps ≡ [])
+Prints allows image (command ∷ commands) before after text keeps =
+    (between : Stage)
+    × (shown : List ℕ)
+    × (others : List ℕ)
+    × (own : List Kept)
+    × (rest : List Kept)
+    × Does allows image command before between shown own
+    × Prints allows image commands between after others rest
+    × (text ≡ shown ++ others)
+    × (keeps ≡ own ++ rest)
 
 -- what the commands have printed when the writer fails: some are done, with all that they print; the
--- next one was carried out, in the memory that they left, and to the memory after; a beginning of what
--- it prints is written, not all; the others were not begun
-pub record PrintsPart (allowed : Choice → Type 0) (image : Parts) (commands : List Command) (before after : model.Memory) (text : List ℕ) : Type 0 where
+-- next one was carried out, where they left it, and to the stage after; a beginning of what it prints
+-- is written, not all; the others were not begun
+pub record PrintsPart (allows : Allows) (image : Parts) (commands : List Command) (before after : Stage) (text : List ℕ) (keeps : List Kept) : Type 0 where
   pub done : List Command
   pub last : Command
   pub others : List Command
   pub in_order : commands ≡ done ++ last ∷ others
-  pub between : model.Memory
+  pub between : Stage
   pub earlier : List ℕ
-  pub printed_earlier : Prints allowed image done before between earlier
+  pub kept_earlier : List Kept
+  pub kept_last : List Kept
+  pub printed_earlier : Prints allows image done before between earlier kept_earlier
   pub part : List ℕ
   pub rest : List ℕ
-  pub does : Does allowed image last between after (part ++ rest)
+  pub does : Does allows image last between after (part ++ rest) kept_last
   pub not_all : 0 < length rest
   pub written : text ≡ earlier ++ part
+  pub kept : keeps ≡ kept_earlier ++ kept_last
 
--- whatever VM file the model knows beside a kernel, this leads from its memory to that of
--- another kernel, with a VM file that the model may know then, where `honest` says that the
--- kernel's device is
-abbrev pub Leads : Type 0 → KernelState → KernelState → ((Choice → Type 0) → model.Memory → model.Memory → Type 0) → Type 0
-Leads honest kernel later this = (f : VmFile) → IsFileOf honest kernel f
-    → (g : VmFile) × IsFileOf honest later g × NeverFell honest kernel later × this (IsChosen honest kernel later) (memory_of kernel f) (memory_of later g)
+-- from a kernel with this VM file this leads to another kernel, with a VM file that the model may know
+-- then; and a stop meanwhile leaves a file in which `open` finds what is kept in one of the states
+pub record LeadsFrom (honest : Type 0) (within : Within) (kernel later : KernelState) (this : Stage → Stage → List Kept → Type 0) (f : VmFile) : Type 0 where
+  pub file : VmFile
+  pub tied : IsFileOf honest later file
+  pub lasts : NeverFell honest kernel later
+  pub keeps : List Kept
+  pub does : this (stage_of kernel f) (stage_of later file) keeps
+  pub stops : honest → within (OpensAsOneOf keeps)
+
+-- whatever VM file the model knows beside a kernel, where `honest` says that the kernel's device is
+abbrev pub Leads : Type 0 → Within → KernelState → KernelState → (Stage → Stage → List Kept → Type 0) → Type 0
+Leads honest within kernel later this = (f : VmFile) → IsFileOf honest kernel f → LeadsFrom honest within kernel later this f
+
+-- what is kept before, and then these
+abbrev pub From : (List Kept → Type 0) → Stage → List Kept → Type 0
+From this before keeps = (rest : List Kept) × this rest × (keeps ≡ before.memory.file.kept ∷ rest)
 
 -- a command was carried out, from kernel to kernel, and a writer got its text
-abbrev pub RanCommand : Type 0 → Parts → Command → KernelState → KernelState → Option (List ℕ) → Option (List ℕ) → Type 0
-RanCommand honest image command kernel later old new =
-    (text : List ℕ) × Leads honest kernel later (λ allowed before after. Does allowed image command before after text) × Appends old new text
+abbrev pub RanCommand : Type 0 → Within → Parts → Command → KernelState → KernelState → Option (List ℕ) → Option (List ℕ) → Type 0
+RanCommand honest within image command kernel later old new =
+    (text : List ℕ) × Leads honest within kernel later (λ before after keeps. Does (IsAllowed honest) image command before after text keeps) × Appends old new text
 
 -- a command was carried out, and a writer failed that got a beginning of its text, not all
-abbrev pub StoppedCommand : Type 0 → Parts → Command → KernelState → KernelState → Option (List ℕ) → Option (List ℕ) → Type 0
-StoppedCommand honest image command kernel later old new =
-    (part : List ℕ) × (rest : List ℕ) × (0 < length rest) × Leads honest kernel later (λ allowed before after. Does allowed image command before after (part ++ rest)) × Appends old new part
+abbrev pub StoppedCommand : Type 0 → Within → Parts → Command → KernelState → KernelState → Option (List ℕ) → Option (List ℕ) → Type 0
+StoppedCommand honest within image command kernel later old new =
+    (part : List ℕ) × (rest : List ℕ) × (0 < length rest)
+    × Leads honest within kernel later (λ before after keeps. Does (IsAllowed honest) image command before after (part ++ rest) keeps)
+    × Appends old new part
 
 -- the commands were carried out, from kernel to kernel, and a writer got their text
-abbrev pub RanCommands : Type 0 → Parts → List Command → KernelState → KernelState → Option (List ℕ) → Option (List ℕ) → Type 0
-RanCommands honest image commands kernel later old new =
-    (text : List ℕ) × Leads honest kernel later (λ allowed before after. Prints allowed image commands before after text) × Appends old new text
+abbrev pub RanCommands : Type 0 → Within → Parts → List Command → KernelState → KernelState → Option (List ℕ) → Option (List ℕ) → Type 0
+RanCommands honest within image commands kernel later old new =
+    (text : List ℕ)
+    × Leads honest within kernel later (λ before after keeps. From (Prints (IsAllowed honest) image commands before after text) before keeps)
+    × Appends old new text
 
 -- the commands were stopped by a writer that failed, which got the text up to there
-abbrev pub StoppedCommands : Type 0 → Parts → List Command → KernelState → KernelState → Option (List ℕ) → Option (List ℕ) → Type 0
-StoppedCommands honest image commands kernel later old new =
-    (text : List ℕ) × Leads honest kernel later (λ allowed before after. PrintsPart allowed image commands before after text) × Appends old new text
+abbrev pub StoppedCommands : Type 0 → Within → Parts → List Command → KernelState → KernelState → Option (List ℕ) → Option (List ℕ) → Type 0
+StoppedCommands honest within image commands kernel later old new =
+    (text : List ℕ)
+    × Leads honest within kernel later (λ before after keeps. From (PrintsPart (IsAllowed honest) image commands before after text) before keeps)
+    × Appends old new text
 
 -- bytes spell an image that the verifier accepts, and no line of the script is bad
 pub record Loads (bytes : List ℕ) (lines : List (List ℕ)) (image : Parts) : Type 0 where
@@ -179,17 +235,17 @@ IsBadLine image lines (BadScript line) = first_bad image lines ≡ Some line
 IsBadLine image lines Memory = Unit {0}
 IsBadLine image lines _ = ⊥
 
--- a script of these lines runs on the image that the bytes spell, from memory to memory, and
--- prints the text
-abbrev pub Runs : (Choice → Type 0) → List ℕ → List (List ℕ) → model.Memory → model.Memory → List ℕ → Type 0
-Runs allowed bytes lines before after text =
-    (image : Parts) × Loads bytes lines image × Prints allowed image (commands_of image lines) before after text
+-- a script of these lines runs on the image that the bytes spell, from stage to stage, and prints
+-- the text
+abbrev pub Runs : Allows → List ℕ → List (List ℕ) → Stage → Stage → List ℕ → List Kept → Type 0
+Runs allows bytes lines before after text keeps =
+    (image : Parts) × Loads bytes lines image × Prints allows image (commands_of image lines) before after text keeps
 
--- a script of these lines runs on the image that the bytes spell, and has come to the memory
--- after and printed the text when the writer fails
-abbrev pub Stops : (Choice → Type 0) → List ℕ → List (List ℕ) → model.Memory → model.Memory → List ℕ → Type 0
-Stops allowed bytes lines before after text =
-    (image : Parts) × Loads bytes lines image × PrintsPart allowed image (commands_of image lines) before after text
+-- a script of these lines runs on the image that the bytes spell, and has come to the stage after
+-- and printed the text when the writer fails
+abbrev pub Stops : Allows → List ℕ → List (List ℕ) → Stage → Stage → List ℕ → List Kept → Type 0
+Stops allows bytes lines before after text keeps =
+    (image : Parts) × Loads bytes lines image × PrintsPart allows image (commands_of image lines) before after text keeps
 
 -- when such a script ends with a fault: each of them in the order in which they are looked for
 abbrev pub EndsBy : List ℕ → List (List ℕ) → ScriptFault → Type 0
@@ -202,24 +258,28 @@ EndsBy bytes lines TooLong = ⊥
 EndsBy bytes lines (BadHex line) = ⊥
 EndsBy bytes lines Read = ⊥
 
--- the script runs on the image that the bytes spell, from memory to memory, and prints the text
-abbrev pub RunsScript : (Choice → Type 0) → List ℕ → List ℕ → model.Memory → model.Memory → List ℕ → Type 0
-RunsScript allowed bytes script before after text = (length script ≤ most_bytes) × Runs allowed bytes (lines script) before after text
+-- the script runs on the image that the bytes spell, from stage to stage, and prints the text
+abbrev pub RunsScript : Allows → List ℕ → List ℕ → Stage → Stage → List ℕ → List Kept → Type 0
+RunsScript allows bytes script before after text keeps = (length script ≤ most_bytes) × Runs allows bytes (lines script) before after text keeps
 
--- the script runs on the image that the bytes spell, and has come to the memory after and
--- printed the text when the writer fails
-abbrev pub StopsScript : (Choice → Type 0) → List ℕ → List ℕ → model.Memory → model.Memory → List ℕ → Type 0
-StopsScript allowed bytes script before after text = (length script ≤ most_bytes) × Stops allowed bytes (lines script) before after text
+-- the script runs on the image that the bytes spell, and has come to the stage after and printed the
+-- text when the writer fails
+abbrev pub StopsScript : Allows → List ℕ → List ℕ → Stage → Stage → List ℕ → List Kept → Type 0
+StopsScript allows bytes script before after text keeps = (length script ≤ most_bytes) × Stops allows bytes (lines script) before after text keeps
 
 -- the script ran, from kernel to kernel, and a writer got its text
-abbrev pub RanScript : Type 0 → List ℕ → List ℕ → KernelState → KernelState → Option (List ℕ) → Option (List ℕ) → Type 0
-RanScript honest bytes script kernel later old new =
-    (text : List ℕ) × Leads honest kernel later (λ allowed before after. RunsScript allowed bytes script before after text) × Appends old new text
+abbrev pub RanScript : Type 0 → Within → List ℕ → List ℕ → KernelState → KernelState → Option (List ℕ) → Option (List ℕ) → Type 0
+RanScript honest within bytes script kernel later old new =
+    (text : List ℕ)
+    × Leads honest within kernel later (λ before after keeps. From (RunsScript (IsAllowed honest) bytes script before after text) before keeps)
+    × Appends old new text
 
 -- the script was stopped by a writer that failed, which got the text up to there
-abbrev pub StoppedScript : Type 0 → List ℕ → List ℕ → KernelState → KernelState → Option (List ℕ) → Option (List ℕ) → Type 0
-StoppedScript honest bytes script kernel later old new =
-    (text : List ℕ) × Leads honest kernel later (λ allowed before after. StopsScript allowed bytes script before after text) × Appends old new text
+abbrev pub StoppedScript : Type 0 → Within → List ℕ → List ℕ → KernelState → KernelState → Option (List ℕ) → Option (List ℕ) → Type 0
+StoppedScript honest within bytes script kernel later old new =
+    (text : List ℕ)
+    × Leads honest within kernel later (λ before after keeps. From (StopsScript (IsAllowed honest) bytes script before after text) before keeps)
+    × Appends old new text
 
 -- when a script ends with a fault: first of all, where it is too long
 abbrev pub ScriptEndsBy : List ℕ → List ℕ → ScriptFault → Type 0

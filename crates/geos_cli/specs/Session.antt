@@ -1,34 +1,37 @@
 -- What a session is, and when it ends early.
-use Rattle.std.specs.Prelude.{◌≡◌, ◌<◌, ◌≤◌, ◌⊎◌, ℕ, List, [], length, replicate, Option, Some, None}
+use Rattle.std.specs.Prelude.{◌≡◌, ◌<◌, ◌≤◌, ◌⊎◌, ℕ, List, length, replicate, Option, Some, None}
 use Rattle.std.specs.Str.Lines.{lines}
 use Rattle.std.specs.Io.KnownBytes.{Appends, Consumes}
-use Rattle.geos_table.specs.VmFile.{empty_file}
+use Rattle.geos_table.specs.VmFile.{Kept, empty_file}
 use Rattle.geos_table.specs.Memory as model
-use Rattle.geos_table.specs.Effects.{Choice}
 use Rattle.geos_input.specs.declared.fault.ScriptFault.{ScriptFault}
 use Rattle.geos_input.specs.declared.fault.ScriptFault.TheVariants.{TooLong, BadHex, Read, Memory}
 use Rattle.geos_input.specs.Hex.{hex_fault, image_bytes, script_lines}
 use Rattle.geos_text.specs.Words.{most_bytes}
 use Rattle.geos_input.specs.Reading.{Reads}
-use Rattle.geos_cli.specs.Script.{Runs, Stops, EndsBy}
+use Rattle.geos_cli.specs.Script.{Allows, IsAllowed, Runs, Stage, Stops, EndsBy}
 
--- what may come from outside in a session: room, memory or the device may be refused, but nothing is
--- given, since a device in memory is honest
-abbrev pub IsGivenNothing : Choice → Type 0
-IsGivenNothing choice = choice.given ≡ []
+-- what may come from outside in a session: room and memory may be refused, and the device where its
+-- count of failures rises; nothing is given, since a device in memory is honest
+abbrev pub IsInMemory : Allows
+IsInMemory = IsAllowed (Unit {0})
 
 -- the memory in which a session begins: no block, in a region of 65,536 bytes, and an empty VM
 -- file with an area of as many
 abbrev pub no_blocks : model.Memory
 no_blocks = record { blocks = replicate 1024 None; file = empty_file 65536; region = 65536 }
 
+-- where its first command begins: the device has not failed
+abbrev pub begun : Stage
+begun = record { memory = no_blocks; failed = 0 }
+
 -- the script in the lines behind `end` runs on the image in front of it, and prints the text
 abbrev pub RunsLines : List (List ℕ) → List ℕ → Type 0
-RunsLines lines text = (after : model.Memory) × Runs IsGivenNothing (image_bytes lines) (script_lines lines) no_blocks after text
+RunsLines lines text = (after : Stage) × (keeps : List Kept) × Runs IsInMemory (image_bytes lines) (script_lines lines) begun after text keeps
 
 -- such a script has printed the text when the writer fails
 abbrev pub StopsLines : List (List ℕ) → List ℕ → Type 0
-StopsLines lines text = (after : model.Memory) × Stops IsGivenNothing (image_bytes lines) (script_lines lines) no_blocks after text
+StopsLines lines text = (after : Stage) × (keeps : List Kept) × Stops IsInMemory (image_bytes lines) (script_lines lines) begun after text keeps
 
 -- the bytes are an image in digits, a line `end`, and a script that runs on the image and
 -- prints the text

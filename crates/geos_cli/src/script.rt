@@ -1,6 +1,6 @@
 //! Scripts: lines of commands, read whole before the first one runs.
 
-ghost use Rattle.std.specs.Prelude.{◌≡◌, ◌≢◌, ◌↔◌, All, None, Ok, Err, IfOk, IfErr};
+ghost use Rattle.std.specs.Prelude.{[], ◌∷◌, ◌≡◌, ◌≢◌, ◌↔◌, All, None, Ok, Err, IfOk, IfErr};
 ghost use Rattle.std.specs.Str.Lines.{lines};
 ghost use Rattle.std.specs.Io.KnownBytes.{Appends, Keeps};
 ghost use Rattle.geos_input.specs.declared.fault.ScriptFault.TheVariants.{Write};
@@ -11,6 +11,9 @@ ghost use Rattle.geos_cli.specs.Script.{IsAdmitted, routine_named, registers_of,
 ghost use Rattle.geos_cli.specs.Script.{commands_of, first_bad, IsBadLine, IsBadImage, printed, committed};
 ghost use Rattle.geos_cli.specs.Script.{RanCommand, StoppedCommand, RanCommands, StoppedCommands, RanScript, StoppedScript, ScriptEndsBy};
 ghost use Rattle.geos_kernel.specs.Kernel.{Calls};
+ghost use Rattle.geos_kernel.specs.View.{IsFileOf, SeesDevice};
+ghost use Rattle.geos_machine.specs.Runs.{OpensAsOneOf, Throughout};
+ghost use Rattle.geos_table.specs.VmFile.{VmFile};
 ghost use Rattle.geos_table.specs.VmCalls.{commit};
 ghost use Rattle.vm_blocks.specs.Listed.{NoneLocked};
 ghost use Rattle.vm_blocks.specs.ListedCalls.{keeper_of};
@@ -190,6 +193,9 @@ fn keep<D: Device + Drop>(kernel: &mut Kernel<D>, how: How) -> Result<(), Refusa
     ensures calls { Calls (D.medium.honest kernel.old.device) (commit (keeper_of how)) result kernel.old.core kernel.new.core }
     ensures honest { D.medium.honest kernel.new.device ↔ D.medium.honest kernel.old.device }
     ensures unlocked { NoneLocked kernel.new.core.blocks }
+    ensures sees { SeesDevice D.medium kernel.old × SeesDevice D.medium kernel.new }
+    ensures stops { (f g : VmFile) → IsFileOf (D.medium.honest kernel.old.device) kernel.old.core f → IsFileOf (D.medium.honest kernel.old.device) kernel.new.core g
+        → D.medium.honest kernel.old.device → Throughout D.medium kernel.old.device kernel.new.device (OpensAsOneOf (f.kept ∷ g.kept ∷ [])) }
 {
     kernel.memory_is_legal();
     let done = kernel.commit(how);
@@ -207,12 +213,15 @@ fn carry_out<W: Write, D: Device + Drop>(
 ) -> Result<(), ScriptFault>
     requires admitted { IsAdmitted checked.now command.now }
     requires unlocked { NoneLocked kernel.old.core.blocks }
-    ensures ok { IfOk result (λ _. RanCommand (D.medium.honest kernel.old.device) checked.now command.now kernel.old.core kernel.new.core
+    ensures ok { IfOk result (λ _. RanCommand (D.medium.honest kernel.old.device)
+        (Throughout D.medium kernel.old.device kernel.new.device) checked.now command.now kernel.old.core kernel.new.core
         (W.contents out.old.stream) (W.contents out.new.stream)) }
-    ensures stopped { IfErr result (λ _. StoppedCommand (D.medium.honest kernel.old.device) checked.now command.now kernel.old.core kernel.new.core
+    ensures stopped { IfErr result (λ _. StoppedCommand (D.medium.honest kernel.old.device)
+        (Throughout D.medium kernel.old.device kernel.new.device) checked.now command.now kernel.old.core kernel.new.core
         (W.contents out.old.stream) (W.contents out.new.stream)) }
     ensures honest { D.medium.honest kernel.new.device ↔ D.medium.honest kernel.old.device }
     ensures unlocked { NoneLocked kernel.new.core.blocks }
+    ensures sees { SeesDevice D.medium kernel.old × SeesDevice D.medium kernel.new }
     ensures kept { IfOk result (λ _. out.new.failures ≡ out.old.failures) }
     ensures failed { IfErr result (λ fault. (fault ≡ Write) × Rose out.old.failures out.new.failures) }
 {
@@ -237,16 +246,21 @@ fn carry_out_all<W: Write, D: Device + Drop>(
 ) -> Result<(), ScriptFault>
     requires admitted { All (IsAdmitted checked.now) commands.now }
     requires unlocked { NoneLocked kernel.old.core.blocks }
-    ensures ok { IfOk result (λ _. RanCommands (D.medium.honest kernel.old.device) checked.now commands.now kernel.old.core kernel.new.core
+    ensures ok { IfOk result (λ _. RanCommands (D.medium.honest kernel.old.device)
+        (Throughout D.medium kernel.old.device kernel.new.device) checked.now commands.now kernel.old.core kernel.new.core
         (W.contents out.old.stream) (W.contents out.new.stream)) }
-    ensures stopped { IfErr result (λ _. StoppedCommands (D.medium.honest kernel.old.device) checked.now commands.now kernel.old.core kernel.new.core
+    ensures stopped { IfErr result (λ _. StoppedCommands (D.medium.honest kernel.old.device)
+        (Throughout D.medium kernel.old.device kernel.new.device) checked.now commands.now kernel.old.core kernel.new.core
         (W.contents out.old.stream) (W.contents out.new.stream)) }
     ensures honest { D.medium.honest kernel.new.device ↔ D.medium.honest kernel.old.device }
     ensures unlocked { NoneLocked kernel.new.core.blocks }
+    ensures sees { SeesDevice D.medium kernel.old × SeesDevice D.medium kernel.new }
     ensures kept { IfOk result (λ _. out.new.failures ≡ out.old.failures) }
     ensures failed { IfErr result (λ fault. (fault ≡ Write) × Rose out.old.failures out.new.failures) }
 {
     let mut machine = Machine::new();
+    // what a stop before the first command leaves
+    kernel.memory_is_legal();
     for command in commands {
         carry_out(&mut machine, checked, command, kernel, out)?;
     }
@@ -285,16 +299,22 @@ pub fn run_script<W: Write, D: Device + Drop>(
 ) -> Result<(), ScriptFault>
     // No block of the file is locked by others: `Kernel::vm_unlocked` tells it.
     requires unlocked { NoneLocked kernel.old.core.blocks }
-    ensures ran { IfOk result (λ _. RanScript (D.medium.honest kernel.old.device) image.now script.now kernel.old.core kernel.new.core
+    // What it printed; and stopped at any moment, opening the file finds what the model's run of the
+    // script has as kept in one of its states.
+    ensures ran { IfOk result (λ _. RanScript (D.medium.honest kernel.old.device)
+        (Throughout D.medium kernel.old.device kernel.new.device) image.now script.now kernel.old.core kernel.new.core
         (W.contents out.old.stream) (W.contents out.new.stream)) }
     ensures due { IfErr result (ScriptEndsBy image.now script.now) }
     ensures stopped { IfErr result (λ fault. fault ≡ Write →
-        StoppedScript (D.medium.honest kernel.old.device) image.now script.now kernel.old.core kernel.new.core
+        StoppedScript (D.medium.honest kernel.old.device) (Throughout D.medium kernel.old.device kernel.new.device)
+        image.now script.now kernel.old.core kernel.new.core
         (W.contents out.old.stream) (W.contents out.new.stream)) }
 
-    // The device is as honest as it was, and no block of the file is locked again.
+    // The device is as honest as it was, no block of the file is locked again, and the count of failures
+    // that bounds refusal 11 is the device's.
     ensures honest { D.medium.honest kernel.new.device ↔ D.medium.honest kernel.old.device }
     ensures unlocked { NoneLocked kernel.new.core.blocks }
+    ensures sees { SeesDevice D.medium kernel.old × SeesDevice D.medium kernel.new }
 
     // Nothing runs before a fault other than `Write`.
     ensures kernel_kept { IfErr result (λ fault. fault ≢ Write → kernel.new ≡ kernel.old) }
@@ -306,6 +326,7 @@ pub fn run_script<W: Write, D: Device + Drop>(
     ensures writer_failed { IfErr result (λ fault. fault ≡ Write → Rose out.old.failures out.new.failures) }
     ensures writer_kept { KeptUnless Write result out.old.failures out.new.failures }
 {
+    kernel.memory_is_legal();
     if script.len() > MOST_BYTES {
         return Err(ScriptFault::TooLong);
     }

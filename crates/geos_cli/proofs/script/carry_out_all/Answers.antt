@@ -1,29 +1,53 @@
-use Rattle.std.proofs.Common.{◌∙◌, refl, arith}
-use Rattle.geos_cli.proofs.CommandsRun.{ran-none, ran-more, ran-all, ran-alike, stopped-at, stopped-alike}
+use Rattle.std.proofs.Common.{◌∙◌, inl, refl, arith}
+use Rattle.geos_machine.specs.Runs.{Throughout}
+use Rattle.geos_machine.proofs.Stops.{stops-first}
+use Rattle.geos_cli.proofs.CommandsRun.{throughout-then, ran-none, ran-more, ran-all, ran-alike, stopped-at, stopped-alike}
 use Rattle.geos_cli.proofs.Parts.{IfErr-any}
 use Rattle.geos_cli.proofs.script.carry_out_all.Goals as goal
 
 pub loop-command-init : goal.loop-command-init
-loop-command-init g c = (ran-none (g.D.Device.medium.honest c.args.kernel.now.device) c.args.checked.now c.args.kernel.now.core (g.W.Write.contents c.args.out.now.stream), refl, ((λ h. h), (λ h. h)), c.requires.unlocked)
+loop-command-init g c = (
+  ran-none (g.D.Device.medium.honest c.args.kernel.now.device)
+      (Throughout g.D.Device.medium c.args.kernel.now.device c.args.kernel.now.device) c.args.checked.now c.args.kernel.now.core
+      (g.W.Write.contents c.args.out.now.stream)
+      (λ f tied h. stops-first g.D.Device.medium c.args.kernel.now f tied
+      (g.met.D.Device.at_once c.args.kernel.now.device) c.memory_is_legal.ensures.kept h _ (λ x opens. inl opens)),
+  refl,
+  ((λ h. h), (λ h. h)),
+  c.requires.unlocked,
+  c.memory_is_legal.ensures.sees,
+)
 
 pub returns-clause-ok : goal.returns-clause-ok
-returns-clause-ok g c = ran-all (g.D.Device.medium.honest c.args.kernel.now.device) c.args.checked.now c.args.commands.now c.loop-command.command-index c.args.kernel.now.core c.loop-command.kernel.core _ _ (omega (arith, c.loop-command-test.false)) c.loop-command.invariant.0
+returns-clause-ok g c = ran-all
+    (g.D.Device.medium.honest c.args.kernel.now.device) _ c.args.checked.now c.args.commands.now c.loop-command.command-index c.args.kernel.now.core c.loop-command.kernel.core _ _ (omega (arith, c.loop-command-test.false)) c.loop-command.invariant.0
 
 pub loop-command-preserved : goal.loop-command-preserved
 loop-command-preserved g c =
     let before = c.loop-command.invariant.0 in
     let alike = c.loop-command.invariant.2 in
     let next = c.carry_out.ensures.honest in
-    let ran = ran-alike (g.D.Device.medium.honest c.loop-command.kernel.device) (g.D.Device.medium.honest c.args.kernel.now.device) alike c.args.checked.now _ _ _ _ _ c.in_ok-carry_out.ensures.ok in (
-      ran-more (g.D.Device.medium.honest c.args.kernel.now.device) c.args.checked.now c.args.commands.now c.loop-command.command-index _ _ _ _ _ _ _ c.loop-command-test.true before ran,
+    let ran = ran-alike (g.D.Device.medium.honest c.loop-command.kernel.device)
+    (g.D.Device.medium.honest c.args.kernel.now.device) alike _ c.args.checked.now _ _ _ _ _ c.in_ok-carry_out.ensures.ok in (
+      ran-more (g.D.Device.medium.honest c.args.kernel.now.device) _ _ _
+          (throughout-then g.D.Device.medium c.args.kernel.now.device c.loop-command.kernel.device c.carry_out.new.kernel.device) c.args.checked.now c.args.commands.now c.loop-command.command-index _ _ _ _ _ _ _ c.loop-command-test.true before ran,
       c.in_ok-carry_out.ensures.kept ∙ c.loop-command.invariant.1,
       ((λ h. alike.0 (next.0 h)), (λ h. next.1 (alike.1 h))),
       c.carry_out.ensures.unlocked,
+      c.carry_out.ensures.sees.1,
     )
 
 pub returns-in_err-carry_out-clause-stopped : goal.returns-in_err-carry_out-clause-stopped
 returns-in_err-carry_out-clause-stopped g c =
     let before = c.loop-command.invariant.0 in
     let alike = c.loop-command.invariant.2 in
-    let stopped = stopped-alike (g.D.Device.medium.honest c.loop-command.kernel.device) (g.D.Device.medium.honest c.args.kernel.now.device) alike c.args.checked.now _ _ _ _ _ c.in_err-carry_out.ensures.stopped in
-    IfErr-any _ (stopped-at (g.D.Device.medium.honest c.args.kernel.now.device) c.args.checked.now c.args.commands.now c.loop-command.command-index _ _ _ _ _ _ _ c.loop-command-test.true before stopped)
+    let stopped = stopped-alike (g.D.Device.medium.honest c.loop-command.kernel.device)
+    (g.D.Device.medium.honest c.args.kernel.now.device) alike _ c.args.checked.now _ _ _ _ _ c.in_err-carry_out.ensures.stopped in
+    IfErr-any _ (stopped-at (g.D.Device.medium.honest c.args.kernel.now.device) _ _ _
+    (throughout-then g.D.Device.medium c.args.kernel.now.device c.loop-command.kernel.device c.carry_out.new.kernel.device) c.args.checked.now c.args.commands.now c.loop-command.command-index _ _ _ _ _ _ _ c.loop-command-test.true before stopped)
+
+pub returns-clause-sees : goal.returns-clause-sees
+returns-clause-sees g c = (c.memory_is_legal.ensures.sees, c.loop-command.invariant.4)
+
+pub returns-in_err-carry_out-clause-sees : goal.returns-in_err-carry_out-clause-sees
+returns-in_err-carry_out-clause-sees g c = (c.memory_is_legal.ensures.sees, c.carry_out.ensures.sees.1)

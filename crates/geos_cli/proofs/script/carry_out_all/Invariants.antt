@@ -1,13 +1,16 @@
 use Rattle.std.proofs.Common.{◌≡◌, take}
 use Rattle.std.specs.Prelude.{◌↔◌}
 use Rattle.vm_blocks.specs.Listed.{NoneLocked}
+use Rattle.geos_kernel.specs.View.{SeesDevice}
+use Rattle.geos_machine.specs.Runs.{Throughout}
 use Rattle.geos_cli.specs.Script.{RanCommands}
 use Rattle.geos_cli.proofs.script.carry_out_all.Given as goal
 
 abbrev pub invariant-loop-command : goal.invariant-loop-command
 invariant-loop-command g l =
-    RanCommands (g.D.Device.medium.honest l.fn.kernel.device) l.fn.checked (take l.command-index l.fn.commands) l.fn.kernel.core l.kernel.core
+    RanCommands (g.D.Device.medium.honest l.fn.kernel.device) (Throughout g.D.Device.medium l.fn.kernel.device l.kernel.device) l.fn.checked (take l.command-index l.fn.commands) l.fn.kernel.core l.kernel.core
     (g.W.Write.contents l.fn.out.stream) (g.W.Write.contents l.out.stream)
     × (l.out.failures ≡ l.fn.out.failures)
     × (g.D.Device.medium.honest l.kernel.device ↔ g.D.Device.medium.honest l.fn.kernel.device)
     × NoneLocked l.kernel.core.blocks
+    × SeesDevice g.D.Device.medium l.kernel

@@ -15,11 +15,13 @@ carry_out_all-requires-clause-admitted g c =
 pub returns-clause-ran : goal.returns-clause-ran
 returns-clause-ran g c =
     let loads : Loads c.args.image.now (lines c.args.script.now) c.in_ok-checked.checked = record { read = c.in_ok-checked.ensures.image.0; accepted = c.in_ok-checked.ensures.image.1; good = c.in_ok-commands.ensures.commands.0 } in
-    if_ok-map c.carry_out_all.result (script-ran (g.D.Device.medium.honest c.args.kernel.now.device) c.args.image.now c.args.script.now c.in_ok-checked.checked c.args.kernel.now.core c.carry_out_all.new.kernel.core _ _ (omega (arith, c.if-script-gt-MOST_BYTES.false)) loads
+    if_ok-map c.carry_out_all.result
+    (script-ran (g.D.Device.medium.honest c.args.kernel.now.device) _ c.args.image.now c.args.script.now c.in_ok-checked.checked c.args.kernel.now.core c.carry_out_all.new.kernel.core _ _ (omega (arith, c.if-script-gt-MOST_BYTES.false)) loads
     c.deref.result.now (c.deref.ensures.value ∙ c.in_ok-commands.ensures.commands.1)) c.carry_out_all.ensures.ok
 
 pub returns-clause-stopped : goal.returns-clause-stopped
 returns-clause-stopped g c =
     let loads : Loads c.args.image.now (lines c.args.script.now) c.in_ok-checked.checked = record { read = c.in_ok-checked.ensures.image.0; accepted = c.in_ok-checked.ensures.image.1; good = c.in_ok-commands.ensures.commands.0 } in
-    if_err-map c.carry_out_all.result Write (script-stopped (g.D.Device.medium.honest c.args.kernel.now.device) c.args.image.now c.args.script.now c.in_ok-checked.checked c.args.kernel.now.core c.carry_out_all.new.kernel.core _ _ (omega (arith, c.if-script-gt-MOST_BYTES.false)) loads
+    if_err-map c.carry_out_all.result Write
+    (script-stopped (g.D.Device.medium.honest c.args.kernel.now.device) _ c.args.image.now c.args.script.now c.in_ok-checked.checked c.args.kernel.now.core c.carry_out_all.new.kernel.core _ _ (omega (arith, c.if-script-gt-MOST_BYTES.false)) loads
     c.deref.result.now (c.deref.ensures.value ∙ c.in_ok-commands.ensures.commands.1)) c.carry_out_all.ensures.stopped
