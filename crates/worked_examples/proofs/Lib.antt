@@ -5,6 +5,7 @@ pub mod Spelled
 pub mod Judged
 pub mod JudgedOnBlocks
 pub mod Runs
+pub mod KeptRuns
 pub mod Executed
 pub mod OnSlots
 pub mod OnPointers
