@@ -4,10 +4,9 @@ ghost use Rattle.vm_file.specs.Device.{Counts, Only};
 ghost use Rattle.vm_file.specs.Outcomes.{ReadsOnly, WritesOnly};
 
 use crate::device::{Device, Disk, count_failure};
-use crate::file_limit::most_bytes;
 use std::alloc::Global;
 use std::fs::{self, File, OpenOptions};
-use std::io::{self, ErrorKind};
+use std::io;
 use std::os::unix::fs::FileExt;
 use std::rt::Files;
 
@@ -21,8 +20,6 @@ use std::rt::Files;
 pub struct FileDevice {
     file: File,
     len: u64,
-    /// How long the system lets a file be that is written: it ends a program that writes past that.
-    most: u64,
     failures: u64,
     may_lack: bool,
 }
@@ -98,7 +95,6 @@ impl FileDevice {
         FileDevice {
             file,
             len,
-            most: most_bytes(),
             failures: 0,
             may_lack: false,
         }
@@ -120,7 +116,7 @@ impl FileDevice {
         ensures failures { IfOk result (λ device. failures_of device ≡ 0) }
         ensures may_lack { IfOk result (λ device. may_lack device ≡ false) }
     {
-        set_length(&file, len)?;
+        file.set_len(len)?;
         Ok(FileDevice::new(file, len))
     }
 
@@ -130,26 +126,11 @@ impl FileDevice {
     {
         n as u64 <= self.len && at <= self.len - n as u64
     }
-
-    /// Whether a range lies within the length, and where the system lets it be written.
-    fn may_write(&self, at: u64, n: usize) -> bool
-        ensures { IsTrue result → at + n ≤ len_of self.now }
-    {
-        self.has(at, n) && at + n as u64 <= self.most
-    }
-}
-
-/// Gives a new file its length. An error where the system lets no file be so long.
-fn set_length(file: &File, len: u64) -> io::Result<()> {
-    if most_bytes() < len {
-        return Err(io::Error::from(ErrorKind::FileTooLarge));
-    }
-    file.set_len(len)
 }
 
 /// Gives a new file its length, and makes it and its name last.
 fn make_last<R: Files<File = File>>(rt: &R, file: &File, path: &str, len: u64) -> io::Result<()> {
-    set_length(file, len)?;
+    file.set_len(len)?;
     file.sync_all()?;
     File::open(rt, folder_of(path))?.sync_all()
 }
@@ -204,8 +185,7 @@ impl Device for FileDevice {
         counted(&mut self.failures, self.file.read_exact_at(into, at))
     }
 
-    /// Writes bytes from an offset on. `Disk` past the length, and where the system refuses, or would end the
-    /// program.
+    /// Writes bytes from an offset on. `Disk` past the length, and where the system refuses.
     fn write_at(&mut self, at: u64, bytes: &[u8]) -> Result<(), Disk>
         ensures within { OnOk result (at + length bytes.now ≤ length (bytes_of self.old)) }
         ensures writes { WritesOnly medium at (length bytes.now) self.old self.new }
@@ -214,7 +194,7 @@ impl Device for FileDevice {
         ensures refused { OnErr result (may_lack self.new ≡ may_lack self.old) }
         ensures call { Writes self.old at bytes.now result self.new }
     {
-        if !self.may_write(at, bytes.len()) {
+        if !self.has(at, bytes.len()) {
             count_failure(&mut self.failures);
             return Err(Disk);
         }

@@ -16,7 +16,6 @@ mod error;
 mod faulty;
 mod fields;
 mod file;
-mod file_limit;
 mod law;
 mod memory;
 mod opened;
