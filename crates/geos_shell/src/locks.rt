@@ -5,7 +5,7 @@ use crate::streams::StreamFault;
 use std::fs::{self, File, OpenOptions, TryLockError};
 use std::io::{self, ErrorKind, IsTerminal};
 use std::thread;
-use std::time::Duration;
+use std::time::{Duration, Instant};
 
 /// Who else may hold a lock on the file meanwhile.
 #[derive(Clone, Copy)]
@@ -46,10 +46,10 @@ fn opened(rt: &HostRuntime, path: &str, sharing: Sharing) -> io::Result<File> {
     how.open(rt, path)
 }
 
-/// How often the lock is asked for before the user is told that it is waited for.
-const TIMES: u32 = 100;
+/// How long the lock is asked for before the user is told that it is waited for, in milliseconds.
+const SOON: u64 = 1_000;
 
-/// How long after one another, in milliseconds: for a second together.
+/// How long after one another it is asked for, in milliseconds.
 const PAUSE: u64 = 10;
 
 /// Takes the lock if no other program has it.
@@ -62,12 +62,18 @@ fn tried(file: &File, sharing: Sharing) -> Result<(), TryLockError> {
 
 /// Takes the lock if no other program has it all that time.
 fn had_soon(rt: &HostRuntime, file: &File, sharing: Sharing) -> io::Result<bool> {
-    for _ in 0..TIMES {
+    let begun = Instant::now(rt)?;
+    for _ in 0..SOON / PAUSE {
         match tried(file, sharing) {
             Ok(()) => return Ok(true),
-            Err(TryLockError::WouldBlock) => thread::sleep(rt, Duration::from_millis(PAUSE)),
+            Err(TryLockError::WouldBlock) => {}
             Err(TryLockError::Error(error)) => return Err(error),
         }
+        // A pause may last longer than it was asked to.
+        if begun.elapsed(rt)? >= Duration::from_millis(SOON) {
+            break;
+        }
+        thread::sleep(rt, Duration::from_millis(PAUSE));
     }
     Ok(false)
 }

@@ -64,10 +64,8 @@ fn push_shown(shown: &mut String, character: char) -> Result<(), AllocError> {
         return shown.push(character);
     }
     let mut bytes = [0; 4];
-    for byte in character.encode_utf8(&mut bytes).bytes() {
-        write!(shown, "\\x{byte:02x}")?;
-    }
-    Ok(())
+    let control = Printable(character.encode_utf8(&mut bytes));
+    write!(shown, "{control}")
 }
 
 /// As `push_shown`, of a text that is not UTF-8.
