@@ -69,8 +69,8 @@ def texts():
     yield "the same, reached by nothing", chain(2000, ["RET"])
     back = [f"b{i}: JMP " + (f"b{i - 1}" if 0 < i else "x") for i in range(4090)]
     yield "4,090 jumps back, one after another", [*HEAD, "JMP b4089", *back, "x: RET"]
-    yield "680 blocks back, each of which raises a bound that flows through 2,030 CHKs", wave(680, 2030, []), 40
-    yield "the same, and back to the first block", wave(680, 2030, ["LOOP k0 b679"]), 100
+    yield "680 blocks back, each of which raises a bound that flows through 2,030 CHKs", wave(680, 2030, []), 100
+    yield "the same, and a way back that nothing pays", wave(680, 2030, ["c: BEQ w0 w1 c"]), 20
     yield "4,000 LOOPs, branches and counters that are set, as they fall", tangle(4000, 50, 39)
     yield "1 MiB of labels", [*HEAD, *(f"L{i}:" for i in range(115_000)), "RET"]
     yield "1 MiB of one digit", [*HEAD, "LDI w0 " + "0" * 1_048_000 + "1", "RET"]

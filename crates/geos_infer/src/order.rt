@@ -1,6 +1,6 @@
 //! The order in which rows flow through the places of a routine.
 
-ghost use Rattle.std.specs.Prelude.{◌<◌, ◌≤◌, IfSome};
+ghost use Rattle.std.specs.Prelude.{◌<◌, IfSome};
 
 use crate::body::Body;
 use crate::edges::{Edge, edge_in};
@@ -47,16 +47,17 @@ pub(crate) struct Order {
     left: u16,
 }
 
-/// The two places to which control goes from a pc, if it does: the later one first, so that of two places which do not hang together
-/// the one that comes first in the text has its turn first.
-fn ends_at(body: &Body, pc: u16) -> [Option<Edge>; 2]
+/// Where one of the two edges leads from a pc, if it is there and stays in the routine. Of both that which leads further on in the text
+/// is followed first, so that of two places that do not hang together the one that comes first in the text has its turn first.
+fn end_at(body: &Body, pc: u16, followed: u8) -> Option<u16>
     requires { pc < body.now.end }
+    ensures { IfSome result (λ to. to < 4096) }
 {
-    let along = edge_in(body, pc, false);
-    let aside = edge_in(body, pc, true);
-    match (along, aside) {
-        (Some(next), Some(target)) if next.to < target.to => [aside, along],
-        _ => [along, aside],
+    let target_first = pc < body.image.instr(pc).target;
+    let branch = target_first == (followed == 0);
+    match edge_in(body, pc, branch) {
+        Some(edge) => Some(edge.to),
+        None => None,
     }
 }
 
@@ -134,14 +135,13 @@ impl Order {
         }
         let Step { pc, followed } = self.way.at(last);
         if followed < 2 && pc < body.end {
-            let followed_now = followed + 1;
             let next = Step {
                 pc,
-                followed: followed_now,
+                followed: followed + 1,
             };
             self.way.set(last, next);
-            if let Some(edge) = ends_at(body, pc)[usize::from(followed)] {
-                self.come(edge.to);
+            if let Some(to) = end_at(body, pc, followed) {
+                self.come(to);
             }
         } else {
             self.go_back(pc);

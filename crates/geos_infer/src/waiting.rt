@@ -39,6 +39,7 @@ pub(crate) struct Waiting {
     times: Table<Times>,
     /// Whether less than a join was kept of some place.
     widened: bool,
+    ghost inside: { turn < 4096 },
 }
 
 impl Waiting {
