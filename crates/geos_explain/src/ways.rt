@@ -1,11 +1,11 @@
-//! Which ways lead to an instruction, which of them bring a pointer, and which instructions lose it.
+//! Which ways bring a pointer to an instruction, and which instructions lose it.
 
-ghost use Rattle.std.specs.Prelude.{◌≡◌, ◌<◌, Some, length, slice_get, IfSome};
+ghost use Rattle.std.specs.Prelude.{◌≡◌, Some, slice_get};
 ghost use Rattle.geos_verify.specs.Rows.{is_stale};
 ghost use Rattle.geos_explain.specs.Places.{place_of};
 ghost use Rattle.geos_explain.specs.Ways.{is_as, entry_pointer, empty_slot, empty_along, empty_on, is_as_sought, with_hint, sets, forgets, loses};
 
-use crate::edges::{Edge, end_of};
+use crate::edges::Edge;
 use crate::led::is_reached;
 use crate::place::Place;
 use crate::points::point_at;

@@ -1,6 +1,5 @@
 use Rattle.std.specs.Prelude.{ℕ, ◌+◌, ◌≤◌, ◌<◌, slice_index_or}
 use Rattle.geos_image.specs.Parts.{start_of}
-use Rattle.geos_explain.specs.Places.{place_of}
 use Rattle.geos_explain.specs.Arrivals.{arrival, no_behind, IsBehind}
 use Rattle.geos_explain.proofs.arrivals.all_behind.Given as goal
 
