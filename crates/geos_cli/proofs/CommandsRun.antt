@@ -1,9 +1,9 @@
 -- Commands that were carried out one after another, or stopped, from kernel to kernel.
-use Rattle.std.proofs.Common.{◌≡◌, ◌<◌, ◌≤◌, ◌+◌, ℕ, suc, List, [], ◌∷◌, ◌++◌, length, take, drop, get_or, refl, sym, ap, ◌∙◌, subst, take-append-drop, drop-cons, inl, inr, ⊎_elim}
+use Rattle.std.proofs.Common.{◌≡◌, true, ◌<◌, ◌≤◌, ◌+◌, ℕ, suc, List, [], ◌∷◌, ◌++◌, length, take, drop, get_or, refl, sym, ap, ◌∙◌, subst, take-append-drop, drop-cons, inl, inr, ⊎_elim}
 use Rattle.std.specs.Prelude.{◌↔◌, Option, Result, Ok, Err, IfOk, IfErr}
 use Rattle.std.specs.Str.Lines.{lines}
-use Rattle.std.specs.Io.KnownBytes.{Appends}
-use Rattle.std.proofs.KnownBytes.{Appends-nil, Appends-trans}
+use Rattle.std.specs.Io.KnownBytes.{Appends, Keeps}
+use Rattle.std.proofs.KnownBytes.{Appends-kept, Appends-nil, Appends-trans}
 use Rattle.std.proofs.lemmas.List.{take_more, take_all}
 use Rattle.geos_model.specs.declared.refusal.Refusal.{Refusal}
 use Rattle.geos_table.specs.VmFile.{Kept, VmFile}
@@ -24,7 +24,8 @@ use Rattle.geos_cli.specs.declared.script.Call.{Call}
 use Rattle.geos_cli.specs.declared.script.Command.{Command}
 use Rattle.geos_cli.specs.declared.script.Command.TheVariants as command
 use Rattle.geos_input.specs.Counted.{AppendsPart}
-use Rattle.geos_cli.specs.Script.{printed, committed, commands_of, Does, Prints, PrintsPart, From, IsAllowed, Leads, Loads, RanCommand, RanCommands, RanScript, RunsScript, StoppedCommand, StoppedCommands, StoppedScript, StopsScript, stage_of}
+use Rattle.geos_cli.specs.Commits.{may_commit}
+use Rattle.geos_cli.specs.Script.{printed, committed, commands_of, Does, Prints, PrintsAhead, PrintsPart, PrintsUpTo, From, IsAllowed, Leads, Loads, RanCommand, RanCommands, RanScript, RunsScript, StoppedCommand, StoppedCommands, StoppedScript, StopsScript, stage_of}
 use Rattle.geos_text.specs.Words.{most_bytes}
 use Rattle.geos_cli.proofs.Prints.{does-wider, prints-more, ran-wider}
 
@@ -155,6 +156,34 @@ pub ran-all : (honest : Type 0) (within : Within) (image : Parts) (commands : Li
     → RanCommands honest within image commands kernel later a b
 ran-all honest within image commands k kernel later a b past ran = subst (λ cs. RanCommands honest within image cs kernel later a b) (take_all k commands past) ran
 
+-- and a flush keeps what the writer got
+pub ran-kept : (honest : Type 0) (within : Within) (image : Parts) (commands : List Command) (kernel later : KernelState)
+    (a b c : Option (List ℕ)) → RanCommands honest within image commands kernel later a b → Keeps b c → RanCommands honest within image commands kernel later a c
+ran-kept honest within image commands kernel later a b c (text, leads, appends) kept = (text, leads, Appends-kept a b c text appends kept)
+
+-- commands stand before the one at k, and behind it
+split-at : (commands : List Command) (k : ℕ) (default : Command) → k < length commands → commands ≡ take k commands ++ (get_or commands k default ∷ drop (suc k) commands)
+split-at commands k default in_range = sym (take-append-drop k commands) ∙ ap (λ cs. take k commands ++ cs) (drop-cons commands k default in_range)
+
+-- the flush before a command that may commit failed
+pub stopped-ahead : (honest : Type 0) (within : Within) (image : Parts) (commands : List Command) (k : ℕ) (default : Command) (kernel later : KernelState)
+    (a b : Option (List ℕ)) → k < length commands → RanCommands honest within image (take k commands) kernel later a b → may_commit image (get_or commands k default) ≡ true
+    → StoppedCommands honest within image commands kernel later a b
+stopped-ahead honest within image commands k default kernel later a b in_range (text, prints, appends) may = (text, leads, appends)
+  where
+    leads : Leads honest within kernel later (λ before after keeps. From (PrintsUpTo (IsAllowed honest) image commands before after text) before keeps)
+    leads f tied =
+        let earlier = prints f tied in
+        let ahead : PrintsAhead (IsAllowed honest) image commands (stage_of kernel f) (stage_of later earlier.file) text earlier.does.0 = record {
+          done = take k commands;
+          next = get_or commands k default;
+          others = drop (suc k) commands;
+          in_order = split-at commands k default in_range;
+          commits = may;
+          printed_all = earlier.does.1;
+        } in
+        record { file = earlier.file; tied = earlier.tied; lasts = earlier.lasts; keeps = earlier.keeps; does = (earlier.does.0, inr ahead, earlier.does.2); stops = earlier.stops }
+
 -- what is kept in one of some states is kept in one of more
 one-left : (xs ys : List Kept) (c : List ℕ) → OpensAsOneOf xs c → OpensAsOneOf (xs ++ ys) c
 one-left [] ys c h = absurd h
@@ -205,10 +234,7 @@ module _ (honest : Type 0) (within next whole : Within) (join : Joins honest wit
       → StoppedCommands honest whole image commands kernel later a c
   stopped-at (text, prints, appends) (part, rest, some, does, behind) = (text ++ part, leads, Appends-trans a b c text part appends behind)
     where
-      split : commands ≡ take k commands ++ (here ∷ drop (suc k) commands)
-      split = sym (take-append-drop k commands) ∙ ap (λ cs. take k commands ++ cs) (drop-cons commands k default in_range)
-
-      leads : Leads honest whole kernel later (λ before after keeps. From (PrintsPart (IsAllowed honest) image commands before after (text ++ part)) before keeps)
+      leads : Leads honest whole kernel later (λ before after keeps. From (PrintsUpTo (IsAllowed honest) image commands before after (text ++ part)) before keeps)
       leads f tied =
           let earlier = prints f tied in
           let r = does earlier.file earlier.tied in
@@ -217,7 +243,7 @@ module _ (honest : Type 0) (within next whole : Within) (join : Joins honest wit
             done = take k commands;
             last = here;
             others = drop (suc k) commands;
-            in_order = split;
+            in_order = split-at commands k default in_range;
             between = stage_of mid earlier.file;
             earlier = text;
             kept_earlier = kept;
@@ -235,7 +261,7 @@ module _ (honest : Type 0) (within next whole : Within) (join : Joins honest wit
             tied = r.tied;
             lasts = lasts-on honest kernel mid later earlier.lasts r.lasts;
             keeps = f.kept ∷ (kept ++ r.keeps);
-            does = (kept ++ r.keeps, stops, refl);
+            does = (kept ++ r.keeps, inl stops, refl);
             stops = λ h. joined f.kept kept earlier.keeps r.keeps earlier.does.2 (earlier.stops h) (r.stops h) h;
           }
 
@@ -266,5 +292,5 @@ module _ (honest : Type 0) (within : Within) (bytes script : List ℕ) (image : 
       of_script : Leads honest within kernel later (λ before after keeps. From (StopsScript (IsAllowed honest) bytes script before after text) before keeps)
       of_script f tied =
           let l = subst (λ cs. Leads honest within kernel later
-          (λ before after keeps. From (PrintsPart (IsAllowed honest) image cs before after text) before keeps)) all leads f tied in
+          (λ before after keeps. From (PrintsUpTo (IsAllowed honest) image cs before after text) before keeps)) all leads f tied in
           record { file = l.file; tied = l.tied; lasts = l.lasts; keeps = l.keeps; does = (l.does.0, (short, (image, loads, l.does.1)), l.does.2); stops = l.stops }

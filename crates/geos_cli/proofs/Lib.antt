@@ -1,5 +1,6 @@
 pub mod Commands
 pub mod Examples
+pub mod MayCommit
 pub mod Parts
 pub mod Prints
 pub mod CommandsRun

@@ -1,5 +1,5 @@
 -- What commands print, one after another.
-use Rattle.std.proofs.Common.{ℕ, List, [], ◌∷◌, ◌++◌, refl, sym, ap, ◌∙◌, subst, append_assoc, append-nil}
+use Rattle.std.proofs.Common.{ℕ, inl, inr, List, [], ◌∷◌, ◌++◌, refl, sym, ap, ◌∙◌, subst, append_assoc, append-nil}
 use Rattle.geos_table.specs.Memory.{Memory}
 use Rattle.geos_table.specs.VmFile.{Kept}
 use Rattle.geos_table.specs.Effects.{Choice}
@@ -9,7 +9,7 @@ use Rattle.geos_machine.specs.Runs.{Ran}
 use Rattle.geos_machine.proofs.Going.{each-wider}
 use Rattle.geos_cli.specs.declared.script.Command.{Command}
 use Rattle.geos_cli.specs.declared.script.Command.TheVariants as command
-use Rattle.geos_cli.specs.Script.{Allows, Does, Prints, PrintsPart, Stage}
+use Rattle.geos_cli.specs.Script.{Allows, Does, Prints, PrintsAhead, PrintsPart, PrintsUpTo, Stage}
 
 -- one more command prints behind the others, where they left it
 pub prints-more : (allows : Allows) (image : Parts) (commands : List Command) (before between after : Stage) (text : List ℕ) (keeps : List Kept)
@@ -68,7 +68,7 @@ module _ (P Q : Allows) (wider : (before now : ℕ) (choice : Choice) → P befo
   prints-wider (c ∷ commands) before after text keeps (between, own, others, kept, more, does, rest, e, k) =
       (between, own, others, kept, more, does-wider c before between own kept does, prints-wider commands between after others more rest, e, k)
 
-  pub part-wider : (commands : List Command) (before after : Stage) (text : List ℕ) (keeps : List Kept)
+  part-wider : (commands : List Command) (before after : Stage) (text : List ℕ) (keeps : List Kept)
       → PrintsPart P image commands before after text keeps → PrintsPart Q image commands before after text keeps
   part-wider commands before after text keeps h = record {
     done = h.done;
@@ -87,3 +87,15 @@ module _ (P Q : Allows) (wider : (before now : ℕ) (choice : Choice) → P befo
     written = h.written;
     kept = h.kept;
   }
+
+  pub up_to-wider : (commands : List Command) (before after : Stage) (text : List ℕ) (keeps : List Kept)
+      → PrintsUpTo P image commands before after text keeps → PrintsUpTo Q image commands before after text keeps
+  up_to-wider commands before after text keeps (inl h) = inl (part-wider commands before after text keeps h)
+  up_to-wider commands before after text keeps (inr h) = inr (record {
+    done = h.done;
+    next = h.next;
+    others = h.others;
+    in_order = h.in_order;
+    commits = h.commits;
+    printed_all = prints-wider h.done before after text keeps h.printed_all;
+  })

@@ -14,7 +14,7 @@ use Rattle.geos_input.specs.Hex.{hex_fault, image_bytes, script_lines, IsBadHex}
 use Rattle.geos_cli.specs.Script.{commands_of, EndsBy, IsAllowed, Loads, RanScript, Runs, RunsScript, ScriptEndsBy, Stage, StoppedScript, Stops, stage_of}
 use Rattle.geos_text.specs.Words.{most_bytes}
 use Rattle.geos_input.specs.Reading.{Reads}
-use Rattle.geos_cli.proofs.Prints.{prints-wider, part-wider}
+use Rattle.geos_cli.proofs.Prints.{prints-wider, up_to-wider}
 use Rattle.geos_input.specs.declared.fault.ScriptFault.{ScriptFault}
 use Rattle.geos_input.specs.declared.fault.ScriptFault.TheVariants.{TooLong, BadHex, BadImage, Rejected, BadScript, Read, Write, Memory}
 use Rattle.geos_cli.specs.Session.{IsInMemory, begun, no_blocks, RanBytes, StoppedBytes, EndsBytes, RanSession, StoppedSession, EndsSession}
@@ -58,7 +58,7 @@ module _ (honest : Type 0) (good : honest) where
   stops-honest : (bytes : List ℕ) (ls : List (List ℕ)) (before after : Stage) (text : List ℕ) (keeps : List Kept)
       → Stops (IsAllowed honest) bytes ls before after text keeps → Stops IsInMemory bytes ls before after text keeps
   stops-honest bytes ls before after text keeps (image, loads, part) =
-      (image, loads, part-wider (IsAllowed honest) IsInMemory in-memory image (commands_of image ls) before after text keeps part)
+      (image, loads, up_to-wider (IsAllowed honest) IsInMemory in-memory image (commands_of image ls) before after text keeps part)
 
 -- bytes have an image and a script, which runs on a kernel without a block
 module _ (honest : Type 0) (bytes items image script : List ℕ) (kernel later : KernelState) (good : honest) (short : length bytes ≤ most_bytes) (digits : hex_fault (lines bytes) ≡ None)

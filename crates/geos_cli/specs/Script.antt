@@ -1,5 +1,5 @@
 -- What the lines of a script say, when a script ends early, and what it prints.
-use Rattle.std.specs.Prelude.{◌≡◌, ◌<◌, ◌≤◌, ℕ, ◌-◌, Bool, true, ◌&&◌, not, nat_le, if◌then◌else◌, decimal, codes, bytes_eq}
+use Rattle.std.specs.Prelude.{◌≡◌, ◌<◌, ◌≤◌, ◌⊎◌, ℕ, ◌-◌, Bool, true, ◌&&◌, not, nat_le, if◌then◌else◌, decimal, codes, bytes_eq}
 use Rattle.std.specs.Prelude.{List, [], ◌∷◌, ◌++◌, length, replicate, take, position, filter_map, flat_map}
 use Rattle.std.specs.Prelude.{Option, Some, None, option_map, option_and_then, is_none, unwrap_or, Result, Ok, Err}
 use Rattle.std.specs.List.{position_from}
@@ -27,6 +27,7 @@ use Rattle.geos_text.specs.Words.{most_bytes}
 use Rattle.geos_cli.specs.declared.script.Call.{Call}
 use Rattle.geos_cli.specs.declared.script.Command.{Command}
 use Rattle.geos_cli.specs.declared.script.Command.TheVariants as command
+use Rattle.geos_cli.specs.Commits.{may_commit}
 use Rattle.geos_input.specs.declared.fault.ScriptFault.{ScriptFault}
 use Rattle.geos_input.specs.declared.fault.ScriptFault.TheVariants.{TooLong, BadHex, BadImage, Rejected, BadScript, Read, Write, Memory}
 use Rattle.geos_text.specs.Words.{is_empty, words, without_comment}
@@ -152,7 +153,7 @@ Prints allows image (command ∷ commands) before after text keeps =
     × (text ≡ shown ++ others)
     × (keeps ≡ own ++ rest)
 
--- what the commands have printed when the writer fails: some are done, with all that they print; the
+-- what the commands have printed when a write fails: some are done, with all that they print; the
 -- next one was carried out, where they left it, and to the stage after; a beginning of what it prints
 -- is written, not all; the others were not begun
 pub record PrintsPart (allows : Allows) (image : Parts) (commands : List Command) (before after : Stage) (text : List ℕ) (keeps : List Kept) : Type 0 where
@@ -171,6 +172,21 @@ pub record PrintsPart (allows : Allows) (image : Parts) (commands : List Command
   pub not_all : 0 < length rest
   pub written : text ≡ earlier ++ part
   pub kept : keeps ≡ kept_earlier ++ kept_last
+
+-- what the commands have printed when a flush fails: some are done, with all that they print; the next
+-- one, which may commit, was not begun, nor the others
+pub record PrintsAhead (allows : Allows) (image : Parts) (commands : List Command) (before after : Stage) (text : List ℕ) (keeps : List Kept) : Type 0 where
+  pub done : List Command
+  pub next : Command
+  pub others : List Command
+  pub in_order : commands ≡ done ++ next ∷ others
+  pub commits : may_commit image next ≡ true
+  pub printed_all : Prints allows image done before after text keeps
+
+-- what the commands have printed when the writer fails, at a write or at a flush
+abbrev pub PrintsUpTo : Allows → Parts → List Command → Stage → Stage → List ℕ → List Kept → Type 0
+PrintsUpTo allows image commands before after text keeps =
+    PrintsPart allows image commands before after text keeps ⊎ PrintsAhead allows image commands before after text keeps
 
 -- from a kernel with this VM file this leads to another kernel, with a VM file that the model may know
 -- then; and a stop meanwhile leaves a file in which `open` finds what is kept in one of the states
@@ -213,7 +229,7 @@ RanCommands honest within image commands kernel later old new =
 abbrev pub StoppedCommands : Type 0 → Within → Parts → List Command → KernelState → KernelState → Option (List ℕ) → Option (List ℕ) → Type 0
 StoppedCommands honest within image commands kernel later old new =
     (text : List ℕ)
-    × Leads honest within kernel later (λ before after keeps. From (PrintsPart (IsAllowed honest) image commands before after text) before keeps)
+    × Leads honest within kernel later (λ before after keeps. From (PrintsUpTo (IsAllowed honest) image commands before after text) before keeps)
     × Appends old new text
 
 -- bytes spell an image that the verifier accepts, and no line of the script is bad
@@ -245,7 +261,7 @@ Runs allows bytes lines before after text keeps =
 -- and printed the text when the writer fails
 abbrev pub Stops : Allows → List ℕ → List (List ℕ) → Stage → Stage → List ℕ → List Kept → Type 0
 Stops allows bytes lines before after text keeps =
-    (image : Parts) × Loads bytes lines image × PrintsPart allows image (commands_of image lines) before after text keeps
+    (image : Parts) × Loads bytes lines image × PrintsUpTo allows image (commands_of image lines) before after text keeps
 
 -- when such a script ends with a fault: each of them in the order in which they are looked for
 abbrev pub EndsBy : List ℕ → List (List ℕ) → ScriptFault → Type 0

@@ -4,9 +4,11 @@
 //! | Module | Has |
 //! |---|---|
 //! | session | `run_session`: reads a session to its end, and runs it |
+//! | output | prints what commands put out, and flushes the writer |
 //! | script | `run_script`: carries out the commands of a script, and prints what calls put out |
 #![tactic(auto)]
 
+mod output;
 mod script;
 mod session;
 

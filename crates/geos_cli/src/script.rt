@@ -1,14 +1,14 @@
 //! Scripts: lines of commands, read whole before the first one runs.
 
-ghost use Rattle.std.specs.Prelude.{[], ◌∷◌, ◌≡◌, ◌≢◌, ◌↔◌, All, None, Ok, Err, IfOk, IfErr};
+ghost use Rattle.std.specs.Prelude.{[], ◌∷◌, ◌≡◌, ◌≢◌, ◌↔◌, true, false, All, None, Ok, IfOk, IfErr};
 ghost use Rattle.std.specs.Str.Lines.{lines};
-ghost use Rattle.std.specs.Io.KnownBytes.{Appends, Keeps};
+ghost use Rattle.std.specs.Io.KnownBytes.{Keeps};
 ghost use Rattle.geos_input.specs.declared.fault.ScriptFault.TheVariants.{Write};
 ghost use Rattle.vm_file.specs.Device.{Rose};
-ghost use Rattle.geos_input.specs.Counted.{AppendsPart};
 ghost use Rattle.geos_input.specs.Fault.{KeptUnless};
+ghost use Rattle.geos_cli.specs.Commits.{commits, first_commit, may_commit, IsGiven};
 ghost use Rattle.geos_cli.specs.Script.{IsAdmitted, routine_named, registers_of, call_named, how_named, command_of};
-ghost use Rattle.geos_cli.specs.Script.{commands_of, first_bad, IsBadLine, IsBadImage, printed, committed};
+ghost use Rattle.geos_cli.specs.Script.{commands_of, first_bad, IsBadLine, IsBadImage};
 ghost use Rattle.geos_cli.specs.Script.{RanCommand, StoppedCommand, RanCommands, StoppedCommands, RanScript, StoppedScript, ScriptEndsBy};
 ghost use Rattle.geos_kernel.specs.Kernel.{Calls};
 ghost use Rattle.geos_kernel.specs.View.{IsFileOf, SeesDevice};
@@ -21,7 +21,8 @@ ghost use Rattle.geos_image.specs.Reading.{image_at};
 ghost use Rattle.geos_verify.specs.Rules.{Accepted};
 ghost use Rattle.geos_text.specs.Words.{words};
 
-use geos_image::Image;
+use crate::output::{give, print, print_refusal};
+use geos_image::{Image, Opcode, Point};
 use geos_input::{Counted, MOST_BYTES, ScriptFault};
 use geos_kernel::Kernel;
 use geos_machine::{Machine, admits_words};
@@ -147,44 +148,61 @@ fn commands_of(alloc: Global, checked: &Checked, script: &[u8]) -> Result<Vec<Co
     Ok(commands)
 }
 
-fn write<W: Write>(out: &mut Counted<W>, bytes: &[u8]) -> Result<(), ScriptFault>
-    ensures ok { IfOk result (λ _. Appends (W.contents out.old.stream) (W.contents out.new.stream) bytes.now) }
-    ensures part { IfErr result (λ _. AppendsPart (W.contents out.old.stream) (W.contents out.new.stream) bytes.now) }
-    ensures kept { IfOk result (λ _. out.new.failures ≡ out.old.failures) }
-    ensures failed { IfErr result (λ fault. (fault ≡ Write) × Rose out.old.failures out.new.failures) }
+/// Whether the instruction commits.
+fn commits(opcode: Opcode) -> bool
+    ensures { result ≡ commits opcode }
 {
-    match out.write_all(bytes) {
-        Ok(()) => Ok(()),
-        Err(_) => Err(ScriptFault::Write),
+    matches!(opcode, Opcode::Vupdate | Opcode::Vsave | Opcode::Vrevert)
+}
+
+/// The first pc of an instruction that commits.
+fn first_commit(points: &[Point]) -> Option<usize>
+    ensures { result ≡ first_commit points.now }
+{
+    points.iter().position(|point| commits(point.instr.opcode))
+}
+
+/// Whether the command may commit: a call, where the first instruction that commits stands in
+/// front of the end of its routine.
+fn may_commit(checked: &Checked, first: Option<usize>, command: &Command) -> bool
+    requires admitted { IsAdmitted checked.now command.now }
+    requires first { first ≡ first_commit checked.now.points }
+    ensures { result ≡ may_commit checked.now command.now }
+{
+    match command {
+        Command::Commit(_) => true,
+        Command::Call(call) => {
+            let image = checked.image();
+            let end = image.start(call.routine) + image.routine(call.routine).count;
+            match first {
+                Some(pc) => pc < usize::from(end),
+                None => false,
+            }
+        }
     }
 }
 
-/// Prints each word in decimal on a line.
-fn print<W: Write>(words: &[u16], out: &mut Counted<W>) -> Result<(), ScriptFault>
-    ensures ok { IfOk result (λ _. Appends (W.contents out.old.stream) (W.contents out.new.stream) (printed words.now)) }
-    ensures part { IfErr result (λ _. AppendsPart (W.contents out.old.stream) (W.contents out.new.stream) (printed words.now)) }
+/// Flushes the writer before a command that may commit.
+fn give_before<W: Write>(
+    checked: &Checked,
+    first: Option<usize>,
+    command: &Command,
+    out: &mut Counted<W>,
+) -> Result<(), ScriptFault>
+    requires admitted { IsAdmitted checked.now command.now }
+    requires first { first ≡ first_commit checked.now.points }
+    ensures bytes { Keeps (W.contents out.old.stream) (W.contents out.new.stream) }
+    ensures given { IfOk result (λ _. may_commit checked.now command.now ≡ true → IsGiven out.new.asked out.new.flushed) }
+    ensures idle { may_commit checked.now command.now ≡ false → out.new ≡ out.old }
+    ensures due { IfErr result (λ _. may_commit checked.now command.now ≡ true) }
     ensures kept { IfOk result (λ _. out.new.failures ≡ out.old.failures) }
     ensures failed { IfErr result (λ fault. (fault ≡ Write) × Rose out.old.failures out.new.failures) }
 {
-    let mut digits = itoa::Buffer::new();
-    for word in words {
-        write(out, digits.format(*word).as_bytes())?;
-        write(out, b"\n")?;
+    if may_commit(checked, first, command) {
+        give(out)
+    } else {
+        Ok(())
     }
-    Ok(())
-}
-
-/// Prints the number of a refusal, on a line.
-fn print_refusal<W: Write>(refusal: Refusal, out: &mut Counted<W>) -> Result<(), ScriptFault>
-    ensures ok { IfOk result (λ _. Appends (W.contents out.old.stream) (W.contents out.new.stream) (committed (Err refusal))) }
-    ensures part { IfErr result (λ _. AppendsPart (W.contents out.old.stream) (W.contents out.new.stream) (committed (Err refusal))) }
-    ensures kept { IfOk result (λ _. out.new.failures ≡ out.old.failures) }
-    ensures failed { IfErr result (λ fault. (fault ≡ Write) × Rose out.old.failures out.new.failures) }
-{
-    let mut digits = itoa::Buffer::new();
-    write(out, b"refused ")?;
-    write(out, digits.format(refusal.number()).as_bytes())?;
-    write(out, b"\n")
 }
 
 /// The VM file keeps one of its pairs of directories; no block of it is locked then, as before.
@@ -203,7 +221,8 @@ fn keep<D: Device + Drop>(kernel: &mut Kernel<D>, how: How) -> Result<(), Refusa
     done
 }
 
-/// Carries out a command, and prints what a call puts out, or the number of a refusal.
+/// Carries out a command, and prints what a call puts out, or the number of a refusal. Where the
+/// command may commit, what was printed before has been given out.
 fn carry_out<W: Write, D: Device + Drop>(
     machine: &mut Machine,
     checked: &Checked,
@@ -213,6 +232,7 @@ fn carry_out<W: Write, D: Device + Drop>(
 ) -> Result<(), ScriptFault>
     requires admitted { IsAdmitted checked.now command.now }
     requires unlocked { NoneLocked kernel.old.core.blocks }
+    requires given { may_commit checked.now command.now ≡ true → IsGiven out.old.asked out.old.flushed }
     ensures ok { IfOk result (λ _. RanCommand (D.medium.honest kernel.old.device)
         (Throughout D.medium kernel.old.device kernel.new.device) checked.now command.now kernel.old.core kernel.new.core
         (W.contents out.old.stream) (W.contents out.new.stream)) }
@@ -237,7 +257,8 @@ fn carry_out<W: Write, D: Device + Drop>(
     }
 }
 
-/// Carries out the commands one after another. Each finds the kernel as the one before left it.
+/// Carries out the commands one after another. Each finds the kernel as the one before left it,
+/// and what those before printed is flushed where it may commit.
 fn carry_out_all<W: Write, D: Device + Drop>(
     checked: &Checked,
     commands: &[Command],
@@ -261,7 +282,9 @@ fn carry_out_all<W: Write, D: Device + Drop>(
     let mut machine = Machine::new();
     // what a stop before the first command leaves
     kernel.memory_is_legal();
+    let first = first_commit(checked.image().points());
     for command in commands {
+        give_before(checked, first, command, out)?;
         carry_out(&mut machine, checked, command, kernel, out)?;
     }
     Ok(())
@@ -282,14 +305,16 @@ fn load(alloc: Global, image: &[u8]) -> Result<Checked, ScriptFault>
 /// Checks an image and runs a script: calls, which print the words that they put out, and commits
 /// (`update`, `save`, `revert`), which print nothing, or `refused` and a number. Each command finds
 /// the kernel's memory as the one before left it, and the kernel keeps what the last one left. The
-/// script is read whole first, and a bad one runs nothing. The writer is not flushed.
+/// script is read whole first, and a bad one runs nothing. What commands have printed is flushed
+/// before each that may commit, also a call; behind the last one it is not flushed.
 ///
 /// Of the faults, the first that is due is answered: `TooLong` where the script has more than
 /// 1,048,576 bytes; `BadImage`; `Rejected`; `BadScript`. `Memory` may come before the first
 /// command. Up to then nothing is asked of the writer, and the kernel is as it was. `Write`
-/// comes where the writer failed: it got all that the commands before print and a beginning of
-/// what the last one prints, and no other was begun; the kernel stands where that one ended. Where
-/// `Write` is not answered, no call of the writer failed.
+/// comes where the writer failed. Either it got all that the commands before print and a beginning
+/// of what the last one prints; the kernel stands where that one ended. Or the flush before one that
+/// may commit failed: it got all that those before print, and the kernel stands where they ended. No
+/// other was begun. Where `Write` is not answered, no call of the writer failed.
 pub fn run_script<W: Write, D: Device + Drop>(
     alloc: Global,
     image: &[u8],

@@ -9,6 +9,7 @@ ghost use Rattle.geos_text.specs.Words.{most_bytes};
 ghost use Rattle.geos_input.specs.Reading.{Reads, EndsReading};
 ghost use Rattle.geos_cli.specs.Session.{RanBytes, StoppedBytes, EndsBytes, RanSession, StoppedSession, EndsSession};
 
+use crate::output::flush;
 use crate::script::run_script;
 use geos_input::{Counted, ScriptFault, image_and_script, read_all};
 use geos_kernel::kernel_in_memory;
@@ -17,18 +18,6 @@ use std::io::{Read, Write};
 
 /// How many bytes the region of a session's memory blocks has.
 const REGION: u32 = 65_536;
-
-fn flush<W: Write>(out: &mut Counted<W>) -> Result<(), ScriptFault>
-    ensures bytes { Keeps (W.contents out.old.stream) (W.contents out.new.stream) }
-    ensures flushed { IfOk result (λ _. out.new.flushed ≡ true) }
-    ensures kept { IfOk result (λ _. out.new.failures ≡ out.old.failures) }
-    ensures failed { IfErr result (λ fault. (fault ≡ Write) × Rose out.old.failures out.new.failures) }
-{
-    match out.flush() {
-        Ok(()) => Ok(()),
-        Err(_) => Err(ScriptFault::Write),
-    }
-}
 
 /// Runs the session that the bytes are, and flushes the writer.
 fn run_bytes<W: Write>(alloc: Global, bytes: &[u8], out: &mut Counted<W>) -> Result<(), ScriptFault>
@@ -56,10 +45,9 @@ fn run_bytes<W: Write>(alloc: Global, bytes: &[u8], out: &mut Counted<W>) -> Res
 ///
 /// Of the faults, the first that is due is answered: `TooLong` where there are more than
 /// 1,048,576 bytes; `BadHex`; then those of `run_script`. `Read` comes where the reader
-/// failed, which is asked at most 1,048,577 times. `Write` comes where the writer failed, in a
-/// call as of `run_script`, or behind the last one, where the flush failed: then the writer
-/// got all that the calls print. Where neither is answered, no call of the reader or the
-/// writer failed.
+/// failed, which is asked at most 1,048,577 times. `Write` comes where the writer failed, as of
+/// `run_script`, or behind the last command, where the flush failed: then the writer got all that
+/// the commands print. Where neither is answered, no call of the reader or the writer failed.
 pub fn run_session<R: Read, W: Write>(
     alloc: Global,
     input: &mut Counted<R>,

@@ -33,8 +33,8 @@ pub enum ScriptFault {
     /// The reader failed.
     #[error("cannot read -")]
     Read,
-    /// The writer failed: the commands so far are done, and the one that was being printed; or
-    /// all of them, where the last flush failed.
+    /// The writer failed: the commands so far are done, also the one that was being printed, and
+    /// no other is begun.
     #[error("cannot write -")]
     Write,
     /// An allocation was refused.

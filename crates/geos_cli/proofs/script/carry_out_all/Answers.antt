@@ -1,7 +1,7 @@
 use Rattle.std.proofs.Common.{◌∙◌, inl, refl, arith}
 use Rattle.geos_machine.specs.Runs.{Throughout}
 use Rattle.geos_machine.proofs.Stops.{stops-first}
-use Rattle.geos_cli.proofs.CommandsRun.{throughout-then, ran-none, ran-more, ran-all, ran-alike, stopped-at, stopped-alike}
+use Rattle.geos_cli.proofs.CommandsRun.{throughout-then, ran-none, ran-more, ran-all, ran-alike, ran-kept, stopped-at, stopped-ahead, stopped-alike}
 use Rattle.geos_cli.proofs.Parts.{IfErr-any}
 use Rattle.geos_cli.proofs.script.carry_out_all.Goals as goal
 
@@ -24,14 +24,15 @@ returns-clause-ok g c = ran-all
 
 pub loop-command-preserved : goal.loop-command-preserved
 loop-command-preserved g c =
-    let before = c.loop-command.invariant.0 in
+    let honest = g.D.Device.medium.honest c.args.kernel.now.device in
+    let before = ran-kept honest _ c.args.checked.now _ _ _ _ _ _ c.loop-command.invariant.0 c.give_before.ensures.bytes in
     let alike = c.loop-command.invariant.2 in
     let next = c.carry_out.ensures.honest in
     let ran = ran-alike (g.D.Device.medium.honest c.loop-command.kernel.device)
     (g.D.Device.medium.honest c.args.kernel.now.device) alike _ c.args.checked.now _ _ _ _ _ c.in_ok-carry_out.ensures.ok in (
       ran-more (g.D.Device.medium.honest c.args.kernel.now.device) _ _ _
           (throughout-then g.D.Device.medium c.args.kernel.now.device c.loop-command.kernel.device c.carry_out.new.kernel.device) c.args.checked.now c.args.commands.now c.loop-command.command-index _ _ _ _ _ _ _ c.loop-command-test.true before ran,
-      c.in_ok-carry_out.ensures.kept ∙ c.loop-command.invariant.1,
+      c.in_ok-carry_out.ensures.kept ∙ c.in_ok-give_before.ensures.kept ∙ c.loop-command.invariant.1,
       ((λ h. alike.0 (next.0 h)), (λ h. next.1 (alike.1 h))),
       c.carry_out.ensures.unlocked,
       c.carry_out.ensures.sees.1,
@@ -39,12 +40,19 @@ loop-command-preserved g c =
 
 pub returns-in_err-carry_out-clause-stopped : goal.returns-in_err-carry_out-clause-stopped
 returns-in_err-carry_out-clause-stopped g c =
-    let before = c.loop-command.invariant.0 in
+    let honest = g.D.Device.medium.honest c.args.kernel.now.device in
+    let before = ran-kept honest _ c.args.checked.now _ _ _ _ _ _ c.loop-command.invariant.0 c.give_before.ensures.bytes in
     let alike = c.loop-command.invariant.2 in
     let stopped = stopped-alike (g.D.Device.medium.honest c.loop-command.kernel.device)
     (g.D.Device.medium.honest c.args.kernel.now.device) alike _ c.args.checked.now _ _ _ _ _ c.in_err-carry_out.ensures.stopped in
     IfErr-any _ (stopped-at (g.D.Device.medium.honest c.args.kernel.now.device) _ _ _
     (throughout-then g.D.Device.medium c.args.kernel.now.device c.loop-command.kernel.device c.carry_out.new.kernel.device) c.args.checked.now c.args.commands.now c.loop-command.command-index _ _ _ _ _ _ _ c.loop-command-test.true before stopped)
+
+pub returns-in_err-give_before-clause-stopped : goal.returns-in_err-give_before-clause-stopped
+returns-in_err-give_before-clause-stopped g c =
+    let honest = g.D.Device.medium.honest c.args.kernel.now.device in
+    let before = ran-kept honest _ c.args.checked.now _ _ _ _ _ _ c.loop-command.invariant.0 c.give_before.ensures.bytes in
+    IfErr-any _ (stopped-ahead honest _ c.args.checked.now c.args.commands.now c.loop-command.command-index _ _ _ _ _ c.loop-command-test.true before c.in_err-give_before.ensures.due)
 
 pub returns-clause-sees : goal.returns-clause-sees
 returns-clause-sees g c = (c.memory_is_legal.ensures.sees, c.loop-command.invariant.4)

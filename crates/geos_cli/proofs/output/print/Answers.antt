@@ -3,7 +3,7 @@ use Rattle.std.specs.Prelude.{decimal}
 use Rattle.geos_input.specs.Counted.{AppendsPart}
 use Rattle.std.specs.Io.KnownBytes.{Appends}
 use Rattle.geos_cli.proofs.Parts.{IfErr-any, part-digits, part-line-feed}
-use Rattle.geos_cli.proofs.script.print.Goals as goal
+use Rattle.geos_cli.proofs.output.print.Goals as goal
 
 pub returns-in_err-write-clause-part : goal.returns-in_err-write-clause-part
 returns-in_err-write-clause-part g c =

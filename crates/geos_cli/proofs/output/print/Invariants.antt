@@ -1,7 +1,7 @@
 use Rattle.std.proofs.Common.{◌≡◌, take}
 use Rattle.std.specs.Io.KnownBytes.{Appends}
 use Rattle.geos_cli.specs.Script.{printed}
-use Rattle.geos_cli.proofs.script.print.Given as goal
+use Rattle.geos_cli.proofs.output.print.Given as goal
 
 abbrev pub invariant-loop-word : goal.invariant-loop-word
 invariant-loop-word g l =

@@ -4,7 +4,7 @@ use Rattle.std.specs.Io.KnownBytes.{Appends}
 use Rattle.geos_model.specs.Refusals.{refusal_number}
 use Rattle.geos_input.specs.Counted.{AppendsPart}
 use Rattle.geos_cli.proofs.Parts.{IfErr-any, IfErr-map, part-between, part-first, part-last}
-use Rattle.geos_cli.proofs.script.print_refusal.Goals as goal
+use Rattle.geos_cli.proofs.output.print_refusal.Goals as goal
 
 pub returns-in_err-write-clause-part : goal.returns-in_err-write-clause-part
 returns-in_err-write-clause-part g c = IfErr-any _ (part-first _ _ (codes "refused ") _ c.in_err-write.ensures.part)

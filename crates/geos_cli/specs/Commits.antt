@@ -1,0 +1,34 @@
+-- Which commands may commit.
+use Rattle.std.specs.Prelude.{◌≡◌, ◌⊎◌, ℕ, ◌+◌, Bool, true, false, List, Option, take, position}
+use Rattle.std.specs.List.{list_any}
+use Rattle.geos_opcodes.specs.declared.opcode.Opcode.{Opcode}
+use Rattle.geos_opcodes.specs.declared.opcode.Opcode.TheVariants.{Vupdate, Vsave, Vrevert}
+use Rattle.geos_image.specs.declared.point.Point.{Point}
+use Rattle.geos_image.specs.Parts.{Parts, start_of}
+use Rattle.geos_cli.specs.declared.script.Command.{Command}
+use Rattle.geos_cli.specs.declared.script.Command.TheVariants as command
+
+-- the instruction commits
+abbrev pub commits : Opcode → Bool
+commits Vupdate = true
+commits Vsave = true
+commits Vrevert = true
+commits _ = false
+
+-- an instruction of a routine that commits
+abbrev pub commits_at : Point → Bool
+commits_at point = commits point.instr.opcode
+
+-- the first pc of an instruction that commits
+abbrev pub first_commit : List Point → Option ℕ
+first_commit points = position commits_at points
+
+-- a commit may, and so may a call where an instruction in front of the end of its routine commits: a
+-- routine calls only routines before it
+abbrev pub may_commit : Parts → Command → Bool
+may_commit image (command.Commit how) = true
+may_commit image (command.Call call) = list_any commits_at (take (start_of image.routines (call.routine + 1)) image.points)
+
+-- nothing was ever asked of a writer, or the last call of it was a flush that did not fail
+abbrev pub IsGiven : ℕ → Bool → Type 0
+IsGiven asked flushed = (asked ≡ 0) ⊎ (flushed ≡ true)

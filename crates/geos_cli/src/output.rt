@@ -1,0 +1,83 @@
+//! What commands print, and when the writer is flushed.
+
+ghost use Rattle.std.specs.Prelude.{◌≡◌, true, IfOk, IfErr, Err};
+ghost use Rattle.std.specs.Io.KnownBytes.{Appends, Keeps};
+ghost use Rattle.geos_input.specs.declared.fault.ScriptFault.TheVariants.{Write};
+ghost use Rattle.vm_file.specs.Device.{Rose};
+ghost use Rattle.geos_input.specs.Counted.{AppendsPart};
+ghost use Rattle.geos_cli.specs.Commits.{IsGiven};
+ghost use Rattle.geos_cli.specs.Script.{printed, committed};
+
+use geos_input::{Counted, ScriptFault};
+use geos_model::Refusal;
+use std::io::Write;
+
+fn write<W: Write>(out: &mut Counted<W>, bytes: &[u8]) -> Result<(), ScriptFault>
+    ensures ok { IfOk result (λ _. Appends (W.contents out.old.stream) (W.contents out.new.stream) bytes.now) }
+    ensures part { IfErr result (λ _. AppendsPart (W.contents out.old.stream) (W.contents out.new.stream) bytes.now) }
+    ensures kept { IfOk result (λ _. out.new.failures ≡ out.old.failures) }
+    ensures failed { IfErr result (λ fault. (fault ≡ Write) × Rose out.old.failures out.new.failures) }
+{
+    match out.write_all(bytes) {
+        Ok(()) => Ok(()),
+        Err(_) => Err(ScriptFault::Write),
+    }
+}
+
+/// Prints each word in decimal on a line.
+pub(crate) fn print<W: Write>(words: &[u16], out: &mut Counted<W>) -> Result<(), ScriptFault>
+    ensures ok { IfOk result (λ _. Appends (W.contents out.old.stream) (W.contents out.new.stream) (printed words.now)) }
+    ensures part { IfErr result (λ _. AppendsPart (W.contents out.old.stream) (W.contents out.new.stream) (printed words.now)) }
+    ensures kept { IfOk result (λ _. out.new.failures ≡ out.old.failures) }
+    ensures failed { IfErr result (λ fault. (fault ≡ Write) × Rose out.old.failures out.new.failures) }
+{
+    let mut digits = itoa::Buffer::new();
+    for word in words {
+        write(out, digits.format(*word).as_bytes())?;
+        write(out, b"\n")?;
+    }
+    Ok(())
+}
+
+/// Prints the number of a refusal, on a line.
+pub(crate) fn print_refusal<W: Write>(
+    refusal: Refusal,
+    out: &mut Counted<W>,
+) -> Result<(), ScriptFault>
+    ensures ok { IfOk result (λ _. Appends (W.contents out.old.stream) (W.contents out.new.stream) (committed (Err refusal))) }
+    ensures part { IfErr result (λ _. AppendsPart (W.contents out.old.stream) (W.contents out.new.stream) (committed (Err refusal))) }
+    ensures kept { IfOk result (λ _. out.new.failures ≡ out.old.failures) }
+    ensures failed { IfErr result (λ fault. (fault ≡ Write) × Rose out.old.failures out.new.failures) }
+{
+    let mut digits = itoa::Buffer::new();
+    write(out, b"refused ")?;
+    write(out, digits.format(refusal.number()).as_bytes())?;
+    write(out, b"\n")
+}
+
+/// Flushes the writer.
+pub(crate) fn flush<W: Write>(out: &mut Counted<W>) -> Result<(), ScriptFault>
+    ensures bytes { Keeps (W.contents out.old.stream) (W.contents out.new.stream) }
+    ensures flushed { IfOk result (λ _. out.new.flushed ≡ true) }
+    ensures kept { IfOk result (λ _. out.new.failures ≡ out.old.failures) }
+    ensures failed { IfErr result (λ fault. (fault ≡ Write) × Rose out.old.failures out.new.failures) }
+{
+    match out.flush() {
+        Ok(()) => Ok(()),
+        Err(_) => Err(ScriptFault::Write),
+    }
+}
+
+/// Flushes the writer, unless nothing was asked of it since it was flushed, or ever.
+pub(crate) fn give<W: Write>(out: &mut Counted<W>) -> Result<(), ScriptFault>
+    ensures bytes { Keeps (W.contents out.old.stream) (W.contents out.new.stream) }
+    ensures given { IfOk result (λ _. IsGiven out.new.asked out.new.flushed) }
+    ensures idle { IsGiven out.old.asked out.old.flushed → out.new ≡ out.old }
+    ensures kept { IfOk result (λ _. out.new.failures ≡ out.old.failures) }
+    ensures failed { IfErr result (λ fault. (fault ≡ Write) × Rose out.old.failures out.new.failures) }
+{
+    if out.asked == 0 || out.flushed {
+        return Ok(());
+    }
+    flush(out)
+}
