@@ -17,10 +17,11 @@ b:  LOOP k1 b
     RET
 
 routine keep public budget 5
-    VUPDATE x
-x:  RET
+    VUPDATE y
+y:  RET
 END
-"$1" asm text.asm image && "$1" new file.vm || exit 1
+program=$1
+"$program" asm text.asm image && "$program" new file.vm || exit 1
 
 # killed LINE: runs a call that prints a word, the line, and calls that run for long, and kills the program when it has printed a line,
 # or after ten seconds
@@ -37,7 +38,6 @@ killed() {
     echo "$1: $(cat out)"
 }
 
-program=$1
 for line in update save revert 'call keep'; do
     killed "$line"
 done
