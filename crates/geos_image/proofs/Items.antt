@@ -1,14 +1,13 @@
 -- Things of one width, read one after another.
-use Rattle.std.proofs.Common.{◌≡◌, ℕ, suc, ◌+◌, ◌*◌, ◌-◌, ◌≤◌, ◌<◌, List, [], ◌∷◌, ◌++◌, length, get_or, drop, Result, Ok, Err, refl, sym, ap, ◌∙◌, append_assoc, arith}
+use Rattle.std.proofs.Common.{◌≡◌, ℕ, suc, ◌+◌, ◌*◌, ◌-◌, ◌≤◌, ◌<◌, List, [], ◌∷◌, ◌++◌, length, get_or, drop, Some, None, Result, Ok, Err, refl, sym, ap, ◌∙◌, append_assoc, arith, add-one}
 use Rattle.std.proofs.lemmas.List.{append-nil, drop_all}
 use Rattle.std.proofs.Math.Seq.{drop-cons}
-use Rattle.std.proofs.Common.{add-one}
 use Rattle.geos_image.specs.declared.instr.Instr.{Instr}
 use Rattle.geos_image.specs.declared.row.Row.{Row}
 use Rattle.geos_image.specs.declared.potential.Potential.{Potential}
 use Rattle.geos_image.specs.declared.routine.Routine.{Routine}
 use Rattle.geos_image.specs.declared.point.Point.{Point}
-use Rattle.geos_image.specs.Reading.{◌>>=◌, items_at, routine_at, routines_at, entry_at, points_at}
+use Rattle.geos_image.specs.Reading.{◌>>=◌, items_at, routine_at, routines_at, entry_at, points_at, potential_at, bare_points_at}
 
 -- four of them
 pub four_items : {A : Type 0} (read : ℕ → Result A ℕ) (width at second third fourth : ℕ) (a b c d : A) → at + width ≡ second → second + width ≡ third → third + width ≡ fourth
@@ -79,11 +78,11 @@ module _ (bytes : List ℕ) (count : ℕ) (total : Result (List Routine) ℕ) wh
 
 module _ (bytes : List ℕ) (code : List Instr) (total : Result (List Point) ℕ) where
   pub points-more : (front : List Point) (k at : ℕ) (d : Instr) (row : Row) (potential : Potential) → k < length code → entry_at bytes at ≡ Ok (row, potential)
-      → with_front front (points_at bytes (drop k code) at) ≡ total → with_front (front ++ record { instr = get_or code k d; row = row; potential = potential } ∷ []) (points_at bytes (drop (k + 1) code) (at + 58)) ≡ total
+      → with_front front (points_at bytes (drop k code) at) ≡ total → with_front (front ++ record { instr = get_or code k d; row = Some row; potential = potential } ∷ []) (points_at bytes (drop (k + 1) code) (at + 58)) ≡ total
   unfolding points_at
   points-more front k at d row potential lt h so_far =
       let rest = points_at bytes (drop (suc k) code) (at + 58) in
-      let one : with_front front (points_at bytes (drop k code) at) ≡ with_front (front ++ record { instr = get_or code k d; row = row; potential = potential } ∷ []) rest = rw (drop-cons code k d lt, h) (regroup front (record { instr = get_or code k d; row = row; potential = potential }) rest) in
+      let one : with_front front (points_at bytes (drop k code) at) ≡ with_front (front ++ record { instr = get_or code k d; row = Some row; potential = potential } ∷ []) rest = rw (drop-cons code k d lt, h) (regroup front (record { instr = get_or code k d; row = Some row; potential = potential }) rest) in
       rw add-one (sym one ∙ so_far)
 
   pub points-fault : (front : List Point) (k at fault : ℕ) (d : Instr) → k < length code → entry_at bytes at ≡ Err fault
@@ -97,4 +96,26 @@ module _ (bytes : List ℕ) (code : List Instr) (total : Result (List Point) ℕ
   unfolding points_at
   points-end front k at le so_far =
       let one : with_front front (points_at bytes (drop k code) at) ≡ Ok front = rw (drop_all k code le) (ap Ok (append-nil front)) in
+      sym so_far ∙ one
+
+module _ (bytes : List ℕ) (code : List Instr) (total : Result (List Point) ℕ) where
+  pub bare-more : (front : List Point) (k at : ℕ) (d : Instr) (potential : Potential) → k < length code → potential_at bytes at ≡ Ok potential
+      → with_front front (bare_points_at bytes (drop k code) at) ≡ total → with_front (front ++ record { instr = get_or code k d; row = None; potential = potential } ∷ []) (bare_points_at bytes (drop (k + 1) code) (at + 20)) ≡ total
+  unfolding bare_points_at
+  bare-more front k at d potential lt h so_far =
+      let rest = bare_points_at bytes (drop (suc k) code) (at + 20) in
+      let one : with_front front (bare_points_at bytes (drop k code) at) ≡ with_front (front ++ record { instr = get_or code k d; row = None; potential = potential } ∷ []) rest = rw (drop-cons code k d lt, h) (regroup front (record { instr = get_or code k d; row = None; potential = potential }) rest) in
+      rw add-one (sym one ∙ so_far)
+
+  pub bare-fault : (front : List Point) (k at fault : ℕ) (d : Instr) → k < length code → potential_at bytes at ≡ Err fault
+      → with_front front (bare_points_at bytes (drop k code) at) ≡ total → total ≡ Err fault
+  unfolding bare_points_at
+  bare-fault front k at fault d lt h so_far =
+      let one : with_front front (bare_points_at bytes (drop k code) at) ≡ Err fault = rw (drop-cons code k d lt, h) refl in
+      sym so_far ∙ one
+
+  pub bare-end : (front : List Point) (k at : ℕ) → length code ≤ k → with_front front (bare_points_at bytes (drop k code) at) ≡ total → total ≡ Ok front
+  unfolding bare_points_at
+  bare-end front k at le so_far =
+      let one : with_front front (bare_points_at bytes (drop k code) at) ≡ Ok front = rw (drop_all k code le) (ap Ok (append-nil front)) in
       sym so_far ∙ one

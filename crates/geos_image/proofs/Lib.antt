@@ -9,6 +9,8 @@ pub mod InstrLaws
 pub mod RunLaws
 pub mod RowLaws
 pub mod PointLaws
+pub mod KeyLaws
+pub mod Given
 pub mod RoutineLaws
 pub mod ImageLaws
 pub mod Starts

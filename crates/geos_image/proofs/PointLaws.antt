@@ -1,6 +1,7 @@
 -- What the verifier is told at an instruction: what is read is spelled there, and what is
 -- spelled there is read.
-use Rattle.std.proofs.Common.{◌≡◌, ℕ, ◌+◌, ◌*◌, true, List, [], ◌∷◌, ◌++◌, length, map, All, Ok, refl, ap, subst, ◌∙◌, append_assoc}
+use Rattle.std.proofs.Common.{◌≡◌, ℕ, zero, suc, ◌+◌, ◌*◌, ◌≤◌, true, List, [], ◌∷◌, ◌++◌, length, map, All, Option, Some, None, Ok, refl, sym, ap, subst, ◌∙◌, append_assoc, arith}
+use Rattle.std.specs.Prelude.{replicate}
 use Rattle.std.specs.List.{flat_map, list_all}
 use Rattle.std.proofs.lemmas.Bool.{and_parts}
 use Rattle.std.proofs.lemmas.List.Elements.{All-head, All-tail}
@@ -8,10 +9,12 @@ use Rattle.geos_image.specs.declared.instr.Instr.{Instr}
 use Rattle.geos_image.specs.declared.row.Row.{Row}
 use Rattle.geos_image.specs.declared.potential.Potential.{Potential}
 use Rattle.geos_image.specs.declared.point.Point.{Point}
-use Rattle.geos_image.specs.Legal.{is_row, is_instr, is_point}
-use Rattle.geos_image.specs.Ranges.{IsLong, RowFits, PotentialFits, PointFits}
-use Rattle.geos_image.specs.Spelling.{long, row, potential}
-use Rattle.geos_image.specs.Reading.{long_at, items_at, row_at, potential_at, entry_at, points_at}
+use Rattle.geos_image.specs.Legal.{is_row, is_given, is_instr, is_point, rows_stand}
+use Rattle.geos_image.specs.Keys.{row_stands}
+use Rattle.geos_image.specs.Parts.{instrs_of}
+use Rattle.geos_image.specs.Ranges.{IsLong, RowFits, GivenFits, PotentialFits, PointFits}
+use Rattle.geos_image.specs.Spelling.{long, row, potential, given, told}
+use Rattle.geos_image.specs.Reading.{long_at, items_at, row_at, potential_at, entry_at, points_at, bare_points_at}
 use Rattle.geos_image.proofs.Steps.{ok_is, after}
 use Rattle.geos_image.proofs.Places.{plus, behind_first, no_more, IsBytes, Takes, Takes-none, Takes-then, Left, Left-as}
 use Rattle.geos_image.proofs.NumberLaws.{long_found, long_again}
@@ -63,14 +66,6 @@ entry_again bytes at next r p rest e legal row-fits potential-fits l =
 
 -- ---- one of them for each instruction
 
--- the instructions of points
-abbrev pub instrs_of : List Point → List Instr
-instrs_of points = map (λ (point : Point). point.instr) points
-
--- what is told at a point
-abbrev pub told : Point → List ℕ
-told point = row point.row ++ potential point.potential
-
 -- points that were read stand there, and have the instructions
 pub points_found : (bytes : List ℕ) → IsBytes bytes → (instrs : List Instr) (at next : ℕ) (points : List Point) → next ≡ at + 58 * length instrs → points_at bytes instrs at ≡ Ok points
     → Takes bytes at (flat_map told points) next × (instrs_of points ≡ instrs)
@@ -81,24 +76,85 @@ points_found bytes fits [] at next points e h =
 points_found bytes fits (i ∷ instrs) at next points e h =
     after (entry_at bytes at) _ points h (λ first read-first h.
     after (points_at bytes instrs (at + 58)) _ points h (λ others read-others h.
-    let point : Point = record { instr = i; row = first.0; potential = first.1 } in
+    let point : Point = record { instr = i; row = Some first.0; potential = first.1 } in
     let place = behind_first at 58 (length instrs) next e in
     let p = entry_found bytes fits at (at + 58) first refl read-first in
     let q = points_found bytes fits instrs (at + 58) next others place read-others in
     subst (λ (ps : List Point). Takes bytes at (flat_map told ps) next × (instrs_of ps ≡ i ∷ instrs)) (ok_is (point ∷ others) points h) (takes_more told point others p q.0, ap (λ (is : List Instr). i ∷ is) q.1)))
 
--- points that stand there are read, given their instructions
-pub points_again : (routines instrs : ℕ) (bytes : List ℕ) (points : List Point) (at next : ℕ) (rest : List ℕ) → next ≡ at + 58 * length points → list_all (is_point routines instrs) points ≡ true → All PointFits points
-    → Left bytes at (flat_map told points ++ rest) → (points_at bytes (instrs_of points) at ≡ Ok points) × Left bytes next rest
+-- a point that stands there with its row is read
+told_again : (bytes : List ℕ) (at next : ℕ) (o : Option Row) (p : Potential) (rest : List ℕ) → next ≡ at + 58 → row_stands true o ≡ true → is_given o ≡ true → GivenFits o → PotentialFits p → Left bytes at ((given o ++ potential p) ++ rest)
+    → (r : Row) × (o ≡ Some r) × (entry_at bytes at ≡ Ok (r, p)) × Left bytes next rest
+told_again bytes at next None p rest e stands legal row-fits potential-fits l = absurd cc
+told_again bytes at next (Some r) p rest e stands legal row-fits potential-fits l =
+    let read = entry_again bytes at next r p rest e legal row-fits potential-fits l in
+    (r, refl, read.0, read.1)
+
+-- points that stand there, each with its row, are read, given their instructions
+pub points_again : (most routines instrs : ℕ) (bytes : List ℕ) (points : List Point) (at next : ℕ) (rest : List ℕ) → next ≡ at + 58 * length points → rows_stand (replicate most true) points ≡ true
+    → list_all (is_point routines instrs) points ≡ true → All PointFits points → Left bytes at (flat_map told points ++ rest) → (points_at bytes (instrs_of points) at ≡ Ok points) × Left bytes next rest
 unfolding points_at
-points_again routines instrs bytes [] at next rest e legal fits l =
+points_again most routines instrs bytes [] at next rest e stand legal fits l =
     let same = no_more at 58 next e in
     (refl, subst (λ (k : ℕ). Left bytes k rest) same l)
-points_again routines instrs bytes (point ∷ points) at next rest e legal fits l =
+points_again zero routines instrs bytes (point ∷ points) at next rest e stand legal fits l = absurd cc
+points_again (suc most) routines instrs bytes (point ∷ points) at next rest e stand legal fits l =
     let parts = and_parts (is_point routines instrs point) (list_all (is_point routines instrs) points) legal in
-    let rows = and_parts (is_instr routines instrs point.instr) (is_row point.row) parts.0 in
+    let rows = and_parts (is_instr routines instrs point.instr) (is_given point.row) parts.0 in
+    let stands = and_parts (row_stands true point.row) (rows_stand (replicate most true) points) stand in
     let here = All-head PointFits point points fits in
     let place = behind_first at 58 (length points) next e in
-    let p = entry_again bytes at (at + 58) point.row point.potential (flat_map told points ++ rest) refl rows.1 here.row here.potential (left_more told point points rest l) in
-    let q = points_again routines instrs bytes points (at + 58) next rest place parts.1 (All-tail PointFits point points fits) p.1 in
+    let p = told_again bytes at (at + 58) point.row point.potential (flat_map told points ++ rest) refl stands.0 rows.1 here.row here.potential (left_more told point points rest l) in
+    let q = points_again most routines instrs bytes points (at + 58) next rest place stands.1 parts.1 (All-tail PointFits point points fits) p.3 in
+    (rw (p.2, q.0) (ap (λ (o : Option Row). Ok (record { instr = point.instr; row = o; potential = point.potential } ∷ points)) (sym p.1)), q.1)
+
+-- ---- potentials alone
+
+abbrev pub potential_told : Point → List ℕ
+potential_told point = potential point.potential
+
+-- points without their rows
+abbrev pub stripped : List Point → List Point
+stripped points = map (λ (point : Point). record point { row = None }) points
+
+-- points that were read without rows stand there, and have the instructions
+pub bare_found : (bytes : List ℕ) → IsBytes bytes → (instrs : List Instr) (at next : ℕ) (points : List Point) → next ≡ at + 20 * length instrs → bare_points_at bytes instrs at ≡ Ok points
+    → Takes bytes at (flat_map potential_told points) next × (instrs_of points ≡ instrs)
+unfolding bare_points_at
+bare_found bytes fits [] at next points e h =
+    let same = no_more at 20 next e in
+    subst (λ (ps : List Point). Takes bytes at (flat_map potential_told ps) next × (instrs_of ps ≡ [])) (ok_is [] points h) (subst (λ (k : ℕ). Takes bytes at [] k) same (Takes-none bytes at), refl)
+bare_found bytes fits (i ∷ instrs) at next points e h =
+    after (potential_at bytes at) _ points h (λ first read-first h.
+    after (bare_points_at bytes instrs (at + 20)) _ points h (λ others read-others h.
+    let point : Point = record { instr = i; row = None; potential = first } in
+    let place = behind_first at 20 (length instrs) next e in
+    let p = potential_found bytes fits at (at + 20) first refl read-first in
+    let q = bare_found bytes fits instrs (at + 20) next others place read-others in
+    subst (λ (ps : List Point). Takes bytes at (flat_map potential_told ps) next × (instrs_of ps ≡ i ∷ instrs)) (ok_is (point ∷ others) points h)
+    (takes_more potential_told point others p q.0, ap (λ (is : List Instr). i ∷ is) q.1)))
+
+-- points whose potentials stand there are read without their rows, given their instructions
+pub bare_again : (bytes : List ℕ) (points : List Point) (at next : ℕ) (rest : List ℕ) → next ≡ at + 20 * length points → All PointFits points → Left bytes at (flat_map potential_told points ++ rest)
+    → (bare_points_at bytes (instrs_of points) at ≡ Ok (stripped points)) × Left bytes next rest
+unfolding bare_points_at
+bare_again bytes [] at next rest e fits l =
+    let same = no_more at 20 next e in
+    (refl, subst (λ (k : ℕ). Left bytes k rest) same l)
+bare_again bytes (point ∷ points) at next rest e fits l =
+    let here = All-head PointFits point points fits in
+    let place = behind_first at 20 (length points) next e in
+    let p = potential_again bytes at (at + 20) point.potential (flat_map potential_told points ++ rest) refl here.potential (left_more potential_told point points rest l) in
+    let q = bare_again bytes points (at + 20) next rest place (All-tail PointFits point points fits) p.1 in
     (rw (p.0, q.0) refl, q.1)
+
+-- points that are read in version 1 have their rows
+pub points_given : (bytes : List ℕ) (most : ℕ) (instrs : List Instr) (at : ℕ) (points : List Point) → length instrs ≤ most → points_at bytes instrs at ≡ Ok points → rows_stand (replicate most true) points ≡ true
+unfolding points_at
+points_given bytes most [] at points le h = subst (λ (ps : List Point). rows_stand (replicate most true) ps ≡ true) (ok_is [] points h) refl
+points_given bytes zero (i ∷ instrs) at points le h = absurd (omega (arith, le))
+points_given bytes (suc most) (i ∷ instrs) at points le h =
+    after (entry_at bytes at) _ points h (λ first read-first h.
+    after (points_at bytes instrs (at + 58)) _ points h (λ others read-others h.
+    let point : Point = record { instr = i; row = Some first.0; potential = first.1 } in
+    subst (λ (ps : List Point). rows_stand (replicate (suc most) true) ps ≡ true) (ok_is (point ∷ others) points h) (points_given bytes most instrs (at + 58) others (omega (arith, le)) read-others)))

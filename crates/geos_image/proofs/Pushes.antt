@@ -1,21 +1,20 @@
 -- One more element at the end of a list that keeps a rule, or that is put out.
-use Rattle.std.proofs.Common.{◌≡◌, ◌+◌, Bool, true, false, List, [], ◌∷◌, ◌++◌, ℕ, ◌<◌, ◌≤◌, length, get_or, take, refl, sym, ap, subst, ◌∙◌, append_assoc, arith}
+use Rattle.std.proofs.Common.{◌≡◌, ◌+◌, Bool, true, false, List, [], ◌∷◌, ◌++◌, ℕ, Option, ◌<◌, ◌≤◌, length, get_or, take, refl, sym, ap, subst, ◌∙◌, append_assoc, arith}
 use Rattle.std.specs.Prelude.{◌&&◌}
 use Rattle.std.specs.List.{list_all, flat_map, All}
 use Rattle.std.proofs.lemmas.Bool.{and_parts}
-use Rattle.std.proofs.lemmas.List.{append-nil}
+use Rattle.std.proofs.lemmas.List.{append-nil, map-append, take_more, take_all, flat_map_more}
 use Rattle.std.proofs.lemmas.List.Folds.{list_all-append}
 use Rattle.std.proofs.lemmas.List.Sums.{sum_by_push}
-use Rattle.std.proofs.lemmas.List.{take_more, take_all, flat_map_more}
 use Rattle.geos_image.specs.declared.instr.Instr.{Instr}
 use Rattle.geos_image.specs.declared.row.Row.{Row}
 use Rattle.geos_image.specs.declared.potential.Potential.{Potential}
 use Rattle.geos_image.specs.declared.routine.Routine.{Routine}
 use Rattle.geos_image.specs.declared.point.Point.{Point}
-use Rattle.geos_image.specs.Parts.{total_count}
-use Rattle.geos_image.specs.Legal.{is_instr, is_row, is_point, is_routine, are_routines}
+use Rattle.geos_image.specs.Parts.{total_count, instrs_of}
+use Rattle.geos_image.specs.Legal.{is_instr, is_given, is_point, is_routine, are_routines}
 
-both : (a b : Bool) → a ≡ true → b ≡ true → (a && b) ≡ true
+pub both : (a b : Bool) → a ≡ true → b ≡ true → (a && b) ≡ true
 both true true p q = refl
 both true false p q = q
 both false b p q = p
@@ -37,16 +36,22 @@ are_routines-push routines r h k = are_routines-more [] routines r h k
 pub total_count-push : (routines : List Routine) (r : Routine) → total_count (routines ++ r ∷ []) ≡ total_count routines + r.count
 total_count-push routines r = sum_by_push (λ (x : Routine). x.count) routines r
 
+-- one more instruction
+pub instrs-push : (code : List Instr) (front : List Point) (k : ℕ) (d : Instr) (row : Option Row) (potential : Potential) → k < length code → instrs_of front ≡ take k code
+    → instrs_of (front ++ record { instr = get_or code k d; row = row; potential = potential } ∷ []) ≡ take (k + 1) code
+instrs-push code front k d row potential lt so_far =
+    map-append (λ (point : Point). point.instr) front _ ∙ ap (λ (is : List Instr). is ++ get_or code k d ∷ []) so_far ∙ sym (take_more code k d lt)
+
 -- one more instruction and its entry
-pub points-push : (routines instrs : ℕ) (code : List Instr) (front : List Point) (k : ℕ) (d : Instr) (row : Row) (potential : Potential) → k < length code
-    → (list_all (is_instr routines instrs) (take k code) ≡ true → list_all (is_point routines instrs) front ≡ true) → is_row row ≡ true
+pub points-push : (routines instrs : ℕ) (code : List Instr) (front : List Point) (k : ℕ) (d : Instr) (row : Option Row) (potential : Potential) → k < length code
+    → (list_all (is_instr routines instrs) (take k code) ≡ true → list_all (is_point routines instrs) front ≡ true) → is_given row ≡ true
     → list_all (is_instr routines instrs) (take (k + 1) code) ≡ true → list_all (is_point routines instrs) (front ++ record { instr = get_or code k d; row = row; potential = potential } ∷ []) ≡ true
 points-push routines instrs code front k d row potential lt so_far legal h =
     let p = is_instr routines instrs in
     let parts : (list_all p (take k code) && list_all p (get_or code k d ∷ [])) ≡ true = sym (list_all-append p (take k code) (get_or code k d ∷ [])) ∙ ap (list_all p) (sym (take_more code k d lt)) ∙ h in
     let two = and_parts (list_all p (take k code)) (list_all p (get_or code k d ∷ [])) parts in
     let here = and_parts (p (get_or code k d)) true two.1 in
-    list_all-push (is_point routines instrs) front (record { instr = get_or code k d; row = row; potential = potential }) (so_far two.0) (both (p (get_or code k d)) (is_row row) here.0 legal)
+    list_all-push (is_point routines instrs) front (record { instr = get_or code k d; row = row; potential = potential }) (so_far two.0) (both (p (get_or code k d)) (is_given row) here.0 legal)
 
 -- the bytes of one more element stand behind those of the elements before it
 pub puts-more : {A : Type 0} (f : A → List ℕ) (xs : List A) (k : ℕ) (d : A) (start old new : List ℕ) → k < length xs

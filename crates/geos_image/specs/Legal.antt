@@ -1,5 +1,5 @@
 -- Which images there are.
-use Rattle.std.specs.Prelude.{◌≡◌, ℕ, Bool, true, ◌&&◌, ◌||◌, not, nat_lt, nat_le, nat_eq, ◌==◌, List, [], ◌∷◌, ◌++◌, length, take, drop, position, unwrap_or, slice_index, Option, Some, None}
+use Rattle.std.specs.Prelude.{◌≡◌, ◌<◌, ◌≤◌, ℕ, Bool, true, false, ◌&&◌, if◌then◌else◌, replicate, ◌||◌, not, nat_lt, nat_le, nat_eq, ◌==◌, List, [], ◌∷◌, ◌++◌, length, take, drop, position, unwrap_or, slice_index, Option, Some, None}
 use Rattle.std.specs.List.{list_all, list_any}
 use Rattle.std.specs.Cmp.Lexicographic.{pointwise}
 use Rattle.std.specs.Char.{is_ascii_alphabetic, is_ascii_alphanumeric}
@@ -9,7 +9,8 @@ use Rattle.geos_image.specs.declared.row.Pointer.{Pointer}
 use Rattle.geos_image.specs.declared.routine.Routine.{Routine}
 use Rattle.geos_opcodes.specs.Facts.{operands_of, limit}
 use Rattle.geos_image.specs.declared.point.Point.{Point}
-use Rattle.geos_image.specs.Parts.{Parts, total_count}
+use Rattle.geos_image.specs.Parts.{Parts, total_count, instrs_of}
+use Rattle.geos_image.specs.Keys.{key_flags, row_stands, with_rows, flag_count}
 
 -- letters, digits and the underscore
 unfoldable pub is_name_byte : ℕ → Bool
@@ -50,9 +51,14 @@ is_instr routines instrs i =
     && nat_lt i.imm (limit routines instrs fields.imm)
     && nat_lt i.target (limit routines instrs fields.target)
 
+-- a row that is given is such a one
+abbrev pub is_given : Option Row → Bool
+is_given None = true
+is_given (Some row) = is_row row
+
 -- an instruction and a row that may stand in such an image
 abbrev pub is_point : ℕ → ℕ → Point → Bool
-is_point routines instrs point = is_instr routines instrs point.instr && is_row point.row
+is_point routines instrs point = is_instr routines instrs point.instr && is_given point.row
 
 -- the points are legal in each image in which the instructions are
 abbrev pub LegalWhere : List Instr → List Point → Type 0
@@ -77,7 +83,17 @@ abbrev pub are_routines : List Routine → List Routine → Bool
 are_routines earlier [] = true
 are_routines earlier (r ∷ routines) = is_routine earlier r && are_routines (earlier ++ r ∷ []) routines
 
--- 1 to 32 routines, and a point for each of their instructions, at most 4,096
+-- a row stands at each point that is flagged, and at no other
+abbrev pub rows_stand : List Bool → List Point → Bool
+rows_stand flags [] = true
+rows_stand [] (point ∷ points) = false
+rows_stand (flag ∷ flags) (point ∷ points) = row_stands flag point.row && rows_stand flags points
+
+-- a flag for each pc at which the image gives a row
+abbrev pub row_flags : Bool → List Routine → List Point → List Bool
+row_flags keyed routines points = if keyed then key_flags routines (instrs_of points) else replicate 4096 true
+
+-- 1 to 32 routines, and a point for each of their instructions, at most 4,096, with the rows that the image is to give
 abbrev pub is_image : Parts → Bool
 is_image image =
     nat_lt 0 (length image.routines)
@@ -86,3 +102,21 @@ is_image image =
     && nat_le (length image.points) 4096
     && total_count image.routines == length image.points
     && list_all (is_point (length image.routines) (length image.points)) image.points
+    && rows_stand (row_flags image.keyed image.routines image.points) image.points
+
+-- the image that gives these rows at its key places, in their order
+abbrev pub keyed_parts : List Routine → List Point → List Row → Parts
+keyed_parts routines points rows = record { keyed = true; routines = routines; points = with_rows (key_flags routines (instrs_of points)) points rows }
+
+-- these make an image: there is a row for each key place, and no more
+abbrev pub is_keyed : List Routine → List Point → List Row → Bool
+is_keyed routines points rows = flag_count (key_flags routines (instrs_of points)) (instrs_of points) == length rows && is_image (keyed_parts routines points rows)
+
+-- routines and instructions that an image may have
+pub record IsCode (routines : List Routine) (instrs : List Instr) : Type 0 where
+  pub some : 0 < length routines
+  pub few : length routines ≤ 32
+  pub in_order : are_routines [] routines ≡ true
+  pub short : length instrs ≤ 4096
+  pub counts : total_count routines ≡ length instrs
+  pub fit : list_all (is_instr (length routines) (length instrs)) instrs ≡ true

@@ -1,5 +1,6 @@
 pub mod Parts
 pub mod Open
+pub mod Keys
 pub mod Legal
 pub mod Fields
 pub mod Reading

@@ -39,9 +39,14 @@ pub record RoutineFits (r : Routine) : Type 0 where
   pub entry : RowFits r.entry
   pub exit : RowFits r.exit
 
+-- a row that is given fits
+abbrev pub GivenFits : Option Row → Type 0
+GivenFits None = Unit {0}
+GivenFits (Some row) = RowFits row
+
 -- an instruction's row and potential fit
 pub record PointFits (point : Point) : Type 0 where
-  pub row : RowFits point.row
+  pub row : GivenFits point.row
   pub potential : PotentialFits point.potential
 
 -- each routine and each point fits

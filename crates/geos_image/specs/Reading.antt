@@ -15,6 +15,7 @@ use Rattle.geos_opcodes.specs.declared.opcode.Opcode.{Opcode}
 use Rattle.geos_opcodes.specs.Facts.{opcode_of, operands_of, limit}
 use Rattle.geos_image.specs.declared.point.Point.{Point}
 use Rattle.geos_image.specs.Parts.{Parts, total_count}
+use Rattle.geos_image.specs.Keys.{key_flags, with_rows, flag_count}
 use Rattle.geos_image.specs.Legal.{is_name, is_named}
 use Rattle.geos_image.specs.Spelling.{magic, slot_code}
 
@@ -178,15 +179,15 @@ entry_at bytes at = do
   potential ← potential_at bytes (at + 38)
   Ok (row, potential)
 
--- `GRT1` and the version, 1; then the number of routines
-unfoldable pub header_at : List ℕ → Result ℕ ℕ
+-- `GRT1` and the version, 1 or 2; then the number of routines. Whether the version is 2, and that number
+unfoldable pub header_at : List ℕ → Result (Bool × ℕ) ℕ
 header_at bytes = do
   magic ← guard 0 (nat_le 4 (length bytes) && pointwise nat_eq (take 4 bytes) magic)
   version ← word_at bytes 4
-  known ← guard 4 (version == 1)
+  known ← guard 4 (version == 1 || version == 2)
   routines ← word_at bytes 6
   in_range ← guard 6 (nat_lt 0 routines && nat_le routines 32)
-  Ok routines
+  Ok (version == 2, routines)
 
 -- the instructions, each with the row and the potential that stand for it
 unfoldable pub points_at : List ℕ → List Instr → ℕ → Result (List Point) ℕ
@@ -194,17 +195,46 @@ points_at bytes [] at = Ok []
 points_at bytes (i ∷ instrs) at = do
   entry ← entry_at bytes at
   others ← points_at bytes instrs (at + 58)
-  Ok (record { instr = i; row = entry.0; potential = entry.1 } ∷ others)
+  Ok (record { instr = i; row = Some entry.0; potential = entry.1 } ∷ others)
+
+-- the instructions, each with the potential that stands for it, and no row
+unfoldable pub bare_points_at : List ℕ → List Instr → ℕ → Result (List Point) ℕ
+bare_points_at bytes [] at = Ok []
+bare_points_at bytes (i ∷ instrs) at = do
+  potential ← potential_at bytes at
+  others ← bare_points_at bytes instrs (at + 20)
+  Ok (record { instr = i; row = None; potential = potential } ∷ others)
+
+-- where rows and potentials stand for each instruction, from an offset on, and nothing behind them
+unfoldable pub whole_at : List ℕ → List Routine → List Instr → ℕ → Result Parts ℕ
+whole_at bytes routines instrs at = do
+  points ← points_at bytes instrs at
+  ended ← guard (at + 58 * length instrs) (length bytes == at + 58 * length instrs)
+  Ok (record { keyed = false; routines = routines; points = points })
+
+-- where potentials stand for each instruction, then rows for the key places, and nothing behind them
+unfoldable pub keyed_at : List ℕ → List Routine → List Instr → ℕ → Result Parts ℕ
+keyed_at bytes routines instrs at =
+    let flags = key_flags routines instrs in
+    let rows_from = at + 20 * length instrs in
+    let end = rows_from + 38 * flag_count flags instrs in
+    (bare_points_at bytes instrs at >>= λ points.
+    items_at (row_at bytes) 38 (flag_count flags instrs) rows_from >>= λ rows.
+    guard end (length bytes == end) >>= λ ended.
+    Ok (record { keyed = true; routines = routines; points = with_rows flags points rows }))
+
+-- either, by the version
+abbrev pub rest_at : Bool → List ℕ → List Routine → List Instr → ℕ → Result Parts ℕ
+rest_at false bytes routines instrs at = whole_at bytes routines instrs at
+rest_at true bytes routines instrs at = keyed_at bytes routines instrs at
 
 -- the image that the bytes spell
 unfoldable pub image_at : List ℕ → Result Parts ℕ
 image_at bytes = do
-  count ← header_at bytes
-  routines ← routines_at bytes count 8 []
-  instrs ← items_at (instr_at count (total_count routines) bytes) 10 (total_count routines) (8 + 100 * count)
-  points ← points_at bytes instrs (8 + 100 * count + 10 * total_count routines)
-  ended ← guard (8 + 100 * count + 68 * total_count routines) (length bytes == 8 + 100 * count + 68 * total_count routines)
-  Ok (record { routines = routines; points = points })
+  head ← header_at bytes
+  routines ← routines_at bytes head.1 8 []
+  instrs ← items_at (instr_at head.1 (total_count routines) bytes) 10 (total_count routines) (8 + 100 * head.1)
+  rest_at head.0 bytes routines instrs (8 + 100 * head.1 + 10 * total_count routines)
 
 -- the fault that reading names, or want of memory
 abbrev pub Fails : {Y : Type 0} → ReadError → Result Y ℕ → Type 0

@@ -10,6 +10,7 @@ use Rattle.geos_image.specs.declared.row.SlotState.TheVariants.{Empty, Mem, Vm, 
 use Rattle.geos_image.specs.declared.potential.Potential.{Potential}
 use Rattle.geos_image.specs.declared.routine.Routine.{Routine}
 use Rattle.geos_opcodes.specs.Facts.{code_of}
+use Rattle.geos_image.specs.declared.point.Point.{Point}
 use Rattle.geos_image.specs.Parts.{Parts}
 
 -- `GRT1`
@@ -62,11 +63,30 @@ potential p = long p.constant ++ flat_map long p.coefficients
 abbrev pub routine : Routine → List ℕ
 routine r = r.name ++ (flag r.public ∷ 0 ∷ []) ++ word r.count ++ long r.budget ++ row r.entry ++ row r.exit
 
--- `GRT1`, the version 1, the number of routines, the routines, the instructions, and a row and
--- a potential for each
+-- the version: 2 where rows are given at key places alone
+abbrev pub version : Bool → ℕ
+version false = 1
+version true = 2
+
+-- a row, where one is given
+abbrev pub given : Option Row → List ℕ
+given None = []
+given (Some r) = row r
+
+-- what is told at a point
+abbrev pub told : Point → List ℕ
+told point = given point.row ++ potential point.potential
+
+-- in version 1 a row and a potential for each point; in version 2 the potentials, then the rows that are given
+abbrev pub rest : Bool → List Point → List ℕ
+rest false points = flat_map told points
+rest true points = flat_map (λ (point : Point). potential point.potential) points ++ flat_map (λ (point : Point). given point.row) points
+
+-- `GRT1`, the version, the number of routines, the routines, the instructions, and what is told at
+-- each
 abbrev pub spelling : Parts → List ℕ
 spelling image =
-    magic ++ word 1 ++ word (length image.routines)
+    magic ++ word (version image.keyed) ++ word (length image.routines)
     ++ flat_map routine image.routines
     ++ flat_map (λ point. instr point.instr) image.points
-    ++ flat_map (λ point. row point.row ++ potential point.potential) image.points
+    ++ rest image.keyed image.points

@@ -1,13 +1,16 @@
 //! Images.
 
-ghost use Rattle.std.specs.Prelude.{◌≡◌, ◌<◌, ◌≤◌, ◌+◌, ◌↔◌, IsTrue, IsSome, IfSome, true, [], length, slice_get, Some};
+ghost use Rattle.std.specs.Prelude.{◌≡◌, ◌<◌, ◌≤◌, ◌+◌, ◌↔◌, IsTrue, IsSome, IfSome, true, false, [], replicate, ◌&&◌, nat_le, length, slice_get, Some};
 ghost use Rattle.std.specs.List.{list_all};
 ghost use Rattle.geos_image.specs.declared.point.Point.{Point};
 ghost use Rattle.geos_image.specs.Parts.{Parts, start_of};
-ghost use Rattle.geos_image.specs.Legal.{is_image, are_routines, is_point};
+ghost use Rattle.geos_image.specs.Legal.{is_image, are_routines, is_point, rows_stand, row_flags, keyed_parts, is_keyed};
+ghost use Rattle.geos_image.specs.Keys.{gives, is_key, branches, falls_through};
+ghost use Rattle.geos_image.specs.Spelling.{version};
 ghost use Rattle.geos_image.specs.Fields.{FieldsFit, TargetFits, CalleeFits};
 
 use crate::instr::Instr;
+use crate::keys::{Flags, flag_count, keys_of, place_rows};
 use crate::legal::{MOST_INSTRS, MOST_ROUTINES, is_point, is_routine, total_count};
 use crate::point::Point;
 use crate::potential::Potential;
@@ -17,8 +20,11 @@ use std::marker::Model;
 
 /// Routines and their instructions, each instruction with its entry state and potential. An
 /// image is always one that the format allows (docs/FORMATS.md).
+///
+/// It gives an entry state at each place, in version 1, or at its key places alone, in version 2.
 #[derive(Drop)]
 pub struct Image {
+    pub(crate) keyed: bool,
     pub(crate) routines: Vec<Routine>,
     pub(crate) points: Vec<Point>,
 }
@@ -30,9 +36,9 @@ impl Model for Image {
 
     ghost Value = { Parts };
 
-    ghost view = { λ i. record { routines = i.routines.items; points = i.points.items } };
+    ghost view = { λ i. record { keyed = i.keyed; routines = i.routines.items; points = i.points.items } };
 
-    ghost invariant = { λ i. is_image (record { routines = i.routines.items; points = i.points.items }) ≡ true };
+    ghost invariant = { λ i. is_image (record { keyed = i.keyed; routines = i.routines.items; points = i.points.items }) ≡ true };
 }
 
 /// Whether each routine may stand behind those before it.
@@ -55,8 +61,41 @@ fn are_points(routines: u32, points: &[Point]) -> bool
     points.iter().all(|point| is_point(routines, instrs, point))
 }
 
-fn is_image(routines: &[Routine], points: &[Point]) -> bool
-    ensures { result ≡ is_image (record { routines = routines.now; points = points.now }) }
+/// Whether a row stands at each point that is flagged, and at no other.
+fn rows_stand(flags: &Flags, points: &[Point]) -> bool
+    requires { length points.now ≤ MOST_INSTRS }
+    ensures { result ≡ rows_stand flags.now points.now }
+{
+    for (pc, point) in points.iter().enumerate() {
+        if point.row.is_some() != flags[pc] {
+            return false;
+        }
+    }
+    true
+}
+
+/// Every flag is set.
+fn all_flags() -> Flags
+    ensures { result ≡ replicate 4096 true }
+{
+    [true; 4096]
+}
+
+/// A flag for each pc at which an image gives a row.
+fn row_flags(keyed: bool, routines: &[Routine], points: &[Point]) -> Flags
+    requires few { length routines.now ≤ MOST_ROUTINES }
+    requires short { length points.now ≤ MOST_INSTRS }
+    ensures { result ≡ row_flags keyed routines.now points.now }
+{
+    if keyed {
+        keys_of(routines, points)
+    } else {
+        all_flags()
+    }
+}
+
+fn is_image(keyed: bool, routines: &[Routine], points: &[Point]) -> bool
+    ensures { result ≡ is_image (record { keyed = keyed; routines = routines.now; points = points.now }) }
 {
     !routines.is_empty()
         && routines.len() <= usize::from(MOST_ROUTINES)
@@ -64,28 +103,78 @@ fn is_image(routines: &[Routine], points: &[Point]) -> bool
         && points.len() <= usize::from(MOST_INSTRS)
         && total_count(routines) as usize == points.len()
         && are_points(routines.len() as u32, points)
+        && rows_stand(&row_flags(keyed, routines, points), points)
+}
+
+/// Whether there are no more routines and points than an image has.
+fn is_short(routines: &[Routine], points: &[Point]) -> bool
+    ensures { result ≡ (nat_le (length routines.now) MOST_ROUTINES && nat_le (length points.now) MOST_INSTRS) }
+{
+    routines.len() <= usize::from(MOST_ROUTINES) && points.len() <= usize::from(MOST_INSTRS)
 }
 
 impl Image {
-    /// The image of these routines and points; `None` exactly where the format allows none. It
+    /// The image of version 1 of these routines and points; `None` exactly where the format allows none. It
     /// takes no memory.
     pub fn new(routines: Vec<Routine>, points: Vec<Point>) -> Option<Image>
-        ensures some { IsSome result ↔ IsTrue (is_image (record { routines = routines.items; points = points.items })) }
-        ensures value { IfSome result (λ image. image ≡ record { routines = routines.items; points = points.items }) }
+        ensures some { IsSome result ↔ IsTrue (is_image (record { keyed = false; routines = routines.items; points = points.items })) }
+        ensures value { IfSome result (λ image. image ≡ record { keyed = false; routines = routines.items; points = points.items }) }
     {
-        if is_image(&routines, &points) {
-            Some(Image { routines, points })
+        if is_image(false, &routines, &points) {
+            Some(Image {
+                keyed: false,
+                routines,
+                points,
+            })
         } else {
             None
         }
     }
 
-    /// The image of routines and points that are known to be such as the format allows: nothing is looked at.
-    pub fn of_legal(routines: Vec<Routine>, points: Vec<Point>) -> Image
-        requires { is_image (record { routines = routines.items; points = points.items }) ≡ true }
-        ensures { result ≡ record { routines = routines.items; points = points.items } }
+    /// The image of routines and points that are known to be such as the format allows: nothing is looked at. `keyed`
+    /// says whether it is of version 2.
+    pub fn of_legal(keyed: bool, routines: Vec<Routine>, points: Vec<Point>) -> Image
+        requires { is_image (record { keyed = keyed; routines = routines.items; points = points.items }) ≡ true }
+        ensures { result ≡ record { keyed = keyed; routines = routines.items; points = points.items } }
     {
-        Image { routines, points }
+        Image {
+            keyed,
+            routines,
+            points,
+        }
+    }
+
+    /// The image of version 2 of these routines and points, with these rows at its key places, in their order; `None`
+    /// exactly where the format allows none. Rows that points have are not looked at. It takes no memory.
+    pub fn with_keys(routines: Vec<Routine>, points: Vec<Point>, rows: Vec<Row>) -> Option<Image>
+        ensures some { IsSome result ↔ IsTrue (is_keyed routines.items points.items rows.items) }
+        ensures value { IfSome result (λ image. image ≡ keyed_parts routines.items points.items rows.items) }
+    {
+        if !is_short(&routines, &points) {
+            return None;
+        }
+        let flags = keys_of(&routines, &points);
+        if flag_count(&flags, &points) != rows.len() {
+            return None;
+        }
+        let mut points = points;
+        place_rows(&flags, &mut points, &rows);
+        if is_image(true, &routines, &points) {
+            Some(Image {
+                keyed: true,
+                routines,
+                points,
+            })
+        } else {
+            None
+        }
+    }
+
+    /// The version of the format, 1 or 2.
+    pub fn version(&self) -> u16
+        ensures { result ≡ version self.now.keyed }
+    {
+        if self.keyed { 2 } else { 1 }
     }
 
     /// How many routines there are, 1 to 32.
@@ -111,6 +200,8 @@ impl Image {
         // The routine's instructions are some of the image's.
         ensures room { IfSome (slice_get self.now.routines i) (λ routine. result + routine.count ≤ length self.now.points) }
         ensures short { length self.now.points ≤ MOST_INSTRS }
+        // A row is given there.
+        ensures given { gives self.now result ≡ true }
     {
         total_count(&self.routines[..usize::from(i)]) as u16
     }
@@ -138,16 +229,54 @@ impl Image {
         ensures fields { FieldsFit result.now.opcode result.now }
         ensures target { TargetFits (length self.now.points) result.now }
         ensures callee { CalleeFits (length self.now.routines) result.now }
+        // Rows are given where it leads by its label, and behind it where control does not go on.
+        ensures led { branches result.now.opcode ≡ true → gives self.now result.now.target ≡ true }
+        ensures cut { falls_through result.now.opcode ≡ false → pc + 1 < length self.now.points → gives self.now (pc + 1) ≡ true }
     {
         &self.points[pc as usize].instr
     }
 
-    /// The entry state at a pc.
-    pub fn row(&self, pc: u16) -> &Row
+    /// Whether the pc is a key place: the first one of a routine, one to which an instruction may lead by its label,
+    /// or one behind an instruction from which control does not go on. In version 1 that takes a look at every
+    /// instruction.
+    pub fn key(&self, pc: u16) -> bool
+        requires { pc < length self.now.points }
+        ensures key { result ≡ is_key self.now pc }
+        ensures given { result ≡ true → gives self.now pc ≡ true }
+    {
+        if self.keyed {
+            self.gives(pc)
+        } else {
+            keys_of(&self.routines, &self.points)[pc as usize]
+        }
+    }
+
+    /// Whether the image gives an entry state at the pc: in version 1 at each, in version 2 at the key places alone.
+    pub fn gives(&self, pc: u16) -> bool
+        requires { pc < length self.now.points }
+        ensures { result ≡ gives self.now pc }
+    {
+        self.points[pc as usize].row.is_some()
+    }
+
+    /// The entry state at a pc, where the image gives one.
+    pub fn given(&self, pc: u16) -> &Option<Row>
         requires { pc < length self.now.points }
         ensures { IfSome (slice_get self.now.points pc) (λ point. result.now ≡ point.row) }
     {
         &self.points[pc as usize].row
+    }
+
+    /// The entry state at a pc.
+    pub fn row(&self, pc: u16) -> &Row
+        requires there { pc < length self.now.points }
+        requires given { gives self.now pc ≡ true }
+        ensures { IfSome (slice_get self.now.points pc) (λ point. Some result.now ≡ point.row) }
+    {
+        match &self.points[pc as usize].row {
+            Some(row) => row,
+            None => unreachable!(),
+        }
     }
 
     /// The potential at a pc.

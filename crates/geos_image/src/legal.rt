@@ -2,7 +2,7 @@
 
 ghost use Rattle.std.specs.Prelude.{◌≡◌, ◌<◌, ◌≤◌, ◌^◌, length, not, ◌==◌, IfSome};
 ghost use Rattle.std.specs.List.{list_all};
-ghost use Rattle.geos_image.specs.Legal.{is_name_byte, text_end, is_name, is_pointer, is_row, is_instr, is_point, is_named, is_routine};
+ghost use Rattle.geos_image.specs.Legal.{is_name_byte, text_end, is_name, is_pointer, is_row, is_given, is_instr, is_point, is_named, is_routine};
 ghost use Rattle.geos_image.specs.declared.point.Point.{Point};
 ghost use Rattle.geos_image.specs.Parts.{total_count};
 
@@ -105,11 +105,20 @@ fn is_instr(routines: u32, instrs: u32, instr: &Instr) -> bool
         && u32::from(instr.target) < fields.target.limit(routines, instrs)
 }
 
+fn is_given(row: &Option<Row>) -> bool
+    ensures { result ≡ is_given row.now }
+{
+    match row {
+        Some(row) => is_row(row),
+        None => true,
+    }
+}
+
 /// Whether a point may stand in an image with so many routines and instructions.
 pub(crate) fn is_point(routines: u32, instrs: u32, point: &Point) -> bool
     ensures { result ≡ is_point routines instrs point.now }
 {
-    is_instr(routines, instrs, &point.instr) && is_row(&point.row)
+    is_instr(routines, instrs, &point.instr) && is_given(&point.row)
 }
 
 /// Whether a routine may stand behind the earlier ones.

@@ -7,6 +7,7 @@
 mod error;
 mod image;
 mod instr;
+mod keys;
 mod legal;
 mod point;
 mod potential;
@@ -19,6 +20,7 @@ pub use error::ReadError;
 pub use geos_opcodes::{Opcode, Operand, Operands};
 pub use image::Image;
 pub use instr::{Instr, value_at};
+pub use keys::{Flags, branches, falls_through, keys_of};
 pub use legal::{MOST_INSTRS, MOST_ROUTINES, are_name_bytes};
 pub use point::Point;
 pub use potential::Potential;

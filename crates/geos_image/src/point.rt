@@ -8,8 +8,8 @@ use crate::row::Row;
 #[derive(Clone, Copy)]
 pub struct Point {
     pub instr: Instr,
-    /// What is known of the registers before the instruction.
-    pub row: Row,
+    /// What is known of the registers before the instruction, where an image gives that.
+    pub row: Option<Row>,
     /// A bound on the steps that are left before the instruction.
     pub potential: Potential,
 }

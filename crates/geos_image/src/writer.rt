@@ -2,8 +2,8 @@
 
 ghost use Rattle.std.specs.Prelude.{◌≡◌, ◌++◌, OnOk, IfOk, map};
 ghost use Rattle.std.specs.List.{flat_map, All};
-ghost use Rattle.geos_image.specs.Spelling.{word, long, instr, slot_code, pointer, pairs_byte, row, potential, routine, spelling};
-ghost use Rattle.geos_image.specs.Ranges.{IsWord, PointerFits, RowFits, PotentialFits, RoutineFits, PointFits};
+ghost use Rattle.geos_image.specs.Spelling.{word, long, instr, slot_code, pointer, pairs_byte, row, potential, routine, given, told, rest, version, spelling};
+ghost use Rattle.geos_image.specs.Ranges.{IsWord, PointerFits, RowFits, GivenFits, PotentialFits, RoutineFits, PointFits};
 ghost use Rattle.geos_image.specs.Reading.{image_at};
 
 use crate::image::Image;
@@ -143,22 +143,64 @@ fn put_instrs(out: &mut Vec<u8>, points: &[Point]) -> Result<(), AllocError>
     Ok(())
 }
 
+fn put_given_row(out: &mut Vec<u8>, r: &Option<Row>) -> Result<(), AllocError>
+    ensures value { OnOk result (out.new.items ≡ out.old.items ++ given r.now) }
+    ensures fits { OnOk result (GivenFits r.now) }
+{
+    match r {
+        None => Ok(()),
+        Some(r) => put_row(out, r),
+    }
+}
+
 fn put_entry(out: &mut Vec<u8>, point: &Point) -> Result<(), AllocError>
-    ensures value { OnOk result (out.new.items ≡ out.old.items ++ (row point.now.row ++ potential point.now.potential)) }
+    ensures value { OnOk result (out.new.items ≡ out.old.items ++ told point.now) }
     ensures fits { OnOk result (PointFits point.now) }
 {
-    put_row(out, &point.row)?;
+    put_given_row(out, &point.row)?;
     put_potential(out, &point.potential)
 }
 
 fn put_entries(out: &mut Vec<u8>, points: &[Point]) -> Result<(), AllocError>
-    ensures value { OnOk result (out.new.items ≡ out.old.items ++ flat_map (λ point. row point.row ++ potential point.potential) points.now) }
+    ensures value { OnOk result (out.new.items ≡ out.old.items ++ flat_map told points.now) }
     ensures fits { OnOk result (All PointFits points.now) }
 {
     for point in points {
         put_entry(out, point)?;
     }
     Ok(())
+}
+
+fn put_potentials(out: &mut Vec<u8>, points: &[Point]) -> Result<(), AllocError>
+    ensures value { OnOk result (out.new.items ≡ out.old.items ++ flat_map (λ point. potential point.potential) points.now) }
+    ensures fits { OnOk result (All (λ point. PotentialFits point.potential) points.now) }
+{
+    for point in points {
+        put_potential(out, &point.potential)?;
+    }
+    Ok(())
+}
+
+fn put_given_rows(out: &mut Vec<u8>, points: &[Point]) -> Result<(), AllocError>
+    ensures value { OnOk result (out.new.items ≡ out.old.items ++ flat_map (λ point. given point.row) points.now) }
+    ensures fits { OnOk result (All (λ point. GivenFits point.row) points.now) }
+{
+    for point in points {
+        put_given_row(out, &point.row)?;
+    }
+    Ok(())
+}
+
+fn put_rest(out: &mut Vec<u8>, keyed: bool, points: &[Point]) -> Result<(), AllocError>
+    ensures value { OnOk result (out.new.items ≡ out.old.items ++ rest keyed points.now) }
+    ensures fits { OnOk result (All PointFits points.now) }
+{
+    if keyed {
+        put_potentials(out, points)?;
+        put_given_rows(out, points)
+    } else {
+        put_entries(out, points)
+    }
 }
 
 /// The bytes that spell the image: reading them gives the image again.
@@ -168,10 +210,10 @@ pub fn write(alloc: Global, image: &Image) -> Result<Vec<u8>, AllocError>
 {
     let mut out = Vec::new(alloc);
     out.extend_from_slice(b"GRT1")?;
-    put_word(&mut out, 1)?;
+    put_word(&mut out, image.version())?;
     put_word(&mut out, image.count())?;
     put_routines(&mut out, &image.routines)?;
     put_instrs(&mut out, &image.points)?;
-    put_entries(&mut out, &image.points)?;
+    put_rest(&mut out, image.keyed, &image.points)?;
     Ok(out)
 }

@@ -2,16 +2,18 @@
 
 ghost use Rattle.std.specs.Prelude.{◌≡◌, ℕ, ◌<◌, ◌≤◌, ◌^◌, length, true, IfOk};
 ghost use Rattle.std.specs.List.{list_all};
-ghost use Rattle.geos_image.specs.Legal.{is_instr, LegalWhere};
+ghost use Rattle.geos_image.specs.Legal.{is_instr, is_row, LegalWhere};
+ghost use Rattle.geos_image.specs.Parts.{instrs_of};
 ghost use Rattle.geos_opcodes.specs.Facts.{limit};
-ghost use Rattle.geos_image.specs.Reading.{byte_below, word_below, fields_at, instr_at, items_at, points_at, Gives};
+ghost use Rattle.geos_image.specs.Reading.{byte_below, word_below, fields_at, instr_at, items_at, points_at, row_at, bare_points_at, Gives};
 
 use crate::error::ReadError;
 use crate::instr::Instr;
 use crate::legal::MOST_INSTRS;
 use crate::point::Point;
 use crate::reader::numbers::{Fault, byte_at, byte_below, word_below};
-use crate::reader::rows::entry_at;
+use crate::reader::rows::{entry_at, potential_at, row_at};
+use crate::row::Row;
 use geos_opcodes::{Opcode, Operand};
 use std::alloc::Global;
 
@@ -127,10 +129,60 @@ pub(crate) fn points_at(
         let (row, potential) = entry_at(bytes, at)?;
         points.push(Point {
             instr: *instr,
-            row,
+            row: Some(row),
             potential,
         })?;
         at += 58;
     }
     Ok(points)
+}
+
+/// Each instruction with the potential that the bytes give it, and no row.
+pub(crate) fn bare_at(
+    alloc: Global,
+    bytes: &[u8],
+    code: &[Instr],
+    start: usize,
+) -> Result<Vec<Point>, ReadError>
+    requires place { start < 2 ^ 20 }
+    requires short { length code.now ≤ MOST_INSTRS }
+    ensures exact { Gives (λ v. v.items) result (bare_points_at bytes.now code.now start) }
+    ensures legal { IfOk result (λ v. LegalWhere code.now v.items) }
+    ensures instrs { IfOk result (λ v. instrs_of v.items ≡ code.now) }
+{
+    let mut points = Vec::with_capacity(alloc, code.len())?;
+    let mut at = start;
+    for instr in code {
+        let potential = potential_at(bytes, at)?;
+        points.push(Point {
+            instr: *instr,
+            row: None,
+            potential,
+        })?;
+        at += 20;
+    }
+    Ok(points)
+}
+
+/// So many rows.
+pub(crate) fn rows_at(
+    alloc: Global,
+    bytes: &[u8],
+    count: usize,
+    start: usize,
+) -> Result<Vec<Row>, ReadError>
+    requires place { start < 2 ^ 21 }
+    requires short { count ≤ MOST_INSTRS }
+    ensures exact { Gives (λ v. v.items) result (items_at (row_at bytes.now) 38 count start) }
+    ensures legal { IfOk result (λ v. list_all is_row v.items ≡ true) }
+    ensures len { IfOk result (λ v. length v.items ≡ count) }
+{
+    let mut rows = Vec::with_capacity(alloc, count)?;
+    let mut at = start;
+    for _ in 0..count {
+        let row = row_at(bytes, at)?;
+        rows.push(row)?;
+        at += 38;
+    }
+    Ok(rows)
 }

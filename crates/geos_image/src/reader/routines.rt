@@ -13,19 +13,20 @@ use crate::routine::Routine;
 use std::alloc::Global;
 
 #[tactic(auto, unfolding(crate::specs::Reading::header_at))]
-pub(crate) fn header_at(bytes: &[u8]) -> Result<u16, Fault>
+pub(crate) fn header_at(bytes: &[u8]) -> Result<(bool, u16), Fault>
     ensures exact { result ≡ header_at bytes.now }
-    ensures legal { IfOk result (λ n. (0 < n) × (n ≤ MOST_ROUTINES)) }
+    ensures legal { IfOk result (λ head. (0 < head.1) × (head.1 ≤ MOST_ROUTINES)) }
 {
     if !bytes.starts_with(b"GRT1") {
         return Err(0);
     }
-    if word_at(bytes, 4)? != 1 {
+    let version = word_at(bytes, 4)?;
+    if version != 1 && version != 2 {
         return Err(4);
     }
     let routines = word_at(bytes, 6)?;
     if routines > 0 && routines <= MOST_ROUTINES {
-        Ok(routines)
+        Ok((version == 2, routines))
     } else {
         Err(6)
     }

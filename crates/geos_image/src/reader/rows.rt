@@ -124,7 +124,7 @@ fn coefficients_at(bytes: &[u8], at: usize) -> Result<[u32; 4], Fault>
 }
 
 #[tactic(auto, unfolding(crate::specs::Reading::potential_at))]
-fn potential_at(bytes: &[u8], at: usize) -> Result<Potential, Fault>
+pub(crate) fn potential_at(bytes: &[u8], at: usize) -> Result<Potential, Fault>
     requires { at < 2 ^ 29 }
     ensures { result ≡ potential_at bytes.now at }
 {

@@ -1,0 +1,9 @@
+use Rattle.std.proofs.Common.{◌≡◌, ◌++◌, take}
+use Rattle.std.specs.List.{flat_map, All}
+use Rattle.geos_image.specs.Ranges.{GivenFits}
+use Rattle.geos_image.specs.declared.point.Point.{Point}
+use Rattle.geos_image.specs.Spelling.{given}
+use Rattle.geos_image.proofs.writer.put_given_rows.Given as goal
+
+abbrev pub invariant-loop-point : goal.invariant-loop-point
+invariant-loop-point l = (l.out.items ≡ l.initial.out.items ++ flat_map (λ (point : Point). given point.row) (take l.point-index l.points)) × All (λ (point : Point). GivenFits point.row) (take l.point-index l.points)
