@@ -5,3 +5,4 @@ pub mod Noted
 pub mod Passed
 pub mod Places
 pub mod Within
+pub mod Known

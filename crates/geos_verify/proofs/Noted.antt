@@ -1,5 +1,5 @@
 -- What is noted in a table of touched counters, where calls go to lower routines.
-use Rattle.std.proofs.Common.{◌≡◌, ◌<◌, ◌≤◌, ◌+◌, ◌-◌, ℕ, zero, suc, Bool, true, false, List, [], ◌∷◌, Option, Some, None, length, slice_get, take, drop, set, refl, sym, ap, ◌∙◌, arith, inl, inr, ◌⊎◌}
+use Rattle.std.proofs.Common.{◌≡◌, ◌<◌, ◌≤◌, ◌+◌, ◌-◌, ℕ, zero, suc, Bool, true, false, List, [], ◌∷◌, Option, Some, None, length, slice_get, take, drop, set, refl, sym, ap, subst, ◌∙◌, arith, inl, inr, ◌⊎◌}
 use Rattle.std.specs.Prelude.{◌&&◌, ◌||◌, not, nat_lt, slice_index_or}
 use Rattle.std.specs.List.{list_any}
 use Rattle.std.proofs.lemmas.List.{get_or-set_other, get_or-set_same}
@@ -8,12 +8,13 @@ use Rattle.std.proofs.lemmas.Option.{slice_get_within}
 use Rattle.geos_image.specs.declared.instr.Instr.{Instr}
 use Rattle.geos_image.specs.declared.routine.Routine.{Routine}
 use Rattle.geos_image.specs.declared.point.Point.{Point}
+use Rattle.geos_verify.specs.declared.place.Place.{Place}
 use Rattle.geos_image.specs.Parts.{Parts, start_of}
 use Rattle.geos_image.proofs.Starts.{start_of-next, start_of-le}
 use Rattle.geos_verify.specs.Rules.{HasPoint, AcceptedBelow, call_misfits}
 use Rattle.geos_verify.specs.Touched.{calls, points_of, touches_here, touches_within, touches, touched_by, counts, noted, NotesBelow, touches_by, noted_by}
 use Rattle.geos_verify.proofs.Passed.{none-refuses}
-use Rattle.geos_verify.proofs.Places.{place_true, place_bounds}
+use Rattle.geos_verify.proofs.Places.{place_true, place_bounds, place-at, point-of}
 
 -- tests that agree on each element find alike
 pub list_any-same : {A : Type 0} (f g : A → Bool) (xs : List A) → ((j : ℕ) (x : A) → slice_get xs j ≡ Some x → f x ≡ g x) → list_any f xs ≡ list_any g xs
@@ -39,30 +40,37 @@ pub and-false : (b x : Bool) → (b && x) ≡ false → b ≡ true → x ≡ fal
 and-false true x e h = e
 and-false false x e h = absurd cc
 
--- a point among those of a routine is one that the routine has
-pub points_of-has : (image : Parts) (r j : ℕ) (routine : Routine) (point : Point) → slice_get image.routines r ≡ Some routine → slice_get (points_of image r) j ≡ Some point
-    → HasPoint image r routine (start_of image.routines r + j) point
+-- a point among those of a routine has a place there
+points_of-has : (image : Parts) (r j : ℕ) (routine : Routine) (point : Point) → slice_get image.routines r ≡ Some routine → slice_get (points_of image r) j ≡ Some point
+    → (place : Place) × HasPoint image r routine (start_of image.routines r + j) place × (place.instr ≡ point.instr)
 points_of-has image r j routine point there e =
     let start = start_of image.routines r in
     let here : slice_get (take routine.count (drop start image.points)) j ≡ Some point = rw (there, points_of) at e in
     let p = slice_get-take (drop start image.points) routine.count j point here in
-    record {
-      there = there;
-      within = place_true start routine.count (start + j) (omega arith) (omega (arith, p.0));
-      read = sym (slice_get-drop image.points start j) ∙ p.1;
-    }
+    let found = place-at image (start + j) point (sym (slice_get-drop image.points start j) ∙ p.1) in (
+      found.0,
+      record {
+        there = there;
+        within = place_true start routine.count (start + j) (omega arith) (omega (arith, p.0));
+        read = found.1;
+      },
+      found.2.instr,
+    )
 
 -- the calls of the routines below a limit go to lower routines
 abbrev pub CallsGoDown : Parts → ℕ → Type 0
-CallsGoDown image limit = (c pc : ℕ) (routine : Routine) (point : Point) → c < limit → HasPoint image c routine pc point → calls point.instr.opcode ≡ true → point.instr.imm < c
+CallsGoDown image limit = (c pc : ℕ) (routine : Routine) (place : Place) → c < limit → HasPoint image c routine pc place → calls place.instr.opcode ≡ true → place.instr.imm < c
 
--- each point of a routine is one that some routine by this number has
-point-has : (image : Parts) (r j : ℕ) (point : Point) → slice_get (points_of image r) j ≡ Some point → (routine : Routine) × (pc : ℕ) × HasPoint image r routine pc point
-point-has image r j point e = by_routine (slice_get image.routines r) refl
+-- so do those of each point among those of a routine
+goes-down : (image : Parts) (limit : ℕ) → CallsGoDown image limit → (c j : ℕ) (point : Point) → c < limit → slice_get (points_of image c) j ≡ Some point → calls point.instr.opcode ≡ true → point.instr.imm < c
+goes-down image limit down c j point lt e is = by_routine (slice_get image.routines c) refl
   where
-    by_routine : (o : Option Routine) → slice_get image.routines r ≡ o → (routine : Routine) × (pc : ℕ) × HasPoint image r routine pc point
+    by_routine : (o : Option Routine) → slice_get image.routines c ≡ o → point.instr.imm < c
     by_routine None there = (let none : slice_get [] j ≡ Some point = rw (there, points_of) at e in absurd cc)
-    by_routine (Some routine) there = (routine, start_of image.routines r + j, points_of-has image r j routine point there e)
+    by_routine (Some routine) there =
+        let has = points_of-has image c j routine point there e in
+        let calls_there : calls has.0.instr.opcode ≡ true = ap (λ (i : Instr). calls i.opcode) has.2 ∙ is in
+        subst (λ (i : Instr). i.imm < c) has.2 (down c (start_of image.routines c + j) routine has.0 lt has.1 calls_there)
 
 touches_here-same : (f g : ℕ → Bool) (k : ℕ) (i : Instr) → (calls i.opcode ≡ true → f i.imm ≡ g i.imm) → touches_here f k i ≡ touches_here g k i
 touches_here-same f g k i same = rw (and-same (calls i.opcode) (f i.imm) (g i.imm) same) refl
@@ -78,8 +86,7 @@ module _ (image : Parts) (limit : ℕ) (down : CallsGoDown image limit) (k : ℕ
       each c lt below =
           list_any-same (λ point. touches_here (touches_within d image k) k point.instr) (λ point. touches_here (touches_within e image k) k point.instr) (points_of image c)
           (λ j point there.
-          let has = point-has image c j point there in
-          touches_here-same (touches_within d image k) (touches_within e image k) k point.instr (λ is. below point.instr.imm (down c has.1 has.0 point lt has.2 is)))
+          touches_here-same (touches_within d image k) (touches_within e image k) k point.instr (λ is. below point.instr.imm (goes-down image limit down c j point lt there is)))
 
   -- what a routine touches, by what the routines that it calls do
   pub touches-step : (r : ℕ) → r < limit → r < length image.routines → touches image k r ≡ list_any (λ point. touches_here (touches image k) k point.instr) (points_of image r)
@@ -92,9 +99,8 @@ module _ (image : Parts) (limit : ℕ) (down : CallsGoDown image limit) (k : ℕ
         where
           at_point : (j : ℕ) (point : Point) → slice_get (points_of image r) j ≡ Some point → touches_here (touches_within n image k) k point.instr ≡ touches_here (touches_within (suc n) image k) k point.instr
           at_point j point there =
-              let has = point-has image r j point there in
               touches_here-same (touches_within n image k) (touches_within (suc n) image k) k point.instr
-              (λ is. let lower = down r has.1 has.0 point lt has.2 is in stable n (suc n) point.instr.imm (omega (arith, lower)) (omega (arith, lower)) (omega (arith, lower)))
+              (λ is. let lower = goes-down image limit down r j point lt there is in stable n (suc n) point.instr.imm (omega (arith, lower)) (omega (arith, lower)) (omega (arith, lower)))
 
 -- where nothing is refused, calls go down
 pub calls-go_down : (image : Parts) (r limit : ℕ) → AcceptedBelow image limit → ((c : ℕ) (routine : Routine) → c < r → slice_get image.routines c ≡ Some routine → start_of image.routines c + routine.count ≤ limit)
@@ -116,8 +122,7 @@ notes-more image table r down within notes k few =
   where
     at_point : (j : ℕ) (point : Point) → slice_get (points_of image r) j ≡ Some point → touches_here (noted table k) k point.instr ≡ touches_here (touches image k) k point.instr
     at_point j point there =
-        let has = point-has image r j point there in
-        touches_here-same (noted table k) (touches image k) k point.instr (λ is. notes point.instr.imm k (down r has.1 has.0 point (omega arith) has.2 is) few)
+        touches_here-same (noted table k) (touches image k) k point.instr (λ is. notes point.instr.imm k (goes-down image (suc r) down r j point (omega arith) there is) few)
 
 -- what is noted of a routine, as a list
 pub noted-all : (image : Parts) (table : List (List Bool)) (r c : ℕ) → NotesBelow image table r → c < r
@@ -158,14 +163,19 @@ slice_get-take_within [] (suc n) j lt = refl
 slice_get-take_within (y ∷ xs) (suc n) zero lt = refl
 slice_get-take_within (y ∷ xs) (suc n) (suc j) lt = slice_get-take_within xs n j (omega arith)
 
--- a point that a routine has is among its points
-has-points_of : (image : Parts) (r pc : ℕ) (routine : Routine) (point : Point) → HasPoint image r routine pc point → slice_get (points_of image r) (pc - start_of image.routines r) ≡ Some point
-has-points_of image r pc routine point has =
+-- a place that a routine has is that of one of its points
+has-points_of : (image : Parts) (r pc : ℕ) (routine : Routine) (place : Place) → HasPoint image r routine pc place
+    → (point : Point) × (slice_get (points_of image r) (pc - start_of image.routines r) ≡ Some point) × (place.instr ≡ point.instr)
+has-points_of image r pc routine place has =
     let start = start_of image.routines r in
-    let place = place_bounds start routine.count pc has.within in
-    let at : start + (pc - start) ≡ pc = omega (arith, place.0) in
-    rw (has.there, points_of)
-    (slice_get-take_within (drop start image.points) routine.count (pc - start) (omega (arith, place.0, place.1)) ∙ slice_get-drop image.points start (pc - start) ∙ ap (slice_get image.points) at ∙ has.read)
+    let bounds = place_bounds start routine.count pc has.within in
+    let at : start + (pc - start) ≡ pc = omega (arith, bounds.0) in
+    let found = point-of image pc place has.read in (
+      found.0,
+      rw (has.there, points_of)
+          (slice_get-take_within (drop start image.points) routine.count (pc - start) (omega (arith, bounds.0, bounds.1)) ∙ slice_get-drop image.points start (pc - start) ∙ ap (slice_get image.points) at ∙ found.1),
+      found.2.instr,
+    )
 
 or-true : (b : Bool) → (b || true) ≡ true
 or-true true = refl
@@ -177,19 +187,25 @@ list_any-found test (y ∷ xs) zero x e h = let same : y ≡ x = cc in rw (same,
 list_any-found test (y ∷ xs) (suc j) x e h = rw (list_any-found test xs j x e h) (or-true (test y))
 
 -- a routine touches the counters that it names
-pub touches-own : (image : Parts) (r pc : ℕ) (routine : Routine) (point : Point) → HasPoint image r routine pc point → counts point.instr.opcode ≡ true → touches image point.instr.a r ≡ true
-touches-own image r pc routine point has is = by_depth (length image.routines) (slice_get_within image.routines r routine has.there)
+pub touches-own : (image : Parts) (r pc : ℕ) (routine : Routine) (place : Place) → HasPoint image r routine pc place → counts place.instr.opcode ≡ true → touches image place.instr.a r ≡ true
+touches-own image r pc routine place has is =
+    let found = has-points_of image r pc routine place has in
+    let counts_there : counts found.0.instr.opcode ≡ true = ap (λ (i : Instr). counts i.opcode) (sym found.2) ∙ is in
+    subst (λ (i : Instr). touches image i.a r ≡ true) (sym found.2) (by_depth found.0 found.1 counts_there (length image.routines) (slice_get_within image.routines r routine has.there))
   where
-    by_depth : (n : ℕ) → r < n → touches_within n image point.instr.a r ≡ true
-    by_depth zero lt = absurd (omega arith)
-    by_depth (suc n) lt =
-        list_any-found (λ other. touches_here (touches_within n image point.instr.a) point.instr.a other.instr) (points_of image r) (pc - start_of image.routines r) point (has-points_of image r pc routine point has)
+    by_depth : (point : Point) → slice_get (points_of image r) (pc - start_of image.routines r) ≡ Some point → counts point.instr.opcode ≡ true → (n : ℕ) → r < n → touches_within n image point.instr.a r ≡ true
+    by_depth point there is zero lt = absurd (omega arith)
+    by_depth point there is (suc n) lt =
+        list_any-found (λ other. touches_here (touches_within n image point.instr.a) point.instr.a other.instr) (points_of image r) (pc - start_of image.routines r) point there
         (rw (is, eq-eqb point.instr.a point.instr.a refl) refl)
 
 -- and those that a routine touches that it calls
-pub touches-called : (image : Parts) → CallsGoDown image (length image.routines) → (r pc : ℕ) (routine : Routine) (point : Point) → HasPoint image r routine pc point → calls point.instr.opcode ≡ true
-    → (k : ℕ) → touches image k point.instr.imm ≡ true → touches image k r ≡ true
-touches-called image down r pc routine point has is k touched =
+pub touches-called : (image : Parts) → CallsGoDown image (length image.routines) → (r pc : ℕ) (routine : Routine) (place : Place) → HasPoint image r routine pc place → calls place.instr.opcode ≡ true
+    → (k : ℕ) → touches image k place.instr.imm ≡ true → touches image k r ≡ true
+touches-called image down r pc routine place has is k touched =
     let within = slice_get_within image.routines r routine has.there in
+    let found = has-points_of image r pc routine place has in
+    let calls_there : calls found.0.instr.opcode ≡ true = ap (λ (i : Instr). calls i.opcode) (sym found.2) ∙ is in
+    let touched_there : touches image k found.0.instr.imm ≡ true = ap (λ (i : Instr). touches image k i.imm) (sym found.2) ∙ touched in
     touches-step image (length image.routines) down k r within within
-    ∙ list_any-found (λ point. touches_here (touches image k) k point.instr) (points_of image r) (pc - start_of image.routines r) point (has-points_of image r pc routine point has) (rw (is, touched) (or-true _))
+    ∙ list_any-found (λ point. touches_here (touches image k) k point.instr) (points_of image r) (pc - start_of image.routines r) found.0 found.1 (rw (calls_there, touched_there) (or-true _))

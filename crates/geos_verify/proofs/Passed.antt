@@ -2,7 +2,7 @@
 use Rattle.std.proofs.Common.{◌≡◌, ℕ, Bool, true, false, None, List, [], ◌∷◌, refl}
 use Rattle.geos_model.specs.Refusals.{first_refusal}
 use Rattle.geos_image.specs.declared.routine.Routine.{Routine}
-use Rattle.geos_image.specs.declared.point.Point.{Point}
+use Rattle.geos_verify.specs.declared.place.Place.{Place}
 use Rattle.geos_image.specs.Parts.{Parts}
 use Rattle.geos_verify.specs.Rules.{leaves_routine, entry_misfits, stale_pointer, passes_end, changes_unmarked, locks_into_held, wrong_slot, commits_with_held, call_misfits, exit_misfits, edge_misfits, edge_unpaid, over_budget, tests, refusal}
 
@@ -17,7 +17,7 @@ passed ((true, rule) ∷ tests) e = absurd cc
 passed ((false, rule) ∷ tests) e = (refl, passed tests e)
 
 -- no rule refuses the point at a pc of routine r, which begins at start
-pub record NoneRefuses (image : Parts) (r : ℕ) (routine : Routine) (start pc : ℕ) (point : Point) : Type 0 where
+pub record NoneRefuses (image : Parts) (r : ℕ) (routine : Routine) (start pc : ℕ) (point : Place) : Type 0 where
   pub stays : leaves_routine routine start pc point.instr ≡ false
   pub entry : entry_misfits routine start pc point.row ≡ false
   pub fresh : stale_pointer point.instr point.row ≡ false
@@ -32,7 +32,7 @@ pub record NoneRefuses (image : Parts) (r : ℕ) (routine : Routine) (start pc :
   pub paid : edge_unpaid image pc point.instr point.row point.potential ≡ false
   pub budget : over_budget routine start pc point.potential ≡ false
 
-pub none-refuses : (image : Parts) (r : ℕ) (routine : Routine) (start pc : ℕ) (point : Point) → refusal image r routine start pc point ≡ None → NoneRefuses image r routine start pc point
+pub none-refuses : (image : Parts) (r : ℕ) (routine : Routine) (start pc : ℕ) (point : Place) → refusal image r routine start pc point ≡ None → NoneRefuses image r routine start pc point
 none-refuses image r routine start pc point e =
     let p = passed (tests image r routine start pc point) e in
     let q = p.1.1.1 in

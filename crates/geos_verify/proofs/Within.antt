@@ -7,7 +7,7 @@ use Rattle.geos_image.specs.declared.instr.Instr.{Instr}
 use Rattle.geos_image.specs.declared.routine.Routine.{Routine}
 use Rattle.geos_image.specs.Parts.{Parts}
 use Rattle.geos_image.specs.Fields.{FieldsFit, TargetFits, CalleeFits}
-use Rattle.geos_verify.specs.Rows.{is_label, falls_through}
+use Rattle.geos_image.specs.Keys.{is_label, falls_through}
 use Rattle.geos_verify.specs.Touched.{calls}
 use Rattle.geos_verify.specs.Rules.{GoesWithin}
 

@@ -2,6 +2,7 @@ pub mod Lists
 pub mod Pairs
 pub mod Uses
 pub mod Rows
+pub mod Places
 pub mod Touched
 pub mod Potentials
 pub mod RuleText

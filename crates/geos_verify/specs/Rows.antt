@@ -3,20 +3,17 @@ use Rattle.std.specs.Prelude.{◌≡◌, ◌<◌, ℕ, ◌+◌, ◌*◌, ◌/◌
 use Rattle.std.specs.List.{list_all}
 use Rattle.geos_opcodes.specs.declared.opcode.Opcode.{Opcode}
 use Rattle.geos_opcodes.specs.declared.opcode.Opcode.TheVariants.{Ldi, Mov, Add, Sub, And, Shr, Muli, Chk, Call}
-use Rattle.geos_opcodes.specs.declared.opcode.Operand.{Operand}
-use Rattle.geos_opcodes.specs.declared.opcode.Operand.TheVariants.{Label}
 use Rattle.geos_image.specs.declared.instr.Instr.{Instr}
 use Rattle.geos_image.specs.declared.row.Row.{Row}
 use Rattle.geos_image.specs.declared.row.Pointer.{Pointer}
 use Rattle.geos_image.specs.declared.row.SlotState.{SlotState}
 use Rattle.geos_image.specs.declared.row.SlotState.TheVariants.{Empty, Mem, Vm, Db}
 use Rattle.geos_opcodes.specs.Facts.{facts, operands_of, uses_of}
-use Rattle.geos_opcodes.specs.declared.facts.Flow.{Flow}
-use Rattle.geos_opcodes.specs.declared.facts.Flow.TheVariants.{Jumps, Returns}
 use Rattle.geos_opcodes.specs.declared.facts.Yields.{Yields}
 use Rattle.geos_opcodes.specs.declared.facts.Yields.TheVariants.{Nothing, Computed, ByteInA, WordInA, WordInB, WordInAAndB}
 use Rattle.geos_image.specs.declared.point.Point.{Point}
 use Rattle.geos_image.specs.Parts.{Parts}
+use Rattle.geos_image.specs.Keys.{falls_through, branches}
 use Rattle.geos_opcodes.specs.declared.uses.Kind.{Kind}
 use Rattle.geos_opcodes.specs.declared.uses.Kind.TheVariants.{MemBlock, VmBlock, DbGroup}
 use Rattle.geos_opcodes.specs.declared.uses.SlotUse.{SlotUse}
@@ -33,25 +30,6 @@ use Rattle.geos_verify.specs.Uses.{same_kind}
 -- what holds of the point at a pc; of no point, nothing is asked
 abbrev pub at_point : Parts → ℕ → (Point → Bool) → Bool
 at_point image pc test = elim (slice_get image.points pc) [ None ↦ true | Some point ↦ test point ]
-
--- control may go on to the next instruction
-abbrev pub goes_on : Flow → Bool
-goes_on Jumps = false
-goes_on Returns = false
-goes_on _ = true
-
--- control may go on to the next instruction
-abbrev pub falls_through : Opcode → Bool
-falls_through opcode = goes_on (facts opcode).flow
-
--- the operand is the pc of an instruction
-abbrev pub is_label : Operand → Bool
-is_label Label = true
-is_label _ = false
-
--- control may go to the target
-abbrev pub branches : Opcode → Bool
-branches opcode = is_label (operands_of opcode).target
 
 -- the instruction has the edge: to its target, or to the next instruction
 abbrev pub has_edge : Instr → Bool → Bool

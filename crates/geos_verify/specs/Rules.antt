@@ -8,7 +8,6 @@ use Rattle.geos_image.specs.declared.instr.Instr.{Instr}
 use Rattle.geos_image.specs.declared.row.Row.{Row}
 use Rattle.geos_image.specs.declared.potential.Potential.{Potential}
 use Rattle.geos_image.specs.declared.routine.Routine.{Routine}
-use Rattle.geos_image.specs.declared.point.Point.{Point}
 use Rattle.geos_image.specs.Parts.{Parts, start_of}
 use Rattle.geos_image.specs.Fields.{FieldsFit, CalleeFits}
 use Rattle.geos_image.specs.Legal.{is_image}
@@ -25,8 +24,11 @@ use Rattle.geos_opcodes.specs.declared.uses.SlotUse.TheVariants.{LocksNew, Locks
 use Rattle.geos_opcodes.specs.declared.uses.PointerUse.{PointerUse}
 use Rattle.geos_opcodes.specs.declared.uses.PointerUse.TheVariants.{Loads, Stores, Copies, Duplicates, Measures}
 use Rattle.geos_opcodes.specs.Facts.{uses_of}
+use Rattle.geos_image.specs.Keys.{falls_through, branches}
+use Rattle.geos_verify.specs.declared.place.Place.{Place}
+use Rattle.geos_verify.specs.Places.{places, at_place}
 use Rattle.geos_verify.specs.Uses.{bytes_in}
-use Rattle.geos_verify.specs.Rows.{falls_through, branches, at_point, bound, slot_state, pointer_at, are_alike, holds_kind, row_along, row_branching, fits, is_empty, is_stale, is_plain, leads_nowhere}
+use Rattle.geos_verify.specs.Rows.{at_point, bound, slot_state, pointer_at, are_alike, holds_kind, row_along, row_branching, fits, is_empty, is_stale, is_plain, leads_nowhere}
 use Rattle.geos_verify.specs.Touched.{calls}
 use Rattle.geos_verify.specs.Potentials.{pays_along, pays_branching, is_within}
 
@@ -173,9 +175,9 @@ call_misfits image r i row = calls i.opcode && (not (nat_lt i.imm r) || not (at_
 unfoldable pub exit_misfits : Routine → Instr → Row → Bool
 exit_misfits routine i row = returns i.opcode && not (fits row routine.exit)
 
--- a row does not fit the row of the point at a pc
+-- a row does not fit what is known at the place of a pc
 unfoldable pub misfits_at : Parts → ℕ → Row → Bool
-misfits_at image to row = not (at_point image to (λ next. fits row next.row))
+misfits_at image to row = not (at_place image to (λ next. fits row next.row))
 
 -- the row after an edge does not fit the row there
 unfoldable pub edge_misfits : Parts → ℕ → Instr → Row → Bool
@@ -213,11 +215,11 @@ pub record GoesWithin (image : Parts) (r pc : ℕ) (i : Instr) : Type 0 where
   pub short : pc < 4096
 
 -- the rules in the order of their numbers
-abbrev pub tests : Parts → ℕ → Routine → ℕ → ℕ → Point → List (Bool × Rule)
-tests image r routine start pc point =
-    let i = point.instr in
-    let row = point.row in
-    let potential = point.potential in
+abbrev pub tests : Parts → ℕ → Routine → ℕ → ℕ → Place → List (Bool × Rule)
+tests image r routine start pc place =
+    let i = place.instr in
+    let row = place.row in
+    let potential = place.potential in
     (leaves_routine routine start pc i, LeavesRoutine)
     ∷ (names_empty_slot row, NamesEmptySlot)
     ∷ (entry_misfits routine start pc row, EntryMisfit)
@@ -234,29 +236,29 @@ tests image r routine start pc point =
     ∷ (over_budget routine start pc potential, OverBudget)
     ∷ []
 
--- the lowest rule that refuses the point at a pc of a routine
-abbrev pub refusal : Parts → ℕ → Routine → ℕ → ℕ → Point → Option Rule
-refusal image r routine start pc point = first_refusal (tests image r routine start pc point)
+-- the lowest rule that refuses the place at a pc of a routine
+abbrev pub refusal : Parts → ℕ → Routine → ℕ → ℕ → Place → Option Rule
+refusal image r routine start pc place = first_refusal (tests image r routine start pc place)
 
 -- no rule refuses from a routine's start up to a limit
 abbrev pub RefusesNone : Parts → ℕ → Routine → ℕ → ℕ → Type 0
-RefusesNone image r routine start limit = (pc : ℕ) (point : Point) → start ≤ pc → pc < limit → slice_get image.points pc ≡ Some point
-    → refusal image r routine start pc point ≡ None
+RefusesNone image r routine start limit = (pc : ℕ) (place : Place) → start ≤ pc → pc < limit → slice_get (places image) pc ≡ Some place
+    → refusal image r routine start pc place ≡ None
 
--- the rule refuses the point at the pc, if there is one, in a routine that begins at start
+-- the rule refuses the place at the pc, if there is one, in a routine that begins at start
 abbrev pub Refuses : Parts → ℕ → Routine → ℕ → Reject → Type 0
-Refuses image r routine start reject = IfSome (slice_get image.points reject.pc) (λ point. refusal image r routine start reject.pc point ≡ Some reject.rule)
+Refuses image r routine start reject = IfSome (slice_get (places image) reject.pc) (λ place. refusal image r routine start reject.pc place ≡ Some reject.rule)
 
--- routine r has the point at pc
-pub record HasPoint (image : Parts) (r : ℕ) (routine : Routine) (pc : ℕ) (point : Point) : Type 0 where
+-- routine r has the place at pc
+pub record HasPoint (image : Parts) (r : ℕ) (routine : Routine) (pc : ℕ) (place : Place) : Type 0 where
   pub there : slice_get image.routines r ≡ Some routine
   pub within : has_place (start_of image.routines r) routine.count pc ≡ true
-  pub read : slice_get image.points pc ≡ Some point
+  pub read : slice_get (places image) pc ≡ Some place
 
 -- no rule refuses at any pc
 abbrev pub Accepted : Parts → Type 0
-Accepted image = (r pc : ℕ) (routine : Routine) (point : Point) → HasPoint image r routine pc point
-    → refusal image r routine (start_of image.routines r) pc point ≡ None
+Accepted image = (r pc : ℕ) (routine : Routine) (place : Place) → HasPoint image r routine pc place
+    → refusal image r routine (start_of image.routines r) pc place ≡ None
 
 -- an image that may run
 abbrev pub IsChecked : Parts → Type 0
@@ -264,14 +266,14 @@ IsChecked image = (is_image image ≡ true) × Accepted image
 
 -- no rule refuses below a pc
 abbrev pub AcceptedBelow : Parts → ℕ → Type 0
-AcceptedBelow image limit = (r pc : ℕ) (routine : Routine) (point : Point) → pc < limit → HasPoint image r routine pc point
-    → refusal image r routine (start_of image.routines r) pc point ≡ None
+AcceptedBelow image limit = (r pc : ℕ) (routine : Routine) (place : Place) → pc < limit → HasPoint image r routine pc place
+    → refusal image r routine (start_of image.routines r) pc place ≡ None
 
 -- at the first pc where a rule refuses, the lowest such rule
 pub record FirstRefusal (image : Parts) (reject : Reject) : Type 0 where
   pub r : ℕ
   pub routine : Routine
-  pub point : Point
-  pub has : HasPoint image r routine reject.pc point
-  pub refuses : refusal image r routine (start_of image.routines r) reject.pc point ≡ Some reject.rule
+  pub place : Place
+  pub has : HasPoint image r routine reject.pc place
+  pub refuses : refusal image r routine (start_of image.routines r) reject.pc place ≡ Some reject.rule
   pub before : AcceptedBelow image reject.pc

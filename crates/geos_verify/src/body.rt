@@ -1,6 +1,7 @@
 //! A routine whose points are checked.
 
-ghost use Rattle.std.specs.Prelude.{◌<◌, ◌≤◌, ◌+◌, length};
+ghost use Rattle.std.specs.Prelude.{◌≡◌, ◌<◌, ◌≤◌, ◌+◌, length, true};
+ghost use Rattle.geos_image.specs.Keys.{gives};
 ghost use Rattle.geos_verify.specs.Touched.{NotesBelow};
 
 use crate::touched::Touched;
@@ -18,5 +19,7 @@ pub(crate) struct Body<'a> {
     ghost there: { r < length image.now.routines },
     ghost end: { start + routine.now.count ≤ length image.now.points },
     ghost short: { length image.now.points ≤ 4096 },
+    ghost room: { start < length image.now.points },
+    ghost given: { gives image.now start ≡ true },
     ghost table: { NotesBelow image.now touched.now r },
 }

@@ -9,6 +9,7 @@ ghost use Rattle.geos_verify.specs.Rules.{RefusesNone, Refuses, Accepted, IsChec
 ghost use Rattle.geos_verify.specs.Touched.{NotesBelow};
 
 use crate::body::Body;
+use crate::place::row_next;
 use crate::refusal::refusal;
 use crate::rule::Reject;
 use crate::touched::touched_in;
@@ -49,10 +50,12 @@ fn refusal_in(body: &Body) -> Option<Reject>
     ensures some { IfSome result (Refuses body.now.image.now body.now.r body.now.routine.now body.now.start) }
     ensures first { IfSome result (λ reject. RefusesNone body.now.image.now body.now.r body.now.routine.now body.now.start reject.pc) }
 {
+    let mut row = *body.image.row(body.start);
     for pc in body.start..body.start + body.routine.count {
-        if let Some(rule) = refusal(body, pc) {
+        if let Some(rule) = refusal(body, pc, &row) {
             return Some(Reject { pc, rule });
         }
+        row = row_next(body.image, pc, &row);
     }
     None
 }

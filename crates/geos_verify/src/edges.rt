@@ -4,35 +4,15 @@ ghost use Rattle.std.specs.Prelude.{◌≡◌, ◌<◌, length};
 ghost use Rattle.geos_image.specs.Fields.{FieldsFit, CalleeFits};
 ghost use Rattle.geos_opcodes.specs.Facts.{uses_of};
 ghost use Rattle.geos_verify.specs.Uses.{UsesFit};
-ghost use Rattle.geos_verify.specs.Rows.{falls_through, branches, has_edge, pairs_after, used, row_along, row_branching, after, HasEdge};
+ghost use Rattle.geos_verify.specs.Rows.{has_edge, pairs_after, used, row_along, row_branching, after, HasEdge};
 
 use crate::bounds::{bound_result, set_bound};
 use crate::pairs::{with_new, with_pair, without_slot};
 use crate::pointers::{drop_pointers, set_pointer};
 use crate::slots::set_slots;
 use crate::uses::uses_at;
-use geos_image::{Image, Instr, Opcode, Operand, Row};
-use geos_opcodes::{Flow, SlotUse, Uses};
-
-/// Whether control may go on to the next instruction.
-pub fn falls_through(opcode: Opcode) -> bool
-    ensures { result ≡ falls_through opcode }
-{
-    match opcode.facts().flow {
-        Flow::Jumps | Flow::Returns => false,
-        _ => true,
-    }
-}
-
-/// Whether control may go to the target.
-pub fn branches(opcode: Opcode) -> bool
-    ensures { result ≡ branches opcode }
-{
-    match opcode.operands().target {
-        Operand::Label => true,
-        _ => false,
-    }
-}
+use geos_image::{Image, Instr, Opcode, Row, branches, falls_through};
+use geos_opcodes::{SlotUse, Uses};
 
 /// Whether the instruction has the edge: to its target where `branch` says so, else to the next
 /// instruction.

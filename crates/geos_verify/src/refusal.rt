@@ -1,17 +1,19 @@
 //! The rules at one point.
 
 ghost use Rattle.std.specs.Prelude.{◌≡◌, ◌<◌, ◌≤◌, ◌+◌, ◌||◌, ◌&&◌, length, true, false, slice_get, Some, IfSome};
-ghost use Rattle.geos_image.specs.declared.point.Point.{Point};
 ghost use Rattle.geos_image.specs.Parts.{start_of};
 ghost use Rattle.geos_image.specs.Fields.{FieldsFit, TargetFits, CalleeFits};
-ghost use Rattle.geos_verify.specs.Rows.{falls_through, branches, row_along, row_branching};
+ghost use Rattle.geos_image.specs.Keys.{falls_through, branches, gives};
+ghost use Rattle.geos_verify.specs.declared.place.Place.{Place};
+ghost use Rattle.geos_verify.specs.Places.{places, RowAt};
+ghost use Rattle.geos_verify.specs.Rows.{row_along, row_branching};
 ghost use Rattle.geos_verify.specs.Rules.{has_place, returns, leaves_routine, entry_misfits, call_misfits, exit_misfits, misfits_at, edge_misfits, unpaid_along, unpaid_branching, edge_unpaid, over_budget, refusal, GoesWithin};
 ghost use Rattle.geos_verify.specs.Touched.{calls};
 ghost use Rattle.geos_opcodes.specs.Facts.{uses_of};
 ghost use Rattle.geos_verify.specs.Uses.{UsesFit};
 
 use crate::body::Body;
-use crate::edges::{branches, falls_through, go_along, go_to_target};
+use crate::edges::{go_along, go_to_target};
 use crate::enough::{fits, is_plain, names_empty_slot};
 use crate::misuse::{
     changes_unmarked, commits_with_held, locks_into_held, passes_end, stale_pointer, wrong_slot,
@@ -20,7 +22,7 @@ use crate::potentials::{is_within, pays_along, pays_branching};
 use crate::rule::Rule;
 use crate::touched::calls;
 use crate::uses::uses_at;
-use geos_image::{Image, Instr, Opcode, Potential, Routine, Row};
+use geos_image::{Image, Instr, Opcode, Potential, Routine, Row, branches, falls_through};
 use geos_opcodes::Uses;
 
 /// Whether the pc is one of the routine's, which begins at `start`.
@@ -79,15 +81,8 @@ fn exit_misfits(routine: &Routine, i: &Instr, row: &Row) -> bool
     returns(i.opcode) && !fits(row, &routine.exit)
 }
 
+/// Whether the row where control goes on does not fit what is known there. It does where no row is given.
 #[tactic(auto, unfolding(crate::specs::Rules::misfits_at))]
-fn misfits_at(image: &Image, to: u16, row: &Row) -> bool
-    requires { to < length image.now.points }
-    ensures { result ≡ misfits_at image.now to row.now }
-{
-    !fits(row, image.row(to))
-}
-
-/// Whether the row where control goes on does not fit the row there.
 fn misfits_along(image: &Image, pc: u16, i: &Instr, uses: Uses, row: &Row) -> bool
     requires uses { uses ≡ uses_of i.now.opcode }
     requires fit { UsesFit uses i.now }
@@ -95,22 +90,31 @@ fn misfits_along(image: &Image, pc: u16, i: &Instr, uses: Uses, row: &Row) -> bo
     requires callee { CalleeFits (length image.now.routines) i.now }
     requires next { pc + 1 < length image.now.points }
     requires pc { pc < 4096 }
+    requires here { IfSome (slice_get image.now.points pc) (λ point. i.now ≡ point.instr) }
+    requires known { RowAt image.now pc row.now }
     ensures { result ≡ misfits_at image.now (pc + 1) (row_along image.now i.now i.now.opcode row.now) }
 {
-    let mut next = *row;
-    go_along(image, i, uses, &mut next);
-    misfits_at(image, pc + 1, &next)
+    match image.given(pc + 1) {
+        None => false,
+        Some(given) => {
+            let mut next = *row;
+            go_along(image, i, uses, &mut next);
+            !fits(&next, given)
+        }
+    }
 }
 
 /// Whether the row where control goes to the target does not fit the row there.
+#[tactic(auto, unfolding(crate::specs::Rules::misfits_at))]
 fn misfits_branching(image: &Image, i: &Instr, uses: Uses, row: &Row) -> bool
     requires uses { uses ≡ uses_of i.now.opcode }
     requires target { i.now.target < length image.now.points }
+    requires given { gives image.now i.now.target ≡ true }
     ensures { result ≡ misfits_at image.now i.now.target (row_branching i.now i.now.opcode row.now) }
 {
     let mut next = *row;
     go_to_target(i, uses, &mut next);
-    misfits_at(image, i.target, &next)
+    !fits(&next, image.row(i.target))
 }
 
 /// Whether the row after an edge does not fit the row there.
@@ -119,6 +123,9 @@ fn edge_misfits(body: &Body, pc: u16, i: &Instr, uses: Uses, row: &Row) -> bool
     requires uses { uses ≡ uses_of i.now.opcode }
     requires fit { UsesFit uses i.now }
     requires within { GoesWithin body.now.image.now body.now.r pc i.now }
+    requires here { IfSome (slice_get body.now.image.now.points pc) (λ point. i.now ≡ point.instr) }
+    requires known { RowAt body.now.image.now pc row.now }
+    requires led { branches i.now.opcode ≡ true → gives body.now.image.now i.now.target ≡ true }
     ensures { result ≡ edge_misfits body.now.image.now pc i.now row.now }
 {
     falls_through(i.opcode) && misfits_along(body.image, pc, i, uses, row)
@@ -167,6 +174,9 @@ fn refusal_of(body: &Body, pc: u16, i: &Instr, row: &Row, potential: &Potential)
     requires fields { FieldsFit i.now.opcode i.now }
     requires target { TargetFits (length body.now.image.now.points) i.now }
     requires callee { CalleeFits (length body.now.image.now.routines) i.now }
+    requires here { IfSome (slice_get body.now.image.now.points pc) (λ point. i.now ≡ point.instr) }
+    requires known { RowAt body.now.image.now pc row.now }
+    requires led { branches i.now.opcode ≡ true → gives body.now.image.now i.now.target ≡ true }
     ensures { result ≡ refusal body.now.image.now body.now.r body.now.routine.now body.now.start pc (record { instr = i.now; row = row.now; potential = potential.now }) }
 {
     let routine = body.routine;
@@ -205,17 +215,12 @@ fn refusal_of(body: &Body, pc: u16, i: &Instr, row: &Row, potential: &Potential)
     }
 }
 
-/// The lowest rule that refuses the point at `pc` of a routine.
-pub(crate) fn refusal(body: &Body, pc: u16) -> Option<Rule>
-    requires { pc < length body.now.image.now.points }
-    ensures { IfSome (slice_get body.now.image.now.points pc) (λ point. result ≡ refusal body.now.image.now body.now.r body.now.routine.now body.now.start pc point) }
+/// The lowest rule that refuses the place at `pc` of a routine, where `row` is known.
+pub(crate) fn refusal(body: &Body, pc: u16, row: &Row) -> Option<Rule>
+    requires there { pc < length body.now.image.now.points }
+    requires known { RowAt body.now.image.now pc row.now }
+    ensures { IfSome (slice_get (places body.now.image.now) pc) (λ place. result ≡ refusal body.now.image.now body.now.r body.now.routine.now body.now.start pc place) }
 {
     let image = body.image;
-    refusal_of(
-        body,
-        pc,
-        image.instr(pc),
-        image.row(pc),
-        image.potential(pc),
-    )
+    refusal_of(body, pc, image.instr(pc), row, image.potential(pc))
 }
