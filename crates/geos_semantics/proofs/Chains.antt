@@ -1,6 +1,9 @@
 -- What is kept for the routines that are to be returned to, and how many they may be.
-use Rattle.std.proofs.Common.{◌≡◌, ℕ, zero, suc, ◌+◌, ◌*◌, ◌≤◌, ◌<◌, true, Some, List, [], ◌∷◌, ◌++◌, length, slice_get, refl, ap, arith, set, get_or}
-use Rattle.geos_image.specs.declared.point.Point.{Point}
+use Rattle.std.proofs.Common.{◌≡◌, ℕ, zero, suc, ◌+◌, ◌*◌, ◌≤◌, ◌<◌, true, Some, List, [], ◌∷◌, ◌++◌, length, slice_get, refl, sym, ap, arith, set, get_or}
+use Rattle.geos_verify.specs.declared.place.Place.{Place}
+use Rattle.geos_verify.specs.Places.{places}
+use Rattle.geos_verify.proofs.Places.{point-of}
+use Rattle.geos_image.specs.declared.potential.Potential.{Potential}
 use Rattle.geos_image.specs.Parts.{Parts}
 use Rattle.geos_verify.specs.Touched.{touches}
 use Rattle.geos_semantics.specs.Lists.{dot}
@@ -15,8 +18,10 @@ dot-spent (c ∷ cs) (k ∷ ks) zero v e = rw e (let a : 0 * v + dot cs ks ≡ 0
 dot-spent (c ∷ cs) (k ∷ ks) (suc i) v e = ap (λ n. c * k + n) (dot-spent cs ks i v e)
 
 -- what the potential at a point is
-pub value_at-is : (image : Parts) (pc : ℕ) (counters : List ℕ) (point : Point) → slice_get image.points pc ≡ Some point → value_at image pc counters ≡ value point.potential counters
-value_at-is image pc counters point e = rw (e, value_at) refl
+pub value_at-is : (image : Parts) (pc : ℕ) (counters : List ℕ) (place : Place) → slice_get (places image) pc ≡ Some place → value_at image pc counters ≡ value place.potential counters
+value_at-is image pc counters place e =
+    let found = point-of image pc place e in
+    rw (found.1, value_at) (ap (λ (p : Potential). value p counters) (sym found.2.potential))
 
 -- a counter that routine r touches is counted on by none of those that it returns to
 pub kept-set : (image : Parts) (root r : ℕ) (frames : List Frame) (counters : List ℕ) (k v : ℕ) → Chain image root r frames → k < 4 → touches image k r ≡ true

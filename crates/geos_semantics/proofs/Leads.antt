@@ -7,23 +7,28 @@ use Rattle.geos_opcodes.specs.declared.opcode.Opcode.TheVariants.{Call}
 use Rattle.geos_image.specs.declared.row.Row.{Row}
 use Rattle.geos_image.specs.declared.potential.Potential.{Potential}
 use Rattle.geos_image.specs.declared.routine.Routine.{Routine}
-use Rattle.geos_image.specs.declared.point.Point.{Point}
+use Rattle.geos_verify.specs.declared.place.Place.{Place}
+use Rattle.geos_verify.specs.Places.{places, at_place}
+use Rattle.geos_image.specs.declared.instr.Instr.{Instr}
+use Rattle.geos_image.specs.Fields.{FieldsFit, TargetFits, CalleeFits}
 use Rattle.geos_image.specs.Parts.{Parts, start_of}
 use Rattle.geos_image.specs.Legal.{is_name, is_named, is_row, is_routine, are_routines, is_image}
 use Rattle.geos_image.proofs.Instrs.{image_parts, instr_fits}
-use Rattle.geos_verify.specs.Rows.{falls_through, branches, at_point, row_along, row_branching, fits, is_plain}
+use Rattle.geos_image.specs.Keys.{falls_through, branches}
+use Rattle.geos_verify.specs.Rows.{at_point, row_along, row_branching, fits, is_plain}
 use Rattle.geos_verify.specs.Potentials.{pays_along, pays_branching, is_within}
 use Rattle.geos_verify.specs.Rules.{has_place, returns, leaves_routine, entry_misfits, exit_misfits, misfits_at, edge_misfits, unpaid_along, unpaid_branching, edge_unpaid, over_budget, at_routine, call_misfits, HasPoint, Accepted}
 use Rattle.geos_verify.specs.Touched.{calls}
 use Rattle.geos_image.proofs.Starts.{start_of-end}
 use Rattle.geos_verify.proofs.Noted.{and-false}
 use Rattle.geos_verify.proofs.Passed.{NoneRefuses, none-refuses}
-use Rattle.geos_verify.proofs.Places.{place_bounds, place_true, item_at}
+use Rattle.geos_verify.proofs.Places.{place_bounds, place_true, item_at, places-length, point-of}
+use Rattle.geos_verify.proofs.Known.{at_place-is}
 
 -- where control goes: a point of the routine, whose row the given one fits, and whose
 -- potential is paid for
 pub record Leads (image : Parts) (r : ℕ) (routine : Routine) (to : ℕ) (row : Row) (paid : Potential → Bool) : Type 0 where
-  pub point : Point
+  pub point : Place
   pub has : HasPoint image r routine to point
   pub fits : fits row point.row ≡ true
   pub pays : paid point.potential ≡ true
@@ -48,21 +53,31 @@ routine_parts earlier (x ∷ routines) (suc r) routine h e =
 
 -- a pc of the routine has a point
 pub point_at : (image : Parts) (r : ℕ) (routine : Routine) (to : ℕ) → is_image image ≡ true → slice_get image.routines r ≡ Some routine → has_place (start_of image.routines r) routine.count to ≡ true
-    → (point : Point) × HasPoint image r routine to point
+    → (point : Place) × HasPoint image r routine to point
 point_at image r routine to legal there within =
     let place = place_bounds (start_of image.routines r) routine.count to within in
     let end = start_of-end image.routines r routine there in
     let counts = (image_parts image legal).counts in
-    let found = item_at image.points to (omega (arith, place.1, end, counts)) in
+    let found = item_at (places image) to (omega (arith, place.1, end, counts, places-length image)) in
     (found.0, record { there = there; within = within; read = found.1 })
 
-at_point-is : (image : Parts) (to : ℕ) (point : Point) (test : Point → Bool) → slice_get image.points to ≡ Some point → at_point image to test ≡ test point
-at_point-is image to point test e = rw (e, at_point) refl
+-- what may be taken for granted of the instruction at a place
+pub place_fits : (image : Parts) (pc : ℕ) (place : Place) → is_image image ≡ true → slice_get (places image) pc ≡ Some place
+    → FieldsFit place.instr.opcode place.instr × TargetFits (length image.points) place.instr × CalleeFits (length image.routines) place.instr
+place_fits image pc place legal e =
+    let found = point-of image pc place e in
+    subst (λ (i : Instr). FieldsFit i.opcode i × TargetFits (length image.points) i × CalleeFits (length image.routines) i) (sym found.2.instr) (instr_fits image pc found.0 legal found.1)
+
+-- what holds of the potential at a place holds of that of its point
+paid_at-is : (image : Parts) (to : ℕ) (place : Place) (test : Potential → Bool) → slice_get (places image) to ≡ Some place → at_point image to (λ q. test q.potential) ≡ test place.potential
+paid_at-is image to place test e =
+    let found = point-of image to place e in
+    rw (found.1, at_point) (ap test (sym found.2.potential))
 
 at_routine-is : (image : Parts) (r : ℕ) (routine : Routine) (test : Routine → Bool) → slice_get image.routines r ≡ Some routine → at_routine image r test ≡ test routine
 at_routine-is image r routine test e = rw (e, at_routine) refl
 
-module _ (image : Parts) (legal : is_image image ≡ true) (accepted : Accepted image) (r pc : ℕ) (routine : Routine) (point : Point) (has : HasPoint image r routine pc point) where
+module _ (image : Parts) (legal : is_image image ≡ true) (accepted : Accepted image) (r pc : ℕ) (routine : Routine) (point : Place) (has : HasPoint image r routine pc point) where
   pub rules_pass : NoneRefuses image r routine (start_of image.routines r) pc point
   rules_pass = none-refuses image r routine (start_of image.routines r) pc point (accepted r pc routine point has)
 
@@ -75,7 +90,7 @@ module _ (image : Parts) (legal : is_image image ≡ true) (accepted : Accepted 
       let stays = or_parts (falls_through i.opcode && not (has_place (start_of image.routines r) routine.count (pc + 1))) _ rules_pass.stays in
       let within = not-false _ (and-false (falls_through i.opcode) _ stays.0 falls_here) in
       let next = point_at image r routine (pc + 1) legal has.there within in
-      let fit = or_parts (falls_through i.opcode && not (at_point image (pc + 1) (λ q. fits (row_along image i i.opcode point.row) q.row))) _ rules_pass.edge in
+      let fit = or_parts (falls_through i.opcode && not (at_place image (pc + 1) (λ q. fits (row_along image i i.opcode point.row) q.row))) _ rules_pass.edge in
       let fit_here = not-false _ (and-false (falls_through i.opcode) _ fit.0 falls_here) in
       let pay = or_parts _ (returns i.opcode && point.potential.constant == 0) rules_pass.paid in
       let pay_along = or_parts (falls_through i.opcode && not (at_point image (pc + 1) (λ q. pays_along image i i.opcode point.row point.potential q.potential))) _ pay.0 in
@@ -84,8 +99,8 @@ module _ (image : Parts) (legal : is_image image ≡ true) (accepted : Accepted 
       subst P is (record {
         point = next.0;
         has = next.1;
-        fits = sym (at_point-is image (pc + 1) next.0 (λ q. fits (row_along image i i.opcode point.row) q.row) next.1.read) ∙ fit_here;
-        pays = sym (at_point-is image (pc + 1) next.0 (λ q. pays_along image i i.opcode point.row point.potential q.potential) next.1.read) ∙ pay_here;
+        fits = sym (at_place-is image (pc + 1) next.0 (λ q. fits (row_along image i i.opcode point.row) q.row) next.1.read) ∙ fit_here;
+        pays = sym (paid_at-is image (pc + 1) next.0 (λ q. pays_along image i i.opcode point.row point.potential q) next.1.read) ∙ pay_here;
       })
 
   -- the edge to the target
@@ -97,7 +112,7 @@ module _ (image : Parts) (legal : is_image image ≡ true) (accepted : Accepted 
       let stays = or_parts _ (branches i.opcode && not (has_place (start_of image.routines r) routine.count i.target)) rules_pass.stays in
       let within = not-false _ (and-false (branches i.opcode) _ stays.1 branch_here) in
       let next = point_at image r routine i.target legal has.there within in
-      let fit = or_parts _ (branches i.opcode && not (at_point image i.target (λ q. fits (row_branching i i.opcode point.row) q.row))) rules_pass.edge in
+      let fit = or_parts _ (branches i.opcode && not (at_place image i.target (λ q. fits (row_branching i i.opcode point.row) q.row))) rules_pass.edge in
       let fit_here = not-false _ (and-false (branches i.opcode) _ fit.1 branch_here) in
       let pay = or_parts _ (returns i.opcode && point.potential.constant == 0) rules_pass.paid in
       let pay_branch = or_parts _ (branches i.opcode && not (at_point image i.target (λ q. pays_branching i i.opcode point.potential q.potential))) pay.0 in
@@ -106,8 +121,8 @@ module _ (image : Parts) (legal : is_image image ≡ true) (accepted : Accepted 
       subst P is (record {
         point = next.0;
         has = next.1;
-        fits = sym (at_point-is image i.target next.0 (λ q. fits (row_branching i i.opcode point.row) q.row) next.1.read) ∙ fit_here;
-        pays = sym (at_point-is image i.target next.0 (λ q. pays_branching i i.opcode point.potential q.potential) next.1.read) ∙ pay_here;
+        fits = sym (at_place-is image i.target next.0 (λ q. fits (row_branching i i.opcode point.row) q.row) next.1.read) ∙ fit_here;
+        pays = sym (paid_at-is image i.target next.0 (λ q. pays_branching i i.opcode point.potential q) next.1.read) ∙ pay_here;
       })
 
   -- a routine that is called is there, and lower, and the row fits its entry row
@@ -121,7 +136,7 @@ module _ (image : Parts) (legal : is_image image ≡ true) (accepted : Accepted 
       (found.0, found.1, ltb-true i.imm r (not-false _ misfits.0), sym (at_routine-is image i.imm found.0 (λ callee. fits point.row callee.entry) found.1) ∙ here)
     where
       called-there : (opcode : Opcode) → point.instr.opcode ≡ opcode → calls opcode ≡ true → point.instr.imm < length image.routines
-      called-there Call same is = (instr_fits image pc point legal has.read).2 (rw same refl)
+      called-there Call same is = (place_fits image pc point legal has.read).2 (rw same refl)
       called-there _ same is = absurd cc
 
   -- a return is as the exit row says, and is paid for
