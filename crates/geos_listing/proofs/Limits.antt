@@ -8,7 +8,7 @@ use Rattle.std.proofs.lemmas.List.Elements.{All-more}
 use Rattle.geos_image.specs.declared.point.Point.{Point}
 use Rattle.geos_image.specs.Parts.{Parts}
 use Rattle.geos_image.specs.declared.instr.Instr.{Instr}
-use Rattle.geos_image.specs.Legal.{is_image, is_instr, is_row, is_point}
+use Rattle.geos_image.specs.Legal.{is_image, is_instr, is_given, is_point}
 use Rattle.geos_image.proofs.Instrs.{is_below, image_parts}
 use Rattle.geos_opcodes.specs.declared.fields.Field.TheVariants.{A, B, C, D, Imm, Target}
 use Rattle.geos_listing.specs.Instrs.{KeepsLimits}
@@ -55,7 +55,7 @@ KeepsLimits-at image pc i legal lt there =
     let at = item_at image.points pc lt in
     let same : i ≡ at.0.instr = rw at.1 at there in
     let point = list_all-get (is_point r n) image.points pc at.0 (image_parts image legal).points at.1 in
-    rw same (keeps_limits image at.0.instr ((and_parts (is_instr r n at.0.instr) (is_row at.0.row) point).0))
+    rw same (keeps_limits image at.0.instr ((and_parts (is_instr r n at.0.instr) (is_given at.0.row) point).0))
 
 -- what is said of the instruction at a pc
 pub instr-at : (f : Instr → List ℕ) (points : List Point) (pc : ℕ) (i : Instr) → pc < length points → IfSome (slice_get points pc) (λ point. i ≡ point.instr)
