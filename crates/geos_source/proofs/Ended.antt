@@ -1,6 +1,6 @@
 -- The code of a text without fault makes a legal image.
-use Rattle.std.proofs.Common.{◌≡◌, ◌<◌, ℕ, true, List, [], ◌∷◌, map, Option, Some, None, Ok, length, refl, subst, arith, lt-ltb, le-leb, eq-eqb}
-use Rattle.std.specs.Prelude.{◌&&◌, nat_lt, nat_le, ◌==◌}
+use Rattle.std.proofs.Common.{◌≡◌, ◌<◌, ◌≤◌, ℕ, zero, suc, true, List, [], ◌∷◌, map, Option, Some, None, Ok, length, refl, subst, arith, lt-ltb, le-leb, eq-eqb}
+use Rattle.std.specs.Prelude.{◌&&◌, nat_lt, nat_le, ◌==◌, replicate}
 use Rattle.std.specs.List.{list_all}
 use Rattle.std.specs.Str.Lines.{lines}
 use Rattle.std.proofs.lemmas.Bool.{and_parts, and_from}
@@ -8,7 +8,7 @@ use Rattle.std.proofs.lemmas.List.{length_push, length-map}
 use Rattle.geos_image.specs.declared.instr.Instr.{Instr}
 use Rattle.geos_image.specs.Open.{open_row}
 use Rattle.geos_image.specs.Parts.{Parts, total_count}
-use Rattle.geos_image.specs.Legal.{is_instr, is_row, is_point, are_routines, is_image}
+use Rattle.geos_image.specs.Legal.{is_instr, is_given, is_point, are_routines, rows_stand, row_flags, is_image}
 use Rattle.geos_image.proofs.Instrs.{ImageParts}
 use Rattle.geos_source.specs.declared.fault.BadLine.{BadLine}
 use Rattle.geos_source.specs.declared.progress.TextRoutine.{TextRoutine}
@@ -34,11 +34,13 @@ image-from image h =
     let short = nat_le n 4096 in
     let counts = total_count image.routines == n in
     let points = list_all (is_point r n) image.points in
+    let rows = rows_stand (row_flags image.keyed image.routines image.points) image.points in
     let two = and_from some few (lt-ltb 0 r h.some) (le-leb r 32 h.few) in
     let three = and_from (some && few) routines two h.routines in
     let four = and_from (some && few && routines) short three (le-leb n 4096 h.short) in
     let five = and_from (some && few && routines && short) counts four (eq-eqb (total_count image.routines) n h.counts) in
-    and_from (some && few && routines && short && counts) points five h.points
+    let six = and_from (some && few && routines && short && counts) points five h.points in
+    and_from (some && few && routines && short && counts && points) rows six h.rows
 
 -- a text that is not outside of all routines at its end has one
 has_routine : (part : Part) (done : List TextRoutine) (current : Option TextRoutine) → Current part done current → without_routine part ≡ None → 0 < length (with_current done current)
@@ -52,8 +54,14 @@ blank_points-legal : (routines instrs : ℕ) (code : List Instr) → list_all (i
 blank_points-legal routines instrs [] h = refl
 blank_points-legal routines instrs (i ∷ code) h =
     let parts = and_parts (is_instr routines instrs i) (list_all (is_instr routines instrs) code) h in
-    let here = and_from (is_instr routines instrs i) (is_row open_row) parts.0 refl in
-    and_from (is_instr routines instrs i && is_row open_row) (list_all (is_point routines instrs) (map blank_point code)) here (blank_points-legal routines instrs code parts.1)
+    let here = and_from (is_instr routines instrs i) (is_given (Some open_row)) parts.0 refl in
+    and_from (is_instr routines instrs i && is_given (Some open_row)) (list_all (is_point routines instrs) (map blank_point code)) here (blank_points-legal routines instrs code parts.1)
+
+-- each of them gives its row
+blank_points-given : (most : ℕ) (code : List Instr) → length code ≤ most → rows_stand (replicate most true) (map blank_point code) ≡ true
+blank_points-given most [] le = refl
+blank_points-given zero (i ∷ code) le = absurd (omega (arith, le))
+blank_points-given (suc most) (i ∷ code) le = blank_points-given most code (omega (arith, le))
 
 -- what a text without fault tells makes a legal image
 ended : (d : Declared) (t : Draft) → Told d.names d t → (close t).progress.fault ≡ None → without_routine t.progress.part ≡ None
@@ -74,8 +82,9 @@ ended d t h quiet inside =
     let labels : TableBelow most d.names.labels = λ name v e. let below = h.followed filled.0 name v e in omega arith in
     let routines = complete-told t.progress.part t.routines t.progress.current h.part filled.1 h.complete in
     let points = blank_points-legal all most t.code (h.code all most callees labels) in
+    let given : rows_stand (replicate 4096 true) (map blank_point t.code) ≡ true = blank_points-given 4096 t.code (omega arith) in
     let parts : ImageParts (skeleton (record { routines = all_of t; instrs = t.code })) =
-    record { some = omega arith; few = omega arith; routines = routines; short = omega arith; counts = omega arith; points = points } in
+    record { some = omega arith; few = omega arith; routines = routines; short = omega arith; counts = omega arith; points = points; rows = given } in
     image-from (skeleton (record { routines = all_of t; instrs = t.code })) parts
 
 -- a code is there if there is no fault

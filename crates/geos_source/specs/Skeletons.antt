@@ -1,5 +1,5 @@
 -- The image of a code of which nothing is found yet.
-use Rattle.std.specs.Prelude.{[], ◌∷◌, map}
+use Rattle.std.specs.Prelude.{false, [], ◌∷◌, map, Some}
 use Rattle.geos_image.specs.declared.instr.Instr.{Instr}
 use Rattle.geos_image.specs.declared.routine.Routine.{Routine}
 use Rattle.geos_image.specs.Open.{open_row}
@@ -14,8 +14,8 @@ routine_of r = r.routine
 
 -- an instruction where nothing is known and nothing is to be paid
 abbrev pub blank_point : Instr → Point
-blank_point i = record { instr = i; row = open_row; potential = record { constant = 0; coefficients = 0 ∷ 0 ∷ 0 ∷ 0 ∷ [] } }
+blank_point i = record { instr = i; row = Some open_row; potential = record { constant = 0; coefficients = 0 ∷ 0 ∷ 0 ∷ 0 ∷ [] } }
 
 -- the code as an image, with such a point for each instruction
 abbrev pub skeleton : Code → Parts
-skeleton code = record { routines = map routine_of code.routines; points = map blank_point code.instrs }
+skeleton code = record { keyed = false; routines = map routine_of code.routines; points = map blank_point code.instrs }

@@ -33,7 +33,7 @@ fn points_of(alloc: Global, instrs: &[Instr]) -> Result<Vec<Point>, AllocError>
         };
         points.push(Point {
             instr: *instr,
-            row: Row::open(),
+            row: Some(Row::open()),
             potential,
         })?;
     }
@@ -48,5 +48,5 @@ pub fn skeleton(alloc: Global, parsed: &Parsed) -> Result<Image, AllocError>
 {
     let routines = routines_of(alloc, &parsed.routines)?;
     let points = points_of(alloc, &parsed.instrs)?;
-    Ok(Image::of_legal(routines, points))
+    Ok(Image::of_legal(false, routines, points))
 }
