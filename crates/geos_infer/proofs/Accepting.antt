@@ -13,10 +13,14 @@ use Rattle.geos_image.specs.declared.routine.Routine.{Routine}
 use Rattle.geos_image.specs.declared.point.Point.{Point}
 use Rattle.geos_image.specs.Parts.{Parts}
 use Rattle.geos_verify.specs.Lists.{all2}
-use Rattle.geos_verify.specs.Rows.{falls_through, branches, at_point, bound, fits, is_plain, row_along, row_branching}
+use Rattle.geos_image.specs.Keys.{falls_through, branches}
+use Rattle.geos_verify.specs.declared.place.Place.{Place}
+use Rattle.geos_verify.specs.Places.{places, at_place}
+use Rattle.geos_verify.specs.Rows.{at_point, bound, fits, is_plain, row_along, row_branching}
 use Rattle.geos_verify.specs.Touched.{calls, touches}
 use Rattle.geos_verify.specs.Potentials.{pays, pays_setting, pays_taking, pays_calling, budget_of, pays_along, pays_branching, is_within}
 use Rattle.geos_verify.specs.Rules.{returns, leaves_routine, names_empty_slot, entry_misfits, call_misfits, misfits_at, edge_misfits, unpaid_along, unpaid_branching, edge_unpaid, over_budget, tests, refusal}
+use Rattle.geos_verify.proofs.Places.{place-at}
 use Rattle.geos_verify.proofs.Passed.{Passed, none-refuses}
 use Rattle.geos_infer.specs.Solutions.{call_steps}
 use Rattle.geos_infer.specs.Numbers.{zeros}
@@ -79,15 +83,19 @@ pub record Beside (found : Parts) (routine : Routine) (start pc : ℕ) (i : Inst
   pub below : fits row wanted ≡ true
   pub clean : names_empty_slot row ≡ false
   pub entry : pc ≡ start → fits routine.entry row ≡ true
-  pub along : (next : Point) → falls_through i.opcode ≡ true → slice_get found.points (pc + 1) ≡ Some next
+  pub along : (next : Place) → falls_through i.opcode ≡ true → slice_get (places found) (pc + 1) ≡ Some next
       → (fits (row_along found i i.opcode row) next.row ≡ true) × ((n : ℕ) × (next.potential ≡ potential_of n) × (n + 1 + call_steps found i ≤ steps))
-  pub branch : (next : Point) → branches i.opcode ≡ true → slice_get found.points i.target ≡ Some next
+  pub branch : (next : Place) → branches i.opcode ≡ true → slice_get (places found) i.target ≡ Some next
       → (fits (row_branching i i.opcode row) next.row ≡ true) × ((n : ℕ) × (next.potential ≡ potential_of n) × (n + 1 + call_steps found i ≤ steps))
   pub return : returns i.opcode ≡ true → 1 ≤ steps
 
 pub at-point-true : (image : Parts) (pc : ℕ) (test : Point → Bool) (o : Option Point) → slice_get image.points pc ≡ o → ((point : Point) → slice_get image.points pc ≡ Some point → test point ≡ true) → at_point image pc test ≡ true
 at-point-true image pc test None e h = rw (e, at_point) refl
 at-point-true image pc test (Some point) e h = rw (e, at_point) (h point e)
+
+pub at-place-true : (image : Parts) (pc : ℕ) (test : Place → Bool) (o : Option Place) → slice_get (places image) pc ≡ o → ((place : Place) → slice_get (places image) pc ≡ Some place → test place ≡ true) → at_place image pc test ≡ true
+at-place-true image pc test None e h = rw (e, at_place) refl
+at-place-true image pc test (Some place) e h = rw (e, at_place) (h place e)
 
 -- the rule on calls reads no more of an image than its routines
 same-call : (image other : Parts) → other.routines ≡ image.routines → (r : ℕ) (i : Instr) (row : Row) → call_misfits other r i row ≡ call_misfits image r i row
@@ -126,23 +134,25 @@ accepts o found same r routine start pc i row wanted steps potential le accepted
     edges : edge_misfits found pc i row ≡ false
     edges = neither (falls_through i.opcode && misfits_at found (pc + 1) (row_along found i i.opcode row)) (branches i.opcode && misfits_at found i.target (row_branching i i.opcode row))
         (not-both (falls_through i.opcode) (misfits_at found (pc + 1) (row_along found i i.opcode row)) (λ falls.
-        true-not (at_point found (pc + 1) (λ next. fits (row_along found i i.opcode row) next.row))
-        (at-point-true found (pc + 1) (λ next. fits (row_along found i i.opcode row) next.row) (slice_get found.points (pc + 1)) refl (λ next e. (B.along next falls e).0))))
+        true-not (at_place found (pc + 1) (λ next. fits (row_along found i i.opcode row) next.row))
+        (at-place-true found (pc + 1) (λ next. fits (row_along found i i.opcode row) next.row) (slice_get (places found) (pc + 1)) refl (λ next e. (B.along next falls e).0))))
         (not-both (branches i.opcode) (misfits_at found i.target (row_branching i i.opcode row)) (λ goes.
-        true-not (at_point found i.target (λ next. fits (row_branching i i.opcode row) next.row))
-        (at-point-true found i.target (λ next. fits (row_branching i i.opcode row) next.row) (slice_get found.points i.target) refl (λ next e. (B.branch next goes e).0))))
+        true-not (at_place found i.target (λ next. fits (row_branching i i.opcode row) next.row))
+        (at-place-true found i.target (λ next. fits (row_branching i i.opcode row) next.row) (slice_get (places found) i.target) refl (λ next e. (B.branch next goes e).0))))
 
     paid-along : (next : Point) → falls_through i.opcode ≡ true → slice_get found.points (pc + 1) ≡ Some next → pays_along found i i.opcode row (potential_of steps) next.potential ≡ true
     paid-along next falls e =
-        let next_pays = (B.along next falls e).1 in
+        let there = place-at found (pc + 1) next e in
+        let next_pays = (B.along there.0 falls there.1).1 in
         let P : Potential → Type 0 = λ q. pays_along found i i.opcode row (potential_of steps) q ≡ true in
-        subst P (sym next_pays.1) (along-zero found i i.opcode row steps next_pays.0 next_pays.2)
+        subst P (sym next_pays.1 ∙ there.2.potential) (along-zero found i i.opcode row steps next_pays.0 next_pays.2)
 
     paid-branching : (next : Point) → branches i.opcode ≡ true → slice_get found.points i.target ≡ Some next → pays_branching i i.opcode (potential_of steps) next.potential ≡ true
     paid-branching next goes e =
-        let next_pays = (B.branch next goes e).1 in
+        let there = place-at found i.target next e in
+        let next_pays = (B.branch there.0 goes there.1).1 in
         let P : Potential → Type 0 = λ q. pays_branching i i.opcode (potential_of steps) q ≡ true in
-        subst P (sym next_pays.1) (branching-zero i i.opcode steps next_pays.0 (let enough = next_pays.2 in omega arith))
+        subst P (sym next_pays.1 ∙ there.2.potential) (branching-zero i i.opcode steps next_pays.0 (let enough = next_pays.2 in omega arith))
 
     some-steps : (n : ℕ) → 1 ≤ n → (n == 0) ≡ false
     some-steps n h = by_test (n == 0) refl

@@ -13,7 +13,8 @@ use Rattle.geos_image.specs.declared.routine.Routine.{Routine}
 use Rattle.geos_image.specs.Parts.{Parts}
 use Rattle.geos_verify.specs.declared.asked.Asked.{Asked}
 use Rattle.geos_verify.specs.Lists.{zip2}
-use Rattle.geos_verify.specs.Rows.{bound, branches, has_edge}
+use Rattle.geos_image.specs.Keys.{branches}
+use Rattle.geos_verify.specs.Rows.{bound, has_edge}
 use Rattle.geos_verify.specs.Touched.{calls, touches}
 use Rattle.geos_verify.specs.Potentials.{asks, asks_setting, asked_along, asked_branching, budget_of}
 use Rattle.geos_verify.proofs.Places.{item_at, if_some}

@@ -109,7 +109,7 @@ length_more : {A : Type 0} (xs : List A) (y : A) → length (xs ++ y ∷ []) ≡
 length_more xs y = simp length-append
 
 abbrev pub point_of : Instr → Row → ℕ → List ℕ → Point
-point_of i row constant coefficients = record { instr = i; row = row; potential = record { constant = constant; coefficients = coefficients } }
+point_of i row constant coefficients = record { instr = i; row = Some row; potential = record { constant = constant; coefficients = coefficients } }
 
 point_same : (i i' : Instr) (w w' : Row) (m m' : ℕ) (q q' : List ℕ) → i ≡ i' → w ≡ w' → m ≡ m' → q ≡ q' → point_of i w m q ≡ point_of i' w' m' q'
 point_same i i' w w' m m' q q' a b d e =
@@ -129,11 +129,11 @@ made-none image known numbers points e = record {
   legal = λ k lt. absurd (omega arith);
 }
 
-pub made-more : (image : Parts) (known : List (Option Row)) (numbers : Numbers) (n : ℕ) (points next : List Point) (y : Point) → next ≡ points ++ y ∷ []
-    → IfSome (slice_get image.points n) (λ point. y.instr ≡ point.instr) → y.row ≡ row_of (known_at known n) → is_row y.row ≡ true
+pub made-more : (image : Parts) (known : List (Option Row)) (numbers : Numbers) (n : ℕ) (points next : List Point) (y : Point) (row : Row) → next ≡ points ++ y ∷ []
+    → IfSome (slice_get image.points n) (λ point. y.instr ≡ point.instr) → y.row ≡ Some row → row ≡ row_of (known_at known n) → is_row row ≡ true
     → y.potential.constant ≡ slice_index numbers.steps n → y.potential.coefficients ≡ slice_index_or numbers.coefficients n []
     → Made image known numbers n points → Made image known numbers (n + 1) next
-made-more image known numbers n points next y e there row legal constant coefficients M =
+made-more image known numbers n points next y row e there given row_is legal constant coefficients M =
     let last : slice_get next n ≡ Some y = subst (λ (xs : List Point). slice_get xs n ≡ Some y) (sym e) (subst (λ (k : ℕ). slice_get (points ++ y ∷ []) k ≡ Some y) M.len (got_last points y)) in
     let P : ℕ → Type 0 = λ k. (old : Point) → slice_get image.points k ≡ Some old
     → slice_get next k ≡ Some (point_of old.instr (row_of (known_at known k)) (slice_index numbers.steps k) (slice_index_or numbers.coefficients k [])) in
@@ -142,11 +142,11 @@ made-more image known numbers n points next y e there row legal constant coeffic
     subst (λ (xs : List Point). slice_get xs k ≡ Some (point_of old.instr (row_of (known_at known k)) (slice_index numbers.steps k) (slice_index_or numbers.coefficients k []))) (sym e) (got_left points (y ∷ []) k (point_of old.instr (row_of (known_at known k)) (slice_index numbers.steps k) (slice_index_or numbers.coefficients k [])) (M.each k old lt is)) in
     let here : P n = λ old is.
     let same : y.instr ≡ old.instr = subst (λ (o : Option Point). IfSome o (λ point. y.instr ≡ point.instr)) is there in
-    last ∙ ap (λ (p : Point). Some p) (point_same y.instr old.instr y.row (row_of (known_at known n)) y.potential.constant (slice_index numbers.steps n) y.potential.coefficients (slice_index_or numbers.coefficients n []) same row constant coefficients) in
+    last ∙ ap (λ (o : Option Row). Some (record { instr = y.instr; row = o; potential = y.potential })) given ∙ ap (λ (p : Point). Some p) (point_same y.instr old.instr row (row_of (known_at known n)) y.potential.constant (slice_index numbers.steps n) y.potential.coefficients (slice_index_or numbers.coefficients n []) same row_is constant coefficients) in
     record {
       len = ap length e ∙ (length_more points y ∙ ap (λ (k : ℕ). k + 1) M.len);
       each = λ k old lt is. below_more P n below here k lt old is;
-      legal = below_more Q n M.legal (subst (λ (w : Row). is_row w ≡ true) row legal);
+      legal = below_more Q n M.legal (subst (λ (w : Row). is_row w ≡ true) row_is legal);
     }
 
 pub made-all : (image : Parts) (known : List (Option Row)) (numbers : Numbers) (n : ℕ) (points : List Point) → n ≡ length image.points → Made image known numbers n points → PointsOf image known numbers points

@@ -1,8 +1,8 @@
 -- The rows at the ends of edges.
-use Rattle.std.proofs.Common.{◌≡◌, ℕ, Bool, true, false, List, length, Some, None, slice_get, refl, sym, ap, ◌∙◌}
+use Rattle.std.proofs.Common.{◌≡◌, ℕ, ◌<◌, Bool, true, false, List, length, Some, None, slice_get, refl, sym, ap, ◌∙◌, arith}
 use Rattle.std.specs.Prelude.{option_map}
 use Rattle.std.proofs.lemmas.List.{length-map}
-use Rattle.std.proofs.lemmas.Option.{slice_get-map}
+use Rattle.std.proofs.lemmas.Option.{slice_get-map, slice_get_within, same_Some}
 use Rattle.geos_opcodes.specs.declared.opcode.Opcode.{Opcode}
 use Rattle.geos_opcodes.specs.declared.opcode.Opcode.TheVariants.{Call}
 use Rattle.geos_image.specs.declared.instr.Instr.{Instr}
@@ -10,9 +10,12 @@ use Rattle.geos_image.specs.declared.row.Row.{Row}
 use Rattle.geos_image.specs.declared.routine.Routine.{Routine}
 use Rattle.geos_image.specs.declared.point.Point.{Point}
 use Rattle.geos_image.specs.Parts.{Parts}
+use Rattle.geos_verify.specs.declared.place.Place.{Place}
+use Rattle.geos_verify.specs.Places.{places}
 use Rattle.geos_verify.specs.Rows.{exit_row, row_along, fits, after}
 use Rattle.geos_verify.specs.Touched.{calls}
 use Rattle.geos_verify.proofs.Along.{row_along-used}
+use Rattle.geos_verify.proofs.Places.{item_at, places-length, point-of}
 use Rattle.geos_infer.specs.Code.{instr_of, instrs_of, edge_row}
 use Rattle.geos_infer.proofs.After.{along-mono, branching-mono, is-call}
 
@@ -49,3 +52,15 @@ code-at image pc point e = slice_get-map instr_of image.points pc ∙ ap (option
 
 pub code-length : (image : Parts) → length (instrs_of image) ≡ length image.points
 code-length image = length-map image.points instr_of
+
+-- the instruction at a place
+pub place-code-at : (image : Parts) (pc : ℕ) (place : Place) → slice_get (places image) pc ≡ Some place → slice_get (instrs_of image) pc ≡ Some place.instr
+place-code-at image pc place e =
+    let found = point-of image pc place e in
+    code-at image pc found.0 found.1 ∙ ap (λ (i : Instr). Some i) (sym found.2.instr)
+
+-- the place of an instruction
+pub code-place : (image : Parts) (pc : ℕ) (i : Instr) → slice_get (instrs_of image) pc ≡ Some i → (place : Place) × (slice_get (places image) pc ≡ Some place) × (place.instr ≡ i)
+code-place image pc i e =
+    let found = item_at (places image) pc (omega (arith, slice_get_within (instrs_of image) pc i e, code-length image, places-length image)) in
+    (found.0, found.1, same_Some found.0.instr i (sym (place-code-at image pc found.0 found.1) ∙ e))

@@ -1,6 +1,6 @@
 -- What is found is enough, where something is.
 use Rattle.std.proofs.Common.{◌≡◌, ℕ, zero, suc, ◌+◌, ◌*◌, ◌<◌, ◌≤◌, Bool, true, false, List, [], ◌∷◌, length, map, Option, Some, None, slice_get, get_or, refl, sym, ap, ◌∙◌, subst, arith, inl, inr, ◌⊎◌}
-use Rattle.std.specs.Prelude.{◌&&◌, ◌==◌, nat_le, nat_lt, option_map}
+use Rattle.std.specs.Prelude.{◌&&◌, ◌==◌, nat_le, nat_lt, option_map, replicate}
 use Rattle.std.specs.List.{list_all}
 use Rattle.std.proofs.lemmas.Bool.{and_parts, le-leb, lt-ltb, eq-eqb}
 use Rattle.std.proofs.lemmas.List.{length-map}
@@ -10,11 +10,14 @@ use Rattle.geos_image.specs.declared.row.Row.{Row}
 use Rattle.geos_image.specs.declared.routine.Routine.{Routine}
 use Rattle.geos_image.specs.declared.point.Point.{Point}
 use Rattle.geos_image.specs.Parts.{Parts, start_of, total_count}
-use Rattle.geos_image.specs.Legal.{is_row, is_instr, is_point, are_routines, is_image}
+use Rattle.geos_image.specs.Keys.{row_stands}
+use Rattle.geos_image.specs.Legal.{is_given, is_instr, is_point, are_routines, rows_stand, is_image}
 use Rattle.geos_image.proofs.Instrs.{image_parts}
+use Rattle.geos_verify.specs.declared.place.Place.{Place}
+use Rattle.geos_verify.specs.Places.{places}
 use Rattle.geos_verify.specs.Rows.{fits, has_edge}
 use Rattle.geos_verify.specs.Rules.{has_place, names_empty_slot, refusal, HasPoint, Accepted, IsChecked}
-use Rattle.geos_verify.proofs.Places.{item_at, place_bounds}
+use Rattle.geos_verify.proofs.Places.{item_at, place_bounds, places-length, given-place}
 use Rattle.geos_infer.specs.declared.error.InferError.{InferError}
 use Rattle.geos_infer.specs.declared.error.InferError.TheVariants.{NoRows}
 use Rattle.geos_infer.specs.Joins.{clean}
@@ -30,7 +33,7 @@ use Rattle.geos_infer.proofs.Fits.{fits-trans}
 use Rattle.geos_infer.proofs.Cleaning.{clean-least}
 use Rattle.geos_infer.proofs.Bodies.{lies}
 use Rattle.geos_infer.proofs.Flows.{all-reached}
-use Rattle.geos_infer.proofs.Ends.{code-at, code-length, same-edge}
+use Rattle.geos_infer.proofs.Ends.{code-at, code-length, code-place, same-edge}
 use Rattle.geos_infer.proofs.Wanted.{row_at, constant_at, map-get, routine-at, ends-at, closed-wanted, rows-wanted, steps-wanted, forward-in}
 use Rattle.geos_infer.proofs.Accepting.{Beside, accepts}
 
@@ -59,7 +62,11 @@ list_all-get test (y ∷ xs) (suc k) x h e = list_all-get test xs k x ((and_part
 
 -- the point of an instruction, where the potential is the same whatever the counters are
 abbrev found_point : List (Option Row) → List ℕ → ℕ → Instr → Point
-found_point known steps pc i = record { instr = i; row = row_of (known_at known pc); potential = potential_of (get_or steps pc 0) }
+found_point known steps pc i = record { instr = i; row = Some (row_of (known_at known pc)); potential = potential_of (get_or steps pc 0) }
+
+-- and its place
+abbrev found_place : List (Option Row) → List ℕ → ℕ → Instr → Place
+found_place known steps pc i = record { instr = i; row = row_of (known_at known pc); potential = potential_of (get_or steps pc 0) }
 
 -- points whose potentials are the same whatever the counters are
 pub record Plain (image : Parts) (known : List (Option Row)) (steps : List ℕ) (points : List Point) : Type 0 where
@@ -72,40 +79,38 @@ plain image legal known numbers points none P = record {
   len = P.len;
   each = λ pc old read.
       let is = none pc (slice_get_within image.points pc old read) in
-      subst (λ (k : List ℕ). slice_get points pc ≡ Some (record { instr = old.instr; row = row_of (known_at known pc); potential = record { constant = get_or numbers.steps pc 0; coefficients = k } })) is (P.each pc old read);
+      subst (λ (k : List ℕ). slice_get points pc ≡ Some (record { instr = old.instr; row = Some (row_of (known_at known pc)); potential = record { constant = get_or numbers.steps pc 0; coefficients = k } })) is (P.each pc old read);
 }
 
 module _ (image : Parts) (legal : is_image image ≡ true) (o : Parts) (same : SameCode image o) (checked : IsChecked o) (known : List (Option Row)) (steps : List ℕ) (points : List Point) (P : Plain image known steps points)
-    (r : ℕ) (routine : Routine) (there : slice_get image.routines r ≡ Some routine) (forward : ForwardIn image r) (rows : RowsHoldIn image r (map row_at o.points))
-    (F : Flowing image r (map row_at o.points) known (2 * start_of image.routines (r + 1)))
-    (C : Counting image (start_of image.routines (r + 1)) (map constant_at o.points) steps (start_of image.routines r)) where
+    (r : ℕ) (routine : Routine) (there : slice_get image.routines r ≡ Some routine) (forward : ForwardIn image r) (rows : RowsHoldIn image r (map row_at (places o)))
+    (F : Flowing image r (map row_at (places o)) known (2 * start_of image.routines (r + 1)))
+    (C : Counting image (start_of image.routines (r + 1)) (map constant_at (places o)) steps (start_of image.routines r)) where
   -- everything is reached
   reached : (pc : ℕ) → IsPcOf image r pc → (row : Row) × (known_at known pc ≡ Some row)
   reached pc within =
       let len = code-length image in
       let room = lies image legal r routine there in
       let end = ends-at image.routines r routine there in
-      all-reached image r forward routine there (map row_at o.points) known F (omega (arith, room.0)) pc within
+      all-reached image r forward routine there (map row_at (places o)) known F (omega (arith, room.0)) pc within
 
-  found-at : (pc : ℕ) (old : Point) → slice_get image.points pc ≡ Some old → slice_get points pc ≡ Some (found_point known steps pc old.instr)
-  found-at pc old read = P.each pc old read
+  found-at : (pc : ℕ) (old : Point) → slice_get image.points pc ≡ Some old → slice_get (places (with_points image points)) pc ≡ Some (found_place known steps pc old.instr)
+  found-at pc old read = given-place (with_points image points) pc old.instr (row_of (known_at known pc)) (potential_of (get_or steps pc 0)) (P.each pc old read)
 
-  -- the point of the other image
-  other-at : (pc : ℕ) (old : Point) → slice_get image.points pc ≡ Some old → (point : Point) × (slice_get o.points pc ≡ Some point) × (point.instr ≡ old.instr)
-  other-at pc old read =
-      let there : slice_get (instrs_of o) pc ≡ Some old.instr = ap (λ (code : List Instr). slice_get code pc) same.instrs ∙ code-at image pc old read in
-      map-get instr_of o.points pc old.instr there
+  -- the place in the other image
+  other-at : (pc : ℕ) (old : Point) → slice_get image.points pc ≡ Some old → (place : Place) × (slice_get (places o) pc ≡ Some place) × (place.instr ≡ old.instr)
+  other-at pc old read = code-place o pc old.instr (ap (λ (code : List Instr). slice_get code pc) same.instrs ∙ code-at image pc old read)
 
-  want-row : (pc : ℕ) (point : Point) → slice_get o.points pc ≡ Some point → slice_get (map row_at o.points) pc ≡ Some point.row
-  want-row pc point read = slice_get-map row_at o.points pc ∙ ap (option_map row_at) read
+  want-row : (pc : ℕ) (point : Place) → slice_get (places o) pc ≡ Some point → slice_get (map row_at (places o)) pc ≡ Some point.row
+  want-row pc point read = slice_get-map row_at (places o) pc ∙ ap (option_map row_at) read
 
-  want-steps : (pc : ℕ) (point : Point) → slice_get o.points pc ≡ Some point → get_or (map constant_at o.points) pc 0 ≡ point.potential.constant
-  want-steps pc point read = get_or_from_slice_get (map constant_at o.points) pc point.potential.constant 0 (slice_get-map constant_at o.points pc ∙ ap (option_map constant_at) read)
+  want-steps : (pc : ℕ) (point : Place) → slice_get (places o) pc ≡ Some point → get_or (map constant_at (places o)) pc 0 ≡ point.potential.constant
+  want-steps pc point read = get_or_from_slice_get (map constant_at (places o)) pc point.potential.constant 0 (slice_get-map constant_at (places o) pc ∙ ap (option_map constant_at) read)
 
   row-is : (pc : ℕ) → IsPcOf image r pc → (row : Row) × (known_at known pc ≡ Some row) × (row_of (known_at known pc) ≡ clean row)
   row-is pc within = let got = reached pc within in (got.0, got.1, ap row_of got.1)
 
-  row-below : (pc : ℕ) (point : Point) → IsPcOf image r pc → slice_get o.points pc ≡ Some point → fits (row_of (known_at known pc)) point.row ≡ true
+  row-below : (pc : ℕ) (point : Place) → IsPcOf image r pc → slice_get (places o) pc ≡ Some point → fits (row_of (known_at known pc)) point.row ≡ true
   row-below pc point within at =
       let got = row-is pc within in
       let below = F.below pc got.0 point.row within got.1 (want-row pc point at) in
@@ -121,15 +126,14 @@ module _ (image : Parts) (legal : is_image image ≡ true) (o : Parts) (same : S
       subst (λ (x : Row). fits row x ≡ true) (sym is) (fits-trans row K.known_row (clean K.known_row) K.fits ((clean-least K.known_row).weaker))
 
   -- where an edge leads
-  edge-found : (pc to : ℕ) (branch : Bool) (old next : Point) → IsPcOf image r pc → slice_get image.points pc ≡ Some old → has_edge old.instr branch ≡ true → edge_end pc old.instr branch ≡ to → slice_get points to ≡ Some next
+  edge-found : (pc to : ℕ) (branch : Bool) (old : Point) (next : Place) → IsPcOf image r pc → slice_get image.points pc ≡ Some old → has_edge old.instr branch ≡ true → edge_end pc old.instr branch ≡ to → slice_get (places (with_points image points)) to ≡ Some next
       → (fits (edge_row image old.instr branch (row_of (known_at known pc))) next.row ≡ true) × ((n : ℕ) × (next.potential ≡ potential_of n) × (n + 1 + call_steps image old.instr ≤ get_or steps pc 0))
   edge-found pc to branch old next within read has leads at =
       let edge : Edge (instrs_of image) pc branch to old.instr = record { read = code-at image pc old read; has = has; leads = leads } in
-      let lt = slice_get_within points to next at in
-      let len = code-length image in
+      let lt = slice_get_within (places (with_points image points)) to next at in
       let points_len = P.len in
-      let there = item_at image.points to (omega arith) in
-      let is : found_point known steps to there.0.instr ≡ next = same_Some (found_point known steps to there.0.instr) next (sym (found-at to there.0 there.1) ∙ at) in
+      let there = item_at image.points to (omega (arith, places-length (with_points image points))) in
+      let is : found_place known steps to there.0.instr ≡ next = same_Some (found_place known steps to there.0.instr) next (sym (found-at to there.0 there.1) ∙ at) in
       let row = row-is pc within in
       let inside = rows.closed pc to branch old.instr within edge in
       let ahead = forward.ahead pc to branch old.instr within edge in
@@ -138,9 +142,9 @@ module _ (image : Parts) (legal : is_image image ≡ true) (o : Parts) (same : S
       let fit : fits (edge_row image old.instr branch (row_of (known_at known pc))) (row_of (known_at known to)) ≡ true =
       subst (λ (x : Row). fits (edge_row image old.instr branch x) (row_of (known_at known to)) ≡ true) (sym row.2) (known-fits to (edge_row image old.instr branch (clean row.0)) K) in
       let paid = C.edges pc to branch old.instr within.above within.below edge in
-      (subst (λ (x : Point). fits (edge_row image old.instr branch (row_of (known_at known pc))) x.row ≡ true) is fit, (get_or steps to 0, ap (λ (x : Point). x.potential) (sym is), paid))
+      (subst (λ (x : Place). fits (edge_row image old.instr branch (row_of (known_at known pc))) x.row ≡ true) is fit, (get_or steps to 0, ap (λ (x : Place). x.potential) (sym is), paid))
 
-  beside : (pc : ℕ) (old point : Point) → IsPcOf image r pc → slice_get image.points pc ≡ Some old → slice_get o.points pc ≡ Some point
+  beside : (pc : ℕ) (old : Point) (point : Place) → IsPcOf image r pc → slice_get image.points pc ≡ Some old → slice_get (places o) pc ≡ Some point
       → Beside (with_points image points) routine (start_of image.routines r) pc old.instr (row_of (known_at known pc)) point.row (get_or steps pc 0)
   beside pc old point within read at = record {
     below = row-below pc point within at;
@@ -152,15 +156,15 @@ module _ (image : Parts) (legal : is_image image ≡ true) (o : Parts) (same : S
   }
 
   -- no rule refuses
-  pub found-accepted : (pc : ℕ) (point : Point) → HasPoint (with_points image points) r routine pc point → refusal (with_points image points) r routine (start_of image.routines r) pc point ≡ None
+  pub found-accepted : (pc : ℕ) (point : Place) → HasPoint (with_points image points) r routine pc point → refusal (with_points image points) r routine (start_of image.routines r) pc point ≡ None
   found-accepted pc point has =
-      let lt = slice_get_within points pc point has.read in
+      let lt = slice_get_within (places (with_points image points)) pc point has.read in
       let points_len = P.len in
-      let old = item_at image.points pc (omega arith) in
+      let old = item_at image.points pc (omega (arith, places-length (with_points image points))) in
       let place = place_bounds (start_of image.routines r) routine.count pc has.within in
       let end = ends-at image.routines r routine there in
       let within : IsPcOf image r pc = record { above = place.0; below = omega (arith, place.1) } in
-      let is : found_point known steps pc old.0.instr ≡ point = same_Some (found_point known steps pc old.0.instr) point (sym (found-at pc old.0 old.1) ∙ has.read) in
+      let is : found_place known steps pc old.0.instr ≡ point = same_Some (found_place known steps pc old.0.instr) point (sym (found-at pc old.0 old.1) ∙ has.read) in
       let other = other-at pc old.0 old.1 in
       let there_other : slice_get o.routines r ≡ Some routine = ap (λ (rs : List Routine). slice_get rs r) same.routines ∙ there in
       let within_other = subst (λ (rs : List Routine). has_place (start_of rs r) routine.count pc ≡ true) (sym same.routines) has.within in
@@ -170,11 +174,16 @@ module _ (image : Parts) (legal : is_image image ≡ true) (o : Parts) (same : S
       (subst (λ (i : Instr). refusal o r routine (start_of o.routines r) pc (record other.0 { instr = i }) ≡ None) other.2 accepted) in
       let below = C.below pc within.above within.below in
       let want = want-steps pc other.0 other.1 in
-      subst (λ (x : Point). refusal (with_points image points) r routine (start_of image.routines r) pc x ≡ None) is
+      subst (λ (x : Place). refusal (with_points image points) r routine (start_of image.routines r) pc x ≡ None) is
       (accepts o (with_points image points) same.routines r routine (start_of image.routines r) pc old.0.instr (row_of (known_at known pc)) other.0.row (get_or steps pc 0) other.0.potential (omega arith) here
       (beside pc old.0 other.0 within old.1 other.1))
 
 -- the format allows what is found
+all-given : (most : ℕ) (points : List Point) → length points ≤ most → ((k : ℕ) (point : Point) → slice_get points k ≡ Some point → row_stands true point.row ≡ true) → rows_stand (replicate most true) points ≡ true
+all-given most [] le each = refl
+all-given zero (point ∷ points) le each = absurd (omega (arith, le))
+all-given (suc most) (point ∷ points) le each = both (row_stands true point.row) (rows_stand (replicate most true) points) (each 0 point refl) (all-given most points (omega (arith, le)) (λ k other e. each (suc k) other e))
+
 pub found-legal : (image : Parts) (known : List (Option Row)) (numbers : Numbers) (points : List Point) → is_image image ≡ true → PointsOf image known numbers points → is_image (with_points image points) ≡ true
 found-legal image known numbers points legal P =
     let parts = image_parts image legal in
@@ -186,23 +195,33 @@ found-legal image known numbers points legal P =
     let short : nat_le n 4096 ≡ true = le-leb n 4096 (let s = parts.short in omega arith) in
     let counts : (total_count image.routines == n) ≡ true = eq-eqb (total_count image.routines) n (parts.counts ∙ sym len) in
     let all : list_all (is_point r n) points ≡ true = list_all-from (is_point r n) points one in
-    both (nat_lt 0 r && nat_le r 32 && are_routines [] image.routines && nat_le n 4096 && total_count image.routines == n) (list_all (is_point r n) points)
+    let given : rows_stand (replicate 4096 true) points ≡ true = all-given 4096 points (let s = parts.short in omega arith) (λ k point at. ap (λ (x : Point). row_stands true x.row) (sym (found k point at).2)) in
+    both (nat_lt 0 r && nat_le r 32 && are_routines [] image.routines && nat_le n 4096 && total_count image.routines == n && list_all (is_point r n) points) (rows_stand (replicate 4096 true) points)
+    (both (nat_lt 0 r && nat_le r 32 && are_routines [] image.routines && nat_le n 4096 && total_count image.routines == n) (list_all (is_point r n) points)
     (both (nat_lt 0 r && nat_le r 32 && are_routines [] image.routines && nat_le n 4096) (total_count image.routines == n)
     (both (nat_lt 0 r && nat_le r 32 && are_routines [] image.routines) (nat_le n 4096)
-    (both (nat_lt 0 r && nat_le r 32) (are_routines [] image.routines) (both (nat_lt 0 r) (nat_le r 32) some few) parts.routines) short) counts) all
+    (both (nat_lt 0 r && nat_le r 32) (are_routines [] image.routines) (both (nat_lt 0 r) (nat_le r 32) some few) parts.routines) short) counts) all) given
   where
-    one : (k : ℕ) (point : Point) → slice_get points k ≡ Some point → is_point (length image.routines) (length points) point ≡ true
-    one k point at =
+    -- the point that was made for an instruction
+    made : ℕ → Instr → Point
+    made k i = record { instr = i; row = Some (row_of (known_at known k)); potential = record { constant = get_or numbers.steps k 0; coefficients = get_or numbers.coefficients k [] } }
+
+    found : (k : ℕ) (point : Point) → slice_get points k ≡ Some point → (old : Point) × (slice_get image.points k ≡ Some old) × (made k old.instr ≡ point)
+    found k point at =
         let lt = slice_get_within points k point at in
         let points_len = P.len in
         let old = item_at image.points k (omega arith) in
-        let made : Point = record { instr = old.0.instr; row = row_of (known_at known k); potential = record { constant = get_or numbers.steps k 0; coefficients = get_or numbers.coefficients k [] } } in
-        let is : made ≡ point = same_Some made point (sym (P.each k old.0 old.1) ∙ at) in
+        (old.0, old.1, same_Some (made k old.0.instr) point (sym (P.each k old.0 old.1) ∙ at))
+
+    one : (k : ℕ) (point : Point) → slice_get points k ≡ Some point → is_point (length image.routines) (length points) point ≡ true
+    one k point at =
+        let points_len = P.len in
+        let old = found k point at in
         let old_legal = list_all-get (is_point (length image.routines) (length image.points)) image.points k old.0 (image_parts image legal).points old.1 in
-        let instr = (and_parts (is_instr (length image.routines) (length image.points) old.0.instr) (is_row old.0.row) old_legal).0 in
+        let instr = (and_parts (is_instr (length image.routines) (length image.points) old.0.instr) (is_given old.0.row) old_legal).0 in
         let here : is_instr (length image.routines) (length points) old.0.instr ≡ true = subst (λ (m : ℕ). is_instr (length image.routines) m old.0.instr ≡ true) (sym points_len) instr in
-        subst (λ (x : Point). is_point (length image.routines) (length points) x ≡ true) is
-        (both (is_instr (length image.routines) (length points) old.0.instr) (is_row (row_of (known_at known k))) here (P.legal k old.0 old.1))
+        subst (λ (x : Point). is_point (length image.routines) (length points) x ≡ true) old.2
+        (both (is_instr (length image.routines) (length points) old.0.instr) (is_given (Some (row_of (known_at known k)))) here (P.legal k old.0 old.1))
 
 -- the code of the image stays
 pub found-code : (image : Parts) (known : List (Option Row)) (numbers : Numbers) (points : List Point) → PointsOf image known numbers points → instrs_of (with_points image points) ≡ instrs_of image
@@ -222,17 +241,17 @@ module _ (image : Parts) (legal : is_image image ≡ true) (known : List (Option
   forward-at : (r : ℕ) → ForwardIn image r
   forward-at = forward-accepted image legal forward has
 
-  rows-at : (r : ℕ) → r < length image.routines → RowsHoldIn image r (map row_at has.other.points)
+  rows-at : (r : ℕ) → r < length image.routines → RowsHoldIn image r (map row_at (places has.other))
   rows-at r lt = let routine = item_at image.routines r lt in rows-wanted image has.other has.same has.checked r routine.0 routine.1
 
-  steps-at : (r : ℕ) → r < length image.routines → StepsHoldIn image r (map constant_at has.other.points)
+  steps-at : (r : ℕ) → r < length image.routines → StepsHoldIn image r (map constant_at (places has.other))
   steps-at r lt = let routine = item_at image.routines r lt in steps-wanted image has.other has.same has.checked r routine.0 routine.1 forward has.fits
 
-  rows-of : (r : ℕ) → r < length image.routines → Flowing image r (map row_at has.other.points) known (2 * start_of image.routines (r + 1))
-  rows-of = flowed (map row_at has.other.points) (λ r lt. (forward-at r, rows-at r lt))
+  rows-of : (r : ℕ) → r < length image.routines → Flowing image r (map row_at (places has.other)) known (2 * start_of image.routines (r + 1))
+  rows-of = flowed (map row_at (places has.other)) (λ r lt. (forward-at r, rows-at r lt))
 
-  counted-of : (r : ℕ) → r < length image.routines → CountedIn image r (map constant_at has.other.points) numbers
-  counted-of r lt = counts (map constant_at has.other.points) (λ q q_lt. (forward-at q, steps-at q q_lt)) r (omega arith) lt
+  counted-of : (r : ℕ) → r < length image.routines → CountedIn image r (map constant_at (places has.other)) numbers
+  counted-of r lt = counts (map constant_at (places has.other)) (λ q q_lt. (forward-at q, steps-at q q_lt)) r (omega arith) lt
 
   zeros-at : (pc : ℕ) → pc < length image.points → get_or numbers.coefficients pc [] ≡ zeros
   zeros-at pc lt =
@@ -256,7 +275,7 @@ found-checked image legal known numbers points flowed counts P = λ forward has.
 pub none-accepted : (image : Parts) → is_image image ≡ true → (r : ℕ) → r < length image.routines → NothingHoldsIn image r → NoneIsAccepted image
 none-accepted image legal r lt nothing = λ forward has.
     let routine = item_at image.routines r lt in
-    nothing (forward-accepted image legal forward has r) (map row_at has.other.points) (map constant_at has.other.points)
+    nothing (forward-accepted image legal forward has r) (map row_at (places has.other)) (map constant_at (places has.other))
     (rows-wanted image has.other has.same has.checked r routine.0 routine.1) (steps-wanted image has.other has.same has.checked r routine.0 routine.1 forward has.fits)
 
 -- the routine that an error names is one in which nothing holds
@@ -275,7 +294,7 @@ stuck-in image r routines error names e none_rows why =
 
 -- the image of these routines and points
 abbrev pub made_of : List Routine → List Point → Parts
-made_of routines points = record { routines = routines; points = points }
+made_of routines points = record { keyed = false; routines = routines; points = points }
 
 pub same-routines : (image : Parts) (routines : List Routine) → RoutinesOf image routines → routines ≡ image.routines
 same-routines image routines R = same-lists routines image.routines R.len R.each

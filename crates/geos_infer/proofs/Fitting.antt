@@ -6,7 +6,8 @@ use Rattle.geos_image.specs.declared.instr.Instr.{Instr}
 use Rattle.geos_image.specs.declared.row.Row.{Row}
 use Rattle.geos_image.specs.declared.point.Point.{Point}
 use Rattle.geos_image.specs.Parts.{Parts, start_of}
-use Rattle.geos_verify.specs.Rows.{falls_through, branches, at_point, HasEdge, after, has_edge}
+use Rattle.geos_image.specs.Keys.{falls_through, branches}
+use Rattle.geos_verify.specs.Rows.{at_point, HasEdge, after, has_edge}
 use Rattle.geos_verify.proofs.Places.{item_at, if_some}
 use Rattle.geos_infer.specs.Joins.{clean}
 use Rattle.geos_infer.specs.Code.{Edge, IsPcOf, TargetAhead, instrs_of, edge_end, edge_row}

@@ -6,14 +6,18 @@ use Rattle.std.proofs.lemmas.List.{get_or-set_same, get_or-set_other, length-set
 use Rattle.std.proofs.lemmas.Option.{slice_get-map, slice_get_within}
 use Rattle.geos_image.specs.declared.instr.Instr.{Instr}
 use Rattle.geos_image.specs.declared.row.Row.{Row}
+use Rattle.geos_image.specs.declared.potential.Potential.{Potential}
 use Rattle.geos_image.specs.declared.routine.Routine.{Routine}
 use Rattle.geos_image.specs.declared.point.Point.{Point}
 use Rattle.geos_image.specs.Parts.{Parts, start_of}
 use Rattle.geos_image.specs.Legal.{is_image}
 use Rattle.geos_image.proofs.Starts.{start_of-next, start_of-le}
-use Rattle.geos_verify.specs.Rows.{falls_through, branches, at_point, row_along, row_branching, fits, has_edge}
+use Rattle.geos_image.specs.Keys.{falls_through, branches}
+use Rattle.geos_verify.specs.declared.place.Place.{Place}
+use Rattle.geos_verify.specs.Places.{places, at_place}
+use Rattle.geos_verify.specs.Rows.{at_point, row_along, row_branching, fits, has_edge}
 use Rattle.geos_verify.specs.Rules.{has_place, names_empty_slot, leaves_routine, misfits_at, edge_misfits, HasPoint}
-use Rattle.geos_verify.proofs.Places.{item_at, place_bounds}
+use Rattle.geos_verify.proofs.Places.{item_at, place_bounds, places-length, given-place}
 use Rattle.geos_infer.specs.declared.body.Body.{Body}
 use Rattle.geos_infer.specs.Code.{Edge, IsPcOf, instr_of, instrs_of, edge_end, edge_row}
 use Rattle.geos_infer.specs.Joins.{clean}
@@ -22,10 +26,10 @@ use Rattle.geos_infer.specs.Numbers.{Numbers}
 use Rattle.geos_infer.specs.Points.{PointsOf}
 use Rattle.geos_infer.specs.Theorem.{with_points}
 use Rattle.geos_infer.specs.Reached.{LeadWithin, IsReached, HoldWhereReached, row_in, rows_of, RowRulesPass, AllFit, FitWhereReached, Copies, Keeps}
-use Rattle.geos_infer.proofs.Accepting.{at-point-true}
+use Rattle.geos_infer.proofs.Accepting.{at-place-true}
 use Rattle.geos_infer.proofs.Bodies.{lies}
 use Rattle.geos_infer.proofs.Cleaning.{clean-least}
-use Rattle.geos_infer.proofs.Ends.{code-at, same-edge}
+use Rattle.geos_infer.proofs.Ends.{place-code-at, same-edge}
 use Rattle.geos_infer.proofs.Fits.{fits-trans}
 use Rattle.geos_infer.proofs.Passing.{neither, not-both, second-false, true-not}
 use Rattle.geos_infer.proofs.Wanted.{map-get, ends-at}
@@ -186,18 +190,20 @@ known-fits known pc row K =
     let is : row_of (known_at known pc) ≡ clean K.known_row = ap row_of K.read in
     subst (λ (x : Row). fits row x ≡ true) (sym is) (fits-trans row K.known_row (clean K.known_row) K.fits ((clean-least K.known_row).weaker))
 
-some-point : (x y : Point) → Some x ≡ Some y → x ≡ y
-some-point x y e = cc
+some-place : (x y : Place) → Some x ≡ Some y → x ≡ y
+some-place x y e = cc
 
 module _ (image : Parts) (known : List (Option Row)) (numbers : Numbers) (points : List Point) (P : PointsOf image known numbers points) (codes : instrs_of (with_points image points) ≡ instrs_of image) (r : ℕ) where
-  row-at : (pc : ℕ) (row : Row) → slice_get (map row_in points) pc ≡ Some row → row_of (known_at known pc) ≡ row
+  row-at : (pc : ℕ) (row : Row) → slice_get (rows_of (with_points image points)) pc ≡ Some row → row_of (known_at known pc) ≡ row
   row-at pc row e =
-      let found = map-get row_in points pc row e in
-      let lt = slice_get_within points pc found.0 found.1 in
+      let found = map-get row_in (places (with_points image points)) pc row e in
+      let lt = slice_get_within (places (with_points image points)) pc found.0 found.1 in
       let len = P.len in
-      let old = item_at image.points pc (omega arith) in
-      let made : Point = record { instr = old.0.instr; row = row_of (known_at known pc); potential = record { constant = get_or numbers.steps pc 0; coefficients = get_or numbers.coefficients pc [] } } in
-      ap row_in (some-point made found.0 (sym (P.each pc old.0 old.1) ∙ found.1)) ∙ found.2
+      let old = item_at image.points pc (omega (arith, places-length (with_points image points))) in
+      let potential : Potential = record { constant = get_or numbers.steps pc 0; coefficients = get_or numbers.coefficients pc [] } in
+      let made : Place = record { instr = old.0.instr; row = row_of (known_at known pc); potential = potential } in
+      let there = given-place (with_points image points) pc old.0.instr (row_of (known_at known pc)) potential (P.each pc old.0 old.1) in
+      ap row_in (some-place made found.0 (sym there ∙ found.1)) ∙ found.2
 
   within-same : (pc : ℕ) → IsPcOf (with_points image points) r pc → IsPcOf image r pc
   within-same pc within = record { above = within.above; below = within.below }
@@ -212,7 +218,7 @@ module _ (image : Parts) (known : List (Option Row)) (numbers : Numbers) (points
   -- rows that are made of what fits hold
   pub fit-holds : FitWhereReached image r known → HoldWhereReached (with_points image points) r (rows_of (with_points image points))
   fit-holds F = record {
-    len = length-map points row_in ∙ sym (length-map points instr_of);
+    len = length-map (places (with_points image points)) row_in ∙ places-length (with_points image points) ∙ sym (length-map points instr_of);
     entry = λ routine row there e. subst (λ (x : Row). fits routine.entry x ≡ true) (row-at (start_of image.routines r) row e) (known-fits known (start_of image.routines r) routine.entry (F.entry routine there));
     edges = λ pc to branch i row next reached edge inside e f.
         let there : IsReached image r pc = record { edges = reached.edges; lead = lead-same reached.edges pc reached.lead } in
@@ -228,23 +234,23 @@ module _ (image : Parts) (known : List (Option Row)) (numbers : Numbers) (points
 
 -- What the verifier says of such rows
 
-module _ (image : Parts) (r pc : ℕ) (routine : Routine) (point : Point) (holds : HoldWhereReached image r (rows_of image)) (reached : IsReached image r pc) (at : HasPoint image r routine pc point) where
+module _ (image : Parts) (r pc : ℕ) (routine : Routine) (point : Place) (holds : HoldWhereReached image r (rows_of image)) (reached : IsReached image r pc) (at : HasPoint image r routine pc point) where
   placed : (k : ℕ) → has_place (start_of image.routines r) routine.count k ≡ true → IsPcOf image r k
   placed k place =
       let bounds = place_bounds (start_of image.routines r) routine.count k place in
       let end = ends-at image.routines r routine at.there in
       record { above = bounds.0; below = omega (arith, bounds.1) }
 
-  row-there : (k : ℕ) (other : Point) → slice_get image.points k ≡ Some other → slice_get (rows_of image) k ≡ Some other.row
-  row-there k other e = slice_get-map row_in image.points k ∙ ap (option_map row_in) e
+  row-there : (k : ℕ) (other : Place) → slice_get (places image) k ≡ Some other → slice_get (rows_of image) k ≡ Some other.row
+  row-there k other e = slice_get-map row_in (places image) k ∙ ap (option_map row_in) e
 
   fits-there : (to : ℕ) (branch : Bool) → has_edge point.instr branch ≡ true → edge_end pc point.instr branch ≡ to → has_place (start_of image.routines r) routine.count to ≡ true → misfits_at image to (edge_row image point.instr branch point.row) ≡ false
   unfolding misfits_at
   fits-there to branch has leads place =
       let row = edge_row image point.instr branch point.row in
-      let edge : Edge (instrs_of image) pc branch to point.instr = record { read = code-at image pc point at.read; has = has; leads = leads } in
-      true-not (at_point image to (λ next. fits row next.row))
-      (at-point-true image to (λ next. fits row next.row) (slice_get image.points to) refl (λ next e.
+      let edge : Edge (instrs_of image) pc branch to point.instr = record { read = place-code-at image pc point at.read; has = has; leads = leads } in
+      true-not (at_place image to (λ next. fits row next.row))
+      (at-place-true image to (λ next. fits row next.row) (slice_get (places image) to) refl (λ next e.
       holds.edges pc to branch point.instr point.row next.row reached edge (placed to place) (row-there pc point at.read) (row-there to next e)))
 
   edges-pass : leaves_routine routine (start_of image.routines r) pc point.instr ≡ false → edge_misfits image pc point.instr point.row ≡ false

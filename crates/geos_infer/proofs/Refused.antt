@@ -13,12 +13,15 @@ use Rattle.geos_image.specs.declared.potential.Potential.{Potential}
 use Rattle.geos_image.specs.declared.routine.Routine.{Routine}
 use Rattle.geos_image.specs.declared.point.Point.{Point}
 use Rattle.geos_image.specs.Parts.{Parts, start_of}
-use Rattle.geos_image.specs.Ranges.{PointFits}
-use Rattle.geos_verify.specs.Rows.{bound, branches, falls_through}
+use Rattle.geos_image.specs.Ranges.{PointFits, PotentialFits}
+use Rattle.geos_image.specs.Keys.{branches, falls_through}
+use Rattle.geos_verify.specs.Rows.{bound}
 use Rattle.geos_verify.specs.Potentials.{budget_of, pays_along, pays_branching}
 use Rattle.geos_verify.specs.Rules.{returns, HasPoint}
 use Rattle.geos_verify.specs.Touched.{calls, counts, points_of, touches_here, touches_within, touches, touched_by}
-use Rattle.geos_verify.proofs.Places.{item_at, place_true}
+use Rattle.geos_verify.specs.declared.place.Place.{Place as Known}
+use Rattle.geos_verify.specs.Places.{places}
+use Rattle.geos_verify.proofs.Places.{item_at, place_true, point-of as find-point}
 use Rattle.geos_semantics.specs.Lists.{dot}
 use Rattle.geos_semantics.specs.Theorem.{value}
 use Rattle.geos_semantics.proofs.Leads.{leads-along, leads-branching, may_return, point_at}
@@ -30,7 +33,7 @@ use Rattle.geos_infer.specs.Taken.{Place, Counts, Takes, NoneIsAcceptedPast, tak
 use Rattle.geos_infer.specs.Theorem.{HasAccepted}
 use Rattle.geos_infer.specs.Why.{LeadsTo}
 use Rattle.geos_infer.proofs.Asks.{zero-at, called}
-use Rattle.geos_infer.proofs.Ends.{code-at}
+use Rattle.geos_infer.proofs.Ends.{code-at, place-code-at}
 use Rattle.geos_infer.proofs.Wanted.{along-steps, ends-at, map-get, pays-steps}
 
 -- Potentials and counters
@@ -139,11 +142,11 @@ ends _ = inr (inl refl)
 
 module _ (image : Parts) (has : HasAccepted image) (r : ℕ) (routine : Routine) (there : slice_get has.other.routines r ≡ Some routine) where
   -- an instruction is the same in the image that is accepted
-  same-instr : (pc : ℕ) (old point : Point) → slice_get image.points pc ≡ Some old → slice_get has.other.points pc ≡ Some point → point.instr ≡ old.instr
+  same-instr : (pc : ℕ) (old : Point) (point : Known) → slice_get image.points pc ≡ Some old → slice_get (places has.other) pc ≡ Some point → point.instr ≡ old.instr
   same-instr pc old point read at =
-      same_Some point.instr old.instr (sym (code-at has.other pc point at) ∙ ap (λ (code : List Instr). slice_get code pc) has.same.instrs ∙ code-at image pc old read)
+      same_Some point.instr old.instr (sym (place-code-at has.other pc point at) ∙ ap (λ (code : List Instr). slice_get code pc) has.same.instrs ∙ code-at image pc old read)
 
-  point-of : (pc : ℕ) → IsPcOf image r pc → (point : Point) × HasPoint has.other r routine pc point
+  point-of : (pc : ℕ) → IsPcOf image r pc → (point : Known) × HasPoint has.other r routine pc point
   point-of pc within =
       let low : start_of has.other.routines r ≤ pc = subst (λ (routines : List Routine). start_of routines r ≤ pc) (sym has.same.routines) within.above in
       let high : pc < start_of has.other.routines (r + 1) = subst (λ (routines : List Routine). pc < start_of routines (r + 1)) (sym has.same.routines) within.below in
@@ -156,18 +159,21 @@ module _ (image : Parts) (has : HasAccepted image) (r : ℕ) (routine : Routine)
   calls-same : (i j : Instr) → i ≡ j → call_steps has.other i ≡ call_steps image j
   calls-same i j same = ap (call_steps has.other) same ∙ ap (λ (routines : List Routine). if calls j.opcode then (elim (slice_get routines j.imm) [ None ↦ 0 | Some routine ↦ routine.budget ]) else 0) has.same.routines
 
-  four-at : (pc : ℕ) (point : Point) → slice_get has.other.points pc ≡ Some point → PointFits point
-  four-at pc point read = subst PointFits (get_or_from_slice_get has.other.points pc point point read) (has.fits.points pc point (slice_get_within has.other.points pc point read))
+  four-at : (pc : ℕ) (place : Known) → slice_get (places has.other) pc ≡ Some place → PotentialFits place.potential
+  four-at pc place read =
+      let found = find-point has.other pc place read in
+      let fitting : PointFits found.0 = subst PointFits (get_or_from_slice_get has.other.points pc found.0 found.0 found.1) (has.fits.points pc found.0 (slice_get_within has.other.points pc found.0 found.1)) in
+      subst PotentialFits (sym found.2.potential) fitting.potential
 
   -- what an edge takes is paid for
-  edge-value : (pc to : ℕ) (before after : List ℕ) (point : Point) (branch : Bool) → HasPoint has.other r routine pc point → (leads : LeadsTo image pc branch to) → Counts image leads.point.instr leads.point.instr.opcode branch before after
-      → (next : Point) × HasPoint has.other r routine to next × (value next.potential after + taken_at image pc ≤ value point.potential before)
+  edge-value : (pc to : ℕ) (before after : List ℕ) (point : Known) (branch : Bool) → HasPoint has.other r routine pc point → (leads : LeadsTo image pc branch to) → Counts image leads.point.instr leads.point.instr.opcode branch before after
+      → (next : Known) × HasPoint has.other r routine to next × (value next.potential after + taken_at image pc ≤ value point.potential before)
   edge-value pc to before after point false at leads counts =
       let same = same-instr pc leads.point point leads.there at.read in
       let falls : falls_through point.instr.opcode ≡ true = ap (λ (x : Instr). falls_through x.opcode) same ∙ leads.has in
       let L = leads-along has.other has.checked.0 has.checked.1 r pc routine point at point.instr.opcode refl falls in
       let here = subst (λ (x : Instr). Counts image x x.opcode false before after) (sym same) counts in
-      let paid = along-value image has.other point.instr point.instr.opcode point.row point.potential L.point.potential before after (touches-same image has.other has.same) (four-at (pc + 1) L.point L.has.read).potential.four L.pays here in
+      let paid = along-value image has.other point.instr point.instr.opcode point.row point.potential L.point.potential before after (touches-same image has.other has.same) (four-at (pc + 1) L.point L.has.read).four L.pays here in
       let taken = takes-here pc leads.point leads.there in
       let calls_it = calls-same point.instr leads.point.instr same in
       (L.point, subst (λ (n : ℕ). HasPoint has.other r routine n L.point) leads.leads L.has, omega (arith, paid, taken, calls_it))
@@ -182,8 +188,8 @@ module _ (image : Parts) (has : HasAccepted image) (r : ℕ) (routine : Routine)
       (L.point, subst (λ (n : ℕ). HasPoint has.other r routine n L.point) (ap (λ (x : Instr). x.target) same ∙ leads.leads) L.has, omega (arith, paid, taken, calls_it))
 
   -- what a way takes is
-  way-value : (from to : Place) (places : List Place) (steps : ℕ) (point : Point) → HasPoint has.other r routine from.pc point → Takes image r from places to steps
-      → (next : Point) × HasPoint has.other r routine to.pc next × (value next.potential to.counters + steps ≤ value point.potential from.counters)
+  way-value : (from to : Place) (places : List Place) (steps : ℕ) (point : Known) → HasPoint has.other r routine from.pc point → Takes image r from places to steps
+      → (next : Known) × HasPoint has.other r routine to.pc next × (value next.potential to.counters + steps ≤ value point.potential from.counters)
   way-value from to [] steps point at way =
       (point, subst (λ (p : Place). HasPoint has.other r routine p.pc point) (sym way.0) at, subst (λ (p : Place). value point.potential p.counters + steps ≤ value point.potential from.counters) (sym way.0) (let none = way.1 in omega arith))
   way-value from to (place ∷ places) steps point at way =
@@ -201,9 +207,9 @@ module _ (image : Parts) (has : HasAccepted image) (r : ℕ) (routine : Routine)
   begins-in from to (place ∷ places) steps way within = begins-in from place places way.0 way.1 way.2.within
 
   -- what an instruction takes is paid for, also that of a return
-  instr-paid : (pc : ℕ) (point : Point) → HasPoint has.other r routine pc point → taken_at image pc ≤ point.potential.constant
+  instr-paid : (pc : ℕ) (point : Known) → HasPoint has.other r routine pc point → taken_at image pc ≤ point.potential.constant
   instr-paid pc point at =
-      let old = map-get instr_of image.points pc point.instr (ap (λ (code : List Instr). slice_get code pc) (sym has.same.instrs) ∙ code-at has.other pc point at.read) in
+      let old = map-get instr_of image.points pc point.instr (ap (λ (code : List Instr). slice_get code pc) (sym has.same.instrs) ∙ place-code-at has.other pc point at.read) in
       let taken = takes-here pc old.0 old.1 in
       let calls_it = calls-same point.instr old.0.instr (sym old.2) in
       by_end (call_steps image old.0.instr) taken calls_it (ends point.instr.opcode)
@@ -235,7 +241,7 @@ none-accepted-past image r lt past has =
     let last = way-value image has r there.0 there.1 (record { pc = past.from; counters = zeros }) past.end past.places past.before first.0 first.1 past.way in
     let paid = instr-paid image has r there.0 there.1 past.end.pc last.0 last.1 in
     let none : dot first.0.potential.coefficients zeros ≡ 0 = dot-zeros first.0.potential.coefficients zeros zero-at in
-    let long = (four-at image has r there.0 there.1 past.from first.0 first.1.read).potential.constant in
+    let long = (four-at image has r there.0 there.1 past.from first.0 first.1.read).constant in
     let before = last.2 in
     let more = past.past in
     absurd (omega arith)

@@ -1,5 +1,5 @@
 -- The rows and numbers of steps of an accepted image hold.
-use Rattle.std.proofs.Common.{◌≡◌, ◌≢◌, ℕ, zero, suc, ◌+◌, ◌*◌, ◌<◌, ◌≤◌, Bool, true, false, List, [], ◌∷◌, length, map, take, ◌-◌, Some, None, slice_get, get_or, refl, sym, ap, ◌∙◌, subst, arith, add-one, inl, inr}
+use Rattle.std.proofs.Common.{◌≡◌, ◌≢◌, ℕ, zero, suc, ◌+◌, ◌*◌, ◌^◌, ◌<◌, ◌≤◌, Bool, true, false, List, [], ◌∷◌, length, map, take, ◌-◌, Some, None, slice_get, get_or, refl, sym, ap, ◌∙◌, subst, arith, add-one, inl, inr}
 use Rattle.std.specs.Prelude.{◌&&◌, nat_le, if◌then◌else◌, slice_index, slice_set, option_map}
 use Rattle.std.proofs.lemmas.Bool.{and_parts, leb-true, cases_lt}
 use Rattle.std.proofs.lemmas.List.{length-map}
@@ -17,25 +17,28 @@ use Rattle.geos_image.specs.Legal.{is_image}
 use Rattle.geos_image.specs.Ranges.{ImageFits, PointFits}
 use Rattle.geos_image.proofs.Instrs.{image_parts}
 use Rattle.geos_image.proofs.Starts.{start_of-next, start_of-le}
+use Rattle.geos_verify.specs.declared.place.Place.{Place}
 use Rattle.geos_verify.specs.Lists.{all2}
-use Rattle.geos_verify.specs.Rows.{branches, fits, bound, row_along, row_branching}
+use Rattle.geos_verify.specs.Places.{places}
+use Rattle.geos_image.specs.Keys.{branches}
+use Rattle.geos_verify.specs.Rows.{fits, bound, row_along, row_branching}
 use Rattle.geos_verify.specs.Potentials.{pays, pays_setting, pays_calling, budget_of, pays_along, pays_branching}
 use Rattle.geos_verify.specs.Touched.{calls, touched_by}
 use Rattle.geos_verify.specs.Rules.{has_place, returns, names_empty_slot, tests, HasPoint, IsChecked}
 use Rattle.geos_verify.proofs.Passed.{passed}
-use Rattle.geos_verify.proofs.Places.{place_bounds, place_true, item_at}
+use Rattle.geos_verify.proofs.Places.{place_bounds, place_true, item_at, places-length, point-of}
 use Rattle.geos_semantics.proofs.Leads.{leads-along, leads-branching, may_return, may_begin, begins-within}
 use Rattle.geos_infer.specs.Code.{Edge, IsPcOf, ClosedIn, Entered, EnteredIn, SameCode, Forward, ForwardIn, instrs_of, instr_of, edge_row}
 use Rattle.geos_infer.specs.Solutions.{RowsHoldIn, StepsHoldIn, call_steps}
 use Rattle.geos_infer.proofs.Bodies.{lies}
-use Rattle.geos_infer.proofs.Ends.{code-length, same-edge}
+use Rattle.geos_infer.proofs.Ends.{code-length, code-place, place-code-at, same-edge}
 use Rattle.geos_infer.proofs.Asks.{called}
 
-abbrev pub row_at : Point → Row
-row_at point = point.row
+abbrev pub row_at : Place → Row
+row_at place = place.row
 
-abbrev pub constant_at : Point → ℕ
-constant_at point = point.potential.constant
+abbrev pub constant_at : Place → ℕ
+constant_at place = place.potential.constant
 
 -- what was mapped
 pub map-get : {X Y : Type 0} (f : X → Y) (xs : List X) (k : ℕ) (y : Y) → slice_get (map f xs) k ≡ Some y → (x : X) × (slice_get xs k ≡ Some x) × (f x ≡ y)
@@ -55,12 +58,12 @@ routine-at (x ∷ routines) pc lt = elim (cases_lt pc x.count) [
       (suc ih.0, ih.1, ih.2, (let low = ih.3 in omega arith), (let high = ih.4 in omega arith))
 ]
 
--- a point is one of a routine's
-pub has-point : (o : Parts) → is_image o ≡ true → (pc : ℕ) (point : Point) → slice_get o.points pc ≡ Some point → (r : ℕ) × (routine : Routine) × HasPoint o r routine pc point
+-- a place is one of a routine's
+pub has-point : (o : Parts) → is_image o ≡ true → (pc : ℕ) (point : Place) → slice_get (places o) pc ≡ Some point → (r : ℕ) × (routine : Routine) × HasPoint o r routine pc point
 has-point o legal pc point read =
     let counts = (image_parts o legal).counts in
-    let lt = slice_get_within o.points pc point read in
-    let at = routine-at o.routines pc (omega arith) in
+    let lt = slice_get_within (places o) pc point read in
+    let at = routine-at o.routines pc (omega (arith, places-length o)) in
     (at.0, at.1, record { there = at.2; within = place_true (start_of o.routines at.0) at.1.count pc at.3 at.4; read = read })
 
 -- a routine ends where the next one begins
@@ -97,41 +100,41 @@ branching-steps image i _ p q ne b h = pays-steps p q h
 
 module _ (o : Parts) (checked : IsChecked o) where
   -- where an edge leads, by the rules
-  row-fits : (pc : ℕ) (branch : Bool) (point next : Point) → slice_get o.points pc ≡ Some point → (to : ℕ) → Edge (instrs_of o) pc branch to point.instr → slice_get o.points to ≡ Some next
+  row-fits : (pc : ℕ) (branch : Bool) (point next : Place) → slice_get (places o) pc ≡ Some point → (to : ℕ) → Edge (instrs_of o) pc branch to point.instr → slice_get (places o) to ≡ Some next
       → fits (edge_row o point.instr branch point.row) next.row ≡ true
   row-fits pc true point next read to edge at =
       let has = has-point o checked.0 pc point read in
       let L = leads-branching o checked.0 checked.1 has.0 pc has.1 point has.2 point.instr.opcode refl edge.has in
-      let same : L.point ≡ next = same_Some L.point next (sym L.has.read ∙ ap (slice_get o.points) edge.leads ∙ at) in
-      subst (λ (x : Point). fits (row_branching point.instr point.instr.opcode point.row) x.row ≡ true) same L.fits
+      let same : L.point ≡ next = same_Some L.point next (sym L.has.read ∙ ap (slice_get (places o)) edge.leads ∙ at) in
+      subst (λ (x : Place). fits (row_branching point.instr point.instr.opcode point.row) x.row ≡ true) same L.fits
   row-fits pc false point next read to edge at =
       let has = has-point o checked.0 pc point read in
       let L = leads-along o checked.0 checked.1 has.0 pc has.1 point has.2 point.instr.opcode refl edge.has in
-      let same : L.point ≡ next = same_Some L.point next (sym L.has.read ∙ ap (slice_get o.points) edge.leads ∙ at) in
-      subst (λ (x : Point). fits (row_along o point.instr point.instr.opcode point.row) x.row ≡ true) same L.fits
+      let same : L.point ≡ next = same_Some L.point next (sym L.has.read ∙ ap (slice_get (places o)) edge.leads ∙ at) in
+      subst (λ (x : Place). fits (row_along o point.instr point.instr.opcode point.row) x.row ≡ true) same L.fits
 
-  step-paid : (pc : ℕ) (branch : Bool) (point next : Point) → slice_get o.points pc ≡ Some point → (to : ℕ) → Edge (instrs_of o) pc branch to point.instr → slice_get o.points to ≡ Some next
+  step-paid : (pc : ℕ) (branch : Bool) (point next : Place) → slice_get (places o) pc ≡ Some point → (to : ℕ) → Edge (instrs_of o) pc branch to point.instr → slice_get (places o) to ≡ Some next
       → point.instr.opcode ≢ Loop → next.potential.constant + 1 + call_steps o point.instr ≤ point.potential.constant
   step-paid pc true point next read to edge at ne =
       let has = has-point o checked.0 pc point read in
       let L = leads-branching o checked.0 checked.1 has.0 pc has.1 point has.2 point.instr.opcode refl edge.has in
-      let same : L.point ≡ next = same_Some L.point next (sym L.has.read ∙ ap (slice_get o.points) edge.leads ∙ at) in
-      subst (λ (x : Point). x.potential.constant + 1 + call_steps o point.instr ≤ point.potential.constant) same (branching-steps o point.instr point.instr.opcode point.potential L.point.potential ne edge.has L.pays)
+      let same : L.point ≡ next = same_Some L.point next (sym L.has.read ∙ ap (slice_get (places o)) edge.leads ∙ at) in
+      subst (λ (x : Place). x.potential.constant + 1 + call_steps o point.instr ≤ point.potential.constant) same (branching-steps o point.instr point.instr.opcode point.potential L.point.potential ne edge.has L.pays)
   step-paid pc false point next read to edge at ne =
       let has = has-point o checked.0 pc point read in
       let L = leads-along o checked.0 checked.1 has.0 pc has.1 point has.2 point.instr.opcode refl edge.has in
-      let same : L.point ≡ next = same_Some L.point next (sym L.has.read ∙ ap (slice_get o.points) edge.leads ∙ at) in
-      subst (λ (x : Point). x.potential.constant + 1 + call_steps o point.instr ≤ point.potential.constant) same (along-steps o point.instr point.instr.opcode point.row point.potential L.point.potential L.pays)
+      let same : L.point ≡ next = same_Some L.point next (sym L.has.read ∙ ap (slice_get (places o)) edge.leads ∙ at) in
+      subst (λ (x : Place). x.potential.constant + 1 + call_steps o point.instr ≤ point.potential.constant) same (along-steps o point.instr point.instr.opcode point.row point.potential L.point.potential L.pays)
 
   -- the edge of the instruction of a point
-  edge-of : (pc to : ℕ) (branch : Bool) (i : Instr) (point : Point) → slice_get o.points pc ≡ Some point → Edge (instrs_of o) pc branch to i → (i ≡ point.instr) × Edge (instrs_of o) pc branch to point.instr
+  edge-of : (pc to : ℕ) (branch : Bool) (i : Instr) (point : Place) → slice_get (places o) pc ≡ Some point → Edge (instrs_of o) pc branch to i → (i ≡ point.instr) × Edge (instrs_of o) pc branch to point.instr
   edge-of pc to branch i point read edge =
-      let here : slice_get (instrs_of o) pc ≡ Some point.instr = slice_get-map instr_of o.points pc ∙ ap (option_map instr_of) read in
+      let here : slice_get (instrs_of o) pc ≡ Some point.instr = place-code-at o pc point read in
       let same : i ≡ point.instr = same_Some i point.instr (sym edge.read ∙ here) in
       (same, subst (λ x. Edge (instrs_of o) pc branch to x) same edge)
 
   module _ (r : ℕ) (routine : Routine) (there : slice_get o.routines r ≡ Some routine) where
-    has-place : (pc : ℕ) (point : Point) → IsPcOf o r pc → slice_get o.points pc ≡ Some point → HasPoint o r routine pc point
+    has-place : (pc : ℕ) (point : Place) → IsPcOf o r pc → slice_get (places o) pc ≡ Some point → HasPoint o r routine pc point
     has-place pc point within read =
         let end = ends-at o.routines r routine there in
         record { there = there; within = place_true (start_of o.routines r) routine.count pc within.above (let below = within.below in omega arith); read = read }
@@ -139,13 +142,13 @@ module _ (o : Parts) (checked : IsChecked o) where
     -- no edge leaves the routine
     stays-inside : ClosedIn o r
     stays-inside pc to branch i within edge =
-        let point = map-get instr_of o.points pc i edge.read in
+        let point = code-place o pc i edge.read in
         let e = edge-of pc to branch i point.0 point.1 edge in
         let end = ends-at o.routines r routine there in
         let place = place_bounds (start_of o.routines r) routine.count to (leads branch point.0 (has-place pc point.0 within point.1) e.1) in
         omega (arith, place.1)
       where
-        leads : (branch : Bool) (point : Point) → HasPoint o r routine pc point → Edge (instrs_of o) pc branch to point.instr → has_place (start_of o.routines r) routine.count to ≡ true
+        leads : (branch : Bool) (point : Place) → HasPoint o r routine pc point → Edge (instrs_of o) pc branch to point.instr → has_place (start_of o.routines r) routine.count to ≡ true
         leads true point has e =
             let L = leads-branching o checked.0 checked.1 r pc routine point has point.instr.opcode refl e.has in
             let P : ℕ → Type 0 = λ n. has_place (start_of o.routines r) routine.count n ≡ true in
@@ -155,43 +158,43 @@ module _ (o : Parts) (checked : IsChecked o) where
             let P : ℕ → Type 0 = λ n. has_place (start_of o.routines r) routine.count n ≡ true in
             subst P e.leads L.has.within
 
-    rows-hold : RowsHoldIn o r (map row_at o.points)
+    rows-hold : RowsHoldIn o r (map row_at (places o))
     rows-hold = record {
-      len = length-map o.points row_at ∙ sym (code-length o);
+      len = length-map (places o) row_at ∙ places-length o ∙ sym (code-length o);
       closed = stays-inside;
-      entry = λ other row at_r at. entry_ other row at_r (map-get row_at o.points (start_of o.routines r) row at);
-      edges = λ pc to branch i row next within edge at there. edges_ pc to branch i row next edge (map-get row_at o.points pc row at) (map-get row_at o.points to next there);
-      clean = λ pc row within at. clean_ pc row (map-get row_at o.points pc row at);
+      entry = λ other row at_r at. entry_ other row at_r (map-get row_at (places o) (start_of o.routines r) row at);
+      edges = λ pc to branch i row next within edge at there. edges_ pc to branch i row next edge (map-get row_at (places o) pc row at) (map-get row_at (places o) to next there);
+      clean = λ pc row within at. clean_ pc row (map-get row_at (places o) pc row at);
     }
       where
-        entry_ : (other : Routine) (row : Row) → slice_get o.routines r ≡ Some other → (point : Point) × (slice_get o.points (start_of o.routines r) ≡ Some point) × (row_at point ≡ row) → fits other.entry row ≡ true
+        entry_ : (other : Routine) (row : Row) → slice_get o.routines r ≡ Some other → (point : Place) × (slice_get (places o) (start_of o.routines r) ≡ Some point) × (row_at point ≡ row) → fits other.entry row ≡ true
         entry_ other row at_r (point, read, is) =
             let has : HasPoint o r other (start_of o.routines r) point = record { there = at_r; within = begins-within o checked.0 r other at_r; read = read } in
             subst (λ (x : Row). fits other.entry x ≡ true) is ((may_begin o checked.0 checked.1 r (start_of o.routines r) other point has refl).0)
 
-        edges_ : (pc to : ℕ) (branch : Bool) (i : Instr) (row next : Row) → Edge (instrs_of o) pc branch to i → (point : Point) × (slice_get o.points pc ≡ Some point) × (row_at point ≡ row)
-            → (point : Point) × (slice_get o.points to ≡ Some point) × (row_at point ≡ next) → fits (edge_row o i branch row) next ≡ true
+        edges_ : (pc to : ℕ) (branch : Bool) (i : Instr) (row next : Row) → Edge (instrs_of o) pc branch to i → (point : Place) × (slice_get (places o) pc ≡ Some point) × (row_at point ≡ row)
+            → (point : Place) × (slice_get (places o) to ≡ Some point) × (row_at point ≡ next) → fits (edge_row o i branch row) next ≡ true
         edges_ pc to branch i row next edge (point, read, is) (other, at, next_is) =
             let e = edge-of pc to branch i point read edge in
             let k = row-fits pc branch point other read to e.1 at in
             subst (λ (x : Instr). fits (edge_row o x branch row) next ≡ true) (sym e.0)
             (subst (λ (x : Row). fits (edge_row o point.instr branch x) next ≡ true) is (subst (λ (x : Row). fits (edge_row o point.instr branch point.row) x ≡ true) next_is k))
 
-        clean_ : (pc : ℕ) (row : Row) → (point : Point) × (slice_get o.points pc ≡ Some point) × (row_at point ≡ row) → names_empty_slot row ≡ false
+        clean_ : (pc : ℕ) (row : Row) → (point : Place) × (slice_get (places o) pc ≡ Some point) × (row_at point ≡ row) → names_empty_slot row ≡ false
         clean_ pc row (point, read, is) =
             let has = has-point o checked.0 pc point read in
             let all = passed (tests o has.0 has.1 (start_of o.routines has.0) pc point) (checked.1 has.0 pc has.1 point has.2) in
             subst (λ (x : Row). names_empty_slot x ≡ false) is all.1.0
 
-    constant-at : (pc : ℕ) (point : Point) → slice_get o.points pc ≡ Some point → get_or (map constant_at o.points) pc 0 ≡ point.potential.constant
-    constant-at pc point read = get_or_from_slice_get (map constant_at o.points) pc point.potential.constant 0 (slice_get-map constant_at o.points pc ∙ ap (option_map constant_at) read)
+    constant-at : (pc : ℕ) (point : Place) → slice_get (places o) pc ≡ Some point → get_or (map constant_at (places o)) pc 0 ≡ point.potential.constant
+    constant-at pc point read = get_or_from_slice_get (map constant_at (places o)) pc point.potential.constant 0 (slice_get-map constant_at (places o) pc ∙ ap (option_map constant_at) read)
 
-    steps-hold : ((pc : ℕ) (i : Instr) → IsPcOf o r pc → slice_get (instrs_of o) pc ≡ Some i → i.opcode ≢ Loop) → ImageFits o → StepsHoldIn o r (map constant_at o.points)
+    steps-hold : ((pc : ℕ) (i : Instr) → IsPcOf o r pc → slice_get (instrs_of o) pc ≡ Some i → i.opcode ≢ Loop) → ImageFits o → StepsHoldIn o r (map constant_at (places o))
     steps-hold no_loop fit = record {
       closed = stays-inside;
       edges = λ pc to branch i within edge. (
-          let from = map-get instr_of o.points pc i edge.read in
-          let next = item_at o.points to (let inside = stays-inside pc to branch i within edge in let room = lies o checked.0 r routine there in let end = ends-at o.routines r routine there in omega (arith, room.0)) in
+          let from = code-place o pc i edge.read in
+          let next = item_at (places o) to (let inside = stays-inside pc to branch i within edge in let room = lies o checked.0 r routine there in let end = ends-at o.routines r routine there in omega (arith, room.0, places-length o)) in
           let e = edge-of pc to branch i from.0 from.1 edge in
           let ne : from.0.instr.opcode ≢ Loop = no_loop pc from.0.instr within e.1.read in
           let paid = step-paid pc branch from.0 next.0 from.1 to e.1 next.1 ne in
@@ -199,7 +202,7 @@ module _ (o : Parts) (checked : IsChecked o) where
           rw (constant-at pc from.0 from.1, constant-at to next.0 next.1) paid_here
           );
       returns = λ pc i within there is. (
-          let from = map-get instr_of o.points pc i there in
+          let from = code-place o pc i there in
           let has = has-point o checked.0 pc from.0 from.1 in
           rw (constant-at pc from.0 from.1) ((may_return o checked.0 checked.1 has.0 pc has.1 from.0 has.2 (ap (λ (x : Instr). returns x.opcode) from.2 ∙ is)).1)
           );
@@ -208,10 +211,11 @@ module _ (o : Parts) (checked : IsChecked o) where
           let end = ends-at o.routines r routine there in
           let below = within.below in
           let lt : pc < length o.points = omega (arith, room.0) in
-          let point = item_at o.points pc lt in
+          let place = item_at (places o) pc (omega (arith, lt, places-length o)) in
+          let point = point-of o pc place.0 place.1 in
           let fitting : PointFits point.0 = subst PointFits (get_or_from_slice_get o.points pc point.0 point.0 point.1) (fit.points pc point.0 lt) in
-          let long = fitting.potential.constant in
-          rw (constant-at pc point.0 point.1) (omega arith);
+          let long : place.0.potential.constant < 2 ^ 32 = subst (λ (q : Potential). q.constant < 2 ^ 32) (sym point.2.potential) fitting.potential.constant in
+          rw (constant-at pc place.0 place.1) (omega arith);
     }
 
 -- Another image with the same code
@@ -262,13 +266,13 @@ module _ (image o : Parts) (same : SameCode image o) where
     pub closed-wanted : ClosedIn image r
     closed-wanted = closed-here r (stays-inside o checked r routine at-other)
 
-    pub rows-wanted : RowsHoldIn image r (map row_at o.points)
-    rows-wanted = rows-here r (map row_at o.points) (rows-hold o checked r routine at-other)
+    pub rows-wanted : RowsHoldIn image r (map row_at (places o))
+    rows-wanted = rows-here r (map row_at (places o)) (rows-hold o checked r routine at-other)
 
-    pub steps-wanted : Forward image → ImageFits o → StepsHoldIn image r (map constant_at o.points)
+    pub steps-wanted : Forward image → ImageFits o → StepsHoldIn image r (map constant_at (places o))
     steps-wanted forward fit =
         let no_loop : (pc : ℕ) (i : Instr) → IsPcOf o r pc → slice_get (instrs_of o) pc ≡ Some i → i.opcode ≢ Loop = λ pc i within read. forward.no_loop pc i (ap (λ (code : List Instr). slice_get code pc) (sym same.instrs) ∙ read) in
-        steps-here r (map constant_at o.points) (steps-hold o checked r routine at-other no_loop fit)
+        steps-here r (map constant_at (places o)) (steps-hold o checked r routine at-other no_loop fit)
 
 -- Code without loops has none in any routine
 

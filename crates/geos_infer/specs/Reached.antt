@@ -2,9 +2,10 @@
 use Rattle.std.specs.Prelude.{◌≡◌, ◌<◌, ◌≤◌, ◌⊎◌, ℕ, Bool, true, false, List, [], ◌∷◌, length, map, Option, Some, slice_get}
 use Rattle.geos_image.specs.declared.instr.Instr.{Instr}
 use Rattle.geos_image.specs.declared.row.Row.{Row}
-use Rattle.geos_image.specs.declared.point.Point.{Point}
 use Rattle.geos_image.specs.declared.routine.Routine.{Routine}
 use Rattle.geos_image.specs.Parts.{Parts, start_of}
+use Rattle.geos_verify.specs.declared.place.Place.{Place}
+use Rattle.geos_verify.specs.Places.{places}
 use Rattle.geos_verify.specs.Rows.{fits}
 use Rattle.geos_verify.specs.Rules.{names_empty_slot, leaves_routine, edge_misfits, HasPoint}
 use Rattle.geos_infer.specs.Code.{Edge, IsPcOf, TargetAhead, instrs_of, edge_row}
@@ -30,13 +31,13 @@ pub record HoldWhereReached (image : Parts) (r : ℕ) (rows : List Row) : Type 0
       → slice_get rows to ≡ Some next → fits (edge_row image i branch row) next ≡ true
   pub clean : (pc : ℕ) (row : Row) → IsPcOf image r pc → slice_get rows pc ≡ Some row → names_empty_slot row ≡ false
 
--- the row of a point
-abbrev pub row_in : Point → Row
-row_in point = point.row
+-- the row that is known at a place
+abbrev pub row_in : Place → Row
+row_in place = place.row
 
 -- the rows of an image, by pc
 abbrev pub rows_of : Parts → List Row
-rows_of image = map row_in image.points
+rows_of image = map row_in (places image)
 
 -- the rows of the image hold wherever control reaches in its routines
 abbrev pub AllHoldWhereReached : Parts → Type 0
@@ -44,17 +45,17 @@ AllHoldWhereReached image = (r : ℕ) → r < length image.routines → HoldWher
 
 -- What the verifier says of such rows
 
--- what the rules on rows ask of the point at a pc of routine r: no pointer leads into an empty slot; where the routine begins,
+-- what the rules on rows ask of the place at a pc of routine r: no pointer leads into an empty slot; where the routine begins,
 -- its entry row fits the row; and where no edge leaves the routine, the row after each edge fits the row there
-pub record RowRulesPass (image : Parts) (r : ℕ) (routine : Routine) (pc : ℕ) (point : Point) : Type 0 where
-  pub clean : names_empty_slot point.row ≡ false
-  pub entry : pc ≡ start_of image.routines r → fits routine.entry point.row ≡ true
-  pub edges : leaves_routine routine (start_of image.routines r) pc point.instr ≡ false → edge_misfits image pc point.instr point.row ≡ false
+pub record RowRulesPass (image : Parts) (r : ℕ) (routine : Routine) (pc : ℕ) (place : Place) : Type 0 where
+  pub clean : names_empty_slot place.row ≡ false
+  pub entry : pc ≡ start_of image.routines r → fits routine.entry place.row ≡ true
+  pub edges : leaves_routine routine (start_of image.routines r) pc place.instr ≡ false → edge_misfits image pc place.instr place.row ≡ false
 
 -- where the rows of an image hold, the rules on rows pass wherever control reaches
 abbrev pub RowsThatHoldPass : Type 0
-RowsThatHoldPass = (image : Parts) (r pc : ℕ) (routine : Routine) (point : Point) → HoldWhereReached image r (rows_of image) → IsReached image r pc → HasPoint image r routine pc point
-    → RowRulesPass image r routine pc point
+RowsThatHoldPass = (image : Parts) (r pc : ℕ) (routine : Routine) (place : Place) → HoldWhereReached image r (rows_of image) → IsReached image r pc → HasPoint image r routine pc place
+    → RowRulesPass image r routine pc place
 
 -- What the search finds
 

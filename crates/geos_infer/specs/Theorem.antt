@@ -1,5 +1,5 @@
 -- The rows and potentials that are found are enough wherever some are.
-use Rattle.std.specs.Prelude.{◌<◌, ℕ, List, length}
+use Rattle.std.specs.Prelude.{◌<◌, ℕ, false, List, length}
 use Rattle.geos_image.specs.declared.row.Row.{Row}
 use Rattle.geos_image.specs.declared.point.Point.{Point}
 use Rattle.geos_image.specs.Parts.{Parts}
@@ -10,9 +10,9 @@ use Rattle.geos_infer.specs.declared.error.InferError.TheVariants.{NoRows, Memor
 use Rattle.geos_infer.specs.Code.{SameCode, Forward, ForwardIn}
 use Rattle.geos_infer.specs.Solutions.{RowsHoldIn, StepsHoldIn}
 
--- the image with these points in place of its own
+-- the image that has these points in place of the image's own, and gives all rows
 abbrev pub with_points : Parts → List Point → Parts
-with_points image points = record image { points = points }
+with_points image points = record { keyed = false; routines = image.routines; points = points }
 
 -- some image with the code of this one is accepted, and its numbers fit their fields
 pub record HasAccepted (image : Parts) : Type 0 where

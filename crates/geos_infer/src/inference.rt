@@ -29,7 +29,7 @@ fn points_of(
     for pc in 0..image.len() {
         points.push(Point {
             instr: *image.instr(pc),
-            row: row_of(&known.at(pc)),
+            row: Some(row_of(&known.at(pc))),
             potential: potentials.at(pc),
         })?;
     }
@@ -79,7 +79,7 @@ pub fn infer(alloc: Global, skeleton: &Image) -> Result<Image, InferError>
         points_of(alloc, skeleton, &known, &potentials)?
     };
     let routines = routines_of(alloc, skeleton)?;
-    Ok(Image::of_legal(routines, points))
+    Ok(Image::of_legal(false, routines, points))
 }
 
 /// A law: where the rows of an image hold, the verifier's rules on rows pass wherever control reaches. No
