@@ -6,7 +6,7 @@ use Rattle.std.proofs.lemmas.Bool.{and_parts, ltb-true}
 use Rattle.geos_image.specs.declared.routine.Routine.{Routine}
 use Rattle.geos_image.specs.declared.point.Point.{Point}
 use Rattle.geos_image.specs.Parts.{Parts, total_count}
-use Rattle.geos_image.specs.Legal.{is_name, is_named, is_row, is_instr, is_point, is_routine, are_routines, is_image}
+use Rattle.geos_image.specs.Legal.{is_name, is_named, is_row, is_given, is_instr, is_point, is_routine, are_routines, is_image}
 use Rattle.geos_image.specs.Ranges.{RoutineFits}
 use Rattle.geos_image.proofs.Instrs.{image_parts}
 use Rattle.geos_listing.proofs.Limits.{item_at, get_or-at}
@@ -146,5 +146,5 @@ facts image legal fits =
           subst IsNamed (sym (get_or-at image.routines k at.0 d at.1)) (is.name, is.long);
       routine = here;
       apart = λ i j x s lt e f. lack_at [] image.routines i j x s parts.routines lt e f;
-      instr = λ pc point e. (and_parts (is_instr r n point.instr) (is_row point.row) (test_at (is_point r n) image.points pc point parts.points e)).0;
+      instr = λ pc point e. (and_parts (is_instr r n point.instr) (is_given point.row) (test_at (is_point r n) image.points pc point parts.points e)).0;
     }
