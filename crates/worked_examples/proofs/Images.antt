@@ -1,5 +1,5 @@
 -- The images of the worked examples, by the definitions.
-use Rattle.std.proofs.Common.{ℕ, true, false, List, [], ◌∷◌, replicate}
+use Rattle.std.proofs.Common.{ℕ, true, false, List, [], ◌∷◌, Some, replicate}
 use Rattle.geos_opcodes.specs.declared.opcode.Opcode.{Opcode}
 use Rattle.geos_opcodes.specs.declared.opcode.Opcode.TheVariants.{Ldi, Add, Setk, Loop, Call, Ret, Out}
 use Rattle.geos_image.specs.declared.instr.Instr.{Instr}
@@ -24,11 +24,12 @@ instr opcode a b c imm target = record { opcode = opcode; a = a; b = b; c = c; d
 
 -- an instruction, its row and its potential
 abbrev pub point : Instr → Row → Potential → Point
-point i row potential = record { instr = i; row = row; potential = potential }
+point i row potential = record { instr = i; row = Some row; potential = potential }
 
 -- `LDI w0 2`, `LDI w1 3`, `ADD w0 w0 w1`, `OUT w0 x`, `x: RET`, with a budget
 abbrev pub add : ℕ → Parts
 add budget = record {
+  keyed = false;
   routines = routine (97 ∷ 100 ∷ 100 ∷ replicate 13 0) 5 budget ∷ [];
   points =
       point (instr Ldi 0 0 0 2 0) open_row (potential 5 0)
@@ -43,6 +44,7 @@ add budget = record {
 -- LOOP, and the coefficients of k0 at the OUT and the LOOP
 abbrev pub outputs : ℕ → ℕ → ℕ → Parts
 outputs budget constant k0 = record {
+  keyed = false;
   routines = routine (111 ∷ replicate 15 0) 4 budget ∷ [];
   points =
       point (instr Setk 0 0 0 1024 0) open_row (potential 2052 0)
@@ -56,6 +58,7 @@ outputs budget constant k0 = record {
 -- budgets
 abbrev pub two_and_main : ℕ → ℕ → Parts
 two_and_main of_two of_main = record {
+  keyed = false;
   routines = record (routine (116 ∷ replicate 15 0) 2 of_two) { public = false } ∷ routine (109 ∷ replicate 15 0) 3 of_main ∷ [];
   points =
       point (instr Ldi 0 0 0 2 0) open_row (potential 2 0)
@@ -69,6 +72,7 @@ two_and_main of_two of_main = record {
 -- the same in the other order: `main` calls the routine behind it
 abbrev pub main_and_two : Parts
 main_and_two = record {
+  keyed = false;
   routines = routine (109 ∷ replicate 15 0) 3 5 ∷ record (routine (116 ∷ replicate 15 0) 2 2) { public = false } ∷ [];
   points =
       point (instr Call 0 0 0 1 0) open_row (potential 5 0)
@@ -84,6 +88,7 @@ main_and_two = record {
 -- potential of a constant and the counter's coefficient
 abbrev pub loop_of_calls : ℕ → (ℕ → ℕ → Potential) → Parts
 loop_of_calls k counting = record {
+  keyed = false;
   routines = routine (99 ∷ replicate 15 0) 2 2 ∷ routine (98 ∷ replicate 15 0) 2 4 ∷ routine (109 ∷ replicate 15 0) 4 26 ∷ [];
   points =
       point (instr Setk 0 0 0 0 0) open_row (potential 2 0)

@@ -1,23 +1,24 @@
 -- What the rules say of the worked examples, at each pc.
 use Rattle.std.proofs.Common.{◌≡◌, refl, ℕ, ◌+◌, List, [], ◌∷◌, ◌++◌, take, drop, Option, Some, None}
 use Rattle.geos_image.specs.declared.routine.Routine.{Routine}
-use Rattle.geos_image.specs.declared.point.Point.{Point}
 use Rattle.geos_image.specs.Parts.{Parts}
+use Rattle.geos_verify.specs.declared.place.Place.{Place}
 use Rattle.geos_verify.specs.declared.rule.Rule.{Rule}
 use Rattle.geos_verify.specs.declared.rule.Rule.TheVariants.{CallMisfit, EdgeUnpaid, OverBudget}
+use Rattle.geos_verify.specs.Places.{places}
 use Rattle.geos_verify.specs.Rules.{refusal, leaves_routine, names_empty_slot, entry_misfits, stale_pointer, passes_end, changes_unmarked, locks_into_held, wrong_slot, commits_with_held, call_misfits, exit_misfits, misfits_at, edge_misfits, unpaid_along, unpaid_branching, edge_unpaid, over_budget}
 use Rattle.worked_examples.proofs.Images.{add, outputs, two_and_main, main_and_two, loop_by_k0, loop_by_k1}
 
--- the refusals of a list of points from a pc on, in routine r that begins at start
-abbrev pub judged_from : Parts → ℕ → Routine → ℕ → ℕ → List Point → List (Option Rule)
+-- the refusals at a list of places from a pc on, in routine r that begins at start
+abbrev pub judged_from : Parts → ℕ → Routine → ℕ → ℕ → List Place → List (Option Rule)
 judged_from image r routine start pc [] = []
-judged_from image r routine start pc (point ∷ points) = refusal image r routine start pc point ∷ judged_from image r routine start (pc + 1) points
+judged_from image r routine start pc (place ∷ others) = refusal image r routine start pc place ∷ judged_from image r routine start (pc + 1) others
 
 -- the refusals in the routines from r on, the first of which begins at start
 abbrev pub judged_routines : Parts → ℕ → ℕ → List Routine → List (Option Rule)
 judged_routines image r start [] = []
 judged_routines image r start (routine ∷ routines) =
-    judged_from image r routine start start (take routine.count (drop start image.points)) ++ judged_routines image (r + 1) (start + routine.count) routines
+    judged_from image r routine start start (take routine.count (drop start (places image))) ++ judged_routines image (r + 1) (start + routine.count) routines
 
 -- the refusal at each pc
 abbrev pub judged : Parts → List (Option Rule)

@@ -4,6 +4,7 @@ pub mod BlockImages
 pub mod Spelled
 pub mod Judged
 pub mod JudgedOnBlocks
+pub mod KeyedImages
 pub mod Runs
 pub mod KeptRuns
 pub mod Executed

@@ -3,7 +3,7 @@ use Rattle.std.proofs.Common.{◌≡◌, refl, ℕ, List, [], ◌∷◌, ◌++�
 use Rattle.std.specs.Prelude.{Ok, Err}
 use Rattle.geos_image.specs.Spelling.{spelling}
 use Rattle.geos_image.specs.Legal.{is_name_byte}
-use Rattle.geos_image.specs.Reading.{image_at, header_at, routines_at, routine_at, name_at, count_at, row_at, slot_at, pointer_at, instr_at, fields_at, points_at, entry_at, potential_at}
+use Rattle.geos_image.specs.Reading.{image_at, header_at, routines_at, routine_at, name_at, count_at, row_at, slot_at, pointer_at, instr_at, fields_at, points_at, whole_at, entry_at, potential_at}
 use Rattle.worked_examples.proofs.Images.{add}
 
 abbrev pub bytes : List ℕ
@@ -24,5 +24,5 @@ pub record Spelled : Type 0 where
   pub unused_field : image_at (set bytes 149 1) ≡ Err 149
 
 pub examples : Spelled
-unfolding image_at header_at routines_at routine_at name_at is_name_byte count_at row_at slot_at pointer_at instr_at fields_at points_at entry_at potential_at
+unfolding image_at header_at routines_at routine_at name_at is_name_byte count_at row_at slot_at pointer_at instr_at fields_at points_at whole_at entry_at potential_at
 examples = record { spelled_len = refl; spelled_read = refl; cut_at_0 = refl; cut_at_30 = refl; cut_at_447 = refl; one_byte_more = refl; unused_field = refl }

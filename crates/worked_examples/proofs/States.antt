@@ -26,7 +26,7 @@ unwilling = record { first_room = true; last_room = true; device = true; unsure 
 
 -- the instruction at pc 0 of a routine of nine, of which there is no other
 abbrev pub alone : Instr → Parts
-alone i = record { routines = routine [] 9 9 ∷ []; points = point i open_row (potential 9 0) ∷ [] }
+alone i = record { keyed = false; routines = routine [] 9 9 ∷ []; points = point i open_row (potential 9 0) ∷ [] }
 
 -- no block, and no handle for one
 abbrev pub no_blocks : Memory
