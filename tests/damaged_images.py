@@ -1,10 +1,10 @@
 """Sets each byte of an image to each value, and cuts the image at each length, and compares what the program of `routine_trials` answers
 with a second reading of images: the offset of the first fault, or the first pc and the lowest rule there, or how its public
-routines run on words that are 0, where they do so without blocks.
+routines run on words that are 0, where they do so without blocks. Does the same with the image in version 2.
 
     python3 damaged_images.py PROGRAM SESSION..
 
-Each SESSION is a file that begins with an image.
+Each SESSION is a file that begins with an image of version 1.
 """
 
 import subprocess
@@ -111,6 +111,7 @@ def main():
     program, *paths = sys.argv[1:]
     for path in paths:
         damage(program, image_of(path))
+        damage(program, image_reading.in_version_2(image_of(path)))
 
 
 if __name__ == "__main__":

@@ -133,11 +133,36 @@ def read_routine(data, before):
     return Routine(name, public, start, count, budget, part(read_row, data, 24, 38), part(read_row, data, 62, 38))
 
 
+def keys_of(routines, instrs):
+    """The key places: where routines begin, where labels lead, and behind each JMP and RET."""
+    starts = {routine.start for routine in routines}
+    targets = {i.target for i in instrs if i.has_label}
+    behind = {pc + 1 for pc, i in enumerate(instrs) if i.word in ("JMP", "RET")}
+    return sorted(pc for pc in starts | targets | behind if pc < len(instrs))
+
+
+def read_entry(data):
+    """A row and the potential behind it."""
+    return part(read_row, data, 0, 38), part(read_potential, data, 38, 20)
+
+
+def read_points(data, at, version, routines, instrs):
+    """The rows by pc and the potentials, and where they end."""
+    n = len(instrs)
+    if version == 1:
+        entries = [part(read_entry, data, at + 58 * pc, 58) for pc in range(n)]
+        return {pc: row for pc, (row, _) in enumerate(entries)}, [potential for _, potential in entries], at + 58 * n
+    potentials = [part(read_potential, data, at + 20 * pc, 20) for pc in range(n)]
+    at += 20 * n
+    keys = keys_of(routines, instrs)
+    return {pc: part(read_row, data, at + 38 * k, 38) for k, pc in enumerate(keys)}, potentials, at + 38 * len(keys)
+
+
 def read(data):
     """The image that the bytes spell; a `Fault` where there is none."""
     if data[:4] != b"GRT1":
         raise Fault(0)
-    number(data, 4, 2, 1, 1)
+    version = number(data, 4, 2, 1, 2)
     count = number(data, 6, 2, 1, 32)
     routines = []
     for i in range(count):
@@ -145,14 +170,24 @@ def read(data):
     n = sum(routine.count for routine in routines)
     at = 8 + 100 * count
     instrs = [part(read_instr, data, at + 10 * i, 10, count, n) for i in range(n)]
-    at += 10 * n
-    rows, potentials = [], []
-    for i in range(n):
-        rows.append(part(read_row, data, at + 58 * i, 38))
-        potentials.append(part(read_potential, data, at + 58 * i + 38, 20))
-    if len(data) > at + 58 * n:
-        raise Fault(at + 58 * n)
-    return Image(routines, instrs, rows, potentials)
+    given, potentials, end = read_points(data, at + 10 * n, version, routines, instrs)
+    if len(data) > end:
+        raise Fault(end)
+    image = Image(routines, instrs, [], potentials)
+    for pc in range(n):
+        image.rows.append(given[pc] if pc in given else after(image, instrs[pc - 1], image.rows[pc - 1], False))
+    return image
+
+
+def in_version_2(data):
+    """The bytes of a legal image of version 1 in version 2: the rows at its key places alone."""
+    image = read(data)
+    at = 8 + 100 * len(image.routines)
+    code = at + 10 * len(image.instrs)
+    points = [data[code + 58 * pc : code + 58 * pc + 58] for pc in range(len(image.instrs))]
+    potentials = [point[38:] for point in points]
+    rows = [points[pc][:38] for pc in keys_of(image.routines, image.instrs)]
+    return b"".join([data[:4], (2).to_bytes(2, "little"), data[6:code], *potentials, *rows])
 
 
 def fits(r, s):

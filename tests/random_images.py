@@ -1,6 +1,7 @@
 """Makes random images of a private routine, whose rows are alike but for some numbers and whose potentials fall by one, and compares what the
 program of `routine_trials` answers with a second reading of images. Nearly all are legal, and the rules V2 to V9 and V11 to V13 come up.
-Then images whose rows are just what follows from the row before, or, now and then, a little more.
+Then images whose rows are just what follows from the row before, or, now and then, a little more. Each that is legal is tried in version 2
+too.
 
     python3 random_images.py PROGRAM
 """
@@ -10,7 +11,7 @@ import sys
 from collections import Counter
 
 from damaged_images import Lines
-from image_reading import COUNTS, OPERANDS, PAIRS, after, read_instr, read_row
+from image_reading import COUNTS, OPERANDS, PAIRS, Fault, after, in_version_2, read_instr, read_row
 
 # How many images of either kind.
 IMAGES = 5000
@@ -107,12 +108,21 @@ def tight_image(choices):
     return spell(choices, instrs + returns, map(spell_row, rows + others), [spell_row(rows[0]), spell_row(row)])
 
 
+def give(lines, image):
+    """Tries an image, in version 2 too if it is legal."""
+    lines.give(image)
+    try:
+        lines.give(in_version_2(image))
+    except Fault:
+        pass
+
+
 def main():
     lines = Lines()
     choices = random.Random(1)
     for _ in range(IMAGES):
-        lines.give(random_image(choices))
-        lines.give(tight_image(choices))
+        give(lines, random_image(choices))
+        give(lines, tight_image(choices))
     lines.compare(sys.argv[1])
     print(f"{2 * IMAGES} random images")
     rules = Counter(line.split()[-1] for line in lines.wanted if "rejected at" in line)
