@@ -3,7 +3,8 @@ use Rattle.std.proofs.Common.{◌≡◌, ◌+◌, ◌-◌, ◌<◌, ◌≤◌, �
 use Rattle.std.specs.Prelude.{◌&&◌, ◌||◌, nat_le, nat_lt}
 use Rattle.std.proofs.lemmas.Bool.{and_parts, cases_lt, le-leb, leb-true, lt-ltb, ltb-true}
 use Rattle.std.proofs.lemmas.List.{length-replicate}
-use Rattle.geos_image.specs.declared.point.Point.{Point}
+use Rattle.geos_verify.specs.declared.place.Place.{Place as KnownPlace}
+use Rattle.geos_verify.specs.Places.{places}
 use Rattle.geos_image.specs.Parts.{start_of}
 use Rattle.geos_verify.specs.Rows.{after, has_edge}
 use Rattle.geos_explain.specs.declared.edges.Edge.{Edge}
@@ -56,14 +57,14 @@ module _ (place : Place) (a : ℕ) where
   marked-held marks held pc is = held pc (and_parts (nat_lt pc 4096) (get_or marks pc false) is).1
 
   -- an edge on which an instruction leads on
-  record Leads (from : ℕ) (point : Point) : Type 0 where
+  record Leads (from : ℕ) (point : KnownPlace) : Type 0 where
     branch : Bool
     has : has_edge point.instr branch ≡ true
     alike : comes_alike place from ≡ true
     held : holds (after place.image from point.row branch) a ≡ true
     on : HeldFrom (end_of (record { from = from; branch = branch }) point.instr)
 
-  edge-leads : (marks : List Bool) → AllHeld marks → (from : ℕ) (branch : Bool) (point : Point) → leads_to_marked place a marks (record { from = from; branch = branch }) point ≡ true → Leads from point
+  edge-leads : (marks : List Bool) → AllHeld marks → (from : ℕ) (branch : Bool) (point : KnownPlace) → leads_to_marked place a marks (record { from = from; branch = branch }) point ≡ true → Leads from point
   edge-leads marks held from branch point is =
       let to = end_of (record { from = from; branch = branch }) point.instr in
       let alike = comes_alike place from in
@@ -74,13 +75,13 @@ module _ (place : Place) (a : ℕ) where
       let second = and_parts alike has last.0 in
       record { branch = branch; has = second.1; alike = second.0; held = last.1; on = marked-held marks held to first.0 }
 
-  on-leads : (marks : List Bool) → AllHeld marks → (from : ℕ) (point : Point) → leads_on place a marks from point ≡ true → Leads from point
+  on-leads : (marks : List Bool) → AllHeld marks → (from : ℕ) (point : KnownPlace) → leads_on place a marks from point ≡ true → Leads from point
   on-leads marks held from point is = elim (or_parts (leads_to_marked place a marks (record { from = from; branch = false }) point) (leads_to_marked place a marks (record { from = from; branch = true }) point) is) [
     | inl along ↦ edge-leads marks held from false point along
     | inr aside ↦ edge-leads marks held from true point aside
   ]
 
-  back-held : (marks : List Bool) → AllHeld marks → (from : ℕ) → IsInside place from → (point : Point) → slice_get place.image.points from ≡ Some point → AllHeld (marked_back place a marks from point)
+  back-held : (marks : List Bool) → AllHeld marks → (from : ℕ) → IsInside place from → (point : KnownPlace) → slice_get (places place.image) from ≡ Some point → AllHeld (marked_back place a marks from point)
   back-held marks held from inside point there = by_test (not (is_marked marks from) && holds point.row a && leads_on place a marks from point) refl
     where
       by_test : (b : Bool) → (not (is_marked marks from) && holds point.row a && leads_on place a marks from point) ≡ b → AllHeld (cond b (marked marks from) marks)
@@ -99,9 +100,9 @@ module _ (place : Place) (a : ℕ) where
 
   back_at-held : (marks : List Bool) → AllHeld marks → (from : ℕ) → IsInside place from → AllHeld (marked_back_at place a marks from)
   unfolding marked_back_at
-  back_at-held marks held from inside = by_point (slice_get place.image.points from) refl
+  back_at-held marks held from inside = by_point (slice_get (places place.image) from) refl
     where
-      by_point : (o : Option Point) → slice_get place.image.points from ≡ o → AllHeld (elim o [ None ↦ marks | Some point ↦ marked_back place a marks from point ])
+      by_point : (o : Option KnownPlace) → slice_get (places place.image) from ≡ o → AllHeld (elim o [ None ↦ marks | Some point ↦ marked_back place a marks from point ])
       by_point None e = held
       by_point (Some point) e = back-held marks held from inside point e
 
@@ -127,9 +128,9 @@ module _ (place : Place) (a : ℕ) where
 
   fills-since : (marks : List Bool) → AllHeld marks → (from : ℕ) → IsInside place from → fills_at place a marks from ≡ true → IsSince place a from
   unfolding fills_at
-  fills-since marks held from inside = by_point (slice_get place.image.points from) refl
+  fills-since marks held from inside = by_point (slice_get (places place.image) from) refl
     where
-      by_point : (o : Option Point) → slice_get place.image.points from ≡ o
+      by_point : (o : Option KnownPlace) → slice_get (places place.image) from ≡ o
           → elim o [ None ↦ false | Some point ↦ not (holds point.row a) && leads_on place a marks from point ] ≡ true → IsSince place a from
       by_point None e is = absurd cc
       by_point (Some point) e is =
@@ -209,7 +210,7 @@ module _ (place : Place) (a : ℕ) where
 
   -- ---- All that is so is said
 
-  back-grows : (marks : List Bool) (from : ℕ) (point : Point) → Grows marks (marked_back place a marks from point)
+  back-grows : (marks : List Bool) (from : ℕ) (point : KnownPlace) → Grows marks (marked_back place a marks from point)
   back-grows marks from point = by_test (not (is_marked marks from) && holds point.row a && leads_on place a marks from point)
     where
       by_test : (b : Bool) → Grows marks (cond b (marked marks from) marks)
@@ -218,9 +219,9 @@ module _ (place : Place) (a : ℕ) where
 
   at-grows : (marks : List Bool) (from : ℕ) → Grows marks (marked_back_at place a marks from)
   unfolding marked_back_at
-  at-grows marks from = by_point (slice_get place.image.points from)
+  at-grows marks from = by_point (slice_get (places place.image) from)
     where
-      by_point : (o : Option Point) → Grows marks (elim o [ None ↦ marks | Some point ↦ marked_back place a marks from point ])
+      by_point : (o : Option KnownPlace) → Grows marks (elim o [ None ↦ marks | Some point ↦ marked_back place a marks from point ])
       by_point None = grows-same marks
       by_point (Some point) = back-grows marks from point
 
@@ -232,7 +233,7 @@ module _ (place : Place) (a : ℕ) where
       grows-on marks next (back_round place a next n) (at-grows marks (start + n)) (round-grows next n)
 
   -- an edge on which the slot is held behind it, to a pc that is marked, is one on which its instruction leads on
-  on-there : (marks : List Bool) (from : ℕ) (branch : Bool) (to : ℕ) (point : Point) → end_of (record { from = from; branch = branch }) point.instr ≡ to → to < 4096 → Has marks to
+  on-there : (marks : List Bool) (from : ℕ) (branch : Bool) (to : ℕ) (point : KnownPlace) → end_of (record { from = from; branch = branch }) point.instr ≡ to → to < 4096 → Has marks to
       → comes_alike place from ≡ true → has_edge point.instr branch ≡ true → holds (after place.image from point.row branch) a ≡ true → leads_on place a marks from point ≡ true
   on-there marks from branch to point ends low has alike edge held =
       let mark : is_marked marks (end_of (record { from = from; branch = branch }) point.instr) ≡ true = subst (λ k. is_marked marks k ≡ true) (sym ends) (is-marked marks to low has) in
@@ -244,7 +245,7 @@ module _ (place : Place) (a : ℕ) where
       by_branch false is = or-one (leads_to_marked place a marks (record { from = from; branch = false }) point) (leads_to_marked place a marks (record { from = from; branch = true }) point) (inl is)
       by_branch true is = or-one (leads_to_marked place a marks (record { from = from; branch = false }) point) (leads_to_marked place a marks (record { from = from; branch = true }) point) (inr is)
 
-  back-there : (marks : List Bool) (from : ℕ) (point : Point) → length marks ≡ 4096 → from < 4096 → holds point.row a ≡ true → leads_on place a marks from point ≡ true → Has (marked_back place a marks from point) from
+  back-there : (marks : List Bool) (from : ℕ) (point : KnownPlace) → length marks ≡ 4096 → from < 4096 → holds point.row a ≡ true → leads_on place a marks from point ≡ true → Has (marked_back place a marks from point) from
   back-there marks from point full low held leads = by_mark (is_marked marks from) refl
     where
       by_mark : (b : Bool) → is_marked marks from ≡ b → Has (cond (not b && holds point.row a && leads_on place a marks from point) (marked marks from) marks) from

@@ -4,7 +4,8 @@ use Rattle.std.specs.Prelude.{◌&&◌, ◌==◌, nat_lt, is_some, is_none, if�
 use Rattle.std.specs.Option.{option_or}
 use Rattle.std.proofs.lemmas.Bool.{and_parts, cases_eq, cases_lt, eqb-true}
 use Rattle.std.proofs.lemmas.List.{get_or-set_same, get_or-set_other, set_past}
-use Rattle.geos_image.specs.declared.point.Point.{Point}
+use Rattle.geos_verify.specs.declared.place.Place.{Place as KnownPlace}
+use Rattle.geos_verify.specs.Places.{places}
 use Rattle.geos_image.specs.declared.row.Pointer.{Pointer}
 use Rattle.geos_image.specs.declared.row.SlotState.{SlotState}
 use Rattle.geos_image.specs.Parts.{start_of}
@@ -77,7 +78,7 @@ module _ (place : Place) (p : ℕ) where
       }
       by_test false = found
 
-  behind-known : (edge : Edge) (point : Point) (hint : Option Pointer) → slice_get place.image.points edge.from ≡ Some point → comes_alike place edge.from ≡ true → IsHint place p edge.from hint
+  behind-known : (edge : Edge) (point : KnownPlace) (hint : Option Pointer) → slice_get (places place.image) edge.from ≡ Some point → comes_alike place edge.from ≡ true → IsHint place p edge.from hint
       → (q : Pointer) → behind place.image (record { p = p; hint = hint }) edge point ≡ Some q → Known (end_of edge point.instr) q
   behind-known edge point hint there alike known q e =
       let row = with_hint point.row (record { p = p; hint = hint }) in
@@ -88,7 +89,7 @@ module _ (place : Place) (p : ℕ) where
         | inr some ↦ (edge ∷ some.2.0, (comes, (hint, inr (some.0, some.1, some.2.1), e)))
       ]
 
-  along-found : (arrivals : Arrivals) → Found arrivals → (edge : Edge) (point : Point) → slice_get place.image.points edge.from ≡ Some point → Found (arrived_along place p arrivals edge point)
+  along-found : (arrivals : Arrivals) → Found arrivals → (edge : Edge) (point : KnownPlace) → slice_get (places place.image) edge.from ≡ Some point → Found (arrived_along place p arrivals edge point)
   along-found arrivals found edge point there = by_test (is_stale (arrival arrivals (end_of edge point.instr)) && comes_alike place edge.from) refl
     where
       by_test : (b : Bool) → (is_stale (arrival arrivals (end_of edge point.instr)) && comes_alike place edge.from) ≡ b
@@ -101,9 +102,9 @@ module _ (place : Place) (p : ℕ) where
 
   from-found : (arrivals : Arrivals) → Found arrivals → (from : ℕ) → Found (arrived_from place p arrivals from)
   unfolding arrived_from
-  from-found arrivals found from = by_point (slice_get place.image.points from) refl
+  from-found arrivals found from = by_point (slice_get (places place.image) from) refl
     where
-      by_point : (o : Option Point) → slice_get place.image.points from ≡ o → Found (elim o [
+      by_point : (o : Option KnownPlace) → slice_get (places place.image) from ≡ o → Found (elim o [
         | None ↦ arrivals
         | Some point ↦ arrived_along place p (arrived_along place p arrivals (record { from = from; branch = false }) point) (record { from = from; branch = true }) point
       ])
@@ -155,7 +156,7 @@ module _ (place : Place) (p : ℕ) where
   found-way known reached Entry to found = found
   found-way known reached (Along edge) to found = found.0
 
-  sought-found : (known : Bool) (to : ℕ) (reached : Bool) (edge : Edge) (point : Point) → slice_get place.image.points edge.from ≡ Some point → is_sought place (asked known reached) to edge point ≡ true → IsFound known reached (Along edge) to
+  sought-found : (known : Bool) (to : ℕ) (reached : Bool) (edge : Edge) (point : KnownPlace) → slice_get (places place.image) edge.from ≡ Some point → is_sought place (asked known reached) to edge point ≡ true → IsFound known reached (Along edge) to
   sought-found known to reached edge point there is =
       let ends = end_of edge point.instr == to in
       let comes = agrees reached (is_reached place.image edge.from) in
@@ -175,12 +176,12 @@ module _ (place : Place) (p : ℕ) where
   or-all P None b left right = right
   or-all P (Some way) b left right = left
 
-  along-way : (known : Bool) (to : ℕ) (reached : Bool) (edge : Edge) (point : Point) → slice_get place.image.points edge.from ≡ Some point → AllFound known reached (way_along place (asked known reached) to edge point) to
+  along-way : (known : Bool) (to : ℕ) (reached : Bool) (edge : Edge) (point : KnownPlace) → slice_get (places place.image) edge.from ≡ Some point → AllFound known reached (way_along place (asked known reached) to edge point) to
   along-way known to reached edge point there way e =
       let is = cond-some (is_sought place (asked known reached) to edge point) (Some (Along edge)) way e in
       subst (λ w. IsFound known reached w to) (some-same _ _ is.1) (sought-found known to reached edge point there is.0)
 
-  of-found : (known : Bool) (to : ℕ) (reached : Bool) (from : ℕ) (point : Point) → slice_get place.image.points from ≡ Some point → AllFound known reached (way_of place (asked known reached) to from point) to
+  of-found : (known : Bool) (to : ℕ) (reached : Bool) (from : ℕ) (point : KnownPlace) → slice_get (places place.image) from ≡ Some point → AllFound known reached (way_of place (asked known reached) to from point) to
   of-found known to reached from point there =
       let along : Edge = record { from = from; branch = false } in
       let aside : Edge = record { from = from; branch = true } in
@@ -188,9 +189,9 @@ module _ (place : Place) (p : ℕ) where
 
   at-found : (known : Bool) (to : ℕ) (reached : Bool) (from : ℕ) → AllFound known reached (way_at place (asked known reached) to from) to
   unfolding way_at
-  at-found known to reached from = by_point (slice_get place.image.points from) refl
+  at-found known to reached from = by_point (slice_get (places place.image) from) refl
     where
-      by_point : (o : Option Point) → slice_get place.image.points from ≡ o → AllFound known reached (elim o [ None ↦ None | Some point ↦ way_of place (asked known reached) to from point ]) to
+      by_point : (o : Option KnownPlace) → slice_get (places place.image) from ≡ o → AllFound known reached (elim o [ None ↦ None | Some point ↦ way_of place (asked known reached) to from point ]) to
       by_point None e way is = absurd cc
       by_point (Some point) e way is = of-found known to reached from point e way is
 
@@ -281,7 +282,7 @@ module _ (place : Place) (p : ℕ) where
       by_test true is_stale none = absurd cc
       by_test false is_stale none = is_stale
 
-  along-nowhere : (slot : ℕ) (edge : Edge) (point : Point) → slice_get place.image.points edge.from ≡ Some point → empty_from place.image p edge ≡ Some slot
+  along-nowhere : (slot : ℕ) (edge : Edge) (point : KnownPlace) → slice_get (places place.image) edge.from ≡ Some point → empty_from place.image p edge ≡ Some slot
       → empty_slot (after place.image edge.from point.row edge.branch) p ≡ Some slot
   unfolding empty_from
   along-nowhere slot edge point there e =
@@ -368,7 +369,7 @@ module _ (place : Place) (p : ℕ) where
         end = later;
       }
 
-  by-sound : (trace : Trace) → Sound trace → (edge : Edge) (point : Point) → slice_get place.image.points edge.from ≡ Some point → LacksFrom (end_of edge point.instr) → Sound (back_by place p trace edge point)
+  by-sound : (trace : Trace) → Sound trace → (edge : Edge) (point : KnownPlace) → slice_get (places place.image) edge.from ≡ Some point → LacksFrom (end_of edge point.instr) → Sound (back_by place p trace edge point)
   by-sound trace sound edge point there from = by_lack (lacks_on place p edge point) refl
     where
       by_loss : (comes_alike place edge.from ≡ true) → (has_edge point.instr edge.branch ≡ true) → (is_stale (pointer_at (after place.image edge.from point.row edge.branch) p) ≡ true)
@@ -409,7 +410,7 @@ module _ (place : Place) (p : ℕ) where
           by_loss first.0 first.1 last.1 (loses place.image (hint_at trace p edge.from) edge point) refl
       by_lack false is = sound
 
-  along-sound : (trace : Trace) → Sound trace → (edge : Edge) (point : Point) → slice_get place.image.points edge.from ≡ Some point → Sound (back_along place p trace edge point)
+  along-sound : (trace : Trace) → Sound trace → (edge : Edge) (point : KnownPlace) → slice_get (places place.image) edge.from ≡ Some point → Sound (back_along place p trace edge point)
   unfolding back_along
   along-sound trace sound edge point there = by_test (not trace.found && is_marked trace.passed (end_of edge point.instr)) refl
     where
@@ -423,9 +424,9 @@ module _ (place : Place) (p : ℕ) where
 
   from-sound : (trace : Trace) → Sound trace → (from : ℕ) → Sound (back_from place p trace from)
   unfolding back_from
-  from-sound trace sound from = by_point (slice_get place.image.points from) refl
+  from-sound trace sound from = by_point (slice_get (places place.image) from) refl
     where
-      by_point : (o : Option Point) → slice_get place.image.points from ≡ o → Sound (elim o [
+      by_point : (o : Option KnownPlace) → slice_get (places place.image) from ≡ o → Sound (elim o [
         | None ↦ trace
         | Some point ↦ back_along place p (back_along place p trace (record { from = from; branch = false }) point) (record { from = from; branch = true }) point
       ])

@@ -1,5 +1,5 @@
 -- Explanations without their notes are the listing, or the author's text.
-use Rattle.std.proofs.Common.{◌≡◌, ◌<◌, ◌+◌, inl, inr, ℕ, zero, suc, Bool, true, false, cond, List, [], ◌∷◌, ◌++◌, length, Option, Some, None, slice_get, refl, ap, arith, append_assoc}
+use Rattle.std.proofs.Common.{◌≡◌, ◌<◌, ◌+◌, inl, inr, ℕ, zero, suc, Bool, true, false, cond, List, [], ◌∷◌, ◌++◌, length, Option, Some, None, slice_get, refl, ap, arith, append_assoc, sym, ◌∙◌}
 use Rattle.std.specs.Prelude.{◌&&◌, nat_le, nat_lt, ◌==◌, codes, decimal, All}
 use Rattle.std.proofs.lemmas.Bool.{and_parts}
 use Rattle.std.proofs.lemmas.List.Elements.{All-nil, All-cons}
@@ -7,6 +7,7 @@ use Rattle.std.proofs.lemmas.Bool.Decides.{nat_tests}
 use Rattle.std.specs.Option.{option_map_or}
 use Rattle.std.specs.Str.Lines.{lines}
 use Rattle.geos_image.specs.declared.point.Point.{Point}
+use Rattle.geos_image.specs.declared.instr.Instr.{Instr}
 use Rattle.geos_image.specs.declared.routine.Routine.{Routine}
 use Rattle.geos_image.specs.Parts.{Parts, start_of}
 use Rattle.geos_image.specs.Legal.{is_image}
@@ -17,6 +18,9 @@ use Rattle.geos_verify.specs.declared.rule.Reject.{Reject}
 use Rattle.geos_verify.specs.declared.rule.Rule.{Rule}
 use Rattle.geos_verify.specs.declared.rule.Rule.TheVariants.{LeavesRoutine, NamesEmptySlot, EntryMisfit, StalePointer, PassesEnd, ChangesUnmarked, LocksIntoHeld, WrongSlot, CommitsHeld, CallMisfit, ExitMisfit, EdgeMisfit, EdgeUnpaid, OverBudget}
 use Rattle.geos_verify.proofs.Places.{item_at}
+use Rattle.geos_verify.specs.declared.place.Place.{Place as KnownPlace}
+use Rattle.geos_verify.specs.Places.{places}
+use Rattle.geos_verify.proofs.Places.{places-length, place-at, point-of}
 use Rattle.geos_explain.specs.Places.{Place, Explained, place_at}
 use Rattle.geos_explain.specs.Notes.{where_text, note_head, known_here, potential_text, note}
 use Rattle.geos_explain.specs.Words.{words, refusal_head, refusal_line}
@@ -91,25 +95,39 @@ noted-note reject place =
 -- what is said of the instruction of routine r at a pc
 note_at : Explained → ℕ → ℕ → List ℕ
 note_at explained r pc =
-    option_map_or (λ routine. option_map_or (λ point. noted explained.reject (place_at explained r routine pc point)) (slice_get explained.image.points pc) []) (slice_get explained.image.routines r) []
+    option_map_or (λ routine. option_map_or (λ known. noted explained.reject (place_at explained r routine pc known)) (slice_get (places explained.image) pc) []) (slice_get explained.image.routines r) []
 
 note_at-note : (explained : Explained) (r pc : ℕ) → r < length explained.image.routines → pc < length explained.image.points → IsNote (note_at explained r pc)
 unfolding note_at
 note_at-note explained r pc within there =
     let routine = item_at explained.image.routines r within in
-    let point = item_at explained.image.points pc there in
-    rw (routine.1, point.1) (noted-note explained.reject (place_at explained r routine.0 pc point.0))
+    let known = item_at (places explained.image) pc (omega (arith, there, places-length explained.image)) in
+    rw (routine.1, known.1) (noted-note explained.reject (place_at explained r routine.0 pc known.0))
+
+-- where there is no place there is no point
+no-point : (image : Parts) (pc : ℕ) → slice_get (places image) pc ≡ None → slice_get image.points pc ≡ None
+no-point image pc none = by_point (slice_get image.points pc) refl
+  where
+    by_point : (o : Option Point) → slice_get image.points pc ≡ o → slice_get image.points pc ≡ None
+    by_point None e = e
+    by_point (Some point) e =
+        let found = place-at image pc point e in
+        let both : Some found.0 ≡ None = sym found.1 ∙ none in
+        absurd cc
 
 place-with : (explained : Explained) (r pc : ℕ) (routine : Routine) → slice_get explained.image.routines r ≡ Some routine
     → place_text explained r routine pc ≡ place_with (note_at explained r) explained.image pc
 unfolding place_text point_text note_at
-place-with explained r pc routine is = rw is (by_point (slice_get explained.image.points pc))
+place-with explained r pc routine is = rw is (by_place (slice_get (places explained.image) pc) refl)
   where
-    by_point : (o : Option Point) → label_line explained.image.points pc ++ option_map_or (λ point. point_text explained.reject (place_at explained r routine pc point)) o []
+    by_place : (o : Option KnownPlace) → slice_get (places explained.image) pc ≡ o
+        → label_line explained.image.points pc ++ option_map_or (λ known. point_text explained.reject (place_at explained r routine pc known)) o []
         ≡ label_line explained.image.points pc ++ option_map_or (λ point. instr_code explained.image.routines point.instr
-        ++ option_map_or (λ told. noted explained.reject (place_at explained r routine pc told)) o []) o []
-    by_point None = refl
-    by_point (Some point) = refl
+        ++ option_map_or (λ known. noted explained.reject (place_at explained r routine pc known)) o []) (slice_get explained.image.points pc) []
+    by_place None e = rw (no-point explained.image pc e) refl
+    by_place (Some known) e =
+        let found = point-of explained.image pc known e in
+        rw found.1 (ap (λ (i : Instr). label_line explained.image.points pc ++ (instr_code explained.image.routines i ++ noted explained.reject (place_at explained r routine pc known))) found.2.instr)
 
 routine-with : (explained : Explained) (r : ℕ) → numbered_routine explained r ≡ numbered_with (note_at explained r) explained.image r
 routine-with explained r = by_routine (slice_get explained.image.routines r) refl
@@ -161,8 +179,8 @@ noted_at-note explained pc legal there =
     let image = explained.image in
     let last = last-begun image pc (length image.routines) ((image_parts image legal).some) in
     let routine = item_at image.routines last.0 last.2 in
-    let point = item_at image.points pc there in
-    rw (last.1, noted_at, routine.1, noted_of, point.1, noted_in) (noted-note explained.reject (place_at explained last.0 routine.0 pc point.0))
+    let known = item_at (places image) pc (omega (arith, there, places-length image)) in
+    rw (last.1, noted_at, routine.1, noted_of, known.1, noted_in) (noted-note explained.reject (place_at explained last.0 routine.0 pc known.0))
 
 -- behind a line stand its end or a note
 line-behind : (explained : Explained) (pc number : ℕ) → is_image explained.image ≡ true → IsBehind (behind_line explained pc number)

@@ -13,7 +13,8 @@ use Rattle.geos_image.specs.Parts.{Parts, start_of}
 use Rattle.geos_image.specs.Legal.{is_image}
 use Rattle.geos_image.proofs.Instrs.{image_parts, instr_fits}
 use Rattle.geos_image.proofs.Starts.{start_of-end}
-use Rattle.geos_verify.specs.Rows.{is_label, has_edge}
+use Rattle.geos_image.specs.Keys.{is_label}
+use Rattle.geos_verify.specs.Rows.{has_edge}
 use Rattle.geos_verify.proofs.Places.{item_at}
 use Rattle.geos_explain.specs.declared.edges.Edge.{Edge}
 use Rattle.geos_explain.specs.Edges.{end_of, are_in_one, takes}

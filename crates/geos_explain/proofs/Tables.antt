@@ -4,7 +4,8 @@ use Rattle.std.specs.Prelude.{◌==◌, ◌&&◌, nat_lt}
 use Rattle.std.specs.Option.{option_or}
 use Rattle.std.proofs.lemmas.Bool.{cases_eq, eq-eqb, eqb-true, lt-ltb}
 use Rattle.std.proofs.lemmas.List.{get_or-set_same, get_or-set_other}
-use Rattle.geos_image.specs.declared.point.Point.{Point}
+use Rattle.geos_verify.specs.declared.place.Place.{Place as KnownPlace}
+use Rattle.geos_verify.specs.Places.{places}
 use Rattle.geos_image.specs.declared.row.Pointer.{Pointer}
 use Rattle.geos_image.specs.Parts.{start_of}
 use Rattle.geos_verify.specs.Rows.{is_stale}
@@ -28,7 +29,7 @@ or-or None b c = refl
 or-or (Some x) b c = refl
 
 -- an edge is no way to where it does not lead
-along-other : (place : Place) (sought : Sought) (edge : Edge) (point : Point) (to : ℕ) → to ≢ end_of edge point.instr → way_along place sought to edge point ≡ None
+along-other : (place : Place) (sought : Sought) (edge : Edge) (point : KnownPlace) (to : ℕ) → to ≢ end_of edge point.instr → way_along place sought to edge point ≡ None
 along-other place sought edge point to ne = by_test (end_of edge point.instr == to) refl
   where
     by_test : (b : Bool) → (end_of edge point.instr == to) ≡ b → cond (b && is_as_sought place sought edge point) (Some (Along edge)) None ≡ None
@@ -36,7 +37,7 @@ along-other place sought edge point to ne = by_test (end_of edge point.instr == 
     by_test false is = refl
 
 -- an edge that is not sought is no way
-pub along-not : (place : Place) (sought : Sought) (edge : Edge) (point : Point) (to : ℕ) → is_as_sought place sought edge point ≡ false → way_along place sought to edge point ≡ None
+pub along-not : (place : Place) (sought : Sought) (edge : Edge) (point : KnownPlace) (to : ℕ) → is_as_sought place sought edge point ≡ false → way_along place sought to edge point ≡ None
 along-not place sought edge point to is = rw is (by_test (end_of edge point.instr == to))
   where
     by_test : (b : Bool) → cond (b && false) (Some (Along edge)) None ≡ None
@@ -44,11 +45,11 @@ along-not place sought edge point to is = rw is (by_test (end_of edge point.inst
     by_test false = refl
 
 -- an edge that is sought is a way to where it leads
-along-here : (place : Place) (sought : Sought) (edge : Edge) (point : Point) → is_as_sought place sought edge point ≡ true → way_along place sought (end_of edge point.instr) edge point ≡ Some (Along edge)
+along-here : (place : Place) (sought : Sought) (edge : Edge) (point : KnownPlace) → is_as_sought place sought edge point ≡ true → way_along place sought (end_of edge point.instr) edge point ≡ Some (Along edge)
 along-here place sought edge point is = rw (eq-eqb (end_of edge point.instr) (end_of edge point.instr) refl, is) refl
 
 -- an edge is noted where none was before
-pub noted-new : (place : Place) (sought : Sought) (ways : List (Option Way)) (edge : Edge) (point : Point) → is_as_sought place sought edge point ≡ true
+pub noted-new : (place : Place) (sought : Sought) (ways : List (Option Way)) (edge : Edge) (point : KnownPlace) → is_as_sought place sought edge point ≡ true
     → get_or ways (end_of edge point.instr) None ≡ None → end_of edge point.instr < length ways → (to : ℕ)
     → get_or (set ways (end_of edge point.instr) (Some (Along edge))) to None ≡ option_or (get_or ways to None) (way_along place sought to edge point)
 noted-new place sought ways edge point is none within to =
@@ -65,13 +66,13 @@ noted-new place sought ways edge point is none within to =
     ]
 
 -- one that is not sought is not
-pub noted-not : (place : Place) (sought : Sought) (ways : List (Option Way)) (edge : Edge) (point : Point) (to : ℕ) → is_as_sought place sought edge point ≡ false
+pub noted-not : (place : Place) (sought : Sought) (ways : List (Option Way)) (edge : Edge) (point : KnownPlace) (to : ℕ) → is_as_sought place sought edge point ≡ false
     → get_or ways to None ≡ option_or (get_or ways to None) (way_along place sought to edge point)
 noted-not place sought ways edge point to is =
     sym (ap (λ o. option_or (get_or ways to None) o) (along-not place sought edge point to is) ∙ or-none (get_or ways to None))
 
 -- nor is one behind another
-pub noted-old : (place : Place) (sought : Sought) (ways : List (Option Way)) (edge : Edge) (point : Point) (to : ℕ) (way : Way) → get_or ways (end_of edge point.instr) None ≡ Some way
+pub noted-old : (place : Place) (sought : Sought) (ways : List (Option Way)) (edge : Edge) (point : KnownPlace) (to : ℕ) (way : Way) → get_or ways (end_of edge point.instr) None ≡ Some way
     → get_or ways to None ≡ option_or (get_or ways to None) (way_along place sought to edge point)
 noted-old place sought ways edge point to way some = elim (cases_eq to (end_of edge point.instr)) [
   | inl same ↦
@@ -81,7 +82,7 @@ noted-old place sought ways edge point to way some = elim (cases_eq to (end_of e
 ]
 
 -- nor one that leads past the end of an image
-pub noted-past : (place : Place) (sought : Sought) (ways : List (Option Way)) (edge : Edge) (point : Point) (to : ℕ) → to < 4096 → 4096 ≤ end_of edge point.instr
+pub noted-past : (place : Place) (sought : Sought) (ways : List (Option Way)) (edge : Edge) (point : KnownPlace) (to : ℕ) → to < 4096 → 4096 ≤ end_of edge point.instr
     → get_or ways to None ≡ option_or (get_or ways to None) (way_along place sought to edge point)
 noted-past place sought ways edge point to within past =
     let ne : to ≢ end_of edge point.instr = λ same. omega arith in
@@ -107,7 +108,7 @@ below-next P d old new start k so_far here others n above below = elim (cases_eq
   | inr ne ↦ subst (P n) (sym (others n ne)) (so_far n above (omega arith))
 ]
 
-pub at-along : (place : Place) (sought : Sought) (from to : ℕ) (point : Point) (old one new : List (Option Way)) → slice_get place.image.points from ≡ Some point
+pub at-along : (place : Place) (sought : Sought) (from to : ℕ) (point : KnownPlace) (old one new : List (Option Way)) → slice_get (places place.image) from ≡ Some point
     → get_or one to None ≡ option_or (get_or old to None) (way_along place sought to (record { from = from; branch = false }) point)
     → get_or new to None ≡ option_or (get_or one to None) (way_along place sought to (record { from = from; branch = true }) point)
     → get_or new to None ≡ option_or (get_or old to None) (way_at place sought to from)
@@ -117,7 +118,7 @@ at-along place sought from to point old one new there first second =
     let aside = way_along place sought to (record { from = from; branch = true }) point in
     rw (there, way_at) (second ∙ ap (λ o. option_or o aside) first ∙ or-or (get_or old to None) along aside)
 
-pub at-none : (place : Place) (sought : Sought) (from to : ℕ) (ways : List (Option Way)) → slice_get place.image.points from ≡ None → get_or ways to None ≡ option_or (get_or ways to None) (way_at place sought to from)
+pub at-none : (place : Place) (sought : Sought) (from to : ℕ) (ways : List (Option Way)) → slice_get (places place.image) from ≡ None → get_or ways to None ≡ option_or (get_or ways to None) (way_at place sought to from)
 unfolding way_at
 at-none place sought from to ways none = rw (none, way_at) (sym (or-none (get_or ways to None)))
 

@@ -1,34 +1,20 @@
--- What is said of the point at a pc, and of one point after another.
+-- What is said of the place at a pc, and of one place after another.
 use Rattle.std.proofs.Common.{◌≡◌, ◌<◌, ◌≤◌, ℕ, false, List, [], ◌∷◌, ◌++◌, length, length-append, drop, slice_get, Result, refl, sym, ap, ◌∙◌, append_assoc, arith}
 use Rattle.std.specs.Prelude.{IfSome, OnOk, ◌==◌, if◌then◌else◌}
 use Rattle.std.specs.Option.{option_map_or}
 use Rattle.std.proofs.lemmas.Bool.{ne_eqb}
 use Rattle.std.proofs.lemmas.List.{drop_at}
 use Rattle.std.proofs.lemmas.Result.{on_ok_weaker}
-use Rattle.geos_image.specs.declared.instr.Instr.{Instr}
-use Rattle.geos_image.specs.declared.row.Row.{Row}
-use Rattle.geos_image.specs.declared.potential.Potential.{Potential}
-use Rattle.geos_image.specs.declared.point.Point.{Point}
+use Rattle.geos_verify.specs.declared.place.Place.{Place as KnownPlace}
 use Rattle.geos_listing.proofs.Limits.{item_at}
 use Rattle.geos_explain.specs.Places.{Place}
 
--- a place that is made of a point's instruction, its row and its potential
-pub place-of-point : (of : Instr → Row → Potential → Place) (points : List Point) (pc : ℕ) (i : Instr) (row : Row) (p : Potential) → pc < length points
-    → IfSome (slice_get points pc) (λ point. i ≡ point.instr) → IfSome (slice_get points pc) (λ point. row ≡ point.row) → IfSome (slice_get points pc) (λ point. p ≡ point.potential)
-    → IfSome (slice_get points pc) (λ point. of i row p ≡ of point.instr point.row point.potential)
-place-of-point of points pc i row p lt is_i is_row is_p =
-    let at = item_at points pc lt in
-    let same_i : i ≡ at.0.instr = rw at.1 at is_i in
-    let same_row : row ≡ at.0.row = rw at.1 at is_row in
-    let same_p : p ≡ at.0.potential = rw at.1 at is_p in
-    rw (at.1, same_i, same_row, same_p) refl
-
--- what is said of a place that is made of the point at a pc
-pub told-at : (tell : Place → List ℕ) (of : Point → Place) (points : List Point) (pc : ℕ) (place : Place) → pc < length points
-    → IfSome (slice_get points pc) (λ point. place ≡ of point)
-    → option_map_or (λ point. tell (of point)) (slice_get points pc) [] ≡ tell place
-told-at tell of points pc place lt is_place =
-    let at = item_at points pc lt in
+-- what is said of a place that is made of what is known at a pc
+pub told-at : (tell : Place → List ℕ) (of : KnownPlace → Place) (all : List KnownPlace) (pc : ℕ) (place : Place) → pc < length all
+    → IfSome (slice_get all pc) (λ known. place ≡ of known)
+    → option_map_or (λ known. tell (of known)) (slice_get all pc) [] ≡ tell place
+told-at tell of all pc place lt is_place =
+    let at = item_at all pc lt in
     let same : place ≡ of at.0 = rw at.1 at is_place in
     rw (at.1, same) refl
 

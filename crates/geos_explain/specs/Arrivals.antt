@@ -1,6 +1,7 @@
 -- What is known of a pointer on some way to each instruction of a routine; the rows say only what holds on all ways.
 use Rattle.std.specs.Prelude.{◌≡◌, ℕ, zero, suc, ◌+◌, replicate, true, false, ◌&&◌, not, nat_lt, if◌then◌else◌, List, Option, Some, None, slice_get, slice_set, slice_index_or}
-use Rattle.geos_image.specs.declared.point.Point.{Point}
+use Rattle.geos_verify.specs.declared.place.Place.{Place as KnownPlace}
+use Rattle.geos_verify.specs.Places.{places}
 use Rattle.geos_image.specs.declared.row.Pointer.{Pointer}
 use Rattle.geos_image.specs.Parts.{Parts, start_of}
 use Rattle.geos_verify.specs.Rows.{pointer_at, is_stale, after, has_edge}
@@ -26,7 +27,7 @@ arrived arrivals pc pointer =
     if nat_lt pc 4096 && not (is_stale pointer) then record arrivals { at = slice_set arrivals.at pc pointer; goes_on = true } else arrivals
 
 -- what is known of a pointer behind an instruction, on an edge that it has
-abbrev pub behind : Parts → Followed → Edge → Point → Option Pointer
+abbrev pub behind : Parts → Followed → Edge → KnownPlace → Option Pointer
 behind image followed edge point =
     if has_edge point.instr edge.branch
     then pointer_at (after image edge.from (with_hint point.row followed) edge.branch) followed.p
@@ -38,7 +39,7 @@ no_behind = record { along = None; aside = None }
 
 -- this is known of a pointer behind the edges of the instruction at a pc, if there is one
 abbrev pub IsBehind : Parts → Followed → ℕ → BothBehind → Type 0
-IsBehind image followed from known = (point : Point) → slice_get image.points from ≡ Some point
+IsBehind image followed from known = (point : KnownPlace) → slice_get (places image) from ≡ Some point
     → (known.along ≡ behind image followed (record { from = from; branch = false }) point)
     × (known.aside ≡ behind image followed (record { from = from; branch = true }) point)
 
@@ -47,7 +48,7 @@ pub record AreBehind (place : Place) (p : ℕ) (arrivals : Arrivals) (known : Li
   pub at : (from : ℕ) → IsPcOf place from → IsBehind place.image (record { p = p; hint = arrival arrivals from }) from (slice_index_or known from no_behind)
 
 -- what is known behind an instruction comes to the end of its edge, if nothing did yet
-abbrev pub arrived_along : Place → ℕ → Arrivals → Edge → Point → Arrivals
+abbrev pub arrived_along : Place → ℕ → Arrivals → Edge → KnownPlace → Arrivals
 arrived_along place p arrivals edge point =
     if is_stale (arrival arrivals (end_of edge point.instr)) && comes_alike place edge.from
     then arrived arrivals (end_of edge point.instr) (behind place.image (record { p = p; hint = arrival arrivals edge.from }) edge point)
@@ -55,7 +56,7 @@ arrived_along place p arrivals edge point =
 
 -- the same of both edges of the instruction at a pc, if there is one
 unfoldable pub arrived_from : Place → ℕ → Arrivals → ℕ → Arrivals
-arrived_from place p arrivals from = elim (slice_get place.image.points from) [
+arrived_from place p arrivals from = elim (slice_get (places place.image) from) [
   | None ↦ arrivals
   | Some point ↦ arrived_along place p (arrived_along place p arrivals (record { from = from; branch = false }) point) (record { from = from; branch = true }) point
 ]

@@ -6,6 +6,7 @@ use Rattle.geos_image.specs.Parts.{Parts, start_of}
 use Rattle.geos_listing.specs.Rows.{texts_below, row_line}
 use Rattle.geos_listing.specs.Instrs.{label_line, instr_code}
 use Rattle.geos_listing.specs.Listing.{routine_line}
+use Rattle.geos_verify.specs.Places.{places}
 use Rattle.geos_verify.specs.declared.rule.Reject.{Reject}
 use Rattle.geos_verify.specs.Rules.{Accepted, FirstRefusal}
 use Rattle.geos_explain.specs.Places.{Place, Explained, place_at}
@@ -29,7 +30,7 @@ point_text reject place = instr_code place.image.routines place.i ++ noted rejec
 unfoldable pub place_text : Explained → ℕ → Routine → ℕ → List ℕ
 place_text explained r routine pc =
     label_line explained.image.points pc
-    ++ option_map_or (λ point. point_text explained.reject (place_at explained r routine pc point)) (slice_get explained.image.points pc) []
+    ++ option_map_or (λ known. point_text explained.reject (place_at explained r routine pc known)) (slice_get (places explained.image) pc) []
 
 -- a routine's line, its entry row and its exit row
 unfoldable pub head_text : Routine → List ℕ

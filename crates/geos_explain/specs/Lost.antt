@@ -1,7 +1,8 @@
 -- What is said of a pointer that is not known: where it was lost, where ways meet, that it is not set, and that it comes into an
 -- empty slot.
 use Rattle.std.specs.Prelude.{◌≡◌, ◌⊎◌, ℕ, Bool, true, false, List, [], ◌∷◌, Option, Some, None, slice_get}
-use Rattle.geos_image.specs.declared.point.Point.{Point}
+use Rattle.geos_verify.specs.declared.place.Place.{Place as KnownPlace}
+use Rattle.geos_verify.specs.Places.{places}
 use Rattle.geos_image.specs.declared.row.Pointer.{Pointer}
 use Rattle.geos_image.specs.Parts.{start_of}
 use Rattle.geos_verify.specs.Rows.{pointer_at, is_stale, after, has_edge}
@@ -19,8 +20,8 @@ use Rattle.geos_explain.specs.Trace.{traced}
 
 -- control comes along an edge to a pc, as it comes to the place
 pub record ComesTo (place : Place) (edge : Edge) (to : ℕ) : Type 0 where
-  pub point : Point
-  pub there : slice_get place.image.points edge.from ≡ Some point
+  pub point : KnownPlace
+  pub there : slice_get (places place.image) edge.from ≡ Some point
   pub alike : comes_alike place edge.from ≡ true
   pub has : has_edge point.instr edge.branch ≡ true
   pub ends : end_of edge point.instr ≡ to
@@ -60,8 +61,8 @@ pub record IsLost (place : Place) (p : ℕ) (edge : Edge) : Type 0 where
 
 -- an edge leads to a pc, and behind it the row knows the pointer, or does not, as is said
 pub record LeadsBy (place : Place) (p : ℕ) (known : Bool) (edge : Edge) (to : ℕ) : Type 0 where
-  pub point : Point
-  pub there : slice_get place.image.points edge.from ≡ Some point
+  pub point : KnownPlace
+  pub there : slice_get (places place.image) edge.from ≡ Some point
   pub has : has_edge point.instr edge.branch ≡ true
   pub ends : end_of edge point.instr ≡ to
   pub is : is_as known (pointer_at (after place.image edge.from point.row edge.branch) p) ≡ true
@@ -92,8 +93,8 @@ pub record IsUnset (place : Place) (p : ℕ) : Type 0 where
 
 -- an edge leads to a pc, and behind it the pointer leads into this slot, which is empty
 pub record LeadsNowhere (place : Place) (p slot : ℕ) (edge : Edge) (to : ℕ) : Type 0 where
-  pub point : Point
-  pub there : slice_get place.image.points edge.from ≡ Some point
+  pub point : KnownPlace
+  pub there : slice_get (places place.image) edge.from ≡ Some point
   pub has : has_edge point.instr edge.branch ≡ true
   pub ends : end_of edge point.instr ≡ to
   pub empty : empty_slot (after place.image edge.from point.row edge.branch) p ≡ Some slot

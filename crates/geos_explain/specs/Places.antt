@@ -6,9 +6,9 @@ use Rattle.geos_image.specs.declared.potential.Potential.{Potential}
 use Rattle.geos_image.specs.declared.routine.Routine.{Routine}
 use Rattle.geos_image.specs.Fields.{FieldsFit, CalleeFits}
 use Rattle.geos_image.specs.Legal.{is_image}
-use Rattle.geos_image.specs.declared.point.Point.{Point}
 use Rattle.geos_image.specs.Parts.{Parts, start_of}
 use Rattle.geos_listing.specs.Instrs.{KeepsLimits}
+use Rattle.geos_verify.specs.declared.place.Place.{Place as KnownPlace}
 use Rattle.geos_verify.specs.declared.rule.Reject.{Reject}
 use Rattle.geos_explain.specs.Led.{is_reached}
 use Rattle.geos_explain.specs.declared.place.Place as code
@@ -32,17 +32,17 @@ pub record Explained : Type 0 where
   pub lines : List ℕ
   pub reject : Option Reject
 
--- the place of a point
-abbrev pub place_at : Explained → ℕ → Routine → ℕ → Point → Place
-place_at explained r routine pc point = record {
+-- an instruction with what is known there, as a place that is explained
+abbrev pub place_at : Explained → ℕ → Routine → ℕ → KnownPlace → Place
+place_at explained r routine pc known = record {
   image = explained.image;
   lines = explained.lines;
   r = r;
   routine = routine;
   pc = pc;
-  i = point.instr;
-  row = point.row;
-  potential = point.potential;
+  i = known.instr;
+  row = known.row;
+  potential = known.potential;
 }
 
 -- what the code explains

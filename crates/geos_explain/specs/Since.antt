@@ -1,7 +1,8 @@
 -- Since where a slot is held at a place: from which instructions of its routine, or from the caller, a way leads there on which it
 -- is held all along.
 use Rattle.std.specs.Prelude.{◌≡◌, ℕ, zero, suc, ◌+◌, Bool, true, false, ◌&&◌, ◌||◌, not, nat_lt, if◌then◌else◌, List, [], ◌∷◌, Some, None, length, slice_get}
-use Rattle.geos_image.specs.declared.point.Point.{Point}
+use Rattle.geos_verify.specs.declared.place.Place.{Place as KnownPlace}
+use Rattle.geos_verify.specs.Places.{places}
 use Rattle.geos_image.specs.declared.row.Row.{Row}
 use Rattle.geos_image.specs.Parts.{start_of}
 use Rattle.geos_verify.specs.Rows.{after, has_edge, is_empty, slot_state}
@@ -19,29 +20,29 @@ abbrev pub holds : Row → ℕ → Bool
 holds row a = not (is_empty (slot_state row a))
 
 -- control comes along an edge of an instruction as it comes to the place, and the slot is held behind it
-abbrev pub keeps_along : Place → ℕ → Edge → Point → Bool
+abbrev pub keeps_along : Place → ℕ → Edge → KnownPlace → Bool
 keeps_along place a edge point =
     comes_alike place edge.from && has_edge point.instr edge.branch && holds (after place.image edge.from point.row edge.branch) a
 
 -- the same of an edge to a pc that is marked
-abbrev pub leads_to_marked : Place → ℕ → List Bool → Edge → Point → Bool
+abbrev pub leads_to_marked : Place → ℕ → List Bool → Edge → KnownPlace → Bool
 leads_to_marked place a marks edge point = is_marked marks (end_of edge point.instr) && keeps_along place a edge point
 
 -- the same of one of an instruction's two edges
-abbrev pub leads_on : Place → ℕ → List Bool → ℕ → Point → Bool
+abbrev pub leads_on : Place → ℕ → List Bool → ℕ → KnownPlace → Bool
 leads_on place a marks from point =
     leads_to_marked place a marks (record { from = from; branch = false }) point
     || leads_to_marked place a marks (record { from = from; branch = true }) point
 
 -- an instruction's pc is marked as well, if it is not yet, the slot is held before it, and it leads on so
-abbrev pub marked_back : Place → ℕ → List Bool → ℕ → Point → List Bool
+abbrev pub marked_back : Place → ℕ → List Bool → ℕ → KnownPlace → List Bool
 marked_back place a marks from point =
     if not (is_marked marks from) && holds point.row a && leads_on place a marks from point then marked marks from else marks
 
 -- the same, if there is an instruction
 unfoldable pub marked_back_at : Place → ℕ → List Bool → ℕ → List Bool
 marked_back_at place a marks from =
-    elim (slice_get place.image.points from) [ None ↦ marks | Some point ↦ marked_back place a marks from point ]
+    elim (slice_get (places place.image) from) [ None ↦ marks | Some point ↦ marked_back place a marks from point ]
 
 -- the same of the first n instructions of the routine, the last of them first
 unfoldable pub back_round : Place → ℕ → List Bool → ℕ → List Bool
@@ -60,7 +61,7 @@ held_from place a = back_within place a (length place.image.points)
 
 -- the slot is empty before an instruction, which leads on so
 unfoldable pub fills_at : Place → ℕ → List Bool → ℕ → Bool
-fills_at place a marks from = elim (slice_get place.image.points from) [
+fills_at place a marks from = elim (slice_get (places place.image) from) [
   | None ↦ false
   | Some point ↦ not (holds point.row a) && leads_on place a marks from point
 ]

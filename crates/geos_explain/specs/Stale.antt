@@ -4,7 +4,8 @@ use Rattle.std.specs.List.{concat}
 use Rattle.std.specs.Option.{option_map_or}
 use Rattle.geos_image.specs.declared.instr.Instr.{Instr}
 use Rattle.geos_image.specs.declared.row.Row.{Row}
-use Rattle.geos_image.specs.declared.point.Point.{Point}
+use Rattle.geos_verify.specs.declared.place.Place.{Place as KnownPlace}
+use Rattle.geos_verify.specs.Places.{places}
 use Rattle.geos_image.specs.declared.routine.Routine.{Routine}
 use Rattle.geos_image.specs.Parts.{Parts}
 use Rattle.geos_listing.specs.Instrs.{name_of}
@@ -80,7 +81,7 @@ meeting_item place p None = []
 meeting_item place p (Some m) = meeting_words place p m
 
 -- the instruction at a pc
-unfoldable pub named : List ℕ → ℕ → Point → List ℕ
+unfoldable pub named : List ℕ → ℕ → KnownPlace → List ℕ
 named lines from point = codes "; " ++ word_of point.instr.opcode ++ codes " at" ++ pc_text lines from
 
 -- the name of a routine, if there is one
@@ -113,19 +114,19 @@ use_loss i MovesGroup p b = codes " moves items, and the group behind p" ++ deci
 use_loss i _ p b = codes " leaves p" ++ decimal p ++ codes " stale: fetch it again"
 
 -- how an instruction lost a pointer, at its target or else on the next instruction
-unfoldable pub how_lost : Parts → Followed → Bool → Point → List ℕ
+unfoldable pub how_lost : Parts → Followed → Bool → KnownPlace → List ℕ
 how_lost image followed branch point =
     if forgets point.instr.opcode then call_loss image followed.p point.instr.imm
     else if branch && sets point.instr (uses_of point.instr.opcode).pointer followed.p then refused_loss followed.p
     else use_loss point.instr (uses_of point.instr.opcode).slot followed.p (slot_behind (with_hint point.row followed) followed.p)
 
 -- an instruction lost a pointer on an edge
-unfoldable pub lost_point : Place → Followed → Edge → Point → List ℕ
+unfoldable pub lost_point : Place → Followed → Edge → KnownPlace → List ℕ
 lost_point place followed edge point = named place.lines edge.from point ++ how_lost place.image followed edge.branch point
 
 -- the same, if there is an instruction
 unfoldable pub lost_by : Place → Followed → Edge → List ℕ
-lost_by place followed edge = elim (slice_get place.image.points edge.from) [ None ↦ [] | Some point ↦ lost_point place followed edge point ]
+lost_by place followed edge = elim (slice_get (places place.image) edge.from) [ None ↦ [] | Some point ↦ lost_point place followed edge point ]
 
 -- what a caller may bring, where the caller is a routine
 abbrev pub in_wish : Routine → ℕ → List ℕ

@@ -8,7 +8,7 @@ use Rattle.std.specs.Option.{option_map_or}
 use Rattle.geos_image.specs.declared.routine.Routine.{Routine}
 use Rattle.geos_listing.specs.Rows.{texts_below}
 use Rattle.geos_listing.specs.Instrs.{name_of}
-use Rattle.geos_verify.specs.Rows.{falls_through, branches}
+use Rattle.geos_image.specs.Keys.{falls_through, branches}
 use Rattle.geos_verify.specs.declared.asked.Asked.{Asked}
 use Rattle.geos_verify.specs.Potentials.{asked_along, asked_branching, left_with, is_paid}
 use Rattle.geos_explain.specs.Notes.{steps_text}

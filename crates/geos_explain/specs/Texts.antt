@@ -4,6 +4,7 @@ use Rattle.std.specs.Option.{option_map_or}
 use Rattle.std.specs.Str.Lines.{lines}
 use Rattle.geos_image.specs.declared.routine.Routine.{Routine}
 use Rattle.geos_image.specs.Parts.{Parts, start_of}
+use Rattle.geos_verify.specs.Places.{places}
 use Rattle.geos_verify.specs.declared.rule.Reject.{Reject}
 use Rattle.geos_explain.specs.Places.{Explained, place_at}
 use Rattle.geos_explain.specs.Explanation.{noted}
@@ -16,7 +17,7 @@ last_begun image pc (suc n) = if nat_le (start_of image.routines n) pc then Some
 -- what is said of the instruction at a pc of a routine
 unfoldable pub noted_in : Explained → ℕ → ℕ → Routine → List ℕ
 noted_in explained pc r routine =
-    option_map_or (λ point. noted explained.reject (place_at explained r routine pc point)) (slice_get explained.image.points pc) []
+    option_map_or (λ known. noted explained.reject (place_at explained r routine pc known)) (slice_get (places explained.image) pc) []
 
 -- the same of a routine's number
 unfoldable pub noted_of : Explained → ℕ → ℕ → List ℕ

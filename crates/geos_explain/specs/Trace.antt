@@ -1,7 +1,8 @@
 -- How far a pointer that is not known was followed back: which places were passed, where ways met, and where it was lost.
 use Rattle.std.specs.Prelude.{◌≡◌, ℕ, zero, suc, ◌+◌, true, false, ◌&&◌, not, if◌then◌else◌, Bool, Option, Some, None, is_some, is_none, List, slice_get, slice_index_or}
 use Rattle.std.specs.Option.{option_or}
-use Rattle.geos_image.specs.declared.point.Point.{Point}
+use Rattle.geos_verify.specs.declared.place.Place.{Place as KnownPlace}
+use Rattle.geos_verify.specs.Places.{places}
 use Rattle.geos_image.specs.Parts.{start_of}
 use Rattle.geos_verify.specs.Rows.{pointer_at, is_stale, after, has_edge}
 use Rattle.geos_explain.specs.declared.edges.Edge.{Edge}
@@ -61,7 +62,7 @@ passed place p trace at =
     passed_by trace at (meeting_at known at lost) (end_at place p known at lost)
 
 -- an edge of an instruction, from where control comes as it comes to the place, does not bring the pointer
-abbrev pub lacks_on : Place → ℕ → Edge → Point → Bool
+abbrev pub lacks_on : Place → ℕ → Edge → KnownPlace → Bool
 lacks_on place p edge point =
     comes_alike place edge.from && has_edge point.instr edge.branch
     && is_stale (pointer_at (after place.image edge.from point.row edge.branch) p)
@@ -71,7 +72,7 @@ abbrev pub hint_at : Trace → ℕ → ℕ → Followed
 hint_at trace p from = record { p = p; hint = arrival trace.arrivals from }
 
 -- what a step back along an edge comes to
-abbrev pub back_of : Place → Followed → Edge → Point → Back
+abbrev pub back_of : Place → Followed → Edge → KnownPlace → Back
 back_of place followed edge point =
     if lacks_on place followed.p edge point then if loses place.image followed edge point then Loses else Lacks else Not
 
@@ -81,7 +82,7 @@ no_backs = record { along = Not; aside = Not }
 
 -- this is what steps back along the edges of the instruction at a pc come to, if there is one
 abbrev pub IsBack : Place → Followed → ℕ → Backs → Type 0
-IsBack place followed from backs = (point : Point) → slice_get place.image.points from ≡ Some point
+IsBack place followed from backs = (point : KnownPlace) → slice_get (places place.image) from ≡ Some point
     → (backs.along ≡ back_of place followed (record { from = from; branch = false }) point)
     × (backs.aside ≡ back_of place followed (record { from = from; branch = true }) point)
 
@@ -96,17 +97,17 @@ back_as place p trace edge Loses = record trace { found = true; lost = Some edge
 back_as place p trace edge Lacks = if is_marked trace.passed edge.from then trace else passed place p trace edge.from
 
 -- a step back along an edge
-abbrev pub back_by : Place → ℕ → Trace → Edge → Point → Trace
+abbrev pub back_by : Place → ℕ → Trace → Edge → KnownPlace → Trace
 back_by place p trace edge point = back_as place p trace edge (back_of place (hint_at trace p edge.from) edge point)
 
 -- the same of any edge of an instruction, if it leads to a place that was passed, unless what is looked for was found already
-unfoldable pub back_along : Place → ℕ → Trace → Edge → Point → Trace
+unfoldable pub back_along : Place → ℕ → Trace → Edge → KnownPlace → Trace
 back_along place p trace edge point =
     if not trace.found && is_marked trace.passed (end_of edge point.instr) then back_by place p trace edge point else trace
 
 -- the same of both edges of the instruction at a pc, if there is one
 unfoldable pub back_from : Place → ℕ → Trace → ℕ → Trace
-back_from place p trace from = elim (slice_get place.image.points from) [
+back_from place p trace from = elim (slice_get (places place.image) from) [
   | None ↦ trace
   | Some point ↦ back_along place p (back_along place p trace (record { from = from; branch = false }) point) (record { from = from; branch = true }) point
 ]
@@ -146,7 +147,7 @@ begun place p =
 
 -- a step back along an edge, if there is an instruction
 unfoldable pub aside : Place → ℕ → Trace → Edge → Trace
-aside place p trace edge = elim (slice_get place.image.points edge.from) [ None ↦ trace | Some point ↦ back_by place p trace edge point ]
+aside place p trace edge = elim (slice_get (places place.image) edge.from) [ None ↦ trace | Some point ↦ back_by place p trace edge point ]
 
 -- the same along a way that does not bring the pointer
 abbrev pub aside_by : Place → ℕ → Trace → Way → Trace

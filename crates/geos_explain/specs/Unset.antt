@@ -7,7 +7,7 @@ use Rattle.geos_opcodes.specs.Facts.{facts}
 use Rattle.geos_image.specs.declared.instr.Instr.{Instr}
 use Rattle.geos_image.specs.Parts.{Parts}
 use Rattle.geos_listing.specs.Rows.{texts_below}
-use Rattle.geos_verify.specs.Rows.{falls_through, branches}
+use Rattle.geos_image.specs.Keys.{falls_through, branches}
 use Rattle.geos_explain.specs.Numbers.{pc_text}
 use Rattle.geos_explain.specs.Notes.{budget_words}
 use Rattle.geos_explain.specs.Places.{Place}

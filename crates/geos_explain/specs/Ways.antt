@@ -7,7 +7,8 @@ use Rattle.geos_opcodes.specs.declared.uses.PointerUse.{PointerUse}
 use Rattle.geos_opcodes.specs.declared.uses.PointerUse.TheVariants.{Sets}
 use Rattle.geos_opcodes.specs.Facts.{uses_of}
 use Rattle.geos_image.specs.declared.instr.Instr.{Instr}
-use Rattle.geos_image.specs.declared.point.Point.{Point}
+use Rattle.geos_verify.specs.declared.place.Place.{Place as KnownPlace}
+use Rattle.geos_verify.specs.Places.{places}
 use Rattle.geos_image.specs.declared.row.Row.{Row}
 use Rattle.geos_image.specs.declared.row.Pointer.{Pointer}
 use Rattle.geos_image.specs.declared.routine.Routine.{Routine}
@@ -44,13 +45,13 @@ abbrev pub empty_slot : Row → ℕ → Option ℕ
 empty_slot row p = empty_behind row.slots (pointer_at row p)
 
 -- the same of a pointer behind an instruction, on an edge that it has
-abbrev pub empty_along : Parts → ℕ → Edge → Point → Option ℕ
+abbrev pub empty_along : Parts → ℕ → Edge → KnownPlace → Option ℕ
 empty_along image p edge point =
     if has_edge point.instr edge.branch then empty_slot (after image edge.from point.row edge.branch) p else None
 
 -- the same, if there is an instruction
 unfoldable pub empty_from : Parts → ℕ → Edge → Option ℕ
-empty_from image p edge = elim (slice_get image.points edge.from) [ None ↦ None | Some point ↦ empty_along image p edge point ]
+empty_from image p edge = elim (slice_get (places image) edge.from) [ None ↦ None | Some point ↦ empty_along image p edge point ]
 
 -- the slot that a pointer leads into as a way brings it, if that is empty there
 abbrev pub empty_on : Place → ℕ → Way → Option ℕ
@@ -58,27 +59,27 @@ empty_on place p Entry = empty_slot place.routine.entry p
 empty_on place p (Along edge) = empty_from place.image p edge
 
 -- control comes along the edge of the instruction as is asked, and behind it the pointer is known as is asked
-abbrev pub is_as_sought : Place → Sought → Edge → Point → Bool
+abbrev pub is_as_sought : Place → Sought → Edge → KnownPlace → Bool
 is_as_sought place sought edge point =
     agrees sought.reached (is_reached place.image edge.from) && has_edge point.instr edge.branch
     && is_as sought.known (pointer_at (after place.image edge.from point.row edge.branch) sought.p)
 
 -- the edge of the instruction is a way to a pc that is sought
-abbrev pub is_sought : Place → Sought → ℕ → Edge → Point → Bool
+abbrev pub is_sought : Place → Sought → ℕ → Edge → KnownPlace → Bool
 is_sought place sought to edge point = end_of edge point.instr == to && is_as_sought place sought edge point
 
 -- the way along an edge of the instruction, if it is sought
-abbrev pub way_along : Place → Sought → ℕ → Edge → Point → Option Way
+abbrev pub way_along : Place → Sought → ℕ → Edge → KnownPlace → Option Way
 way_along place sought to edge point = if is_sought place sought to edge point then Some (Along edge) else None
 
 -- the first way of the instruction at a pc that is sought
-abbrev pub way_of : Place → Sought → ℕ → ℕ → Point → Option Way
+abbrev pub way_of : Place → Sought → ℕ → ℕ → KnownPlace → Option Way
 way_of place sought to from point =
     option_or (way_along place sought to (record { from = from; branch = false }) point) (way_along place sought to (record { from = from; branch = true }) point)
 
 -- the same, if there is an instruction
 unfoldable pub way_at : Place → Sought → ℕ → ℕ → Option Way
-way_at place sought to from = elim (slice_get place.image.points from) [ None ↦ None | Some point ↦ way_of place sought to from point ]
+way_at place sought to from = elim (slice_get (places place.image) from) [ None ↦ None | Some point ↦ way_of place sought to from point ]
 
 -- of the first n instructions of the routine, the first way to a pc that is sought
 unfoldable pub first_way : Place → Sought → ℕ → ℕ → Option Way
@@ -150,7 +151,7 @@ makes_stale image p edge i row =
     has_edge i edge.branch && not (is_stale (pointer_at row p)) && is_stale (pointer_at (after image edge.from row edge.branch) p)
 
 -- an instruction loses a pointer on one of its edges: it is a call, or was to set it and was refused, or makes it stale
-abbrev pub loses : Parts → Followed → Edge → Point → Bool
+abbrev pub loses : Parts → Followed → Edge → KnownPlace → Bool
 loses image followed edge point =
     forgets point.instr.opcode
     || (edge.branch && sets point.instr (uses_of point.instr.opcode).pointer followed.p)

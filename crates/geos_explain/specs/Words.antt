@@ -10,7 +10,8 @@ use Rattle.geos_listing.specs.Instrs.{name_of}
 use Rattle.geos_verify.specs.declared.rule.Rule.{Rule}
 use Rattle.geos_verify.specs.declared.rule.Rule.TheVariants.{LeavesRoutine, NamesEmptySlot, EntryMisfit, StalePointer, PassesEnd, ChangesUnmarked, LocksIntoHeld, WrongSlot, CommitsHeld, CallMisfit, ExitMisfit, EdgeMisfit, EdgeUnpaid, OverBudget}
 use Rattle.geos_opcodes.specs.Facts.{uses_of}
-use Rattle.geos_verify.specs.Rows.{falls_through, has_edge, after}
+use Rattle.geos_image.specs.Keys.{falls_through}
+use Rattle.geos_verify.specs.Rows.{has_edge, after}
 use Rattle.geos_verify.specs.Rules.{has_place}
 use Rattle.geos_explain.specs.Places.{Place}
 use Rattle.geos_explain.specs.Unset.{over_words}
@@ -21,6 +22,7 @@ use Rattle.geos_explain.specs.Written.{written_words}
 use Rattle.geos_explain.specs.Uses.{nowhere_words, past_words, unmarked_words, held_words, slot_words}
 use Rattle.geos_explain.specs.Stale.{stale_words}
 use Rattle.geos_explain.specs.Steps.{unpaid_words}
+use Rattle.geos_verify.specs.Places.{places}
 
 -- control leaves the routine
 unfoldable pub leaves_words : Place → List ℕ
@@ -63,7 +65,7 @@ call_here place = call_words place place.i.opcode
 
 -- what the row at a pc wants and another does not say
 unfoldable pub wanted_at : Parts → ℕ → Row → List ℕ
-wanted_at image to row = elim (slice_get image.points to) [ None ↦ [] | Some next ↦ lacking_items row next.row ]
+wanted_at image to row = elim (slice_get (places image) to) [ None ↦ [] | Some next ↦ lacking_items row next.row ]
 
 -- the same at the pc to which the instruction goes along an edge; nothing where it has no such edge
 unfoldable pub wanted_behind : Place → Bool → ℕ → List ℕ

@@ -3,14 +3,15 @@
 ghost use Rattle.std.specs.Prelude.{◌≡◌, ◌≢◌, ◌<◌, ℕ, true, false, Some, slice_get, slice_index_or};
 ghost use Rattle.geos_explain.specs.Places.{IsPlace, place_of, IsPcOf};
 ghost use Rattle.geos_explain.specs.Arrivals.{no_arrivals, arrival, arrived, behind, no_behind, IsBehind, AreBehind, arrived_along, arrived_from, next_arrivals, arrivals_at_entry, all_arrivals};
+ghost use Rattle.geos_verify.specs.Places.{places};
 
 use crate::edges::{Edge, end_of};
+use crate::filled::Filled;
 use crate::place::Place;
-use crate::points::point_at;
 use crate::routines::comes_alike;
 use crate::ways::{Followed, entry_pointer, is_stale, with_hint};
-use geos_image::{Image, Point, Pointer};
-use geos_verify::{after, has_edge, pointer_at};
+use geos_image::Pointer;
+use geos_verify::{Place as KnownPlace, has_edge, pointer_at};
 
 /// What is known of a pointer on some way to each pc.
 #[derive(Clone, Copy)]
@@ -47,13 +48,13 @@ fn arrive(arrivals: &mut Arrivals, pc: usize, pointer: Option<Pointer>)
 }
 
 /// What is known of the pointer behind the instruction, on an edge that it has.
-fn behind(image: &Image, followed: Followed, edge: Edge, point: &Point) -> Option<Pointer>
-    requires { slice_get image.now.points edge.from ≡ Some point.now }
+fn behind(image: &Filled, followed: Followed, edge: Edge, point: &KnownPlace) -> Option<Pointer>
+    requires { slice_get (places image.now) edge.from ≡ Some point.now }
     ensures { result ≡ behind image.now followed edge point.now }
 {
     if has_edge(&point.instr, edge.branch) {
         let row = with_hint(&point.row, followed);
-        pointer_at(&after(image, edge.from, &row, edge.branch), followed.p)
+        pointer_at(&image.behind(edge.from, &row, edge.branch), followed.p)
     } else {
         None
     }
@@ -96,12 +97,12 @@ fn behind_at(behinds: &Behinds, edge: Edge) -> Option<Pointer>
 }
 
 /// What is known behind both edges of the instruction at a pc is noted, if there is one.
-fn note_behind(behinds: &mut Behinds, image: &Image, followed: Followed, from: u16)
+fn note_behind(behinds: &mut Behinds, image: &Filled, followed: Followed, from: u16)
     requires { from < 4096 }
     ensures here { IsBehind image.now followed from (slice_index_or behinds.new from no_behind) }
     ensures others { (pc : ℕ) → pc ≢ from → slice_index_or behinds.new pc no_behind ≡ slice_index_or behinds.old pc no_behind }
 {
-    if let Some(point) = point_at(image, from) {
+    if let Some(point) = image.place(from) {
         let along = Edge {
             from,
             branch: false,
@@ -122,10 +123,10 @@ fn arrive_along(
     place: &Place,
     p: u8,
     edge: Edge,
-    point: &Point,
+    point: &KnownPlace,
 )
     requires place { IsPlace (place_of place.now) }
-    requires there { slice_get place.now.image.now.points edge.from ≡ Some point.now }
+    requires there { slice_get (places place.now.image.now) edge.from ≡ Some point.now }
     requires inside { IsPcOf (place_of place.now) edge.from }
     requires behind { AreBehind (place_of place.now) p arrivals.old behinds.old }
     ensures arrives { arrivals.new ≡ arrived_along (place_of place.now) p arrivals.old edge point.now }
@@ -150,7 +151,7 @@ fn arrive_from(arrivals: &mut Arrivals, behinds: &mut Behinds, place: &Place, p:
     ensures arrives { arrivals.new ≡ arrived_from (place_of place.now) p arrivals.old from }
     ensures behind { AreBehind (place_of place.now) p arrivals.new behinds.new }
 {
-    match point_at(place.image, from) {
+    match place.image.place(from) {
         Some(point) => {
             let along = Edge {
                 from,

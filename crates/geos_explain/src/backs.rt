@@ -3,15 +3,14 @@
 ghost use Rattle.std.specs.Prelude.{◌≡◌, ◌≢◌, ◌<◌, ℕ, true, false, Some, slice_get, slice_index_or};
 ghost use Rattle.geos_explain.specs.Places.{IsPlace, place_of};
 ghost use Rattle.geos_explain.specs.Trace.{lacks_on, back_of, no_backs, IsBack, AreBacks};
+ghost use Rattle.geos_verify.specs.Places.{places};
 
 use crate::arrivals::{Arrivals, arrival};
 use crate::edges::Edge;
 use crate::place::Place;
-use crate::points::point_at;
 use crate::routines::comes_alike;
 use crate::ways::{Followed, is_stale, loses};
-use geos_image::Point;
-use geos_verify::{after, has_edge, pointer_at};
+use geos_verify::{Place as KnownPlace, has_edge, pointer_at};
 
 /// What a step back along an edge comes to.
 #[derive(Clone, Copy)]
@@ -46,18 +45,18 @@ fn none_back() -> AllBacks {
 }
 
 /// Whether control comes along the edge of the instruction as it comes to the place, and does not bring the pointer.
-fn lacks_on(place: &Place, p: u8, edge: Edge, point: &Point) -> bool
-    requires { slice_get place.now.image.now.points edge.from ≡ Some point.now }
+fn lacks_on(place: &Place, p: u8, edge: Edge, point: &KnownPlace) -> bool
+    requires { slice_get (places place.now.image.now) edge.from ≡ Some point.now }
     ensures { result ≡ lacks_on (place_of place.now) p edge point.now }
 {
     comes_alike(place, edge.from)
         && has_edge(&point.instr, edge.branch)
-        && is_stale(pointer_at(&after(place.image, edge.from, &point.row, edge.branch), p))
+        && is_stale(pointer_at(&place.image.behind(edge.from, &point.row, edge.branch), p))
 }
 
 /// What a step back along the edge comes to.
-pub(crate) fn back_of(place: &Place, followed: Followed, edge: Edge, point: &Point) -> Back
-    requires { slice_get place.now.image.now.points edge.from ≡ Some point.now }
+pub(crate) fn back_of(place: &Place, followed: Followed, edge: Edge, point: &KnownPlace) -> Back
+    requires { slice_get (places place.now.image.now) edge.from ≡ Some point.now }
     ensures { result ≡ back_of (place_of place.now) followed edge point.now }
 {
     if !lacks_on(place, followed.p, edge, point) {
@@ -85,7 +84,7 @@ fn note_backs(backs: &mut AllBacks, place: &Place, followed: Followed, from: u16
     ensures here { IsBack (place_of place.now) followed from (slice_index_or backs.new from no_backs) }
     ensures others { (pc : ℕ) → pc ≢ from → slice_index_or backs.new pc no_backs ≡ slice_index_or backs.old pc no_backs }
 {
-    if let Some(point) = point_at(place.image, from) {
+    if let Some(point) = place.image.place(from) {
         let along = Edge {
             from,
             branch: false,

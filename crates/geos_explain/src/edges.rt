@@ -3,7 +3,8 @@
 ghost use Rattle.std.specs.Prelude.{◌≡◌, ◌<◌, length};
 ghost use Rattle.geos_explain.specs.Edges.{end_of, lies_in, are_in_one};
 
-use geos_image::{Image, Instr};
+use crate::filled::Filled;
+use geos_image::Instr;
 
 /// An edge of the instruction at a pc: to its target, or on to the next instruction.
 #[derive(Clone, Copy)]
@@ -24,7 +25,7 @@ pub(crate) fn end_of(edge: Edge, i: &Instr) -> usize
 }
 
 /// Whether the pc is that of an instruction of routine r.
-fn lies_in(image: &Image, r: u16, pc: usize) -> bool
+fn lies_in(image: &Filled, r: u16, pc: usize) -> bool
     requires { r < length image.now.routines }
     ensures { result ≡ lies_in image.now r pc }
 {
@@ -34,7 +35,7 @@ fn lies_in(image: &Image, r: u16, pc: usize) -> bool
 
 /// Whether two pcs are those of instructions of one routine.
 #[tactic(auto, unfolding(crate::specs::Edges::are_in_one))]
-pub(crate) fn are_in_one(image: &Image, pc: usize, other: usize) -> bool
+pub(crate) fn are_in_one(image: &Filled, pc: usize, other: usize) -> bool
     ensures { result ≡ are_in_one image.now pc other (length image.now.routines) }
 {
     let mut both = false;

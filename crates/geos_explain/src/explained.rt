@@ -3,14 +3,14 @@
 ghost use Rattle.std.specs.Prelude.{◌≡◌};
 ghost use Rattle.geos_explain.specs.Led.{reached};
 
+use crate::filled::Filled;
 use crate::led::Marks;
-use geos_image::Image;
 use geos_verify::Reject;
 
 /// An image, and what is to be said of it.
 #[derive(Clone, Copy)]
 pub(crate) struct Explained<'a> {
-    pub image: &'a Image,
+    pub image: &'a Filled<'a>,
     /// The line of each instruction in an author's text; else nothing.
     pub lines: &'a [usize],
     /// What control reaches.

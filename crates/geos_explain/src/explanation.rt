@@ -8,6 +8,7 @@ ghost use Rattle.geos_explain.specs.Places.{IsPlace, explained_of, place_of};
 ghost use Rattle.geos_explain.specs.Explanation.{noted, place_text, head_text, numbered_routine, explanation};
 
 use crate::explained::Explained;
+use crate::filled::Filled;
 use crate::led::reached;
 use crate::notes::put_note;
 use crate::place::Place;
@@ -48,9 +49,9 @@ fn put_place(
     requires targets { MarksTargets within.now.explained.now.image.now.points targets.now }
     ensures { OnOk result (out.new.items ≡ out.old.items ++ place_text (explained_of within.now.explained.now) within.now.r within.now.routine.now pc) }
 {
-    put_label_line(out, within.explained.image, targets, pc)?;
+    put_label_line(out, within.explained.image.image(), targets, pc)?;
     let place = place_at(within, pc);
-    put_code(out, place.image, place.i)?;
+    put_code(out, place.image.image(), place.i)?;
     put_noted(out, within.explained.reject, &place)
 }
 
@@ -114,9 +115,10 @@ pub fn explain(alloc: Global, image: &Image, reject: Option<Reject>) -> Result<V
     ensures { IfOk result (λ text. text.items ≡ explanation image.now reject) }
 {
     let targets = targets_of(image);
-    let marks = reached(image);
+    let filled = Filled::of(alloc, image)?;
+    let marks = reached(&filled);
     let explained = Explained {
-        image,
+        image: &filled,
         lines: &[],
         marks: &marks,
         reject,

@@ -4,13 +4,13 @@ ghost use Rattle.std.specs.Prelude.{◌≡◌, ◌<◌, ℕ, Some, None, slice_g
 ghost use Rattle.std.specs.Option.{option_or};
 ghost use Rattle.geos_explain.specs.Places.{IsPlace, place_of};
 ghost use Rattle.geos_explain.specs.Ways.{no_ways, sought_of, elsewhere, way_along, way_at, FirstWays, AreFirsts, way_to, bringing, losing};
+ghost use Rattle.geos_verify.specs.Places.{places};
 
 use crate::edges::{Edge, end_of};
 use crate::led::is_reached;
 use crate::place::Place;
-use crate::points::point_at;
 use crate::ways::{Sought, Way, entry_pointer, is_as, is_as_sought};
-use geos_image::Point;
+use geos_verify::Place as KnownPlace;
 
 /// For each pc of a routine the first way to it along an edge that is sought, if there is one.
 type Table = [Option<Way>; 4096];
@@ -35,8 +35,8 @@ fn no_ways() -> Table
 }
 
 /// The edge of the instruction is the first way to where it leads, if it is sought and there was none before.
-fn note_along(ways: &mut Table, place: &Place, sought: Sought, edge: Edge, point: &Point)
-    requires { slice_get place.now.image.now.points edge.from ≡ Some point.now }
+fn note_along(ways: &mut Table, place: &Place, sought: Sought, edge: Edge, point: &KnownPlace)
+    requires { slice_get (places place.now.image.now) edge.from ≡ Some point.now }
     ensures { (to : ℕ) → to < 4096 → slice_index_or ways.new to None
         ≡ option_or (slice_index_or ways.old to None) (way_along (place_of place.now) sought to edge point.now) }
 {
@@ -51,7 +51,7 @@ fn note_at(ways: &mut Table, place: &Place, sought: Sought, from: u16)
     ensures { (to : ℕ) → to < 4096 → slice_index_or ways.new to None
         ≡ option_or (slice_index_or ways.old to None) (way_at (place_of place.now) sought to from) }
 {
-    match point_at(place.image, from) {
+    match place.image.place(from) {
         Some(point) => {
             let along = Edge {
                 from,

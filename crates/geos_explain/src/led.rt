@@ -4,8 +4,8 @@ ghost use Rattle.std.specs.Prelude.{◌≡◌, length};
 ghost use Rattle.geos_explain.specs.Led.{no_marks, marked, is_marked, end_marked, marked_at, marked_round, starts_marked, reached_within, reached, is_reached, MarksWhatIsReached};
 
 use crate::edges::{Edge, are_in_one, end_of};
-use crate::points::point_at;
-use geos_image::{Image, Instr};
+use crate::filled::Filled;
+use geos_image::Instr;
 use geos_verify::has_edge;
 
 /// For each pc of an image, of which there are at most so many, whether control reaches it.
@@ -37,7 +37,7 @@ pub(crate) fn is_marked(marks: &Marks, pc: usize) -> bool
 
 /// Where the edge of the instruction leads is marked as well, if it is not yet and control goes along it: the instruction has the
 /// edge, which does not leave its routine. The mark is tested before the look into the table of opcodes.
-fn mark_end(marks: &mut Marks, image: &Image, edge: Edge, i: &Instr)
+fn mark_end(marks: &mut Marks, image: &Filled, edge: Edge, i: &Instr)
     ensures { marks.new ≡ end_marked image.now marks.old edge i.now }
 {
     let end = end_of(edge, i);
@@ -51,10 +51,10 @@ fn mark_end(marks: &mut Marks, image: &Image, edge: Edge, i: &Instr)
 
 /// Where the instruction at a pc leads is marked as well, if there is one and it is marked itself.
 #[tactic(auto, unfolding(crate::specs::Led::marked_from, crate::specs::Led::marked_at))]
-fn mark_at(marks: &mut Marks, image: &Image, from: u16)
+fn mark_at(marks: &mut Marks, image: &Filled, from: u16)
     ensures { marks.new ≡ marked_at image.now marks.old from }
 {
-    match point_at(image, from) {
+    match image.point(from) {
         Some(point) if is_marked(marks, usize::from(from)) => {
             let along = Edge {
                 from,
@@ -69,7 +69,7 @@ fn mark_at(marks: &mut Marks, image: &Image, from: u16)
 
 /// The same of all instructions, one after another.
 #[tactic(auto, unfolding(crate::specs::Led::marked_round))]
-fn mark_round(marks: &mut Marks, image: &Image)
+fn mark_round(marks: &mut Marks, image: &Filled)
     ensures { marks.new ≡ marked_round image.now marks.old (length image.now.points) }
 {
     for from in 0..image.len() {
@@ -79,7 +79,7 @@ fn mark_round(marks: &mut Marks, image: &Image)
 
 /// The first instruction of each routine is marked.
 #[tactic(auto, unfolding(crate::specs::Led::starts_marked))]
-fn starts_marked(image: &Image) -> Marks
+fn starts_marked(image: &Filled) -> Marks
     ensures { result ≡ starts_marked image.now (length image.now.routines) }
 {
     let mut marks = no_marks();
@@ -92,7 +92,7 @@ fn starts_marked(image: &Image) -> Marks
 /// The pcs that control reaches: as many rounds as there are instructions mark them all, and where one marks none, the
 /// others would mark none either.
 #[tactic(auto, unfolding(crate::specs::Led::reached_within, crate::specs::Led::reached))]
-pub(crate) fn reached(image: &Image) -> Marks
+pub(crate) fn reached(image: &Filled) -> Marks
     ensures { result ≡ reached image.now }
 {
     let mut marks = starts_marked(image);
@@ -109,7 +109,7 @@ pub(crate) fn reached(image: &Image) -> Marks
 
 /// Whether control reaches the pc from the first instruction of its routine.
 #[tactic(auto, unfolding(crate::specs::Led::is_reached))]
-pub(crate) fn is_reached(image: &Image, marks: &Marks, pc: u16) -> bool
+pub(crate) fn is_reached(image: &Filled, marks: &Marks, pc: u16) -> bool
     requires { marks.now ≡ reached image.now }
     ensures { result ≡ is_reached image.now pc }
 {

@@ -3,13 +3,14 @@
 ghost use Rattle.std.specs.Prelude.{◌≡◌};
 ghost use Rattle.geos_explain.specs.Led.{reached};
 
+use crate::filled::Filled;
 use crate::led::Marks;
-use geos_image::{Image, Instr, Potential, Routine, Row};
+use geos_image::{Instr, Potential, Routine, Row};
 
 /// The instruction at a pc of routine r, its row and its potential.
 #[derive(Clone, Copy)]
 pub(crate) struct Place<'a> {
-    pub image: &'a Image,
+    pub image: &'a Filled<'a>,
     /// The line of each instruction in an author's text; else nothing.
     pub lines: &'a [usize],
     pub r: u16,

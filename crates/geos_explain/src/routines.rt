@@ -2,6 +2,7 @@
 
 ghost use Rattle.std.specs.Prelude.{◌≡◌, ◌<◌, length, slice_get, IfSome};
 ghost use Rattle.geos_explain.specs.Places.{HasRoutine, IsPlace, agrees, comes_alike, explained_of, place_at, place_of};
+ghost use Rattle.geos_verify.specs.Places.{places};
 
 use crate::explained::Explained;
 use crate::led::is_reached;
@@ -21,8 +22,8 @@ pub(crate) struct ExplainedRoutine<'a> {
 pub(crate) fn place_at<'a>(within: &ExplainedRoutine<'a>, pc: u16) -> Place<'a>
     requires { pc < length within.now.explained.now.image.now.points }
     ensures place { IsPlace (place_of result) }
-    ensures point { IfSome (slice_get within.now.explained.now.image.now.points pc)
-        (λ point. place_of result ≡ place_at (explained_of within.now.explained.now) within.now.r within.now.routine.now pc point) }
+    ensures known { IfSome (slice_get (places within.now.explained.now.image.now) pc)
+        (λ known. place_of result ≡ place_at (explained_of within.now.explained.now) within.now.r within.now.routine.now pc known) }
 {
     let image = within.explained.image;
     Place {

@@ -3,14 +3,14 @@
 ghost use Rattle.std.specs.Prelude.{◌≡◌, Some, slice_get};
 ghost use Rattle.geos_explain.specs.Places.{IsPlace, place_of};
 ghost use Rattle.geos_explain.specs.Since.{holds, keeps_along, leads_to_marked, leads_on, marked_back_at, back_round, held_from, fills_at, also, since_entry, held_since, WhatIsSaidOfSlotsHolds};
+ghost use Rattle.geos_verify.specs.Places.{places};
 
 use crate::edges::{Edge, end_of};
 use crate::led::{Marks, is_marked, mark, no_marks};
 use crate::place::Place;
-use crate::points::point_at;
 use crate::routines::comes_alike;
-use geos_image::{Point, Row};
-use geos_verify::{after, has_edge, is_empty, slot_state};
+use geos_image::Row;
+use geos_verify::{Place as KnownPlace, has_edge, is_empty, slot_state};
 
 /// Since where a slot is held at a place, by the ways there on which it is held all along.
 #[derive(Clone, Copy)]
@@ -35,26 +35,26 @@ fn holds(row: &Row, a: u8) -> bool
 }
 
 /// Whether control comes along the edge of the instruction as it comes to the place, and the slot is held behind it.
-fn keeps_along(place: &Place, a: u8, edge: Edge, point: &Point) -> bool
-    requires { slice_get place.now.image.now.points edge.from ≡ Some point.now }
+fn keeps_along(place: &Place, a: u8, edge: Edge, point: &KnownPlace) -> bool
+    requires { slice_get (places place.now.image.now) edge.from ≡ Some point.now }
     ensures { result ≡ keeps_along (place_of place.now) a edge point.now }
 {
     comes_alike(place, edge.from)
         && has_edge(&point.instr, edge.branch)
-        && holds(&after(place.image, edge.from, &point.row, edge.branch), a)
+        && holds(&place.image.behind(edge.from, &point.row, edge.branch), a)
 }
 
 /// Whether the edge leads so to a pc that is marked. Few do, so the mark is tested first.
-fn leads_to_marked(place: &Place, a: u8, marks: &Marks, edge: Edge, point: &Point) -> bool
-    requires { slice_get place.now.image.now.points edge.from ≡ Some point.now }
+fn leads_to_marked(place: &Place, a: u8, marks: &Marks, edge: Edge, point: &KnownPlace) -> bool
+    requires { slice_get (places place.now.image.now) edge.from ≡ Some point.now }
     ensures { result ≡ leads_to_marked (place_of place.now) a marks.now edge point.now }
 {
     is_marked(marks, end_of(edge, &point.instr)) && keeps_along(place, a, edge, point)
 }
 
 /// Whether one of the edges of the instruction at a pc does.
-fn leads_on(place: &Place, a: u8, marks: &Marks, from: u16, point: &Point) -> bool
-    requires { slice_get place.now.image.now.points from ≡ Some point.now }
+fn leads_on(place: &Place, a: u8, marks: &Marks, from: u16, point: &KnownPlace) -> bool
+    requires { slice_get (places place.now.image.now) from ≡ Some point.now }
     ensures { result ≡ leads_on (place_of place.now) a marks.now from point.now }
 {
     let along = Edge {
@@ -70,7 +70,7 @@ fn leads_on(place: &Place, a: u8, marks: &Marks, from: u16, point: &Point) -> bo
 fn mark_back(marks: &mut Marks, place: &Place, a: u8, from: u16)
     ensures { marks.new ≡ marked_back_at (place_of place.now) a marks.old from }
 {
-    match point_at(place.image, from) {
+    match place.image.place(from) {
         Some(point) => {
             if !is_marked(marks, usize::from(from))
                 && holds(&point.row, a)
@@ -121,7 +121,7 @@ fn held_from(place: &Place, a: u8) -> Marks
 fn fills_at(place: &Place, a: u8, marks: &Marks, from: u16) -> bool
     ensures { result ≡ fills_at (place_of place.now) a marks.now from }
 {
-    match point_at(place.image, from) {
+    match place.image.place(from) {
         Some(point) => !holds(&point.row, a) && leads_on(place, a, marks, from, point),
         None => false,
     }

@@ -6,16 +6,16 @@ ghost use Rattle.geos_explain.specs.declared.ways.Way.TheVariants.{Along};
 ghost use Rattle.geos_explain.specs.Stale.{if_stale, stale_used, pointer_item, refused_on, way_text, meeting_head, meeting_item, named, name_at, call_loss, moved_words, use_loss, how_lost, lost_by, label_wish, refused_at, unset_words, unreached_words, merged_words, into_empty_wish, into_empty_words, loss_words, trace_item, stale_words};
 
 use crate::edges::Edge;
+use crate::filled::Filled;
 use crate::numbers::pc_part;
 use crate::place::Place;
-use crate::points::point_at;
 use crate::trace::{End, Meeting, Trace, hint_at, traced};
 use crate::uses::slot_behind;
 use crate::ways::{Followed, Way, forgets, is_stale, sets, with_hint};
-use geos_image::{Image, Instr, Point, Routine, Row};
+use geos_image::{Instr, Routine, Row};
 use geos_opcodes::{PointerUse, SlotUse};
 use geos_text::{Part, put_numbered, put_parts};
-use geos_verify::{pointer_at, uses_at};
+use geos_verify::{Place as KnownPlace, pointer_at, uses_at};
 use std::alloc::AllocError;
 
 /// The pointer, where the row knows nothing of it.
@@ -51,11 +51,11 @@ fn put_pointer(out: &mut Vec<u8>, pointer: Option<u8>) -> Result<(), AllocError>
 
 /// The pc of the instruction whose refusal the way is, if it is one: it can be refused, and goes to its label then.
 #[tactic(auto, unfolding(crate::specs::Stale::is_refusable))]
-fn refused_on(image: &Image, way: Way) -> Option<u16>
+fn refused_on(image: &Filled, way: Way) -> Option<u16>
     ensures { result ≡ refused_on image.now way }
 {
     match way {
-        Way::Along(edge) if edge.branch => match point_at(image, edge.from) {
+        Way::Along(edge) if edge.branch => match image.point(edge.from) {
             Some(point) if point.instr.opcode.operands().refusable => Some(edge.from),
             _ => None,
         },
@@ -124,7 +124,12 @@ fn put_meeting_item(
 
 /// The instruction at a pc.
 #[tactic(auto, unfolding(crate::specs::Stale::named))]
-fn put_named(out: &mut Vec<u8>, lines: &[usize], from: u16, point: &Point) -> Result<(), AllocError>
+fn put_named(
+    out: &mut Vec<u8>,
+    lines: &[usize],
+    from: u16,
+    point: &KnownPlace,
+) -> Result<(), AllocError>
     ensures { OnOk result (out.new.items ≡ out.old.items ++ named lines.now from point.now) }
 {
     put_parts(
@@ -140,7 +145,7 @@ fn put_named(out: &mut Vec<u8>, lines: &[usize], from: u16, point: &Point) -> Re
 
 /// The name of a routine, if there is one.
 #[tactic(auto, unfolding(crate::specs::Stale::name_at))]
-fn name_at(image: &Image, r: u16) -> &[u8]
+fn name_at<'a>(image: &'a Filled, r: u16) -> &'a [u8]
     ensures { result.now ≡ name_at image.now r }
 {
     if r < image.count() {
@@ -152,7 +157,7 @@ fn name_at(image: &Image, r: u16) -> &[u8]
 
 /// A call leaves nothing but the exit row, which does not know the pointer.
 #[tactic(auto, unfolding(crate::specs::Stale::call_loss))]
-fn put_call_loss(out: &mut Vec<u8>, image: &Image, p: u8, r: u16) -> Result<(), AllocError>
+fn put_call_loss(out: &mut Vec<u8>, image: &Filled, p: u8, r: u16) -> Result<(), AllocError>
     ensures { OnOk result (out.new.items ≡ out.old.items ++ call_loss image.now p r) }
 {
     put_parts(
@@ -214,10 +219,10 @@ fn put_use_loss(out: &mut Vec<u8>, i: &Instr, slot: SlotUse, p: u8, b: u8) -> Re
 #[tactic(auto, unfolding(crate::specs::Stale::how_lost, crate::specs::Stale::refused_loss))]
 fn put_how_lost(
     out: &mut Vec<u8>,
-    image: &Image,
+    image: &Filled,
     followed: Followed,
     branch: bool,
-    point: &Point,
+    point: &KnownPlace,
 ) -> Result<(), AllocError>
     ensures { OnOk result (out.new.items ≡ out.old.items ++ how_lost image.now followed branch point.now) }
 {
@@ -253,7 +258,7 @@ fn put_lost_by(
 ) -> Result<(), AllocError>
     ensures { OnOk result (out.new.items ≡ out.old.items ++ lost_by (place_of place.now) followed edge) }
 {
-    match point_at(place.image, edge.from) {
+    match place.image.place(edge.from) {
         Some(point) => {
             put_named(out, place.lines, edge.from, point)?;
             put_how_lost(out, place.image, followed, edge.branch, point)

@@ -7,7 +7,6 @@ ghost use Rattle.geos_explain.specs.Steps.{whole_words, asked_words, asks_along,
 use crate::notes::put_steps;
 use crate::numbers::either;
 use crate::place::Place;
-use crate::points::point_at;
 use geos_image::{Opcode, Potential, Routine};
 use geos_text::{Part, put_numbered, put_parts};
 use geos_verify::{Asked, asked_along, asked_branching, branches, falls_through};
@@ -52,8 +51,8 @@ fn asks_along(place: &Place) -> Option<Asked>
     if !falls_through(place.i.opcode) {
         return None;
     }
-    match point_at(place.image, place.pc + 1) {
-        Some(next) => Some(asked_along(place.image, place.i, place.row, &next.potential)),
+    match place.image.point(place.pc + 1) {
+        Some(next) => Some(asked_along(place.image.image(), place.i, place.row, &next.potential)),
         None => None,
     }
 }
@@ -66,7 +65,7 @@ fn asks_branching(place: &Place) -> Option<Asked>
     if !branches(place.i.opcode) {
         return None;
     }
-    match point_at(place.image, place.i.target) {
+    match place.image.point(place.i.target) {
         Some(next) => Some(asked_branching(place.i, &next.potential)),
         None => None,
     }
@@ -116,7 +115,7 @@ fn put_last(out: &mut Vec<u8>, place: &Place) -> Result<(), AllocError>
 {
     match place.i.opcode {
         Opcode::Ret => out.extend_from_slice(b" a return takes a step, and none is left"),
-        Opcode::Call => match point_at(place.image, place.pc + 1) {
+        Opcode::Call => match place.image.point(place.pc + 1) {
             Some(next) => put_touched(out, place.image.routine(place.i.imm), &next.potential),
             None => Ok(()),
         },

@@ -6,6 +6,7 @@ ghost use Rattle.geos_explain.specs.Texts.{last_begun, noted_at, is_line_of, num
 
 use crate::explained::Explained;
 use crate::explanation::put_noted;
+use crate::filled::Filled;
 use crate::led::reached;
 use crate::routines::{ExplainedRoutine, place_at};
 use geos_image::Image;
@@ -15,7 +16,7 @@ use std::alloc::{AllocError, Global};
 
 /// The last routine that begins at the pc or before.
 #[tactic(auto, unfolding(crate::specs::Texts::last_begun))]
-fn last_begun(image: &Image, pc: u16) -> Option<u16>
+fn last_begun(image: &Filled, pc: u16) -> Option<u16>
     ensures { result ≡ last_begun image.now pc (length image.now.routines) }
 {
     let mut last = None;
@@ -127,9 +128,10 @@ pub fn explain_text(
 ) -> Result<Vec<u8>, AllocError>
     ensures { IfOk result (λ explained. explained.items ≡ text_explanation text.now lines.now image.now reject) }
 {
-    let marks = reached(image);
+    let filled = Filled::of(alloc, image)?;
+    let marks = reached(&filled);
     let explained = Explained {
-        image,
+        image: &filled,
         lines,
         marks: &marks,
         reject,

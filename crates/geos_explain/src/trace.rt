@@ -5,6 +5,7 @@ ghost use Rattle.geos_explain.specs.Places.{IsPlace, IsPcOf, place_of};
 ghost use Rattle.geos_explain.specs.Ways.{AreFirsts};
 ghost use Rattle.geos_explain.specs.Lost.{WhatIsSaidHolds};
 ghost use Rattle.geos_explain.specs.Trace.{meeting_at, nowhere_or, end_at, passed, hint_at, arrivals_of, AreBacks, back_as, back_along, back_from, next_round, rounds, along_lost, traced};
+ghost use Rattle.geos_verify.specs.Places.{places};
 
 use crate::arrivals::{Arrivals, all_arrivals, arrival};
 use crate::backs::{AllBacks, Back, all_backs, back_at, back_of};
@@ -12,10 +13,9 @@ use crate::edges::{Edge, end_of};
 use crate::firsts::{Firsts, bringing, firsts_of, losing};
 use crate::led::{Marks, is_marked, mark, no_marks};
 use crate::place::Place;
-use crate::points::point_at;
 use crate::routines::comes_alike;
 use crate::ways::{Followed, Way, empty_on};
-use geos_image::Point;
+use geos_verify::Place as KnownPlace;
 
 /// Ways meet, of which one brings a pointer and another does not.
 #[derive(Clone, Copy)]
@@ -168,9 +168,9 @@ fn step_as(trace: &mut Trace, tracing: &Tracing, edge: Edge, back: Back)
 
 /// A step back along any edge of the instruction, if it leads to a place that was passed, unless what is looked for was found already.
 #[tactic(auto, unfolding(crate::specs::Trace::back_along))]
-fn step_along(trace: &mut Trace, tracing: &Tracing, edge: Edge, point: &Point)
+fn step_along(trace: &mut Trace, tracing: &Tracing, edge: Edge, point: &KnownPlace)
     requires place { IsPlace (place_of tracing.now.place.now) }
-    requires there { slice_get tracing.now.place.now.image.now.points edge.from ≡ Some point.now }
+    requires there { slice_get (places tracing.now.place.now.image.now) edge.from ≡ Some point.now }
     requires inside { IsPcOf (place_of tracing.now.place.now) edge.from }
     requires arrivals { trace.old.arrivals ≡ arrivals_of (place_of tracing.now.place.now) tracing.now.p }
     ensures steps { trace.new ≡ back_along (place_of tracing.now.place.now) tracing.now.p trace.old edge point.now }
@@ -190,7 +190,7 @@ fn step_from(trace: &mut Trace, tracing: &Tracing, from: u16)
     ensures steps { trace.new ≡ back_from (place_of tracing.now.place.now) tracing.now.p trace.old from }
     ensures arrivals { trace.new.arrivals ≡ trace.old.arrivals }
 {
-    match point_at(tracing.place.image, from) {
+    match tracing.place.image.place(from) {
         Some(point) => {
             let along = Edge {
                 from,
@@ -250,7 +250,7 @@ fn step_along_lost(trace: &mut Trace, tracing: &Tracing, lost: Way)
         return;
     }
     match lost {
-        Way::Along(edge) => match point_at(tracing.place.image, edge.from) {
+        Way::Along(edge) => match tracing.place.image.place(edge.from) {
             Some(point) => {
                 let followed = hint_at(trace, tracing.p, edge.from);
                 let back = back_of(tracing.place, followed, edge, point);

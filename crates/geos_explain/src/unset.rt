@@ -4,11 +4,11 @@ ghost use Rattle.std.specs.Prelude.{◌≡◌, ◌<◌, ◌++◌, OnOk, length};
 ghost use Rattle.geos_explain.specs.Places.{place_of};
 ghost use Rattle.geos_explain.specs.Unset.{takes, gives, pays_at, next_search, search_on, searched, unset_item, unset_items, over_words};
 
+use crate::filled::Filled;
 use crate::notes::put_budget;
 use crate::numbers::pc_part;
 use crate::place::Place;
-use crate::points::point_at;
-use geos_image::{Image, Instr};
+use geos_image::Instr;
 use geos_opcodes::CounterUse;
 use geos_text::{Part, put_parts};
 use geos_verify::{branches, falls_through};
@@ -47,11 +47,11 @@ fn gives(counter: CounterUse, i: &Instr, k: u8) -> bool
 
 /// Whether the counter still pays at a pc.
 #[tactic(auto, unfolding(crate::specs::Unset::pays_at))]
-fn pays_at(image: &Image, k: u8, pc: u16) -> bool
+fn pays_at(image: &Filled, k: u8, pc: u16) -> bool
     requires { k < 4 }
     ensures { result ≡ pays_at image.now k pc }
 {
-    match point_at(image, pc) {
+    match image.point(pc) {
         Some(point) => point.potential.coefficients[usize::from(k)] != 0,
         None => false,
     }
@@ -59,7 +59,7 @@ fn pays_at(image: &Image, k: u8, pc: u16) -> bool
 
 /// From an instruction that neither takes from the counter nor sets it, on to where it still pays: the next instruction
 /// first.
-fn next_search(image: &Image, k: u8, pc: u16, i: &Instr) -> Search
+fn next_search(image: &Filled, k: u8, pc: u16, i: &Instr) -> Search
     requires { k < 4 }
     ensures { result ≡ next_search image.now k pc i.now }
 {
@@ -74,14 +74,14 @@ fn next_search(image: &Image, k: u8, pc: u16, i: &Instr) -> Search
 
 /// One step on, unless the search has ended: the instruction takes from the counter, or sets it, or the way goes on.
 #[tactic(auto, unfolding(crate::specs::Unset::search_at))]
-fn search_on(image: &Image, k: u8, search: Search) -> Search
+fn search_on(image: &Filled, k: u8, search: Search) -> Search
     requires { k < 4 }
     ensures { result ≡ search_on image.now k search }
 {
     let Search::At(pc) = search else {
         return search;
     };
-    let Some(point) = point_at(image, pc) else {
+    let Some(point) = image.point(pc) else {
         return Search::Ended;
     };
     let i = &point.instr;
@@ -97,7 +97,7 @@ fn search_on(image: &Image, k: u8, search: Search) -> Search
 
 /// As many steps on from a pc as there are instructions.
 #[tactic(auto, unfolding(crate::specs::Unset::searched))]
-fn searched(image: &Image, k: u8, pc: u16) -> Search
+fn searched(image: &Filled, k: u8, pc: u16) -> Search
     requires { k < 4 }
     ensures { result ≡ searched image.now k pc (length image.now.points) }
 {

@@ -4,15 +4,16 @@ ghost use Rattle.std.specs.Prelude.{◌≡◌, Some, slice_get};
 ghost use Rattle.geos_verify.specs.Rows.{is_stale};
 ghost use Rattle.geos_explain.specs.Places.{place_of};
 ghost use Rattle.geos_explain.specs.Ways.{is_as, entry_pointer, empty_slot, empty_along, empty_on, is_as_sought, with_hint, sets, forgets, loses};
+ghost use Rattle.geos_verify.specs.Places.{places};
 
 use crate::edges::Edge;
+use crate::filled::Filled;
 use crate::led::is_reached;
 use crate::place::Place;
-use crate::points::point_at;
 use crate::routines::agrees;
-use geos_image::{Image, Instr, Opcode, Point, Pointer, Routine, Row};
+use geos_image::{Instr, Opcode, Pointer, Routine, Row};
 use geos_opcodes::PointerUse;
-use geos_verify::{after, has_edge, leads_nowhere, pointer_at};
+use geos_verify::{Place as KnownPlace, has_edge, leads_nowhere, pointer_at};
 
 /// A way to an instruction.
 #[derive(Clone, Copy)]
@@ -84,12 +85,12 @@ fn empty_slot(row: &Row, p: u8) -> Option<u8>
 }
 
 /// The same of the pointer behind the instruction, on an edge that it has.
-fn empty_along(image: &Image, p: u8, edge: Edge, point: &Point) -> Option<u8>
-    requires { slice_get image.now.points edge.from ≡ Some point.now }
+fn empty_along(image: &Filled, p: u8, edge: Edge, point: &KnownPlace) -> Option<u8>
+    requires { slice_get (places image.now) edge.from ≡ Some point.now }
     ensures { result ≡ empty_along image.now p edge point.now }
 {
     if has_edge(&point.instr, edge.branch) {
-        empty_slot(&after(image, edge.from, &point.row, edge.branch), p)
+        empty_slot(&image.behind(edge.from, &point.row, edge.branch), p)
     } else {
         None
     }
@@ -102,7 +103,7 @@ pub(crate) fn empty_on(place: &Place, p: u8, way: Way) -> Option<u8>
 {
     match way {
         Way::Entry => empty_slot(&place.routine.entry, p),
-        Way::Along(edge) => match point_at(place.image, edge.from) {
+        Way::Along(edge) => match place.image.place(edge.from) {
             Some(point) => empty_along(place.image, p, edge, point),
             None => None,
         },
@@ -110,8 +111,8 @@ pub(crate) fn empty_on(place: &Place, p: u8, way: Way) -> Option<u8>
 }
 
 /// Whether control comes along the edge of the instruction as is asked, and behind it the pointer is known as is asked.
-pub(crate) fn is_as_sought(place: &Place, sought: Sought, edge: Edge, point: &Point) -> bool
-    requires { slice_get place.now.image.now.points edge.from ≡ Some point.now }
+pub(crate) fn is_as_sought(place: &Place, sought: Sought, edge: Edge, point: &KnownPlace) -> bool
+    requires { slice_get (places place.now.image.now) edge.from ≡ Some point.now }
     ensures { result ≡ is_as_sought (place_of place.now) sought edge point.now }
 {
     agrees(
@@ -121,7 +122,7 @@ pub(crate) fn is_as_sought(place: &Place, sought: Sought, edge: Edge, point: &Po
         && is_as(
             sought.known,
             pointer_at(
-                &after(place.image, edge.from, &point.row, edge.branch),
+                &place.image.behind(edge.from, &point.row, edge.branch),
                 sought.p,
             ),
         )
@@ -160,8 +161,8 @@ pub(crate) fn forgets(opcode: Opcode) -> bool
 
 /// Whether the instruction loses the pointer on this edge: it is a call, or was to set it and was refused, or makes it
 /// stale, where it is known before, and not behind.
-pub(crate) fn loses(image: &Image, followed: Followed, edge: Edge, point: &Point) -> bool
-    requires { slice_get image.now.points edge.from ≡ Some point.now }
+pub(crate) fn loses(image: &Filled, followed: Followed, edge: Edge, point: &KnownPlace) -> bool
+    requires { slice_get (places image.now) edge.from ≡ Some point.now }
     ensures { result ≡ loses image.now followed edge point.now }
 {
     let i = &point.instr;
@@ -171,5 +172,5 @@ pub(crate) fn loses(image: &Image, followed: Followed, edge: Edge, point: &Point
     let row = with_hint(&point.row, followed);
     has_edge(i, edge.branch)
         && !is_stale(pointer_at(&row, followed.p))
-        && is_stale(pointer_at(&after(image, edge.from, &row, edge.branch), followed.p))
+        && is_stale(pointer_at(&image.behind(edge.from, &row, edge.branch), followed.p))
 }

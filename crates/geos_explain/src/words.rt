@@ -9,7 +9,6 @@ use crate::held::put_exit;
 use crate::lacks::put_lacking;
 use crate::numbers::{is_or_are, label_part, pc_part, put_are, written_from};
 use crate::place::Place;
-use crate::points::point_at;
 use crate::stale::put_stale;
 use crate::steps::put_unpaid;
 use crate::unset::put_over;
@@ -123,10 +122,10 @@ fn put_wanted_behind(
     if !has_edge(place.i, branch) {
         return Ok(());
     }
-    match point_at(place.image, to) {
+    match place.image.place(to) {
         Some(next) => put_lacking(
             out,
-            &after(place.image, place.pc, place.row, branch),
+            &after(place.image.image(), place.pc, place.row, branch),
             &next.row,
         ),
         None => Ok(()),

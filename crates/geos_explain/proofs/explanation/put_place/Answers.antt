@@ -1,5 +1,7 @@
 use Rattle.std.proofs.Common.{arith}
 use Rattle.std.proofs.lemmas.Grind.{common_steps}
+use Rattle.geos_verify.specs.Places.{places}
+use Rattle.geos_verify.proofs.Places.{places-length}
 use Rattle.geos_explain.specs.Places.{explained_of, place_at, place_of}
 use Rattle.geos_explain.specs.Explanation.{point_text, place_text}
 use Rattle.geos_explain.proofs.Told.{told-at}
@@ -10,5 +12,5 @@ unfolding place_text point_text
 returns c =
     let within = c.args.within.now in
     let explained = explained_of within.explained.now in
-    rw (told-at (point_text explained.reject) (place_at explained within.r within.routine.now c.args.pc) explained.image.points c.args.pc (place_of c.place_at-place.result) c.requires.within c.place_at-place.ensures.point)
+    rw (told-at (point_text explained.reject) (place_at explained within.r within.routine.now c.args.pc) (places explained.image) c.args.pc (place_of c.place_at-place.result) (omega (arith, c.requires.within, places-length explained.image)) c.place_at-place.ensures.known)
     (grind (arith, common_steps))

@@ -1,9 +1,8 @@
-use Rattle.geos_image.specs.declared.instr.Instr.{Instr}
-use Rattle.geos_image.specs.declared.row.Row.{Row}
-use Rattle.geos_image.specs.declared.potential.Potential.{Potential}
+use Rattle.std.proofs.Common.{◌≡◌, refl}
+use Rattle.geos_verify.specs.declared.place.Place.{Place as KnownPlace}
+use Rattle.geos_verify.proofs.Known.{by-parts}
 use Rattle.geos_listing.proofs.Limits.{KeepsLimits-at}
-use Rattle.geos_explain.specs.Places.{explained_of, place_at}
-use Rattle.geos_explain.proofs.Told.{place-of-point}
+use Rattle.geos_explain.specs.Places.{Place, explained_of, place_at}
 use Rattle.geos_explain.proofs.routines.place_at.Goals as goal
 
 pub returns-clause-place : goal.returns-clause-place
@@ -22,8 +21,10 @@ returns-clause-place c =
       limits = KeepsLimits-at within.explained.now.image.now c.args.pc c.instr.result.now within.there.legal c.requires here.there;
     }
 
-pub returns-clause-point : goal.returns-clause-point
-returns-clause-point c =
+pub returns-clause-known : goal.returns-clause-known
+returns-clause-known c =
     let within = c.args.within.now in
     let explained = explained_of within.explained.now in
-    place-of-point (λ (i : Instr) (row : Row) (p : Potential). place_at explained within.r within.routine.now c.args.pc (record { instr = i; row = row; potential = p })) explained.image.points c.args.pc c.instr.result.now c.row.result.now c.potential.result.now c.requires c.instr.ensures.there c.row.ensures c.potential.ensures
+    let known : KnownPlace = record { instr = c.instr.result.now; row = c.row.result.now; potential = c.potential.result.now } in
+    let of : KnownPlace → Place = place_at explained within.r within.routine.now c.args.pc in
+    by-parts explained.image c.args.pc known.instr known.row known.potential (λ (x : KnownPlace). of known ≡ of x) c.instr.ensures.there c.row.ensures c.potential.ensures c.requires refl

@@ -1,5 +1,7 @@
 use Rattle.std.proofs.Common.{sym, arith}
 use Rattle.std.proofs.lemmas.Grind.{common_steps}
+use Rattle.geos_verify.specs.Places.{places}
+use Rattle.geos_verify.proofs.Places.{places-length}
 use Rattle.geos_explain.specs.Places.{explained_of, place_at, place_of}
 use Rattle.geos_explain.specs.Explanation.{noted}
 use Rattle.geos_explain.specs.Texts.{last_begun, noted_in, noted_of, noted_at}
@@ -13,6 +15,6 @@ returns c =
     rw (
       sym c.in-Some.ensures,
       c.routine-routine.ensures,
-      told-at (noted explained.reject) (place_at explained c.in-Some.r c.routine-routine.result.now c.args.pc) explained.image.points c.args.pc (place_of c.place_at-place.result) c.requires c.place_at-place.ensures.point,
+      told-at (noted explained.reject) (place_at explained c.in-Some.r c.routine-routine.result.now c.args.pc) (places explained.image) c.args.pc (place_of c.place_at-place.result) (omega (arith, c.requires, places-length explained.image)) c.place_at-place.ensures.known,
     )
     (grind (arith, common_steps))
