@@ -1,5 +1,5 @@
 -- What the file keeps along a script: two calls of a routine that makes a block and maps it, a save between them, and an update at the end.
-use Rattle.std.proofs.Common.{◌≡◌, refl, List, [], ◌∷◌, ◌++◌, replicate, Option, Some, None}
+use Rattle.std.proofs.Common.{◌≡◌, refl, false, List, [], ◌∷◌, ◌++◌, replicate, Option, Some, None}
 use Rattle.geos_model.specs.Chunks.{cost}
 use Rattle.geos_table.specs.Directories.{Directory, KeptBlock, no_directory}
 use Rattle.geos_table.specs.Effects.{effect_of, outcome}
@@ -18,6 +18,7 @@ use Rattle.worked_examples.proofs.States.{willing}
 -- `VNEW s0 w0 w1 x`, `VUNLOCK s0`, `VSETMAP w0 x`, `x: RET`
 abbrev pub put : Parts
 put = record {
+  keyed = false;
   routines = routine (112 ∷ 117 ∷ 116 ∷ replicate 13 0) 4 4 ∷ [];
   points =
       point (instr Vnew 0 0 1 0 3) open_row (potential 4 0)
